@@ -1,0 +1,48 @@
+ghost use Rattle.std.specs.Prelude.{◌≡◌};
+ghost use Rattle.nb_host.specs.declared.faults.Fault.TheVariants.{Device, Memory};
+
+use crate::Refusal;
+use std::alloc::{AllocError, AllocFailed};
+use thiserror::Error;
+
+/// A call of the host failed. Its count of faults has risen.
+#[derive(Clone, Copy, Debug, PartialEq, Eq, Error)]
+#[error("the device failed")]
+pub struct HostFault;
+
+/// Why a call answered nothing else.
+#[derive(Debug, Drop, Error)]
+pub enum Fault {
+    /// The call was refused. It changed no file.
+    #[error("the call was refused")]
+    Refused(Refusal),
+    /// A call of the host failed.
+    #[error("the device failed")]
+    Device,
+    #[error("out of memory")]
+    Memory,
+}
+
+impl From<HostFault> for Fault {
+    ghost from_gives = { λ _ fault. fault ≡ Device };
+
+    fn from(_: HostFault) -> Self {
+        Fault::Device
+    }
+}
+
+impl From<AllocError> for Fault {
+    ghost from_gives = { λ _ fault. fault ≡ Memory };
+
+    fn from(_: AllocError) -> Self {
+        Fault::Memory
+    }
+}
+
+impl<T: Drop> From<AllocFailed<T>> for Fault {
+    ghost from_gives = { λ _ fault. fault ≡ Memory };
+
+    fn from(_: AllocFailed<T>) -> Self {
+        Fault::Memory
+    }
+}
