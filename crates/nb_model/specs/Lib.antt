@@ -1,0 +1,3 @@
+pub mod TableNames
+pub mod Built
+pub mod Lines
