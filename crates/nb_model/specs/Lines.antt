@@ -17,7 +17,7 @@ pub data Word : Type 0 where
   quoted : List ℕ → Word
 
 -- as it is written; a GUID hyphenated in lower case, a digest as lower-case hexadecimal digits
-abbrev pub word_text : Word → List ℕ
+unfoldable pub word_text : Word → List ℕ
 word_text (is text) = text
 word_text (number n) = decimal n
 word_text (guid bytes) = hyphenated_text lower bytes
@@ -25,7 +25,7 @@ word_text (hex bytes) = encode_lower bytes
 word_text (quoted text) = 39 ∷ (text ++ 39 ∷ [])
 
 -- each word with a space before it
-abbrev pub spaced : List Word → List ℕ
+unfoldable pub spaced : List Word → List ℕ
 spaced [] = []
 spaced (w ∷ ws) = 32 ∷ (word_text w ++ spaced ws)
 

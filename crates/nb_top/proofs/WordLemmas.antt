@@ -1,0 +1,47 @@
+-- Words after words.
+use Rattle.std.proofs.Common.{◌≡◌, ℕ, ◌+◌, ◌<◌, length, take, get_or, map, List, [], ◌∷◌, ◌++◌, refl, sym, ◌∙◌, ap, append_assoc, slice_get, Some, Result, Ok, Err, OnOk}
+use Rattle.std.proofs.lemmas.Option.{get_or_from_slice_get}
+use Rattle.std.proofs.lemmas.List.{take_more, map-append, append-nil}
+use Rattle.nb_model.specs.Lines.{Word, number, quoted, word_text, spaced, row_words}
+use Rattle.nb_top.specs.declared.word.Word.{Word as InLine}
+use Rattle.nb_top.specs.Words.{seen}
+
+pub spaced-append : (a b : List Word) → spaced (a ++ b) ≡ spaced a ++ spaced b
+unfolding spaced
+spaced-append [] b = refl
+spaced-append (w ∷ a) b = ap (λ (l : List ℕ). 32 ∷ (word_text w ++ l)) (spaced-append a b) ∙ ap (λ (l : List ℕ). 32 ∷ l) (sym (append_assoc (word_text w) (spaced a) (spaced b)))
+
+-- one word more
+pub spaced-one : (w : Word) → spaced (w ∷ []) ≡ 32 ∷ (word_text w ++ [])
+unfolding spaced
+spaced-one w = refl
+
+-- what a line holds after one word more
+pub one_word_more : (words : List InLine) (i : ℕ) (word : InLine) (start here spaced_here next : List ℕ) → i < length words
+    → here ≡ start ++ spaced (map seen (take i words)) → spaced_here ≡ here ++ 32 ∷ [] → next ≡ spaced_here ++ word_text (seen (get_or words i word)) → next ≡ start ++ spaced (map seen (take (i + 1) words))
+unfolding spaced
+one_word_more words i word start here spaced_here next low so_far space put =
+    let w : Word = seen (get_or words i word) in
+    let taken : map seen (take (i + 1) words) ≡ map seen (take i words) ++ w ∷ [] = ap (map seen) (take_more words i word low) ∙ map-append seen (take i words) (get_or words i word ∷ []) in
+    let line : next ≡ (start ++ spaced (map seen (take i words)) ++ 32 ∷ []) ++ word_text w = put ∙ ap (λ (l : List ℕ). l ++ word_text w) (space ∙ ap (λ (l : List ℕ). l ++ 32 ∷ []) so_far) in
+    line ∙ grouped start (spaced (map seen (take i words))) (word_text w) ∙ sym (ap (λ (ws : List Word). start ++ spaced ws) taken ∙ ap (λ (l : List ℕ). start ++ l) (spaced-append (map seen (take i words)) (w ∷ [])))
+  where
+    grouped : (a b c : List ℕ) → (a ++ b ++ 32 ∷ []) ++ c ≡ a ++ (b ++ 32 ∷ (c ++ []))
+    grouped a b c = simp append_assoc (ap (λ (l : List ℕ). a ++ (b ++ 32 ∷ l)) (sym (append-nil c)))
+
+-- words and then more
+pub words_then : (a b : List Word) (start middle end : List ℕ) → middle ≡ start ++ spaced a → end ≡ middle ++ spaced b → end ≡ start ++ spaced (a ++ b)
+words_then a b start middle end first second = second ∙ ap (λ (l : List ℕ). l ++ spaced b) first ∙ append_assoc start (spaced a) (spaced b) ∙ ap (λ (l : List ℕ). start ++ l) (sym (spaced-append a b))
+
+-- one row more
+pub one_row_more : (rows : List (ℕ × List ℕ)) (i : ℕ) (row : ℕ × List ℕ) (start here next : List ℕ) → i < length rows → slice_get rows i ≡ Some row → here ≡ start ++ spaced (row_words (take i rows)) → next ≡ here ++ spaced (number row.0 ∷ quoted row.1 ∷ []) → next ≡ start ++ spaced (row_words (take (i + 1) rows))
+one_row_more rows i row start here next low at so_far put =
+    put ∙ ap (λ (l : List ℕ). l ++ spaced (words row)) so_far ∙ append_assoc start _ _ ∙ ap (λ (l : List ℕ). start ++ l) (sym (spaced-append (row_words (take i rows)) (words row)))
+    ∙ ap (λ (ws : List Word). start ++ spaced ws) (sym (ap row_words (take_more rows i row low ∙ ap (λ (r : ℕ × List ℕ). take i rows ++ r ∷ []) (get_or_from_slice_get rows i row row at)) ∙ row_words-append (take i rows) (row ∷ [])))
+  where
+    words : ℕ × List ℕ → List Word
+    words r = number r.0 ∷ quoted r.1 ∷ []
+
+    row_words-append : (a b : List (ℕ × List ℕ)) → row_words (a ++ b) ≡ row_words a ++ row_words b
+    row_words-append [] b = refl
+    row_words-append (r ∷ a) b = ap (λ (ws : List Word). number r.0 ∷ quoted r.1 ∷ ws) (row_words-append a b)

@@ -1,0 +1,12 @@
+use Rattle.std.proofs.Common.{sym, arith}
+use Rattle.std.proofs.lemmas.List.{append-nil}
+use Rattle.nb_model.specs.Lines.{spaced}
+use Rattle.nb_top.proofs.WordLemmas.{one_row_more}
+use Rattle.nb_top.proofs.line.push_rows.Goals as goal
+
+pub loop-i-init : goal.loop-i-init
+unfolding spaced
+loop-i-init c = sym (append-nil c.args.line.now.items)
+
+pub loop-i-preserved : goal.loop-i-preserved
+loop-i-preserved c = one_row_more c.args.rows.now c.loop-i.i _ c.args.line.now.items c.loop-i.line.items c.push_words.new.line.items (omega arith) c.row-key.ensures c.loop-i.invariant c.in_ok-push_words.ensures

@@ -1,0 +1,10 @@
+//! The program over any host: the words of the command line name a job, and the job is done.
+//!
+//! It rests on all crates below it. `run` is the whole program but for the real files: it says one line
+//! for each reply, and what it promises of the replies, the files and a stop stands in its contract.
+#![tactic(auto)]
+
+mod line;
+mod word;
+
+pub use line::render;

@@ -1,0 +1,418 @@
+// The line of a reply.
+ghost use Rattle.std.specs.Prelude.{◌≡◌, ◌++◌, ◌∷◌, [], IfOk, IfErr, OnOk};
+ghost use Rattle.std.specs.Fmt.{decimal};
+ghost use Rattle.nb_host.specs.declared.faults.Fault.TheVariants.{Memory};
+ghost use Rattle.nb_model.specs.Lines.{line_text, spaced, reply_words, refusal_words, row_words};
+
+use crate::word::{Word, push_number, push_words};
+use nb_host::{Fault, Refusal};
+use nb_model::{Reply, RowList};
+use std::alloc::{AllocError, Global};
+
+/// The number of a refusal, its name and the values of its fields.
+fn push_refusal(line: &mut Vec<u8>, refusal: &Refusal) -> Result<(), AllocError>
+    ensures { OnOk result (line.new.items ≡ line.old.items ++ spaced (refusal_words refusal.now)) }
+{
+    match refusal {
+        Refusal::Usage => push_words(line, &[Word::Number(1), Word::Is("Usage")]),
+        Refusal::BadScript { line: at } => push_words(
+            line,
+            &[
+                Word::Number(2),
+                Word::Is("BadScript"),
+                Word::Number(*at as u64),
+            ],
+        ),
+        Refusal::NoFile { name } => push_words(
+            line,
+            &[Word::Number(3), Word::Is("NoFile"), Word::Name(name)],
+        ),
+        Refusal::FileExists { name } => push_words(
+            line,
+            &[Word::Number(4), Word::Is("FileExists"), Word::Name(name)],
+        ),
+        Refusal::NotDatabase { page } => push_words(
+            line,
+            &[
+                Word::Number(5),
+                Word::Is("NotDatabase"),
+                Word::Number(*page as u64),
+            ],
+        ),
+        Refusal::WrongState { found } => push_words(
+            line,
+            &[
+                Word::Number(6),
+                Word::Is("WrongState"),
+                Word::Number(*found as u64),
+            ],
+        ),
+        Refusal::BadDelta { page } => push_words(
+            line,
+            &[
+                Word::Number(7),
+                Word::Is("BadDelta"),
+                Word::Number(*page as u64),
+            ],
+        ),
+        Refusal::Unfinished => push_words(line, &[Word::Number(8), Word::Is("Unfinished")]),
+        Refusal::PageRange { page, count } => push_words(
+            line,
+            &[
+                Word::Number(9),
+                Word::Is("PageRange"),
+                Word::Number(*page as u64),
+                Word::Number(*count as u64),
+            ],
+        ),
+        Refusal::NotAllocated { page } => push_words(
+            line,
+            &[
+                Word::Number(10),
+                Word::Is("NotAllocated"),
+                Word::Number(*page as u64),
+            ],
+        ),
+        Refusal::SystemPage { page } => push_words(
+            line,
+            &[
+                Word::Number(11),
+                Word::Is("SystemPage"),
+                Word::Number(*page as u64),
+            ],
+        ),
+        Refusal::Full { count } => push_words(
+            line,
+            &[
+                Word::Number(12),
+                Word::Is("Full"),
+                Word::Number(*count as u64),
+            ],
+        ),
+        Refusal::ScnExhausted { scn } => push_words(
+            line,
+            &[
+                Word::Number(13),
+                Word::Is("ScnExhausted"),
+                Word::Number(*scn as u64),
+            ],
+        ),
+        Refusal::NoHistory { level } => push_words(
+            line,
+            &[
+                Word::Number(14),
+                Word::Is("NoHistory"),
+                Word::Number(*level as u64),
+            ],
+        ),
+        Refusal::BadLevel { name, at } => push_words(
+            line,
+            &[
+                Word::Number(15),
+                Word::Is("BadLevel"),
+                Word::Name(name),
+                Word::Number(*at),
+            ],
+        ),
+        Refusal::ChainLevel {
+            name,
+            found,
+            wanted,
+        } => push_words(
+            line,
+            &[
+                Word::Number(16),
+                Word::Is("ChainLevel"),
+                Word::Name(name),
+                Word::Number(*found as u64),
+                Word::Number(*wanted as u64),
+            ],
+        ),
+        Refusal::ChainGuid {
+            name,
+            found,
+            wanted,
+        } => push_words(
+            line,
+            &[
+                Word::Number(17),
+                Word::Is("ChainGuid"),
+                Word::Name(name),
+                Word::Guid(found),
+                Word::Guid(wanted),
+            ],
+        ),
+        Refusal::ChainSize {
+            name,
+            found,
+            wanted,
+        } => push_words(
+            line,
+            &[
+                Word::Number(18),
+                Word::Is("ChainSize"),
+                Word::Name(name),
+                Word::Number(*found as u64),
+                Word::Number(*wanted as u64),
+            ],
+        ),
+        Refusal::ChainScn {
+            name,
+            found,
+            wanted,
+        } => push_words(
+            line,
+            &[
+                Word::Number(19),
+                Word::Is("ChainScn"),
+                Word::Name(name),
+                Word::Number(*found as u64),
+                Word::Number(*wanted as u64),
+            ],
+        ),
+        Refusal::Access { found } => push_words(
+            line,
+            &[
+                Word::Number(20),
+                Word::Is("Access"),
+                Word::Number(*found as u64),
+            ],
+        ),
+        Refusal::TextLong { len } => push_words(
+            line,
+            &[Word::Number(21), Word::Is("TextLong"), Word::Number(*len)],
+        ),
+        Refusal::NoTable => push_words(line, &[Word::Number(22), Word::Is("NoTable")]),
+        Refusal::TableExists => push_words(line, &[Word::Number(23), Word::Is("TableExists")]),
+        Refusal::KeyExists { key } => push_words(
+            line,
+            &[Word::Number(24), Word::Is("KeyExists"), Word::Number(*key)],
+        ),
+        Refusal::NoKey { key } => push_words(
+            line,
+            &[Word::Number(25), Word::Is("NoKey"), Word::Number(*key)],
+        ),
+        Refusal::TooManyTables => push_words(line, &[Word::Number(26), Word::Is("TooManyTables")]),
+        Refusal::BackupRunning { session } => push_words(
+            line,
+            &[
+                Word::Number(27),
+                Word::Is("BackupRunning"),
+                Word::Number(*session as u64),
+            ],
+        ),
+        Refusal::DeltaPresent { name } => push_words(
+            line,
+            &[Word::Number(28), Word::Is("DeltaPresent"), Word::Name(name)],
+        ),
+        Refusal::ScriptLong { bytes } => push_words(
+            line,
+            &[
+                Word::Number(29),
+                Word::Is("ScriptLong"),
+                Word::Number(*bytes),
+            ],
+        ),
+        Refusal::NoGuid { guid } => push_words(
+            line,
+            &[Word::Number(30), Word::Is("NoGuid"), Word::Guid(guid)],
+        ),
+        Refusal::Unsound { fact, page } => push_words(
+            line,
+            &[
+                Word::Number(31),
+                Word::Is("Unsound"),
+                Word::Number(*fact as u64),
+                Word::Number(*page as u64),
+            ],
+        ),
+        Refusal::ShadowName { name } => push_words(
+            line,
+            &[Word::Number(32), Word::Is("ShadowName"), Word::Name(name)],
+        ),
+    }
+}
+
+/// Key and text of each row.
+fn push_rows(line: &mut Vec<u8>, rows: &RowList) -> Result<(), AllocError>
+    ensures { OnOk result (line.new.items ≡ line.old.items ++ spaced (row_words rows.now)) }
+{
+    for i in 0..rows.len() {
+        let (key, text) = rows.row(i);
+        push_words(line, &[Word::Number(key), Word::Quoted(text)])?;
+    }
+    Ok(())
+}
+
+fn push_reply(line: &mut Vec<u8>, reply: &Reply) -> Result<(), AllocError>
+    ensures { OnOk result (line.new.items ≡ line.old.items ++ spaced (reply_words reply.now)) }
+{
+    match reply {
+        Reply::Done => push_words(line, &[Word::Is("ok")]),
+        Reply::Pages { pages } => push_words(
+            line,
+            &[
+                Word::Is("ok"),
+                Word::Is("pages"),
+                Word::Number(*pages as u64),
+            ],
+        ),
+        Reply::Opened { pages, state } => push_words(
+            line,
+            &[
+                Word::Is("ok"),
+                Word::Is("pages"),
+                Word::Number(*pages as u64),
+                Word::Is("state"),
+                Word::Number(*state as u64),
+            ],
+        ),
+        Reply::PageMade { page } => push_words(
+            line,
+            &[Word::Is("ok"), Word::Is("page"), Word::Number(*page as u64)],
+        ),
+        Reply::Value { text } => push_words(line, &[Word::Is("ok"), Word::Quoted(text.as_slice())]),
+        Reply::Scn { scn } => push_words(
+            line,
+            &[Word::Is("ok"), Word::Is("scn"), Word::Number(*scn as u64)],
+        ),
+        Reply::ScnPages { scn, pages } => push_words(
+            line,
+            &[
+                Word::Is("ok"),
+                Word::Is("scn"),
+                Word::Number(*scn as u64),
+                Word::Is("pages"),
+                Word::Number(*pages as u64),
+            ],
+        ),
+        Reply::Level {
+            level,
+            scn,
+            pages,
+            guid,
+        } => push_words(
+            line,
+            &[
+                Word::Is("ok"),
+                Word::Is("level"),
+                Word::Number(*level as u64),
+                Word::Is("scn"),
+                Word::Number(*scn as u64),
+                Word::Is("pages"),
+                Word::Number(*pages as u64),
+                Word::Is("guid"),
+                Word::Guid(guid),
+            ],
+        ),
+        Reply::Rows { rows } => {
+            push_words(
+                line,
+                &[
+                    Word::Is("ok"),
+                    Word::Is("rows"),
+                    Word::Number(rows.len() as u64),
+                ],
+            )?;
+            push_rows(line, rows)?;
+            Ok(())
+        }
+        Reply::HeaderShown {
+            page_size,
+            pages,
+            state,
+            scn,
+            guid,
+            forced,
+            access,
+            delta,
+        } => push_words(
+            line,
+            &[
+                Word::Is("ok"),
+                Word::Is("size"),
+                Word::Number(*page_size as u64),
+                Word::Is("pages"),
+                Word::Number(*pages as u64),
+                Word::Is("state"),
+                Word::Number(*state as u64),
+                Word::Is("scn"),
+                Word::Number(*scn as u64),
+                Word::Is("guid"),
+                Word::Guid(guid),
+                Word::Is("forced"),
+                Word::Number(*forced as u64),
+                Word::Is("access"),
+                Word::Number(*access as u64),
+                Word::Is("delta"),
+                Word::Number(*delta as u64),
+            ],
+        ),
+        Reply::PagesShown {
+            header,
+            inventory,
+            scn,
+            data_pages,
+            raw,
+            other,
+            free,
+        } => push_words(
+            line,
+            &[
+                Word::Is("ok"),
+                Word::Is("header"),
+                Word::Number(*header as u64),
+                Word::Is("inventory"),
+                Word::Number(*inventory as u64),
+                Word::Is("scn"),
+                Word::Number(*scn as u64),
+                Word::Is("data"),
+                Word::Number(*data_pages as u64),
+                Word::Is("raw"),
+                Word::Number(*raw as u64),
+                Word::Is("other"),
+                Word::Number(*other as u64),
+                Word::Is("free"),
+                Word::Number(*free as u64),
+            ],
+        ),
+        Reply::ImageShown { pages, sha256 } => push_words(
+            line,
+            &[
+                Word::Is("ok"),
+                Word::Is("pages"),
+                Word::Number(*pages as u64),
+                Word::Is("sha256"),
+                Word::Digest(sha256),
+            ],
+        ),
+        Reply::CacheShown { capacity, held } => push_words(
+            line,
+            &[
+                Word::Is("ok"),
+                Word::Is("cache"),
+                Word::Number(*capacity as u64),
+                Word::Is("held"),
+                Word::Number(*held as u64),
+            ],
+        ),
+        Reply::Refused { refusal } => {
+            push_words(line, &[Word::Is("refused")])?;
+            push_refusal(line, refusal)?;
+            Ok(())
+        }
+    }
+}
+
+/// The line of a reply to that session, with its line feed.
+pub fn render(alloc: Global, session: u32, reply: &Reply) -> Result<Vec<u8>, Fault>
+    ensures line { IfOk result (λ line. line.items ≡ line_text session reply.now) }
+    ensures only_memory { IfErr result (λ fault. fault ≡ Memory) }
+{
+    let mut line = Vec::new(alloc);
+    push_number(&mut line, session as u64)?;
+    line.push(b':')?;
+    push_reply(&mut line, reply)?;
+    line.push(b'\n')?;
+    Ok(line)
+}
