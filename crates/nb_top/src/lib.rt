@@ -4,7 +4,9 @@
 //! for each reply, and what it promises of the replies, the files and a stop stands in its contract.
 #![tactic(auto)]
 
+mod job;
 mod line;
 mod word;
 
+pub use job::{Job, read_job};
 pub use line::render;
