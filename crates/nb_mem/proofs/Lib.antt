@@ -1,0 +1,4 @@
+pub mod NameLemmas
+pub mod SlotLemmas
+pub mod PutLemmas
+pub mod CountLemmas
