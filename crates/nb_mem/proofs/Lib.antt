@@ -2,3 +2,4 @@ pub mod NameLemmas
 pub mod SlotLemmas
 pub mod PutLemmas
 pub mod CountLemmas
+pub mod CallLemmas

@@ -65,3 +65,12 @@ with_file-swap files m n one other differ = fun_ext (λ q. by_tests q (same_name
     by_tests q true false is_m is_n = refl
     by_tests q false true is_m is_n = refl
     by_tests q false false is_m is_n = refl
+
+-- the file that was there
+pub with_file-keep : (files : Files) (n : List ℕ) → with_file files n (files n) ≡ files
+unfolding with_file
+with_file-keep files n = fun_ext (λ m. by_test m (same_name m n) refl)
+  where
+    by_test : (m : List ℕ) (b : Bool) → b ≡ same_name m n → (if b then files n else files m) ≡ files m
+    by_test m true is = ap files (sym (told_text m n true is))
+    by_test m false is = refl

@@ -48,7 +48,7 @@ reads_of (Asked Guid ∷ es) = reads_of es
 reads_of (Asked Time ∷ es) = reads_of es
 
 -- a GUID by its number, from 1: eight zero bytes, and the number in eight bytes
-abbrev pub guid_of : ℕ → List ℕ
+unfoldable pub guid_of : ℕ → List ℕ
 guid_of number = replicate 8 0 ++ to_be_bytes w64 number
 
 -- the GUIDs that were given

@@ -50,6 +50,7 @@ timely es = record { counts_now = λ t files le left. counts es t files le left;
     counts : (es : List Entry) (t : ℕ) (files : Files) → t ≤ length es → LeavesAll (world_of es) files → LeftSince es t files (said_of es)
     counts [] t files le left = (le, record { left = left; output = refl })
     counts (e ∷ es) t files le left = inl (omega arith, record { left = left; output = refl })
+
     only : (es : List Entry) (files : Files) (said : List ℕ) → LeftSince es (length es) files said → IsNow (world_of es) files said
     only [] files said since = record { left = since.1.left; output = since.1.output }
     only (e ∷ es) files said (inl now) = record { left = now.1.left; output = now.1.output }

@@ -64,6 +64,34 @@ impl History {
         Ok(())
     }
 
+    /// Puts a page at that byte of a file.
+    pub fn write(&mut self, name: &Name, at: usize, page: &[u8]) -> Result<(), AllocError>
+        ensures ok { OnOk result (self.new ≡ Call.Changed name.now (Change.Paged at page.now) ∷ self.old) }
+        ensures err { OnErr result (self.new ≡ self.old) }
+    {
+        let page = Bytes::copy(self.alloc, page)?;
+        self.change(name, Change::Paged(at, page))?;
+        Ok(())
+    }
+
+    pub fn append(&mut self, name: &Name, bytes: &[u8]) -> Result<(), AllocError>
+        ensures ok { OnOk result (self.new ≡ Call.Changed name.now (Change.Appended bytes.now) ∷ self.old) }
+        ensures err { OnErr result (self.new ≡ self.old) }
+    {
+        let bytes = Bytes::copy(self.alloc, bytes)?;
+        self.change(name, Change::Appended(bytes))?;
+        Ok(())
+    }
+
+    pub fn place(&mut self, name: &Name, bytes: &[u8]) -> Result<(), AllocError>
+        ensures ok { OnOk result (self.new ≡ Call.Changed name.now (Change.Placed bytes.now) ∷ self.old) }
+        ensures err { OnErr result (self.new ≡ self.old) }
+    {
+        let bytes = Bytes::copy(self.alloc, bytes)?;
+        self.change(name, Change::Placed(bytes))?;
+        Ok(())
+    }
+
     pub fn say(&mut self, bytes: &[u8]) -> Result<(), AllocError>
         ensures ok { OnOk result (self.new ≡ Call.Said bytes.now ∷ self.old) }
         ensures err { OnErr result (self.new ≡ self.old) }

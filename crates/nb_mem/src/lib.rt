@@ -10,4 +10,8 @@ mod bytes;
 mod counts;
 mod entry;
 mod history;
+mod host;
+mod reads;
 mod slots;
+
+pub use host::MemHost;

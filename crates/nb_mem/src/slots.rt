@@ -18,12 +18,7 @@ pub struct Slot {
     file: Option<Bytes>,
 }
 
-fn write(
-    alloc: Global,
-    file: &mut Option<Bytes>,
-    at: usize,
-    page: &[u8],
-) -> Result<(), AllocError>
+fn write(alloc: Global, file: &mut Option<Bytes>, at: usize, page: &[u8]) -> Result<(), AllocError>
     ensures ok { OnOk result (file.new ≡ with_page file.old at page.now) }
     ensures err { OnErr result (file.new ≡ file.old) }
 {
