@@ -1,5 +1,5 @@
 -- A host in memory, as contracts see it.
-use Rattle.std.specs.Prelude.{◌≡◌, ◌⊎◌, ℕ, ◌+◌, ◌-◌, ◌^◌, min, Bool, true, false, ◌||◌, ◌==◌, nat_le, List, ◌∷◌, Option, None, Some, Result, MatchResult}
+use Rattle.std.specs.Prelude.{◌≡◌, ◌⊎◌, ℕ, ◌+◌, ◌-◌, ◌^◌, min, Bool, true, false, ◌||◌, ◌==◌, nat_le, List, [], ◌∷◌, Option, None, Some, Result, MatchResult}
 use Rattle.std.specs.List.{list_any}
 use Rattle.nb_host.specs.Causes.{CountsFault}
 use Rattle.nb_mem.specs.declared.entry.Entry.{Entry}
@@ -14,6 +14,10 @@ pub record Memory : Type 0 where
   -- the numbers of the calls that fail, and the number from which on each call fails
   pub failing : List ℕ
   pub stop : Option ℕ
+
+-- before the first call, with the numbers of the calls that are to fail
+abbrev pub fresh : List ℕ → Option ℕ → Memory
+fresh failing stop = record { history = []; calls = 0; faults = 0; shortages = 0; failing = failing; stop = stop }
 
 -- one more; at the last value of a `u64` the count stands still
 abbrev pub raised : ℕ → ℕ
@@ -39,4 +43,4 @@ pub record Answers {T E : Type 0} (result : Result T E) (old new : Memory) (entr
   pub exact : MatchResult result
       (λ _. (is_next_due old ≡ false) × (new ≡ record old { history = entry ∷ old.history; calls = raised old.calls }))
       (λ _. ((is_next_due old ≡ true) × (new ≡ record old { calls = raised old.calls; faults = raised old.faults }))
-          ⊎ ((is_next_due old ≡ false) × (new ≡ record old { calls = raised old.calls; faults = raised old.faults; shortages = raised old.shortages })))
+      ⊎ ((is_next_due old ≡ false) × (new ≡ record old { calls = raised old.calls; faults = raised old.faults; shortages = raised old.shortages })))

@@ -3,7 +3,7 @@ ghost use Rattle.nb_host.specs.Causes.{CountsFault};
 ghost use Rattle.nb_mem.specs.Memory.{raised, is_due};
 
 use nb_host::HostFault;
-use std::alloc::{AllocError, Global};
+use std::alloc::AllocError;
 
 /// Which calls fail, and how many there were and failed. A count stands still at its last value.
 #[derive(Drop)]
@@ -22,15 +22,15 @@ fn raised(count: u64) -> u64
 }
 
 impl Counts {
-    pub fn new(alloc: Global) -> Counts
-        ensures { (result.calls ≡ 0) × (result.faults ≡ 0) × (result.shortages ≡ 0) × (result.failing.items ≡ []) × (result.stop ≡ None) }
+    pub fn new(failing: Vec<u64>, stop: Option<u64>) -> Counts
+        ensures { result ≡ record { calls = 0; faults = 0; shortages = 0; failing = failing; stop = stop } }
     {
         Counts {
             calls: 0,
             faults: 0,
             shortages: 0,
-            failing: Vec::new(alloc),
-            stop: None,
+            failing,
+            stop,
         }
     }
 

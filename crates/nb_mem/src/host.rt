@@ -1,9 +1,10 @@
-ghost use Rattle.std.specs.Prelude.{◌≡◌, ◌*◌, [], length, true, None, option_map, IsTrue, IfOk, ◌+◌};
+ghost use Rattle.std.specs.Prelude.{◌≡◌, ◌+◌, ◌*◌, [], ◌∷◌, length, true, option_map, IsTrue, OnOk, IfOk, IfErr};
+ghost use Rattle.std.specs.Option.{option_copied};
 ghost use Rattle.nb_host.specs.Files.{is_page_size};
 ghost use Rattle.nb_host.specs.Calls.{ReadsPage, ReadsBytes, Syncs};
 ghost use Rattle.nb_mem.specs.Histories.{world_of, files_of, guid_of, guids_of, times_of};
 ghost use Rattle.nb_mem.specs.declared.entry.Entry.{Entry as Call};
-ghost use Rattle.nb_mem.specs.Memory.{Answers};
+ghost use Rattle.nb_mem.specs.Memory.{Answers, fresh};
 ghost use Rattle.nb_mem.specs.HistoryLaws.{timely, reads_left};
 
 use crate::counts::Counts;
@@ -37,13 +38,89 @@ impl Model for MemHost {
 impl MemHost {
     /// A host with no file, of which no call is to fail.
     pub fn new(alloc: Global) -> Result<MemHost, Fault>
-        ensures { IfOk result (λ host. host ≡ record { history = []; calls = 0; faults = 0; shortages = 0; failing = []; stop = None }) }
+        ensures { result ≡ Ok (fresh [] None) }
     {
         Ok(MemHost {
             alloc,
             history: History::new(alloc),
-            counts: Counts::new(alloc),
+            counts: Counts::new(Vec::new(alloc), None),
         })
+    }
+
+    /// One of which the calls with these numbers, from 1, are to fail. The only error is want of memory.
+    pub fn failing(alloc: Global, calls: &[u64]) -> Result<MemHost, Fault>
+        ensures ok { IfOk result (λ host. host ≡ fresh calls.now None) }
+        ensures err { IfErr result (λ fault. fault ≡ Fault.Memory) }
+    {
+        let failing = Vec::from_slice(alloc, calls)?;
+        Ok(MemHost {
+            alloc,
+            history: History::new(alloc),
+            counts: Counts::new(failing, None),
+        })
+    }
+
+    /// One of which the call with that number, from 1, and each later one are to fail.
+    pub fn fused(alloc: Global, stop: u64) -> Result<MemHost, Fault>
+        ensures { result ≡ Ok (fresh [] (Some stop)) }
+    {
+        Ok(MemHost {
+            alloc,
+            history: History::new(alloc),
+            counts: Counts::new(Vec::new(alloc), Some(stop)),
+        })
+    }
+
+    /// Places a file with these bytes, and syncs it. It is no call of the host. The only error is want of memory,
+    /// and then nothing has changed.
+    pub fn put_file(&mut self, name: &Name, bytes: &[u8]) -> Result<(), Fault>
+        ensures ok { OnOk result (self.new ≡ record self.old { history = Call.Changed name.now (Change.Placed bytes.now) ∷ self.old.history }) }
+        ensures err { IfErr result (λ fault. (fault ≡ Fault.Memory) × (self.new ≡ self.old)) }
+    {
+        self.history.place(name, bytes)?;
+        Ok(())
+    }
+
+    /// The bytes of a file as they read now, and none where there is no such file.
+    pub fn file(&self, name: &Name) -> Option<&[u8]>
+        ensures { option_copied result ≡ (world_of self.now.history).files name.now }
+    {
+        self.history.file(name)
+    }
+
+    /// The output so far.
+    pub fn output(&self) -> &[u8]
+        ensures { result.now ≡ (world_of self.now.history).said }
+    {
+        self.history.said()
+    }
+
+    /// How many reads there were.
+    pub fn read_count(&self) -> u64
+        ensures { result ≡ (world_of self.now.history).reads }
+    {
+        self.history.reads()
+    }
+
+    /// How many calls of the host there were, those that failed among them.
+    pub fn calls(&self) -> u64
+        ensures { result ≡ self.now.calls }
+    {
+        self.counts.calls
+    }
+
+    /// How many calls failed.
+    pub fn fault_count(&self) -> u64
+        ensures { result ≡ self.now.faults }
+    {
+        self.counts.faults
+    }
+
+    /// How many calls failed for want of memory.
+    pub fn memory_count(&self) -> u64
+        ensures { result ≡ self.now.shortages }
+    {
+        self.counts.shortages
     }
 }
 
