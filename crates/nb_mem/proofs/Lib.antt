@@ -1,0 +1,5 @@
+pub mod NameLemmas
+pub mod SlotLemmas
+pub mod PutLemmas
+pub mod CountLemmas
+pub mod CallLemmas

@@ -1,0 +1,6 @@
+use Rattle.std.proofs.Common.{arith}
+use Rattle.nb_mem.proofs.CountLemmas.{times-fit}
+use Rattle.nb_mem.proofs.history.History.ask_time.Goals as goal
+
+pub overflow_add-self : goal.overflow_add-self
+overflow_add-self c = omega (arith, times-fit c.self.inside.calls.items, c.self.invariant)

@@ -1,0 +1,6 @@
+pub mod Changes
+pub mod Slots
+pub mod Histories
+pub mod HistoryLaws
+pub mod Current
+pub mod Memory
