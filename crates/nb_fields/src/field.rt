@@ -66,3 +66,17 @@ impl<const AT: usize> Bytes16<AT> {
         page[AT..AT + 16].copy_from_slice(value);
     }
 }
+
+/// Reads or writes named fields of a page, in a function's body.
+///
+/// `fields!(page; kind: head::Kind, scn: head::Scn);` reads each field into a variable, and
+/// `fields!(page; head::Kind = 8, head::Scn = 1);` writes each.
+#[macro_export]
+macro_rules! fields {
+    ($page:expr; $($name:ident: $field:ty),+ $(,)?) => {
+        $(let $name = <$field>::get($page);)+
+    };
+    ($page:expr; $($field:ty = $value:expr),+ $(,)?) => {
+        $(<$field>::put($page, $value);)+
+    };
+}
