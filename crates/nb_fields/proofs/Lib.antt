@@ -1,3 +1,4 @@
 pub mod NumberLemmas
 pub mod PartLemmas
+pub mod PageLemmas
 mod Rows

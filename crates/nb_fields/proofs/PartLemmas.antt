@@ -1,6 +1,7 @@
 -- Parts of a page, read and written.
 use Rattle.std.proofs.Common.{◌≡◌, ℕ, zero, suc, ◌+◌, ◌-◌, ◌^◌, ◌<◌, ◌≤◌, ◌⊎◌, ⊎_elim, List, [], ◌∷◌, ◌++◌, length, get_or, take, drop, refl, sym, ap, ◌∙◌, subst, arith, length-drop, length-append}
 use Rattle.std.proofs.lemmas.List.{length-take-le, drop_at, take_at, drop-drop, drop-append-le, take-append-le, drop-take, take-take}
+use borrow.Rule.Slice.PartMut.{put_mid}
 use Rattle.nb_fields.specs.Bytes.{number_of, bytes_of, part, number_in, with_part, AreApart}
 use Rattle.nb_fields.proofs.NumberLemmas.{length-bytes_of, number_of-bytes_of, number_of-lt}
 
@@ -10,6 +11,11 @@ length-part at w page h = length-take-le w (drop at page) (omega (arith, length-
 pub length-with_part : (at : ℕ) (bytes page : List ℕ) → at + length bytes ≤ length page → length (with_part at bytes page) ≡ length page
 length-with_part at bytes page h =
     omega (arith, length-append (take at page) (bytes ++ drop (at + length bytes) page), length-append bytes (drop (at + length bytes) page), length-drop (at + length bytes) page, length-take-le at page (omega arith))
+
+-- what a write to a slice of a page leaves
+pub put_mid-with_part : (at k : ℕ) (bytes page : List ℕ) → length bytes ≡ k → put_mid at k page bytes ≡ with_part at bytes page
+put_mid-with_part at k bytes page len =
+    ap (λ xs. take at page ++ (bytes ++ xs)) (drop-drop k at page ∙ ap (λ n. drop n page) (let e : at + k ≡ at + length bytes = omega arith in e))
 
 -- each byte of a front, or of what is left, is a byte
 bytes-drop : (k : ℕ) (xs : List ℕ) → ((i : ℕ) → get_or xs i 0 < 256) → (i : ℕ) → get_or (drop k xs) i 0 < 256

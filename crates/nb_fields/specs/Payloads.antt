@@ -5,11 +5,15 @@ use Rattle.nb_fields.specs.Bytes.{bytes_of, number_in}
 use Rattle.nb_fields.specs.Places.{entries_in}
 use Rattle.nb_fields.specs.Header.{signature}
 
--- the control block of a header, and the fields behind it: forced writes on or off, the access, catalogue and history
-unfoldable pub header_payload : (size state scn : ℕ) (guid pending : List ℕ) (forced access : ℕ) → List ℕ
-header_payload size state scn guid pending forced access =
-    bytes_of 4 signature ++ (bytes_of 2 1 ++ (bytes_of 2 state ++ (bytes_of 4 size ++ (bytes_of 4 scn ++ (guid ++ (pending
-    ++ (forced ∷ access ∷ (replicate 6 0 ++ (bytes_of 4 3 ++ bytes_of 4 4)))))))))
+-- the control block of a header: bytes 16 to 63
+unfoldable pub control_block : (size state scn : ℕ) (guid pending : List ℕ) → List ℕ
+control_block size state scn guid pending =
+    bytes_of 4 signature ++ (bytes_of 2 1 ++ (bytes_of 2 state ++ (bytes_of 4 size ++ (bytes_of 4 scn ++ (guid ++ pending)))))
+
+-- a header: its control block, then forced writes on and read-write, then the places of catalogue and history
+unfoldable pub header_payload : (size state scn : ℕ) (guid pending : List ℕ) → List ℕ
+header_payload size state scn guid pending =
+    control_block size state scn guid pending ++ (1 ∷ (replicate 7 0 ++ (bytes_of 4 3 ++ bytes_of 4 4)))
 
 -- so many bytes of bits, the first bits taken and the others free
 unfoldable pub taken_bits : (bytes taken : ℕ) → List ℕ
