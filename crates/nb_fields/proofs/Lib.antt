@@ -1,4 +1,6 @@
 pub mod NumberLemmas
 pub mod PartLemmas
 pub mod PageLemmas
+pub mod SizeLemmas
+pub mod HeaderLemmas
 mod Rows

@@ -74,6 +74,12 @@ with_part-append at xs ys page h =
         ∙ append_assoc (take at page) xs (ys ++ drop (at + length (xs ++ ys)) page)
         ∙ ap (λ zs. take at page ++ zs) (sym (append_assoc xs ys (drop (at + length (xs ++ ys)) page)))
 
+-- the same for three pages, one after another
+pub written_next : (at next : ℕ) (xs ys first second third : List ℕ) → second ≡ with_part at xs first → third ≡ with_part next ys second → next ≡ at + length xs → at + length xs ≤ length first
+    → third ≡ with_part at (xs ++ ys) first
+written_next at next xs ys first second third one two place h =
+    two ∙ ap (λ page. with_part next ys page) one ∙ ap (λ n. with_part n ys (with_part at xs first)) place ∙ with_part-append at xs ys first h
+
 pub length-head_of : (kind generation scn number : ℕ) → length (head_of kind generation scn number) ≡ 16
 unfolding head_of bytes_of
 length-head_of kind generation scn number = refl

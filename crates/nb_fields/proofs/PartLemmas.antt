@@ -84,3 +84,14 @@ number_in-with_part at w v page fits h =
 pub number_in-with_part_other : (at w by v : ℕ) (bytes page : List ℕ) → length bytes ≡ w → at + w ≤ length page → AreApart at w by v → number_in by v (with_part at bytes page) ≡ number_in by v page
 unfolding number_in
 number_in-with_part_other at w by v bytes page len h apart = ap number_of (part-with_part_other at w by v bytes page len h apart)
+
+-- a front of the page has the parts that lie in it
+pub part-take : (n at w : ℕ) (page : List ℕ) → at + w ≤ n → part at w (take n page) ≡ part at w page
+part-take n at w page h =
+    let m : ℕ = n - at in
+    let split : at + m ≡ n = omega arith in
+    ap (λ k. take w (drop at (take k page))) (sym split) ∙ ap (take w) (drop-take at m page) ∙ take-take w m (drop at page) (omega arith)
+
+pub number_in-take : (n at w : ℕ) (page : List ℕ) → at + w ≤ n → number_in at w (take n page) ≡ number_in at w page
+unfolding number_in
+number_in-take n at w page h = ap number_of (part-take n at w page h)

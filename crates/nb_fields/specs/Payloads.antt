@@ -1,7 +1,7 @@
 -- What stands behind the head of a page, by its kind.
 use Rattle.std.specs.Prelude.{ℕ, zero, suc, ◌+◌, ◌-◌, ◌*◌, ◌/◌, ◌%◌, ◌^◌, List, [], ◌∷◌, ◌++◌, length, take, replicate, slice_index}
 use Rattle.std.specs.Int.{bit_at}
-use Rattle.nb_fields.specs.Bytes.{bytes_of, number_in}
+use Rattle.nb_fields.specs.Bytes.{bytes_of, number_in, part}
 use Rattle.nb_fields.specs.Places.{entries_in}
 use Rattle.nb_fields.specs.Header.{signature}
 
@@ -39,6 +39,13 @@ data_payload next owner slots = bytes_of 4 next ++ (bytes_of 4 owner ++ (replica
 -- a raw page with a text
 unfoldable pub text_payload : (text : List ℕ) → List ℕ
 text_payload text = bytes_of 2 (length text) ++ text
+
+-- the text of a raw page
+abbrev pub text_length : List ℕ → ℕ
+text_length page = number_in 16 2 page
+
+abbrev pub text_of : List ℕ → List ℕ
+text_of page = part 18 (text_length page) page
 
 -- bit i of a page inventory page: 1 means free
 abbrev pub bit_of : List ℕ → ℕ → ℕ

@@ -1,0 +1,2 @@
+pub mod QuietLemmas
+pub mod FreeLemmas
