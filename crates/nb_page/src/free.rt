@@ -54,6 +54,7 @@ pub fn is_free<H: Host>(host: &mut H, name: &Name) -> Result<bool, HostFault>
 }
 
 /// Whether a difference file stands beside a name that a database may have.
+#[tactic(auto, unfolding(crate::specs::Free::has_delta))]
 fn stands_beside<H: Host>(host: &mut H, name: &Name) -> Result<bool, HostFault>
     ensures answer { IsTrue H.tells → IfOk result (λ beside. beside ≡ has_delta (H.world host.old).files name.now) }
     ensures quiet { Quiet (H.world host.old) (H.world host.new) }
