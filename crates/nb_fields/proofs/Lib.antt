@@ -3,4 +3,5 @@ pub mod PartLemmas
 pub mod PageLemmas
 pub mod SizeLemmas
 pub mod HeaderLemmas
+pub mod FreshLemmas
 mod Rows

@@ -1,8 +1,10 @@
 -- Pages made of a head and a payload.
 use Rattle.std.proofs.Common.{◌≡◌, ℕ, zero, suc, ◌+◌, ◌*◌, ◌-◌, ◌%◌, ◌^◌, ◌<◌, ◌≤◌, List, [], ◌∷◌, ◌++◌, length, take, drop, replicate, refl, sym, ap, ◌∙◌, arith, append_assoc, length-append, length-drop}
-use Rattle.std.proofs.lemmas.List.{length-take-le, length-replicate, drop_at, take_at, drop-drop, take-append-le, drop-append-le, take_all, append-nil, drop-replicate, take-replicate, replicate-append-replicate}
+use Rattle.std.proofs.lemmas.List.{length-take-le, length-replicate, drop_all, drop_at, take_at, drop-drop, take-append-le, drop-append-le, take_all, append-nil, drop-replicate, take-replicate, replicate-append-replicate}
+use borrow.Rule.Slice.PartMut.{put_mid}
 use Rattle.nb_fields.specs.Bytes.{bytes_of, number_of, number_in, part, with_part, padded}
 use Rattle.nb_fields.specs.Page.{head_of, page_of, with_payload, stamped, generation_of}
+use Rattle.nb_fields.specs.Payloads.{text_payload, text_of}
 use Rattle.nb_fields.proofs.NumberLemmas.{length-bytes_of, number_of-bytes_of}
 
 pub length-padded : (size : ℕ) (bytes : List ℕ) → length bytes ≤ size → length (padded size bytes) ≡ size
@@ -129,3 +131,69 @@ module _ (size kind generation scn number : ℕ) (payload : List ℕ) where
   pub number_of_page-page_of : number < 2 ^ 32 → number_in 12 4 (page_of size kind generation scn number payload) ≡ number
   unfolding number_in head_of bytes_of
   number_of_page-page_of h = number_in-page_of 12 4 (omega arith) ∙ number_of-bytes_of 4 number h
+
+-- bytes written somewhere, and zeros from there to the page's end
+pub filled : (at end k : ℕ) (bytes page zeros : List ℕ) → at ≤ length page → end ≡ at + length bytes → end ≤ length page → k ≡ length page - end → zeros ≡ replicate k 0
+    → put_mid end k (with_part at bytes page) zeros ≡ take at page ++ padded (length page - at) bytes
+unfolding padded
+filled at end k bytes page zeros before place room rest are =
+    let front : length (take at page) ≡ at = length-take-le at page before in
+    let tail : List ℕ = drop (at + length bytes) page in
+    let whole : with_part at bytes page ≡ (take at page ++ bytes) ++ tail = sym (append_assoc (take at page) bytes tail) in
+    let len : length (take at page ++ bytes) ≡ end = omega (arith, length-append (take at page) bytes) in
+    let start : take end (with_part at bytes page) ≡ take at page ++ bytes = ap (take end) whole ∙ take_at (take at page ++ bytes) tail end len in
+    let behind : drop k (drop end (with_part at bytes page)) ≡ [] =
+        ap (λ xs. drop k xs) (ap (drop end) whole ∙ drop_at (take at page ++ bytes) tail end len) ∙ drop_all k tail (omega (arith, length-drop (at + length bytes) page)) in
+    let zeros_are : zeros ≡ replicate (length page - at - length bytes) 0 = are ∙ ap (λ n. replicate n 0) (let e : k ≡ length page - at - length bytes = omega arith in e) in
+    ap (λ xs. xs ++ (zeros ++ drop k (drop end (with_part at bytes page)))) start
+        ∙ ap (λ xs. (take at page ++ bytes) ++ (zeros ++ xs)) behind
+        ∙ ap (λ xs. (take at page ++ bytes) ++ xs) (append-nil zeros ∙ zeros_are)
+        ∙ append_assoc (take at page) bytes (replicate (length page - at - length bytes) 0)
+
+-- the text of a page is the text that was put into it
+pub text_of-payload : (size : ℕ) (head text : List ℕ) → length head ≡ 16 → length text ≤ 200 → text_of (head ++ padded size (text_payload text)) ≡ text
+unfolding text_payload number_in padded bytes_of
+text_of-payload size head text len short =
+    let n : ℕ = length text in
+    let zeros : List ℕ = replicate (size - length (bytes_of 2 n ++ text)) 0 in
+    let payload : List ℕ = (bytes_of 2 n ++ text) ++ zeros in
+    let behind : drop 16 (head ++ payload) ≡ payload = drop_at head payload 16 len in
+    let read : number_in 16 2 (head ++ payload) ≡ n = ap (λ xs. number_of (take 2 xs)) behind ∙ number_of-bytes_of 2 n (omega arith) in
+    let text_there : drop 18 (head ++ payload) ≡ text ++ zeros = sym (drop-drop 2 16 (head ++ payload)) ∙ ap (drop 2) behind in
+    ap (λ m. take m (drop 18 (head ++ payload))) read ∙ ap (take n) text_there ∙ take_at text zeros n refl
+
+-- such a page with a head of its own
+pub text_of-page_of : (size kind generation scn number : ℕ) (text : List ℕ) → length text ≤ 200 → text_of (page_of size kind generation scn number (text_payload text)) ≡ text
+unfolding page_of
+text_of-page_of size kind generation scn number text short =
+    text_of-payload (size - 16) (head_of kind generation scn number) text (length-head_of kind generation scn number) short
+
+pub text_of-with_payload : (page text : List ℕ) → 16 ≤ length page → length text ≤ 200 → text_of (with_payload page (text_payload text)) ≡ text
+unfolding with_payload
+text_of-with_payload page text long short = text_of-payload (length page - 16) (take 16 page) text (length-take-le 16 page long) short
+
+-- what is left of a page behind its head, stamped
+pub stamped-rest : (old : List ℕ) (kind scn number : ℕ) → 16 ≤ length old
+    → stamped old kind (drop 16 old) scn number ≡ head_of kind ((generation_of old + 1) % 2 ^ 32) scn number ++ drop 16 old
+unfolding stamped page_of
+stamped-rest old kind scn number long =
+    ap (λ xs. head_of kind ((generation_of old + 1) % 2 ^ 32) scn number ++ xs) (padded_whole (length old - 16) (drop 16 old) (length-drop 16 old))
+
+-- the fields of a head, written one after another
+pub head_written : (p0 p1 p2 p3 p4 p5 p6 : List ℕ) (kind generation scn number : ℕ) → kind < 256 → 16 ≤ length p0
+    → p1 ≡ with_part 0 (bytes_of 1 kind) p0 → p2 ≡ with_part 1 (bytes_of 1 0) p1 → p3 ≡ with_part 2 (bytes_of 2 0) p2
+    → p4 ≡ with_part 4 (bytes_of 4 generation) p3 → p5 ≡ with_part 8 (bytes_of 4 scn) p4 → p6 ≡ with_part 12 (bytes_of 4 number) p5
+    → p6 ≡ head_of kind generation scn number ++ drop 16 p0
+unfolding bytes_of head_of
+head_written p0 p1 p2 p3 p4 p5 p6 kind generation scn number small room one two three four five six =
+    let same : kind % 256 ≡ kind = omega arith in
+    let first : p1 ≡ with_part 0 (kind ∷ []) p0 = one ∙ ap (λ k. with_part 0 (k ∷ []) p0) same in
+    let a : List ℕ = kind ∷ 0 ∷ [] in
+    let b : List ℕ = kind ∷ 0 ∷ 0 ∷ 0 ∷ [] in
+    let c : List ℕ = b ++ bytes_of 4 generation in
+    let d : List ℕ = c ++ bytes_of 4 scn in
+    let to_a : p2 ≡ with_part 0 a p0 = written_next 0 1 (kind ∷ []) (bytes_of 1 0) p0 p1 p2 first two refl (omega arith) in
+    let to_b : p3 ≡ with_part 0 b p0 = written_next 0 2 a (bytes_of 2 0) p0 p2 p3 to_a three refl (omega arith) in
+    let to_c : p4 ≡ with_part 0 c p0 = written_next 0 4 b (bytes_of 4 generation) p0 p3 p4 to_b four refl (omega arith) in
+    let to_d : p5 ≡ with_part 0 d p0 = written_next 0 8 c (bytes_of 4 scn) p0 p4 p5 to_c five refl (omega arith) in
+    written_next 0 12 d (bytes_of 4 number) p0 p5 p6 to_d six refl (omega arith)

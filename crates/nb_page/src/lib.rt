@@ -6,8 +6,16 @@
 //! `is_free` answers truly, changes nothing, and says so in one word, `Quiet`, which runs of such calls compose.
 #![tactic(auto)]
 
+mod count;
 mod free;
+// mod fresh;
 mod header;
+mod page;
+mod text;
 
+pub use count::fresh_count;
 pub use free::is_free;
+// pub use fresh::fresh;
 pub use header::{Header, read_header, write_header};
+pub use page::{PageHead, read_head, stamp};
+pub use text::{put_text, raw_text};
