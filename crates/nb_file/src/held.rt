@@ -21,7 +21,7 @@ pub struct Held<F: Drop> {
     pub is_dirty: bool,
     /// Its folder was synced since the name was made, and in this process.
     pub is_kept: bool,
-    /// A sync of it failed, so nothing that was written is sure: each call on it fails from then on.
+    /// A sync of it failed, so nothing that was written is sure: each call on it fails, until it is made anew or removed.
     pub is_lost: bool,
 }
 
@@ -124,20 +124,20 @@ impl<F: OpenFile + FileExt + Drop> Held<F> {
         self.write(at, bytes)
     }
 
-    /// Takes all its bytes away.
+    /// Takes all its bytes away. A file that was lost is so no longer, since nothing of it is left that is unsure.
     pub fn empty(&mut self) -> io::Result<()>
-        ensures lost { self.old.is_lost ≡ true → IsErr result }
-        ensures dirty { OnOk result ((self.new.is_dirty ≡ true) × (self.new.is_kept ≡ false)) }
         ensures empty { OnOk result (self.new.len ≡ option_map (λ _. 0) self.old.len) }
-        ensures same { (self.new.name ≡ self.old.name) × (self.new.is_lost ≡ self.old.is_lost) }
+        ensures fresh { OnOk result ((self.new.is_dirty ≡ true) × (self.new.is_kept ≡ false) × (self.new.is_lost ≡ false)) }
+        ensures fails { OnErr result (self.new.is_lost ≡ self.old.is_lost) }
+        ensures same { self.new.name ≡ self.old.name }
     {
-        self.check()?;
         let len = self.len;
         self.len = None;
         self.is_dirty = true;
         self.is_kept = false;
         self.file.set_len(0)?;
         self.len = len.map(|_| 0);
+        self.is_lost = false;
         Ok(())
     }
 

@@ -107,9 +107,12 @@ where
         }
     }
 
-    fn lose(&mut self, node: Node) {
+    /// Each open name of that file is lost, or is so no longer.
+    fn mark_lost(&mut self, node: Node, is_lost: bool) {
         for held in self.files.iter_mut() {
-            held.is_lost |= held.node == node;
+            if held.node == node {
+                held.is_lost = is_lost;
+            }
         }
     }
 
@@ -140,17 +143,16 @@ where
         }
     }
 
-    /// Leaves an empty file of that name. A file that was lost is opened anew.
+    /// Leaves an empty file of that name.
     pub fn make(&mut self, rt: &R, name: &Name) -> io::Result<()> {
-        self.files
-            .retain(|held| !held.is_lost || held.name != *name);
-        match self.find(rt, name)? {
-            Some(i) => self.files[i].empty(),
-            None => {
-                self.create(rt, name)?;
-                Ok(())
-            }
-        }
+        let Some(i) = self.find(rt, name)? else {
+            self.create(rt, name)?;
+            return Ok(());
+        };
+        let node = self.files[i].node;
+        self.files[i].empty()?;
+        self.mark_lost(node, false);
+        Ok(())
     }
 
     /// Takes the file away, and closes each of its names that went with it.
@@ -206,7 +208,7 @@ where
         let node = self.files[i].node;
         let outcome = self.files[i].sync(rt);
         if outcome.is_err() {
-            self.lose(node);
+            self.mark_lost(node, true);
         }
         outcome
     }
