@@ -1,5 +1,6 @@
 // The open files.
-ghost use Rattle.std.specs.Prelude.{◌≡◌, ◌<◌, ◌≤◌, length, IfOk, IfSome, OnOk, vec_len};
+ghost use Rattle.std.specs.Prelude.{◌≡◌, ◌<◌, ◌≤◌, length, IfOk, IfSome, IsSomeAnd, IsTrue, OnOk, vec_len, slice_get};
+ghost use Rattle.nb_host.specs.Names.{same_name};
 
 use crate::folder::{Node, look_up, sync_folder};
 use crate::held::Held;
@@ -32,14 +33,16 @@ where
     }
 
     fn index_of(&self, name: &Name) -> Option<usize>
-        ensures { IfSome result (λ i. i < vec_len self.now.files) }
+        ensures place { IfSome result (λ i. i < vec_len self.now.files) }
+        ensures name { IfSome result (λ i. IsSomeAnd (slice_get self.now.files.items i) (λ held. IsTrue (same_name held.name name.now))) }
     {
         self.files.iter().position(|held| held.name == *name)
     }
 
     /// The open file of this name. Where it is not open yet, it is opened, if there is one.
     fn find(&mut self, rt: &R, name: &Name) -> io::Result<Option<usize>>
-        ensures { IfOk result (λ found. IfSome found (λ i. i < vec_len self.new.files)) }
+        ensures place { IfOk result (λ found. IfSome found (λ i. i < vec_len self.new.files)) }
+        ensures name { IfOk result (λ found. IfSome found (λ i. IsSomeAnd (slice_get self.new.files.items i) (λ held. IsTrue (same_name held.name name.now)))) }
     {
         if let Some(i) = self.index_of(name) {
             return Ok(Some(i));
@@ -60,7 +63,8 @@ where
 
     /// The open file of this name. Where there is no file, it is made.
     fn find_or_make(&mut self, rt: &R, name: &Name) -> io::Result<usize>
-        ensures { IfOk result (λ i. i < vec_len self.new.files) }
+        ensures place { IfOk result (λ i. i < vec_len self.new.files) }
+        ensures name { IfOk result (λ i. IsSomeAnd (slice_get self.new.files.items i) (λ held. IsTrue (same_name held.name name.now))) }
     {
         match self.find(rt, name)? {
             Some(i) => Ok(i),
@@ -69,17 +73,17 @@ where
     }
 
     fn create(&mut self, rt: &R, name: &Name) -> io::Result<usize>
-        ensures { IfOk result (λ i. i < vec_len self.new.files) }
+        ensures place { IfOk result (λ i. i < vec_len self.new.files) }
+        ensures name { IfOk result (λ i. IsSomeAnd (slice_get self.new.files.items i) (λ held. IsTrue (same_name held.name name.now))) }
     {
         let mut how = OpenOptions::new();
         how.read(true).write(true).create_new(true).mode(0o660);
-        let i = self.open(rt, name, &how)?;
-        self.files[i].is_dirty = true;
-        Ok(i)
+        self.open(rt, name, &how)
     }
 
     fn open(&mut self, rt: &R, name: &Name, how: &OpenOptions) -> io::Result<usize>
-        ensures { IfOk result (λ i. i < vec_len self.new.files) }
+        ensures place { IfOk result (λ i. i < vec_len self.new.files) }
+        ensures name { IfOk result (λ i. IsSomeAnd (slice_get self.new.files.items i) (λ held. IsTrue (same_name held.name name.now))) }
     {
         self.make_room()?;
         let mut file = how.open(rt, name.as_str())?;
@@ -88,7 +92,16 @@ where
         if file.as_raw_fd() <= 2 {
             file = file.try_clone()?;
         }
+        self.add(name, file, how.asks_create_new())
+    }
+
+    fn add(&mut self, name: &Name, file: R::File, is_new: bool) -> io::Result<usize>
+        requires { vec_len self.old.files < 64 }
+        ensures place { IfOk result (λ i. i < vec_len self.new.files) }
+        ensures name { IfOk result (λ i. IsSomeAnd (slice_get self.new.files.items i) (λ held. IsTrue (same_name held.name name.now))) }
+    {
         let mut held = Held::new(name.copied(), file)?;
+        held.is_dirty = is_new;
         self.join(&mut held);
         self.files.push(held)?;
         Ok(self.files.len() - 1)
@@ -96,7 +109,8 @@ where
 
     /// Two names of one file both ask the system for its length, and are lost together.
     fn join(&mut self, new: &mut Held<R::File>)
-        ensures { vec_len self.new.files ≡ vec_len self.old.files }
+        ensures len { vec_len self.new.files ≡ vec_len self.old.files }
+        ensures name { new.new.name ≡ new.old.name }
     {
         for held in self.files.iter_mut() {
             if held.node == new.node {
