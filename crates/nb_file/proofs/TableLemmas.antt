@@ -1,0 +1,19 @@
+-- Where a list that grew by one has its new element.
+use Rattle.std.proofs.Common.{◌≡◌, ℕ, ◌+◌, List, [], ◌∷◌, ◌++◌, length, IsTrue, IsSomeAnd, Some, slice_get, subst, sym, ap, ◌∙◌, arith, length-append}
+use Rattle.std.proofs.Math.Seq.{get_or-append_seam}
+use Rattle.std.proofs.lemmas.Option.{slice_get_read}
+use Rattle.std.specs.Cmp.Lexicographic.{nat_list_eq_equiv}
+use Rattle.nb_host.specs.Names.{same_name}
+
+-- the last element of a list that grew by one
+pub slice_get-append_last : {X : Type 0} (xs : List X) (x : X) → slice_get (xs ++ x ∷ []) (length xs) ≡ Some x
+slice_get-append_last xs x =
+    let longer : length (xs ++ x ∷ []) ≡ length xs + 1 = length-append xs (x ∷ []) in
+    slice_get_read (xs ++ x ∷ []) (length xs + 1) (length xs) x (sym longer) (omega arith) (sym (get_or-append_seam xs x [] x))
+
+-- it has the name that it was given
+pub last_named : {X : Type 0} (named : X → List ℕ) (xs ys : List X) (x : X) (name : List ℕ) (k : ℕ) → ys ≡ xs ++ x ∷ [] → k ≡ length xs → named x ≡ name → IsSomeAnd (slice_get ys k) (λ y. IsTrue (same_name (named y) name))
+last_named named xs ys x name k grew last is_named =
+    let at_last : slice_get ys k ≡ Some x = ap (λ zs. slice_get zs k) grew ∙ (ap (λ i. slice_get (xs ++ x ∷ []) i) last ∙ slice_get-append_last xs x) in
+    let same : IsTrue (same_name (named x) name) = subst (λ n. IsTrue (same_name (named x) n)) is_named (nat_list_eq_equiv.refl (named x)) in
+    subst (λ found. IsSomeAnd found (λ y. IsTrue (same_name (named y) name))) (sym at_last) same

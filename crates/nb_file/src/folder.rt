@@ -1,0 +1,53 @@
+// What stands under a name, and the folder that it stands in.
+ghost use Rattle.std.specs.Prelude.{IfOk, IfSome};
+ghost use Rattle.std.specs.Fs.{file_type, IsFile};
+
+use nb_host::Name;
+use std::fs::{self, File, Metadata, OpenFile};
+use std::io::{self, ErrorKind};
+use std::os::unix::fs::MetadataExt;
+use std::path::Path;
+use std::rt::Files;
+
+/// Which file of the system it is, whatever its names.
+#[derive(Clone, Copy, PartialEq, Eq)]
+pub struct Node {
+    device: u64,
+    inode: u64,
+}
+
+impl Node {
+    pub fn of(found: &Metadata) -> Node {
+        Node {
+            device: found.dev(),
+            inode: found.ino(),
+        }
+    }
+}
+
+/// The file that has this name, if there is one. What is no file is an error: a folder, a FIFO, a device, and a
+/// symbolic link too.
+pub fn look_up<R: Files>(rt: &R, name: &Name) -> io::Result<Option<Metadata>>
+    ensures { IfOk result (λ found. IfSome found (λ metadata. IsFile (file_type metadata))) }
+{
+    match fs::symlink_metadata(rt, name.as_str()) {
+        Ok(found) if found.is_file() => Ok(Some(found)),
+        Ok(_) => Err(ErrorKind::Unsupported.into()),
+        Err(error) if is_missing(error.kind()) => Ok(None),
+        Err(error) => Err(error),
+    }
+}
+
+// A file is missing too where a name has a file in place of a folder.
+fn is_missing(kind: ErrorKind) -> bool {
+    kind == ErrorKind::NotFound || kind == ErrorKind::NotADirectory
+}
+
+/// Keeps for good which names there are in the folder of `name`.
+pub fn sync_folder<R: Files>(rt: &R, name: &Name) -> io::Result<()> {
+    let folder = match Path::new(name.as_str()).parent() {
+        Some(folder) if !folder.as_str().is_empty() => folder,
+        _ => Path::new("."),
+    };
+    File::open(rt, folder)?.sync_all()
+}

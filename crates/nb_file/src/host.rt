@@ -1,0 +1,143 @@
+// The host.
+ghost use Rattle.std.specs.Prelude.{◌≡◌, ℕ, false, Ok, IfOk};
+ghost use Rattle.nb_host.specs.Causes.{Rose, CountsFault};
+ghost use Rattle.nb_file.specs.Nothing.{silence, silence_timely, untold};
+
+use crate::bytes::place_of;
+use crate::guid::draw;
+use crate::table::Table;
+use nb_host::{Host, HostFault, Name};
+use std::alloc::Global;
+use std::io;
+use std::marker::Model;
+use std::os::fd::AsRawFd;
+use std::os::unix::fs::FileExt;
+use std::rt::{Clock, Files};
+
+/// Real files, the standard output, the system's random bytes and its clock.
+///
+/// Contracts see it as its count of faults, since it tells nothing else.
+#[derive(Drop)]
+pub struct FileHost<R: Files + Drop> {
+    rt: R,
+    files: Table<R>,
+    faults: u64,
+}
+
+impl<R: Files + Drop> Model for FileHost<R> {
+    ghost Value = { ℕ };
+
+    ghost view = { λ host. host.faults };
+}
+
+impl<R: Files + Print + Clock + Drop> FileHost<R>
+where
+    R::File: FileExt + AsRawFd,
+{
+    /// A host with no file open and no fault.
+    pub fn new(rt: R, alloc: Global) -> FileHost<R>
+        ensures { result ≡ 0 }
+    {
+        FileHost {
+            rt,
+            files: Table::new(alloc),
+            faults: 0,
+        }
+    }
+
+    /// How many calls have failed. At the last value of a `u64` it stands still.
+    pub fn fault_count(&self) -> u64
+        ensures { result ≡ self.now }
+    {
+        self.faults
+    }
+
+    /// Counts a fault where the system failed. What it failed of is not told.
+    fn answer<T: Drop>(&mut self, outcome: io::Result<T>) -> Result<T, HostFault>
+        ensures value { IfOk result (λ value. outcome ≡ Ok value) }
+        ensures cause { CountsFault result self.old self.new }
+    {
+        match outcome {
+            Ok(value) => Ok(value),
+            Err(_) => {
+                self.faults = self.faults.saturating_add(1);
+                Err(HostFault)
+            }
+        }
+    }
+}
+
+impl<R: Files + Print + Clock + Drop> Host for FileHost<R>
+where
+    R::File: FileExt + AsRawFd,
+{
+    ghost tells = { false };
+
+    ghost world = { λ _. silence };
+
+    ghost faults = { λ host. host };
+
+    ghost timely = { λ _. silence_timely };
+
+    ghost reads_left = { λ _ told _. untold told };
+
+    fn size(&mut self, name: &Name) -> Result<Option<u64>, HostFault> {
+        let outcome = self.files.size(&self.rt, name);
+        self.answer(outcome)
+    }
+
+    fn make(&mut self, name: &Name) -> Result<(), HostFault> {
+        let outcome = self.files.make(&self.rt, name);
+        self.answer(outcome)
+    }
+
+    fn remove(&mut self, name: &Name) -> Result<(), HostFault> {
+        let outcome = self.files.remove(&self.rt, name);
+        self.answer(outcome)
+    }
+
+    fn read_page(&mut self, name: &Name, index: u32, into: &mut [u8]) -> Result<bool, HostFault> {
+        let outcome = self
+            .files
+            .read_whole(&self.rt, name, place_of(index, into), into);
+        self.answer(outcome)
+    }
+
+    fn write_page(&mut self, name: &Name, index: u32, page: &[u8]) -> Result<(), HostFault> {
+        let outcome = self
+            .files
+            .write(&self.rt, name, place_of(index, page), page);
+        self.answer(outcome)
+    }
+
+    fn read_at(&mut self, name: &Name, at: u64, into: &mut [u8]) -> Result<usize, HostFault> {
+        let outcome = self.files.read_some(&self.rt, name, at, into);
+        self.answer(outcome)
+    }
+
+    fn append(&mut self, name: &Name, bytes: &[u8]) -> Result<(), HostFault> {
+        let outcome = self.files.append(&self.rt, name, bytes);
+        self.answer(outcome)
+    }
+
+    fn sync(&mut self, name: &Name) -> Result<(), HostFault> {
+        let outcome = self.files.sync(&self.rt, name);
+        self.answer(outcome)
+    }
+
+    // The runtime has no buffer: each byte was given to the system before this answers Ok.
+    fn say(&mut self, bytes: &[u8]) -> Result<(), HostFault> {
+        let outcome = self.rt.write_all(bytes);
+        self.answer(outcome)
+    }
+
+    fn guid(&mut self) -> Result<[u8; 16], HostFault> {
+        let outcome = draw(&self.rt);
+        self.answer(outcome)
+    }
+
+    fn seconds(&mut self) -> Result<u64, HostFault> {
+        let outcome = self.rt.since_1970().map(|time| time.as_secs());
+        self.answer(outcome)
+    }
+}
