@@ -1,0 +1,38 @@
+-- The header: the head and the control block, which are the first 64 bytes of a database.
+use Rattle.std.specs.Prelude.{ℕ, List, length, Bool, ◌&&◌, ◌||◌, ◌==◌, not, nat_le, nat_lt}
+use Rattle.nb_fields.specs.Bytes.{number_in, part}
+use Rattle.nb_fields.specs.Places.{is_page_size}
+
+-- the bytes NBDB
+abbrev pub signature : ℕ
+signature = 1111769678
+
+-- the fields of the control block
+abbrev pub state_of : List ℕ → ℕ
+state_of first = number_in 22 2 first
+
+abbrev pub size_of : List ℕ → ℕ
+size_of first = number_in 24 4 first
+
+abbrev pub scn_of : List ℕ → ℕ
+scn_of first = number_in 28 4 first
+
+abbrev pub guid_of : List ℕ → List ℕ
+guid_of first = part 32 16 first
+
+abbrev pub pending_of : List ℕ → List ℕ
+pending_of first = part 48 16 first
+
+-- The first 64 bytes have the form of a header: type 1, number 0, the signature, version 1, a state of 0 to 3,
+-- a page size, and an SCN, which in state 1 is not the last one. Other bytes aren't tested.
+unfoldable pub is_header : List ℕ → Bool
+is_header first =
+    nat_le 64 (length first)
+    && number_in 0 1 first == 1
+    && number_in 12 4 first == 0
+    && number_in 16 4 first == signature
+    && number_in 20 2 first == 1
+    && nat_le (state_of first) 3
+    && is_page_size (size_of first)
+    && nat_le 1 (scn_of first)
+    && (not (state_of first == 1) || nat_lt (scn_of first) 4294967295)

@@ -1,0 +1,12 @@
+pub mod Bytes
+pub mod Cases
+pub mod Kinds
+pub mod Layouts
+pub mod Places
+pub mod Page
+pub mod Header
+pub mod Payloads
+pub mod Fresh
+pub mod Free
+pub mod Table
+pub mod Opened

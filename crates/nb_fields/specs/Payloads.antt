@@ -1,0 +1,45 @@
+-- What stands behind the head of a page, by its kind.
+use Rattle.std.specs.Prelude.{ℕ, zero, suc, ◌+◌, ◌-◌, ◌*◌, ◌/◌, ◌%◌, ◌^◌, List, [], ◌∷◌, ◌++◌, length, take, replicate, slice_index}
+use Rattle.std.specs.Int.{bit_at}
+use Rattle.nb_fields.specs.Bytes.{bytes_of, number_in}
+use Rattle.nb_fields.specs.Places.{entries_in}
+use Rattle.nb_fields.specs.Header.{signature}
+
+-- the control block of a header, and the fields behind it: forced writes on or off, the access, catalogue and history
+unfoldable pub header_payload : (size state scn : ℕ) (guid pending : List ℕ) (forced access : ℕ) → List ℕ
+header_payload size state scn guid pending forced access =
+    bytes_of 4 signature ++ (bytes_of 2 1 ++ (bytes_of 2 state ++ (bytes_of 4 size ++ (bytes_of 4 scn ++ (guid ++ (pending
+    ++ (forced ∷ access ∷ (replicate 6 0 ++ (bytes_of 4 3 ++ bytes_of 4 4)))))))))
+
+-- so many bytes of bits, the first bits taken and the others free
+unfoldable pub taken_bits : (bytes taken : ℕ) → List ℕ
+taken_bits bytes taken = take bytes (replicate (taken / 8) 0 ++ ((256 - 2 ^ (taken % 8)) ∷ replicate bytes 255))
+
+-- page inventory page k with its first bits taken
+unfoldable pub inventory_payload : (size k taken : ℕ) → List ℕ
+inventory_payload size k taken = bytes_of 4 k ++ (replicate 12 0 ++ taken_bits (size - 32) taken)
+
+-- so many entries of one SCN
+unfoldable pub same_entries : (scn n : ℕ) → List ℕ
+same_entries scn zero = []
+same_entries scn (suc n) = bytes_of 4 scn ++ same_entries scn n
+
+-- SCN inventory page k with each entry the same
+unfoldable pub scn_payload : (size k scn : ℕ) → List ℕ
+scn_payload size k scn = bytes_of 4 k ++ (replicate 12 0 ++ same_entries scn (entries_in size))
+
+-- a data page: the next page of its chain, its owner, and its slots
+unfoldable pub data_payload : (next owner : ℕ) (slots : List ℕ) → List ℕ
+data_payload next owner slots = bytes_of 4 next ++ (bytes_of 4 owner ++ (replicate 8 0 ++ slots))
+
+-- a raw page with a text
+unfoldable pub text_payload : (text : List ℕ) → List ℕ
+text_payload text = bytes_of 2 (length text) ++ text
+
+-- bit i of a page inventory page: 1 means free
+abbrev pub bit_of : List ℕ → ℕ → ℕ
+bit_of page i = bit_at (slice_index page (32 + i / 8)) (i % 8)
+
+-- entry i of an SCN inventory page
+abbrev pub entry_of : List ℕ → ℕ → ℕ
+entry_of page i = number_in (32 + 4 * i) 4 page
