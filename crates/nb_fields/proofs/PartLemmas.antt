@@ -1,6 +1,7 @@
 -- Parts of a page, read and written.
 use Rattle.std.proofs.Common.{◌≡◌, ℕ, zero, suc, ◌+◌, ◌-◌, ◌^◌, ◌<◌, ◌≤◌, ◌⊎◌, ⊎_elim, List, [], ◌∷◌, ◌++◌, length, get_or, take, drop, refl, sym, ap, ◌∙◌, subst, arith, length-drop, length-append}
 use Rattle.std.proofs.lemmas.List.{length-take-le, drop_at, take_at, drop-drop, drop-append-le, take-append-le, drop-take, take-take}
+use borrow.Rule.Slice.PartMut.{put_mid}
 use Rattle.nb_fields.specs.Bytes.{number_of, bytes_of, part, number_in, with_part, AreApart}
 use Rattle.nb_fields.proofs.NumberLemmas.{length-bytes_of, number_of-bytes_of, number_of-lt}
 
@@ -10,6 +11,11 @@ length-part at w page h = length-take-le w (drop at page) (omega (arith, length-
 pub length-with_part : (at : ℕ) (bytes page : List ℕ) → at + length bytes ≤ length page → length (with_part at bytes page) ≡ length page
 length-with_part at bytes page h =
     omega (arith, length-append (take at page) (bytes ++ drop (at + length bytes) page), length-append bytes (drop (at + length bytes) page), length-drop (at + length bytes) page, length-take-le at page (omega arith))
+
+-- what a write to a slice of a page leaves
+pub put_mid-with_part : (at k : ℕ) (bytes page : List ℕ) → length bytes ≡ k → put_mid at k page bytes ≡ with_part at bytes page
+put_mid-with_part at k bytes page len =
+    ap (λ xs. take at page ++ (bytes ++ xs)) (drop-drop k at page ∙ ap (λ n. drop n page) (let e : at + k ≡ at + length bytes = omega arith in e))
 
 -- each byte of a front, or of what is left, is a byte
 bytes-drop : (k : ℕ) (xs : List ℕ) → ((i : ℕ) → get_or xs i 0 < 256) → (i : ℕ) → get_or (drop k xs) i 0 < 256
@@ -78,3 +84,14 @@ number_in-with_part at w v page fits h =
 pub number_in-with_part_other : (at w by v : ℕ) (bytes page : List ℕ) → length bytes ≡ w → at + w ≤ length page → AreApart at w by v → number_in by v (with_part at bytes page) ≡ number_in by v page
 unfolding number_in
 number_in-with_part_other at w by v bytes page len h apart = ap number_of (part-with_part_other at w by v bytes page len h apart)
+
+-- a front of the page has the parts that lie in it
+pub part-take : (n at w : ℕ) (page : List ℕ) → at + w ≤ n → part at w (take n page) ≡ part at w page
+part-take n at w page h =
+    let m : ℕ = n - at in
+    let split : at + m ≡ n = omega arith in
+    ap (λ k. take w (drop at (take k page))) (sym split) ∙ ap (take w) (drop-take at m page) ∙ take-take w m (drop at page) (omega arith)
+
+pub number_in-take : (n at w : ℕ) (page : List ℕ) → at + w ≤ n → number_in at w (take n page) ≡ number_in at w page
+unfolding number_in
+number_in-take n at w page h = ap number_of (part-take n at w page h)

@@ -1,5 +1,6 @@
 -- Numbers in the bytes of a page.
-use Rattle.std.specs.Prelude.{◌≡◌, ℕ, zero, suc, ◌+◌, ◌-◌, ◌*◌, ◌/◌, ◌%◌, ◌≤◌, ◌⊎◌, List, [], ◌∷◌, ◌++◌, length, take, drop, replicate, Bool, true, false, ◌&&◌, nat_eq}
+use Rattle.std.specs.Prelude.{◌≡◌, ℕ, zero, suc, ◌+◌, ◌-◌, ◌*◌, ◌/◌, ◌%◌, ◌≤◌, ◌⊎◌, List, [], ◌∷◌, ◌++◌, length, take, drop, replicate, Bool, ◌==◌}
+use Rattle.std.specs.List.{list_all}
 
 -- the number that bytes spell, the lowest byte first
 unfoldable pub number_of : List ℕ → ℕ
@@ -37,5 +38,4 @@ padded size bytes = bytes ++ replicate (size - length bytes) 0
 
 -- all bytes are zeros
 abbrev pub is_zeros : List ℕ → Bool
-is_zeros [] = true
-is_zeros (x ∷ xs) = nat_eq x 0 && is_zeros xs
+is_zeros bytes = list_all (λ b. b == 0) bytes

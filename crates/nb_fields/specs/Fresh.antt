@@ -32,7 +32,7 @@ fresh_kind size p =
 
 -- what stands there behind the head
 unfoldable pub fresh_payload : (size raw p : ℕ) → PageKind → List ℕ
-fresh_payload size raw p Header = header_payload size 0 1 (replicate 16 0) (replicate 16 0) 1 0
+fresh_payload size raw p Header = header_payload size 0 1 (replicate 16 0) (replicate 16 0)
 fresh_payload size raw p Inventory =
     let k : ℕ = (p + 1) / bits_in size in inventory_payload size k (fresh_count size raw - k * bits_in size)
 fresh_payload size raw p ScnInventory = scn_payload size (p / entries_in size) 1

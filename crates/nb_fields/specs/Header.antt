@@ -23,16 +23,14 @@ guid_of first = part 32 16 first
 abbrev pub pending_of : List ℕ → List ℕ
 pending_of first = part 48 16 first
 
--- The first 64 bytes have the form of a header: type 1, number 0, the signature, version 1, a state of 0 to 3,
--- a page size, and an SCN, which in state 1 is not the last one. Other bytes aren't tested.
+-- type 1, number 0, the signature and version 1
+unfoldable pub is_marked : List ℕ → Bool
+is_marked first = number_in 0 1 first == 1 && number_in 12 4 first == 0 && number_in 16 4 first == signature && number_in 20 2 first == 1
+
+-- a state of 0 to 3, a page size, and an SCN, which in state 1 is not the last one
+abbrev pub is_sound : (state size scn : ℕ) → Bool
+is_sound state size scn = nat_le state 3 && is_page_size size && nat_le 1 scn && (not (state == 1) || nat_lt scn 4294967295)
+
+-- The first 64 bytes have the form of a header. Other bytes of them aren't tested.
 unfoldable pub is_header : List ℕ → Bool
-is_header first =
-    nat_le 64 (length first)
-    && number_in 0 1 first == 1
-    && number_in 12 4 first == 0
-    && number_in 16 4 first == signature
-    && number_in 20 2 first == 1
-    && nat_le (state_of first) 3
-    && is_page_size (size_of first)
-    && nat_le 1 (scn_of first)
-    && (not (state_of first == 1) || nat_lt (scn_of first) 4294967295)
+is_header first = nat_le 64 (length first) && (is_marked first && is_sound (state_of first) (size_of first) (scn_of first))

@@ -1,5 +1,5 @@
 -- One page: its head, and what stands behind it.
-use Rattle.std.specs.Prelude.{ℕ, ◌+◌, ◌-◌, ◌%◌, ◌^◌, List, [], ◌∷◌, ◌++◌, length}
+use Rattle.std.specs.Prelude.{ℕ, ◌+◌, ◌-◌, ◌%◌, ◌^◌, List, [], ◌∷◌, ◌++◌, length, take}
 use Rattle.nb_fields.specs.Bytes.{bytes_of, number_in, padded}
 
 -- the fields of the head
@@ -22,6 +22,10 @@ head_of kind generation scn number = kind ∷ 0 ∷ 0 ∷ 0 ∷ (bytes_of 4 gene
 -- the page with that head and that payload, and zeros behind
 unfoldable pub page_of : (size kind generation scn number : ℕ) (payload : List ℕ) → List ℕ
 page_of size kind generation scn number payload = head_of kind generation scn number ++ padded (size - 16) payload
+
+-- the page with another payload
+unfoldable pub with_payload : (page payload : List ℕ) → List ℕ
+with_payload page payload = take 16 page ++ padded (length page - 16) payload
 
 -- the page written over an old one: the generation rises by one
 unfoldable pub stamped : (old : List ℕ) (kind : ℕ) (payload : List ℕ) (scn number : ℕ) → List ℕ

@@ -1,15 +1,19 @@
 -- What stands behind the head of a page, by its kind.
 use Rattle.std.specs.Prelude.{ℕ, zero, suc, ◌+◌, ◌-◌, ◌*◌, ◌/◌, ◌%◌, ◌^◌, List, [], ◌∷◌, ◌++◌, length, take, replicate, slice_index}
 use Rattle.std.specs.Int.{bit_at}
-use Rattle.nb_fields.specs.Bytes.{bytes_of, number_in}
+use Rattle.nb_fields.specs.Bytes.{bytes_of, number_in, part}
 use Rattle.nb_fields.specs.Places.{entries_in}
 use Rattle.nb_fields.specs.Header.{signature}
 
--- the control block of a header, and the fields behind it: forced writes on or off, the access, catalogue and history
-unfoldable pub header_payload : (size state scn : ℕ) (guid pending : List ℕ) (forced access : ℕ) → List ℕ
-header_payload size state scn guid pending forced access =
-    bytes_of 4 signature ++ (bytes_of 2 1 ++ (bytes_of 2 state ++ (bytes_of 4 size ++ (bytes_of 4 scn ++ (guid ++ (pending
-    ++ (forced ∷ access ∷ (replicate 6 0 ++ (bytes_of 4 3 ++ bytes_of 4 4)))))))))
+-- the control block of a header: bytes 16 to 63
+unfoldable pub control_block : (size state scn : ℕ) (guid pending : List ℕ) → List ℕ
+control_block size state scn guid pending =
+    bytes_of 4 signature ++ (bytes_of 2 1 ++ (bytes_of 2 state ++ (bytes_of 4 size ++ (bytes_of 4 scn ++ (guid ++ pending)))))
+
+-- a header: its control block, then forced writes on and read-write, then the places of catalogue and history
+unfoldable pub header_payload : (size state scn : ℕ) (guid pending : List ℕ) → List ℕ
+header_payload size state scn guid pending =
+    control_block size state scn guid pending ++ (1 ∷ (replicate 7 0 ++ (bytes_of 4 3 ++ bytes_of 4 4)))
 
 -- so many bytes of bits, the first bits taken and the others free
 unfoldable pub taken_bits : (bytes taken : ℕ) → List ℕ
@@ -35,6 +39,13 @@ data_payload next owner slots = bytes_of 4 next ++ (bytes_of 4 owner ++ (replica
 -- a raw page with a text
 unfoldable pub text_payload : (text : List ℕ) → List ℕ
 text_payload text = bytes_of 2 (length text) ++ text
+
+-- the text of a raw page
+abbrev pub text_length : List ℕ → ℕ
+text_length page = number_in 16 2 page
+
+abbrev pub text_of : List ℕ → List ℕ
+text_of page = part 18 (text_length page) page
 
 -- bit i of a page inventory page: 1 means free
 abbrev pub bit_of : List ℕ → ℕ → ℕ

@@ -21,6 +21,7 @@ pub fn put_number(page: &mut [u8], at: usize, width: usize, value: u64)
     ensures written { page.new ≡ with_part at (bytes_of width value) page.old }
     ensures value { number_in at width page.new ≡ value }
     ensures others { (by v : ℕ) → AreApart at width by v → number_in by v page.new ≡ number_in by v page.old }
+    ensures parts { (by v : ℕ) → AreApart at width by v → part by v page.new ≡ part by v page.old }
 {
     page[at..at + width].copy_from_slice(&value.to_le_bytes()[..width]);
 }

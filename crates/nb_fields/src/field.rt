@@ -32,6 +32,7 @@ impl<const AT: usize, const W: usize> Field<AT, W> {
         ensures written { page.new ≡ with_part AT (bytes_of W value) page.old }
         ensures value { number_in AT W page.new ≡ value }
         ensures others { (by v : ℕ) → AreApart AT W by v → number_in by v page.new ≡ number_in by v page.old }
+        ensures parts { (by v : ℕ) → AreApart AT W by v → part by v page.new ≡ part by v page.old }
     {
         put_number(page, AT, W, value);
     }
@@ -61,8 +62,25 @@ impl<const AT: usize> Bytes16<AT> {
     /// Sets the bytes, and changes no other.
     pub fn put(page: &mut [u8], value: &[u8; 16])
         requires { AT + 16 ≤ length page.old }
-        ensures { page.new ≡ with_part AT value.now page.old }
+        ensures written { page.new ≡ with_part AT value.now page.old }
+        ensures value { part AT 16 page.new ≡ value.now }
+        ensures others { (by v : ℕ) → AreApart AT 16 by v → number_in by v page.new ≡ number_in by v page.old }
+        ensures parts { (by v : ℕ) → AreApart AT 16 by v → part by v page.new ≡ part by v page.old }
     {
         page[AT..AT + 16].copy_from_slice(value);
     }
+}
+
+/// Reads or writes named fields of a page, in a function's body.
+///
+/// `fields!(page; kind: head::Kind, scn: head::Scn);` reads each field into a variable, and
+/// `fields!(page; head::Kind = 8, head::Scn = 1);` writes each.
+#[macro_export]
+macro_rules! fields {
+    ($page:expr; $($name:ident: $field:ty),+ $(,)?) => {
+        $(let $name = <$field>::get($page);)+
+    };
+    ($page:expr; $($field:ty = $value:expr),+ $(,)?) => {
+        $(<$field>::put($page, $value);)+
+    };
 }

@@ -17,3 +17,6 @@ pub use bytes::{number_at, put_number};
 pub use cases::CaseTable;
 pub use field::{Bytes16, Field};
 pub use kinds::PageKind;
+
+#[cfg(test)]
+mod tests;

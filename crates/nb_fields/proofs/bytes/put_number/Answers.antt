@@ -1,9 +1,9 @@
 use Rattle.std.proofs.Common.{◌≡◌, ℕ, ◌+◌, ◌-◌, ◌^◌, ◌<◌, ◌≤◌, List, ◌++◌, length, take, drop, refl, ap, ◌∙◌, arith}
 use Rattle.std.proofs.lemmas.Slice.{put_mid-paste}
 use Rattle.std.proofs.lemmas.List.Edits.{paste_all}
-use Rattle.nb_fields.specs.Bytes.{bytes_of, number_in, with_part}
+use Rattle.nb_fields.specs.Bytes.{bytes_of, number_in, part, with_part}
 use Rattle.nb_fields.proofs.NumberLemmas.{to_eight_bytes, take-bytes_of, length-bytes_of}
-use Rattle.nb_fields.proofs.PartLemmas.{number_in-with_part, number_in-with_part_other}
+use Rattle.nb_fields.proofs.PartLemmas.{number_in-with_part, number_in-with_part_other, part-with_part_other}
 use Rattle.nb_fields.proofs.bytes.put_number.Goals as goal
 
 pub returns-clause-written : goal.returns-clause-written
@@ -24,3 +24,8 @@ pub returns-clause-others : goal.returns-clause-others
 returns-clause-others c by v apart =
     let bytes : List ℕ = bytes_of c.args.width c.args.value in
     ap (number_in by v) (returns-clause-written c) ∙ number_in-with_part_other c.args.at c.args.width by v bytes c.args.page.now (length-bytes_of c.args.width c.args.value) c.requires.inside apart
+
+pub returns-clause-parts : goal.returns-clause-parts
+returns-clause-parts c by v apart =
+    let bytes : List ℕ = bytes_of c.args.width c.args.value in
+    ap (part by v) (returns-clause-written c) ∙ part-with_part_other c.args.at c.args.width by v bytes c.args.page.now (length-bytes_of c.args.width c.args.value) c.requires.inside apart

@@ -1,0 +1,3 @@
+pub mod QuietLemmas
+pub mod HeaderLemmas
+pub mod FreeLemmas

@@ -1,0 +1,20 @@
+use Rattle.std.proofs.Common.{◌≡◌, ◌∙◌, ℕ, suc, ◌+◌, ◌-◌, ◌*◌, ◌<◌, ◌≤◌, sym, ap, arith}
+use Rattle.nb_fields.specs.Fresh.{next_plain, length_after, fresh_count}
+use Rattle.nb_fields.proofs.FreshLemmas.{length_after-none, length_after-more, fresh_count-is}
+use Rattle.nb_page.proofs.count.fresh_count.Goals as goal
+
+pub loop-init : goal.loop-init
+loop-init c = record { rest = fresh_count-is c.args.size c.args.raw (c.args.raw - 0) (omega arith); least = omega arith; most = omega arith }
+
+pub loop-preserved : goal.loop-preserved
+loop-preserved c =
+    let left : ℕ = c.args.raw - (c.loop.counter + 1) in
+    let more = length_after-more c.args.size (c.args.raw - c.loop.counter) left c.loop.count (omega arith) in
+    record {
+      rest = ap (λ p. length_after c.args.size left (p + 1)) c.next_plain-count.ensures.value ∙ sym more ∙ c.loop.invariant.rest;
+      least = omega arith;
+      most = omega arith;
+    }
+
+pub returns-clause-value : goal.returns-clause-value
+returns-clause-value c = sym (length_after-none c.args.size (c.args.raw - c.loop.counter) c.loop.count (omega arith)) ∙ c.loop.invariant.rest

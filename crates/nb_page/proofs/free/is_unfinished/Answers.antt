@@ -1,0 +1,24 @@
+use Rattle.std.proofs.Common.{◌≡◌, ◌∙◌, sym, ap, true, false}
+use Rattle.std.specs.Prelude.{◌&&◌, ◌==◌}
+use Rattle.std.proofs.lemmas.Bool.{eq-eqb, ne_eqb}
+use Rattle.nb_fields.specs.Bytes.{is_zeros}
+use Rattle.nb_fields.specs.Header.{state_of, pending_of}
+use Rattle.nb_fields.proofs.HeaderLemmas.{is_header-short}
+use Rattle.nb_page.proofs.HeaderLemmas.{is_unfinished-fields}
+use Rattle.nb_page.proofs.free.is_unfinished.Goals as goal
+
+pub returns-then-first-lt-LENGTH : goal.returns-then-first-lt-LENGTH
+returns-then-first-lt-LENGTH c =
+    let first = c.args.first.now in
+    sym (ap (λ b. b && (state_of first == 3) && is_zeros (pending_of first)) (is_header-short first c.if-first-lt-LENGTH.true))
+
+pub returns-then-header-eq3 : goal.returns-then-header-eq3
+returns-then-header-eq3 c =
+    c.are_zeros.ensures ∙ sym (is_unfinished-fields c.args.first.now c.in-Some.header (sym c.in-Some.ensures.exact) c.in-Some.ensures.value
+        ∙ ap (λ b. b && is_zeros c.in-Some.header.pending) (eq-eqb c.in-Some.header.state 3 c.if-header-eq3.true))
+
+pub returns-else-header-eq3 : goal.returns-else-header-eq3
+returns-else-header-eq3 c =
+    let differs = ne_eqb c.in-Some.header.state 3 c.if-header-eq3.false in
+    differs ∙ sym (is_unfinished-fields c.args.first.now c.in-Some.header (sym c.in-Some.ensures.exact) c.in-Some.ensures.value
+        ∙ ap (λ b. b && is_zeros c.in-Some.header.pending) differs)

@@ -1,0 +1,4 @@
+pub mod Header
+pub mod Free
+pub mod Quiet
+pub mod Head

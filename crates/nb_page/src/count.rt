@@ -1,0 +1,108 @@
+ghost use Rattle.std.specs.Prelude.{◌≡◌, ◌+◌, ◌*◌, ◌<◌, ◌≤◌, IsTrue};
+ghost use Rattle.nb_fields.specs.Places.{is_page_size, entries_in, bits_in, is_inventory_place, is_scn_place, is_system_place};
+ghost use Rattle.nb_fields.specs.Fresh.{next_plain, fresh_count, fresh_kind};
+
+use nb_fields::PageKind;
+
+/// How many entries an SCN inventory page has.
+#[tactic(auto, using(nb_fields::proofs::SizeLemmas::size_facts))]
+pub(crate) fn entries_in(size: u32) -> u32
+    requires { IsTrue (is_page_size size) }
+    ensures value { result ≡ entries_in size }
+    ensures some { 0 < result }
+    ensures fits { result ≤ size }
+{
+    (size - 32) / 4
+}
+
+/// How many bits a page inventory page has.
+#[tactic(auto, using(nb_fields::proofs::SizeLemmas::size_facts))]
+pub(crate) fn bits_in(size: u32) -> u32
+    requires { IsTrue (is_page_size size) }
+    ensures value { result ≡ bits_in size }
+    ensures some { 0 < result }
+{
+    32 * entries_in(size)
+}
+
+/// Whether a page inventory page stands there.
+#[tactic(auto, unfolding(nb_fields::specs::Places::is_inventory_place))]
+fn is_inventory_place(size: u32, page: u32) -> bool
+    requires size { IsTrue (is_page_size size) }
+    requires below { page < 1048576 }
+    ensures { result ≡ is_inventory_place size page }
+{
+    page == 1 || (page + 1) % bits_in(size) == 0
+}
+
+/// Whether an SCN inventory page stands there.
+#[tactic(auto, unfolding(nb_fields::specs::Places::is_scn_place))]
+fn is_scn_place(size: u32, page: u32) -> bool
+    requires size { IsTrue (is_page_size size) }
+    requires below { page < 1048576 }
+    ensures { result ≡ is_scn_place size page }
+{
+    page == 2 || (page > 0 && page % entries_in(size) == 0)
+}
+
+#[tactic(auto, unfolding(nb_fields::specs::Places::is_system_place))]
+fn is_system_place(size: u32, page: u32) -> bool
+    requires size { IsTrue (is_page_size size) }
+    requires below { page < 1048576 }
+    ensures { result ≡ is_system_place size page }
+{
+    is_inventory_place(size, page) || is_scn_place(size, page)
+}
+
+/// The next place from this one on that is no system place. Two of them may stand side by side, never three.
+#[tactic(auto, unfolding(nb_fields::specs::Fresh::next_plain))]
+fn next_plain(size: u32, page: u32) -> u32
+    requires size { IsTrue (is_page_size size) }
+    requires below { page + 1 < 1048576 }
+    ensures value { result ≡ next_plain size page }
+    ensures least { page ≤ result }
+    ensures most { result ≤ page + 2 }
+{
+    if !is_system_place(size, page) {
+        page
+    } else if !is_system_place(size, page + 1) {
+        page + 1
+    } else {
+        page + 2
+    }
+}
+
+/// What page `page` of a new database holds.
+#[tactic(auto, unfolding(nb_fields::specs::Fresh::fresh_kind))]
+pub(crate) fn fresh_kind(size: u32, page: u32) -> PageKind
+    requires size { IsTrue (is_page_size size) }
+    requires below { page < 1048576 }
+    ensures { result ≡ fresh_kind size page }
+{
+    if page == 0 {
+        PageKind::Header
+    } else if is_inventory_place(size, page) {
+        PageKind::Inventory
+    } else if is_scn_place(size, page) {
+        PageKind::ScnInventory
+    } else if page < 5 {
+        PageKind::Data
+    } else {
+        PageKind::Raw
+    }
+}
+
+/// How many pages a new database has, with `raw` raw pages.
+pub fn fresh_count(size: u32, raw: u32) -> u32
+    requires size { IsTrue (is_page_size size) }
+    requires raw { raw ≤ 65535 }
+    ensures value { result ≡ fresh_count size raw }
+    ensures least { 5 + raw ≤ result }
+    ensures most { result ≤ 5 + 3 * raw }
+{
+    let mut count = 5;
+    for _ in 0..raw {
+        count = next_plain(size, count) + 1;
+    }
+    count
+}
