@@ -1,0 +1,6 @@
+use Rattle.std.proofs.lemmas.Bool.{eqb-true, eq-eqb}
+use Rattle.nb_pip.proofs.BitLemmas.{shr_and_one-bits}
+use Rattle.nb_pip.proofs.bits.is_used.Goals as goal
+
+pub returns : goal.returns
+returns c = rw (c.byte_of.ensures, shr_and_one-bits c.args.map.now c.args.bit c.requires.bit) (eqb-true _ _, eq-eqb _ _)

@@ -1,0 +1,30 @@
+ghost use Rattle.std.specs.Prelude.{◌≡◌, ◌↔◌, ℕ, ◌^◌, ◌<◌, IsTrue};
+ghost use Rattle.nb_fields.specs.Places.{is_page_size, bits_in, inventory_place, is_inventory_place};
+
+// How many bits an inventory page of that size has.
+fn bits_in(size: u32) -> u32
+    requires { IsTrue (is_page_size size) }
+    ensures bits { result ≡ bits_in size }
+    ensures some { 0 < result }
+{
+    32 * ((size - 32) / 4)
+}
+
+/// The page at which inventory page `k` of a database with that page size stands.
+pub fn place_of(size: u32, k: u32) -> u32
+    requires size { IsTrue (is_page_size size) }
+    requires place { inventory_place size k < 2 ^ 20 }
+    ensures { result ≡ inventory_place size k }
+{
+    if k == 0 { 1 } else { k * bits_in(size) - 1 }
+}
+
+/// Whether an inventory page stands at that page.
+pub fn is_place(size: u32, page: u32) -> bool
+    requires size { IsTrue (is_page_size size) }
+    requires page { page < 2 ^ 20 }
+    ensures place { IsTrue result ↔ (k : ℕ) × (inventory_place size k ≡ page) }
+    ensures value { result ≡ is_inventory_place size page }
+{
+    page == 1 || (page + 1) % bits_in(size) == 0
+}
