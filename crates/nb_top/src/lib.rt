@@ -4,9 +4,15 @@
 //! for each reply, and what it promises of the replies, the files and a stop stands in its contract.
 #![tactic(auto)]
 
+mod database;
 mod job;
 mod line;
+mod program;
+mod status;
+mod stop;
 mod word;
 
 pub use job::{Job, read_job};
 pub use line::render;
+pub use program::run;
+pub use status::Status;

@@ -405,9 +405,8 @@ fn push_reply(line: &mut Vec<u8>, reply: &Reply) -> Result<(), AllocError>
 }
 
 /// The line of a reply to that session, with its line feed.
-pub fn render(alloc: Global, session: u32, reply: &Reply) -> Result<Vec<u8>, Fault>
-    ensures line { IfOk result (λ line. line.items ≡ line_text session reply.now) }
-    ensures only_memory { IfErr result (λ fault. fault ≡ Memory) }
+pub(crate) fn line_of(alloc: Global, session: u32, reply: &Reply) -> Result<Vec<u8>, AllocError>
+    ensures { IfOk result (λ line. line.items ≡ line_text session reply.now) }
 {
     let mut line = Vec::new(alloc);
     push_number(&mut line, session as u64)?;
@@ -415,4 +414,12 @@ pub fn render(alloc: Global, session: u32, reply: &Reply) -> Result<Vec<u8>, Fau
     push_reply(&mut line, reply)?;
     line.push(b'\n')?;
     Ok(line)
+}
+
+/// The line of a reply to that session, with its line feed.
+pub fn render(alloc: Global, session: u32, reply: &Reply) -> Result<Vec<u8>, Fault>
+    ensures line { IfOk result (λ line. line.items ≡ line_text session reply.now) }
+    ensures only_memory { IfErr result (λ fault. fault ≡ Memory) }
+{
+    Ok(line_of(alloc, session, reply)?)
 }

@@ -1,0 +1,22 @@
+# `make` proves and builds the program, leaves it at bin/nehumiro, and runs a sample script with it on real files.
+# `make test` is the gate: every proof, every must-fail edit, every test and the program's stored run.
+
+PROGRAM := bin/nehumiro
+BUILT := crates/nb_cli/out/nb_cli
+
+.PHONY: all test clean
+
+all: $(PROGRAM)
+	@folder=$$(mktemp -d) && trap 'rm -rf "$$folder"' EXIT && cp crates/nb_cli/data/s "$$folder/" && cd "$$folder" && $(CURDIR)/$(PROGRAM) run s
+
+# The program without words ends with status 2, which says that it was proved, built and run.
+$(PROGRAM): crates.txt HANDLES $(shell find crates -name out -prune -o -type f -print)
+	@rm -f $(BUILT)
+	@cd crates/nb_cli && rt run >/dev/null || test -x $(CURDIR)/$(BUILT)
+	@mkdir -p bin && cp $(BUILT) $(PROGRAM)
+
+test:
+	rt ci
+
+clean:
+	rm -rf bin crates/*/out

@@ -1,0 +1,14 @@
+/// How a run ended. Its number is the exit status of the program.
+#[derive(Clone, Copy, Debug, PartialEq, Eq)]
+pub enum Status {
+    /// The job was done to its end, and no statement was refused.
+    Done = 0,
+    /// At least one reply was a refusal.
+    Refused = 1,
+    /// The words name no job.
+    Usage = 2,
+    /// A call of the host failed. The run ended at once.
+    Device = 3,
+    /// Memory ran out. The run ended at once.
+    Memory = 4,
+}
