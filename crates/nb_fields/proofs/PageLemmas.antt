@@ -197,3 +197,28 @@ head_written p0 p1 p2 p3 p4 p5 p6 kind generation scn number small room one two 
     let to_c : p4 ≡ with_part 0 c p0 = written_next 0 4 b (bytes_of 4 generation) p0 p3 p4 to_b four refl (omega arith) in
     let to_d : p5 ≡ with_part 0 d p0 = written_next 0 8 c (bytes_of 4 scn) p0 p4 p5 to_c five refl (omega arith) in
     written_next 0 12 d (bytes_of 4 number) p0 p5 p6 to_d six refl (omega arith)
+
+-- the same where the bytes stand right behind
+pub with_part-padded_next : (size at : ℕ) (bytes front : List ℕ) → length front ≡ at → at + length bytes ≤ size → with_part at bytes (padded size front) ≡ padded size (front ++ bytes)
+with_part-padded_next size at bytes front place room =
+    with_part-padded size at bytes front (omega arith) room ∙ ap (λ n. padded size (front ++ (replicate n 0 ++ bytes))) (let e : at - length front ≡ 0 = omega arith in e)
+
+-- a page of zeros that is stamped is written once
+pub stamped-zeros : (size kind scn number : ℕ) → 16 ≤ size
+    → stamped (replicate size 0) kind (drop 16 (replicate size 0)) scn number ≡ page_of size kind 1 scn number []
+unfolding stamped page_of padded number_in number_of
+stamped-zeros size kind scn number long =
+    let zeros : List ℕ = replicate size 0 in
+    let len : length zeros ≡ size = length-replicate size 0 in
+    let never : generation_of zeros ≡ 0 = ap (λ xs. number_of (take 4 xs)) (drop-replicate 4 size 0) ∙ ap number_of (take-replicate 4 (size - 4) 0 (omega arith)) in
+    let once : (generation_of zeros + 1) % 2 ^ 32 ≡ 1 = ap (λ n. (n + 1) % 2 ^ 32) never in
+    let rest : drop 16 zeros ≡ replicate (size - 16) 0 = drop-replicate 16 size 0 in
+    let whole : padded (length zeros - 16) (drop 16 zeros) ≡ replicate (size - 16 - 0) 0 =
+        padded_whole (length zeros - 16) (drop 16 zeros) (length-drop 16 zeros) ∙ rest ∙ ap (λ n. replicate n 0) (let e : size - 16 ≡ size - 16 - 0 = omega arith in e) in
+    ap (λ xs. head_of kind ((generation_of zeros + 1) % 2 ^ 32) scn number ++ xs) whole ∙ ap (λ g. head_of kind g scn number ++ replicate (size - 16 - 0) 0) once
+
+-- what stands behind the head of a page without a payload
+pub drop-page_of-none : (size kind generation scn number : ℕ) → drop 16 (page_of size kind generation scn number []) ≡ replicate (size - 16) 0
+unfolding page_of padded
+drop-page_of-none size kind generation scn number =
+    drop_at (head_of kind generation scn number) (replicate (size - 16 - 0) 0) 16 (length-head_of kind generation scn number) ∙ ap (λ n. replicate n 0) (let e : size - 16 - 0 ≡ size - 16 = omega arith in e)

@@ -1,5 +1,5 @@
 -- Parts of a page, read and written.
-use Rattle.std.proofs.Common.{◌≡◌, ℕ, zero, suc, ◌+◌, ◌-◌, ◌^◌, ◌<◌, ◌≤◌, ◌⊎◌, ⊎_elim, List, [], ◌∷◌, ◌++◌, length, get_or, take, drop, refl, sym, ap, ◌∙◌, subst, arith, length-drop, length-append}
+use Rattle.std.proofs.Common.{◌≡◌, ℕ, zero, suc, ◌+◌, ◌-◌, ◌^◌, ◌<◌, ◌≤◌, ◌⊎◌, ⊎_elim, List, [], ◌∷◌, ◌++◌, length, get_or, take, drop, refl, sym, ap, ◌∙◌, subst, arith, length-drop, length-append, append_assoc}
 use Rattle.std.proofs.lemmas.List.{length-take-le, drop_at, take_at, drop-drop, drop-append-le, take-append-le, drop-take, take-take}
 use borrow.Rule.Slice.PartMut.{put_mid}
 use Rattle.nb_fields.specs.Bytes.{number_of, bytes_of, part, number_in, with_part, AreApart}
@@ -34,6 +34,13 @@ pub number_in-lt : (at w : ℕ) (page : List ℕ) → ((i : ℕ) → get_or page
 unfolding number_in
 number_in-lt at w page bytes h =
     subst (λ (n : ℕ). number_of (part at w page) < 256 ^ n) (length-part at w page h) (number_of-lt (part at w page) (bytes-take w (drop at page) (bytes-drop at page bytes)))
+
+-- the page up to the end of what was written
+pub take-with_part : (at end : ℕ) (bytes page : List ℕ) → at ≤ length page → end ≡ at + length bytes → take end (with_part at bytes page) ≡ take at page ++ bytes
+take-with_part at end bytes page h place =
+    let len = length-take-le at page h in
+    ap (take end) (sym (append_assoc (take at page) bytes (drop (at + length bytes) page)))
+        ∙ take_at (take at page ++ bytes) (drop (at + length bytes) page) end (omega (arith, length-append (take at page) bytes))
 
 -- the part that was written is what was written
 pub part-with_part : (at w : ℕ) (bytes page : List ℕ) → length bytes ≡ w → at ≤ length page → part at w (with_part at bytes page) ≡ bytes

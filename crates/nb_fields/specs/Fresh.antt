@@ -36,7 +36,7 @@ fresh_payload size raw p Header = header_payload size 0 1 (replicate 16 0) (repl
 fresh_payload size raw p Inventory =
     let k : ℕ = (p + 1) / bits_in size in inventory_payload size k (fresh_count size raw - k * bits_in size)
 fresh_payload size raw p ScnInventory = scn_payload size (p / entries_in size) 1
-fresh_payload size raw p Data = data_payload 0 (p - 3) []
+fresh_payload size raw p Data = data_payload 0 (if p == 4 then 1 else 0) []
 fresh_payload size raw p Raw = text_payload []
 
 -- page p of a new database: its generation and its stamp are 1

@@ -45,6 +45,12 @@ pub mod header {
 
     pub const VERSION: u64 = 1;
 
+    /// The first page of the catalogue.
+    pub const CATALOGUE_PAGE: u32 = 3;
+
+    /// The first page of the history.
+    pub const HISTORY_PAGE: u32 = 4;
+
     pub type Signature = Field<16, 4>;
     pub type Version = Field<20, 2>;
     /// The backup state: 0 normal, 1 stalled, 2 merge, 3 applying.
@@ -59,9 +65,9 @@ pub mod header {
     pub type Forced = Field<64, 1>;
     /// 1 where the database is read-only.
     pub type Access = Field<65, 1>;
-    /// The first page of the catalogue.
+    /// Where the catalogue is said to begin. It is written and not read.
     pub type Catalogue = Field<72, 4>;
-    /// The first page of the history.
+    /// Where the history is said to begin. It is written and not read.
     pub type History = Field<76, 4>;
 
     /// The fields, of which no two share a byte, nor one with the head.

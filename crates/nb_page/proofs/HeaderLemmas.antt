@@ -1,5 +1,5 @@
 -- The form of a header, by the fields that were read.
-use Rattle.std.proofs.Common.{◌≡◌, ℕ, ◌+◌, ◌≤◌, List, ◌++◌, length, refl, ap, sym, true, arith, ◌∙◌}
+use Rattle.std.proofs.Common.{◌≡◌, ℕ, ◌+◌, ◌≤◌, List, ◌++◌, length, refl, ap, sym, true, arith, length-append, ◌∙◌}
 use Rattle.std.specs.Prelude.{◌&&◌, ◌==◌}
 use Rattle.nb_fields.specs.Bytes.{bytes_of, with_part, is_zeros}
 use Rattle.nb_fields.specs.Header.{signature, is_header, is_marked, is_sound, state_of, pending_of}
@@ -41,3 +41,7 @@ pub is_unfinished-fields : (first : List ℕ) (header : Header) → is_header fi
 unfolding header_in
 is_unfinished-fields first header form read =
     ap (λ b. b && (state_of first == 3) && is_zeros (pending_of first)) form ∙ ap (λ (h : Header). (h.state == 3) && is_zeros h.pending) (sym read)
+
+pub length-control_block : (size state scn : ℕ) (guid pending : List ℕ) → length guid ≡ 16 → length pending ≡ 16 → length (control_block size state scn guid pending) ≡ 48
+unfolding control_block bytes_of
+length-control_block size state scn guid pending len1 len2 = omega (arith, length-append guid pending)

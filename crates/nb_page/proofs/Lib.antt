@@ -1,3 +1,4 @@
 pub mod QuietLemmas
 pub mod HeaderLemmas
 pub mod FreeLemmas
+pub mod FillLemmas

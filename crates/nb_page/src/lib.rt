@@ -7,15 +7,16 @@
 #![tactic(auto)]
 
 mod count;
+mod fill;
 mod free;
-// mod fresh;
+mod fresh_page;
 mod header;
 mod page;
 mod text;
 
 pub use count::fresh_count;
 pub use free::is_free;
-// pub use fresh::fresh;
+pub use fresh_page::fresh;
 pub use header::{Header, read_header, write_header};
 pub use page::{PageHead, read_head, stamp};
 pub use text::{put_text, raw_text};
