@@ -22,6 +22,10 @@ unfoldable pub numbered : ℕ → List Bytes → List (ℕ × Bytes)
 numbered before [] = []
 numbered before (line ∷ lines) = if is_skipped line then numbered (before + 1) lines else (before + 1, line) ∷ numbered (before + 1) lines
 
+-- the lines that are not skipped of some bytes, where so many lines stand before
+abbrev pub left : ℕ → Bytes → List (ℕ × Bytes)
+left before bytes = numbered before (lines_of bytes)
+
 -- how long the first line is
 abbrev pub first_len : Bytes → ℕ
 first_len bytes = prefix_len (λ b. not (b == 10)) bytes

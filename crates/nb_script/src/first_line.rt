@@ -1,4 +1,4 @@
-ghost use Rattle.std.specs.Prelude.{◌≡◌, ℕ, option_map};
+ghost use Rattle.std.specs.Prelude.{◌≡◌, ℕ, ◌≤◌, option_map, IfSome};
 ghost use Rattle.nb_script.specs.FirstLine.{cache_at, page_size_at, sizes_at, create_at, open_at, database_at, first_spelled, first_at};
 
 use crate::statements::{built, session_line};
@@ -82,7 +82,8 @@ fn database(bytes: &[u8]) -> Option<Statement>
 /// The session and the statement that a first line spells, whether it is built or not.
 #[tactic(auto, unfolding(crate::specs::FirstLine::first_spelled))]
 fn spelled(line: &[u8]) -> Option<(u32, Statement)>
-    ensures { result ≡ first_spelled line.now }
+    ensures exact { result ≡ first_spelled line.now }
+    ensures session { IfSome result (λ x. (1 ≤ x.0) × (x.0 ≤ 16)) }
 {
     let (session, rest) = session_line(line)?;
     let statement = database(rest)?;
@@ -92,7 +93,8 @@ fn spelled(line: &[u8]) -> Option<(u32, Statement)>
 /// The session and the statement of the first line.
 #[tactic(auto, unfolding(crate::specs::FirstLine::first_at))]
 pub(crate) fn first_statement(line: &[u8]) -> Option<(u32, Statement)>
-    ensures { result ≡ first_at line.now }
+    ensures exact { result ≡ first_at line.now }
+    ensures session { IfSome result (λ x. (1 ≤ x.0) × (x.0 ≤ 16)) }
 {
     built(spelled(line))
 }

@@ -7,5 +7,12 @@
 #![tactic(auto)]
 
 mod first_line;
+mod lines;
+mod order;
+mod reading;
+mod script;
 mod statements;
 mod words;
+
+pub use reading::{MOST_BYTES, MOST_STATEMENTS, parse};
+pub use script::{SESSIONS, Script};

@@ -1,4 +1,4 @@
-ghost use Rattle.std.specs.Prelude.{◌≡◌, ℕ, option_map, IfOk, IfErr};
+ghost use Rattle.std.specs.Prelude.{◌≡◌, ℕ, ◌≤◌, option_map, IfOk, IfErr, IfSome, Some};
 ghost use Rattle.nb_host.specs.declared.faults.Fault.TheVariants.{Memory};
 ghost use Rattle.nb_script.specs.Words.{page_at};
 ghost use Rattle.nb_script.specs.Statements.{last_page, page_text, last_name, backup_at, last_table, row_at, last_row, row_text, fixed, of_page, of_file, of_table, scan_at, of_row, without_text, built, command_at, session_line, spelled_at, statement_at};
@@ -240,7 +240,8 @@ fn command(alloc: Global, bytes: &[u8]) -> Result<Option<Statement>, Fault>
 /// `S: ` and what follows.
 #[tactic(auto, unfolding(crate::specs::Statements::session_line))]
 pub(crate) fn session_line(line: &[u8]) -> Option<(u32, &[u8])>
-    ensures { option_map (λ x. (x.0, x.1.now)) result ≡ session_line line.now }
+    ensures exact { option_map (λ x. (x.0, x.1.now)) result ≡ session_line line.now }
+    ensures session { IfSome result (λ x. (1 ≤ x.0) × (x.0 ≤ 16)) }
 {
     let (session, rest) = within(line, 1, 16)?;
     let rest = after(rest, b": ")?;
@@ -251,6 +252,7 @@ pub(crate) fn session_line(line: &[u8]) -> Option<(u32, &[u8])>
 #[tactic(auto, unfolding(crate::specs::Statements::spelled_at))]
 fn spelled(alloc: Global, line: &[u8]) -> Result<Option<(u32, Statement)>, Fault>
     ensures ok { IfOk result (λ read. read ≡ spelled_at line.now) }
+    ensures session { IfOk result (λ read. IfSome read (λ x. (1 ≤ x.0) × (x.0 ≤ 16))) }
     ensures only_memory { IfErr result (λ fault. fault ≡ Memory) }
 {
     let Some((session, rest)) = session_line(line) else {
@@ -264,7 +266,8 @@ fn spelled(alloc: Global, line: &[u8]) -> Result<Option<(u32, Statement)>, Fault
 
 /// What is read of a line, where the program can do it today.
 pub(crate) fn built(read: Option<(u32, Statement)>) -> Option<(u32, Statement)>
-    ensures { result ≡ built read }
+    ensures exact { result ≡ built read }
+    ensures same { IfSome result (λ line. read ≡ Some line) }
 {
     let (session, statement) = read?;
     if is_built(session, &statement) {
@@ -278,6 +281,7 @@ pub(crate) fn built(read: Option<(u32, Statement)>) -> Option<(u32, Statement)>
 #[tactic(auto, unfolding(crate::specs::Statements::statement_at))]
 pub(crate) fn statement(alloc: Global, line: &[u8]) -> Result<Option<(u32, Statement)>, Fault>
     ensures ok { IfOk result (λ read. read ≡ statement_at line.now) }
+    ensures session { IfOk result (λ read. IfSome read (λ x. (1 ≤ x.0) × (x.0 ≤ 16))) }
     ensures only_memory { IfErr result (λ fault. fault ≡ Memory) }
 {
     let read = spelled(alloc, line)?;

@@ -57,7 +57,7 @@ pub(crate) fn number(bytes: &[u8]) -> Option<(u64, &[u8])>
 #[tactic(auto, unfolding(crate::specs::Words::within))]
 pub(crate) fn within(bytes: &[u8], least: u32, most: u32) -> Option<(u32, &[u8])>
     ensures exact { option_map (λ x. (x.0, x.1.now)) result ≡ within least most bytes.now }
-    ensures range { IfSome result (λ x. x.0 ≤ most) }
+    ensures range { IfSome result (λ x. (least ≤ x.0) × (x.0 ≤ most)) }
 {
     let (value, rest) = number(bytes)?;
     if u64::from(least) <= value && value <= u64::from(most) {
