@@ -1,0 +1,15 @@
+use Rattle.std.proofs.Common.{◌≡◌, ap, ◌∙◌, arith, List, ◌-◌, ◌<◌, length}
+use Rattle.nb_model.specs.declared.statement.Statement.{Statement}
+use Rattle.nb_script.specs.Scripts.{Plan, with_statement}
+use Rattle.nb_script.proofs.Sessions.{one_more}
+use Rattle.nb_script.proofs.script.Script.add.Goals as goal
+
+pub returns-clause-ok : goal.returns-clause-ok
+returns-clause-ok c =
+    let s = c.self.inside in
+    let plan : Plan = c.args.self.now in
+    let i = c.args.session - 1 in
+    let inside : i < length s.sessions = omega (arith, c.self.invariant.2, c.requires.low, c.requires.high) in
+    ap (λ (sessions : List (List Statement)). record { first_session = s.first_session; first = s.first; schedule = s.schedule.items; sessions = sessions })
+        (one_more s.sessions i c.index-self-session.result c.push.new.self c.args.statement inside c.in_ok-push.ensures.items)
+    ∙ ap (λ (p : Plan). with_statement p (c.args.session, c.args.statement)) c.self.view_is

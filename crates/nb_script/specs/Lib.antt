@@ -1,0 +1,6 @@
+pub mod Words
+pub mod Statements
+pub mod FirstLine
+pub mod Order
+pub mod Lines
+pub mod Scripts
