@@ -5,6 +5,7 @@ acknowledged. Then the file itself is read: each page has the text of its last a
 write that was under way.
 """
 
+import os
 import random
 import subprocess
 
@@ -41,6 +42,8 @@ def lost(folder, count, made):
         wanted[page] = {text}
     for page, text in made[count : count + 1]:
         wanted.setdefault(page, {""}).add(text)
+    if not os.path.exists(folder.file("x.db")):
+        report("killed", False, "no database was made")
     with open(folder.file("x.db"), "rb") as file:
         image = file.read()
     return sum(

@@ -4,6 +4,7 @@ use Rattle.std.proofs.Math.Seq.{get_or-append_seam}
 use Rattle.std.proofs.lemmas.Option.{slice_get_read}
 use Rattle.std.specs.Cmp.Lexicographic.{nat_list_eq_equiv}
 use Rattle.nb_host.specs.Names.{same_name}
+use Rattle.nb_file.specs.Named.{IsNamedAt}
 
 -- the last element of a list that grew by one
 pub slice_get-append_last : {X : Type 0} (xs : List X) (x : X) → slice_get (xs ++ x ∷ []) (length xs) ≡ Some x
@@ -12,7 +13,7 @@ slice_get-append_last xs x =
     slice_get_read (xs ++ x ∷ []) (length xs + 1) (length xs) x (sym longer) (omega arith) (sym (get_or-append_seam xs x [] x))
 
 -- it has the name that it was given
-pub last_named : {X : Type 0} (named : X → List ℕ) (xs ys : List X) (x : X) (name : List ℕ) (k : ℕ) → ys ≡ xs ++ x ∷ [] → k ≡ length xs → named x ≡ name → IsSomeAnd (slice_get ys k) (λ y. IsTrue (same_name (named y) name))
+pub last_named : {X : Type 0} (named : X → List ℕ) (xs ys : List X) (x : X) (name : List ℕ) (k : ℕ) → ys ≡ xs ++ x ∷ [] → k ≡ length xs → named x ≡ name → IsNamedAt ys named name k
 last_named named xs ys x name k grew last is_named =
     let at_last : slice_get ys k ≡ Some x = ap (λ zs. slice_get zs k) grew ∙ (ap (λ i. slice_get (xs ++ x ∷ []) i) last ∙ slice_get-append_last xs x) in
     let same : IsTrue (same_name (named x) name) = subst (λ n. IsTrue (same_name (named x) n)) is_named (nat_list_eq_equiv.refl (named x)) in

@@ -1,6 +1,6 @@
 // The open files.
-ghost use Rattle.std.specs.Prelude.{◌≡◌, ◌<◌, ◌≤◌, length, IfOk, IfSome, IsSomeAnd, IsTrue, OnOk, vec_len, slice_get};
-ghost use Rattle.nb_host.specs.Names.{same_name};
+ghost use Rattle.std.specs.Prelude.{◌≡◌, ◌<◌, ◌≤◌, length, IfOk, IfSome, OnOk, vec_len};
+ghost use Rattle.nb_file.specs.Named.{IsNamedAt};
 
 use crate::folder::{Node, look_up, sync_folder};
 use crate::held::Held;
@@ -34,7 +34,7 @@ where
 
     fn index_of(&self, name: &Name) -> Option<usize>
         ensures place { IfSome result (λ i. i < vec_len self.now.files) }
-        ensures name { IfSome result (λ i. IsSomeAnd (slice_get self.now.files.items i) (λ held. IsTrue (same_name held.name name.now))) }
+        ensures name { IfSome result (IsNamedAt self.now.files.items (λ held. held.name) name.now) }
     {
         self.files.iter().position(|held| held.name == *name)
     }
@@ -42,7 +42,7 @@ where
     /// The open file of this name. Where it is not open yet, it is opened, if there is one.
     fn find(&mut self, rt: &R, name: &Name) -> io::Result<Option<usize>>
         ensures place { IfOk result (λ found. IfSome found (λ i. i < vec_len self.new.files)) }
-        ensures name { IfOk result (λ found. IfSome found (λ i. IsSomeAnd (slice_get self.new.files.items i) (λ held. IsTrue (same_name held.name name.now)))) }
+        ensures name { IfOk result (λ found. IfSome found (IsNamedAt self.new.files.items (λ held. held.name) name.now)) }
     {
         if let Some(i) = self.index_of(name) {
             return Ok(Some(i));
@@ -64,7 +64,7 @@ where
     /// The open file of this name. Where there is no file, it is made.
     fn find_or_make(&mut self, rt: &R, name: &Name) -> io::Result<usize>
         ensures place { IfOk result (λ i. i < vec_len self.new.files) }
-        ensures name { IfOk result (λ i. IsSomeAnd (slice_get self.new.files.items i) (λ held. IsTrue (same_name held.name name.now))) }
+        ensures name { IfOk result (IsNamedAt self.new.files.items (λ held. held.name) name.now) }
     {
         match self.find(rt, name)? {
             Some(i) => Ok(i),
@@ -74,7 +74,7 @@ where
 
     fn create(&mut self, rt: &R, name: &Name) -> io::Result<usize>
         ensures place { IfOk result (λ i. i < vec_len self.new.files) }
-        ensures name { IfOk result (λ i. IsSomeAnd (slice_get self.new.files.items i) (λ held. IsTrue (same_name held.name name.now))) }
+        ensures name { IfOk result (IsNamedAt self.new.files.items (λ held. held.name) name.now) }
     {
         let mut how = OpenOptions::new();
         how.read(true).write(true).create_new(true).mode(0o660);
@@ -83,7 +83,7 @@ where
 
     fn open(&mut self, rt: &R, name: &Name, how: &OpenOptions) -> io::Result<usize>
         ensures place { IfOk result (λ i. i < vec_len self.new.files) }
-        ensures name { IfOk result (λ i. IsSomeAnd (slice_get self.new.files.items i) (λ held. IsTrue (same_name held.name name.now))) }
+        ensures name { IfOk result (IsNamedAt self.new.files.items (λ held. held.name) name.now) }
     {
         self.make_room()?;
         let mut file = how.open(rt, name.as_str())?;
@@ -98,7 +98,7 @@ where
     fn add(&mut self, name: &Name, file: R::File, is_new: bool) -> io::Result<usize>
         requires { vec_len self.old.files < 64 }
         ensures place { IfOk result (λ i. i < vec_len self.new.files) }
-        ensures name { IfOk result (λ i. IsSomeAnd (slice_get self.new.files.items i) (λ held. IsTrue (same_name held.name name.now))) }
+        ensures name { IfOk result (IsNamedAt self.new.files.items (λ held. held.name) name.now) }
     {
         let mut held = Held::new(name.copied(), file)?;
         held.is_dirty = is_new;
