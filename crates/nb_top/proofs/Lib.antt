@@ -1,2 +1,3 @@
 pub mod WordLemmas
 pub mod JobLemmas
+pub mod AskedLemmas

@@ -1,5 +1,5 @@
 // A database in the normal state, as far as the first statements need it.
-ghost use Rattle.std.specs.Prelude.{◌≡◌, ◌<◌, ◌≤◌, length, IsTrue, IfOk, vec_len};
+ghost use Rattle.std.specs.Prelude.{◌≡◌, ℕ, ◌<◌, ◌≤◌, length, IsTrue, IfOk, vec_len};
 ghost use Rattle.nb_host.specs.Answers.{CountsDevice};
 ghost use Rattle.nb_host.specs.Causes.{CountsFault};
 ghost use Rattle.nb_fields.specs.Places.{is_page_size};
@@ -138,12 +138,7 @@ impl Database {
     }
 
     /// The text of page `number`. The refusals are `PageRange`, and `NotDatabase` where the page holds no text.
-    pub fn read<H: Host>(
-        &mut self,
-        alloc: Global,
-        host: &mut H,
-        number: u32,
-    ) -> Result<Text, Fault>
+    pub fn read<H: Host>(&mut self, alloc: Global, host: &mut H, number: u32) -> Result<Text, Fault>
         ensures cause { CountsDevice result (H.faults host.old) (H.faults host.new) }
     {
         self.check_range(number)?;

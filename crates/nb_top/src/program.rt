@@ -1,23 +1,22 @@
 // A job, from the words to the last reply.
-ghost use Rattle.std.specs.Prelude.{◌≡◌, ◌≢◌, ◌↔◌, IsTrue, None, map, string_bytes, OnErr};
+ghost use Rattle.std.specs.Prelude.{◌≡◌, ◌≢◌, ◌⊎◌, ◌↔◌, ℕ, None, Ok, Err, map, string_bytes, IfOk, IfErr};
+ghost use Rattle.std.specs.List.{AllByRecursion};
 ghost use Rattle.nb_host.specs.Answers.{CountsDevice};
 ghost use Rattle.nb_host.specs.Causes.{Rose};
-ghost use Rattle.nb_model.specs.Built.{is_built};
+ghost use Rattle.nb_host.specs.declared.faults.Fault.TheVariants.{Refused};
+ghost use Rattle.nb_top.specs.Asked.{IsFirst, IsFurther, IsAskable};
 ghost use Rattle.nb_top.specs.Causes.{CountsStop};
 ghost use Rattle.nb_top.specs.Jobs.{job_of};
 
+use crate::Status;
 use crate::database::Database;
 use crate::job::{Job, read_job};
 use crate::line::line_of;
-use crate::Status;
 use crate::stop::Stop;
 use nb_host::{Fault, Host, Name, Refusal};
 use nb_model::{Reply, Statement};
-use nb_script::{Script, parse};
+use nb_script::{MOST_BYTES, Script, parse};
 use std::alloc::Global;
-
-/// How many bytes a script has at most.
-const MOST_SCRIPT: u64 = 1_048_576;
 
 fn say<H: Host>(alloc: Global, host: &mut H, session: u32, reply: &Reply) -> Result<(), Stop>
     ensures cause { CountsStop result (H.faults host.old) (H.faults host.new) }
@@ -29,7 +28,9 @@ fn say<H: Host>(alloc: Global, host: &mut H, session: u32, reply: &Reply) -> Res
 
 /// What was answered: a value or a refusal; otherwise the run ends.
 fn settled<T>(answer: Result<T, Fault>) -> Result<Result<T, Refusal>, Stop>
-    ensures { (before after : ℕ) → CountsDevice answer before after → CountsStop result before after }
+    ensures value { IfOk result (λ settled. IfOk settled (λ value. answer ≡ Ok value)) }
+    ensures refusal { IfOk result (λ settled. IfErr settled (λ refusal. answer ≡ Err (Refused refusal))) }
+    ensures cause { (before after : ℕ) → CountsDevice answer before after → CountsStop result before after }
 {
     match answer {
         Ok(value) => Ok(Ok(value)),
@@ -46,6 +47,7 @@ fn refuse<H: Host>(
     session: u32,
     refusal: Refusal,
 ) -> Result<Status, Stop>
+    ensures ok { IfOk result (λ status. status ≡ Status.Refused) }
     ensures cause { CountsStop result (H.faults host.old) (H.faults host.new) }
 {
     say(alloc, host, session, &Reply::Refused { refusal })?;
@@ -61,7 +63,7 @@ fn read_file<H: Host>(alloc: Global, host: &mut H, name: &Name) -> Result<Vec<u8
             name: name.copied(),
         }));
     };
-    if size > MOST_SCRIPT {
+    if size > MOST_BYTES as u64 {
         return Err(Fault::Refused(Refusal::ScriptLong { bytes: size }));
     }
     let mut bytes = vec![in alloc; 0; size as usize]?;
@@ -71,15 +73,17 @@ fn read_file<H: Host>(alloc: Global, host: &mut H, name: &Name) -> Result<Vec<u8
 }
 
 fn read_script<H: Host>(alloc: Global, host: &mut H, name: &Name) -> Result<Script, Fault>
+    ensures askable { IfOk result IsAskable }
     ensures cause { CountsDevice result (H.faults host.old) (H.faults host.new) }
 {
     let bytes = read_file(alloc, host, name)?;
-    parse(alloc, &bytes)
+    let script = parse(alloc, &bytes)?;
+    Ok(script)
 }
 
 /// Creates the database of the first statement.
 fn begin<H: Host>(alloc: Global, host: &mut H, first: &Statement) -> Result<Database, Fault>
-    requires { IsTrue (is_first first.now) }
+    requires { IsFirst first.now }
     ensures cause { CountsDevice result (H.faults host.old) (H.faults host.new) }
 {
     match first {
@@ -100,7 +104,7 @@ fn turn<H: Host>(
     database: &mut Database,
     statement: &Statement,
 ) -> Result<Reply, Fault>
-    requires { IsTrue (is_further statement.now) }
+    requires { IsFurther statement.now }
     ensures cause { CountsDevice result (H.faults host.old) (H.faults host.new) }
 {
     match statement {
@@ -124,7 +128,7 @@ fn run_statements<H: Host>(
     session: u32,
     statements: &[Statement],
 ) -> Result<Status, Stop>
-    requires { All (λ statement. IsTrue (is_further statement)) statements.now }
+    requires { AllByRecursion IsFurther statements.now }
     ensures cause { CountsStop result (H.faults host.old) (H.faults host.new) }
     ensures done { IfOk result (λ status. (status ≡ Status.Done) ⊎ (status ≡ Status.Refused)) }
 {
@@ -143,7 +147,7 @@ fn run_statements<H: Host>(
 }
 
 fn run_script<H: Host>(alloc: Global, host: &mut H, script: &Script) -> Result<Status, Stop>
-    requires { IsBuilt script.now }
+    requires { IsAskable script.now }
     ensures cause { CountsStop result (H.faults host.old) (H.faults host.new) }
     ensures done { IfOk result (λ status. (status ≡ Status.Done) ⊎ (status ≡ Status.Refused)) }
 {
@@ -152,7 +156,13 @@ fn run_script<H: Host>(alloc: Global, host: &mut H, script: &Script) -> Result<S
         Ok(mut database) => {
             let pages = database.count();
             say(alloc, host, session, &Reply::Pages { pages })?;
-            run_statements(alloc, host, &mut database, session, script.statements(session))
+            run_statements(
+                alloc,
+                host,
+                &mut database,
+                session,
+                script.statements(session),
+            )
         }
         Err(refusal) => refuse(alloc, host, session, refusal),
     }

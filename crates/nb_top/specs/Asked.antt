@@ -1,0 +1,28 @@
+-- What a script can ask today.
+use Rattle.std.specs.Prelude.{ℕ, Bool, true, false, not, IsTrue, List}
+use Rattle.std.specs.List.{AllByRecursion}
+use Rattle.nb_model.specs.Built.{is_built}
+use Rattle.nb_model.specs.declared.statement.Statement.{Statement}
+use Rattle.nb_model.specs.declared.statement.Statement.TheVariants.{CreateDb, OpenDb}
+use Rattle.nb_script.specs.Scripts.{Plan, statements_of}
+
+-- the statement names the database of the script
+abbrev pub opens : Statement → Bool
+opens statement = elim statement [ CreateDb name page_size raw cache ↦ true | OpenDb name cache ↦ true | _ ↦ false ]
+
+-- a first statement that some session can ask
+pub record IsFirst (statement : Statement) : Type 0 where
+  pub session : ℕ
+  pub is_built : IsTrue (is_built session statement)
+  pub opens : IsTrue (opens statement)
+
+-- a further statement that some session can ask
+pub record IsFurther (statement : Statement) : Type 0 where
+  pub session : ℕ
+  pub is_built : IsTrue (is_built session statement)
+  pub opens_none : IsTrue (not (opens statement))
+
+-- a script of such statements
+pub record IsAskable (script : Plan) : Type 0 where
+  pub first : IsFirst script.first
+  pub further : (session : ℕ) → AllByRecursion IsFurther (statements_of script session)
