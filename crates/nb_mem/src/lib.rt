@@ -7,10 +7,13 @@
 #![tactic(auto)]
 
 mod bytes;
+mod choices;
 mod counts;
 mod entry;
 mod history;
 mod host;
+mod left;
+mod outcome;
 mod reads;
 mod slots;
 
