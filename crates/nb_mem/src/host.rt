@@ -85,8 +85,9 @@ impl MemHost {
     /// One outcome of a stop now, as a new host of which no call is to fail. The only error is want of memory.
     ///
     /// Pick 0 loses all that was not synced, and pick 1 keeps all. Any other pick goes by its bits, the lowest first and
-    /// a 0 behind them, again and again: whether a file that was made or removed is as now, whether a page is kept
-    /// and, where it is not, whether the file grew, whether appended bytes are kept, whole, or padded with zeros.
+    /// a 0 behind them, again and again, through the files in the order of their first calls: whether a made or removed
+    /// file is so; whether a page is kept and, where it is lost past the end, whether the file grew; whether appended
+    /// bytes are kept, then whether whole, and then whether zeros stand in the place of their second half.
     pub fn left(&self, pick: u64) -> Result<MemHost, Fault>
         ensures left { IfOk result (λ host. IsLeft self.now.history host.history) }
         ensures anew { IfOk result (λ host. host ≡ record (fresh [] None) { history = host.history }) }

@@ -18,3 +18,6 @@ mod reads;
 mod slots;
 
 pub use host::MemHost;
+
+#[cfg(test)]
+mod tests;

@@ -1,4 +1,4 @@
-ghost use Rattle.std.specs.Prelude.{◌≡◌, ◌⊎◌, true, false, length, IfOk, OnOk};
+ghost use Rattle.std.specs.Prelude.{◌≡◌, ◌≤◌, ◌⊎◌, true, false, length, IfOk, OnOk};
 ghost use Rattle.nb_host.specs.Files.{bytes_of};
 ghost use Rattle.nb_host.specs.Crash.{PageLeft, AppendLeft, IsTornFrom};
 ghost use Rattle.nb_mem.specs.Outcomes.{Follows};
@@ -36,13 +36,13 @@ pub fn length_of(file: &Option<Bytes>) -> usize
 
 /// The file grows by pages of zeros, up to the end of the page at that place.
 fn grow(alloc: Global, left: &mut Option<Bytes>, at: usize, page: &[u8]) -> Result<(), AllocError>
+    requires { length (bytes_of left.old) ≤ at }
     ensures { OnOk result (PageLeft at page.now left.old left.new) }
 {
-    let len = length_of(left);
-    if page.len() == 0 || len > at || at > usize::MAX - page.len() {
+    if page.len() == 0 || at > usize::MAX - page.len() {
         return Ok(());
     }
-    let pages = (at + page.len() - len) / page.len();
+    let pages = (at + page.len() - length_of(left)) / page.len();
     match left {
         Some(bytes) => bytes.append_zeros(pages * page.len())?,
         None => {
@@ -54,7 +54,7 @@ fn grow(alloc: Global, left: &mut Option<Bytes>, at: usize, page: &[u8]) -> Resu
     Ok(())
 }
 
-/// A page was written: it is kept, or lost, or the file only grew.
+/// A page was written: it is kept, or lost. Where it lay past the end, the file may have grown all the same.
 fn leave_page(
     alloc: Global,
     left: &mut Option<Bytes>,
@@ -68,7 +68,7 @@ fn leave_page(
         write(alloc, left, at, page)?;
         return Ok(());
     }
-    if choices.choose() {
+    if length_of(left) <= at && choices.choose() {
         grow(alloc, left, at, page)?;
     }
     Ok(())
