@@ -3,3 +3,5 @@ pub mod SlotLemmas
 pub mod PutLemmas
 pub mod CountLemmas
 pub mod CallLemmas
+pub mod OutcomeLemmas
+pub mod LeftLemmas

@@ -16,6 +16,11 @@ pub padded-long : (bytes : List ℕ) (len n : ℕ) → length bytes ≡ n → n 
 unfolding padded
 padded-long bytes len n is fits = ap (λ (l : List ℕ). l ++ replicate (len - n) 0) (take_all len bytes (omega arith)) ∙ ap (λ (k : ℕ). bytes ++ replicate (len - k) 0) (sym is)
 
+-- with that many zeros
+pub padded-more : (bytes : List ℕ) (count len : ℕ) → len ≡ length bytes + count → padded bytes len ≡ bytes ++ replicate count 0
+unfolding padded
+padded-more bytes count len is = ap (λ (n : ℕ). bytes ++ replicate n 0) (let e : len - length bytes ≡ count = omega arith in e)
+
 pub length-padded : (bytes : List ℕ) (len : ℕ) → len ≤ length (padded bytes len)
 unfolding padded
 length-padded bytes len = omega (arith, length-append bytes (replicate (len - length bytes) 0), length-replicate {A = ℕ} (len - length bytes) 0)

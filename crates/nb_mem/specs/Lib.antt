@@ -4,3 +4,4 @@ pub mod Histories
 pub mod HistoryLaws
 pub mod Current
 pub mod Memory
+pub mod Outcomes

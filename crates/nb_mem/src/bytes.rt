@@ -1,4 +1,4 @@
-ghost use Rattle.std.specs.Prelude.{◌≡◌, ◌+◌, ◌≤◌, ◌++◌, [], length, take, drop, IfOk, OnOk, OnErr};
+ghost use Rattle.std.specs.Prelude.{◌≡◌, ◌+◌, ◌≤◌, ◌++◌, [], length, take, drop, replicate, IfOk, OnOk, OnErr};
 ghost use Rattle.nb_host.specs.Files.{padded, put_at};
 
 use std::alloc::{AllocError, Global};
@@ -40,6 +40,19 @@ impl Bytes {
         self.kept.as_slice()
     }
 
+    pub fn len(&self) -> usize
+        ensures { result ≡ length self.now }
+    {
+        self.kept.len()
+    }
+
+    pub fn append_zeros(&mut self, count: usize) -> Result<(), AllocError>
+        ensures ok { OnOk result (self.new ≡ self.old ++ replicate count 0) }
+        ensures err { OnErr result (self.new ≡ self.old) }
+    {
+        append_zeros(&mut self.kept, count)
+    }
+
     /// Puts a page at that place, with zeros before it where the bytes ended earlier.
     pub fn put(&mut self, at: usize, page: &[u8]) -> Result<(), AllocError>
         ensures ok { OnOk result (self.new ≡ put_at self.old at page.now) }
@@ -65,6 +78,17 @@ fn extend_to(kept: &mut Vec<u8>, len: usize) -> Result<(), AllocError>
     if kept.len() < len {
         kept.resize(len, 0)?;
     }
+    Ok(())
+}
+
+fn append_zeros(kept: &mut Vec<u8>, count: usize) -> Result<(), AllocError>
+    ensures ok { OnOk result (kept.new.items ≡ kept.old.items ++ replicate count 0) }
+    ensures err { OnErr result (kept.new.items ≡ kept.old.items) }
+{
+    if count > usize::MAX - kept.len() {
+        return Err(AllocError);
+    }
+    extend_to(kept, kept.len() + count)?;
     Ok(())
 }
 

@@ -1,10 +1,13 @@
-ghost use Rattle.std.specs.Prelude.{◌≡◌, ◌<◌, ◌^◌, [], ◌∷◌, length, OnOk, OnErr};
+ghost use Rattle.std.specs.Prelude.{◌≡◌, ◌<◌, ◌^◌, [], ◌∷◌, length, IfOk, OnOk, OnErr};
 ghost use Rattle.std.specs.Option.{option_copied};
 ghost use Rattle.nb_mem.specs.declared.entry.Entry.{Entry as Call};
 ghost use Rattle.nb_mem.specs.Histories.{files_of, said_of, reads_of, guids_of, times_of};
+ghost use Rattle.nb_mem.specs.Outcomes.{placed, IsLeft};
 
 use crate::bytes::Bytes;
+use crate::choices::Choices;
 use crate::entry::{Change, Entry, Question};
+use crate::left::left_of;
 use crate::slots::{Slot, change_slot, file_of};
 use nb_host::Name;
 use std::alloc::{AllocError, Global};
@@ -136,6 +139,32 @@ impl History {
         self.calls.push(Entry::Asked(Question::Time))?;
         self.times += 1;
         Ok(())
+    }
+
+    /// Places a file where there is one.
+    fn place_left(&mut self, name: &Name, file: Option<Bytes>) -> Result<(), AllocError>
+        ensures { OnOk result (self.new ≡ placed name.now file self.old) }
+    {
+        match file {
+            Some(bytes) => {
+                self.place(name, bytes.as_slice())?;
+                Ok(())
+            }
+            None => Ok(()),
+        }
+    }
+
+    /// What a stop now leaves, by the pick, as if it had just been placed.
+    pub fn left(&self, pick: u64) -> Result<History, AllocError>
+        ensures { IfOk result (λ left. IsLeft self.now left) }
+    {
+        let mut left = History::new(self.alloc);
+        let mut choices = Choices::new(pick);
+        for slot in &self.slots {
+            let file = left_of(self.alloc, &self.calls, &slot.name, &mut choices)?;
+            left.place_left(&slot.name, file)?;
+        }
+        Ok(left)
     }
 
     pub fn file(&self, name: &Name) -> Option<&[u8]>

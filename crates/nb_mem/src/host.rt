@@ -5,6 +5,7 @@ ghost use Rattle.nb_host.specs.Calls.{ReadsPage, ReadsBytes, Syncs};
 ghost use Rattle.nb_mem.specs.Histories.{world_of, files_of, guid_of, guids_of, times_of};
 ghost use Rattle.nb_mem.specs.declared.entry.Entry.{Entry as Call};
 ghost use Rattle.nb_mem.specs.Memory.{Answers, fresh};
+ghost use Rattle.nb_mem.specs.Outcomes.{IsLeft};
 ghost use Rattle.nb_mem.specs.HistoryLaws.{timely, reads_left};
 
 use crate::counts::Counts;
@@ -79,6 +80,25 @@ impl MemHost {
     {
         self.history.place(name, bytes)?;
         Ok(())
+    }
+
+    /// One outcome of a stop now, as a new host of which no call is to fail. The only error is want of memory.
+    ///
+    /// Pick 0 loses all that was not synced, and pick 1 keeps all. Any other pick goes by its bits, the lowest first and
+    /// a 0 behind them, again and again, through the files in the order of their first calls: whether a made or removed
+    /// file is so; whether a page is kept and, where it is lost past the end, whether the file grew; whether appended
+    /// bytes are kept, then whether whole, and then whether zeros stand in the place of their second half.
+    pub fn left(&self, pick: u64) -> Result<MemHost, Fault>
+        ensures left { IfOk result (λ host. IsLeft self.now.history host.history) }
+        ensures anew { IfOk result (λ host. host ≡ record (fresh [] None) { history = host.history }) }
+        ensures err { IfErr result (λ fault. fault ≡ Fault.Memory) }
+    {
+        let history = self.history.left(pick)?;
+        Ok(MemHost {
+            alloc: self.alloc,
+            history,
+            counts: Counts::new(Vec::new(self.alloc), None),
+        })
     }
 
     /// The bytes of a file as they read now, and none where there is no such file.

@@ -7,11 +7,17 @@
 #![tactic(auto)]
 
 mod bytes;
+mod choices;
 mod counts;
 mod entry;
 mod history;
 mod host;
+mod left;
+mod outcome;
 mod reads;
 mod slots;
 
 pub use host::MemHost;
+
+#[cfg(test)]
+mod tests;

@@ -14,11 +14,16 @@ use std::alloc::{AllocError, Global};
 /// A file under its name, or that there is none.
 #[derive(Drop)]
 pub struct Slot {
-    name: Name,
-    file: Option<Bytes>,
+    pub name: Name,
+    pub file: Option<Bytes>,
 }
 
-fn write(alloc: Global, file: &mut Option<Bytes>, at: usize, page: &[u8]) -> Result<(), AllocError>
+pub fn write(
+    alloc: Global,
+    file: &mut Option<Bytes>,
+    at: usize,
+    page: &[u8],
+) -> Result<(), AllocError>
     ensures ok { OnOk result (file.new ≡ with_page file.old at page.now) }
     ensures err { OnErr result (file.new ≡ file.old) }
 {
@@ -33,7 +38,7 @@ fn write(alloc: Global, file: &mut Option<Bytes>, at: usize, page: &[u8]) -> Res
     Ok(())
 }
 
-fn extend(alloc: Global, file: &mut Option<Bytes>, more: &[u8]) -> Result<(), AllocError>
+pub fn extend(alloc: Global, file: &mut Option<Bytes>, more: &[u8]) -> Result<(), AllocError>
     ensures ok { OnOk result (file.new ≡ with_bytes file.old more.now) }
     ensures err { OnErr result (file.new ≡ file.old) }
 {
