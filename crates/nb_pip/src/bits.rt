@@ -3,11 +3,13 @@ ghost use Rattle.nb_fields.specs.Places.{is_page_size, bits_in};
 ghost use Rattle.nb_pip.specs.Bits.{bits, byte_of, KeepsOtherBytes, AreUsed, IsLowestFree};
 ghost use Rattle.nb_pip.specs.Ones.{AreZeros, IsLowestOne};
 
+use nb_fields::layouts::inventory::BITS_AT;
+
 // The byte that holds a bit.
 fn byte_of(bit: u32) -> usize
     ensures { result ≡ byte_of bit }
 {
-    32 + (bit / 8) as usize
+    BITS_AT + (bit / 8) as usize
 }
 
 /// Whether that bit of the inventory page `map` says that its page is used.

@@ -1,0 +1,38 @@
+use Rattle.std.proofs.Common.{◌≡◌, ℕ, ◌+◌, ◌-◌, List, length, min, nat_eq, Option, Some, None, IsSome, is_some, MatchOption, IfSome, refl, sym, ap, ap₂, subst, ◌∙◌, arith}
+use Rattle.std.specs.Map.{lookup}
+use Rattle.nb_cache.specs.declared.frames.Frame.{Frame}
+use Rattle.nb_cache.specs.Held.{Slot, Held, slot_of}
+use Rattle.nb_cache.specs.Frames.{Frames, shown, slot_in, FoundAt, IsLast, IsCache}
+use Rattle.nb_cache.proofs.ShownLemmas.{some_is, same_pages, lookup-split, lookup-promoted, size_here, IsCache-promoted, IsCache-put, IsCache-demoted, IsCache-set, slot_of-found, slot_of-absent, rank_of-found, rank_of-absent, shown-promoted, promoted-absent, shown-demoted, removed-absent, shown-marked, ranked-absent, shown-renewed, shown-put}
+use Rattle.nb_cache.proofs.cache.Cache.drop_page.Goals as goal
+
+pub invariant_of-self : goal.invariant_of-self
+invariant_of-self c =
+    let es = c.self.inside.frames.entries in
+    let held = c.self.inside.held in
+    let cap = c.self.inside.cap in
+    let size = c.self.inside.page_size in
+    let page = c.args.page in
+    let key = c.in-Some.key in
+    let found = c.in-Some.ensures in
+    rw c.demote.ensures.entries (IsCache-demoted es key found.split cap held size c.self.invariant (held - 1) (omega arith))
+
+pub returns-in-Some : goal.returns-in-Some
+returns-in-Some c =
+    let es = c.self.inside.frames.entries in
+    let held = c.self.inside.held in
+    let cap = c.self.inside.cap in
+    let size = c.self.inside.page_size in
+    let page = c.args.page in
+    let key = c.in-Some.key in
+    let found = c.in-Some.ensures in
+    rw (← c.self.view_is, c.demote.ensures.entries) (same_pages _ _ cap size (shown-demoted es held page key found (omega arith)))
+
+pub returns-in_default : goal.returns-in_default
+returns-in_default c =
+    let es = c.self.inside.frames.entries in
+    let held = c.self.inside.held in
+    let cap = c.self.inside.cap in
+    let size = c.self.inside.page_size in
+    let page = c.args.page in
+    rw (← c.self.view_is) (same_pages _ _ cap size (sym (removed-absent es held page c.in_default.ensures)))

@@ -1,0 +1,109 @@
+use Rattle.std.proofs.Common.{◌≡◌, ℕ, ◌+◌, ◌-◌, List, length, min, nat_eq, Option, Some, None, IsSome, is_some, MatchOption, IfSome, refl, sym, ap, ap₂, subst, ◌∙◌, arith}
+use Rattle.std.specs.Map.{lookup}
+use Rattle.nb_cache.specs.declared.frames.Frame.{Frame}
+use Rattle.nb_cache.specs.Held.{Slot, Held, slot_of}
+use Rattle.nb_cache.specs.Frames.{Frames, shown, slot_in, FoundAt, IsLast, IsCache}
+use Rattle.nb_cache.proofs.ShownLemmas.{some_is, same_pages, lookup-split, lookup-promoted, size_here, IsCache-promoted, IsCache-put, IsCache-demoted, IsCache-set, slot_of-found, slot_of-absent, rank_of-found, rank_of-absent, shown-promoted, promoted-absent, shown-demoted, removed-absent, shown-marked, ranked-absent, shown-renewed, shown-put}
+use Rattle.nb_cache.proofs.cache.Cache.keep.Goals as goal
+
+pub rank_at-rank-requires : goal.rank_at-rank-requires
+rank_at-rank-requires c =
+    let es = c.self.inside.frames.entries in
+    let held = c.self.inside.held in
+    let cap = c.self.inside.cap in
+    let size = c.self.inside.page_size in
+    let page = c.args.page in
+    let key = c.in-Some.key in
+    let found = c.in-Some.ensures in
+    some_is _ _ (lookup-split es key found.split)
+
+pub put_in-requires-clause-there : goal.put_in-requires-clause-there
+put_in-requires-clause-there c =
+    let es = c.self.inside.frames.entries in
+    let held = c.self.inside.held in
+    let cap = c.self.inside.cap in
+    let size = c.self.inside.page_size in
+    let page = c.args.page in
+    let key = c.in-Some.key in
+    let found = c.in-Some.ensures in
+    some_is _ _ (lookup-promoted es key found.split)
+
+pub put_in-requires-clause-size : goal.put_in-requires-clause-size
+put_in-requires-clause-size c =
+    let es = c.self.inside.frames.entries in
+    let held = c.self.inside.held in
+    let cap = c.self.inside.cap in
+    let size = c.self.inside.page_size in
+    let page = c.args.page in
+    let key = c.in-Some.key in
+    let found = c.in-Some.ensures in
+    let page_size : c.args.self.now.page_size ≡ size = ap (λ h. h.page_size) (sym c.self.view_is) in
+    rw (lookup-promoted es key found.split) (size_here es key found.split cap held size c.self.invariant ∙ sym (c.requires.size ∙ page_size))
+
+pub invariant_of-self : goal.invariant_of-self
+invariant_of-self c =
+    let es = c.self.inside.frames.entries in
+    let held = c.self.inside.held in
+    let cap = c.self.inside.cap in
+    let size = c.self.inside.page_size in
+    let page = c.args.page in
+    let key = c.in-Some.key in
+    let found = c.in-Some.ensures in
+    let put = c.put_in.ensures in
+    let page_size : c.args.self.now.page_size ≡ size = ap (λ h. h.page_size) (sym c.self.view_is) in
+    let fits = ap (λ s. length s.1.bytes) put.1 ∙ c.requires.size ∙ page_size in
+    rw put.2 (IsCache-put es key found.split cap held size c.self.invariant put.0 held fits c.self.invariant.within)
+
+pub put_in-requires-in_default-clause-there : goal.put_in-requires-in_default-clause-there
+put_in-requires-in_default-clause-there c =
+    some_is _ _ (lookup-promoted c.self.inside.frames.entries c.last_frame-key.result c.last_frame-key.ensures.split)
+
+pub put_in-requires-in_default-clause-size : goal.put_in-requires-in_default-clause-size
+put_in-requires-in_default-clause-size c =
+    let es = c.self.inside.frames.entries in
+    let held = c.self.inside.held in
+    let cap = c.self.inside.cap in
+    let size = c.self.inside.page_size in
+    let page = c.args.page in
+    let last = c.last_frame-key.ensures in
+    let page_size : c.args.self.now.page_size ≡ size = ap (λ h. h.page_size) (sym c.self.view_is) in
+    rw (lookup-promoted es c.last_frame-key.result last.split) (size_here es c.last_frame-key.result last.split cap held size c.self.invariant ∙ sym (c.requires.size ∙ page_size))
+
+pub invariant_of-self-in_default : goal.invariant_of-self-in_default
+invariant_of-self-in_default c =
+    let es = c.self.inside.frames.entries in
+    let held = c.self.inside.held in
+    let cap = c.self.inside.cap in
+    let size = c.self.inside.page_size in
+    let page = c.args.page in
+    let put = c.put_in-in_default.ensures in
+    let page_size : c.args.self.now.page_size ≡ size = ap (λ h. h.page_size) (sym c.self.view_is) in
+    let fits = ap (λ s. length s.1.bytes) put.1 ∙ c.requires.size ∙ page_size in
+    rw put.2 (IsCache-put es c.last_frame-key.result c.last_frame-key.ensures.split cap held size c.self.invariant put.0 c.min-self-inside.result fits (omega arith))
+
+pub returns-in-Some : goal.returns-in-Some
+returns-in-Some c =
+    let es = c.self.inside.frames.entries in
+    let held = c.self.inside.held in
+    let cap = c.self.inside.cap in
+    let size = c.self.inside.page_size in
+    let page = c.args.page in
+    let key = c.in-Some.key in
+    let found = c.in-Some.ensures in
+    let put = c.put_in.ensures in
+    let rank = rw (lookup-split es key found.split) at c.rank_at-rank.ensures in
+    let slot = ap (λ (r : Option ℕ). let v : Slot = record { bytes = c.args.bytes.now; rank = r } in (page, v)) (rank ∙ sym (rank_of-found es held page key found)) in
+    rw (← c.self.view_is, put.2) (same_pages _ _ cap size (shown-renewed es held page key found cap _ put.0 (put.1 ∙ slot)))
+
+pub returns-in_default : goal.returns-in_default
+returns-in_default c =
+    let es = c.self.inside.frames.entries in
+    let held = c.self.inside.held in
+    let cap = c.self.inside.cap in
+    let size = c.self.inside.page_size in
+    let page = c.args.page in
+    let none = c.in_default.ensures in
+    let put = c.put_in-in_default.ensures in
+    let slot = ap (λ (r : Option ℕ). let v : Slot = record { bytes = c.args.bytes.now; rank = r } in (page, v)) (sym (rank_of-absent es held page none)) in
+    rw (← c.self.view_is, put.2, c.min-self-inside.ensures)
+        (same_pages _ _ cap size (shown-put es held page none cap c.last_frame-key.result c.last_frame-key.ensures _ put.0 (put.1 ∙ slot) c.self.invariant.all_there c.self.invariant.within))

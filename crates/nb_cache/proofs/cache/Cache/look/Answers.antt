@@ -1,0 +1,93 @@
+use Rattle.std.proofs.Common.{◌≡◌, ℕ, ◌+◌, ◌-◌, List, length, min, nat_eq, Option, Some, None, IsSome, is_some, MatchOption, IfSome, refl, sym, ap, ap₂, subst, ◌∙◌, arith}
+use Rattle.std.specs.Map.{lookup}
+use Rattle.nb_cache.specs.declared.frames.Frame.{Frame}
+use Rattle.nb_cache.specs.Held.{Slot, Held, slot_of}
+use Rattle.nb_cache.specs.Frames.{Frames, shown, slot_in, FoundAt, IsLast, IsCache}
+use Rattle.nb_cache.proofs.ShownLemmas.{some_is, same_pages, lookup-split, lookup-promoted, size_here, IsCache-promoted, IsCache-put, IsCache-demoted, IsCache-set, slot_of-found, slot_of-absent, rank_of-found, rank_of-absent, shown-promoted, promoted-absent, shown-demoted, removed-absent, shown-marked, ranked-absent, shown-renewed, shown-put}
+use Rattle.nb_cache.proofs.cache.Cache.look.Goals as goal
+
+pub returns-in_default-clause-found : goal.returns-in_default-clause-found
+returns-in_default-clause-found c =
+    let es = c.self.inside.frames.entries in
+    let held = c.self.inside.held in
+    let cap = c.self.inside.cap in
+    let size = c.self.inside.page_size in
+    let page = c.args.page in
+    rw (← c.self.view_is) (sym (ap is_some (slot_of-absent es held page c.in_default.ensures)))
+
+pub returns-in_default-clause-filled : goal.returns-in_default-clause-filled
+returns-in_default-clause-filled c =
+    let es = c.self.inside.frames.entries in
+    let held = c.self.inside.held in
+    let cap = c.self.inside.cap in
+    let size = c.self.inside.page_size in
+    let page = c.args.page in
+    rw (← c.self.view_is, slot_of-absent es held page c.in_default.ensures) refl
+
+pub returns-in_default-clause-moved : goal.returns-in_default-clause-moved
+returns-in_default-clause-moved c =
+    let es = c.self.inside.frames.entries in
+    let held = c.self.inside.held in
+    let cap = c.self.inside.cap in
+    let size = c.self.inside.page_size in
+    let page = c.args.page in
+    rw (← c.self.view_is) (same_pages _ _ cap size (sym (promoted-absent es held page c.in_default.ensures)))
+
+pub copy_out-requires : goal.copy_out-requires
+copy_out-requires c =
+    let es = c.self.inside.frames.entries in
+    let held = c.self.inside.held in
+    let cap = c.self.inside.cap in
+    let size = c.self.inside.page_size in
+    let page = c.args.page in
+    let key = c.in-Some.key in
+    let found = c.in-Some.ensures in
+    let there = lookup-split es key found.split in
+    let page_size : c.args.self.now.page_size ≡ size = ap (λ h. h.page_size) (sym c.self.view_is) in record {
+      there = some_is _ _ there;
+      size = rw there (c.requires ∙ page_size ∙ sym (size_here es key found.split cap held size c.self.invariant));
+    }
+
+pub invariant_of-self : goal.invariant_of-self
+invariant_of-self c =
+    let es = c.self.inside.frames.entries in
+    let held = c.self.inside.held in
+    let cap = c.self.inside.cap in
+    let size = c.self.inside.page_size in
+    let page = c.args.page in
+    let key = c.in-Some.key in
+    let found = c.in-Some.ensures in
+    rw c.promote.ensures.entries (IsCache-promoted es key found.split cap held size c.self.invariant)
+
+pub returns-clause-found : goal.returns-clause-found
+returns-clause-found c =
+    let es = c.self.inside.frames.entries in
+    let held = c.self.inside.held in
+    let cap = c.self.inside.cap in
+    let size = c.self.inside.page_size in
+    let page = c.args.page in
+    let key = c.in-Some.key in
+    let found = c.in-Some.ensures in
+    rw (← c.self.view_is) (sym (ap is_some (slot_of-found es held page key found)))
+
+pub returns-clause-filled : goal.returns-clause-filled
+returns-clause-filled c =
+    let es = c.self.inside.frames.entries in
+    let held = c.self.inside.held in
+    let cap = c.self.inside.cap in
+    let size = c.self.inside.page_size in
+    let page = c.args.page in
+    let key = c.in-Some.key in
+    let found = c.in-Some.ensures in
+    rw (← c.self.view_is, slot_of-found es held page key found) (rw (lookup-split es key found.split) at c.copy_out.ensures)
+
+pub returns-clause-moved : goal.returns-clause-moved
+returns-clause-moved c =
+    let es = c.self.inside.frames.entries in
+    let held = c.self.inside.held in
+    let cap = c.self.inside.cap in
+    let size = c.self.inside.page_size in
+    let page = c.args.page in
+    let key = c.in-Some.key in
+    let found = c.in-Some.ensures in
+    rw (← c.self.view_is, c.promote.ensures.entries) (same_pages _ _ cap size (shown-promoted es held page key found))

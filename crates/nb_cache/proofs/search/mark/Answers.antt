@@ -1,0 +1,12 @@
+use Rattle.std.proofs.Common.{◌≡◌, Some, refl, sym, ap, ◌∙◌, nat_eq}
+use Rattle.std.specs.Map.{lookup}
+use Rattle.std.specs.Option.{option_copied_mut}
+use Rattle.nb_cache.specs.declared.frames.Frame.{Frame}
+use Rattle.nb_cache.proofs.search.mark.Goals as goal
+
+pub returns : goal.returns
+returns c =
+    let old : Frame = c.unwrap-frame.result.now in
+    let new : Frame = record old { rank = c.args.rank } in
+    let there : lookup (nat_eq c.args.key) c.args.frames.now.entries ≡ Some old = sym c.peek_mut.ensures.value ∙ ap option_copied_mut c.unwrap-frame.ensures in
+    rw there (new, refl, refl)

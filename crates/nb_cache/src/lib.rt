@@ -1,0 +1,13 @@
+//! Pages held in memory, the least recently used out first, and which of them wait to be written.
+//!
+//! It rests on `lru`, and on `nb_host` for its one error. Contracts see a cache as the list of the pages that it holds,
+//! the most recently used first, each with its bytes and, while it waits, its rank (`specs/Held`). A layer above may
+//! rely on it that this list changes as the clauses say and not otherwise, and that no call but `Cache::new` takes
+//! memory.
+#![tactic(auto)]
+
+mod cache;
+mod frames;
+mod search;
+
+pub use cache::Cache;
