@@ -1,13 +1,13 @@
 -- Worked pages: the definitions compute.
-use Rattle.std.proofs.Common.{◌≡◌, [], ◌∷◌, ◌++◌, length, get_or, take, drop, refl, replicate, Ok, Err, Some, None, true, false}
+use Rattle.std.proofs.Common.{◌≡◌, [], ◌∷◌, ◌++◌, length, take, drop, refl, replicate, Ok, Err, Some, None, true, false}
 use Rattle.std.specs.Prelude.{map}
 use Rattle.nb_fields.specs.Opened.{opened}
 use Rattle.nb_fields.specs.Header.{is_header}
 use Rattle.nb_fields.specs.Fresh.{fresh, fresh_count, fresh_page}
 use Rattle.nb_fields.specs.Free.{is_free_file}
 use Rattle.nb_fields.specs.Table.{table_of}
-use Rattle.nb_fields.specs.Page.{page_of, stamped}
-use Rattle.nb_fields.specs.Payloads.{text_payload, data_payload}
+use Rattle.nb_fields.specs.Page.{stamped}
+use Rattle.nb_fields.specs.Payloads.{text_payload}
 
 -- the lengths of new databases, with system places on the way
 count_8 : fresh_count 1024 8 ≡ 13
