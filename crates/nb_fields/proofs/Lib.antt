@@ -4,4 +4,6 @@ pub mod PageLemmas
 pub mod SizeLemmas
 pub mod HeaderLemmas
 pub mod FreshLemmas
+pub mod PlaceLemmas
+pub mod FreshLaws
 mod Rows
