@@ -2,7 +2,7 @@
 use Rattle.std.proofs.Common.{◌≡◌, ℕ, ◌+◌, ◌*◌, ◌-◌, ◌%◌, ◌^◌, ◌<◌, ◌≤◌, List, [], ◌∷◌, ◌++◌, length, take, drop, replicate, refl, sym, ap, ◌∙◌, arith, append_assoc, length-append, length-drop}
 use Rattle.std.proofs.lemmas.List.{length-take-le, length-replicate, drop_all, drop_at, take_at, drop-drop, take-append-le, drop-append-le, append-nil, drop-replicate, take-replicate, replicate-append-replicate}
 use borrow.Rule.Slice.PartMut.{put_mid}
-use Rattle.nb_fields.specs.Bytes.{bytes_of, number_of, number_in, with_part, padded}
+use Rattle.nb_fields.specs.Bytes.{bytes_of, number_of, number_in, with_part, padded, part}
 use Rattle.nb_fields.specs.Page.{head_of, page_of, with_payload, stamped, generation_of}
 use Rattle.nb_fields.specs.Payloads.{text_payload, text_of}
 use Rattle.nb_fields.proofs.NumberLemmas.{number_of-bytes_of}
@@ -222,3 +222,12 @@ pub drop-page_of-none : (size kind generation scn number : ℕ) → drop 16 (pag
 unfolding page_of padded
 drop-page_of-none size kind generation scn number =
     drop_at (head_of kind generation scn number) (replicate (size - 16 - 0) 0) 16 (length-head_of kind generation scn number) ∙ ap (λ n. replicate n 0) (let e : size - 16 - 0 ≡ size - 16 = omega arith in e)
+
+-- parts behind a front of the page
+pub part-append : (n at w : ℕ) (front rest : List ℕ) → length front ≡ n → part (n + at) w (front ++ rest) ≡ part at w rest
+part-append n at w front rest len = ap (take w) (sym (drop-drop at n (front ++ rest)) ∙ ap (drop at) (drop_at front rest n len))
+
+-- what stands behind the head of a page, whole again
+pub drop-page_of : (size kind generation scn number : ℕ) (payload : List ℕ) → drop 16 (page_of size kind generation scn number payload) ≡ padded (size - 16) payload
+unfolding page_of
+drop-page_of size kind generation scn number payload = drop_at (head_of kind generation scn number) (padded (size - 16) payload) 16 (length-head_of kind generation scn number)
