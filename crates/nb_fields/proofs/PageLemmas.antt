@@ -32,9 +32,10 @@ padded-append size front bytes =
 pub take-padded : (n size : ℕ) (bytes : List ℕ) → length bytes ≤ n → n ≤ size → take n (padded size bytes) ≡ padded n bytes
 unfolding padded
 take-padded n size bytes h k =
-    let zeros : replicate (size - length bytes) 0 ≡ replicate (n - length bytes) 0 ++ replicate (size - n) 0 = ap (λ m. replicate m 0) (let e : size - length bytes ≡ n - length bytes + (size - n) = omega arith in e) ∙ sym (replicate-append-replicate (n - length bytes) (size - n) 0) in
-    ap (λ zs. take n (bytes ++ zs)) zeros ∙ ap (take n) (sym (append_assoc bytes (replicate (n - length bytes) 0) (replicate (size - n) 0)))
-    ∙ take_at (bytes ++ replicate (n - length bytes) 0) (replicate (size - n) 0) n (omega (arith, length-append bytes (replicate (n - length bytes) 0), length-replicate {A = ℕ} (n - length bytes) 0))
+    let zeros : replicate {A = ℕ} (size - length bytes) 0 ≡ replicate {A = ℕ} (n - length bytes) 0 ++ replicate {A = ℕ} (size - n) 0 = ap (λ m. replicate m 0) (let e : size - length bytes ≡ n - length bytes + (size - n) = omega arith in e) ∙ sym (replicate-append-replicate (n - length bytes) (size - n) 0) in
+    let front : List ℕ = bytes ++ replicate (n - length bytes) 0 in
+    let len : length front ≡ n = omega (arith, length-append bytes (replicate (n - length bytes) 0), length-replicate {A = ℕ} (n - length bytes) 0) in
+    ap (λ zs. take n (bytes ++ zs)) zeros ∙ ap (take n) (sym (append_assoc bytes (replicate (n - length bytes) 0) (replicate (size - n) 0))) ∙ take_at front (replicate (size - n) 0) n len
 
 -- bytes written behind what stands, where zeros stand
 pub with_part-padded : (size at : ℕ) (bytes front : List ℕ) → length front ≤ at → at + length bytes ≤ size
