@@ -1,5 +1,5 @@
 -- What the pages of a new database show.
-use Rattle.std.proofs.Common.{◌≡◌, ℕ, zero, suc, ◌+◌, ◌-◌, ◌*◌, ◌/◌, ◌%◌, ◌^◌, ◌<◌, ◌≤◌, List, [], ◌∷◌, ◌++◌, length, get_or, take, drop, replicate, refl, sym, ap, ◌∙◌, ⊎_elim, arith, length-append}
+use Rattle.std.proofs.Common.{◌≡◌, ℕ, zero, suc, ◌+◌, ◌-◌, ◌*◌, ◌/◌, ◌%◌, ◌^◌, ◌<◌, ◌≤◌, List, ◌∷◌, ◌++◌, length, get_or, take, drop, replicate, refl, sym, ap, ◌∙◌, ⊎_elim, arith, length-append}
 use Rattle.std.specs.Prelude.{IsTrue}
 use Rattle.std.specs.Int.{bit_at}
 use Rattle.std.proofs.lemmas.Bool.{cases_lt}
@@ -34,8 +34,8 @@ module _ (bytes taken : ℕ) where
   unfolding taken_bits
   byte_below j inside below =
       get_or-take bytes row j 0 inside
-          ∙ get_or_append_left (replicate (taken / 8) 0) (edge ∷ replicate bytes 255) 0 j (omega (arith, length-replicate {A = ℕ} (taken / 8) 0))
-          ∙ get_or-replicate (taken / 8) j 0 0 below
+      ∙ get_or_append_left (replicate (taken / 8) 0) (edge ∷ replicate bytes 255) 0 j (omega (arith, length-replicate {A = ℕ} (taken / 8) 0))
+      ∙ get_or-replicate (taken / 8) j 0 0 below
 
   byte_at : (j : ℕ) → j < bytes → j ≡ taken / 8 → get_or (taken_bits bytes taken) j 0 ≡ edge
   unfolding taken_bits
@@ -47,9 +47,9 @@ module _ (bytes taken : ℕ) where
       let i : ℕ = j - taken / 8 - 1 in
       let next : j - taken / 8 ≡ suc i = omega arith in
       get_or-take bytes row j 0 inside
-          ∙ get_or-append_right (replicate (taken / 8) 0) (edge ∷ replicate bytes 255) (taken / 8) j 0 (length-replicate (taken / 8) 0) (omega arith)
-          ∙ ap (λ m. get_or (edge ∷ replicate bytes 255) m 0) next
-          ∙ get_or-replicate bytes i 255 0 (omega arith)
+      ∙ get_or-append_right (replicate (taken / 8) 0) (edge ∷ replicate bytes 255) (taken / 8) j 0 (length-replicate (taken / 8) 0) (omega arith)
+      ∙ ap (λ m. get_or (edge ∷ replicate bytes 255) m 0) next
+      ∙ get_or-replicate bytes i 255 0 (omega arith)
 
   pub taken_bits-taken : (i : ℕ) → i / 8 < bytes → i < taken → bit_at (get_or (taken_bits bytes taken) (i / 8) 0) (i % 8) ≡ 0
   taken_bits-taken i inside below = ⊎_elim
@@ -90,7 +90,7 @@ module _ (size kind generation scn number : ℕ) where
       let zeros : List ℕ = replicate (size - 16 - length (inventory_payload size k taken)) 0 in
       let len = length-taken_bits (size - 32) taken in
       let read : get_or page (32 + i / 8) 0 ≡ get_or (taken_bits (size - 32) taken) (i / 8) 0 =
-          sym (get_or-drop 32 page (i / 8) 0) ∙ ap (λ xs. get_or xs (i / 8) 0) (drop-inventory k taken) ∙ get_or_append_left (taken_bits (size - 32) taken) zeros 0 (i / 8) (omega arith) in
+      sym (get_or-drop 32 page (i / 8) 0) ∙ ap (λ xs. get_or xs (i / 8) 0) (drop-inventory k taken) ∙ get_or_append_left (taken_bits (size - 32) taken) zeros 0 (i / 8) (omega arith) in
       ap (λ b. bit_at b (i % 8)) read
 
   pub entry_of-scn : (k entry i : ℕ) → entry < 2 ^ 32 → i < entries_in size → entry_of (page_of size kind generation scn number (scn_payload size k entry)) i ≡ entry
@@ -98,8 +98,8 @@ module _ (size kind generation scn number : ℕ) where
   entry_of-scn k entry i small inside =
       let page : List ℕ = page_of size kind generation scn number (scn_payload size k entry) in
       ap (λ xs. number_of (take 4 xs)) (sym (drop-drop (4 * i) 32 page) ∙ ap (drop (4 * i)) (drop-scn k entry))
-          ∙ ap number_of (same_entries-at entry (entries_in size) i _ inside)
-          ∙ number_of-bytes_of 4 entry small
+      ∙ ap number_of (same_entries-at entry (entries_in size) i _ inside)
+      ∙ number_of-bytes_of 4 entry small
 
 -- the pages of a new database show what is meant
 pub fresh_shows : (size raw p : ℕ) → IsTrue (is_page_size size) → raw ≤ 65535 → p < fresh_count size raw → ShowsFresh size raw p (fresh_page size raw p)
@@ -121,18 +121,18 @@ fresh_shows size raw p is few inside =
           let i : ℕ = q % bits_in size in
           let held : ℕ = fresh_count size raw - k * bits_in size in
           ap (λ w. bit_of (page_of size (code_of w) 1 1 p (fresh_payload size raw p w)) i) (fresh_kind-inventory size k p is at)
-              ∙ ap (λ m. bit_of (page_of size 2 1 1 p (inventory_payload size m (fresh_count size raw - m * bits_in size))) i) (inventory_index size k p is at)
-              ∙ bit_of-inventory size 2 1 1 p k held i (omega arith)
-              ∙ taken_bits-taken (size - 32) held i (omega arith) (omega arith);
+          ∙ ap (λ m. bit_of (page_of size 2 1 1 p (inventory_payload size m (fresh_count size raw - m * bits_in size))) i) (inventory_index size k p is at)
+          ∙ bit_of-inventory size 2 1 1 p k held i (omega arith)
+          ∙ taken_bits-taken (size - 32) held i (omega arith) (omega arith);
       free = λ q at past.
           let k : ℕ = q / bits_in size in
           let i : ℕ = q % bits_in size in
           let held : ℕ = fresh_count size raw - k * bits_in size in
           ap (λ w. bit_of (page_of size (code_of w) 1 1 p (fresh_payload size raw p w)) i) (fresh_kind-inventory size k p is at)
-              ∙ ap (λ m. bit_of (page_of size 2 1 1 p (inventory_payload size m (fresh_count size raw - m * bits_in size))) i) (inventory_index size k p is at)
-              ∙ bit_of-inventory size 2 1 1 p k held i (omega arith)
-              ∙ taken_bits-free (size - 32) held i (omega arith) (omega arith);
+          ∙ ap (λ m. bit_of (page_of size 2 1 1 p (inventory_payload size m (fresh_count size raw - m * bits_in size))) i) (inventory_index size k p is at)
+          ∙ bit_of-inventory size 2 1 1 p k held i (omega arith)
+          ∙ taken_bits-free (size - 32) held i (omega arith) (omega arith);
       entries = λ q at.
           ap (λ w. entry_of (page_of size (code_of w) 1 1 p (fresh_payload size raw p w)) (q % entries_in size)) (fresh_kind-scn size (q / entries_in size) p is at)
-              ∙ entry_of-scn size 10 1 1 p (p / entries_in size) 1 (q % entries_in size) (omega arith) (omega arith);
+          ∙ entry_of-scn size 10 1 1 p (p / entries_in size) 1 (q % entries_in size) (omega arith) (omega arith);
     }

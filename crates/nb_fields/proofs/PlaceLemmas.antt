@@ -1,6 +1,6 @@
 -- The places of the system pages, for the six page sizes.
-use Rattle.std.proofs.Common.{◌≡◌, ◌≢◌, ℕ, zero, suc, ◌+◌, ◌-◌, ◌*◌, ◌/◌, ◌%◌, ◌<◌, ◌≤◌, Bool, true, false, ⊎_elim, refl, sym, ap, subst, ◌∙◌, arith}
-use Rattle.std.specs.Prelude.{IsTrue, ◌==◌, ◌||◌, ◌&&◌, nat_lt, if◌then◌else◌}
+use Rattle.std.proofs.Common.{◌≡◌, ℕ, zero, suc, ◌+◌, ◌*◌, ◌/◌, ◌%◌, ◌<◌, ◌≤◌, true, sym, ap, ◌∙◌, arith}
+use Rattle.std.specs.Prelude.{IsTrue, ◌==◌, ◌||◌, ◌&&◌, nat_lt}
 use Rattle.std.proofs.Math.Nat.{mul-div_cancel, mul-mod_left, div-eq_of_lt, mul-add-mod_self_right, mod-eq_of_lt}
 use Rattle.std.proofs.lemmas.Bool.{eq-eqb, ne_eqb, lt-ltb, cond-true, cond-false, or_from, or_right, or_left, and_from}
 use Rattle.nb_fields.specs.declared.kinds.PageKind.TheVariants.{Inventory, ScnInventory}
@@ -70,7 +70,7 @@ is_scn_place-at size (suc k) p is at =
     let least = entries-least size is in
     let more : entries_in size ≤ suc k * entries_in size = omega arith in
     or_right (p == 2) (nat_lt 0 p && p % entries_in size == 0)
-        (and_from (nat_lt 0 p) (p % entries_in size == 0) (lt-ltb 0 p (omega arith)) (eq-eqb (p % entries_in size) 0 (ap (λ n. n % entries_in size) (sym at) ∙ mul-mod_left (suc k) (entries_in size))))
+    (and_from (nat_lt 0 p) (p % entries_in size == 0) (lt-ltb 0 p (omega arith)) (eq-eqb (p % entries_in size) 0 (ap (λ n. n % entries_in size) (sym at) ∙ mul-mod_left (suc k) (entries_in size))))
 
 -- no inventory page stands there
 scn_place-apart : (size k p : ℕ) → IsTrue (is_page_size size) → scn_place size k ≡ p → (p + 1) % bits_in size ≡ 0 → ⊥
@@ -106,5 +106,5 @@ fresh_kind-scn size k p is at =
     let not_first : p ≡ 0 → ⊥ = λ e. absurd (omega (arith, at, e, some)) in
     let not_second : p ≡ 1 → ⊥ = λ e. absurd (omega (arith, at, e, some)) in
     cond-false (p == 0) _ _ (ne_eqb p 0 not_first)
-        ∙ cond-false (p == 1 || (p + 1) % bits_in size == 0) _ _ (or_from (p == 1) ((p + 1) % bits_in size == 0) (ne_eqb p 1 not_second) (ne_eqb ((p + 1) % bits_in size) 0 (scn_place-apart size k p is at)))
-        ∙ cond-true (is_scn_place size p) _ _ (is_scn_place-at size k p is at)
+    ∙ cond-false (p == 1 || (p + 1) % bits_in size == 0) _ _ (or_from (p == 1) ((p + 1) % bits_in size == 0) (ne_eqb p 1 not_second) (ne_eqb ((p + 1) % bits_in size) 0 (scn_place-apart size k p is at)))
+    ∙ cond-true (is_scn_place size p) _ _ (is_scn_place-at size k p is at)

@@ -67,21 +67,21 @@ header_in-control_block page header long guid_len pending_len size_fits state_fi
     let scn : number_in 28 4 (front ++ rest) ≡ header.scn = ap number_of (part-append 16 12 4 front rest len) ∙ number_of-bytes_of 4 header.scn scn_fits in
     let guid : part 32 16 (front ++ rest) ≡ header.guid = part-append 16 16 16 front rest len ∙ ap (take 16) guids ∙ take_at header.guid _ 16 guid_len in
     let pending : part 48 16 (front ++ rest) ≡ header.pending =
-        part-append 16 32 16 front rest len ∙ ap (take 16) (sym (drop-drop 16 16 rest) ∙ ap (drop 16) guids ∙ drop_at header.guid _ 16 guid_len) ∙ take_at header.pending _ 16 pending_len in
+    part-append 16 32 16 front rest len ∙ ap (take 16) (sym (drop-drop 16 16 rest) ∙ ap (drop 16) guids ∙ drop_at header.guid _ 16 guid_len) ∙ take_at header.pending _ 16 pending_len in
     rw (size, state, scn, guid, pending) refl
 
 -- what the form asks of the fields, as the test of it
 pub is_sound-form : (header : Header) → HasForm header → is_sound header.state header.page_size header.scn ≡ true
 is_sound-form header form =
     let room : (not (header.state == 1) || nat_lt header.scn 4294967295) ≡ true = ⊎_elim
-        (λ stalled. or_right (not (header.state == 1)) (nat_lt header.scn 4294967295) (lt-ltb header.scn 4294967295 (form.room stalled)))
-        (λ other. or_left (not (header.state == 1)) (nat_lt header.scn 4294967295) (not_from_false (header.state == 1) (ne_eqb header.state 1 other)))
-        (cases_eq header.state 1) in
+    (λ stalled. or_right (not (header.state == 1)) (nat_lt header.scn 4294967295) (lt-ltb header.scn 4294967295 (form.room stalled)))
+    (λ other. or_left (not (header.state == 1)) (nat_lt header.scn 4294967295) (not_from_false (header.state == 1) (ne_eqb header.state 1 other)))
+    (cases_eq header.state 1) in
     and_from (nat_le header.state 3 && is_page_size header.page_size && nat_le 1 header.scn) _
-        (and_from (nat_le header.state 3 && is_page_size header.page_size) (nat_le 1 header.scn)
-        (and_from (nat_le header.state 3) (is_page_size header.page_size) (le-leb header.state 3 form.state) form.size)
-        (le-leb 1 header.scn form.scn))
-        room
+    (and_from (nat_le header.state 3 && is_page_size header.page_size) (nat_le 1 header.scn)
+    (and_from (nat_le header.state 3) (is_page_size header.page_size) (le-leb header.state 3 form.state) form.size)
+    (le-leb 1 header.scn form.scn))
+    room
 
 -- page 0 with such a control block is a header
 pub is_header-control_block : (page : List ℕ) (header : Header) → 64 ≤ length page

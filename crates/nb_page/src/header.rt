@@ -6,8 +6,8 @@ ghost use Rattle.nb_fields.specs.Header.{is_header, is_marked, is_sound};
 ghost use Rattle.nb_fields.specs.Payloads.{control_block};
 ghost use Rattle.nb_page.specs.Header.{header_in, HasForm};
 
-use nb_fields::layouts::{head, header};
 use nb_fields::fields;
+use nb_fields::layouts::{head, header};
 
 /// What the control block of a database holds.
 #[derive(Clone, Copy, Debug, PartialEq, Eq)]

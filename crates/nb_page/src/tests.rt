@@ -1,4 +1,6 @@
-use crate::{Header, fresh, fresh_count, put_text, raw_text, read_head, read_header, stamp, write_header};
+use crate::{
+    Header, fresh, fresh_count, put_text, raw_text, read_head, read_header, stamp, write_header,
+};
 use std::test::Fail;
 
 #[test]
@@ -7,7 +9,11 @@ fn a_new_database_is_as_the_format_says(rt: HostRuntime) -> Result<(), Fail> {
     let count = fresh_count(1024, 8);
     assert_eq!(rt; count, 13);
     fresh(&mut page, 8, 0);
-    assert!(rt; page.starts_with(b"\x01\0\0\0\x01\0\0\0\x01\0\0\0\0\0\0\0NBDB\x01\0\0\0\0\x04\0\0\x01\0\0\0"));
+    assert!(rt;
+        page.starts_with(
+            b"\x01\0\0\0\x01\0\0\0\x01\0\0\0\0\0\0\0NBDB\x01\0\0\0\0\x04\0\0\x01\0\0\0"
+        )
+    );
     assert!(rt; page[32..64].iter().all(|byte| *byte == 0));
     assert!(rt; page[64..].starts_with(b"\x01\0\0\0\0\0\0\0\x03\0\0\0\x04\0\0\0"));
     fresh(&mut page, 8, 1);

@@ -1,5 +1,5 @@
-use Rattle.std.proofs.Common.{◌≡◌, ◌∙◌, ℕ, suc, ◌+◌, ◌-◌, ◌*◌, ◌<◌, ◌≤◌, sym, ap, arith}
-use Rattle.nb_fields.specs.Fresh.{next_plain, length_after, fresh_count}
+use Rattle.std.proofs.Common.{◌∙◌, ℕ, ◌+◌, ◌-◌, sym, ap, arith}
+use Rattle.nb_fields.specs.Fresh.{length_after}
 use Rattle.nb_fields.proofs.FreshLemmas.{length_after-none, length_after-more, fresh_count-is}
 use Rattle.nb_page.proofs.count.fresh_count.Goals as goal
 

@@ -1,7 +1,7 @@
-use Rattle.std.proofs.Common.{◌≡◌, ◌∙◌, ℕ, ◌+◌, ◌-◌, ◌*◌, ◌<◌, ◌≤◌, List, [], length, drop, replicate, sym, subst, ap, arith}
+use Rattle.std.proofs.Common.{◌≡◌, ◌∙◌, ℕ, ◌-◌, List, [], length, drop, replicate, sym, subst, ap, arith}
 use Rattle.nb_fields.specs.Kinds.{code_of}
 use Rattle.nb_fields.specs.Page.{page_of, with_payload}
-use Rattle.nb_fields.specs.Fresh.{fresh_count, fresh_kind, fresh_payload, fresh_page, ShowsFresh}
+use Rattle.nb_fields.specs.Fresh.{fresh_kind, fresh_payload, fresh_page, ShowsFresh}
 use Rattle.nb_fields.proofs.SizeLemmas.{size_facts}
 use Rattle.nb_fields.proofs.PageLemmas.{drop-page_of-none, with_payload-page_of}
 use Rattle.nb_fields.proofs.FreshLemmas.{fresh_count-most}
@@ -19,7 +19,7 @@ begun : (c : After-stamp) → c.stamp.new.page ≡ page_of (length c.args.page.n
 begun c =
     let size = size_facts (length c.args.page.now) c.requires.size in
     page_begun (length c.args.page.now) c.code.result (code_of (fresh_kind (length c.args.page.now) c.args.number)) c.args.number c.fill.new.self c.stamp.new.page
-        (omega arith) (c.fill.ensures.after (λ y e. e)) (c.code.ensures ∙ ap code_of c.fresh_kind-kind.ensures) c.stamp.ensures.written
+    (omega arith) (c.fill.ensures.after (λ y e. e)) (c.code.ensures ∙ ap code_of c.fresh_kind-kind.ensures) c.stamp.ensures.written
 
 pub fill_payload-requires-clause-blank : goal.fill_payload-requires-clause-blank
 fill_payload-requires-clause-blank c =
@@ -37,10 +37,10 @@ returns-clause-image c =
     let page = begun (goal.at.returns-clause-image c).After-stamp in
     let len : length c.stamp.new.page ≡ n = c.stamp.auto.page ∙ c.fill.ensures.len in
     c.fill_payload.ensures
-        ∙ ap (λ m. with_payload c.stamp.new.page (fresh_payload m c.args.raw number c.fresh_kind-kind.result)) len
-        ∙ ap (λ k. with_payload c.stamp.new.page (fresh_payload n c.args.raw number k)) c.fresh_kind-kind.ensures
-        ∙ ap (λ p. with_payload p (fresh_payload n c.args.raw number (fresh_kind n number))) page
-        ∙ with_payload-page_of n (code_of (fresh_kind n number)) 1 1 number [] (fresh_payload n c.args.raw number (fresh_kind n number)) (omega arith)
+    ∙ ap (λ m. with_payload c.stamp.new.page (fresh_payload m c.args.raw number c.fresh_kind-kind.result)) len
+    ∙ ap (λ k. with_payload c.stamp.new.page (fresh_payload n c.args.raw number k)) c.fresh_kind-kind.ensures
+    ∙ ap (λ p. with_payload p (fresh_payload n c.args.raw number (fresh_kind n number))) page
+    ∙ with_payload-page_of n (code_of (fresh_kind n number)) 1 1 number [] (fresh_payload n c.args.raw number (fresh_kind n number)) (omega arith)
 
 pub returns-clause-shows : goal.returns-clause-shows
 returns-clause-shows c =
