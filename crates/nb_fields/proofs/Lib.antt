@@ -6,4 +6,5 @@ pub mod HeaderLemmas
 pub mod FreshLemmas
 pub mod PlaceLemmas
 pub mod FreshLaws
+pub mod PlainLemmas
 mod Rows
