@@ -1,5 +1,5 @@
 -- The length of a new database, one raw page after another.
-use Rattle.std.proofs.Common.{◌≡◌, ℕ, zero, suc, ◌+◌, ◌*◌, ◌≤◌, refl, ap, ◌∙◌, arith}
+use Rattle.std.proofs.Common.{◌≡◌, ℕ, zero, suc, ◌+◌, ◌*◌, ◌≤◌, ap, arith}
 use Rattle.std.specs.Prelude.{if◌then◌else◌}
 use Rattle.std.proofs.lemmas.Bool.{cond_both}
 use Rattle.nb_fields.specs.Places.{is_system_place}
@@ -24,7 +24,7 @@ pub next_plain-most : (size p : ℕ) → next_plain size p ≤ p + 2
 unfolding next_plain
 next_plain-most size p =
     cond_both (is_system_place size p) (if is_system_place size (p + 1) then p + 2 else p + 1) p (λ n. n ≤ p + 2)
-        (λ at_p. cond_both (is_system_place size (p + 1)) (p + 2) (p + 1) (λ n. n ≤ p + 2) (λ at_next. omega arith) (λ plain. omega arith)) (λ plain. omega arith)
+    (λ at_p. cond_both (is_system_place size (p + 1)) (p + 2) (p + 1) (λ n. n ≤ p + 2) (λ at_next. omega arith) (λ plain. omega arith)) (λ plain. omega arith)
 
 -- so neither is the end
 pub length_after-most : (size raw p : ℕ) → length_after size raw p ≤ p + 3 * raw

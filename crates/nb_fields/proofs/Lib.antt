@@ -4,4 +4,7 @@ pub mod PageLemmas
 pub mod SizeLemmas
 pub mod HeaderLemmas
 pub mod FreshLemmas
+pub mod PlaceLemmas
+pub mod FreshLaws
+pub mod PlainLemmas
 mod Rows

@@ -1,7 +1,7 @@
 -- Numbers as bytes, the lowest first.
-use Rattle.std.proofs.Common.{◌≡◌, ℕ, zero, suc, ◌+◌, ◌-◌, ◌*◌, ◌/◌, ◌%◌, ◌^◌, ◌<◌, ◌≤◌, List, [], ◌∷◌, ◌++◌, length, get_or, take, drop, replicate, refl, ap, ◌∙◌, arith, length-drop}
+use Rattle.std.proofs.Common.{◌≡◌, ℕ, zero, suc, ◌+◌, ◌-◌, ◌*◌, ◌/◌, ◌%◌, ◌^◌, ◌<◌, ◌≤◌, List, [], ◌∷◌, ◌++◌, length, get_or, take, drop, replicate, refl, ap, ◌∙◌, arith}
 use Rattle.std.proofs.Math.Nat.{div-div-eq-div-mul, pow-suc}
-use Rattle.std.proofs.lemmas.List.{drop_all}
+use Rattle.std.proofs.lemmas.List.{drop_all, drop-replicate}
 use Rattle.std.specs.Int.{from_le_bytes, to_le_bytes, w64}
 use Rattle.nb_fields.specs.Bytes.{number_of, bytes_of}
 
@@ -55,6 +55,9 @@ pub number_of-zeros : (n : ℕ) → number_of (replicate n 0) ≡ 0
 unfolding number_of
 number_of-zeros zero = refl
 number_of-zeros (suc n) = let rest = number_of-zeros n in omega arith
+
+pub number_of-drop_zeros : (k n : ℕ) → number_of (drop k (replicate n 0)) ≡ 0
+number_of-drop_zeros k n = ap number_of (drop-replicate k n 0) ∙ number_of-zeros (n - k)
 
 -- so many bytes spell no greater number
 pub number_of-lt : (bs : List ℕ) → ((i : ℕ) → get_or bs i 0 < 256) → number_of bs < 256 ^ length bs

@@ -1,11 +1,11 @@
 -- Pages made of a head and a payload.
-use Rattle.std.proofs.Common.{◌≡◌, ℕ, zero, suc, ◌+◌, ◌*◌, ◌-◌, ◌%◌, ◌^◌, ◌<◌, ◌≤◌, List, [], ◌∷◌, ◌++◌, length, take, drop, replicate, refl, sym, ap, ◌∙◌, arith, append_assoc, length-append, length-drop}
-use Rattle.std.proofs.lemmas.List.{length-take-le, length-replicate, drop_all, drop_at, take_at, drop-drop, take-append-le, drop-append-le, take_all, append-nil, drop-replicate, take-replicate, replicate-append-replicate}
+use Rattle.std.proofs.Common.{◌≡◌, ℕ, ◌+◌, ◌*◌, ◌-◌, ◌%◌, ◌^◌, ◌<◌, ◌≤◌, List, [], ◌∷◌, ◌++◌, length, take, drop, replicate, refl, sym, ap, ◌∙◌, arith, append_assoc, length-append, length-drop}
+use Rattle.std.proofs.lemmas.List.{length-take-le, length-replicate, drop_all, drop_at, take_at, drop-drop, take-append-le, drop-append-le, append-nil, drop-replicate, take-replicate, replicate-append-replicate}
 use borrow.Rule.Slice.PartMut.{put_mid}
-use Rattle.nb_fields.specs.Bytes.{bytes_of, number_of, number_in, part, with_part, padded}
+use Rattle.nb_fields.specs.Bytes.{bytes_of, number_of, number_in, with_part, padded, part}
 use Rattle.nb_fields.specs.Page.{head_of, page_of, with_payload, stamped, generation_of}
 use Rattle.nb_fields.specs.Payloads.{text_payload, text_of}
-use Rattle.nb_fields.proofs.NumberLemmas.{length-bytes_of, number_of-bytes_of}
+use Rattle.nb_fields.proofs.NumberLemmas.{number_of-bytes_of}
 
 pub length-padded : (size : ℕ) (bytes : List ℕ) → length bytes ≤ size → length (padded size bytes) ≡ size
 unfolding padded
@@ -32,9 +32,10 @@ padded-append size front bytes =
 pub take-padded : (n size : ℕ) (bytes : List ℕ) → length bytes ≤ n → n ≤ size → take n (padded size bytes) ≡ padded n bytes
 unfolding padded
 take-padded n size bytes h k =
-    let zeros : replicate (size - length bytes) 0 ≡ replicate (n - length bytes) 0 ++ replicate (size - n) 0 = ap (λ m. replicate m 0) (let e : size - length bytes ≡ n - length bytes + (size - n) = omega arith in e) ∙ sym (replicate-append-replicate (n - length bytes) (size - n) 0) in
-    ap (λ zs. take n (bytes ++ zs)) zeros ∙ ap (take n) (sym (append_assoc bytes (replicate (n - length bytes) 0) (replicate (size - n) 0)))
-        ∙ take_at (bytes ++ replicate (n - length bytes) 0) (replicate (size - n) 0) n (omega (arith, length-append bytes (replicate (n - length bytes) 0), length-replicate {A = ℕ} (n - length bytes) 0))
+    let zeros : replicate {A = ℕ} (size - length bytes) 0 ≡ replicate {A = ℕ} (n - length bytes) 0 ++ replicate {A = ℕ} (size - n) 0 = ap (λ m. replicate m 0) (let e : size - length bytes ≡ n - length bytes + (size - n) = omega arith in e) ∙ sym (replicate-append-replicate (n - length bytes) (size - n) 0) in
+    let front : List ℕ = bytes ++ replicate (n - length bytes) 0 in
+    let len : length front ≡ n = omega (arith, length-append bytes (replicate (n - length bytes) 0), length-replicate {A = ℕ} (n - length bytes) 0) in
+    ap (λ zs. take n (bytes ++ zs)) zeros ∙ ap (take n) (sym (append_assoc bytes (replicate (n - length bytes) 0) (replicate (size - n) 0))) ∙ take_at front (replicate (size - n) 0) n len
 
 -- bytes written behind what stands, where zeros stand
 pub with_part-padded : (size at : ℕ) (bytes front : List ℕ) → length front ≤ at → at + length bytes ≤ size
@@ -46,18 +47,18 @@ with_part-padded size at bytes front h k =
     let zeros : List ℕ = replicate (size - length front) 0 in
     let start : take at (front ++ zeros) ≡ padded at front = ap (λ n. take at (front ++ replicate n 0)) refl ∙ take-padded at size front h (omega arith) in
     let behind : drop (at + w) (front ++ zeros) ≡ replicate (size - (at + w)) 0 =
-        ap (λ n. drop n (front ++ zeros)) (let e : at + w ≡ length front + (gap + w) = omega arith in e)
-        ∙ sym (drop-drop (gap + w) (length front) (front ++ zeros))
-        ∙ ap (drop (gap + w)) (drop_at front zeros (length front) refl)
-        ∙ drop-replicate (gap + w) (size - length front) 0
-        ∙ ap (λ n. replicate n 0) (let e : size - length front - (gap + w) ≡ size - (at + w) = omega arith in e) in
+    ap (λ n. drop n (front ++ zeros)) (let e : at + w ≡ length front + (gap + w) = omega arith in e)
+    ∙ sym (drop-drop (gap + w) (length front) (front ++ zeros))
+    ∙ ap (drop (gap + w)) (drop_at front zeros (length front) refl)
+    ∙ drop-replicate (gap + w) (size - length front) 0
+    ∙ ap (λ n. replicate n 0) (let e : size - length front - (gap + w) ≡ size - (at + w) = omega arith in e) in
     let len : length (front ++ (replicate gap 0 ++ bytes)) ≡ at + w = omega (arith, length-append front (replicate gap 0 ++ bytes), length-append (replicate gap 0) bytes, length-replicate {A = ℕ} gap 0) in
     ap (λ xs. xs ++ (bytes ++ drop (at + w) (front ++ zeros))) start
-        ∙ ap (λ xs. (front ++ replicate gap 0) ++ (bytes ++ xs)) behind
-        ∙ append_assoc front (replicate gap 0) (bytes ++ replicate (size - (at + w)) 0)
-        ∙ ap (λ xs. front ++ xs) (sym (append_assoc (replicate gap 0) bytes (replicate (size - (at + w)) 0)))
-        ∙ sym (append_assoc front (replicate gap 0 ++ bytes) (replicate (size - (at + w)) 0))
-        ∙ ap (λ n. (front ++ (replicate gap 0 ++ bytes)) ++ replicate n 0) (let e : size - (at + w) ≡ size - length (front ++ (replicate gap 0 ++ bytes)) = omega arith in e)
+    ∙ ap (λ xs. (front ++ replicate gap 0) ++ (bytes ++ xs)) behind
+    ∙ append_assoc front (replicate gap 0) (bytes ++ replicate (size - (at + w)) 0)
+    ∙ ap (λ xs. front ++ xs) (sym (append_assoc (replicate gap 0) bytes (replicate (size - (at + w)) 0)))
+    ∙ sym (append_assoc front (replicate gap 0 ++ bytes) (replicate (size - (at + w)) 0))
+    ∙ ap (λ n. (front ++ (replicate gap 0 ++ bytes)) ++ replicate n 0) (let e : size - (at + w) ≡ size - length (front ++ (replicate gap 0 ++ bytes)) = omega arith in e)
 
 -- bytes written one after another are written at once
 pub with_part-append : (at : ℕ) (xs ys page : List ℕ) → at + length xs ≤ length page → with_part (at + length xs) ys (with_part at xs page) ≡ with_part at (xs ++ ys) page
@@ -65,16 +66,16 @@ with_part-append at xs ys page h =
     let front : length (take at page) ≡ at = length-take-le at page (omega arith) in
     let rest : List ℕ = drop (at + length xs) page in
     let start : take (at + length xs) (with_part at xs page) ≡ take at page ++ xs =
-        ap (take (at + length xs)) (sym (append_assoc (take at page) xs rest)) ∙ take_at (take at page ++ xs) rest (at + length xs) (omega (arith, length-append (take at page) xs)) in
+    ap (take (at + length xs)) (sym (append_assoc (take at page) xs rest)) ∙ take_at (take at page ++ xs) rest (at + length xs) (omega (arith, length-append (take at page) xs)) in
     let behind : drop (at + length xs + length ys) (with_part at xs page) ≡ drop (at + length (xs ++ ys)) page =
-        sym (drop-drop (length ys) (at + length xs) (with_part at xs page))
-        ∙ ap (drop (length ys)) (ap (drop (at + length xs)) (sym (append_assoc (take at page) xs rest)) ∙ drop_at (take at page ++ xs) rest (at + length xs) (omega (arith, length-append (take at page) xs)))
-        ∙ drop-drop (length ys) (at + length xs) page
-        ∙ ap (λ n. drop n page) (let e : at + length xs + length ys ≡ at + length (xs ++ ys) = omega (arith, length-append xs ys) in e) in
+    sym (drop-drop (length ys) (at + length xs) (with_part at xs page))
+    ∙ ap (drop (length ys)) (ap (drop (at + length xs)) (sym (append_assoc (take at page) xs rest)) ∙ drop_at (take at page ++ xs) rest (at + length xs) (omega (arith, length-append (take at page) xs)))
+    ∙ drop-drop (length ys) (at + length xs) page
+    ∙ ap (λ n. drop n page) (let e : at + length xs + length ys ≡ at + length (xs ++ ys) = omega (arith, length-append xs ys) in e) in
     ap (λ zs. zs ++ (ys ++ drop (at + length xs + length ys) (with_part at xs page))) start
-        ∙ ap (λ zs. (take at page ++ xs) ++ (ys ++ zs)) behind
-        ∙ append_assoc (take at page) xs (ys ++ drop (at + length (xs ++ ys)) page)
-        ∙ ap (λ zs. take at page ++ zs) (sym (append_assoc xs ys (drop (at + length (xs ++ ys)) page)))
+    ∙ ap (λ zs. (take at page ++ xs) ++ (ys ++ zs)) behind
+    ∙ append_assoc (take at page) xs (ys ++ drop (at + length (xs ++ ys)) page)
+    ∙ ap (λ zs. take at page ++ zs) (sym (append_assoc xs ys (drop (at + length (xs ++ ys)) page)))
 
 -- the same for three pages, one after another
 pub written_next : (at next : ℕ) (xs ys first second third : List ℕ) → second ≡ with_part at xs first → third ≡ with_part next ys second → next ≡ at + length xs → at + length xs ≤ length first
@@ -98,7 +99,7 @@ unfolding with_payload page_of
 with_payload-page_of size kind generation scn number old payload h =
     let head : List ℕ = head_of kind generation scn number in
     ap (λ xs. xs ++ padded (length (head ++ padded (size - 16) old) - 16) payload) (take_at head (padded (size - 16) old) 16 (length-head_of kind generation scn number))
-        ∙ ap (λ n. head ++ padded (n - 16) payload) (let e : length (head ++ padded (size - 16) old) ≡ size = length-page_of size kind generation scn number old h in e)
+    ∙ ap (λ n. head ++ padded (n - 16) payload) (let e : length (head ++ padded (size - 16) old) ≡ size = length-page_of size kind generation scn number old h in e)
 
 -- a page that is stamped and then gets another payload is stamped with that
 pub with_payload-stamped : (old : List ℕ) (kind : ℕ) (before payload : List ℕ) (scn number : ℕ) → 16 + length before ≤ length old
@@ -114,7 +115,7 @@ module _ (size kind generation scn number : ℕ) (payload : List ℕ) where
       let head : List ℕ = head_of kind generation scn number in
       let len = length-head_of kind generation scn number in
       ap (λ xs. number_of (take w xs)) (drop-append-le at head (padded (size - 16) payload) (omega arith))
-          ∙ ap number_of (take-append-le w (drop at head) (padded (size - 16) payload) (omega (arith, length-drop at head)))
+      ∙ ap number_of (take-append-le w (drop at head) (padded (size - 16) payload) (omega (arith, length-drop at head)))
 
   pub kind_of-page_of : number_in 0 1 (page_of size kind generation scn number payload) ≡ kind
   unfolding number_in head_of number_of
@@ -143,12 +144,12 @@ filled at end k bytes page zeros before place room rest are =
     let len : length (take at page ++ bytes) ≡ end = omega (arith, length-append (take at page) bytes) in
     let start : take end (with_part at bytes page) ≡ take at page ++ bytes = ap (take end) whole ∙ take_at (take at page ++ bytes) tail end len in
     let behind : drop k (drop end (with_part at bytes page)) ≡ [] =
-        ap (λ xs. drop k xs) (ap (drop end) whole ∙ drop_at (take at page ++ bytes) tail end len) ∙ drop_all k tail (omega (arith, length-drop (at + length bytes) page)) in
+    ap (λ xs. drop k xs) (ap (drop end) whole ∙ drop_at (take at page ++ bytes) tail end len) ∙ drop_all k tail (omega (arith, length-drop (at + length bytes) page)) in
     let zeros_are : zeros ≡ replicate (length page - at - length bytes) 0 = are ∙ ap (λ n. replicate n 0) (let e : k ≡ length page - at - length bytes = omega arith in e) in
     ap (λ xs. xs ++ (zeros ++ drop k (drop end (with_part at bytes page)))) start
-        ∙ ap (λ xs. (take at page ++ bytes) ++ (zeros ++ xs)) behind
-        ∙ ap (λ xs. (take at page ++ bytes) ++ xs) (append-nil zeros ∙ zeros_are)
-        ∙ append_assoc (take at page) bytes (replicate (length page - at - length bytes) 0)
+    ∙ ap (λ xs. (take at page ++ bytes) ++ (zeros ++ xs)) behind
+    ∙ ap (λ xs. (take at page ++ bytes) ++ xs) (append-nil zeros ∙ zeros_are)
+    ∙ append_assoc (take at page) bytes (replicate (length page - at - length bytes) 0)
 
 -- the text of a page is the text that was put into it
 pub text_of-payload : (size : ℕ) (head text : List ℕ) → length head ≡ 16 → length text ≤ 200 → text_of (head ++ padded size (text_payload text)) ≡ text
@@ -214,7 +215,7 @@ stamped-zeros size kind scn number long =
     let once : (generation_of zeros + 1) % 2 ^ 32 ≡ 1 = ap (λ n. (n + 1) % 2 ^ 32) never in
     let rest : drop 16 zeros ≡ replicate (size - 16) 0 = drop-replicate 16 size 0 in
     let whole : padded (length zeros - 16) (drop 16 zeros) ≡ replicate (size - 16 - 0) 0 =
-        padded_whole (length zeros - 16) (drop 16 zeros) (length-drop 16 zeros) ∙ rest ∙ ap (λ n. replicate n 0) (let e : size - 16 ≡ size - 16 - 0 = omega arith in e) in
+    padded_whole (length zeros - 16) (drop 16 zeros) (length-drop 16 zeros) ∙ rest ∙ ap (λ n. replicate n 0) (let e : size - 16 ≡ size - 16 - 0 = omega arith in e) in
     ap (λ xs. head_of kind ((generation_of zeros + 1) % 2 ^ 32) scn number ++ xs) whole ∙ ap (λ g. head_of kind g scn number ++ replicate (size - 16 - 0) 0) once
 
 -- what stands behind the head of a page without a payload
@@ -222,3 +223,12 @@ pub drop-page_of-none : (size kind generation scn number : ℕ) → drop 16 (pag
 unfolding page_of padded
 drop-page_of-none size kind generation scn number =
     drop_at (head_of kind generation scn number) (replicate (size - 16 - 0) 0) 16 (length-head_of kind generation scn number) ∙ ap (λ n. replicate n 0) (let e : size - 16 - 0 ≡ size - 16 = omega arith in e)
+
+-- parts behind a front of the page
+pub part-append : (n at w : ℕ) (front rest : List ℕ) → length front ≡ n → part (n + at) w (front ++ rest) ≡ part at w rest
+part-append n at w front rest len = ap (take w) (sym (drop-drop at n (front ++ rest)) ∙ ap (drop at) (drop_at front rest n len))
+
+-- what stands behind the head of a page, whole again
+pub drop-page_of : (size kind generation scn number : ℕ) (payload : List ℕ) → drop 16 (page_of size kind generation scn number payload) ≡ padded (size - 16) payload
+unfolding page_of
+drop-page_of size kind generation scn number payload = drop_at (head_of kind generation scn number) (padded (size - 16) payload) 16 (length-head_of kind generation scn number)

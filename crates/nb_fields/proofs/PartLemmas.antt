@@ -1,5 +1,5 @@
 -- Parts of a page, read and written.
-use Rattle.std.proofs.Common.{◌≡◌, ℕ, zero, suc, ◌+◌, ◌-◌, ◌^◌, ◌<◌, ◌≤◌, ◌⊎◌, ⊎_elim, List, [], ◌∷◌, ◌++◌, length, get_or, take, drop, refl, sym, ap, ◌∙◌, subst, arith, length-drop, length-append, append_assoc}
+use Rattle.std.proofs.Common.{◌≡◌, ℕ, zero, suc, ◌+◌, ◌-◌, ◌^◌, ◌<◌, ◌≤◌, ⊎_elim, List, [], ◌∷◌, ◌++◌, length, get_or, take, drop, refl, sym, ap, ◌∙◌, subst, arith, length-drop, length-append, append_assoc}
 use Rattle.std.proofs.lemmas.List.{length-take-le, drop_at, take_at, drop-drop, drop-append-le, take-append-le, drop-take, take-take}
 use borrow.Rule.Slice.PartMut.{put_mid}
 use Rattle.nb_fields.specs.Bytes.{number_of, bytes_of, part, number_in, with_part, AreApart}
@@ -40,7 +40,7 @@ pub take-with_part : (at end : ℕ) (bytes page : List ℕ) → at ≤ length pa
 take-with_part at end bytes page h place =
     let len = length-take-le at page h in
     ap (take end) (sym (append_assoc (take at page) bytes (drop (at + length bytes) page)))
-        ∙ take_at (take at page ++ bytes) (drop (at + length bytes) page) end (omega (arith, length-append (take at page) bytes))
+    ∙ take_at (take at page ++ bytes) (drop (at + length bytes) page) end (omega (arith, length-append (take at page) bytes))
 
 -- the part that was written is what was written
 pub part-with_part : (at w : ℕ) (bytes page : List ℕ) → length bytes ≡ w → at ≤ length page → part at w (with_part at bytes page) ≡ bytes
@@ -56,9 +56,9 @@ part-with_part_before at by v bytes page h before =
     let whole : drop by (take (by + (at - by)) page) ≡ take (at - by) (drop by page) = drop-take by (at - by) page in
     let same : by + (at - by) ≡ at = omega arith in
     ap (take v) (drop-append-le by (take at page) rest (omega arith))
-        ∙ take-append-le v (drop by (take at page)) rest (omega (arith, length-drop by (take at page)))
-        ∙ ap (take v) (ap (λ n. drop by (take n page)) (sym same) ∙ whole)
-        ∙ take-take v (at - by) (drop by page) (omega arith)
+    ∙ take-append-le v (drop by (take at page)) rest (omega (arith, length-drop by (take at page)))
+    ∙ ap (take v) (ap (λ n. drop by (take n page)) (sym same) ∙ whole)
+    ∙ take-take v (at - by) (drop by page) (omega arith)
 
 -- what lies behind it stays
 pub drop-with_part : (at by : ℕ) (bytes page : List ℕ) → at ≤ length page → at + length bytes ≤ by → drop by (with_part at bytes page) ≡ drop by page
@@ -69,12 +69,12 @@ drop-with_part at by bytes page h after =
     let there : at + (w + j) ≡ by = omega arith in
     let here : drop at (with_part at bytes page) ≡ bytes ++ rest = drop_at (take at page) (bytes ++ rest) at (length-take-le at page h) in
     ap (λ n. drop n (with_part at bytes page)) (sym there)
-        ∙ sym (drop-drop (w + j) at (with_part at bytes page))
-        ∙ ap (drop (w + j)) here
-        ∙ sym (drop-drop j w (bytes ++ rest))
-        ∙ ap (drop j) (drop_at bytes rest w refl)
-        ∙ drop-drop j (at + w) page
-        ∙ ap (λ n. drop n page) (omega arith)
+    ∙ sym (drop-drop (w + j) at (with_part at bytes page))
+    ∙ ap (drop (w + j)) here
+    ∙ sym (drop-drop j w (bytes ++ rest))
+    ∙ ap (drop j) (drop_at bytes rest w refl)
+    ∙ drop-drop j (at + w) page
+    ∙ ap (λ n. drop n page) (omega arith)
 
 -- a part that shares no byte with it stays
 pub part-with_part_other : (at w by v : ℕ) (bytes page : List ℕ) → length bytes ≡ w → at + w ≤ length page → AreApart at w by v → part by v (with_part at bytes page) ≡ part by v page

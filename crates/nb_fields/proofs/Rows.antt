@@ -1,13 +1,24 @@
 -- Worked pages: the definitions compute.
-use Rattle.std.proofs.Common.{◌≡◌, [], ◌∷◌, ◌++◌, length, get_or, take, drop, refl, replicate, Ok, Err, Some, None, true, false}
+use Rattle.std.proofs.Common.{◌≡◌, [], ◌∷◌, ◌++◌, length, take, drop, refl, replicate, Ok, Err, Some, None, true, false}
 use Rattle.std.specs.Prelude.{map}
 use Rattle.nb_fields.specs.Opened.{opened}
+use Rattle.nb_fields.specs.Places.{entries_in, bits_in, slots_in}
 use Rattle.nb_fields.specs.Header.{is_header}
 use Rattle.nb_fields.specs.Fresh.{fresh, fresh_count, fresh_page}
 use Rattle.nb_fields.specs.Free.{is_free_file}
 use Rattle.nb_fields.specs.Table.{table_of}
-use Rattle.nb_fields.specs.Page.{page_of, stamped}
-use Rattle.nb_fields.specs.Payloads.{text_payload, data_payload}
+use Rattle.nb_fields.specs.Page.{stamped}
+use Rattle.nb_fields.specs.Payloads.{text_payload}
+
+-- how many entries, bits and slots the pages of each size have
+sizes_entries : map entries_in (1024 ∷ 2048 ∷ 4096 ∷ 8192 ∷ 16384 ∷ 32768 ∷ []) ≡ 248 ∷ 504 ∷ 1016 ∷ 2040 ∷ 4088 ∷ 8184 ∷ []
+sizes_entries = refl
+
+sizes_bits : map bits_in (1024 ∷ 2048 ∷ 4096 ∷ 8192 ∷ 16384 ∷ 32768 ∷ []) ≡ 7936 ∷ 16128 ∷ 32512 ∷ 65280 ∷ 130816 ∷ 261888 ∷ []
+sizes_bits = refl
+
+sizes_slots : map slots_in (1024 ∷ 2048 ∷ 4096 ∷ 8192 ∷ 16384 ∷ 32768 ∷ []) ≡ 255 ∷ 511 ∷ 1023 ∷ 2047 ∷ 4095 ∷ 8191 ∷ []
+sizes_slots = refl
 
 -- the lengths of new databases, with system places on the way
 count_8 : fresh_count 1024 8 ≡ 13

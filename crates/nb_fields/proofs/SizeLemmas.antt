@@ -1,8 +1,8 @@
 -- What all page sizes have in common.
-use Rattle.std.proofs.Common.{◌≡◌, ℕ, ◌+◌, ◌-◌, ◌*◌, ◌/◌, ◌%◌, ◌<◌, ◌≤◌, ⊎_elim, true, refl, sym, subst, arith}
-use Rattle.std.specs.Prelude.{IsTrue, ◌==◌, ◌||◌}
+use Rattle.std.proofs.Common.{◌≡◌, ℕ, ◌%◌, ◌≤◌, ⊎_elim, true, refl, sym, subst, arith}
+use Rattle.std.specs.Prelude.{IsTrue, ◌==◌}
 use Rattle.std.proofs.lemmas.Bool.{eqb-true, or_cases}
-use Rattle.nb_fields.specs.Places.{is_page_size, entries_in, bits_in}
+use Rattle.nb_fields.specs.Places.{is_page_size}
 
 pub record SizeFacts (size : ℕ) : Type 0 where
   pub at_least : 1024 ≤ size
@@ -15,9 +15,9 @@ size_is size n facts is = subst (λ (m : ℕ). SizeFacts m) (sym (eqb-true size 
 pub size_facts : (size : ℕ) → IsTrue (is_page_size size) → SizeFacts size
 size_facts size is =
     ⊎_elim (λ is5. ⊎_elim (λ is4. ⊎_elim (λ is3. ⊎_elim (λ is2. ⊎_elim
-        (size_is size 1024 (record { at_least = omega arith; at_most = omega arith; in_fours = refl }))
-        (size_is size 2048 (record { at_least = omega arith; at_most = omega arith; in_fours = refl })) (or_cases _ _ is2))
-        (size_is size 4096 (record { at_least = omega arith; at_most = omega arith; in_fours = refl })) (or_cases _ _ is3))
-        (size_is size 8192 (record { at_least = omega arith; at_most = omega arith; in_fours = refl })) (or_cases _ _ is4))
-        (size_is size 16384 (record { at_least = omega arith; at_most = omega arith; in_fours = refl })) (or_cases _ _ is5))
-        (size_is size 32768 (record { at_least = omega arith; at_most = omega arith; in_fours = refl })) (or_cases _ _ is)
+    (size_is size 1024 (record { at_least = omega arith; at_most = omega arith; in_fours = refl }))
+    (size_is size 2048 (record { at_least = omega arith; at_most = omega arith; in_fours = refl })) (or_cases _ _ is2))
+    (size_is size 4096 (record { at_least = omega arith; at_most = omega arith; in_fours = refl })) (or_cases _ _ is3))
+    (size_is size 8192 (record { at_least = omega arith; at_most = omega arith; in_fours = refl })) (or_cases _ _ is4))
+    (size_is size 16384 (record { at_least = omega arith; at_most = omega arith; in_fours = refl })) (or_cases _ _ is5))
+    (size_is size 32768 (record { at_least = omega arith; at_most = omega arith; in_fours = refl })) (or_cases _ _ is)

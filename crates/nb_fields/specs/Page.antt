@@ -1,5 +1,5 @@
 -- One page: its head, and what stands behind it.
-use Rattle.std.specs.Prelude.{ℕ, ◌+◌, ◌-◌, ◌%◌, ◌^◌, List, [], ◌∷◌, ◌++◌, length, take}
+use Rattle.std.specs.Prelude.{ℕ, ◌+◌, ◌-◌, ◌%◌, ◌^◌, List, ◌∷◌, ◌++◌, length, take}
 use Rattle.nb_fields.specs.Bytes.{bytes_of, number_in, padded}
 
 -- the fields of the head

@@ -1,5 +1,5 @@
 -- The places of the system pages, for a page size.
-use Rattle.std.specs.Prelude.{ℕ, zero, suc, ◌+◌, ◌-◌, ◌*◌, ◌/◌, ◌%◌, Bool, ◌&&◌, ◌||◌, ◌==◌, nat_lt}
+use Rattle.std.specs.Prelude.{ℕ, zero, suc, ◌+◌, ◌-◌, ◌*◌, ◌/◌, ◌%◌, Bool, ◌&&◌, ◌||◌, ◌==◌, nat_lt, if◌then◌else◌}
 
 -- one of the six page sizes
 abbrev pub is_page_size : ℕ → Bool
@@ -38,3 +38,8 @@ is_scn_place size page = page == 2 || (nat_lt 0 page && page % entries_in size =
 -- a page inventory page or an SCN inventory page stands there
 unfoldable pub is_system_place : ℕ → ℕ → Bool
 is_system_place size page = is_inventory_place size page || is_scn_place size page
+
+-- how many of so many places from this one on are no system places
+unfoldable pub plain_places : (size from n : ℕ) → ℕ
+plain_places size from zero = 0
+plain_places size from (suc n) = (if is_system_place size from then 0 else 1) + plain_places size (from + 1) n

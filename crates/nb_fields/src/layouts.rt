@@ -9,12 +9,15 @@ pub mod head {
 
     /// What the page holds: the number of a `PageKind`.
     pub type Kind = Field<0, 1>;
+
     pub type Flags = Field<1, 1>;
+
     pub type Reserved = Field<2, 2>;
     /// How often the page was written, modulo 2^32.
     pub type Generation = Field<4, 4>;
     /// The SCN of the last write: the page's stamp.
     pub type Scn = Field<8, 4>;
+
     pub type Number = Field<12, 4>;
 
     /// The fields, of which no two share a byte.
@@ -52,12 +55,15 @@ pub mod header {
     pub const HISTORY_PAGE: u32 = 4;
 
     pub type Signature = Field<16, 4>;
+
     pub type Version = Field<20, 2>;
     /// The backup state: 0 normal, 1 stalled, 2 merge, 3 applying.
     pub type State = Field<22, 2>;
+
     pub type PageSize = Field<24, 4>;
     /// The current SCN.
     pub type Scn = Field<28, 4>;
+
     pub type Guid = Bytes16<32>;
     /// The GUID of the level file that is being merged in.
     pub type Pending = Bytes16<48>;
@@ -183,7 +189,9 @@ pub mod row {
 
     /// 1 in a slot that is used, 0 in a free one.
     pub type Used = Field<0, 1>;
+
     pub type TextLength = Field<2, 2>;
+
     pub type Key = Field<8, 8>;
 
     /// Where the text begins.
@@ -213,6 +221,7 @@ pub mod catalogue {
 
     /// 1 in a slot that is used, 0 in a free one.
     pub type Used = Field<0, 1>;
+
     pub type NameLength = Field<2, 2>;
     /// The first page of the table's chain.
     pub type FirstPage = Field<4, 4>;
@@ -244,12 +253,15 @@ pub mod history {
 
     /// 1 in a slot that is used, 0 in a free one.
     pub type Used = Field<0, 1>;
+
     pub type Level = Field<1, 1>;
+
     pub type NameLength = Field<2, 2>;
     /// The backup's SCN.
     pub type Scn = Field<4, 4>;
     /// When it was made, in seconds since the start of 1970.
     pub type Time = Field<8, 8>;
+
     pub type Guid = Bytes16<16>;
 
     /// Where the name of the backup's file begins.
@@ -307,11 +319,17 @@ pub mod level {
     pub type Signature = Field<0, 4>;
     /// 101 or 102.
     pub type Version = Field<4, 2>;
+
     pub type Level = Field<6, 2>;
+
     pub type Guid = Bytes16<8>;
+
     pub type Previous = Bytes16<24>;
+
     pub type PageSize = Field<40, 4>;
+
     pub type Scn = Field<44, 4>;
+
     pub type PreviousScn = Field<48, 4>;
 
     /// The fields, of which no two share a byte. They fill the head.

@@ -1,5 +1,5 @@
 -- What the writes behind the head of a blank page leave.
-use Rattle.std.proofs.Common.{◌≡◌, ℕ, zero, suc, ◌+◌, ◌-◌, ◌*◌, ◌/◌, ◌%◌, ◌^◌, ◌<◌, ◌≤◌, List, [], ◌∷◌, ◌++◌, length, take, drop, replicate, refl, sym, ap, ◌∙◌, arith, append_assoc, length-append, length-drop}
+use Rattle.std.proofs.Common.{◌≡◌, ℕ, zero, suc, ◌+◌, ◌-◌, ◌/◌, ◌%◌, ◌^◌, ◌<◌, ◌≤◌, List, [], ◌∷◌, ◌++◌, length, take, drop, replicate, refl, sym, ap, ◌∙◌, arith, append_assoc, length-append, length-drop}
 use Rattle.std.specs.Prelude.{slice_set, Bool, true, false, if◌then◌else◌}
 use mir.Val.{bool_byte}
 use Rattle.std.proofs.lemmas.List.{length-take-le, length-replicate, length-set, take-append-drop, take-append-le, take_at, take_more_set, take-replicate, drop_all, append-nil, replicate-append-replicate}
@@ -42,12 +42,12 @@ header_filled page block forced catalogue history len1 len2 len3 len4 long blank
     let to_c : with_part 72 catalogue (padded n b) ≡ padded n c = with_part-padded n 72 catalogue b (omega arith) (omega arith) ∙ ap (λ m. padded n (b ++ (replicate m 0 ++ catalogue))) (let e : 72 - length b ≡ 7 = omega arith in e) in
     let to_end : with_part 76 history (padded n c) ≡ padded n (c ++ history) = with_part-padded_next n 76 history c c_len (omega arith) in
     let grouped : c ++ history ≡ head ++ (block ++ (forced ++ (replicate 7 0 ++ (catalogue ++ history)))) =
-        append_assoc b (replicate 7 0 ++ catalogue) history ∙ append_assoc a forced _ ∙ append_assoc head block _
-        ∙ ap (λ zs. head ++ (block ++ (forced ++ zs))) (append_assoc (replicate 7 0) catalogue history) in
+    append_assoc b (replicate 7 0 ++ catalogue) history ∙ append_assoc a forced _ ∙ append_assoc head block _
+    ∙ ap (λ zs. head ++ (block ++ (forced ++ zs))) (append_assoc (replicate 7 0) catalogue history) in
     ap (λ p. with_part 76 history (with_part 72 catalogue (with_part 64 forced p))) to_a
-        ∙ ap (λ p. with_part 76 history (with_part 72 catalogue p)) to_b
-        ∙ ap (with_part 76 history) to_c
-        ∙ to_end ∙ ap (padded n) grouped ∙ payload_behind page _ (omega arith)
+    ∙ ap (λ p. with_part 76 history (with_part 72 catalogue p)) to_b
+    ∙ ap (with_part 76 history) to_c
+    ∙ to_end ∙ ap (padded n) grouped ∙ payload_behind page _ (omega arith)
 
 -- a number at 16, and then the rest of the page from 32 on
 pub numbered_filled : (page number rest : List ℕ) (k : ℕ) → length number ≡ 4 → length rest ≡ length page - 32 → k ≡ length page - 32 → 32 ≤ length page → IsBlank page
@@ -59,11 +59,11 @@ numbered_filled page number rest k len1 len2 same long blank =
     let a : List ℕ = head ++ number in
     let a_len : length a ≡ 20 = omega (arith, length-append head number) in
     put_mid-with_part 32 k rest (with_part 16 number page) (omega arith)
-        ∙ ap (with_part 32 rest) (ap (with_part 16 number) (blank_page page (omega arith) blank) ∙ with_part-padded_next n 16 number head head_len (omega arith))
-        ∙ with_part-padded n 32 rest a (omega arith) (omega arith)
-        ∙ ap (λ m. padded n (a ++ (replicate m 0 ++ rest))) (let e : 32 - length a ≡ 12 = omega arith in e)
-        ∙ ap (padded n) (append_assoc head number (replicate 12 0 ++ rest))
-        ∙ payload_behind page _ (omega arith)
+    ∙ ap (with_part 32 rest) (ap (with_part 16 number) (blank_page page (omega arith) blank) ∙ with_part-padded_next n 16 number head head_len (omega arith))
+    ∙ with_part-padded n 32 rest a (omega arith) (omega arith)
+    ∙ ap (λ m. padded n (a ++ (replicate m 0 ++ rest))) (let e : 32 - length a ≡ 12 = omega arith in e)
+    ∙ ap (padded n) (append_assoc head number (replicate 12 0 ++ rest))
+    ∙ payload_behind page _ (omega arith)
 
 -- a number at 20
 pub owner_filled : (page owner : List ℕ) → length owner ≡ 4 → 32 ≤ length page → IsBlank page
@@ -75,11 +75,11 @@ owner_filled page owner len long blank =
     let a : List ℕ = head ++ (replicate 4 0 ++ owner) in
     let a_len : length a ≡ 24 = omega (arith, length-append head (replicate 4 0 ++ owner), length-append {A = ℕ} (replicate 4 0) owner) in
     ap (with_part 20 owner) (blank_page page (omega arith) blank)
-        ∙ with_part-padded n 20 owner head (omega arith) (omega arith)
-        ∙ ap (λ m. padded n (head ++ (replicate m 0 ++ owner))) (let e : 20 - length head ≡ 4 = omega arith in e)
-        ∙ sym (padded-append-zeros n 8 a (omega arith))
-        ∙ ap (padded n) (append_assoc head (replicate 4 0 ++ owner) (replicate 8 0) ∙ ap (λ zs. head ++ zs) (append_assoc (replicate 4 0) owner (replicate 8 0)))
-        ∙ payload_behind page _ (omega arith)
+    ∙ with_part-padded n 20 owner head (omega arith) (omega arith)
+    ∙ ap (λ m. padded n (head ++ (replicate m 0 ++ owner))) (let e : 20 - length head ≡ 4 = omega arith in e)
+    ∙ sym (padded-append-zeros n 8 a (omega arith))
+    ∙ ap (padded n) (append_assoc head (replicate 4 0 ++ owner) (replicate 8 0) ∙ ap (λ zs. head ++ zs) (append_assoc (replicate 4 0) owner (replicate 8 0)))
+    ∙ payload_behind page _ (omega arith)
 
 -- one entry more at the end
 pub same_entries-push : (scn n : ℕ) → same_entries scn n ++ bytes_of 4 scn ≡ same_entries scn (suc n)
@@ -107,14 +107,14 @@ bits_filled n taken b k inside byte rest =
     let behind : drop k (drop (w + 1) written) ≡ [] = drop_all k (drop (w + 1) written) (omega (arith, length-drop (w + 1) written)) in
     let many : replicate n 255 ≡ free ++ replicate (w + 1) 255 = ap (λ m. replicate m 255) (let e : n ≡ k + (w + 1) = omega arith in e) ∙ sym (replicate-append-replicate k (w + 1) 255) in
     let grouped : replicate w 0 ++ (b ∷ replicate n 255) ≡ (front ++ free) ++ replicate (w + 1) 255 =
-        ap (λ zs. replicate w 0 ++ (b ∷ zs)) many ∙ sym (append_assoc (replicate w 0) (b ∷ []) (free ++ replicate (w + 1) 255)) ∙ sym (append_assoc front free (replicate (w + 1) 255)) in
+    ap (λ zs. replicate w 0 ++ (b ∷ zs)) many ∙ sym (append_assoc (replicate w 0) (b ∷ []) (free ++ replicate (w + 1) 255)) ∙ sym (append_assoc front free (replicate (w + 1) 255)) in
     let len : length (front ++ free) ≡ n = omega (arith, length-append front free, length-append (replicate w 0) (b ∷ []), length-replicate {A = ℕ} w 0, length-replicate {A = ℕ} k 255) in
     ap (λ zs. zs ++ (free ++ drop k (drop (w + 1) written))) start
-        ∙ ap (λ zs. front ++ (free ++ zs)) behind
-        ∙ ap (λ zs. front ++ zs) (append-nil free)
-        ∙ sym (take_at (front ++ free) (replicate (w + 1) 255) n len)
-        ∙ ap (take n) (sym grouped)
-        ∙ ap (λ c. take n (replicate w 0 ++ (c ∷ replicate n 255))) byte
+    ∙ ap (λ zs. front ++ (free ++ zs)) behind
+    ∙ ap (λ zs. front ++ zs) (append-nil free)
+    ∙ sym (take_at (front ++ free) (replicate (w + 1) 255) n len)
+    ∙ ap (take n) (sym grouped)
+    ∙ ap (λ c. take n (replicate w 0 ++ (c ∷ replicate n 255))) byte
 
 -- all bits taken
 pub bits_all : (n taken : ℕ) → n ≤ taken / 8 → replicate n 0 ≡ taken_bits n taken

@@ -1,6 +1,6 @@
 -- Which names are free, by the start of the file and the file beside it.
-use Rattle.std.proofs.Common.{◌≡◌, ℕ, List, [], take, true, false, refl, ap, sym, ◌∙◌}
-use Rattle.std.specs.Prelude.{◌&&◌, not, Option, Some, None, Bool}
+use Rattle.std.proofs.Common.{◌≡◌, ℕ, List, take, true, false, ap, sym, ◌∙◌}
+use Rattle.std.specs.Prelude.{◌&&◌, not, Some, None, Bool}
 use Rattle.nb_host.specs.Files.{File, Files, bytes_of}
 use Rattle.nb_fields.specs.Free.{is_free_file}
 use Rattle.nb_fields.proofs.HeaderLemmas.{is_free_file-take, is_free_file-none}

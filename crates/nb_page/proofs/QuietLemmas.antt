@@ -4,7 +4,7 @@ use Rattle.nb_host.specs.Files.{Files}
 use Rattle.nb_host.specs.World.{World}
 use Rattle.nb_host.specs.Crash.{Leaves, Untouched}
 use Rattle.nb_host.specs.Calls.{IsStill}
-use Rattle.nb_host.specs.Moments.{IsNow, Elapses, Passes, IsTimely, AtEachMoment}
+use Rattle.nb_host.specs.Moments.{IsNow, Passes, IsTimely, AtEachMoment}
 use Rattle.nb_page.specs.Quiet.{Quiet}
 
 -- what a stop leaves later it would have left before

@@ -1,5 +1,5 @@
-ghost use Rattle.std.specs.Prelude.{◌≡◌, ◌+◌, ◌*◌, ◌<◌, ◌≤◌, IsTrue};
-ghost use Rattle.nb_fields.specs.Places.{is_page_size, entries_in, bits_in, is_inventory_place, is_scn_place, is_system_place};
+ghost use Rattle.std.specs.Prelude.{◌≡◌, ◌+◌, ◌-◌, ◌*◌, ◌<◌, ◌≤◌, IsTrue, false};
+ghost use Rattle.nb_fields.specs.Places.{is_page_size, entries_in, bits_in, is_inventory_place, is_scn_place, is_system_place, plain_places};
 ghost use Rattle.nb_fields.specs.Fresh.{next_plain, fresh_count, fresh_kind};
 
 use nb_fields::PageKind;
@@ -99,6 +99,10 @@ pub fn fresh_count(size: u32, raw: u32) -> u32
     ensures value { result ≡ fresh_count size raw }
     ensures least { 5 + raw ≤ result }
     ensures most { result ≤ 5 + 3 * raw }
+
+    // From page 5 on there are as many places for raw pages as were asked for, and the last page is at one of them.
+    ensures plain { plain_places size 5 (result - 5) ≡ raw }
+    ensures last { 0 < raw → is_system_place size (result - 1) ≡ false }
 {
     let mut count = 5;
     for _ in 0..raw {

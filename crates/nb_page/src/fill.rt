@@ -35,8 +35,7 @@ pub(crate) fn fill_inventory(page: &mut [u8], raw: u32, number: u32)
     requires blank { IsBlank page.old }
     requires raw { raw ≤ 65535 }
     requires inside { number < fresh_count (length page.old) raw }
-    ensures {
-        let k = (number + 1) / bits_in (length page.old) in
+    ensures { let k = (number + 1) / bits_in (length page.old) in
         page.new ≡ with_payload page.old (inventory_payload (length page.old) k (fresh_count (length page.old) raw - k * bits_in (length page.old))) }
 {
     let size = page.len() as u32;

@@ -1,7 +1,7 @@
 ghost use Rattle.std.specs.Prelude.{◌≡◌, ◌<◌, ◌≤◌, IsTrue, length};
 ghost use Rattle.nb_fields.specs.Places.{is_page_size};
 ghost use Rattle.nb_fields.specs.Page.{with_payload};
-ghost use Rattle.nb_fields.specs.Fresh.{fresh_count, fresh_page, fresh_payload};
+ghost use Rattle.nb_fields.specs.Fresh.{fresh_count, fresh_page, fresh_payload, ShowsFresh};
 ghost use Rattle.nb_page.specs.Blank.{IsBlank};
 
 use crate::count::fresh_kind;
@@ -14,7 +14,8 @@ pub fn fresh(page: &mut [u8], raw: u32, number: u32)
     requires size { IsTrue (is_page_size (length page.old)) }
     requires raw { raw ≤ 65535 }
     requires inside { number < fresh_count (length page.old) raw }
-    ensures { page.new ≡ fresh_page (length page.old) raw number }
+    ensures image { page.new ≡ fresh_page (length page.old) raw number }
+    ensures shows { ShowsFresh (length page.old) raw number page.new }
 {
     let kind = fresh_kind(page.len() as u32, number);
     page.fill(0);

@@ -1,12 +1,13 @@
 ghost use Rattle.std.specs.Prelude.{◌≡◌, ◌≤◌, length, is_some, IfSome, IsTrue};
 ghost use Rattle.nb_fields.specs.Bytes.{with_part};
 ghost use Rattle.nb_fields.specs.Places.{is_page_size};
+ghost use Rattle.nb_fields.specs.Page.{kind_of, number_of_page};
 ghost use Rattle.nb_fields.specs.Header.{is_header, is_marked, is_sound};
 ghost use Rattle.nb_fields.specs.Payloads.{control_block};
 ghost use Rattle.nb_page.specs.Header.{header_in, HasForm};
 
-use nb_fields::layouts::{head, header};
 use nb_fields::fields;
+use nb_fields::layouts::{head, header};
 
 /// What the control block of a database holds.
 #[derive(Clone, Copy, Debug, PartialEq, Eq)]
@@ -89,7 +90,9 @@ pub fn read_header(first: &[u8]) -> Option<Header>
 /// Writes the control block of page 0, its bytes 16 to 63, and no other byte.
 pub fn write_header(page: &mut [u8], header: &Header)
     requires { IsTrue (is_page_size (length page.old)) }
-    ensures { page.new ≡ with_part 16 (control_block header.now.page_size header.now.state header.now.scn header.now.guid header.now.pending) page.old }
+    ensures read_back { header_in page.new ≡ header.now }
+    ensures form { kind_of page.old ≡ 1 → number_of_page page.old ≡ 0 → HasForm header.now → IsTrue (is_header page.new) }
+    ensures written { page.new ≡ with_part 16 (control_block header.now.page_size header.now.state header.now.scn header.now.guid header.now.pending) page.old }
 {
     header::Signature::put(page, header::SIGNATURE);
     header::Version::put(page, header::VERSION);

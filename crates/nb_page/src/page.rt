@@ -1,6 +1,6 @@
-ghost use Rattle.std.specs.Prelude.{◌≡◌, IsTrue, length, drop};
+ghost use Rattle.std.specs.Prelude.{◌≡◌, ◌+◌, ◌%◌, ◌^◌, IsTrue, length, drop};
 ghost use Rattle.nb_fields.specs.Places.{is_page_size};
-ghost use Rattle.nb_fields.specs.Page.{stamped};
+ghost use Rattle.nb_fields.specs.Page.{stamped, generation_of};
 ghost use Rattle.nb_page.specs.Head.{head_in};
 
 use nb_fields::fields;
@@ -38,7 +38,9 @@ pub fn read_head(page: &[u8]) -> PageHead
 /// What stands behind the head stays.
 pub fn stamp(page: &mut [u8], kind: u8, scn: u32, number: u32)
     requires { IsTrue (is_page_size (length page.old)) }
-    ensures { page.new ≡ stamped page.old kind (drop 16 page.old) scn number }
+    ensures written { page.new ≡ stamped page.old kind (drop 16 page.old) scn number }
+    ensures head { head_in page.new ≡ record { kind = kind; generation = (generation_of page.old + 1) % 2 ^ 32; scn = scn; number = number } }
+    ensures rest { drop 16 page.new ≡ drop 16 page.old }
 {
     let generation = (head::Generation::get(page) as u32).wrapping_add(1);
     head::Kind::put(page, u64::from(kind));

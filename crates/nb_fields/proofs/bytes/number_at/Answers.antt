@@ -1,7 +1,6 @@
-use Rattle.std.proofs.Common.{◌≡◌, ℕ, ◌+◌, ◌-◌, ◌^◌, ◌<◌, ◌≤◌, List, ◌++◌, length, take, drop, replicate, get_or, sym, ap, ◌∙◌, subst, arith, length-append, length-drop}
-use Rattle.std.proofs.lemmas.List.{drop-replicate}
+use Rattle.std.proofs.Common.{◌≡◌, ℕ, ◌≤◌, List, ◌++◌, length, take, drop, replicate, ap, ◌∙◌, arith, length-append, length-drop}
 use Rattle.nb_fields.specs.Bytes.{number_of, part, number_in}
-use Rattle.nb_fields.proofs.NumberLemmas.{from_eight_bytes, number_of-append, number_of-zeros}
+use Rattle.nb_fields.proofs.NumberLemmas.{from_eight_bytes, number_of-append, number_of-drop_zeros}
 use Rattle.nb_fields.proofs.PartLemmas.{length-part, number_in-lt}
 use Rattle.nb_fields.proofs.bytes.number_at.Goals as goal
 
@@ -15,8 +14,7 @@ returns-clause-value c =
     let read : got ≡ part c.args.at c.args.width page = c.copy_from_slice.ensures.after ∙ ap (λ n. take n (drop c.args.at page)) (omega arith) in
     let got_len : length got ≡ c.args.width = ap length read ∙ length-part c.args.at c.args.width page c.requires.inside in
     let whole : length (got ++ rest) ≡ 8 = omega (arith, length-append got rest, length-drop {A = ℕ} c.args.width (replicate 8 0)) in
-    let none : number_of rest ≡ 0 = ap number_of (drop-replicate c.args.width 8 0) ∙ number_of-zeros (8 - c.args.width) in
-    c.from_le_bytes.ensures ∙ from_eight_bytes (got ++ rest) whole ∙ number_of-append got rest none ∙ ap number_of read
+    c.from_le_bytes.ensures ∙ from_eight_bytes (got ++ rest) whole ∙ number_of-append got rest (number_of-drop_zeros c.args.width 8) ∙ ap number_of read
 
 pub returns-clause-fits : goal.returns-clause-fits
 returns-clause-fits c =

@@ -1,6 +1,8 @@
-use Rattle.std.proofs.Common.{◌≡◌, ◌∙◌, ℕ, suc, ◌+◌, ◌-◌, ◌*◌, ◌<◌, ◌≤◌, sym, ap, arith}
-use Rattle.nb_fields.specs.Fresh.{next_plain, length_after, fresh_count}
+use Rattle.std.proofs.Common.{◌∙◌, ℕ, ◌+◌, ◌-◌, sym, ap, arith}
+use Rattle.nb_fields.specs.Fresh.{length_after}
 use Rattle.nb_fields.proofs.FreshLemmas.{length_after-none, length_after-more, fresh_count-is}
+use Rattle.nb_fields.specs.Places.{is_system_place, plain_places}
+use Rattle.nb_fields.proofs.PlainLemmas.{fresh_count-plain, fresh_count-last}
 use Rattle.nb_page.proofs.count.fresh_count.Goals as goal
 
 pub loop-init : goal.loop-init
@@ -18,3 +20,9 @@ loop-preserved c =
 
 pub returns-clause-value : goal.returns-clause-value
 returns-clause-value c = sym (length_after-none c.args.size (c.args.raw - c.loop.counter) c.loop.count (omega arith)) ∙ c.loop.invariant.rest
+
+pub returns-clause-plain : goal.returns-clause-plain
+returns-clause-plain c = ap (λ n. plain_places c.args.size 5 (n - 5)) (returns-clause-value c) ∙ fresh_count-plain c.args.size c.args.raw c.requires.size
+
+pub returns-clause-last : goal.returns-clause-last
+returns-clause-last c some = ap (λ n. is_system_place c.args.size (n - 1)) (returns-clause-value c) ∙ fresh_count-last c.args.size c.args.raw c.requires.size some

@@ -1,4 +1,4 @@
-use Rattle.std.proofs.Common.{◌≡◌, ◌∙◌, ℕ, ◌+◌, ◌-◌, ◌*◌, ◌/◌, ◌%◌, ◌^◌, ◌<◌, ◌≤◌, List, length, replicate, ap, arith}
+use Rattle.std.proofs.Common.{◌≡◌, ◌∙◌, ℕ, ◌+◌, ◌-◌, ◌*◌, ◌/◌, ◌%◌, ◌^◌, List, length, replicate, ap, arith}
 use Rattle.std.specs.Prelude.{slice_set}
 use Rattle.std.proofs.lemmas.List.{length-replicate, length-set}
 use Rattle.std.proofs.lemmas.Nat.{pow_below}
@@ -21,8 +21,8 @@ returns-then-whole-bits c =
     let free : c.fill-then-whole-bits.new.self ≡ replicate k 255 = c.fill-then-whole-bits.ensures.after (λ y e. e) ∙ ap (λ m. replicate m 255) (length-part (w + 1) k written (omega arith)) in
     let rest : k ≡ n - (w + 1) = ap (λ m. m - (w + 1)) written_len in
     ap (λ xs. put_mid (w + 1) k (slice_set xs w byte) c.fill-then-whole-bits.new.self) zeros
-        ∙ ap (λ xs. put_mid (w + 1) k (slice_set (replicate n 0) w byte) xs) free
-        ∙ bits_filled n c.args.taken byte k (omega arith) byte_is rest
+    ∙ ap (λ xs. put_mid (w + 1) k (slice_set (replicate n 0) w byte) xs) free
+    ∙ bits_filled n c.args.taken byte k (omega arith) byte_is rest
 
 pub returns-else-whole-bits : goal.returns-else-whole-bits
 returns-else-whole-bits c =

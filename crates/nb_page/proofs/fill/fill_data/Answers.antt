@@ -1,4 +1,4 @@
-use Rattle.std.proofs.Common.{◌≡◌, ◌∙◌, ℕ, ◌≤◌, List, length, refl, ap, arith}
+use Rattle.std.proofs.Common.{◌∙◌, ℕ, length, refl, ap, arith}
 use Rattle.std.specs.Prelude.{◌==◌, if◌then◌else◌}
 use Rattle.nb_fields.specs.Bytes.{bytes_of, with_part}
 use Rattle.nb_fields.specs.Payloads.{data_payload}
@@ -12,4 +12,4 @@ returns c =
     let owner : ℕ = if c.args.number == 4 then 1 else 0 in
     let size = size_facts (length c.args.page.now) c.requires.size in
     c.put.ensures.written ∙ ap (λ v. with_part 20 (bytes_of 4 v) c.args.page.now) (c.from-owner.ensures ∙ number-of_test (c.args.number == 4))
-        ∙ owner_filled c.args.page.now (bytes_of 4 owner) refl (omega arith) c.requires.blank
+    ∙ owner_filled c.args.page.now (bytes_of 4 owner) refl (omega arith) c.requires.blank

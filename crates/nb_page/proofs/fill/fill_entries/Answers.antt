@@ -1,4 +1,4 @@
-use Rattle.std.proofs.Common.{◌≡◌, ◌∙◌, ℕ, suc, ◌+◌, ◌*◌, ◌/◌, ◌<◌, ◌≤◌, List, ◌++◌, length, take, sym, ap, arith}
+use Rattle.std.proofs.Common.{◌≡◌, ◌∙◌, ℕ, suc, ◌+◌, ◌*◌, List, ◌++◌, take, sym, ap, arith}
 use Rattle.nb_fields.specs.Bytes.{bytes_of, with_part}
 use Rattle.nb_fields.specs.Payloads.{same_entries}
 use Rattle.nb_fields.proofs.NumberLemmas.{length-bytes_of}
@@ -15,7 +15,7 @@ loop-index-preserved c =
     let entry : List ℕ = bytes_of 4 c.args.scn in
     let len = length-bytes_of 4 c.args.scn in
     ap (take (4 * (i + 1))) (c.put_number.ensures.written ∙ ap (λ v. with_part (4 * i) (bytes_of 4 v) c.loop-index.entries) c.from.ensures)
-        ∙ take-with_part (4 * i) (4 * (i + 1)) entry c.loop-index.entries (omega arith) (omega arith)
-        ∙ ap (λ xs. xs ++ entry) c.loop-index.invariant
-        ∙ same_entries-push c.args.scn i
-        ∙ ap (same_entries c.args.scn) (let e : suc i ≡ i + 1 = omega arith in e)
+    ∙ take-with_part (4 * i) (4 * (i + 1)) entry c.loop-index.entries (omega arith) (omega arith)
+    ∙ ap (λ xs. xs ++ entry) c.loop-index.invariant
+    ∙ same_entries-push c.args.scn i
+    ∙ ap (same_entries c.args.scn) (let e : suc i ≡ i + 1 = omega arith in e)

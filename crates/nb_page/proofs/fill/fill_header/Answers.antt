@@ -1,4 +1,4 @@
-use Rattle.std.proofs.Common.{◌≡◌, ◌∙◌, ℕ, ◌≤◌, List, length, replicate, refl, ap, arith}
+use Rattle.std.proofs.Common.{◌∙◌, ℕ, List, length, replicate, refl, ap, arith}
 use Rattle.nb_fields.specs.Bytes.{bytes_of, with_part}
 use Rattle.nb_fields.specs.Payloads.{control_block, header_payload}
 use Rattle.nb_fields.proofs.SizeLemmas.{size_facts}
@@ -14,6 +14,6 @@ returns c =
     let size = size_facts (length page) c.requires.size in
     let block : List ℕ = control_block (length page) 0 1 nil nil in
     c.put-3.ensures.written ∙ ap (λ v. with_part 76 (bytes_of 4 v) c.put-2.new.page) c.from-2.ensures
-        ∙ ap (with_part 76 (bytes_of 4 4)) (c.put-2.ensures.written ∙ ap (λ v. with_part 72 (bytes_of 4 v) c.put.new.page) c.from.ensures
-        ∙ ap (with_part 72 (bytes_of 4 3)) (c.put.ensures.written ∙ ap (with_part 64 (bytes_of 1 1)) c.write_header.ensures))
-        ∙ header_filled page block (bytes_of 1 1) (bytes_of 4 3) (bytes_of 4 4) (length-control_block (length page) 0 1 nil nil refl refl) refl refl refl (omega arith) c.requires.blank
+    ∙ ap (with_part 76 (bytes_of 4 4)) (c.put-2.ensures.written ∙ ap (λ v. with_part 72 (bytes_of 4 v) c.put.new.page) c.from.ensures
+    ∙ ap (with_part 72 (bytes_of 4 3)) (c.put.ensures.written ∙ ap (with_part 64 (bytes_of 1 1)) c.write_header.ensures.written))
+    ∙ header_filled page block (bytes_of 1 1) (bytes_of 4 3) (bytes_of 4 4) (length-control_block (length page) 0 1 nil nil refl refl) refl refl refl (omega arith) c.requires.blank

@@ -1,4 +1,4 @@
-use Rattle.std.proofs.Common.{◌≡◌, ◌∙◌, ℕ, ◌+◌, ◌-◌, ◌*◌, ◌/◌, ◌≤◌, List, length, sym, ap, arith}
+use Rattle.std.proofs.Common.{◌≡◌, ◌∙◌, ℕ, ◌+◌, ◌-◌, ◌*◌, ◌/◌, List, length, sym, ap, arith}
 use borrow.Rule.Slice.PartMut.{put_mid}
 use Rattle.nb_fields.specs.Bytes.{bytes_of, with_part}
 use Rattle.nb_fields.specs.Places.{bits_in}
@@ -26,9 +26,9 @@ returns c =
     let numbered : c.put.new.page ≡ with_part 16 number page = c.put.ensures.written ∙ ap (λ v. with_part 16 (bytes_of 4 v) page) (c.from.ensures ∙ index) in
     let counted : ℕ = c.fresh_count-count.result - (c.args.number + 1) / c.bits_in-bits.result * c.bits_in-bits.result in
     let taken_is : counted ≡ taken =
-        ap (λ m. c.fresh_count-count.result - (c.args.number + 1) / m * m) c.bits_in-bits.ensures.value ∙ ap (λ m. m - i * bits_in n) c.fresh_count-count.ensures.value in
+    ap (λ m. c.fresh_count-count.result - (c.args.number + 1) / m * m) c.bits_in-bits.ensures.value ∙ ap (λ m. m - i * bits_in n) c.fresh_count-count.ensures.value in
     let bits : c.fill_bits.new.bits ≡ taken_bits (n - 32) taken = c.fill_bits.ensures ∙ ap (λ m. taken_bits m counted) (room ∙ ap (λ m. m - 32) kept) ∙ ap (taken_bits (n - 32)) taken_is in
     let len : length c.fill_bits.new.bits ≡ n - 32 = c.fill_bits.auto.bits ∙ room ∙ ap (λ m. m - 32) kept in
     ap (λ xs. put_mid 32 k xs c.fill_bits.new.bits) numbered
-        ∙ ap (λ xs. put_mid 32 k (with_part 16 number page) xs) bits
-        ∙ numbered_filled page number (taken_bits (n - 32) taken) k (length-bytes_of 4 i) (ap length (sym bits) ∙ len) (ap (λ m. m - 32) kept) (omega arith) c.requires.blank
+    ∙ ap (λ xs. put_mid 32 k (with_part 16 number page) xs) bits
+    ∙ numbered_filled page number (taken_bits (n - 32) taken) k (length-bytes_of 4 i) (ap length (sym bits) ∙ len) (ap (λ m. m - 32) kept) (omega arith) c.requires.blank

@@ -1,4 +1,4 @@
-use Rattle.std.proofs.Common.{◌≡◌, ◌∙◌, ℕ, ◌+◌, ◌-◌, ◌/◌, ◌≤◌, List, length, sym, ap, arith}
+use Rattle.std.proofs.Common.{◌≡◌, ◌∙◌, ℕ, ◌-◌, ◌/◌, List, length, sym, ap, arith}
 use borrow.Rule.Slice.PartMut.{put_mid}
 use Rattle.nb_fields.specs.Bytes.{bytes_of, with_part}
 use Rattle.nb_fields.specs.Places.{entries_in}
@@ -23,5 +23,5 @@ returns c =
     let entries : c.fill_entries.new.entries ≡ same_entries 1 (entries_in n) = c.fill_entries.ensures ∙ ap (λ m. same_entries 1 (m / 4)) (room ∙ ap (λ m. m - 32) kept) in
     let len : length c.fill_entries.new.entries ≡ n - 32 = c.fill_entries.auto.entries ∙ room ∙ ap (λ m. m - 32) kept in
     ap (λ xs. put_mid 32 k xs c.fill_entries.new.entries) numbered
-        ∙ ap (λ xs. put_mid 32 k (with_part 16 number page) xs) entries
-        ∙ numbered_filled page number (same_entries 1 (entries_in n)) k (length-bytes_of 4 (c.args.number / entries_in n)) (ap length (sym entries) ∙ len) (ap (λ m. m - 32) kept) (omega arith) c.requires.blank
+    ∙ ap (λ xs. put_mid 32 k (with_part 16 number page) xs) entries
+    ∙ numbered_filled page number (same_entries 1 (entries_in n)) k (length-bytes_of 4 (c.args.number / entries_in n)) (ap length (sym entries) ∙ len) (ap (λ m. m - 32) kept) (omega arith) c.requires.blank

@@ -1,8 +1,6 @@
-use Rattle.std.proofs.Common.{◌≡◌, ℕ, List, take, ◌∙◌, sym, ap, true, false}
-use Rattle.std.specs.Prelude.{Some, Bool}
-use Rattle.nb_host.specs.Files.{Files, bytes_of}
-use Rattle.nb_fields.specs.Free.{is_free_file}
-use Rattle.nb_page.specs.Free.{is_free_name, has_delta}
+use Rattle.std.proofs.Common.{ℕ, List, ◌∙◌, sym, ap}
+use Rattle.nb_host.specs.Files.{Files}
+use Rattle.nb_page.specs.Free.{has_delta}
 use Rattle.nb_page.proofs.FreeLemmas.{is_free_file-start, is_free_name-true, is_free_name-false}
 use Rattle.nb_page.proofs.free.is_free.Goals as goal
 

@@ -1,4 +1,4 @@
-use Rattle.std.proofs.Common.{◌≡◌, ◌∙◌, sym, ap, true, false}
+use Rattle.std.proofs.Common.{◌∙◌, sym, ap}
 use Rattle.std.specs.Prelude.{◌&&◌, ◌==◌}
 use Rattle.std.proofs.lemmas.Bool.{eq-eqb, ne_eqb}
 use Rattle.nb_fields.specs.Bytes.{is_zeros}
@@ -15,10 +15,10 @@ returns-then-first-lt-LENGTH c =
 pub returns-then-header-eq3 : goal.returns-then-header-eq3
 returns-then-header-eq3 c =
     c.are_zeros.ensures ∙ sym (is_unfinished-fields c.args.first.now c.in-Some.header (sym c.in-Some.ensures.exact) c.in-Some.ensures.value
-        ∙ ap (λ b. b && is_zeros c.in-Some.header.pending) (eq-eqb c.in-Some.header.state 3 c.if-header-eq3.true))
+    ∙ ap (λ b. b && is_zeros c.in-Some.header.pending) (eq-eqb c.in-Some.header.state 3 c.if-header-eq3.true))
 
 pub returns-else-header-eq3 : goal.returns-else-header-eq3
 returns-else-header-eq3 c =
     let differs = ne_eqb c.in-Some.header.state 3 c.if-header-eq3.false in
     differs ∙ sym (is_unfinished-fields c.args.first.now c.in-Some.header (sym c.in-Some.ensures.exact) c.in-Some.ensures.value
-        ∙ ap (λ b. b && is_zeros c.in-Some.header.pending) differs)
+    ∙ ap (λ b. b && is_zeros c.in-Some.header.pending) differs)
