@@ -4,3 +4,4 @@ pub mod LineLemmas
 pub mod Orders
 pub mod Sessions
 pub mod Scripts
+pub mod Prints

@@ -4,3 +4,4 @@ pub mod FirstLine
 pub mod Order
 pub mod Lines
 pub mod Scripts
+pub mod Spelling

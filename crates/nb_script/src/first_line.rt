@@ -54,7 +54,12 @@ fn create(bytes: &[u8]) -> Option<Statement>
     let (name, rest) = name(bytes, MOST_BASE_NAME)?;
     let (page_size, raw, rest) = sizes(rest)?;
     let cache = cache(rest)?;
-    Some(Statement::CreateDb { name, page_size, raw, cache })
+    Some(Statement::CreateDb {
+        name,
+        page_size,
+        raw,
+        cache,
+    })
 }
 
 /// `'NAME'` and the cache.

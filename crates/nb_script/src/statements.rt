@@ -81,7 +81,11 @@ fn last_row(bytes: &[u8]) -> Option<(TableName, u64)>
     ensures { result ≡ last_row bytes.now }
 {
     let (table, key, rest) = row(bytes)?;
-    if rest.is_empty() { Some((table, key)) } else { None }
+    if rest.is_empty() {
+        Some((table, key))
+    } else {
+        None
+    }
 }
 
 /// `T K 'TEXT'`.
@@ -286,4 +290,65 @@ pub(crate) fn statement(alloc: Global, line: &[u8]) -> Result<Option<(u32, State
 {
     let read = spelled(alloc, line)?;
     Ok(built(read))
+}
+
+#[cfg(test)]
+mod tests {
+    use super::*;
+    use std::test::Fail;
+
+    #[test]
+    fn every_statement(rt: HostRuntime) -> Result<(), Fail> {
+        let lines: [&[u8]; 25] = [
+            b"1: page new",
+            b"2: write 6 'hello'",
+            b"3: read 6",
+            b"16: free 6",
+            b"1: alter database begin backup",
+            b"1: alter database end backup",
+            b"1: backup 9 to 'a.9'",
+            b"1: copy to 'k.db'",
+            b"1: create table t_1",
+            b"1: drop table t",
+            b"1: insert t 18446744073709551615 ''",
+            b"1: update t 0 'x'",
+            b"1: delete t 1",
+            b"1: get t 1",
+            b"1: scan t",
+            b"1: forced writes on",
+            b"1: forced writes off",
+            b"1: access read_only",
+            b"1: access read_write",
+            b"1: sync",
+            b"1: show header",
+            b"1: show pages",
+            b"1: show image",
+            b"1: show cache",
+            b"1: copy to 'a.delt'",
+        ];
+        for line in lines {
+            assert!(rt; spelled(rt.alloc(), line)?.is_some());
+        }
+        Ok(())
+    }
+
+    #[test]
+    fn no_statement(rt: HostRuntime) -> Result<(), Fail> {
+        let lines: [&[u8]; 10] = [
+            b"1: page  new",
+            b"1: backup 10 to 'a.0'",
+            b"1: backup 0 to 'a.delta'",
+            b"1: create table 1t",
+            b"1: insert t 18446744073709551616 ''",
+            b"1: update t 0",
+            b"1: delete t 01",
+            b"1: scan t ",
+            b"1: show",
+            b"1:sync",
+        ];
+        for line in lines {
+            assert!(rt; spelled(rt.alloc(), line)?.is_none());
+        }
+        Ok(())
+    }
 }
