@@ -5,3 +5,6 @@ pub mod Orders
 pub mod Sessions
 pub mod Scripts
 pub mod Prints
+pub mod WordLaws
+pub mod StatementLaws
+pub mod FirstLaws

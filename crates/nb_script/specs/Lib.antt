@@ -5,3 +5,4 @@ pub mod Order
 pub mod Lines
 pub mod Scripts
 pub mod Spelling
+pub mod Fits

@@ -1,5 +1,8 @@
 ghost use Rattle.std.specs.Prelude.{◌≡◌, ℕ, ◌≤◌, option_map, IfOk, IfErr, IfSome, Some};
 ghost use Rattle.nb_host.specs.declared.faults.Fault.TheVariants.{Memory};
+ghost use Rattle.nb_model.specs.declared.statement.Statement.{Statement};
+ghost use Rattle.nb_script.specs.Fits.{Fits};
+ghost use Rattle.nb_script.specs.Spelling.{line_text};
 ghost use Rattle.nb_script.specs.Words.{page_at};
 ghost use Rattle.nb_script.specs.Statements.{last_page, page_text, last_name, backup_at, last_table, row_at, last_row, row_text, fixed, of_page, of_file, of_table, scan_at, of_row, without_text, built, command_at, session_line, spelled_at, statement_at};
 
@@ -285,6 +288,7 @@ pub(crate) fn built(read: Option<(u32, Statement)>) -> Option<(u32, Statement)>
 #[tactic(auto, unfolding(crate::specs::Statements::statement_at))]
 pub(crate) fn statement(alloc: Global, line: &[u8]) -> Result<Option<(u32, Statement)>, Fault>
     ensures ok { IfOk result (λ read. read ≡ statement_at line.now) }
+    ensures again { (asks : ℕ) (asked : Statement) → 1 ≤ asks → asks ≤ 16 → Fits asked → line.now ≡ line_text asks asked → IfOk result (λ read. read ≡ built (Some (asks, asked))) }
     ensures session { IfOk result (λ read. IfSome read (λ x. (1 ≤ x.0) × (x.0 ≤ 16))) }
     ensures only_memory { IfErr result (λ fault. fault ≡ Memory) }
 {
