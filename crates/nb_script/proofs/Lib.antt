@@ -4,3 +4,7 @@ pub mod LineLemmas
 pub mod Orders
 pub mod Sessions
 pub mod Scripts
+pub mod Prints
+pub mod WordLaws
+pub mod StatementLaws
+pub mod FirstLaws

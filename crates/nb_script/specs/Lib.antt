@@ -4,3 +4,5 @@ pub mod FirstLine
 pub mod Order
 pub mod Lines
 pub mod Scripts
+pub mod Spelling
+pub mod Fits

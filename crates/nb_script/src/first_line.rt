@@ -1,4 +1,8 @@
-ghost use Rattle.std.specs.Prelude.{◌≡◌, ℕ, ◌≤◌, option_map, IfSome};
+ghost use Rattle.std.specs.Prelude.{◌≡◌, ℕ, ◌≤◌, option_map, IfSome, Some};
+ghost use Rattle.nb_model.specs.declared.statement.Statement.{Statement};
+ghost use Rattle.nb_script.specs.Fits.{FitsFirst};
+ghost use Rattle.nb_script.specs.Statements.{built};
+ghost use Rattle.nb_script.specs.Spelling.{line_text};
 ghost use Rattle.nb_script.specs.FirstLine.{cache_at, page_size_at, sizes_at, create_at, open_at, database_at, first_spelled, first_at};
 
 use crate::statements::{built, session_line};
@@ -54,7 +58,12 @@ fn create(bytes: &[u8]) -> Option<Statement>
     let (name, rest) = name(bytes, MOST_BASE_NAME)?;
     let (page_size, raw, rest) = sizes(rest)?;
     let cache = cache(rest)?;
-    Some(Statement::CreateDb { name, page_size, raw, cache })
+    Some(Statement::CreateDb {
+        name,
+        page_size,
+        raw,
+        cache,
+    })
 }
 
 /// `'NAME'` and the cache.
@@ -94,6 +103,7 @@ fn spelled(line: &[u8]) -> Option<(u32, Statement)>
 #[tactic(auto, unfolding(crate::specs::FirstLine::first_at))]
 pub(crate) fn first_statement(line: &[u8]) -> Option<(u32, Statement)>
     ensures exact { result ≡ first_at line.now }
+    ensures again { (asks : ℕ) (asked : Statement) → 1 ≤ asks → asks ≤ 16 → FitsFirst asked → line.now ≡ line_text asks asked → result ≡ built (Some (asks, asked)) }
     ensures session { IfSome result (λ x. (1 ≤ x.0) × (x.0 ≤ 16)) }
 {
     built(spelled(line))

@@ -9,10 +9,15 @@
 mod first_line;
 mod lines;
 mod order;
+mod printing;
 mod reading;
 mod script;
 mod statements;
 mod words;
 
+pub use printing::print;
 pub use reading::{MOST_BYTES, MOST_STATEMENTS, parse};
-pub use script::{SESSIONS, Script};
+pub use script::Script;
+
+#[cfg(test)]
+mod tests;

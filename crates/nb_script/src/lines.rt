@@ -60,11 +60,9 @@ impl<'a> Lines<'a> {
 
     /// The next line that is not skipped; `passed` is then its number, from 1.
     pub(crate) fn next(&mut self) -> Option<&'a [u8]>
-        ensures line {
-            MatchOption result
-                ((left self.old.passed self.old.rest.now ≡ []) × (self.new.passed ≡ self.old.passed + length (lines_of self.old.rest.now)))
-                (λ line. left self.old.passed self.old.rest.now ≡ (self.new.passed, line.now) ∷ left self.new.passed self.new.rest.now)
-        }
+        ensures line { MatchOption result
+            ((left self.old.passed self.old.rest.now ≡ []) × (self.new.passed ≡ self.old.passed + length (lines_of self.old.rest.now)))
+            (λ line. left self.old.passed self.old.rest.now ≡ (self.new.passed, line.now) ∷ left self.new.passed self.new.rest.now) }
         ensures shorter { IfSome result (λ _. length self.new.rest.now < length self.old.rest.now) }
     {
         while !self.rest.is_empty() {

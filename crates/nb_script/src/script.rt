@@ -1,4 +1,4 @@
-ghost use Rattle.std.specs.Prelude.{◌≡◌, ℕ, ◌≤◌, List, OnOk, IfErr};
+ghost use Rattle.std.specs.Prelude.{◌≡◌, ℕ, ◌≤◌, List, length, OnOk, IfErr};
 ghost use Rattle.nb_host.specs.declared.faults.Fault.TheVariants.{Memory};
 ghost use Rattle.nb_script.specs.Scripts.{Plan, started, with_statement, statements_of};
 
@@ -6,9 +6,6 @@ use nb_host::Fault;
 use nb_model::Statement;
 use std::alloc::Global;
 use std::marker::Model;
-
-/// How many sessions there are.
-pub const SESSIONS: u32 = 16;
 
 /// A script: the statement that stands first, the order of turns, and the further statements of the
 /// sessions 1 to 16.
@@ -46,8 +43,22 @@ impl Script {
             first,
             schedule,
             sessions: [
-                none(), none(), none(), none(), none(), none(), none(), none(),
-                none(), none(), none(), none(), none(), none(), none(), none(),
+                none(),
+                none(),
+                none(),
+                none(),
+                none(),
+                none(),
+                none(),
+                none(),
+                none(),
+                none(),
+                none(),
+                none(),
+                none(),
+                none(),
+                none(),
+                none(),
             ],
         }
     }
@@ -84,6 +95,14 @@ impl Script {
         ensures { result.now ≡ self.now.schedule }
     {
         self.schedule.as_slice()
+    }
+
+    /// How many sessions there are.
+    pub(crate) fn session_count(&self) -> u32
+        ensures all { result ≡ length self.now.sessions }
+        ensures sixteen { result ≡ 16 }
+    {
+        self.sessions.as_slice().len() as u32
     }
 
     /// The further statements of a session, 1 to 16, in their order. The first statement isn't among them.

@@ -1,5 +1,8 @@
 ghost use Rattle.std.specs.Prelude.{◌≡◌, ℕ, ◌≤◌, option_map, IfOk, IfErr, IfSome, Some};
 ghost use Rattle.nb_host.specs.declared.faults.Fault.TheVariants.{Memory};
+ghost use Rattle.nb_model.specs.declared.statement.Statement.{Statement};
+ghost use Rattle.nb_script.specs.Fits.{Fits};
+ghost use Rattle.nb_script.specs.Spelling.{line_text};
 ghost use Rattle.nb_script.specs.Words.{page_at};
 ghost use Rattle.nb_script.specs.Statements.{last_page, page_text, last_name, backup_at, last_table, row_at, last_row, row_text, fixed, of_page, of_file, of_table, scan_at, of_row, without_text, built, command_at, session_line, spelled_at, statement_at};
 
@@ -81,7 +84,11 @@ fn last_row(bytes: &[u8]) -> Option<(TableName, u64)>
     ensures { result ≡ last_row bytes.now }
 {
     let (table, key, rest) = row(bytes)?;
-    if rest.is_empty() { Some((table, key)) } else { None }
+    if rest.is_empty() {
+        Some((table, key))
+    } else {
+        None
+    }
 }
 
 /// `T K 'TEXT'`.
@@ -281,9 +288,71 @@ pub(crate) fn built(read: Option<(u32, Statement)>) -> Option<(u32, Statement)>
 #[tactic(auto, unfolding(crate::specs::Statements::statement_at))]
 pub(crate) fn statement(alloc: Global, line: &[u8]) -> Result<Option<(u32, Statement)>, Fault>
     ensures ok { IfOk result (λ read. read ≡ statement_at line.now) }
+    ensures again { (asks : ℕ) (asked : Statement) → 1 ≤ asks → asks ≤ 16 → Fits asked → line.now ≡ line_text asks asked → IfOk result (λ read. read ≡ built (Some (asks, asked))) }
     ensures session { IfOk result (λ read. IfSome read (λ x. (1 ≤ x.0) × (x.0 ≤ 16))) }
     ensures only_memory { IfErr result (λ fault. fault ≡ Memory) }
 {
     let read = spelled(alloc, line)?;
     Ok(built(read))
+}
+
+#[cfg(test)]
+mod tests {
+    use super::*;
+    use std::test::Fail;
+
+    #[test]
+    fn every_statement(rt: HostRuntime) -> Result<(), Fail> {
+        let lines: [&[u8]; 25] = [
+            b"1: page new",
+            b"2: write 6 'hello'",
+            b"3: read 6",
+            b"16: free 6",
+            b"1: alter database begin backup",
+            b"1: alter database end backup",
+            b"1: backup 9 to 'a.9'",
+            b"1: copy to 'k.db'",
+            b"1: create table t_1",
+            b"1: drop table t",
+            b"1: insert t 18446744073709551615 ''",
+            b"1: update t 0 'x'",
+            b"1: delete t 1",
+            b"1: get t 1",
+            b"1: scan t",
+            b"1: forced writes on",
+            b"1: forced writes off",
+            b"1: access read_only",
+            b"1: access read_write",
+            b"1: sync",
+            b"1: show header",
+            b"1: show pages",
+            b"1: show image",
+            b"1: show cache",
+            b"1: copy to 'a.delt'",
+        ];
+        for line in lines {
+            assert!(rt; spelled(rt.alloc(), line)?.is_some());
+        }
+        Ok(())
+    }
+
+    #[test]
+    fn no_statement(rt: HostRuntime) -> Result<(), Fail> {
+        let lines: [&[u8]; 10] = [
+            b"1: page  new",
+            b"1: backup 10 to 'a.0'",
+            b"1: backup 0 to 'a.delta'",
+            b"1: create table 1t",
+            b"1: insert t 18446744073709551616 ''",
+            b"1: update t 0",
+            b"1: delete t 01",
+            b"1: scan t ",
+            b"1: show",
+            b"1:sync",
+        ];
+        for line in lines {
+            assert!(rt; spelled(rt.alloc(), line)?.is_none());
+        }
+        Ok(())
+    }
 }

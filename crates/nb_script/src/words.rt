@@ -104,7 +104,11 @@ fn name_len(bytes: &[u8]) -> usize
 {
     bytes
         .iter()
-        .take_while(|b| b.is_ascii_alphanumeric() || **b == b'.' || **b == b'_' || **b == b'-' || **b == b'/')
+        .take_while(|b| b.is_ascii_alphanumeric()
+            || **b == b'.'
+            || **b == b'_'
+            || **b == b'-'
+            || **b == b'/')
         .count()
 }
 

@@ -8,7 +8,7 @@ returns-in_default-2 c =
     let l = c.loop-line in
     let after = c.next.new.self in
     rw (c.bad.ensures, c.passed.ensures)
-      (sym l.invariant.meant ∙ bad_line l.taken l.script (left l.lines.passed l.lines.rest.now) (left after.passed after.rest.now) (after.passed, c.in-Some.line.now) c.in-Some.ensures.line (rw c.in_default-2.is at c.in_ok-session.ensures.ok))
+    (sym l.invariant.meant ∙ bad_line l.taken l.script (left l.lines.passed l.lines.rest.now) (left after.passed after.rest.now) (after.passed, c.in-Some.line.now) c.in-Some.ensures.line (rw c.in_default-2.is at c.in_ok-session.ensures.ok))
 
 pub loop-line-preserved : goal.loop-line-preserved
 loop-line-preserved c =
@@ -17,7 +17,7 @@ loop-line-preserved c =
     record {
       few = omega (arith, rw c.in-Some-2.is at c.in_ok-session.ensures.few);
       meant = rw c.in_ok-add.ensures.ok
-        (one_line l.taken l.script (left l.lines.passed l.lines.rest.now) (left after.passed after.rest.now) (after.passed, c.in-Some.line.now) (c.in-Some-2.session, c.in-Some-2.statement) c.in-Some.ensures.line (rw c.in-Some-2.is at c.in_ok-session.ensures.ok) ∙ l.invariant.meant);
+          (one_line l.taken l.script (left l.lines.passed l.lines.rest.now) (left after.passed after.rest.now) (after.passed, c.in-Some.line.now) (c.in-Some-2.session, c.in-Some-2.statement) c.in-Some.ensures.line (rw c.in-Some-2.is at c.in_ok-session.ensures.ok) ∙ l.invariant.meant);
     }
 
 pub returns : goal.returns

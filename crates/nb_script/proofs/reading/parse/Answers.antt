@@ -8,6 +8,6 @@ returns c =
     let after = c.next.new.self in
     let order = c.in_ok-schedule in
     let meant = script_meant c.args.bytes.now (after.passed, c.in-Some.line.now) (left after.passed after.rest.now)
-      (c.in-Some-first_statement.session, c.in-Some-first_statement.first) (order.schedule.items, left order.lines.passed order.lines.rest.now)
-      (omega arith) (sym (ap₂ left c.new-lines.ensures.none_passed c.new-lines.ensures.bytes) ∙ c.in-Some.ensures.line) c.in-Some-first_statement.ensures.exact order.ensures.ok in
+    (c.in-Some-first_statement.session, c.in-Some-first_statement.first) (order.schedule.items, left order.lines.passed order.lines.rest.now)
+    (omega arith) (sym (ap₂ left c.new-lines.ensures.none_passed c.new-lines.ensures.bytes) ∙ c.in-Some.ensures.line) c.in-Some-first_statement.ensures.exact order.ensures.ok in
     rw meant (rw c.new.ensures at c.add_lines.ensures)

@@ -11,5 +11,5 @@ returns-clause-ok c =
     let i = c.args.session - 1 in
     let inside : i < length s.sessions = omega (arith, c.self.invariant.2, c.requires.low, c.requires.high) in
     ap (λ (sessions : List (List Statement)). record { first_session = s.first_session; first = s.first; schedule = s.schedule.items; sessions = sessions })
-        (one_more s.sessions i c.index-self-session.result c.push.new.self c.args.statement inside c.in_ok-push.ensures.items)
+    (one_more s.sessions i c.index-self-session.result c.push.new.self c.args.statement inside c.in_ok-push.ensures.items)
     ∙ ap (λ (p : Plan). with_statement p (c.args.session, c.args.statement)) c.self.view_is

@@ -1,0 +1,57 @@
+-- What a line can spell.
+use Rattle.std.specs.Prelude.{◌≡◌, ℕ, ◌^◌, ◌<◌, ◌≤◌, true, List, IsTrue}
+use Rattle.std.specs.List.{list_all}
+use Rattle.nb_host.specs.Files.{is_page_size}
+use Rattle.nb_model.specs.declared.statement.Statement.{Statement}
+use Rattle.nb_model.specs.declared.statement.Statement.TheVariants.{CreateDb, OpenDb, PageNew, Write, Read, Free, BeginBackup, EndBackup, Backup, BackupSince, CopyTo, CreateTable, DropTable, Insert, Update, Delete, Get, Scan, Forced, Access, Sync, ShowHeader, ShowPages, ShowImage, ShowCache}
+use Rattle.nb_model.specs.TableNames.{is_table_name}
+use Rattle.nb_script.specs.Words.{Bytes, is_text_byte, is_given}
+
+-- bytes that may stand between quotes
+abbrev pub IsText : Bytes → Type 0
+IsText text = list_all is_text_byte text ≡ true
+
+-- a name that a user may give to a file that is made
+abbrev pub IsFile : Bytes → Type 0
+IsFile name = is_given 100 name ≡ true
+
+-- a name that a database may have
+abbrev pub IsBase : Bytes → Type 0
+IsBase name = is_given 94 name ≡ true
+
+abbrev pub IsTable : Bytes → Type 0
+IsTable table = is_table_name table ≡ true
+
+-- the values of a statement that a further line can spell
+abbrev pub Fits : Statement → Type 0
+Fits (CreateDb name page_size raw cache) = ⊥
+Fits (OpenDb name cache) = ⊥
+Fits PageNew = Unit {0}
+Fits (Write page text) = (page < 2 ^ 32) × IsText text
+Fits (Read page) = page < 2 ^ 32
+Fits (Free page) = page < 2 ^ 32
+Fits BeginBackup = Unit {0}
+Fits EndBackup = Unit {0}
+Fits (Backup level name) = (level ≤ 9) × IsFile name
+Fits (BackupSince guid name) = ⊥
+Fits (CopyTo name) = IsFile name
+Fits (CreateTable table) = IsTable table
+Fits (DropTable table) = IsTable table
+Fits (Insert table key text) = IsTable table × (key < 2 ^ 64) × IsText text
+Fits (Update table key text) = IsTable table × (key < 2 ^ 64) × IsText text
+Fits (Delete table key) = IsTable table × (key < 2 ^ 64)
+Fits (Get table key) = IsTable table × (key < 2 ^ 64)
+Fits (Scan table) = IsTable table
+Fits (Forced on) = Unit {0}
+Fits (Access read_only) = Unit {0}
+Fits Sync = Unit {0}
+Fits ShowHeader = Unit {0}
+Fits ShowPages = Unit {0}
+Fits ShowImage = Unit {0}
+Fits ShowCache = Unit {0}
+
+-- the values of a statement that a first line can spell
+abbrev pub FitsFirst : Statement → Type 0
+FitsFirst (CreateDb name page_size raw cache) = IsBase name × (is_page_size page_size ≡ true) × (raw ≤ 65535) × (1 ≤ cache) × (cache ≤ 4096)
+FitsFirst (OpenDb name cache) = IsBase name × (1 ≤ cache) × (cache ≤ 4096)
+FitsFirst other = ⊥

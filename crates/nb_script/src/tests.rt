@@ -1,0 +1,120 @@
+use super::*;
+use nb_host::{Fault, Refusal};
+use nb_model::Statement;
+use std::alloc::Global;
+use std::test::Fail;
+
+const FIRST: &[u8] = b"1: create database 'a.db' page_size 1024 raw 8\n";
+
+/// The line that is refused, and 0 where the script is read.
+fn refused_line(alloc: Global, bytes: &[u8]) -> Option<u32> {
+    match parse(alloc, bytes) {
+        Ok(_) => Some(0),
+        Err(Fault::Refused(Refusal::BadScript { line })) => Some(line),
+        Err(_) => None,
+    }
+}
+
+#[test]
+fn first_lines(rt: HostRuntime) {
+    let cases: [(&[u8], u32); 14] = [
+        (b"", 1),
+        (b"\n# only a comment\n", 3),
+        (b"\n\n#", 4),
+        (FIRST, 0),
+        (
+            b"1: create database 'a.db' page_size 1024 raw 8 cache 4096",
+            0,
+        ),
+        (
+            b"1: create database 'a.db' page_size 1024 raw 8 cache 4097",
+            1,
+        ),
+        (b"1: create database 'a.db' page_size 1024 raw 8 cache 0", 1),
+        (b"1: create database 'a.db' page_size 1000 raw 8", 1),
+        (b"1: create database 'a.db' page_size 1024 raw 08", 1),
+        (b"1: create database 'a.delta' page_size 1024 raw 8", 1),
+        (b"1: create database 'a b' page_size 1024 raw 8", 1),
+        (b"1: create database '' page_size 1024 raw 8", 1),
+        (b"# a\n\n1:  create database 'a.db' page_size 1024 raw 8", 3),
+        (b"1: read 6\n", 1),
+    ];
+    for (bytes, line) in cases {
+        assert_eq!(rt; refused_line(rt.alloc(), bytes), Some(line));
+    }
+}
+
+#[test]
+fn further_lines(rt: HostRuntime) -> Result<(), Fail> {
+    let cases: [(&[u8], u32); 16] = [
+        (b"1: read 6\n1: write 6 'hello'\n1: write 7 ''", 0),
+        (b"1: read 4294967295", 0),
+        (b"1: read 4294967296", 2),
+        (b"1: read 06", 2),
+        (b"1: read +6", 2),
+        (b"1: read 6 ", 2),
+        (b"1: read 6\r\n", 2),
+        (b"1:\tread 6", 2),
+        (b" 1: read 6", 2),
+        (b"0: read 6", 2),
+        (b"17: read 6", 2),
+        (b"1: write 6 'it's'", 2),
+        (b"1: write 6 hello", 2),
+        (b"\n# a comment\n1: read 6\n1: read", 5),
+        (b"1: create database 'b.db' page_size 1024 raw 8", 2),
+        (b"schedule 17\n", 2),
+    ];
+    for (bytes, line) in cases {
+        let mut script = FIRST.to_vec(rt.alloc())?;
+        script.extend_from_slice(bytes)?;
+        assert_eq!(rt; refused_line(rt.alloc(), &script), Some(line));
+    }
+    Ok(())
+}
+
+#[test]
+fn parse_and_print(rt: HostRuntime) -> Result<(), Fail> {
+    let mut bytes = FIRST.to_vec(rt.alloc())?;
+    bytes.extend_from_slice(b"# a comment\n1: write 6 'hello'\n\n1: read 6")?;
+    let script = parse(rt.alloc(), &bytes)?;
+    assert_eq!(rt; script.first_session(), 1);
+    assert!(rt;
+        matches!(
+            script.first(),
+            Statement::CreateDb {
+                page_size: 1024,
+                raw: 8,
+                cache: 64,
+                ..
+            }
+        )
+    );
+    assert_eq!(rt; script.schedule().len(), 0);
+    assert_eq!(rt; script.statements(1).len(), 2);
+    assert_eq!(rt; script.statements(16).len(), 0);
+    let text = print(rt.alloc(), &script)?;
+    let wanted =
+        b"1: create database 'a.db' page_size 1024 raw 8 cache 64\n1: write 6 'hello'\n1: read 6\n";
+    assert_eq!(rt; text.as_slice(), wanted.as_slice());
+    Ok(())
+}
+
+#[test]
+fn limits(rt: HostRuntime) -> Result<(), Fail> {
+    let mut script = FIRST.to_vec(rt.alloc())?;
+    for _ in 1..10000 {
+        script.extend_from_slice(b"1: read 5\n")?;
+    }
+    assert_eq!(rt; refused_line(rt.alloc(), &script), Some(0));
+    script.extend_from_slice(b"1: read 5\n")?;
+    assert_eq!(rt; refused_line(rt.alloc(), &script), Some(10001));
+    let long = vec![in rt.alloc(); b'#'; 1048577]?;
+    assert!(rt;
+        matches!(
+            parse(rt.alloc(), &long),
+            Err(Fault::Refused(Refusal::ScriptLong { bytes: 1048577 }))
+        )
+    );
+    assert_eq!(rt; refused_line(rt.alloc(), &long[1..]), Some(2));
+    Ok(())
+}
