@@ -5,4 +5,3 @@ pub mod Crash
 pub mod Calls
 pub mod Moments
 pub mod Causes
-pub mod Answers

@@ -1,11 +1,20 @@
--- What the end of a run says of the count of faults.
+-- What an answer says of the count of faults.
 use Rattle.std.specs.Prelude.{◌≡◌, ℕ, Result, Ok, Err}
 use Rattle.nb_host.specs.Causes.{Rose}
+use Rattle.nb_host.specs.declared.faults.Fault.{Fault}
+use Rattle.nb_host.specs.declared.faults.Fault.TheVariants.{Refused, Device, Memory}
 use Rattle.nb_top.specs.declared.stop.Stop.{Stop}
-use Rattle.nb_top.specs.declared.stop.Stop.TheVariants.{Device, Memory}
+use Rattle.nb_top.specs.declared.stop.Stop.TheVariants.{Device as DeviceStop, Memory as MemoryStop}
 
--- the run ends for the device exactly where the count rose; otherwise it stays
+-- Device comes only where the count rose, and with every other answer it stays
+abbrev pub CountsDevice : {T : Type 0} → Result T Fault → ℕ → ℕ → Type 0
+CountsDevice (Ok value) before after = after ≡ before
+CountsDevice (Err (Refused refusal)) before after = after ≡ before
+CountsDevice (Err Device) before after = Rose before after
+CountsDevice (Err Memory) before after = after ≡ before
+
+-- the same of a run that ends at once
 abbrev pub CountsStop : {T : Type 0} → Result T Stop → ℕ → ℕ → Type 0
 CountsStop (Ok value) before after = after ≡ before
-CountsStop (Err Device) before after = Rose before after
-CountsStop (Err Memory) before after = after ≡ before
+CountsStop (Err DeviceStop) before after = Rose before after
+CountsStop (Err MemoryStop) before after = after ≡ before

@@ -1,6 +1,6 @@
 // A database in the normal state, as far as the first statements need it.
 ghost use Rattle.std.specs.Prelude.{◌≡◌, ℕ, ◌<◌, ◌≤◌, length, IsTrue, IfOk, vec_len};
-ghost use Rattle.nb_host.specs.Answers.{CountsDevice};
+ghost use Rattle.nb_top.specs.Causes.{CountsDevice};
 ghost use Rattle.nb_host.specs.Causes.{CountsFault};
 ghost use Rattle.nb_fields.specs.Places.{is_page_size};
 ghost use Rattle.nb_fields.specs.Fresh.{fresh_count};

@@ -10,6 +10,8 @@ mod line;
 mod program;
 mod status;
 mod stop;
+#[cfg(test)]
+mod tests;
 mod word;
 
 pub use job::{Job, read_job};

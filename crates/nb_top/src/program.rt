@@ -1,11 +1,10 @@
 // A job, from the words to the last reply.
 ghost use Rattle.std.specs.Prelude.{◌≡◌, ◌≢◌, ◌⊎◌, ◌↔◌, ℕ, None, Ok, Err, map, string_bytes, IfOk, IfErr};
 ghost use Rattle.std.specs.List.{AllByRecursion};
-ghost use Rattle.nb_host.specs.Answers.{CountsDevice};
 ghost use Rattle.nb_host.specs.Causes.{Rose};
 ghost use Rattle.nb_host.specs.declared.faults.Fault.TheVariants.{Refused};
 ghost use Rattle.nb_top.specs.Asked.{IsFirst, IsFurther, IsAskable};
-ghost use Rattle.nb_top.specs.Causes.{CountsStop};
+ghost use Rattle.nb_top.specs.Causes.{CountsDevice, CountsStop};
 ghost use Rattle.nb_top.specs.Jobs.{job_of};
 
 use crate::Status;
