@@ -1,15 +1,13 @@
 -- What a sync comes to.
-use Rattle.std.proofs.Common.{◌≡◌, ⊎_elim, inl, ℕ, ◌+◌, true, List, [], ◌∷◌, ◌++◌, length, refl, sym, ◌∙◌, ap, subst, length-append}
-use Rattle.std.specs.Prelude.{MatchBool, Result, Ok, Err, IsErr}
+use Rattle.std.proofs.Common.{◌≡◌, ⊎_elim, ℕ, true, List, ◌∷◌, sym, subst}
+use Rattle.std.specs.Prelude.{MatchBool, Ok}
 use Rattle.nb_host.specs.Files.{File}
-use Rattle.nb_host.specs.Calls.{WritesPage, AppendsBytes, Syncs, GivesGuid}
-use Rattle.nb_host.specs.Crash.{Untouched}
+use Rattle.nb_host.specs.Calls.{Syncs}
 use Rattle.nb_host.specs.Names.{same_name}
 use Rattle.nb_mem.specs.declared.entry.Entry.{Entry}
-use Rattle.nb_mem.specs.declared.entry.Entry.TheVariants.{Changed, Asked}
+use Rattle.nb_mem.specs.declared.entry.Entry.TheVariants.{Changed}
 use Rattle.nb_mem.specs.declared.entry.Change.TheVariants.{Synced}
-use Rattle.nb_mem.specs.declared.entry.Question.TheVariants.{Guid}
-use Rattle.nb_mem.specs.Histories.{files_of, Now, Back, guids_of, guid_of, world_of}
+use Rattle.nb_mem.specs.Histories.{files_of, Now, Back, world_of}
 use Rattle.nb_mem.specs.HistoryLaws.{seen}
 use Rattle.nb_mem.proofs.NameLemmas.{decide, at_same, at_other, with_file-keep}
 

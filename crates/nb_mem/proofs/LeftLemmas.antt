@@ -1,13 +1,10 @@
 -- The files that a stop leaves, placed one after another.
-use Rattle.std.proofs.Common.{◌≡◌, ◌≢◌, ◌⊎◌, inl, inr, ⊎_elim, ℕ, Bool, true, false, List, [], ◌∷◌, ◌++◌, length, refl, sym, ◌∙◌, ap, subst}
-use Rattle.std.specs.Prelude.{MatchBool, Some, None}
-use Rattle.nb_host.specs.Names.{same_name}
-use Rattle.nb_host.specs.Files.{File, Files, with_file}
+use Rattle.std.proofs.Common.{◌≡◌, ◌≢◌, ◌⊎◌, inl, inr, ⊎_elim, ℕ, List, [], ◌∷◌, ◌++◌, refl, sym, ◌∙◌, ap, subst}
+use Rattle.std.specs.Prelude.{Some, None}
+use Rattle.nb_host.specs.Files.{File}
 use Rattle.nb_host.specs.Crash.{Leaves, IsDurable}
 use Rattle.nb_host.specs.Calls.{IsSilent}
-use Rattle.nb_mem.specs.declared.entry.Change.TheVariants.{Placed}
 use Rattle.nb_mem.specs.declared.entry.Entry.{Entry}
-use Rattle.nb_mem.specs.declared.entry.Entry.TheVariants.{Changed}
 use Rattle.nb_mem.specs.declared.slots.Slot.{Slot}
 use Rattle.nb_mem.specs.Slots.{files_in}
 use Rattle.nb_mem.specs.Histories.{files_of, Now, Back, world_of}

@@ -1,17 +1,15 @@
 -- An outcome goes on with the history.
-use Rattle.std.proofs.Common.{◌≡◌, ◌⊎◌, inl, inr, ⊎_elim, ℕ, Bool, true, false, List, [], ◌∷◌, length, refl, sym, ◌∙◌, ap, subst}
+use Rattle.std.proofs.Common.{◌≡◌, ◌⊎◌, inl, inr, ℕ, Bool, true, false, List, [], ◌∷◌, length, refl, sym, ◌∙◌, ap, subst}
 use Rattle.std.specs.Prelude.{MatchBool, Some, None}
-use Rattle.nb_host.specs.Names.{same_name}
-use Rattle.nb_host.specs.Files.{File, bytes_of, with_file}
-use Rattle.nb_host.specs.Crash.{Leaves, PageLeft, AppendLeft}
+use Rattle.nb_host.specs.Files.{File, bytes_of}
+use Rattle.nb_host.specs.Crash.{PageLeft, AppendLeft}
 use Rattle.nb_mem.specs.declared.entry.Change.{Change}
 use Rattle.nb_mem.specs.declared.entry.Change.TheVariants.{Placed, Made, Removed, Paged, Appended, Synced}
 use Rattle.nb_mem.specs.declared.entry.Entry.{Entry}
 use Rattle.nb_mem.specs.declared.entry.Entry.TheVariants.{Changed, Said, Asked}
 use Rattle.nb_mem.specs.declared.outcome.Outcome.{Outcome}
 use Rattle.nb_mem.specs.Changes.{file_after, NowAfter, BackAfter}
-use Rattle.nb_mem.specs.Histories.{files_of, Now, Back, world_of}
-use Rattle.nb_mem.specs.HistoryLaws.{seen}
+use Rattle.nb_mem.specs.Histories.{files_of, Now, Back}
 use Rattle.nb_mem.specs.Outcomes.{MayBe, Follows, IsOther}
 use Rattle.nb_mem.proofs.NameLemmas.{to_same, to_other, with_file-same, with_file-other}
 

@@ -1,6 +1,6 @@
 -- The file of a name in a list of slots, found and changed.
 use Rattle.std.proofs.Common.{◌≡◌, ◌≢◌, ℕ, zero, suc, ◌+◌, ◌<◌, Bool, true, false, List, [], ◌∷◌, ◌++◌, length, get_or, refl, sym, ◌∙◌, ap, subst, arith}
-use Rattle.std.specs.Prelude.{Option, None, Some, slice_set, if◌then◌else◌, cond}
+use Rattle.std.specs.Prelude.{None, Some, slice_set, cond}
 use Rattle.std.specs.List.{position, position_from}
 use Rattle.std.specs.Cmp.Lexicographic.{told_text}
 use Rattle.std.proofs.lemmas.List.Quantifiers.{position-Some}

@@ -1,5 +1,5 @@
 -- What a change of one file does to it, and to what a stop leaves of it.
-use Rattle.std.specs.Prelude.{◌≡◌, ◌⊎◌, List, [], length, Some, None}
+use Rattle.std.specs.Prelude.{◌≡◌, ◌⊎◌, [], length, Some, None}
 use Rattle.nb_host.specs.Files.{File, bytes_of, with_page, with_bytes}
 use Rattle.nb_host.specs.Crash.{PageLeft, AppendLeft}
 use Rattle.nb_mem.specs.declared.entry.Change.{Change}

@@ -1,17 +1,17 @@
 -- The two laws of a host, for the world of a history.
-use Rattle.std.proofs.Common.{◌≡◌, ◌⊎◌, inl, inr, ⊎_elim, ℕ, ◌+◌, ◌≤◌, Bool, true, false, List, [], ◌∷◌, length, refl, sym, ap, subst, arith}
+use Rattle.std.proofs.Common.{◌≡◌, inl, inr, ℕ, ◌≤◌, Bool, true, false, List, [], ◌∷◌, length, refl, subst, arith}
 use Rattle.std.specs.Prelude.{MatchBool, if◌then◌else◌}
 use Rattle.std.specs.Cmp.Lexicographic.{told_text}
 use Rattle.nb_host.specs.Names.{same_name}
 use Rattle.nb_host.specs.Files.{File, Files, with_file}
-use Rattle.nb_host.specs.Crash.{Leaves, LeavesAll, IsTornFrom}
+use Rattle.nb_host.specs.Crash.{Leaves, LeavesAll}
 use Rattle.nb_host.specs.Moments.{IsNow, IsTimely}
 use Rattle.nb_mem.specs.declared.entry.Change.{Change}
 use Rattle.nb_mem.specs.declared.entry.Change.TheVariants.{Placed, Made, Removed, Paged, Appended, Synced}
 use Rattle.nb_mem.specs.declared.entry.Entry.{Entry}
 use Rattle.nb_mem.specs.declared.entry.Entry.TheVariants.{Changed, Said, Asked}
 use Rattle.nb_mem.specs.Changes.{file_after, NowAfter}
-use Rattle.nb_mem.specs.Histories.{files_of, Now, said_of, LeftAt, LeftSince, world_of}
+use Rattle.nb_mem.specs.Histories.{files_of, Now, said_of, LeftSince, world_of}
 
 -- a change that is kept whole is among what a stop leaves
 seen_after : (change : Change) (file : File) (now : File → Type 0) → now file → NowAfter change file now (file_after change file)

@@ -1,5 +1,5 @@
 -- The files in a list of slots.
-use Rattle.std.specs.Prelude.{List, [], ◌∷◌, None, ℕ}
+use Rattle.std.specs.Prelude.{List, [], ◌∷◌, None}
 use Rattle.nb_host.specs.Files.{Files, with_file}
 use Rattle.nb_mem.specs.declared.slots.Slot.{Slot}
 

@@ -1,6 +1,7 @@
 ghost use Rattle.std.specs.Prelude.{◌≡◌, ◌+◌, ◌*◌, [], ◌∷◌, length, true, option_map, IsTrue, OnOk, IfOk, IfErr};
 ghost use Rattle.std.specs.Option.{option_copied};
 ghost use Rattle.nb_host.specs.Files.{is_page_size};
+ghost use Rattle.nb_host.specs.Crash.{IsDurable};
 ghost use Rattle.nb_host.specs.Calls.{ReadsPage, ReadsBytes, Syncs};
 ghost use Rattle.nb_mem.specs.Histories.{world_of, files_of, guid_of, guids_of, times_of};
 ghost use Rattle.nb_mem.specs.declared.entry.Entry.{Entry as Call};
@@ -76,6 +77,7 @@ impl MemHost {
     /// and then nothing has changed.
     pub fn put_file(&mut self, name: &Name, bytes: &[u8]) -> Result<(), Fault>
         ensures ok { OnOk result (self.new ≡ record self.old { history = Call.Changed name.now (Change.Placed bytes.now) ∷ self.old.history }) }
+        ensures durable { OnOk result (IsDurable (world_of self.new.history) name.now (Some bytes.now)) }
         ensures err { IfErr result (λ fault. (fault ≡ Fault.Memory) × (self.new ≡ self.old)) }
     {
         self.history.place(name, bytes)?;

@@ -1,4 +1,4 @@
-use Rattle.std.proofs.Common.{◌≡◌, ◌∙◌, sym, length, vec_len, arith}
+use Rattle.std.proofs.Common.{◌∙◌, sym, vec_len, arith}
 use Rattle.nb_mem.proofs.PutLemmas.{padded-short, padded-long}
 use Rattle.nb_mem.proofs.bytes.extend_to.Goals as goal
 

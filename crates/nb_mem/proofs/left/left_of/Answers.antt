@@ -1,4 +1,4 @@
-use Rattle.std.proofs.Common.{◌≡◌, ◌∙◌, sym, subst, take}
+use Rattle.std.proofs.Common.{◌∙◌, sym, subst, take}
 use Rattle.std.specs.Prelude.{reverse}
 use Rattle.nb_mem.specs.Histories.{Now}
 use Rattle.nb_mem.specs.HistoryLaws.{seen}

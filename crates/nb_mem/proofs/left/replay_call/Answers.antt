@@ -1,4 +1,4 @@
-use Rattle.std.proofs.Common.{◌≡◌, ◌∙◌, sym}
+use Rattle.std.proofs.Common.{◌∙◌, sym}
 use Rattle.nb_mem.proofs.OutcomeLemmas.{changed_file, other_file}
 use Rattle.nb_mem.proofs.left.replay_call.Goals as goal
 
