@@ -106,4 +106,4 @@ returns-in_default c =
     let put = c.put_in-in_default.ensures in
     let slot = ap (λ (r : Option ℕ). let v : Slot = record { bytes = c.args.bytes.now; rank = r } in (page, v)) (sym (rank_of-absent es held page none)) in
     rw (← c.self.view_is, put.2, c.min-self-inside.ensures)
-        (same_pages _ _ cap size (shown-put es held page none cap c.last_frame-key.result c.last_frame-key.ensures _ put.0 (put.1 ∙ slot) c.self.invariant.all_there c.self.invariant.within))
+    (same_pages _ _ cap size (shown-put es held page none cap c.last_frame-key.result c.last_frame-key.ensures _ put.0 (put.1 ∙ slot) c.self.invariant.all_there c.self.invariant.within))
