@@ -1,5 +1,4 @@
-use Rattle.std.proofs.Common.{refl, sym, ap, ◌∙◌}
-use Rattle.std.specs.Option.{option_and_then, option_map}
+use Rattle.std.proofs.Common.{refl, ◌∙◌}
 use Rattle.lru.specs.LruCache.{last_entry}
 use Rattle.nb_cache.proofs.ShownLemmas.{slot_of-found, slot_of-absent, waiting-shown, last-shown}
 use Rattle.nb_cache.proofs.cache.Cache.would_drop.Goals as goal
