@@ -1,2 +1,3 @@
 pub mod KeyedLemmas
+pub mod NextLemmas
 pub mod ShownLemmas

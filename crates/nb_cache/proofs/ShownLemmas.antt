@@ -1,12 +1,13 @@
 -- The held pages that frames show, as frames move.
-use Rattle.std.proofs.Common.{◌≡◌, ℕ, suc, ◌+◌, ◌-◌, ◌<◌, ◌≤◌, nat_eq, true, false, inl, inr, List, [], ◌∷◌, ◌++◌, length, take, map, min, Option, Some, None, IsSome, refl, sym, ap, ◌∙◌, subst, arith, length-append}
-use Rattle.std.specs.List.{AllByRecursion}
-use Rattle.std.specs.Option.{option_map_or, option_and_then}
+use Rattle.std.proofs.Common.{◌≡◌, ℕ, suc, ◌+◌, ◌-◌, ◌<◌, ◌≤◌, nat_eq, true, inl, inr, List, [], ◌∷◌, ◌++◌, length, take, map, min, Option, Some, None, IsSome, refl, sym, ap, ◌∙◌, subst, arith, length-append}
+use Rattle.std.specs.List.{AllByRecursion, slice_get}
+use Rattle.std.specs.Option.{option_map_or, option_and_then, option_map}
 use Rattle.std.specs.Map.{lookup, lookup_entry, remove_entry, set_value}
 use Rattle.std.proofs.Math.Seq.{take-append-add}
-use Rattle.std.proofs.lemmas.Bool.{eq-eqb, cases_lt}
+use Rattle.std.proofs.lemmas.Option.{slice_get-map}
+use Rattle.std.proofs.lemmas.Bool.{eq-eqb, ne_eqb, cases_lt}
 use Rattle.std.proofs.lemmas.List.{map-append, take-append-le, append-nil, take_all, take-take, take-map, length-take-le}
-use Rattle.lru.specs.LruCache.{lru_cache, promoted, demoted, put_entries}
+use Rattle.lru.specs.LruCache.{LruCache, last_entry, lru_cache, promoted, demoted, put_entries}
 use Rattle.nb_cache.specs.declared.frames.Frame.{Frame}
 use Rattle.nb_cache.specs.Held.{Slot, Held, slot_of, rank_of, with_rank}
 use Rattle.nb_cache.specs.Frames.{Frames, slot_in, shown, NoneHolds, Split, FoundAt, IsLast, IsCache}
@@ -146,8 +147,8 @@ module _ (es : Frames) (held page key : ℕ) (found : FoundAt es held page key) 
       let y : ℕ × Frame = (key, w) in
       let e : held ≡ length split.before + suc n = omega (arith, found.inside) in
       ap (λ m. shown m (split.before ++ y ∷ split.behind)) e
-          ∙ ap (map slot_in) (take-append-add split.before (y ∷ split.behind) (suc n))
-          ∙ map-append slot_in split.before (y ∷ take n split.behind)
+      ∙ ap (map slot_in) (take-append-add split.before (y ∷ split.behind) (suc n))
+      ∙ map-append slot_in split.before (y ∷ take n split.behind)
 
   pub shown-found : shown held es ≡ A ++ slot_in x ∷ B
   shown-found = ap (shown held) split.parts ∙ shown-same split.frame
@@ -172,8 +173,8 @@ module _ (es : Frames) (held page key : ℕ) (found : FoundAt es held page key) 
       let y : ℕ × Frame = (key, w) in
       let e : held ≡ suc (length split.before + n) = omega (arith, found.inside) in
       ap (λ m. shown m (y ∷ (split.before ++ split.behind))) e
-          ∙ ap (λ l. slot_in y ∷ map slot_in l) (take-append-add split.before split.behind n)
-          ∙ ap (λ l. slot_in y ∷ l) (map-append slot_in split.before (take n split.behind))
+      ∙ ap (λ l. slot_in y ∷ map slot_in l) (take-append-add split.before split.behind n)
+      ∙ ap (λ l. slot_in y ∷ l) (map-append slot_in split.before (take n split.behind))
 
   pub shown-back : held ≤ length es → shown (held - 1) ((split.before ++ split.behind) ++ x ∷ []) ≡ A ++ B
   shown-back within =
@@ -181,9 +182,9 @@ module _ (es : Frames) (held page key : ℕ) (found : FoundAt es held page key) 
       let rest : Frames = split.before ++ split.behind in
       let size : length es ≡ length split.before + suc (length split.behind) = ap length split.parts ∙ length-append split.before (x ∷ split.behind) in
       ap (map slot_in) (take-append-le (held - 1) rest (x ∷ []) (omega (arith, length-append split.before split.behind)))
-          ∙ ap (λ m. shown m rest) e
-          ∙ ap (map slot_in) (take-append-add split.before split.behind n)
-          ∙ map-append slot_in split.before (take n split.behind)
+      ∙ ap (λ m. shown m rest) e
+      ∙ ap (map slot_in) (take-append-add split.before split.behind n)
+      ∙ map-append slot_in split.before (take n split.behind)
 
   pub with_rank-found : (rank : Option ℕ) → with_rank page rank (shown held es) ≡ A ++ (split.frame.page, record { bytes = split.frame.bytes.items; rank = rank }) ∷ B
   with_rank-found rank = ap (with_rank page rank) shown-found ∙ with_rank-at page rank (slot_in x) B passes A misses
@@ -192,7 +193,7 @@ module _ (es : Frames) (held page key : ℕ) (found : FoundAt es held page key) 
   put_entries-found cap v =
       let entry : lookup_entry (nat_eq page) (shown held es) ≡ Some (slot_in x) = ap (lookup_entry (nat_eq page)) shown-found ∙ lookup_entry-at (nat_eq page) (slot_in x) B passes A misses in
       ap (λ o. option_map_or (λ e. (e.0, v) ∷ remove_entry (nat_eq page) (shown held es)) o ((page, v) ∷ take (cap - 1) (shown held es))) entry
-          ∙ ap (λ l. (split.frame.page, v) ∷ l) removed-found
+      ∙ ap (λ l. (split.frame.page, v) ∷ l) removed-found
 
   pub shown-promoted : shown held (promoted (nat_eq key) es) ≡ promoted (nat_eq page) (shown held es)
   shown-promoted = ap (shown held) (promoted-split es key split) ∙ shown-front split.frame ∙ sym promoted-found
@@ -243,9 +244,9 @@ module _ (es : Frames) (held page : ℕ) (none : NoneHolds page (take held es)) 
       let one : min (held + 1) cap ≡ suc k = omega arith in
       let same : take k front ≡ take k es = sym (take-append-le k front ((key, last.split.frame) ∷ []) (omega arith)) ∙ ap (take k) (sym parts) in
       ap (λ l. shown (min (held + 1) cap) (y ∷ l)) (ap (λ l. front ++ l) last.last ∙ append-nil front)
-          ∙ ap (λ m. shown m (y ∷ front)) one
-          ∙ ap (λ l. slot_in y ∷ map slot_in l) same
-          ∙ ap (λ l. slot_in y ∷ l) (ap (map slot_in) (sym (take_of_take (cap - 1) held es (omega arith))) ∙ sym (take-map slot_in (cap - 1) (take held es)))
+      ∙ ap (λ m. shown m (y ∷ front)) one
+      ∙ ap (λ l. slot_in y ∷ map slot_in l) same
+      ∙ ap (λ l. slot_in y ∷ l) (ap (map slot_in) (sym (take_of_take (cap - 1) held es (omega arith))) ∙ sym (take-map slot_in (cap - 1) (take held es)))
 
   pub shown-put : (cap key : ℕ) (last : IsLast es key) (v : Slot) (w : Frame) → slot_in (key, w) ≡ (page, v) → length es ≡ cap → held ≤ cap → shown (min (held + 1) cap) (set_value (nat_eq key) (promoted (nat_eq key) es) w) ≡ put_entries nat_eq (lru_cache (shown held es) cap) page v
   shown-put cap key last v w is all within =
@@ -253,3 +254,30 @@ module _ (es : Frames) (held page : ℕ) (none : NoneHolds page (take held es)) 
 
   pub rank_of-absent : rank_of (shown held es) page ≡ None
   rank_of-absent = ap (option_and_then (λ slot. slot.rank)) slot_of-absent
+
+-- a frame whose key is above those that are there is put before them
+pub put-new : (c : LruCache ℕ Frame) (key : ℕ) (frame : Frame) → AllByRecursion (λ e. e.0 < key) c.entries → length c.entries < c.cap → put_entries nat_eq c key frame ≡ (key, frame) ∷ c.entries
+put-new c key frame below room =
+    ap (λ o. option_map_or (λ e. (e.0, frame) ∷ remove_entry (nat_eq key) c.entries) o ((key, frame) ∷ take (c.cap - 1) c.entries)) (lookup_entry-absent (nat_eq key) c.entries (apart c.entries below))
+    ∙ ap (λ l. (key, frame) ∷ l) (take_all (c.cap - 1) c.entries (omega arith)) where
+      apart : (es : Frames) → AllByRecursion (λ e. e.0 < key) es → Misses (nat_eq key) es
+      apart [] none = tt
+      apart (e ∷ es) none = (ne_eqb key e.0 (λ same. omega (arith, none.0)), apart es none.1)
+
+pub keys-below : (key : ℕ) (es : Frames) → AllByRecursion (λ e. e.0 < key) es → AllByRecursion (λ e. e.0 < key + 1) es
+keys-below key [] below = tt
+keys-below key (e ∷ es) below = (omega (arith, below.0), keys-below key es below.1)
+
+-- what a full cache would drop
+pub waiting-shown : (o : Option (ℕ × Frame)) → option_and_then (λ e. option_map (λ _. e.1.page) e.1.rank) o ≡ option_and_then (λ e. option_map (λ _. e.0) e.1.rank) (option_map slot_in o)
+waiting-shown None = refl
+waiting-shown (Some e) = refl
+
+pub last-shown : (es : Frames) (n held : ℕ) → length es ≡ n → n ≤ held → slice_get (shown held es) (n - 1) ≡ option_map slot_in (last_entry es)
+last-shown es n held all full =
+    ap (λ l. slice_get (map slot_in l) (n - 1)) (take_all held es (omega arith)) ∙ ap (λ m. slice_get (map slot_in es) (m - 1)) (sym all) ∙ slice_get-map slot_in es (length es - 1)
+
+-- the frames up to there are those that hold a page
+pub shown-before : (es before rest : Frames) (held : ℕ) → es ≡ before ++ rest → length before ≡ held → shown held es ≡ map slot_in before
+shown-before es before rest held parts size =
+    ap (shown held) parts ∙ ap (map slot_in) (take-append-le held before rest (omega arith) ∙ take_all held before (omega arith))

@@ -1,5 +1,6 @@
 -- What a contract sees of a cache.
-use Rattle.std.specs.Prelude.{◌≡◌, ℕ, ◌-◌, ◌<◌, ◌≤◌, ◌⊎◌, nat_eq, List, [], ◌∷◌, Option, None, Some, is_some, if◌then◌else◌, slice_get, All, Contains}
+use Rattle.std.specs.Prelude.{◌≡◌, ℕ, ◌-◌, ◌<◌, ◌≤◌, ◌⊎◌, nat_eq, List, [], ◌∷◌, Option, None, Some, is_some, if◌then◌else◌, slice_get, Contains, MatchOption}
+use Rattle.std.specs.List.{AllByRecursion}
 use Rattle.std.specs.Option.{option_and_then, option_map}
 use Rattle.std.specs.Map.{lookup}
 
@@ -34,9 +35,17 @@ dropped held page =
 
 -- no page waits
 abbrev pub NoneWaits : List (ℕ × Slot) → Type 0
-NoneWaits pages = All (λ e. e.1.rank ≡ None) pages
+NoneWaits pages = AllByRecursion (λ e. e.1.rank ≡ None) pages
 
--- this waiting page goes out first: the lowest rank, then the lowest page
+-- this page goes out no later than another, if that one waits: the lower rank first, then the lower page
+abbrev pub IsNoLater : (page rank : ℕ) → ℕ × Slot → Type 0
+IsNoLater page rank e = (r : ℕ) → e.1.rank ≡ Some r → (rank < r) ⊎ ((rank ≡ r) × (page ≤ e.0))
+
+-- this page waits with that rank, and goes out first
 pub record GoesFirst (pages : List (ℕ × Slot)) (page rank : ℕ) : Type 0 where
   pub waits : (bytes : List ℕ) × Contains pages (page, record { bytes = bytes; rank = Some rank })
-  pub first : All (λ e. (r : ℕ) → e.1.rank ≡ Some r → (rank < r) ⊎ ((rank ≡ r) × (page ≤ e.0))) pages
+  pub first : AllByRecursion (IsNoLater page rank) pages
+
+-- the page that goes out first, with its rank, or none where no page waits
+abbrev pub IsNext : List (ℕ × Slot) → Option (ℕ × ℕ) → Type 0
+IsNext pages next = MatchOption next (NoneWaits pages) (λ n. GoesFirst pages n.0 n.1)

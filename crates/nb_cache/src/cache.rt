@@ -2,9 +2,10 @@ ghost use Rattle.std.specs.Prelude.{◌≡◌, ◌<◌, ◌≤◌, [], nat_eq, l
 ghost use Rattle.std.specs.Map.{remove_entry};
 ghost use Rattle.nb_host.specs.declared.faults.Fault.TheVariants.{Memory};
 ghost use Rattle.lru.specs.LruCache.{lru_cache, promoted, put_entries};
-ghost use Rattle.nb_cache.specs.Held.{slot_of, rank_of, with_rank, dropped};
+ghost use Rattle.nb_cache.specs.Held.{slot_of, rank_of, with_rank, dropped, IsNext};
 
 use crate::frames::Frame;
+use crate::next::next_waiting;
 use crate::search::{copy_out, frame_of, last_frame, mark, put_in, rank_at, waiting_last};
 use lru::LruCache;
 use nb_host::Fault;
@@ -150,5 +151,12 @@ impl Cache {
             Some(_) => None,
             None => waiting_last(&self.frames),
         }
+    }
+
+    /// The waiting page that goes out first, with its rank: the lowest rank, then the lowest page.
+    pub fn next_dirty(&self) -> Option<(u32, u8)>
+        ensures { IsNext self.now.pages result }
+    {
+        next_waiting(&self.frames, self.held)
     }
 }

@@ -8,6 +8,9 @@
 
 mod cache;
 mod frames;
+mod next;
 mod search;
+#[cfg(test)]
+mod tests;
 
 pub use cache::Cache;

@@ -1,6 +1,5 @@
-use Rattle.std.proofs.Common.{◌≡◌, ◌<◌, ◌+◌, ℕ, [], ◌∷◌, ◌++◌, length, sym, ap, ◌∙◌, arith, append_assoc, length-append, nat_eq, false}
+use Rattle.std.proofs.Common.{◌≡◌, ℕ, [], ◌∷◌, ◌++◌, sym, ap, ◌∙◌, arith, append_assoc, length-append, nat_eq, false}
 use Rattle.std.proofs.lemmas.Bool.{ne_eqb}
-use Rattle.nb_cache.specs.Frames.{Frames, NoneHolds}
 use Rattle.nb_cache.specs.declared.frames.Frame.{Frame}
 use Rattle.nb_cache.proofs.KeyedLemmas.{All-snoc, misses_before}
 use Rattle.nb_cache.proofs.search.frame_of.Goals as goal

@@ -1,9 +1,5 @@
-use Rattle.std.proofs.Common.{◌≡◌, ℕ, ◌+◌, ◌-◌, List, length, min, nat_eq, Option, Some, None, IsSome, is_some, MatchOption, IfSome, refl, sym, ap, ap₂, subst, ◌∙◌, arith}
-use Rattle.std.specs.Map.{lookup}
-use Rattle.nb_cache.specs.declared.frames.Frame.{Frame}
-use Rattle.nb_cache.specs.Held.{Slot, Held, slot_of}
-use Rattle.nb_cache.specs.Frames.{Frames, shown, slot_in, FoundAt, IsLast, IsCache}
-use Rattle.nb_cache.proofs.ShownLemmas.{some_is, same_pages, lookup-split, lookup-promoted, size_here, IsCache-promoted, IsCache-put, IsCache-demoted, IsCache-set, slot_of-found, slot_of-absent, rank_of-found, rank_of-absent, shown-promoted, promoted-absent, shown-demoted, removed-absent, shown-marked, ranked-absent, shown-renewed, shown-put}
+use Rattle.std.proofs.Common.{length, None, sym, ap, ◌∙◌}
+use Rattle.nb_cache.proofs.ShownLemmas.{some_is, same_pages, lookup-split, size_here, IsCache-set, shown-marked, ranked-absent}
 use Rattle.nb_cache.proofs.cache.Cache.clean.Goals as goal
 
 pub mark-requires : goal.mark-requires

@@ -1,9 +1,5 @@
-use Rattle.std.proofs.Common.{◌≡◌, ℕ, ◌+◌, ◌-◌, List, length, min, nat_eq, Option, Some, None, IsSome, is_some, MatchOption, IfSome, refl, sym, ap, ap₂, subst, ◌∙◌, arith}
-use Rattle.std.specs.Map.{lookup}
-use Rattle.nb_cache.specs.declared.frames.Frame.{Frame}
-use Rattle.nb_cache.specs.Held.{Slot, Held, slot_of}
-use Rattle.nb_cache.specs.Frames.{Frames, shown, slot_in, FoundAt, IsLast, IsCache}
-use Rattle.nb_cache.proofs.ShownLemmas.{some_is, same_pages, lookup-split, lookup-promoted, size_here, IsCache-promoted, IsCache-put, IsCache-demoted, IsCache-set, slot_of-found, slot_of-absent, rank_of-found, rank_of-absent, shown-promoted, promoted-absent, shown-demoted, removed-absent, shown-marked, ranked-absent, shown-renewed, shown-put}
+use Rattle.std.proofs.Common.{◌-◌, sym, arith}
+use Rattle.nb_cache.proofs.ShownLemmas.{same_pages, IsCache-demoted, shown-demoted, removed-absent}
 use Rattle.nb_cache.proofs.cache.Cache.drop_page.Goals as goal
 
 pub invariant_of-self : goal.invariant_of-self

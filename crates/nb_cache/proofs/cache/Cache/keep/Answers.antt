@@ -1,9 +1,6 @@
-use Rattle.std.proofs.Common.{◌≡◌, ℕ, ◌+◌, ◌-◌, List, length, min, nat_eq, Option, Some, None, IsSome, is_some, MatchOption, IfSome, refl, sym, ap, ap₂, subst, ◌∙◌, arith}
-use Rattle.std.specs.Map.{lookup}
-use Rattle.nb_cache.specs.declared.frames.Frame.{Frame}
-use Rattle.nb_cache.specs.Held.{Slot, Held, slot_of}
-use Rattle.nb_cache.specs.Frames.{Frames, shown, slot_in, FoundAt, IsLast, IsCache}
-use Rattle.nb_cache.proofs.ShownLemmas.{some_is, same_pages, lookup-split, lookup-promoted, size_here, IsCache-promoted, IsCache-put, IsCache-demoted, IsCache-set, slot_of-found, slot_of-absent, rank_of-found, rank_of-absent, shown-promoted, promoted-absent, shown-demoted, removed-absent, shown-marked, ranked-absent, shown-renewed, shown-put}
+use Rattle.std.proofs.Common.{◌≡◌, ℕ, length, Option, sym, ap, ◌∙◌, arith}
+use Rattle.nb_cache.specs.Held.{Slot}
+use Rattle.nb_cache.proofs.ShownLemmas.{some_is, same_pages, lookup-split, lookup-promoted, size_here, IsCache-put, rank_of-found, rank_of-absent, shown-renewed, shown-put}
 use Rattle.nb_cache.proofs.cache.Cache.keep.Goals as goal
 
 pub rank_at-rank-requires : goal.rank_at-rank-requires
@@ -106,4 +103,4 @@ returns-in_default c =
     let put = c.put_in-in_default.ensures in
     let slot = ap (λ (r : Option ℕ). let v : Slot = record { bytes = c.args.bytes.now; rank = r } in (page, v)) (sym (rank_of-absent es held page none)) in
     rw (← c.self.view_is, put.2, c.min-self-inside.ensures)
-        (same_pages _ _ cap size (shown-put es held page none cap c.last_frame-key.result c.last_frame-key.ensures _ put.0 (put.1 ∙ slot) c.self.invariant.all_there c.self.invariant.within))
+    (same_pages _ _ cap size (shown-put es held page none cap c.last_frame-key.result c.last_frame-key.ensures _ put.0 (put.1 ∙ slot) c.self.invariant.all_there c.self.invariant.within))
