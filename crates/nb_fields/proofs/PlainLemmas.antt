@@ -1,5 +1,5 @@
 -- The places of raw pages in a new database: as many as were asked for, and no system place among them.
-use Rattle.std.proofs.Common.{◌≡◌, ℕ, zero, suc, ◌+◌, ◌-◌, ◌*◌, ◌/◌, ◌%◌, ◌<◌, ◌≤◌, ◌⊎◌, inl, inr, ⊎_elim, Bool, true, false, refl, sym, ap, ◌∙◌, arith}
+use Rattle.std.proofs.Common.{◌≡◌, ℕ, zero, suc, ◌+◌, ◌-◌, ◌*◌, ◌/◌, ◌%◌, ◌<◌, ◌≤◌, ◌⊎◌, inl, inr, ⊎_elim, true, false, ap, ◌∙◌, arith}
 use Rattle.std.specs.Prelude.{IsTrue, ◌==◌, ◌||◌, ◌&&◌, nat_lt, if◌then◌else◌}
 use Rattle.std.proofs.Math.Nat.{mul-mod_left}
 use Rattle.std.proofs.lemmas.Nat.{mod-mul-add}
@@ -21,20 +21,20 @@ system_near size p is far at =
     let least = entries-least size is in
     let some : 0 < bits_in size = omega arith in
     ⊎_elim
-        (λ inventory. ⊎_elim
-            (λ first. let one = eqb-true p 1 first in absurd (omega arith))
-            (λ multiple.
-                let none = eqb-true ((p + 1) % bits_in size) 0 multiple in
-                let q : ℕ = (p + 1) / bits_in size in
-                let whole : bits_in size * q + (p + 1) % bits_in size ≡ p + 1 = omega arith in
-                let as_entries : p + 1 ≡ 32 * q * entries_in size = omega arith in
-                inr (ap (λ n. n % entries_in size) as_entries ∙ mul-mod_left (32 * q) (entries_in size)))
-            (or_cases (p == 1) ((p + 1) % bits_in size == 0) inventory))
-        (λ scn. ⊎_elim
-            (λ second. let two = eqb-true p 2 second in absurd (omega arith))
-            (λ multiple. inl (eqb-true (p % entries_in size) 0 (and_parts (nat_lt 0 p) (p % entries_in size == 0) multiple).1))
-            (or_cases (p == 2) (nat_lt 0 p && p % entries_in size == 0) scn))
-        (or_cases (p == 1 || (p + 1) % bits_in size == 0) (p == 2 || (nat_lt 0 p && p % entries_in size == 0)) at)
+    (λ inventory. ⊎_elim
+    (λ first. let one = eqb-true p 1 first in absurd (omega arith))
+    (λ multiple.
+    let none = eqb-true ((p + 1) % bits_in size) 0 multiple in
+    let q : ℕ = (p + 1) / bits_in size in
+    let whole : bits_in size * q + (p + 1) % bits_in size ≡ p + 1 = omega arith in
+    let as_entries : p + 1 ≡ 32 * q * entries_in size = omega arith in
+    inr (ap (λ n. n % entries_in size) as_entries ∙ mul-mod_left (32 * q) (entries_in size)))
+    (or_cases (p == 1) ((p + 1) % bits_in size == 0) inventory))
+    (λ scn. ⊎_elim
+    (λ second. let two = eqb-true p 2 second in absurd (omega arith))
+    (λ multiple. inl (eqb-true (p % entries_in size) 0 (and_parts (nat_lt 0 p) (p % entries_in size == 0) multiple).1))
+    (or_cases (p == 2) (nat_lt 0 p && p % entries_in size == 0) scn))
+    (or_cases (p == 1 || (p + 1) % bits_in size == 0) (p == 2 || (nat_lt 0 p && p % entries_in size == 0)) at)
 
 -- of three places side by side one is no system place
 third_plain : (size p : ℕ) → IsTrue (is_page_size size) → 3 ≤ p → is_system_place size p ≡ true → is_system_place size (p + 1) ≡ true → is_system_place size (p + 2) ≡ true → ⊥
@@ -42,15 +42,15 @@ third_plain size p is far first second third =
     let s : ℕ = entries_in size in
     let least = entries-least size is in
     ⊎_elim
-        (λ here.
-            let one = mod-next p 1 s here (omega arith) in
-            let two : (p + 1 + 1) % s ≡ 2 = ap (λ n. n % s) (let e : p + 1 + 1 ≡ p + 2 = omega arith in e) ∙ mod-next p 2 s here (omega arith) in
-            ⊎_elim (λ a. absurd (omega arith)) (λ b. absurd (omega arith)) (system_near size (p + 1) is (omega arith) second))
-        (λ next.
-            let one : (p + 2) % s ≡ 1 = ap (λ n. n % s) (let e : p + 2 ≡ p + 1 + 1 = omega arith in e) ∙ mod-next (p + 1) 1 s next (omega arith) in
-            let two : (p + 2 + 1) % s ≡ 2 = ap (λ n. n % s) (let e : p + 2 + 1 ≡ p + 1 + 2 = omega arith in e) ∙ mod-next (p + 1) 2 s next (omega arith) in
-            ⊎_elim (λ a. absurd (omega arith)) (λ b. absurd (omega arith)) (system_near size (p + 2) is (omega arith) third))
-        (system_near size p is far first)
+    (λ here.
+    let one = mod-next p 1 s here (omega arith) in
+    let two : (p + 1 + 1) % s ≡ 2 = ap (λ n. n % s) (let e : p + 1 + 1 ≡ p + 2 = omega arith in e) ∙ mod-next p 2 s here (omega arith) in
+    ⊎_elim (λ a. absurd (omega arith)) (λ b. absurd (omega arith)) (system_near size (p + 1) is (omega arith) second))
+    (λ next.
+    let one : (p + 2) % s ≡ 1 = ap (λ n. n % s) (let e : p + 2 ≡ p + 1 + 1 = omega arith in e) ∙ mod-next (p + 1) 1 s next (omega arith) in
+    let two : (p + 2 + 1) % s ≡ 2 = ap (λ n. n % s) (let e : p + 2 + 1 ≡ p + 1 + 2 = omega arith in e) ∙ mod-next (p + 1) 2 s next (omega arith) in
+    ⊎_elim (λ a. absurd (omega arith)) (λ b. absurd (omega arith)) (system_near size (p + 2) is (omega arith) third))
+    (system_near size p is far first)
 
 -- the next plain place, by how far it is
 data Next (size p : ℕ) : Type 0 where
@@ -62,10 +62,10 @@ next_plain-is : (size p : ℕ) → IsTrue (is_page_size size) → 3 ≤ p → Ne
 unfolding next_plain
 next_plain-is size p is far = ⊎_elim
     (λ system. ⊎_elim
-        (λ next. two_on system next (false_from_ne_true (is_system_place size (p + 2)) (third_plain size p is far system next))
-            (cond-true (is_system_place size p) _ _ system ∙ cond-true (is_system_place size (p + 1)) _ _ next))
-        (λ plain. one_on system plain (cond-true (is_system_place size p) _ _ system ∙ cond-false (is_system_place size (p + 1)) _ _ plain))
-        (cases_Bool (is_system_place size (p + 1))))
+    (λ next. two_on system next (false_from_ne_true (is_system_place size (p + 2)) (third_plain size p is far system next))
+    (cond-true (is_system_place size p) _ _ system ∙ cond-true (is_system_place size (p + 1)) _ _ next))
+    (λ plain. one_on system plain (cond-true (is_system_place size p) _ _ system ∙ cond-false (is_system_place size (p + 1)) _ _ plain))
+    (cases_Bool (is_system_place size (p + 1))))
     (λ plain. here plain (cond-false (is_system_place size p) _ _ plain))
     (cases_Bool (is_system_place size p))
 
@@ -76,14 +76,14 @@ one_plain size p (here plain at) =
     ap (plain_places size p) (let e : next_plain size p + 1 - p ≡ 1 = omega arith in e) ∙ ap (λ n. n + 0) (cond-false (is_system_place size p) 0 1 plain)
 one_plain size p (one_on system plain at) =
     ap (plain_places size p) (let e : next_plain size p + 1 - p ≡ 2 = omega arith in e)
-        ∙ ap (λ n. n + ((if is_system_place size (p + 1) then 0 else 1) + 0)) (cond-true (is_system_place size p) 0 1 system)
-        ∙ ap (λ n. 0 + (n + 0)) (cond-false (is_system_place size (p + 1)) 0 1 plain)
+    ∙ ap (λ n. n + ((if is_system_place size (p + 1) then 0 else 1) + 0)) (cond-true (is_system_place size p) 0 1 system)
+    ∙ ap (λ n. 0 + (n + 0)) (cond-false (is_system_place size (p + 1)) 0 1 plain)
 one_plain size p (two_on system next plain at) =
     let third : is_system_place size (p + 1 + 1) ≡ false = ap (is_system_place size) (let e : p + 1 + 1 ≡ p + 2 = omega arith in e) ∙ plain in
     ap (plain_places size p) (let e : next_plain size p + 1 - p ≡ 3 = omega arith in e)
-        ∙ ap (λ n. n + ((if is_system_place size (p + 1) then 0 else 1) + ((if is_system_place size (p + 1 + 1) then 0 else 1) + 0))) (cond-true (is_system_place size p) 0 1 system)
-        ∙ ap (λ n. 0 + (n + ((if is_system_place size (p + 1 + 1) then 0 else 1) + 0))) (cond-true (is_system_place size (p + 1)) 0 1 next)
-        ∙ ap (λ n. 0 + (0 + (n + 0))) (cond-false (is_system_place size (p + 1 + 1)) 0 1 third)
+    ∙ ap (λ n. n + ((if is_system_place size (p + 1) then 0 else 1) + ((if is_system_place size (p + 1 + 1) then 0 else 1) + 0))) (cond-true (is_system_place size p) 0 1 system)
+    ∙ ap (λ n. 0 + (n + ((if is_system_place size (p + 1 + 1) then 0 else 1) + 0))) (cond-true (is_system_place size (p + 1)) 0 1 next)
+    ∙ ap (λ n. 0 + (0 + (n + 0))) (cond-false (is_system_place size (p + 1 + 1)) 0 1 third)
 
 next_plain-least : (size p : ℕ) → Next size p → p ≤ next_plain size p
 next_plain-least size p (here plain at) = omega arith
@@ -122,9 +122,9 @@ plain_after size (suc raw) p is far =
     let rest = plain_after size raw q is (omega arith) in
     let one = one_plain size p found in
     ap (plain_places size p) (let e : end - p ≡ (q - p) + (end - q) = omega arith in e)
-        ∙ plain_places-add size p (q - p) (end - q)
-        ∙ ap (λ at. plain_places size p (q - p) + plain_places size at (end - q)) (let e : p + (q - p) ≡ q = omega arith in e)
-        ∙ (let z : plain_places size p (q - p) + plain_places size q (end - q) ≡ suc raw = omega arith in z)
+    ∙ plain_places-add size p (q - p) (end - q)
+    ∙ ap (λ at. plain_places size p (q - p) + plain_places size at (end - q)) (let e : p + (q - p) ≡ q = omega arith in e)
+    ∙ (let z : plain_places size p (q - p) + plain_places size q (end - q) ≡ suc raw = omega arith in z)
 
 pub fresh_count-plain : (size raw : ℕ) → IsTrue (is_page_size size) → plain_places size 5 (fresh_count size raw - 5) ≡ raw
 unfolding fresh_count

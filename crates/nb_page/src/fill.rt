@@ -14,7 +14,8 @@ use nb_fields::put_number;
 pub(crate) fn fill_header(page: &mut [u8])
     requires size { IsTrue (is_page_size (length page.old)) }
     requires blank { IsBlank page.old }
-    ensures { page.new ≡ with_payload page.old (header_payload (length page.old) 0 1 (replicate 16 0) (replicate 16 0)) }
+    ensures { page.new
+        ≡ with_payload page.old (header_payload (length page.old) 0 1 (replicate 16 0) (replicate 16 0)) }
 {
     let fresh = Header {
         page_size: page.len() as u32,
@@ -35,8 +36,9 @@ pub(crate) fn fill_inventory(page: &mut [u8], raw: u32, number: u32)
     requires blank { IsBlank page.old }
     requires raw { raw ≤ 65535 }
     requires inside { number < fresh_count (length page.old) raw }
-    ensures { let k = (number + 1) / bits_in (length page.old) in
-        page.new ≡ with_payload page.old (inventory_payload (length page.old) k (fresh_count (length page.old) raw - k * bits_in (length page.old))) }
+    ensures { let size = length page.old in
+        let k = (number + 1) / bits_in size in
+        page.new ≡ with_payload page.old (inventory_payload size k (fresh_count size raw - k * bits_in size)) }
 {
     let size = page.len() as u32;
     let count = fresh_count(size, raw);
@@ -62,7 +64,8 @@ fn fill_bits(bits: &mut [u8], taken: usize)
 pub(crate) fn fill_scn_inventory(page: &mut [u8], number: u32)
     requires size { IsTrue (is_page_size (length page.old)) }
     requires blank { IsBlank page.old }
-    ensures { page.new ≡ with_payload page.old (scn_payload (length page.old) (number / entries_in (length page.old)) 1) }
+    ensures { let size = length page.old in
+        page.new ≡ with_payload page.old (scn_payload size (number / entries_in size) 1) }
 {
     let k = number / entries_in(page.len() as u32);
     scn_inventory::Number::put(page, u64::from(k));

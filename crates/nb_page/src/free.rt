@@ -42,7 +42,8 @@ fn is_free_start(first: &[u8]) -> bool
 /// header of a restore that was stopped. A name that a database may have is not free where a difference file stands
 /// beside it.
 pub fn is_free<H: Host>(host: &mut H, name: &Name) -> Result<bool, HostFault>
-    ensures answer { IsTrue H.tells → IfOk result (λ free. free ≡ is_free_name (H.world host.old).files name.now) }
+    ensures answer { IsTrue H.tells
+        → IfOk result (λ free. free ≡ is_free_name (H.world host.old).files name.now) }
     ensures quiet { Quiet (H.world host.old) (H.world host.new) }
     ensures reads { IsTrue H.tells → OnOk result ((H.world host.new).reads ≡ (H.world host.old).reads + 1) }
     ensures cause { CountsFault result (H.faults host.old) (H.faults host.new) }
@@ -56,7 +57,8 @@ pub fn is_free<H: Host>(host: &mut H, name: &Name) -> Result<bool, HostFault>
 /// Whether a difference file stands beside a name that a database may have.
 #[tactic(auto, unfolding(crate::specs::Free::has_delta))]
 fn stands_beside<H: Host>(host: &mut H, name: &Name) -> Result<bool, HostFault>
-    ensures answer { IsTrue H.tells → IfOk result (λ beside. beside ≡ has_delta (H.world host.old).files name.now) }
+    ensures answer { IsTrue H.tells
+        → IfOk result (λ beside. beside ≡ has_delta (H.world host.old).files name.now) }
     ensures quiet { Quiet (H.world host.old) (H.world host.new) }
     ensures reads { (H.world host.new).reads ≡ (H.world host.old).reads }
     ensures cause { CountsFault result (H.faults host.old) (H.faults host.new) }

@@ -3,8 +3,7 @@ ghost use Rattle.nb_fields.specs.Bytes.{with_part};
 ghost use Rattle.nb_fields.specs.Places.{is_page_size};
 ghost use Rattle.nb_fields.specs.Page.{kind_of, number_of_page};
 ghost use Rattle.nb_fields.specs.Header.{is_header, is_marked, is_sound};
-ghost use Rattle.nb_fields.specs.Payloads.{control_block};
-ghost use Rattle.nb_page.specs.Header.{header_in, HasForm};
+ghost use Rattle.nb_page.specs.Header.{header_in, block_of, HasForm};
 
 use nb_fields::fields;
 use nb_fields::layouts::{head, header};
@@ -37,7 +36,8 @@ fn is_marked(first: &[u8]) -> bool
     requires { 64 ≤ length first.now }
     ensures { result ≡ is_marked first.now }
 {
-    fields!(first; kind: head::Kind, number: head::Number, signature: header::Signature, version: header::Version);
+    fields!(first; kind: head::Kind, number: head::Number);
+    fields!(first; signature: header::Signature, version: header::Version);
     kind == 1 && number == 0 && signature == header::SIGNATURE && version == header::VERSION
 }
 
@@ -47,7 +47,8 @@ fn header_in(first: &[u8]) -> Header
     requires { 64 ≤ length first.now }
     ensures { result ≡ header_in first.now }
 {
-    fields!(first; state: header::State, page_size: header::PageSize, scn: header::Scn, guid: header::Guid, pending: header::Pending);
+    fields!(first; state: header::State, page_size: header::PageSize, scn: header::Scn);
+    fields!(first; guid: header::Guid, pending: header::Pending);
     Header {
         page_size: page_size as u32,
         state: state as u16,
@@ -91,8 +92,9 @@ pub fn read_header(first: &[u8]) -> Option<Header>
 pub fn write_header(page: &mut [u8], header: &Header)
     requires { IsTrue (is_page_size (length page.old)) }
     ensures read_back { header_in page.new ≡ header.now }
-    ensures form { kind_of page.old ≡ 1 → number_of_page page.old ≡ 0 → HasForm header.now → IsTrue (is_header page.new) }
-    ensures written { page.new ≡ with_part 16 (control_block header.now.page_size header.now.state header.now.scn header.now.guid header.now.pending) page.old }
+    ensures form { kind_of page.old ≡ 1 → number_of_page page.old ≡ 0 → HasForm header.now
+        → IsTrue (is_header page.new) }
+    ensures written { page.new ≡ with_part 16 (block_of header.now) page.old }
 {
     header::Signature::put(page, header::SIGNATURE);
     header::Version::put(page, header::VERSION);

@@ -39,7 +39,8 @@ pub fn read_head(page: &[u8]) -> PageHead
 pub fn stamp(page: &mut [u8], kind: u8, scn: u32, number: u32)
     requires { IsTrue (is_page_size (length page.old)) }
     ensures written { page.new ≡ stamped page.old kind (drop 16 page.old) scn number }
-    ensures head { head_in page.new ≡ record { kind = kind; generation = (generation_of page.old + 1) % 2 ^ 32; scn = scn; number = number } }
+    ensures head { head_in page.new
+        ≡ record { kind = kind; generation = (generation_of page.old + 1) % 2 ^ 32; scn = scn; number = number } }
     ensures rest { drop 16 page.new ≡ drop 16 page.old }
 {
     let generation = (head::Generation::get(page) as u32).wrapping_add(1);
