@@ -23,11 +23,23 @@ cache_again cache low high =
 -- the six page sizes are of this range
 one_of : (n : ℕ) → is_page_size n ≡ true → (1024 ≤ n) × (n ≤ 32768)
 one_of n h =
-    elim (or_cases _ (n == 32768) h) [ inr e ↦ let is = eqb-true n 32768 e in (omega arith, omega arith) | inl h1 ↦
-    elim (or_cases _ (n == 16384) h1) [ inr e ↦ let is = eqb-true n 16384 e in (omega arith, omega arith) | inl h2 ↦
-    elim (or_cases _ (n == 8192) h2) [ inr e ↦ let is = eqb-true n 8192 e in (omega arith, omega arith) | inl h3 ↦
-    elim (or_cases _ (n == 4096) h3) [ inr e ↦ let is = eqb-true n 4096 e in (omega arith, omega arith) | inl h4 ↦
-    elim (or_cases (n == 1024) (n == 2048) h4) [ inr e ↦ let is = eqb-true n 2048 e in (omega arith, omega arith) | inl e ↦ let is = eqb-true n 1024 e in (omega arith, omega arith) ] ] ] ] ]
+    elim (or_cases _ (n == 32768) h) [
+      | inr e ↦ let is = eqb-true n 32768 e in (omega arith, omega arith)
+      | inl h1 ↦
+          elim (or_cases _ (n == 16384) h1) [
+            | inr e ↦ let is = eqb-true n 16384 e in (omega arith, omega arith)
+            | inl h2 ↦
+                elim (or_cases _ (n == 8192) h2) [
+                  | inr e ↦ let is = eqb-true n 8192 e in (omega arith, omega arith)
+                  | inl h3 ↦
+                      elim (or_cases _ (n == 4096) h3) [
+                        | inr e ↦ let is = eqb-true n 4096 e in (omega arith, omega arith)
+                        | inl h4 ↦
+                            elim (or_cases (n == 1024) (n == 2048) h4) [ inr e ↦ let is = eqb-true n 2048 e in (omega arith, omega arith) | inl e ↦ let is = eqb-true n 1024 e in (omega arith, omega arith) ]
+                      ]
+                ]
+          ]
+    ]
 
 page_size_again : (size : ℕ) (rest : Bytes) → is_page_size size ≡ true → page_size_at (decimal size ++ (codes " raw " ++ rest)) ≡ Some (size, codes " raw " ++ rest)
 unfolding page_size_at
@@ -93,5 +105,5 @@ pub first_again : (session : ℕ) (s : Statement) → 1 ≤ session → session 
 unfolding first_at first_spelled line_text
 first_again session s low high fits =
     ap built
-      (ap (λ o. o >>= (λ (x : ℕ × Bytes). database_at x.1 >>= (λ (k : Statement). Some (x.0, k)))) (session_again session (command_text s) low high)
-      ∙ ap (λ o. o >>= (λ (k : Statement). Some (session, k))) (database_again s fits))
+    (ap (λ o. o >>= (λ (x : ℕ × Bytes). database_at x.1 >>= (λ (k : Statement). Some (x.0, k)))) (session_again session (command_text s) low high)
+    ∙ ap (λ o. o >>= (λ (k : Statement). Some (session, k))) (database_again s fits))

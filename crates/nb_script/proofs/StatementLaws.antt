@@ -97,5 +97,5 @@ pub statement_again : (session : ℕ) (s : Statement) → 1 ≤ session → sess
 unfolding statement_at spelled_at line_text
 statement_again session s low high fits =
     ap built
-      (ap (λ o. o >>= (λ (x : ℕ × Bytes). command_at x.1 >>= (λ (k : Statement). Some (x.0, k)))) (session_again session (command_text s) low high)
-      ∙ ap (λ o. o >>= (λ (k : Statement). Some (session, k))) (command_again s fits))
+    (ap (λ o. o >>= (λ (x : ℕ × Bytes). command_at x.1 >>= (λ (k : Statement). Some (x.0, k)))) (session_again session (command_text s) low high)
+    ∙ ap (λ o. o >>= (λ (k : Statement). Some (session, k))) (command_again s fits))
