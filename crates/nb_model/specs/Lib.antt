@@ -4,3 +4,7 @@ pub mod Lines
 pub mod Image
 pub mod Account
 pub mod Strokes
+pub mod Forms
+pub mod Causes
+pub mod Outcomes
+pub mod Pages
