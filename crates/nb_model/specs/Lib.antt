@@ -8,3 +8,6 @@ pub mod Forms
 pub mod Causes
 pub mod Outcomes
 pub mod Pages
+pub mod Chains
+pub mod Rows
+pub mod Tables
