@@ -11,3 +11,6 @@ pub mod Pages
 pub mod Chains
 pub mod Rows
 pub mod Tables
+pub mod Levels
+pub mod Backups
+pub mod Turns
