@@ -14,3 +14,7 @@ pub mod Tables
 pub mod Levels
 pub mod Backups
 pub mod Turns
+pub mod Owner
+pub mod Run
+pub mod Output
+pub mod Opened
