@@ -1,1 +1,4 @@
 mod RowsTurns
+pub mod FollowsLaws
+pub mod StrokeLaws
+pub mod AckedLaws

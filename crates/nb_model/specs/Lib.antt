@@ -18,3 +18,12 @@ pub mod Owner
 pub mod Run
 pub mod Output
 pub mod Opened
+pub mod Follows
+pub mod Sound
+pub mod Restoring
+pub mod InPlace
+pub mod Stands
+pub mod Waiting
+pub mod Pagewise
+pub mod Words
+pub mod Jobs

@@ -6,7 +6,7 @@ use Rattle.nb_host.specs.declared.refusals.Refusal.TheVariants.{FileExists, Usag
 use Rattle.nb_model.specs.declared.reply.Reply.{Reply}
 use Rattle.nb_model.specs.declared.reply.Reply.TheVariants.{Pages, Opened, Refused}
 use Rattle.nb_model.specs.declared.statement.Statement.{Statement}
-use Rattle.nb_model.specs.declared.statement.Statement.TheVariants.{CreateDb, OpenDb}
+use Rattle.nb_model.specs.declared.statement.Statement.TheVariants.{CreateDb, OpenDb, Sync}
 use Rattle.nb_model.specs.Image.{Image, image_state}
 use Rattle.nb_model.specs.Account.{Base, Entry, Plain, IsBase, Account, with_entry}
 use Rattle.nb_model.specs.Strokes.{Stroke, make, base_in, base_after, records_after}
@@ -26,12 +26,14 @@ pub record Now : Type 0 where
   pub given : Given
   pub todo : List (List Turn)
 
--- what one turn did: whose it was, its strokes, what it said, and the file that it made whole
+-- what one turn did: whose it was, its strokes, what it said, the file that it made whole, and whether all that waited was
+-- written and synced with it
 pub record Event : Type 0 where
   pub session : ℕ
   pub strokes : List Stroke
   pub reply : Option Reply
   pub made : Option (List ℕ × List ℕ)
+  pub syncs : Bool
 
 -- the database that is attached
 abbrev pub base_now : Now → Base
@@ -67,8 +69,13 @@ stands_then session rest o now = record {
   todo = slice_set now.todo (session - 1) (o.next ++ rest);
 }
 
-abbrev pub event_of : (session : ℕ) → Outcome → Event
-event_of session o = record { session = session; strokes = o.strokes; reply = o.reply; made = o.made }
+-- the statement `sync`
+abbrev pub is_sync : Turn → Bool
+is_sync (Begins Sync) = true
+is_sync other = false
+
+abbrev pub event_of : (session : ℕ) → Turn → Outcome → Event
+event_of session t o = record { session = session; strokes = o.strokes; reply = o.reply; made = o.made; syncs = is_sync t }
 
 -- events, and what stands after them
 abbrev pub Played : Type 0
@@ -77,7 +84,7 @@ Played = List Event × Now
 -- one turn of the session that has these turns to do; a session that has finished does nothing
 unfoldable pub take_turn : (session : ℕ) → List Turn → Now → Played
 take_turn session [] now = ([], now)
-take_turn session (t ∷ rest) now = (event_of session (outcome session t now) ∷ [], stands_then session rest (outcome session t now) now)
+take_turn session (t ∷ rest) now = (event_of session t (outcome session t now) ∷ [], stands_then session rest (outcome session t now) now)
 
 -- one number of the order of turns
 unfoldable pub one_turn : (session : ℕ) → Now → Played
@@ -124,14 +131,14 @@ begun sessions = map (map Begins) sessions
 
 -- it is refused
 abbrev pub refused_opening : (session : ℕ) → Reply → Account → Opening
-refused_opening session reply account = record { event = record { session = session; strokes = []; reply = Some reply; made = None }; account = account; now = None }
+refused_opening session reply account = record { event = record { session = session; strokes = []; reply = Some reply; made = None; syncs = true }; account = account; now = None }
 
 -- it is done, with these strokes
 unfoldable pub done_opening : (session : ℕ) (name : List ℕ) (cache : ℕ) → List Stroke → Reply → Account → Given → List (List Statement) → Opening
 done_opening session name cache strokes reply account given sessions =
     let now : Account = account_after name strokes None account in
     record {
-      event = record { session = session; strokes = strokes; reply = Some reply; made = None };
+      event = record { session = session; strokes = strokes; reply = Some reply; made = None; syncs = true };
       account = now;
       now = Some (record { name = name; cache = cache; account = now; running = None; given = given; todo = begun sessions });
     }
@@ -149,7 +156,7 @@ opening account given sessions session (OpenDb name cache) =
     let image : Image = (base_in (account.entry name)).image in
     opening_unless session (not_opened name (account.entry name)) account
     (done_opening session name cache [] (Opened (length image) (image_state image)) account given sessions)
-opening account given sessions session other = record { event = record { session = session; strokes = []; reply = None; made = None }; account = account; now = None }
+opening account given sessions session other = record { event = record { session = session; strokes = []; reply = None; made = None; syncs = true }; account = account; now = None }
 
 -- the rest of a run, which ends where its first statement is refused
 abbrev pub IsRest : (schedule : List ℕ) → Opening → List Event → Account → Type 0

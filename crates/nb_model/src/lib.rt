@@ -5,6 +5,7 @@
 #![tactic(auto)]
 
 mod built;
+mod job;
 mod reply;
 mod rows;
 mod statement;
@@ -12,6 +13,7 @@ mod table_name;
 mod text;
 
 pub use built::{are_schedules_built, is_built};
+pub use job::{Job, NameList};
 pub use reply::Reply;
 pub use rows::RowList;
 pub use statement::Statement;
