@@ -1,6 +1,6 @@
 -- What is acknowledged never falls as more is said, and is never more than all strokes.
 use Rattle.std.proofs.Common.{◌≡◌, inl, inr, ℕ, zero, suc, ◌+◌, ◌-◌, ◌≤◌, List, [], ◌∷◌, length, refl, sym, ap, ◌∙◌, arith, length-append}
-use Rattle.std.specs.Prelude.{Option, Some, None, true, false, nat_le, option_map}
+use Rattle.std.specs.Prelude.{Bool, Option, Some, None, true, false, nat_le, option_map}
 use Rattle.std.proofs.lemmas.Bool.Decides.{leb_tells}
 use Rattle.nb_model.specs.declared.reply.Reply.{Reply}
 use Rattle.nb_model.specs.Lines.{line_text}
@@ -9,7 +9,7 @@ use Rattle.nb_model.specs.Run.{Event, strokes_of}
 use Rattle.nb_model.specs.Output.{acked_in, acked}
 
 -- as a number
-number : Option ℕ → ℕ
+abbrev number : Option ℕ → ℕ
 number None = 0
 number (Some n) = n
 
@@ -41,23 +41,36 @@ abbrev step : (line k said : ℕ) → Option ℕ → Option ℕ
 step line k said later = elim (nat_le line said) [ false ↦ None | true ↦ after_said k later ]
 
 step_most : (line k a b : ℕ) (x y : Option ℕ) → a ≤ b → AtMost x y → AtMost (step line k a x) (step line k b y)
-step_most line k a b x y h later = elim (leb_tells line a) [
-  | inr w ↦ rw w.0 tt
-  | inl w ↦ elim (leb_tells line b) [ inl v ↦ rw w.0 (rw v.0 (said_most k x y later)) | inr v ↦ absurd (omega (arith, w.1, v.1)) ]
-]
+step_most line k a b x y h later = by_test (nat_le line a) (nat_le line b) (reaches line a b h)
+  where
+    by_test : (s t : Bool) → (s ≡ true → t ≡ true) → AtMost (elim s as (λ z. Option ℕ) [ false ↦ None | true ↦ after_said k x ]) (elim t as (λ z. Option ℕ) [ false ↦ None | true ↦ after_said k y ])
+    by_test false t e = tt
+    by_test true false e = absurd (false_true (e refl))
+      where
+        false_true : false ≡ true → ⊥
+        false_true h = cc
+    by_test true true e = said_most k x y later
+    reaches : (line a b : ℕ) → a ≤ b → nat_le line a ≡ true → nat_le line b ≡ true
+    reaches line a b h e = elim (leb_tells line b) [
+      | inl v ↦ v.0
+      | inr v ↦ elim (leb_tells line a) [ inl w ↦ absurd (omega (arith, w.1, v.1)) | inr w ↦ absurd (true_false (sym e ∙ w.0)) ]
+    ]
+      where
+        true_false : true ≡ false → ⊥
+        true_false h = cc
+
+-- by what the event says
+reply_most : (e : Event) (es : List Event) (a b : ℕ) (reply : Option Reply) → a ≤ b → ((c d : ℕ) → c ≤ d → AtMost (acked_in es c) (acked_in es d)) → AtMost
+    (elim reply as (λ x. Option ℕ) [ None ↦ after_quiet (length e.strokes) (acked_in es a) | Some r ↦ step (length (line_text e.session r)) (length e.strokes) a (acked_in es (a - length (line_text e.session r))) ])
+    (elim reply as (λ x. Option ℕ) [ None ↦ after_quiet (length e.strokes) (acked_in es b) | Some r ↦ step (length (line_text e.session r)) (length e.strokes) b (acked_in es (b - length (line_text e.session r))) ])
+reply_most e es a b None h rest = quiet_most (length e.strokes) (acked_in es a) (acked_in es b) (rest a b h)
+reply_most e es a b (Some r) h rest =
+    step_most (length (line_text e.session r)) (length e.strokes) a b _ _ h (rest (a - length (line_text e.session r)) (b - length (line_text e.session r)) (omega arith))
 
 pub acked_in_most : (es : List Event) (a b : ℕ) → a ≤ b → AtMost (acked_in es a) (acked_in es b)
 unfolding acked_in
 acked_in_most [] a b h = tt
-acked_in_most (e ∷ es) a b h = by_reply e.reply
-  where
-    rest : (line : ℕ) → AtMost (acked_in es (a - line)) (acked_in es (b - line))
-    rest line = acked_in_most es (a - line) (b - line) (omega arith)
-    by_reply : (reply : Option Reply) → AtMost
-        (elim reply as (λ x. Option ℕ) [ None ↦ after_quiet (length e.strokes) (acked_in es a) | Some r ↦ step (length (line_text e.session r)) (length e.strokes) a (acked_in es (a - length (line_text e.session r))) ])
-        (elim reply as (λ x. Option ℕ) [ None ↦ after_quiet (length e.strokes) (acked_in es b) | Some r ↦ step (length (line_text e.session r)) (length e.strokes) b (acked_in es (b - length (line_text e.session r))) ])
-    by_reply None = quiet_most (length e.strokes) (acked_in es a) (acked_in es b) (acked_in_most es a b h)
-    by_reply (Some r) = step_most (length (line_text e.session r)) (length e.strokes) a b _ _ h (rest (length (line_text e.session r)))
+acked_in_most (e ∷ es) a b h = reply_most e es a b e.reply h (acked_in_most es)
 
 numbers : (x y : Option ℕ) → AtMost x y → number x ≤ number y
 numbers None y h = omega arith

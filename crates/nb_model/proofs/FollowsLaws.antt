@@ -21,8 +21,8 @@ follows_on {a} {b} {c} {s} {t} f g le = record {
 }
 
 -- a page at a place with a stamp above s is no page with a stamp of at most s
-too_high : {b : Image} {s p q : ℕ} (page : Page) → page_at b p ≡ page → s < stamp_of page → q ≡ p → stamp_of (page_at b q) ≤ s → ⊥
-too_high {b} {s} {p} {q} page is high e low =
+too_high : (b : Image) (s p q : ℕ) (page : Page) → page_at b p ≡ page → s < stamp_of page → q ≡ p → stamp_of (page_at b q) ≤ s → ⊥
+too_high b s p q page is high e low =
     let now : stamp_of page ≤ s = subst (λ (x : Page). stamp_of x ≤ s) is (subst (λ (n : ℕ). stamp_of (page_at b n) ≤ s) e low) in
     omega arith
 
@@ -33,7 +33,7 @@ follows_set {a} {b} {s} p page f h high size = record {
   no_shorter = omega (arith, f.no_shorter, length-set b p page);
   same = λ q k low.
       elim (eqb_tells q p) [
-        | inl w ↦ absurd (too_high page (get_or-set_same b p page [] h) high w.1 low)
+        | inl w ↦ absurd (too_high (set b p page) s p q page (get_or-set_same b p page [] h) high w.1 low)
         | inr w ↦
             let is : page_at (set b p page) q ≡ page_at b q = get_or-set_other b p q page [] w.1 in
             let old = f.same q (omega (arith, length-set b p page)) (subst (λ (x : Page). stamp_of x ≤ s) is low) in
@@ -54,7 +54,7 @@ follows_add {a} {b} {s} page f some high =
                 let is : page_at (b ++ page ∷ []) q ≡ page_at b q = get_or_append_left b (page ∷ []) [] q w.1 in
                 let old = f.same q w.1 (subst (λ (x : Page). stamp_of x ≤ s) is low) in
                 (old.0, is ∙ old.1)
-            | inr w ↦ absurd (too_high page (get_or-append_seam b page [] []) high (omega arith) low)
+            | inr w ↦ absurd (too_high (b ++ page ∷ []) s (length b) q page (get_or-append_seam b page [] []) high (omega arith) low)
           ];
     }
 
@@ -68,7 +68,7 @@ follows_mixed {a} {s} images c all size mixed =
       no_shorter = omega (arith, longest.no_shorter);
       same = λ q k low.
           elim (eqb_tells q 0) [
-            | inl w ↦ absurd (too_high (first_page c) refl mixed.head w.1 low)
+            | inl w ↦ absurd (too_high c s 0 q (first_page c) refl mixed.head w.1 low)
             | inr w ↦
                 let ne : q ≢ 0 = w.1 in
                 let from = mixed.each q (omega arith) k in
@@ -80,7 +80,8 @@ follows_mixed {a} {s} images c all size mixed =
 
 -- lineage by recursion: the pages of two images from one number on
 abbrev pub Meets : (s : ℕ) → Image → Image → Type 0
-Meets s as [] = Unit {0}
+Meets s [] [] = Unit {0}
+Meets s (p ∷ ps) [] = Unit {0}
 Meets s [] (q ∷ qs) = (s < stamp_of q) × Meets s [] qs
 Meets s (p ∷ ps) (q ∷ qs) = (stamp_of q ≤ s → q ≡ p) × Meets s ps qs
 

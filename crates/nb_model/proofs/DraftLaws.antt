@@ -1,0 +1,75 @@
+-- What one write of the short forms keeps, every form keeps, and it holds after each of their strokes.
+use Rattle.std.proofs.Common.{◌≡◌, inl, inr, ℕ, zero, suc, ◌+◌, ◌≤◌, List, [], ◌∷◌, ◌++◌, length, take, refl, sym, ap, subst, ◌∙◌, arith, length-append}
+use Rattle.std.specs.Prelude.{Bool, true, false, ◌==◌, nat_lt}
+use Rattle.std.proofs.lemmas.Bool.Decides.{leb_tells}
+use Rattle.std.proofs.lemmas.List.{take-append-le}
+use Rattle.nb_fields.specs.Places.{is_system_place}
+use Rattle.nb_model.specs.Image.{Page, Image, image_size, image_scn, with_page}
+use Rattle.nb_model.specs.Account.{Base}
+use Rattle.nb_model.specs.Strokes.{Stroke, page, base_after, on_base, merged_page}
+use Rattle.nb_model.specs.Forms.{Draft, drafted, wrote, written, needs, is_kind, has_entry, scn_entry, entry_written, entry_raised, raised, put, set_bit, take_page, give_page, lowest_free, needs_inventories, searched, system_kind, system_page, no_page, new_within, new_page}
+use Rattle.nb_model.proofs.StrokeLaws.{base_after-append}
+
+-- What is kept by each write, and says nothing of what was read.
+pub record IsKept (P : Draft → Type 0) : Type 0 where
+  pub writes : (p kind : ℕ) (payload : List ℕ) (d : Draft) → P d → P (written p kind payload d)
+  pub reads : (broken : List ℕ) (d : Draft) → P d → P (record d { broken = broken })
+  pub fills : (d : Draft) → P d → P (no_page d)
+
+either : (P : Draft → Type 0) (t : Bool) (x y : Draft) → P x → P y → P (elim t as (λ z. Draft) [ true ↦ x | false ↦ y ])
+either P true x y px py = px
+either P false x y px py = py
+
+either_page : (P : Draft → Type 0) (t : Bool) (x y : Draft × ℕ) → P x.0 → P y.0 → P (elim t as (λ z. Draft × ℕ) [ true ↦ x | false ↦ y ]).0
+either_page P true x y px py = px
+either_page P false x y px py = py
+
+module _ (P : Draft → Type 0) (kept : IsKept P) where
+  pub needs_keeps : (kind p : ℕ) (d : Draft) → P d → P (needs kind p d)
+  unfolding needs
+  needs_keeps kind p d h = either P _ _ _ h (kept.reads _ d h)
+
+  entry_keeps : (p : ℕ) (d : Draft) → P d → P (entry_raised p d)
+  unfolding entry_raised entry_written
+  entry_keeps p d h = either P (nat_lt (scn_entry d.image p) (image_scn d.image)) _ _ (kept.writes _ 10 _ d h) h
+
+  raised_keeps : (p : ℕ) (d : Draft) → P d → P (raised p d)
+  unfolding raised
+  raised_keeps p d h = either P (has_entry d.image p) _ _ (entry_keeps p _ (needs_keeps 10 _ d h)) h
+
+  pub put_keeps : (p kind : ℕ) (payload : List ℕ) (d : Draft) → P d → P (put p kind payload d)
+  unfolding put
+  put_keeps p kind payload d h = kept.writes p kind payload _ (raised_keeps p d h)
+
+  pub set_bit_keeps : (bit p : ℕ) (d : Draft) → P d → P (set_bit bit p d)
+  unfolding set_bit
+  set_bit_keeps bit p d h = put_keeps _ 2 _ _ (needs_keeps 2 _ d h)
+
+  inventories_keep : (count k : ℕ) (d : Draft) → P d → P (needs_inventories count k d)
+  unfolding needs_inventories
+  inventories_keep zero k d h = h
+  inventories_keep (suc count) k d h = inventories_keep count (k + 1) _ (needs_keeps 2 _ d h)
+
+  searched_keeps : (p : ℕ) (d : Draft) → P d → P (searched p d)
+  unfolding searched
+  searched_keeps p d h = inventories_keep _ 0 d h
+
+  system_keeps : (p : ℕ) (d : Draft) → P d → P (system_page p d)
+  unfolding system_page
+  system_keeps p d h = either P (is_kind d.image (system_kind d.image p) p) _ _ h (put_keeps p _ _ d h)
+
+  pub new_keeps : (tries kind : ℕ) (payload : ℕ → List ℕ) (d : Draft) → P d → P (new_within tries kind payload d).0
+  unfolding new_within
+  new_keeps zero kind payload d h = kept.fills d h
+  new_keeps (suc tries) kind payload d h =
+      let p : ℕ = lowest_free d.image in
+      let read : P (searched p d) = searched_keeps p d h in
+      either_page P (p == 1048576) _ _ (kept.fills _ read)
+      (either_page P (is_system_place (image_size d.image) p) _ _
+        (new_keeps tries kind payload _ (set_bit_keeps 0 p _ (system_keeps p _ read)))
+        (set_bit_keeps 0 p _ (put_keeps p kind (payload p) _ read)))
+
+-- the strokes of a form drafted from page 0 on never change the first 64 bytes
+-- The draft's image is that of the base after its strokes.
+pub record IsOf (b : Base) (d : Draft) : Type 0 where
+  pub is : (base_after b d.strokes).image ≡ d.image
