@@ -69,7 +69,75 @@ module _ (P : Draft → Type 0) (kept : IsKept P) where
         (new_keeps tries kind payload _ (set_bit_keeps 0 p _ (system_keeps p _ read)))
         (set_bit_keeps 0 p _ (put_keeps p kind (payload p) _ read)))
 
--- the strokes of a form drafted from page 0 on never change the first 64 bytes
--- The draft's image is that of the base after its strokes.
+-- The draft's image is that of the database after its strokes.
 pub record IsOf (b : Base) (d : Draft) : Type 0 where
   pub is : (base_after b d.strokes).image ≡ d.image
+
+pub drafted_is : (b : Base) → IsOf b (drafted b.image)
+unfolding base_after
+drafted_is b = record { is = refl }
+
+page_image : (b : Base) (p : ℕ) (bytes : Page) → (base_after b (page p bytes ∷ [])).image ≡ with_page p (merged_page p bytes b.image) b.image
+unfolding base_after on_base
+page_image b p bytes = refl
+
+wrote_is : (b : Base) (p : ℕ) (bytes : Page) (d : Draft) → IsOf b d → IsOf b (wrote p bytes d)
+unfolding wrote
+wrote_is b p bytes d h = record {
+  is = ap (λ (x : Base). x.image) (base_after-append b d.strokes (page p bytes ∷ [])) ∙ page_image (base_after b d.strokes) p bytes
+      ∙ ap (λ (x : Image). with_page p (merged_page p bytes x) x) h.is;
+}
+
+written_is : (b : Base) (p kind : ℕ) (payload : List ℕ) (d : Draft) → IsOf b d → IsOf b (written p kind payload d)
+unfolding written
+written_is b p kind payload d h = wrote_is b p _ d h
+
+pub drafts_are : (b : Base) → IsKept (IsOf b)
+drafts_are b = record {
+  writes = written_is b;
+  reads = λ broken d h. record { is = h.is };
+  fills = λ d h. record { is = h.is };
+}
+
+-- The draft has P, and the database had Q after each front of the strokes.
+pub record Stays (P : Draft → Type 0) (Q : Image → Type 0) (b : Base) (d : Draft) : Type 0 where
+  pub is : IsOf b d
+  pub now : P d
+  pub each : (k : ℕ) → Q (base_after b (take k d.strokes)).image
+
+take_all : (k : ℕ) (xs : List Stroke) → length xs ≤ k → take k xs ≡ xs
+take_all zero [] h = refl
+take_all (suc k) [] h = refl
+take_all zero (x ∷ xs) h = absurd (omega arith)
+take_all (suc k) (x ∷ xs) h = ap (λ (ys : List Stroke). x ∷ ys) (take_all k xs (omega arith))
+
+one_more : (Q : Image → Type 0) (b : Base) (ss : List Stroke) (s : Stroke) → ((k : ℕ) → Q (base_after b (take k ss)).image) → Q (base_after b (ss ++ s ∷ [])).image
+    → (k : ℕ) → Q (base_after b (take k (ss ++ s ∷ []))).image
+one_more Q b ss s each whole k = elim (leb_tells k (length ss)) [
+  | inl w ↦ subst (λ (ys : List Stroke). Q (base_after b ys).image) (sym (take-append-le k ss (s ∷ []) w.1)) (each k)
+  | inr w ↦ subst (λ (ys : List Stroke). Q (base_after b ys).image) (sym (take_all k (ss ++ s ∷ []) (omega (arith, length-append ss (s ∷ []))))) whole
+]
+
+module _ (P : Draft → Type 0) (Q : Image → Type 0) (b : Base) (kept : IsKept P) (tells : (d : Draft) → P d → Q d.image) where
+  written_stays : (p kind : ℕ) (payload : List ℕ) (d : Draft) → Stays P Q b d → Stays P Q b (written p kind payload d)
+  unfolding written wrote
+  written_stays p kind payload d h =
+      let is : IsOf b (written p kind payload d) = (drafts_are b).writes p kind payload d h.is in
+      let now : P (written p kind payload d) = kept.writes p kind payload d h.now in
+      record { is = is; now = now; each = one_more Q b d.strokes _ h.each (subst Q (sym is.is) (tells (written p kind payload d) now)) }
+
+  -- so what each write keeps holds at each moment of a form
+  pub stays_kept : IsKept (Stays P Q b)
+  stays_kept = record {
+    writes = written_stays;
+    reads = λ broken d h. record { is = (drafts_are b).reads broken d h.is; now = kept.reads broken d h.now; each = h.each };
+    fills = λ d h. record { is = (drafts_are b).fills d h.is; now = kept.fills d h.now; each = h.each };
+  }
+
+  pub stays_first : P (drafted b.image) → Stays P Q b (drafted b.image)
+  unfolding base_after
+  stays_first h = record { is = drafted_is b; now = h; each = λ k. none k }
+    where
+      none : (k : ℕ) → Q (base_after b (take k [])).image
+      none zero = tells (drafted b.image) h
+      none (suc k) = tells (drafted b.image) h

@@ -1,7 +1,11 @@
-mod RowsTurns
+pub mod WorkedRows
+pub mod WorkedChains
 pub mod FollowsLaws
 pub mod StrokeLaws
 pub mod AckedLaws
 pub mod RunLaws
 pub mod TurnLaws
 pub mod DraftLaws
+pub mod LineLaws
+pub mod OwnerLaws
+pub mod SessionLaws

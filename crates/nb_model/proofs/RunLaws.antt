@@ -80,7 +80,7 @@ no_turn ([] ∷ rest) h zero = refl
 no_turn ([] ∷ rest) h (suc i) = no_turn rest h i
 no_turn ((t ∷ ts) ∷ rest) h i = absurd h
 
-nothing_taken : (session : ℕ) (now : Now) → take_turn session [] now ≡ ([], now)
+pub nothing_taken : (session : ℕ) (now : Now) → take_turn session [] now ≡ ([], now)
 unfolding take_turn
 nothing_taken session now = refl
 

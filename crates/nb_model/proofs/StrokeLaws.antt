@@ -3,10 +3,10 @@ use Rattle.std.proofs.Common.{◌≡◌, ◌≢◌, inl, inr, ℕ, zero, suc, �
 use Rattle.std.specs.Prelude.{true, false, Option}
 use Rattle.std.proofs.lemmas.List.{append-nil, get_or_append_left}
 use Rattle.std.proofs.lemmas.Bool.Decides.{leb_tells, eqb_tells}
-use Rattle.nb_host.specs.Names.{same_name}
+use Rattle.nb_fields.specs.Bytes.{bytes_of}
 use Rattle.nb_model.specs.Image.{Page, Image, page_at, with_page}
-use Rattle.nb_model.specs.Account.{Base, Kept, Entry, IsBase, Account, with_entry}
-use Rattle.nb_model.specs.Strokes.{Stroke, page, on_base, records_of, base_after, records_after, base_in, merged_page, after}
+use Rattle.nb_model.specs.Account.{Base, Kept}
+use Rattle.nb_model.specs.Strokes.{Stroke, page, on_base, records_of, base_after, records_after, merged_page, fixed}
 
 -- strokes behind strokes
 pub base_after-append : (b : Base) (xs ys : List Stroke) → base_after b (xs ++ ys) ≡ base_after (base_after b xs) ys
@@ -59,3 +59,14 @@ with_page_same p bytes image low = elim (leb_tells (suc p) (length image)) [
 pub stroke_page : (b : Base) (p : ℕ) (bytes : Page) → (on_base (page p bytes) b).image ≡ with_page p (merged_page p bytes b.image) b.image
 unfolding on_base
 stroke_page b p bytes = refl
+
+pub stroke_same : (b : Base) (p : ℕ) (bytes : Page) → p ≤ length b.image → page_at (on_base (page p bytes) b).image p ≡ merged_page p bytes b.image
+stroke_same b p bytes h = ap (λ (x : Image). page_at x p) (stroke_page b p bytes) ∙ with_page_same p (merged_page p bytes b.image) b.image h
+
+pub stroke_other : (b : Base) (p q : ℕ) (bytes : Page) → p ≤ length b.image → q ≢ p → page_at (on_base (page p bytes) b).image q ≡ page_at b.image q
+stroke_other b p q bytes h ne = ap (λ (x : Image). page_at x q) (stroke_page b p bytes) ∙ with_page_other p q (merged_page p bytes b.image) b.image h ne
+
+-- a fixup writes two bytes
+pub fixed_page : (p : Page) (ps : Image) → fixed (p ∷ ps) ≡ (take 22 p ++ 0 ∷ 0 ∷ drop 24 p) ∷ ps
+unfolding fixed bytes_of
+fixed_page p ps = refl

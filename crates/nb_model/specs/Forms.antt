@@ -9,7 +9,7 @@ use Rattle.nb_fields.specs.Places.{entries_in, bits_in, inventory_place, scn_pla
 use Rattle.nb_fields.specs.Page.{kind_of, stamped}
 use Rattle.nb_fields.specs.Payloads.{bit_of, entry_of, inventory_payload, scn_payload}
 use Rattle.nb_model.specs.Image.{Page, Image, page_at, image_size, image_scn, with_page}
-use Rattle.nb_model.specs.Strokes.{Stroke, page}
+use Rattle.nb_model.specs.Strokes.{Stroke, page, merged_page}
 
 -- Strokes that are about to be made: the image after them, the strokes in order, the inventory pages of either kind that were
 -- read and aren't of the form, and whether no page was left for a new one.
@@ -29,7 +29,7 @@ old_page p image = elim (nat_lt p (length image)) [ true ↦ page_at image p | f
 
 -- one page stroke more
 unfoldable pub wrote : ℕ → Page → Draft → Draft
-wrote p bytes d = record d { image = with_page p bytes d.image; strokes = d.strokes ++ page p bytes ∷ [] }
+wrote p bytes d = record d { image = with_page p (merged_page p bytes d.image) d.image; strokes = d.strokes ++ page p bytes ∷ [] }
 
 -- Page p gets that kind and that payload, with the current SCN as its stamp. No other form writes.
 unfoldable pub written : (p kind : ℕ) (payload : List ℕ) → Draft → Draft

@@ -17,7 +17,6 @@ pub mod Turns
 pub mod Owner
 pub mod Run
 pub mod Output
-pub mod Opened
 pub mod Follows
 pub mod Sound
 pub mod Restoring
@@ -27,3 +26,6 @@ pub mod Waiting
 pub mod Pagewise
 pub mod Words
 pub mod Jobs
+pub mod Line
+pub mod Worked
+pub mod Opened

@@ -6,6 +6,7 @@
 
 mod built;
 mod job;
+pub mod laws;
 mod reply;
 mod rows;
 mod statement;

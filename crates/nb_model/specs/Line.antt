@@ -1,0 +1,40 @@
+-- A line of backups, each of which goes on from the one before, and what the files of such a line hold.
+use Rattle.std.specs.Prelude.{◌≡◌, List, [], ◌∷◌, ◌++◌, Some, true, false}
+use Rattle.std.specs.List.{AllByRecursion}
+use Rattle.nb_fields.specs.Bytes.{is_zeros}
+use Rattle.nb_model.specs.Image.{Image, image_size}
+use Rattle.nb_model.specs.Account.{Ask, Kept}
+use Rattle.nb_model.specs.Levels.{taken, numbered_from}
+use Rattle.nb_model.specs.Follows.{Follows}
+use Rattle.nb_model.specs.Restoring.{Link}
+
+-- q names r as the backup that it goes on from, and its image follows that of r
+pub record IsNext (r q : Kept) : Type 0 where
+  pub ask : Ask
+  pub is : q.ask ≡ Some ask
+  pub guid : ask.previous ≡ r.guid
+  pub scn : ask.previous_scn ≡ r.scn
+  pub follows : Follows r.image r.scn q.image
+
+-- each of these goes on from the one before
+abbrev pub IsLine : Kept → List Kept → Type 0
+IsLine r [] = Unit {0}
+IsLine r (q ∷ qs) = IsNext r q × IsLine q qs
+
+-- the last of a line
+abbrev pub last_in : Kept → List Kept → Kept
+last_in r [] = r
+last_in r (q ∷ qs) = last_in q qs
+
+-- all pages are zeros
+abbrev pub AreZeroPages : Image → Type 0
+AreZeroPages = AllByRecursion (λ page. is_zeros page ≡ true)
+
+-- what a file of the first backup holds, with these pages behind its own
+unfoldable pub first_file : Kept → (behind : Image) → Link
+first_file r behind = record { guid = r.guid; scn = r.scn; size = image_size r.image; pages = numbered_from 0 (r.image ++ behind) }
+
+-- what the files of the next backups hold: the pages since the backup before
+unfoldable pub next_files : Kept → List Kept → List Link
+next_files r [] = []
+next_files r (q ∷ qs) = record { guid = q.guid; scn = q.scn; size = image_size q.image; pages = taken r.scn q.image } ∷ next_files q qs
