@@ -1,5 +1,3 @@
-pub mod WorkedRows
-pub mod WorkedChains
 pub mod FollowsLaws
 pub mod StrokeLaws
 pub mod AckedLaws

@@ -1,15 +1,17 @@
 -- Worked sessions, which the rows of `worked` compute: a fresh database of 1,024-byte pages, and what is said and made then.
 use Rattle.std.specs.Prelude.{ℕ, ◌+◌, List, [], ◌∷◌, ◌++◌, map, replicate, codes, Option, None, Some, Result, Ok, Err, true, false}
+use Rattle.nb_fields.specs.Bytes.{bytes_of}
 use Rattle.nb_host.specs.Files.{Files}
 use Rattle.nb_host.specs.Names.{same_name}
 use Rattle.nb_host.specs.declared.refusals.Refusal.{Refusal}
 use Rattle.nb_model.specs.declared.reply.Reply.{Reply}
 use Rattle.nb_model.specs.declared.statement.Statement.{Statement}
-use Rattle.nb_model.specs.declared.statement.Statement.TheVariants.{CreateDb, Write, Backup}
-use Rattle.nb_model.specs.Image.{Image, Numbered}
+use Rattle.nb_model.specs.declared.statement.Statement.TheVariants.{CreateDb, Write, BeginBackup, Backup}
+use Rattle.nb_model.specs.Image.{Image, Numbered, page_at}
 use Rattle.nb_model.specs.Account.{Account, Missing, Base, base_of}
 use Rattle.nb_model.specs.Strokes.{Stroke, make, page, begin, ends, finish, fix, merge}
-use Rattle.nb_model.specs.Levels.{Contents, read_level}
+use Rattle.nb_model.specs.Levels.{Contents, read_level, joined}
+use Rattle.nb_model.specs.Owner.{owner}
 use Rattle.nb_model.specs.Restoring.{Link, verdict}
 use Rattle.nb_model.specs.Outcomes.{Given}
 use Rattle.nb_model.specs.Run.{Event, Opening, Now, opening, base_now, play, rounds, replies_of, strokes_of, files_made}
@@ -87,3 +89,33 @@ unfoldable pub chain_files : List (List ℕ × List ℕ)
 chain_files =
     made 8 1 (Backup 0 (codes "a.0") ∷ Write 6 (codes "new") ∷ Backup 1 (codes "a.1") ∷ Write 6 (codes "later") ∷ Backup 2 (codes "a.2") ∷ [])
     ++ made 8 4 (Backup 0 (codes "z.0") ∷ [])
+
+-- the main file of a fresh database
+unfoldable pub main_file : (raw : ℕ) → List ℕ
+main_file raw = joined (base_then raw [] []).image
+
+-- the difference file after a begin and a write of page 6: an allocation page and two slots
+unfoldable pub delta_file : List ℕ
+delta_file =
+    let b : Base = base_then 8 ((BeginBackup ∷ Write 6 (codes "new") ∷ []) ∷ []) (1 ∷ 1 ∷ []) in
+    (bytes_of 4 2 ++ (bytes_of 4 2 ++ (bytes_of 4 6 ++ replicate 1012 0))) ++ (page_at b.image 2 ++ page_at b.image 6)
+
+-- the main file as the begin left it
+unfoldable pub stalled_file : List ℕ
+stalled_file = joined (base_then 8 ((BeginBackup ∷ []) ∷ []) (1 ∷ [])).image
+
+-- why two files can't be opened
+unfoldable pub not_open : (main delta : Option (List ℕ)) → Option Refusal
+not_open main delta = elim (owner (codes "a.db") main delta) [ Ok b ↦ None | Err refusal ↦ Some refusal ]
+
+-- the place at which a level file is broken
+unfoldable pub broken_place : List ℕ → Option ℕ
+broken_place bytes = elim (read_level bytes) [ Ok c ↦ None | Err at ↦ Some at ]
+
+-- the bytes of a file that was made
+unfoldable pub bytes_made : (name : List ℕ) → List (List ℕ × List ℕ) → List ℕ
+bytes_made name files = elim (files_of files name) [ None ↦ [] | Some bytes ↦ bytes ]
+
+-- the level 1 of the worked chain
+unfoldable pub level_1_file : List ℕ
+level_1_file = bytes_made (codes "a.1") chain_files

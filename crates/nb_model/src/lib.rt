@@ -12,6 +12,7 @@ mod rows;
 mod statement;
 mod table_name;
 mod text;
+pub mod worked;
 
 pub use built::{are_schedules_built, is_built};
 pub use job::{Job, NameList};
