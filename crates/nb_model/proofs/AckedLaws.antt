@@ -1,11 +1,10 @@
 -- What is acknowledged never falls as more is said, and is never more than all strokes.
-use Rattle.std.proofs.Common.{◌≡◌, inl, inr, ℕ, zero, suc, ◌+◌, ◌-◌, ◌≤◌, List, [], ◌∷◌, length, refl, sym, ap, ◌∙◌, arith, length-append}
+use Rattle.std.proofs.Common.{◌≡◌, inl, inr, ℕ, ◌+◌, ◌-◌, ◌≤◌, List, [], ◌∷◌, length, refl, sym, ◌∙◌, arith}
 use Rattle.std.specs.Prelude.{Bool, Option, Some, None, true, false, nat_le, option_map}
 use Rattle.std.proofs.lemmas.Bool.Decides.{leb_tells}
 use Rattle.nb_model.specs.declared.reply.Reply.{Reply}
 use Rattle.nb_model.specs.Lines.{line_text}
-use Rattle.nb_model.specs.Strokes.{Stroke}
-use Rattle.nb_model.specs.Run.{Event, strokes_of}
+use Rattle.nb_model.specs.Run.{Event}
 use Rattle.nb_model.specs.Output.{acked_in, acked}
 
 -- as a number
@@ -50,6 +49,7 @@ step_most line k a b x y h later = by_test (nat_le line a) (nat_le line b) (reac
         false_true : false ≡ true → ⊥
         false_true h = cc
     by_test true true e = said_most k x y later
+
     reaches : (line a b : ℕ) → a ≤ b → nat_le line a ≡ true → nat_le line b ≡ true
     reaches line a b h e = elim (leb_tells line b) [
       | inl v ↦ v.0

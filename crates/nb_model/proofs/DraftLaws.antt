@@ -7,7 +7,7 @@ use Rattle.nb_fields.specs.Places.{is_system_place}
 use Rattle.nb_model.specs.Image.{Page, Image, image_size, image_scn, with_page}
 use Rattle.nb_model.specs.Account.{Base}
 use Rattle.nb_model.specs.Strokes.{Stroke, page, base_after, on_base, merged_page}
-use Rattle.nb_model.specs.Forms.{Draft, drafted, wrote, written, needs, is_kind, has_entry, scn_entry, entry_written, entry_raised, raised, put, set_bit, take_page, give_page, lowest_free, needs_inventories, searched, system_kind, system_page, no_page, new_within, new_page}
+use Rattle.nb_model.specs.Forms.{Draft, drafted, wrote, written, needs, is_kind, has_entry, scn_entry, entry_written, entry_raised, raised, put, set_bit, lowest_free, needs_inventories, searched, system_kind, system_page, no_page, new_within}
 use Rattle.nb_model.proofs.StrokeLaws.{base_after-append}
 
 -- What is kept by each write, and says nothing of what was read.
@@ -66,8 +66,8 @@ module _ (P : Draft → Type 0) (kept : IsKept P) where
       let read : P (searched p d) = searched_keeps p d h in
       either_page P (p == 1048576) _ _ (kept.fills _ read)
       (either_page P (is_system_place (image_size d.image) p) _ _
-        (new_keeps tries kind payload _ (set_bit_keeps 0 p _ (system_keeps p _ read)))
-        (set_bit_keeps 0 p _ (put_keeps p kind (payload p) _ read)))
+      (new_keeps tries kind payload _ (set_bit_keeps 0 p _ (system_keeps p _ read)))
+      (set_bit_keeps 0 p _ (put_keeps p kind (payload p) _ read)))
 
 -- The draft's image is that of the database after its strokes.
 pub record IsOf (b : Base) (d : Draft) : Type 0 where

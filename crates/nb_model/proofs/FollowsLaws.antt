@@ -1,5 +1,5 @@
 -- Laws of lineage.
-use Rattle.std.proofs.Common.{◌≡◌, ◌≢◌, inl, inr, ℕ, zero, suc, ◌+◌, ◌-◌, ◌<◌, ◌≤◌, List, [], ◌∷◌, ◌++◌, length, get_or, drop, refl, sym, ap, subst, ◌∙◌, set, arith, length-append, length-set, get_or-set_same, get_or-set_other, append_assoc}
+use Rattle.std.proofs.Common.{◌≡◌, ◌≢◌, inl, inr, ℕ, zero, suc, ◌+◌, ◌-◌, ◌<◌, ◌≤◌, List, [], ◌∷◌, ◌++◌, length, drop, refl, sym, ap, subst, ◌∙◌, set, arith, length-append, length-set, get_or-set_same, get_or-set_other, append_assoc}
 use Rattle.std.specs.Prelude.{Contains}
 use Rattle.std.proofs.lemmas.List.{append-nil, get_or_append_left}
 use Rattle.std.proofs.lemmas.Bool.Decides.{eqb_tells, leb_tells}
@@ -131,14 +131,14 @@ overwrites size s n front [] (q ∷ qs) e h =
     let next : length (front ++ q ∷ []) ≡ n + 1 = omega (arith, length-append front (q ∷ [])) in
     elim (leb_tells (suc s) (stamp_of q)) [
       | inl w ↦ rw (w.0, taken_from) (ap (overwritten size (taken_from (n + 1) s qs)) (written_end size n front q e) ∙ overwrites size s (n + 1) (front ++ q ∷ []) [] qs next h.1
-        ∙ append_assoc front (q ∷ []) (qs ++ drop (length qs) []) ∙ ap (λ (x : Image). front ++ q ∷ (qs ++ x)) (drop_none (length qs)))
+          ∙ append_assoc front (q ∷ []) (qs ++ drop (length qs) []) ∙ ap (λ (x : Image). front ++ q ∷ (qs ++ x)) (drop_none (length qs)))
       | inr w ↦ absurd (omega (arith, h.0))
     ]
 overwrites size s n front (p ∷ ps) (q ∷ qs) e h =
     let next : length (front ++ q ∷ []) ≡ n + 1 = omega (arith, length-append front (q ∷ [])) in
     elim (leb_tells (suc s) (stamp_of q)) [
       | inl w ↦ rw (w.0, taken_from) (ap (overwritten size (taken_from (n + 1) s qs)) (written_over size n front q p ps e) ∙ overwrites size s (n + 1) (front ++ q ∷ []) ps qs next h.1
-        ∙ append_assoc front (q ∷ []) (qs ++ drop (length qs) ps))
+          ∙ append_assoc front (q ∷ []) (qs ++ drop (length qs) ps))
       | inr w ↦
           let is : q ≡ p = h.0 (omega (arith, w.1)) in
           rw (w.0, taken_from) (ap (λ (x : Page). overwritten size (taken_from (n + 1) s qs) (front ++ x ∷ ps)) (sym is)

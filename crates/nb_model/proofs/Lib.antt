@@ -7,3 +7,6 @@ pub mod DraftLaws
 pub mod LineLaws
 pub mod OwnerLaws
 pub mod SessionLaws
+pub mod ReadLaws
+pub mod GatherLaws
+pub mod LevelLaws

@@ -1,6 +1,6 @@
 -- Merging an entry changes no image: the page belongs to the difference file before and after.
 use Rattle.std.proofs.Common.{◌≡◌, ◌≢◌, inl, inr, ℕ, zero, suc, ◌+◌, ◌-◌, ◌<◌, ◌≤◌, List, [], ◌∷◌, ◌++◌, length, get_or, take, drop, replicate, refl, sym, ap, ◌∙◌, arith, length-append, set, length-set, get_or-set_other, get_or-set_same}
-use Rattle.std.specs.Prelude.{Bool, true, false, Option, Some, None, nat_lt, nat_eq, max}
+use Rattle.std.specs.Prelude.{Bool, true, false, Option, Some, None, max}
 use Rattle.std.proofs.lemmas.Bool.Decides.{eqb_tells, leb_tells}
 use Rattle.std.proofs.lemmas.List.{get_or_append_left, get_or-append_right, take_at, length-take-le}
 use Rattle.nb_fields.specs.Table.{slot_place, page_in}
@@ -102,6 +102,7 @@ named p (q ∷ qs) k e = elim (eqb_tells p q) [
   where
     none_some : None ≡ Some k → ⊥
     none_some h = cc
+
     by_rest : ((i : ℕ) → entry_for p qs ≡ Some i → p + 1 ≤ behind_entries qs) → (x : Option ℕ) → entry_for p qs ≡ x → elim (entry_for p qs) as (λ z. Option ℕ) [ None ↦ None | Some i ↦ Some (suc i) ] ≡ Some k → p + 1 ≤ behind_entries (q ∷ qs)
     by_rest later None is h = absurd (none_some (ap (λ (y : Option ℕ). elim y as (λ z. Option ℕ) [ None ↦ None | Some i ↦ Some (suc i) ]) (sym is) ∙ h))
     by_rest later (Some i) is h = let r = later i is in omega (arith, r)
@@ -114,6 +115,7 @@ page_kept size k n main delta table e some long q = by_entry (entry_for q table)
   where
     none_some : None ≡ Some k → ⊥
     none_some h = cc
+
     by_entry : (x : Option ℕ) → entry_for q table ≡ x
         → elim x as (λ z. Page) [ Some j ↦ slot_page size (written_at size (n, slot_page size main delta n k) main) delta q j | None ↦ main_page size (written_at size (n, slot_page size main delta n k) main) q ]
         ≡ elim x as (λ z. Page) [ Some j ↦ slot_page size main delta q j | None ↦ main_page size main q ]

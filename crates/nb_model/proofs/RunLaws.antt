@@ -1,14 +1,14 @@
 -- Laws of runs.
-use Rattle.std.proofs.Common.{◌≡◌, ◌⊎◌, inl, inr, ℕ, zero, suc, ◌+◌, ◌-◌, ◌≤◌, arith, List, [], ◌∷◌, ◌++◌, get_or, refl, sym, ap, subst, ◌∙◌, append_assoc}
-use Rattle.std.specs.Prelude.{true, Option, None, Some}
+use Rattle.std.proofs.Common.{◌≡◌, ◌⊎◌, inl, inr, ℕ, zero, suc, ◌+◌, ◌-◌, arith, List, [], ◌∷◌, ◌++◌, get_or, refl, sym, ap, subst, ◌∙◌, append_assoc}
+use Rattle.std.specs.Prelude.{true, Option}
 use Rattle.std.specs.List.{slice_index_or}
 use Rattle.std.proofs.lemmas.Bool.Decides.{eqb_tells, leb_tells}
 use Rattle.std.proofs.lemmas.List.{append-nil}
 use Rattle.nb_host.specs.Names.{same_name}
-use Rattle.nb_model.specs.Account.{Base, Kept, Entry, IsBase, Account, with_entry}
-use Rattle.nb_model.specs.Strokes.{Stroke, base_after, records_after, base_in, on_base}
+use Rattle.nb_model.specs.Account.{Base, Entry, IsBase, Account, with_entry}
+use Rattle.nb_model.specs.Strokes.{Stroke, base_after, base_in}
 use Rattle.nb_model.specs.Outcomes.{Turn, Outcome}
-use Rattle.nb_model.specs.Run.{Now, Event, Played, base_now, account_after, with_made, outcome, stands_then, take_turn, one_turn, play, rounds, all_sessions, AreFinished, IsPlayed, event_of, strokes_of, replies_of}
+use Rattle.nb_model.specs.Run.{Now, Event, Played, base_now, account_after, with_made, outcome, stands_then, take_turn, one_turn, play, rounds, all_sessions, AreFinished, IsPlayed, event_of, strokes_of}
 use Rattle.nb_model.proofs.StrokeLaws.{base_after-append}
 
 -- one list of turns behind another
@@ -121,8 +121,10 @@ one_run schedule first es fs x y a b = by_order (least a.how_often b.how_often)
   where
     done : (zs : List Event) (z : Now) (p : IsPlayed schedule first zs z) → AreFinished (play (schedule ++ rounds p.how_often) first).1.todo
     done zs z p = subst (λ (r : Played). AreFinished r.1.todo) (sym p.is) p.finished
+
     least : (m n : ℕ) → ((k : ℕ) × (n ≡ m + k)) ⊎ ((k : ℕ) × (m ≡ n + k))
     least m n = elim (leb_tells m n) [ inl w ↦ inl (n - m, omega (arith, w.1)) | inr w ↦ inr (m - n, omega (arith, w.1)) ]
+
     by_order : ((k : ℕ) × (b.how_often ≡ a.how_often + k)) ⊎ ((k : ℕ) × (a.how_often ≡ b.how_often + k)) → (es ≡ fs) × (x ≡ y)
     by_order (inl w) = parts (es, x) (fs, y) (sym a.is ∙ sym (more_rounds schedule first a.how_often w.0 (done es x a)) ∙ ap (λ (n : ℕ). play (schedule ++ rounds n) first) (sym w.1) ∙ b.is)
     by_order (inr w) = parts (es, x) (fs, y) (sym a.is ∙ ap (λ (n : ℕ). play (schedule ++ rounds n) first) w.1 ∙ more_rounds schedule first b.how_often w.0 (done fs y b) ∙ b.is)

@@ -1,8 +1,7 @@
 -- Laws of strokes.
-use Rattle.std.proofs.Common.{◌≡◌, ◌≢◌, inl, inr, ℕ, zero, suc, ◌+◌, ◌<◌, ◌≤◌, List, [], ◌∷◌, ◌++◌, length, get_or, take, drop, refl, sym, ap, ◌∙◌, set, arith, length-append, get_or-set_other, append_assoc, get_or-set_same}
-use Rattle.std.specs.Prelude.{true, false, Option}
-use Rattle.std.proofs.lemmas.List.{append-nil, get_or_append_left}
-use Rattle.std.proofs.lemmas.Bool.Decides.{leb_tells, eqb_tells}
+use Rattle.std.proofs.Common.{◌≡◌, ◌≢◌, inl, inr, ℕ, zero, suc, ◌≤◌, List, [], ◌∷◌, ◌++◌, length, get_or, take, drop, refl, sym, ap, ◌∙◌, arith, length-append, get_or-set_other, append_assoc, get_or-set_same}
+use Rattle.std.proofs.lemmas.List.{get_or_append_left}
+use Rattle.std.proofs.lemmas.Bool.Decides.{leb_tells}
 use Rattle.nb_fields.specs.Bytes.{bytes_of}
 use Rattle.nb_model.specs.Image.{Page, Image, page_at, with_page}
 use Rattle.nb_model.specs.Account.{Base, Kept}
@@ -35,6 +34,7 @@ with_page_other p q bytes image low ne = elim (leb_tells (suc p) (length image))
         none (suc n) = refl
     past (x ∷ xs) zero h = absurd (omega arith)
     past (x ∷ xs) (suc n) h = past xs n (omega arith)
+
     added : p ≡ length image → page_at (image ++ bytes ∷ []) q ≡ page_at image q
     added e = elim (leb_tells (suc q) (length image)) [
       | inl w ↦ get_or_append_left image (bytes ∷ []) [] q w.1

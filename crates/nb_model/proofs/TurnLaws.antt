@@ -10,7 +10,7 @@ use Rattle.nb_model.specs.Account.{Ask}
 use Rattle.nb_model.specs.Forms.{Draft}
 use Rattle.nb_model.specs.Causes.{Cause}
 use Rattle.nb_model.specs.Chains.{Chain, Slot, Spot}
-use Rattle.nb_model.specs.Outcomes.{DoesNothing, Seen, Outcome, says, passes, unless, changes}
+use Rattle.nb_model.specs.Outcomes.{DoesNothing, Seen, Outcome, says, unless, changes}
 use Rattle.nb_model.specs.Pages.{new_turn, write_turn, read_turn, free_turn, begin_turn, end_turn, ends_by, forced_turn, access_turn, header_turn, image_turn, cache_turn}
 use Rattle.nb_model.specs.Tables.{with_spot, in_table, in_row, create_turn, drop_turn, insert_turn, update_turn, delete_turn, get_turn, scan_turn}
 use Rattle.nb_model.specs.Backups.{starts, backup_turn, since_turn, copy_turn, pages_turn}

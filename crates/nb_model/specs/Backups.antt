@@ -1,6 +1,6 @@
 -- Backups and copies: the start, the close, and what is shown of the inventories.
 use Rattle.std.specs.Prelude.{ℕ, zero, suc, ◌+◌, ◌-◌, ◌/◌, List, [], ◌∷◌, ◌++◌, length, replicate, Option, Some, None, is_none, Bool, true, false, ◌&&◌, ◌||◌, ◌==◌, not, nat_eq, min}
-use Rattle.nb_fields.specs.Places.{bits_in, inventory_place}
+use Rattle.nb_fields.specs.Places.{bits_in}
 use Rattle.nb_fields.specs.Page.{kind_of}
 use Rattle.nb_host.specs.Names.{same_name}
 use Rattle.nb_host.specs.declared.refusals.Refusal.TheVariants.{NoHistory, NoGuid}
@@ -9,11 +9,10 @@ use Rattle.nb_model.specs.Image.{Image, page_at, image_size, image_scn}
 use Rattle.nb_model.specs.Account.{Ask, Kept}
 use Rattle.nb_model.specs.Strokes.{begin}
 use Rattle.nb_model.specs.Forms.{Draft, drafted, needs, needs_inventories, inventory_of, scn_page_of, is_free_page}
-use Rattle.nb_model.specs.Causes.{Cause, first_cause, when, read_only, not_state, no_scn, not_free, runs_any, broken_at, not_of_form, no_room, lowest_broken}
-use Rattle.nb_model.specs.Chains.{History, Slot, Spot, spots, pages_of, found_pages, free_spot, backup_spot, level_in, scn_in, guid_in, backup_slot, put_slot, grown}
+use Rattle.nb_model.specs.Causes.{Cause, first_cause, when, read_only, not_state, no_scn, not_free, runs_any, broken_at, not_of_form, no_room}
+use Rattle.nb_model.specs.Chains.{History, Spot, spots, pages_of, found_pages, free_spot, backup_spot, level_in, scn_in, guid_in, backup_slot, put_slot, grown}
 use Rattle.nb_model.specs.Levels.{file_of, count_in, joined}
-use Rattle.nb_model.specs.Outcomes.{Backing, Turn, Copies, ClosesBackup, ClosesCopy, Ends, Seen, Outcome, next_guid, next_time, without_guid, without_time, says, passes, unless}
-use Rattle.nb_model.specs.Pages.{end_scn}
+use Rattle.nb_model.specs.Outcomes.{Backing, Copies, ClosesBackup, ClosesCopy, Ends, Seen, Outcome, next_guid, next_time, without_guid, without_time, says, unless}
 
 -- where a history row will stand, and the draft that makes room for it
 pub record Room : Type 0 where
@@ -149,5 +148,5 @@ pages_turn s =
     let image : Image = s.base.image in
     unless s (not_of_form (all_needed image))
     (says s (PagesShown
-      (taken_of image (λ k. k == 1)) (taken_of image (λ k. k == 2)) (taken_of image (λ k. k == 10)) (taken_of image (λ k. k == 5)) (taken_of image (λ k. k == 8))
-      (taken_of image is_other) (count_from (length image) 0 (is_free_page image))) [])
+    (taken_of image (λ k. k == 1)) (taken_of image (λ k. k == 2)) (taken_of image (λ k. k == 10)) (taken_of image (λ k. k == 5)) (taken_of image (λ k. k == 8))
+    (taken_of image is_other) (count_from (length image) 0 (is_free_page image))) [])

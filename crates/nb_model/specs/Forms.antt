@@ -2,7 +2,7 @@
 --
 -- Each form goes on from a draft to a draft, and writes by `written` alone. So what one write keeps, every form keeps, and it
 -- holds after each of their strokes: at each moment at which the program may stop.
-use Rattle.std.specs.Prelude.{ℕ, zero, suc, ◌+◌, ◌-◌, ◌*◌, ◌/◌, ◌%◌, ◌^◌, List, [], ◌∷◌, ◌++◌, length, drop, replicate, slice_set, slice_index, Bool, true, false, ◌&&◌, ◌||◌, ◌==◌, nat_le, nat_lt}
+use Rattle.std.specs.Prelude.{ℕ, zero, suc, ◌+◌, ◌-◌, ◌*◌, ◌/◌, ◌%◌, ◌^◌, List, [], ◌∷◌, ◌++◌, length, drop, replicate, slice_set, slice_index, Bool, true, false, ◌&&◌, ◌||◌, ◌==◌, nat_lt}
 use Rattle.std.specs.Int.{bit_at}
 use Rattle.nb_fields.specs.Bytes.{bytes_of, with_part}
 use Rattle.nb_fields.specs.Places.{entries_in, bits_in, inventory_place, scn_place, is_inventory_place, is_scn_place, is_system_place}

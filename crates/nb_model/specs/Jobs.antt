@@ -1,12 +1,12 @@
 -- What the jobs of the command line do. A job that attaches a database is the script of one session that opens it. Restore, fixup
 -- and merging in place are one turn without an opening.
-use Rattle.std.specs.Prelude.{◌≡◌, ℕ, List, [], ◌∷◌, ◌++◌, length, replicate, Option, Some, None, is_some, Result, Ok, Err, true, false, not, ◌==◌}
+use Rattle.std.specs.Prelude.{◌≡◌, ℕ, List, [], ◌∷◌, length, replicate, Option, Some, None, is_some, Ok, Err, true, not, ◌==◌}
 use Rattle.nb_fields.specs.Header.{state_of}
 use Rattle.nb_host.specs.Files.{File, Files}
 use Rattle.nb_host.specs.declared.refusals.Refusal.{Refusal}
 use Rattle.nb_host.specs.declared.refusals.Refusal.TheVariants.{NoFile, WrongState, DeltaPresent}
 use Rattle.nb_model.specs.declared.job.Job.{Job}
-use Rattle.nb_model.specs.declared.job.Job.TheVariants.{Run, Stat, Gen, Backup, BackupSince, Restore, Apply, Lock, LockWithSize, Unlock, Fixup}
+use Rattle.nb_model.specs.declared.job.Job.TheVariants.{Stat, Backup, BackupSince, Restore, Apply, Lock, LockWithSize, Unlock, Fixup}
 use Rattle.nb_model.specs.declared.reply.Reply.{Reply}
 use Rattle.nb_model.specs.declared.reply.Reply.TheVariants.{Done, Pages, Scn, ScnPages, Refused}
 use Rattle.nb_model.specs.declared.statement.Statement.{Statement}
@@ -16,10 +16,9 @@ use Rattle.nb_model.specs.Image.{image_in}
 use Rattle.nb_model.specs.Account.{Account}
 use Rattle.nb_model.specs.Strokes.{Stroke, make, fix, merge, fixed, merged, base_in}
 use Rattle.nb_model.specs.Causes.{Cause, first_cause, when, not_database, not_free}
-use Rattle.nb_model.specs.Levels.{Contents}
 use Rattle.nb_model.specs.Outcomes.{Given}
 use Rattle.nb_model.specs.Owner.{delta_name}
-use Rattle.nb_model.specs.Restoring.{Link, verdict, applied}
+use Rattle.nb_model.specs.Restoring.{verdict, applied}
 use Rattle.nb_model.specs.InPlace.{in_place, bytes_in}
 use Rattle.nb_model.specs.Run.{Event, account_after, IsRun}
 

@@ -2,8 +2,7 @@
 --
 -- A level of 1 to 9 is a head, pages with their numbers, and an end. In version 101 each page stands with its number. In version
 -- 102 pages of consecutive numbers stand together in runs of at most 16.
-use Rattle.std.specs.Prelude.{◌≡◌, ℕ, zero, suc, ◌+◌, ◌*◌, ◌^◌, ◌<◌, ◌≤◌, List, [], ◌∷◌, ◌++◌, length, take, drop, Option, Some, None, Result, Ok, Err, Bool, true, false, ◌&&◌, ◌||◌, ◌==◌, not, nat_le, nat_lt, nat_eq, IsTrue, codes}
-use Rattle.std.specs.List.{flat_map, starts_with}
+use Rattle.std.specs.Prelude.{◌≡◌, ℕ, zero, suc, ◌+◌, ◌*◌, ◌^◌, ◌<◌, ◌≤◌, List, [], ◌∷◌, ◌++◌, length, take, drop, Option, Some, None, Result, Ok, Err, Bool, true, false, ◌&&◌, ◌||◌, ◌==◌, not, nat_le, nat_lt, IsTrue, codes}
 use Rattle.nb_fields.specs.Bytes.{bytes_of, number_in, part}
 use Rattle.nb_fields.specs.Places.{is_page_size}
 use Rattle.nb_fields.specs.Page.{stamp_of}
@@ -96,7 +95,12 @@ level_bytes version h rs = head_then version h (body_bytes version rs ++ end_byt
 -- the head that the record of a backup gets
 abbrev pub head_for : Kept → Ask → Head
 head_for kept ask = record {
-  level = ask.level; guid = kept.guid; previous = ask.previous; size = image_size kept.image; scn = kept.scn; previous_scn = ask.previous_scn;
+  level = ask.level;
+  guid = kept.guid;
+  previous = ask.previous;
+  size = image_size kept.image;
+  scn = kept.scn;
+  previous_scn = ask.previous_scn;
 }
 
 -- the file of a backup: of level 0 and of a bare begin its pages
@@ -180,9 +184,9 @@ read_end at count rest = elim (first_fault (
     ∷ (not (number_in 4 4 rest == count), at + 4)
     ∷ (nat_lt 8 (length rest), at + 8)
     ∷ [])) [
-  | Some place ↦ Err place
-  | None ↦ Ok []
-]
+      | Some place ↦ Err place
+      | None ↦ Ok []
+    ]
 
 -- a page's number that may not stand behind so many pages, where the least that may is `least`
 abbrev pub is_bad_number : (count least n : ℕ) → Bool
@@ -199,10 +203,10 @@ read_singles (suc left) h at count least rest = elim (nat_lt (length rest) 4) [
     | false ↦
         let n : ℕ = number_in 0 4 rest in
         elim (first_fault (
-          (is_bad_number count least n, at)
-          ∷ ends_before (4 + h.size) at rest
-          ∷ (n == 0 && not (is_first_page h (part 4 h.size rest)), at + 4)
-          ∷ [])) [
+        (is_bad_number count least n, at)
+        ∷ ends_before (4 + h.size) at rest
+        ∷ (n == 0 && not (is_first_page h (part 4 h.size rest)), at + 4)
+        ∷ [])) [
           | Some place ↦ Err place
           | None ↦ behind ((n, part 4 h.size rest) ∷ []) (read_singles left h (at + 4 + h.size) (count + 1) (n + 1) (drop (4 + h.size) rest))
         ]
@@ -230,13 +234,13 @@ read_runs (suc left) h at count least barred rest = elim (nat_lt (length rest) 4
         let n : ℕ = number_in 0 4 rest in
         let m : ℕ = number_in 4 4 rest in
         elim (first_fault (
-          (is_bad_number count least n || n == barred, at)
-          ∷ ends_before 8 at rest
-          ∷ (m == 0 || (nat_lt 16 m || nat_lt 1048576 (n + m)), at + 4)
-          ∷ (n == 0 && nat_lt (length rest) (8 + h.size), at + length rest)
-          ∷ (n == 0 && not (is_first_page h (part 8 h.size rest)), at + 8)
-          ∷ ends_before (8 + m * h.size) at rest
-          ∷ [])) [
+        (is_bad_number count least n || n == barred, at)
+        ∷ ends_before 8 at rest
+        ∷ (m == 0 || (nat_lt 16 m || nat_lt 1048576 (n + m)), at + 4)
+        ∷ (n == 0 && nat_lt (length rest) (8 + h.size), at + length rest)
+        ∷ (n == 0 && not (is_first_page h (part 8 h.size rest)), at + 8)
+        ∷ ends_before (8 + m * h.size) at rest
+        ∷ [])) [
           | Some place ↦ Err place
           | None ↦ behind (pages_in h.size m n (drop 8 rest)) (read_runs left h (at + 8 + m * h.size) (count + m) (n + m) (barred_after n m) (drop (8 + m * h.size) rest))
         ]
@@ -246,7 +250,12 @@ read_runs (suc left) h at count least barred rest = elim (nat_lt (length rest) 4
 -- the head's fields
 unfoldable pub head_in : List ℕ → Head
 head_in bytes = record {
-  level = number_in 6 2 bytes; guid = part 8 16 bytes; previous = part 24 16 bytes; size = number_in 40 4 bytes; scn = number_in 44 4 bytes; previous_scn = number_in 48 4 bytes;
+  level = number_in 6 2 bytes;
+  guid = part 8 16 bytes;
+  previous = part 24 16 bytes;
+  size = number_in 40 4 bytes;
+  scn = number_in 44 4 bytes;
+  previous_scn = number_in 48 4 bytes;
 }
 
 abbrev pub with_head : (version : ℕ) → Head → Result (List Numbered) ℕ → Result Contents ℕ
@@ -269,13 +278,13 @@ read_level bytes =
     let version : ℕ = number_in 4 2 bytes in
     let h : Head = head_in bytes in
     elim (first_fault (
-      (not (begins_level bytes), 0)
-      ∷ ends_before 52 0 bytes
-      ∷ (not (version == 101 || version == 102), 4)
-      ∷ (not (nat_le 1 h.level && nat_le h.level 9), 6)
-      ∷ (not (is_page_size h.size), 40)
-      ∷ (not (nat_lt h.previous_scn h.scn), 44)
-      ∷ [])) [
+    (not (begins_level bytes), 0)
+    ∷ ends_before 52 0 bytes
+    ∷ (not (version == 101 || version == 102), 4)
+    ∷ (not (nat_le 1 h.level && nat_le h.level 9), 6)
+    ∷ (not (is_page_size h.size), 40)
+    ∷ (not (nat_lt h.previous_scn h.scn), 44)
+    ∷ [])) [
       | Some place ↦ Err place
       | None ↦ with_head version h (read_pages version h bytes)
     ]

@@ -1,5 +1,5 @@
 -- A line of backups, each of which goes on from the one before, and what the files of such a line hold.
-use Rattle.std.specs.Prelude.{◌≡◌, List, [], ◌∷◌, ◌++◌, Some, true, false}
+use Rattle.std.specs.Prelude.{◌≡◌, List, [], ◌∷◌, ◌++◌, Some, true}
 use Rattle.std.specs.List.{AllByRecursion}
 use Rattle.nb_fields.specs.Bytes.{is_zeros}
 use Rattle.nb_model.specs.Image.{Image, image_size}

@@ -1,7 +1,6 @@
 -- What a turn sees and what it does.
 use Rattle.std.specs.Prelude.{◌≡◌, ℕ, ◌++◌, List, [], ◌∷◌, drop, replicate, Option, Some, None}
 use Rattle.std.specs.List.{slice_index_or}
-use Rattle.nb_host.specs.declared.refusals.Refusal.{Refusal}
 use Rattle.nb_model.specs.declared.reply.Reply.{Reply}
 use Rattle.nb_model.specs.declared.reply.Reply.TheVariants.{Refused}
 use Rattle.nb_model.specs.declared.statement.Statement.{Statement}

@@ -1,5 +1,5 @@
 -- The image of two files: which of them a page belongs to, and why a database can't be opened.
-use Rattle.std.specs.Prelude.{ℕ, zero, suc, ◌+◌, ◌-◌, List, [], ◌∷◌, ◌++◌, length, take, drop, replicate, Option, Some, None, Result, Ok, Err, MatchResult, Bool, true, false, ◌==◌, nat_eq, nat_lt, max}
+use Rattle.std.specs.Prelude.{ℕ, zero, suc, ◌+◌, List, [], ◌∷◌, ◌++◌, length, take, drop, replicate, Option, Some, None, Result, Ok, Err, true, false, ◌==◌, nat_eq, nat_lt, max}
 use Rattle.nb_fields.specs.Header.{state_of, size_of}
 use Rattle.nb_fields.specs.Table.{table_of, slot_place, page_in}
 use Rattle.nb_host.specs.Files.{File, Files}

@@ -1,5 +1,5 @@
 -- Statements on raw pages, on the header, and on the backup state.
-use Rattle.std.specs.Prelude.{ℕ, ◌+◌, Bool, List, [], ◌∷◌, ◌++◌, length, replicate, Option, Some, None, true, false, ◌==◌, not}
+use Rattle.std.specs.Prelude.{ℕ, ◌+◌, Bool, List, [], ◌∷◌, ◌++◌, length, replicate, Some, None, true, false, ◌==◌}
 use Rattle.std.specs.List.{flat_map}
 use Rattle.sha2.specs.Sha256.{sha256}
 use Rattle.nb_fields.specs.Bytes.{with_part}
@@ -13,7 +13,7 @@ use Rattle.nb_model.specs.Strokes.{Stroke, page, begin, ends}
 use Rattle.nb_model.specs.Lines.{flag}
 use Rattle.nb_model.specs.Forms.{Draft, drafted, put, give_page, new_page}
 use Rattle.nb_model.specs.Causes.{first_cause, when, read_only, not_state, no_scn, not_raw, no_text, too_long, runs_other}
-use Rattle.nb_model.specs.Outcomes.{Turn, Merges, Finishes, Seen, Outcome, next_guid, next_hold, without_guid, without_hold, says, unless, changes}
+use Rattle.nb_model.specs.Outcomes.{Merges, Finishes, Seen, Outcome, next_guid, next_hold, without_guid, without_hold, says, unless, changes}
 
 -- `page new`: a raw page with the empty text
 unfoldable pub new_turn : Seen → Outcome

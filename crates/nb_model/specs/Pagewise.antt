@@ -1,6 +1,6 @@
 -- What a stop leaves where forced writes are off: each page by itself is that of some image since the last settled point.
 use Rattle.std.specs.Prelude.{◌≡◌, ℕ, ◌<◌, ◌≤◌, List, [], ◌∷◌, ◌++◌, length, take, drop, Contains, Bool, true, false, ◌&&◌}
-use Rattle.nb_model.specs.Image.{Page, Image, page_at, first_page, image_state, is_forced}
+use Rattle.nb_model.specs.Image.{Image, page_at, first_page, image_state, is_forced}
 use Rattle.nb_model.specs.Account.{Base}
 use Rattle.nb_model.specs.Strokes.{Stroke, make, page, begin, ends, finish, fix, merge, on_base}
 use Rattle.nb_model.specs.Run.{Event}

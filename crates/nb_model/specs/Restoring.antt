@@ -1,5 +1,5 @@
 -- Chains of level files: which are accepted, and the image that one gives.
-use Rattle.std.specs.Prelude.{ℕ, ◌+◌, ◌-◌, ◌/◌, ◌%◌, List, [], ◌∷◌, length, Option, Some, None, Result, Ok, Err, Bool, true, false, ◌||◌, ◌==◌, not, nat_lt}
+use Rattle.std.specs.Prelude.{ℕ, ◌+◌, ◌-◌, ◌/◌, ◌%◌, List, [], ◌∷◌, length, Some, None, Result, Ok, Err, Bool, true, false, ◌||◌, ◌==◌, not, nat_lt}
 use Rattle.nb_fields.specs.Bytes.{number_in}
 use Rattle.nb_fields.specs.Header.{is_header, signature, state_of, size_of, scn_of, guid_of}
 use Rattle.nb_host.specs.Files.{Files}

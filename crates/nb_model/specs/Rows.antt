@@ -1,7 +1,6 @@
 -- The rows of a table, as a finite map from keys to texts.
-use Rattle.std.specs.Prelude.{◌≡◌, ◌≢◌, ℕ, List, [], ◌∷◌, ◌++◌, Some, None, Ok, true, false, nat_lt, nat_eq, Option, option_map, Result}
+use Rattle.std.specs.Prelude.{◌≡◌, ◌≢◌, ℕ, List, [], ◌∷◌, ◌++◌, Some, None, Ok, true, false, nat_lt, nat_eq, Option}
 use Rattle.std.specs.List.{AllByRecursion}
-use Rattle.nb_host.specs.Names.{same_name}
 use Rattle.nb_model.specs.Image.{Image}
 use Rattle.nb_model.specs.Forms.{is_free_page}
 use Rattle.nb_model.specs.Chains.{Chain, Catalogue, History, RowsFrom, Spot, spots, pages_of, found_pages, is_used, table_spot, table_of, key_of, text_in, first_in}

@@ -1,16 +1,14 @@
 -- The run of a script: its first statement, then one turn for each number of the schedule, then turns round robin.
-use Rattle.std.specs.Prelude.{◌≡◌, ℕ, zero, suc, ◌+◌, ◌-◌, List, [], ◌∷◌, ◌++◌, length, map, slice_set, replicate, Option, Some, None, option_map, Bool, true, false, ◌||◌, nat_le}
+use Rattle.std.specs.Prelude.{◌≡◌, ℕ, zero, suc, ◌-◌, List, [], ◌∷◌, ◌++◌, length, map, slice_set, Option, Some, None, Bool, true, false}
 use Rattle.std.specs.List.{slice_index_or}
 use Rattle.nb_fields.specs.Fresh.{fresh, fresh_count}
-use Rattle.nb_host.specs.declared.refusals.Refusal.TheVariants.{FileExists, Usage}
 use Rattle.nb_model.specs.declared.reply.Reply.{Reply}
 use Rattle.nb_model.specs.declared.reply.Reply.TheVariants.{Pages, Opened, Refused}
 use Rattle.nb_model.specs.declared.statement.Statement.{Statement}
 use Rattle.nb_model.specs.declared.statement.Statement.TheVariants.{CreateDb, OpenDb, Sync}
 use Rattle.nb_model.specs.Image.{Image, image_state}
-use Rattle.nb_model.specs.Account.{Base, Entry, Plain, IsBase, Account, with_entry}
+use Rattle.nb_model.specs.Account.{Base, Plain, IsBase, Account, with_entry}
 use Rattle.nb_model.specs.Strokes.{Stroke, make, base_in, base_after, records_after}
-use Rattle.nb_model.specs.Lines.{line_text}
 use Rattle.nb_model.specs.Causes.{Cause, not_free}
 use Rattle.nb_model.specs.Owner.{not_opened}
 use Rattle.nb_model.specs.Outcomes.{Turn, Begins, Given, Outcome}

@@ -4,7 +4,7 @@ use Rattle.std.specs.List.{AllByRecursion}
 use Rattle.nb_fields.specs.Bytes.{is_zeros}
 use Rattle.nb_fields.specs.Places.{is_inventory_place, is_scn_place}
 use Rattle.nb_fields.specs.Page.{kind_of, stamp_of}
-use Rattle.nb_model.specs.Image.{Page, Image, page_at, first_page, image_size, image_scn}
+use Rattle.nb_model.specs.Image.{Image, page_at, first_page, image_size, image_scn}
 use Rattle.nb_model.specs.Forms.{inventory_of, scn_page_of, scn_entry, has_entry, is_free_page}
 
 -- no page is all zeros

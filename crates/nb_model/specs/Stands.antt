@@ -1,5 +1,5 @@
 -- The files stand for an account.
-use Rattle.std.specs.Prelude.{◌≡◌, ◌≢◌, ◌⊎◌, ℕ, ◌+◌, ◌*◌, ◌<◌, ◌≤◌, ◌%◌, ◌&&◌, ◌==◌, List, [], ◌∷◌, ◌++◌, length, replicate, drop, Option, Some, None, Ok, Bool, true, false, IsTrue, is_some, Contains, nat_le}
+use Rattle.std.specs.Prelude.{◌≡◌, ◌≢◌, ◌⊎◌, ℕ, ◌+◌, ◌*◌, ◌<◌, ◌≤◌, ◌%◌, ◌&&◌, ◌==◌, List, [], ◌∷◌, ◌++◌, length, replicate, drop, Some, None, Ok, Bool, true, false, IsTrue, is_some, Contains, nat_le}
 use Rattle.std.specs.List.{AllByRecursion, list_all}
 use Rattle.nb_fields.specs.Bytes.{is_zeros}
 use Rattle.nb_fields.specs.Page.{kind_of, stamp_of}
@@ -8,7 +8,7 @@ use Rattle.nb_fields.specs.Table.{page_in}
 use Rattle.nb_host.specs.Files.{Files}
 use Rattle.nb_host.specs.Names.{is_delta}
 use Rattle.nb_model.specs.Image.{Page, Image, page_at, first_page, image_size, image_state, image_scn, image_guid}
-use Rattle.nb_model.specs.Account.{Ask, Kept, Base, Entry, Plain, IsBase, Account}
+use Rattle.nb_model.specs.Account.{Ask, Kept, Base, IsBase, Account}
 use Rattle.nb_model.specs.Forms.{has_entry, scn_entry, scn_page_of}
 use Rattle.nb_model.specs.Causes.{not_database}
 use Rattle.nb_model.specs.Chains.{History, Slot, owner_in, slots_in, is_slot, is_used, level_in, scn_in, guid_in}

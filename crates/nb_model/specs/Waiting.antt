@@ -1,5 +1,5 @@
 -- What is seen while pages wait in the cache, and in which order they go out.
-use Rattle.std.specs.Prelude.{ℕ, List, ◌++◌, length, Bool, true, false, ◌&&◌, ◌||◌, ◌==◌, not, nat_lt}
+use Rattle.std.specs.Prelude.{ℕ, List, ◌++◌, length, Bool, true, false, ◌&&◌, ◌==◌, not, nat_lt}
 use Rattle.nb_fields.specs.Places.{is_scn_place}
 use Rattle.nb_model.specs.Image.{Image, Numbered, image_size, image_state, is_forced, overwritten}
 use Rattle.nb_model.specs.Account.{Base}

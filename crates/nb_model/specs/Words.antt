@@ -59,9 +59,9 @@ is_database word = is_file word && nat_le (length word) 94
 unfoldable pub number_in_word : Word → Option ℕ
 number_in_word word = elim (
     nat_lt 0 (length word) && (list_all (λ b. nat_le 48 b && nat_le b 57) word && ((length word == 1 || not (slice_index word 0 == 48)) && nat_lt (digits_value 10 word) (2 ^ 64)))) [
-  | true ↦ Some (digits_value 10 word)
-  | false ↦ None
-]
+      | true ↦ Some (digits_value 10 word)
+      | false ↦ None
+    ]
 
 -- a job where a test holds
 abbrev pub job_if : Bool → Job → Option Job

@@ -1,5 +1,5 @@
 -- Worked sessions, which the rows of `worked` compute: a fresh database of 1,024-byte pages, and what is said and made then.
-use Rattle.std.specs.Prelude.{ℕ, ◌+◌, List, [], ◌∷◌, ◌++◌, map, replicate, codes, Option, None, Some, Result, Ok, Err, true, false}
+use Rattle.std.specs.Prelude.{ℕ, ◌+◌, List, [], ◌∷◌, ◌++◌, map, replicate, codes, Option, None, Some, Ok, Err, true, false}
 use Rattle.nb_fields.specs.Bytes.{bytes_of}
 use Rattle.nb_host.specs.Files.{Files}
 use Rattle.nb_host.specs.Names.{same_name}
@@ -7,14 +7,14 @@ use Rattle.nb_host.specs.declared.refusals.Refusal.{Refusal}
 use Rattle.nb_model.specs.declared.reply.Reply.{Reply}
 use Rattle.nb_model.specs.declared.statement.Statement.{Statement}
 use Rattle.nb_model.specs.declared.statement.Statement.TheVariants.{CreateDb, Write, BeginBackup, Backup}
-use Rattle.nb_model.specs.Image.{Image, Numbered, page_at}
+use Rattle.nb_model.specs.Image.{Numbered, page_at}
 use Rattle.nb_model.specs.Account.{Account, Missing, Base, base_of}
 use Rattle.nb_model.specs.Strokes.{Stroke, make, page, begin, ends, finish, fix, merge}
-use Rattle.nb_model.specs.Levels.{Contents, read_level, joined}
+use Rattle.nb_model.specs.Levels.{read_level, joined}
 use Rattle.nb_model.specs.Owner.{owner}
-use Rattle.nb_model.specs.Restoring.{Link, verdict}
+use Rattle.nb_model.specs.Restoring.{verdict}
 use Rattle.nb_model.specs.Outcomes.{Given}
-use Rattle.nb_model.specs.Run.{Event, Opening, Now, opening, base_now, play, rounds, replies_of, strokes_of, files_made}
+use Rattle.nb_model.specs.Run.{Event, Opening, opening, base_now, play, replies_of, strokes_of, files_made}
 
 -- no file is there
 unfoldable pub nowhere : Account
