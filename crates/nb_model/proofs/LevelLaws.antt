@@ -56,7 +56,7 @@ head_longer version h tail is =
       length-append h.previous (bytes_of 4 h.size ++ (bytes_of 4 h.scn ++ (bytes_of 4 h.previous_scn ++ tail))),
     )
 
-begins_there : (version : ℕ) (h : Head) (tail : List ℕ) → begins_level (head_then version h tail) ≡ true
+pub begins_there : (version : ℕ) (h : Head) (tail : List ℕ) → begins_level (head_then version h tail) ≡ true
 unfolding head_then begins_level
 begins_there version h tail = refl
 

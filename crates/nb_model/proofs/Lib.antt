@@ -10,3 +10,4 @@ pub mod SessionLaws
 pub mod ReadLaws
 pub mod GatherLaws
 pub mod LevelLaws
+pub mod ChainLaws

@@ -1,11 +1,13 @@
 -- A line of backups, each of which goes on from the one before, and what the files of such a line hold.
-use Rattle.std.specs.Prelude.{◌≡◌, List, [], ◌∷◌, ◌++◌, Some, true}
+use Rattle.std.specs.Prelude.{◌<◌, ◌≤◌, ◌||◌, ◌==◌, ℕ, IsTrue, ◌≡◌, List, [], ◌∷◌, ◌++◌, Some, true}
 use Rattle.std.specs.List.{AllByRecursion}
 use Rattle.nb_fields.specs.Bytes.{is_zeros}
 use Rattle.nb_model.specs.Image.{Image, image_size}
 use Rattle.nb_model.specs.Account.{Ask, Kept}
-use Rattle.nb_model.specs.Levels.{taken, numbered_from}
+use Rattle.nb_model.specs.Levels.{IsHead, head_for, taken, numbered_from}
 use Rattle.nb_model.specs.Follows.{Follows}
+use Rattle.nb_model.specs.Sound.{IsSoundImage}
+use Rattle.nb_model.specs.Stands.{IsBegun}
 use Rattle.nb_model.specs.Restoring.{Link}
 
 -- q names r as the backup that it goes on from, and its image follows that of r
@@ -38,3 +40,17 @@ first_file r behind = record { guid = r.guid; scn = r.scn; size = image_size r.i
 unfoldable pub next_files : Kept → List Kept → List Link
 next_files r [] = []
 next_files r (q ∷ qs) = record { guid = q.guid; scn = q.scn; size = image_size q.image; pages = taken r.scn q.image } ∷ next_files q qs
+
+-- The backup q of level k goes on from what a file holds, and its own file has that version.
+pub record IsKeptNext (k version : ℕ) (last : Link) (q : Kept) (ask : Ask) : Type 0 where
+  pub known : IsTrue (version == 101 || version == 102)
+  pub asked : q.ask ≡ Some ask
+  pub level : ask.level ≡ k
+  pub some : 1 ≤ k
+  pub guid : ask.previous ≡ last.guid
+  pub scn : ask.previous_scn ≡ last.scn
+  pub later : ask.previous_scn < q.scn
+  pub size : image_size q.image ≡ last.size
+  pub head : IsHead (head_for q ask)
+  pub whole : IsSoundImage q.image
+  pub begun : IsBegun q
