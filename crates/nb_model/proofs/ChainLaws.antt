@@ -16,7 +16,7 @@ use Rattle.nb_model.specs.Levels.{Head, IsHead, IsLevel, Contents, AreRising, Ar
 use Rattle.nb_model.specs.Restoring.{Link, level_link, not_behind, next_link, next_links, linked}
 use Rattle.nb_model.specs.Sound.{IsOfSize, IsSoundImage}
 use Rattle.nb_model.specs.Stands.{IsBegun}
-use Rattle.nb_model.specs.Line.{IsKeptNext}
+use Rattle.nb_model.specs.Line.{IsLine, IsKeptNext, HoldsNext, HoldLine, next_files}
 use Rattle.nb_model.proofs.ReadLaws.{eq_yes}
 use Rattle.nb_model.proofs.LevelLaws.{level_read, begins_there}
 use Rattle.nb_model.proofs.RunLaws.{same_self}
@@ -119,18 +119,59 @@ unfolding level_bytes
 begins_bytes version h rs = begins_there version h _
 
 -- the file of a kept backup is accepted behind the one that it goes on from
-pub kept_accepted : (k version : ℕ) (last : Link) (name : List ℕ) (q : Kept) (ask : Ask) → IsKeptNext k version last q ask
-    → next_link k last name (file_of version q) ≡ Ok (record { guid = q.guid; scn = q.scn; size = image_size q.image; pages = taken last.scn q.image })
-kept_accepted k version last name q ask next =
+pub kept_accepted : (k version : ℕ) (r : Kept) (last : Link) (name : List ℕ) (q : Kept) (ask : Ask) → last.guid ≡ r.guid → last.scn ≡ r.scn → last.size ≡ image_size r.image → IsKeptNext k version r q ask
+    → next_link k last name (file_of version q) ≡ Ok (record { guid = q.guid; scn = q.scn; size = image_size q.image; pages = taken r.scn q.image })
+kept_accepted k version r last name q ask eg es ez next =
     let b : Begins q.image = begins q.image (omega (arith, next.whole.least)) in
     let h : Head = head_for q ask in
     let rs : List Numbered = taken_from 1 ask.previous_scn b.rest in
+    let later : ask.previous_scn < q.scn = omega (arith, next.scn, next.later) in
     let high : ask.previous_scn < stamp_of b.first =
-    subst (λ (x : Image). ask.previous_scn < stamp_of (first_page x)) b.is (omega (arith, next.whole.sound.stamps.head, next.begun.scn, next.later)) in
+    subst (λ (x : Image). ask.previous_scn < stamp_of (first_page x)) b.is (omega (arith, next.whole.sound.stamps.head, next.begun.scn, next.scn, next.later)) in
     let all : taken ask.previous_scn q.image ≡ (0, b.first) ∷ rs = ap (taken ask.previous_scn) b.is ∙ taken_first ask.previous_scn b.first b.rest high in
     let level : (ask.level == 0) ≡ false = elim (eqb_tells ask.level 0) [ inl w ↦ absurd (omega (arith, w.1, next.some, next.level)) | inr w ↦ w.0 ] in
     let file : file_of version q ≡ level_bytes version h ((0, b.first) ∷ rs) = file_is version q ask next.asked level ∙ ap (level_bytes version h) all in
-    let spelled = level_read _ version h (0, b.first) rs (file_in_grammar version q ask b.first b.rest b.is next.known next.head next.whole next.begun next.later) in
+    let spelled = level_read _ version h (0, b.first) rs (file_in_grammar version q ask b.first b.rest b.is next.known next.head next.whole next.begun later) in
     ap (next_link k last name) file
-    ∙ accepts k last name (level_bytes version h ((0, b.first) ∷ rs)) _ (begins_bytes version h ((0, b.first) ∷ rs)) spelled (is_behind k last name _ next.level next.guid next.size next.scn)
+    ∙ accepts k last name (level_bytes version h ((0, b.first) ∷ rs)) _ (begins_bytes version h ((0, b.first) ∷ rs)) spelled
+      (is_behind k last name _ next.level (next.guid ∙ sym eg) (next.follows.size ∙ sym ez) (next.scn ∙ sym es))
     ∙ ap (λ (ps : List Numbered). Ok (record { guid = q.guid; scn = q.scn; size = image_size q.image; pages = ps })) (sym all ∙ ap (λ (s : ℕ). taken s q.image) next.scn)
+
+-- one file more is read
+step_there : (files : Files) (k : ℕ) (last : Link) (name : List ℕ) (names : List (List ℕ)) (bytes : List ℕ) (l : Link) → files name ≡ Some bytes → next_link k last name bytes ≡ Ok l
+    → next_links files k last (name ∷ names) ≡ linked l (next_links files (k + 1) l names)
+unfolding next_links
+step_there files k last name names bytes l is link = rw (is, next_links) (rw (link, next_links) refl)
+
+none_left : (files : Files) (k : ℕ) (last : Link) → next_links files k last [] ≡ Ok []
+unfolding next_links
+none_left files k last = refl
+
+next_none : (r : Kept) → next_files r [] ≡ []
+unfolding next_files
+next_none r = refl
+
+next_some : (r q : Kept) (qs : List Kept) → next_files r (q ∷ qs) ≡ record { guid = q.guid; scn = q.scn; size = image_size q.image; pages = taken r.scn q.image } ∷ next_files q qs
+unfolding next_files
+next_some r q qs = refl
+
+-- the files of a line are accepted
+line_accepted : (files : Files) (k : ℕ) (r : Kept) (last : Link) (names : List (List ℕ)) (qs : List Kept) → last.guid ≡ r.guid → last.scn ≡ r.scn → last.size ≡ image_size r.image → HoldLine files k r names qs
+    → next_links files k last names ≡ Ok (next_files r qs)
+line_accepted files k r last [] [] eg es ez line = none_left files k last ∙ ap (λ (ls : List Link). Ok ls) (sym (next_none r))
+line_accepted files k r last (name ∷ names) [] eg es ez line = absurd line
+line_accepted files k r last [] (q ∷ qs) eg es ez line = absurd line
+line_accepted files k r last (name ∷ names) (q ∷ qs) eg es ez line =
+    let here : HoldsNext files k r name q = line.0 in
+    let l : Link = record { guid = q.guid; scn = q.scn; size = image_size q.image; pages = taken r.scn q.image } in
+    step_there files k last name names (file_of here.version q) l here.is (kept_accepted k here.version r last name q here.ask eg es ez here.next)
+    ∙ ap (linked l) (line_accepted files (k + 1) q l names qs refl refl refl line.1)
+    ∙ ap (λ (ls : List Link). Ok ls) (sym (next_some r q qs))
+
+-- and they go on from one another
+pub held_line : (files : Files) (k : ℕ) (r : Kept) (names : List (List ℕ)) (qs : List Kept) → HoldLine files k r names qs → IsLine r qs
+held_line files k r [] [] line = tt
+held_line files k r (name ∷ names) [] line = absurd line
+held_line files k r [] (q ∷ qs) line = absurd line
+held_line files k r (name ∷ names) (q ∷ qs) line =
+    (record { ask = line.0.ask; is = line.0.next.asked; guid = line.0.next.guid; scn = line.0.next.scn; follows = line.0.next.follows }, held_line files (k + 1) q names qs line.1)
