@@ -156,7 +156,7 @@ unfolding next_files
 next_some r q qs = refl
 
 -- the files of a line are accepted
-line_accepted : (files : Files) (k : ℕ) (r : Kept) (last : Link) (names : List (List ℕ)) (qs : List Kept) → last.guid ≡ r.guid → last.scn ≡ r.scn → last.size ≡ image_size r.image → HoldLine files k r names qs
+pub line_accepted : (files : Files) (k : ℕ) (r : Kept) (last : Link) (names : List (List ℕ)) (qs : List Kept) → last.guid ≡ r.guid → last.scn ≡ r.scn → last.size ≡ image_size r.image → HoldLine files k r names qs
     → next_links files k last names ≡ Ok (next_files r qs)
 line_accepted files k r last [] [] eg es ez line = none_left files k last ∙ ap (λ (ls : List Link). Ok ls) (sym (next_none r))
 line_accepted files k r last (name ∷ names) [] eg es ez line = absurd line

@@ -11,3 +11,4 @@ pub mod ReadLaws
 pub mod GatherLaws
 pub mod LevelLaws
 pub mod ChainLaws
+pub mod WholeLaws

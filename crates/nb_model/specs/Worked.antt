@@ -1,18 +1,20 @@
 -- Worked sessions, which the rows of `worked` compute: a fresh database of 1,024-byte pages, and what is said and made then.
 use Rattle.std.specs.Prelude.{ℕ, ◌+◌, List, [], ◌∷◌, ◌++◌, map, replicate, codes, Option, None, Some, Ok, Err, true, false}
-use Rattle.nb_fields.specs.Bytes.{bytes_of}
+use Rattle.nb_fields.specs.Bytes.{bytes_of, with_part}
+use Rattle.nb_fields.specs.Payloads.{text_of}
 use Rattle.nb_host.specs.Files.{Files}
 use Rattle.nb_host.specs.Names.{same_name}
 use Rattle.nb_host.specs.declared.refusals.Refusal.{Refusal}
 use Rattle.nb_model.specs.declared.reply.Reply.{Reply}
 use Rattle.nb_model.specs.declared.statement.Statement.{Statement}
 use Rattle.nb_model.specs.declared.statement.Statement.TheVariants.{CreateDb, Write, BeginBackup, Backup}
-use Rattle.nb_model.specs.Image.{Numbered, page_at}
+use Rattle.nb_model.specs.Image.{Numbered, page_at, image_in}
 use Rattle.nb_model.specs.Account.{Account, Missing, Base, base_of}
-use Rattle.nb_model.specs.Strokes.{Stroke, make, page, begin, ends, finish, fix, merge}
+use Rattle.nb_model.specs.Strokes.{Stroke, make, page, begin, ends, finish, fix, merge, fixed, merged}
 use Rattle.nb_model.specs.Levels.{read_level, joined}
 use Rattle.nb_model.specs.Owner.{owner}
-use Rattle.nb_model.specs.Restoring.{verdict}
+use Rattle.nb_model.specs.Restoring.{verdict, applied}
+use Rattle.nb_model.specs.Jobs.{restore_turn, fixup_turn, apply_turn}
 use Rattle.nb_model.specs.Outcomes.{Given}
 use Rattle.nb_model.specs.Run.{Event, Opening, opening, base_now, play, replies_of, strokes_of, files_made}
 
@@ -119,3 +121,30 @@ bytes_made name files = elim (files_of files name) [ None ↦ [] | Some bytes �
 -- the level 1 of the worked chain
 unfoldable pub level_1_file : List ℕ
 level_1_file = bytes_made (codes "a.1") chain_files
+
+-- a standby: what a restore of the level 0 leaves, with its access byte so
+unfoldable pub standby : (access : ℕ) → List ℕ
+standby access = elim (verdict (files_of chain_files) (codes "a.0" ∷ [])) [
+  | Err refusal ↦ []
+  | Ok links ↦ with_part 65 (access ∷ []) (joined (fixed (applied links)))
+]
+
+-- it, once the level 1 was merged
+unfoldable pub merged_standby : List ℕ
+merged_standby = elim (read_level level_1_file) [ Err at ↦ [] | Ok c ↦ joined (merged c.pages (image_in (standby 1))) ]
+
+-- the reply of a merge of the level 1 into a standby of those bytes
+unfoldable pub apply_reply : List ℕ → Option Reply
+apply_reply bytes = (apply_turn (files_of ((codes "b.db", bytes) ∷ chain_files)) (codes "b.db") (codes "a.1")).reply
+
+-- the reply of a restore under a free name
+unfoldable pub restore_reply : (names : List (List ℕ)) → Option Reply
+restore_reply names = (restore_turn (files_of chain_files) nowhere (codes "c.db") names).reply
+
+-- page 6 of what a chain gives
+unfoldable pub restored_text : (names : List (List ℕ)) → List ℕ
+restored_text names = elim (verdict (files_of chain_files) names) [ Err refusal ↦ [] | Ok links ↦ text_of (page_at (applied links) 6) ]
+
+-- the reply of a fixup of a file with that file beside it
+unfoldable pub fixup_reply : (main delta : Option (List ℕ)) → Option Reply
+fixup_reply main delta = (fixup_turn (λ name. elim (same_name name (codes "k.db")) [ true ↦ main | false ↦ delta ]) (codes "k.db")).reply

@@ -5,11 +5,11 @@ ghost use Rattle.nb_model.specs.Follows.{Follows, IsMixed};
 ghost use Rattle.nb_model.specs.Forms.{drafted, give_page, new_page, put, take_page};
 ghost use Rattle.nb_model.specs.Image.{Image, Numbered, Page, image_size, overwritten, page_at, with_page, written_at};
 ghost use Rattle.nb_model.specs.Levels.{Head, IsLevel, read_level, taken};
-ghost use Rattle.nb_model.specs.Line.{AreZeroPages, IsLine, first_file, last_in, next_files};
+ghost use Rattle.nb_model.specs.Line.{AreZeroPages, HoldLine, HoldsFirst, IsLine, first_file, last_in, next_files};
 ghost use Rattle.nb_model.specs.Outcomes.{DoesNothing, Seen};
 ghost use Rattle.nb_model.specs.Output.{acked};
 ghost use Rattle.nb_model.specs.Owner.{entry_for, owned, slot_page};
-ghost use Rattle.nb_model.specs.Restoring.{applied};
+ghost use Rattle.nb_model.specs.Restoring.{applied, verdict};
 ghost use Rattle.nb_model.specs.Run.{Event, IsPlayed, Now, base_now, play, rounds, strokes_of};
 ghost use Rattle.nb_model.specs.Sound.{HasNoZeros};
 ghost use Rattle.nb_model.specs.Strokes.{Stroke, base_after, fixed, merged_page, on_base, page as page_stroke, records_after};
@@ -17,6 +17,7 @@ ghost use Rattle.nb_model.specs.Turns.{first_turn};
 ghost use Rattle.nb_model.specs.declared.reply.Reply.TheVariants.{Refused};
 ghost use Rattle.nb_model.specs.declared.statement.Statement.{Statement};
 ghost use Rattle.nb_fields.specs.Page.{stamp_of};
+ghost use Rattle.nb_host.specs.Files.{Files};
 ghost use Rattle.nb_host.specs.declared.refusals.Refusal.{Refusal};
 ghost use Rattle.std.specs.Prelude.{Contains, List, Ok, Some, [], ◌++◌, ◌+◌, ◌<◌, ◌∷◌, ◌≡◌, ◌≢◌, ◌≤◌, drop, length, replicate, slice_set, take, ℕ};
 ghost use Rattle.std.specs.List.{slice_index_or};
@@ -46,6 +47,13 @@ pub fn lineage_restores()
 pub fn a_line_gives_its_last()
     ensures { (r : Kept) (qs : List Kept) (zeros : Image) → IsLine r qs → AreZeroPages zeros → HasNoZeros (last_in r qs).image → applied (first_file r zeros ∷ next_files r qs) ≡ (last_in r qs).image }
 {}
+
+/// The files of kept backups that go on from one another are a chain, in either version, and give the image of the last.
+pub fn a_kept_chain_is_accepted()
+    ensures accepted { (files : Files) (r : Kept) (zeros : Image) (qs : List Kept) (name : List ℕ) (names : List (List ℕ)) → HoldsFirst files r zeros name → HoldLine files 1 r names qs → verdict files (name ∷ names) ≡ Ok (first_file r zeros ∷ next_files r qs) }
+    ensures gives { (files : Files) (r : Kept) (zeros : Image) (qs : List Kept) (name : List ℕ) (names : List (List ℕ)) → HoldsFirst files r zeros name → HoldLine files 1 r names qs → HasNoZeros (last_in r qs).image → applied (first_file r zeros ∷ next_files r qs) ≡ (last_in r qs).image }
+{
+}
 
 /// What the grammar of level files spells is read back, in both versions.
 pub fn a_level_is_read_back()

@@ -1,13 +1,13 @@
 // Worked examples, computed from the definitions alone: each is a public function with an empty body, whose contract states
 // what a session is answered, which pages it writes, which files are refused. All databases have pages of 1,024 bytes.
 ghost use Rattle.nb_fields.specs.Bytes.{with_part};
-ghost use Rattle.nb_host.specs.declared.refusals.Refusal.TheVariants.{NotAllocated, SystemPage, TextLong, WrongState, BackupRunning, ChainLevel, ChainGuid, NoFile, PageRange, NoGuid, NoHistory, NotDatabase, BadDelta, NoTable, TableExists, KeyExists, NoKey, Usage, Access as NoAccess};
+ghost use Rattle.nb_host.specs.declared.refusals.Refusal.TheVariants.{NotAllocated, SystemPage, TextLong, WrongState, BackupRunning, ChainLevel, ChainGuid, NoFile, PageRange, NoGuid, NoHistory, NotDatabase, BadDelta, NoTable, TableExists, KeyExists, NoKey, Usage, Access as NoAccess, DeltaPresent, Unfinished};
 ghost use Rattle.nb_model.specs.Lines.{line_text};
 ghost use Rattle.nb_model.specs.Run.{rounds};
 ghost use Rattle.nb_model.specs.Words.{job_of};
-ghost use Rattle.nb_model.specs.Worked.{g, says, replies, strokes, base_then, pages_held, refused, chain_files, level_1_file, broken_place, not_open, main_file, stalled_file, delta_file};
+ghost use Rattle.nb_model.specs.Worked.{g, says, replies, strokes, base_then, pages_held, refused, chain_files, level_1_file, broken_place, not_open, main_file, stalled_file, delta_file, standby, merged_standby, apply_reply, restore_reply, restored_text, fixup_reply};
 ghost use Rattle.nb_model.specs.declared.job.Job.TheVariants.{Run, Restore, LockWithSize, Backup as JobBackup, BackupSince as JobBackupSince};
-ghost use Rattle.nb_model.specs.declared.reply.Reply.TheVariants.{Done, Opened, Value, Scn, Level, Rows, HeaderShown, PagesShown, PageMade, CacheShown, Refused};
+ghost use Rattle.nb_model.specs.declared.reply.Reply.TheVariants.{Done, Opened, Value, Scn, Level, Rows, HeaderShown, PagesShown, PageMade, CacheShown, Refused, Pages};
 ghost use Rattle.nb_model.specs.declared.statement.Statement.TheVariants.{Write, Read, Free, PageNew, BeginBackup, EndBackup, Backup, BackupSince, CreateTable, DropTable, Insert, Update, Delete, Get, Scan, Access, ShowHeader, ShowPages, ShowCache};
 ghost use Rattle.std.specs.Prelude.{[], ◌++◌, ◌∷◌, ◌≡◌, None, Some, codes, length, replicate, take, true, false};
 
@@ -157,3 +157,40 @@ pub fn words_name_jobs()
     ensures number { job_of (codes "gen" ∷ codes "07" ∷ codes "g.s" ∷ []) ≡ None }
     ensures none { job_of [] ≡ None }
 {}
+
+/// A restore gives the image of the last file.
+pub fn restore_a_chain()
+    ensures replies { restore_reply (codes "a.0" ∷ codes "a.1" ∷ []) ≡ Some (Pages 13) }
+    ensures first { restored_text (codes "a.0" ∷ []) ≡ [] }
+    ensures second { restored_text (codes "a.0" ∷ codes "a.1" ∷ []) ≡ codes "new" }
+    ensures third { restored_text (codes "a.0" ∷ codes "a.1" ∷ codes "a.2" ∷ []) ≡ codes "later" }
+    ensures none { restore_reply (codes "no.0" ∷ []) ≡ Some (Refused (NoFile (codes "no.0"))) }
+{
+}
+
+/// A level file is merged into a standby once, and only where it is read-only.
+pub fn in_place()
+    ensures done { apply_reply (standby 1) ≡ Some (Pages 13) }
+    ensures access { apply_reply (standby 0) ≡ Some (Refused (NoAccess 0)) }
+    ensures again { apply_reply merged_standby ≡ Some (Refused (ChainGuid (codes "a.1") (g 1) (g 2))) }
+    ensures pending { apply_reply (with_part 22 (3 ∷ []) (with_part 48 (g 2) (standby 1))) ≡ Some (Pages 13) }
+    ensures unfinished { apply_reply (with_part 22 (3 ∷ []) (with_part 48 (g 3) (standby 1))) ≡ Some (Refused Unfinished) }
+    ensures stalled { apply_reply stalled_file ≡ Some (Refused (WrongState 1)) }
+{
+}
+
+/// A copy of a stalled database is fixed up once, and only without a difference file.
+pub fn lock_copy_fixup()
+    ensures beside { fixup_reply (Some stalled_file) (Some delta_file) ≡ Some (Refused (DeltaPresent (codes "k.db.delta"))) }
+    ensures done { fixup_reply (Some stalled_file) None ≡ Some Done }
+    ensures normal { fixup_reply (Some (main_file 8)) None ≡ Some (Refused (WrongState 0)) }
+    ensures missing { fixup_reply None None ≡ Some (Refused (NoFile (codes "k.db"))) }
+{
+}
+
+/// Rows are inserted while a backup runs.
+pub fn rows_under_a_backup()
+    ensures { replies 2 ((Backup 0 (codes "s.0") ∷ []) ∷ (CreateTable (codes "t") ∷ Insert (codes "t") 1 (codes "a") ∷ Insert (codes "t") 2 (codes "b") ∷ Scan (codes "t") ∷ []) ∷ (Scan (codes "t") ∷ []) ∷ []) (2 ∷ 2 ∷ 1 ∷ 2 ∷ 3 ∷ 2 ∷ [] ++ rounds 14)
+        ≡ (2, Done) ∷ (2, Done) ∷ (2, Done) ∷ (3, Rows ((1, codes "a") ∷ (2, codes "b") ∷ [])) ∷ (2, Rows ((1, codes "a") ∷ (2, codes "b") ∷ [])) ∷ (1, Level 0 1 8 (g 1)) ∷ [] }
+{
+}
