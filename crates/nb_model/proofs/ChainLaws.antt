@@ -1,18 +1,15 @@
 -- The files of kept backups that go on from one another are accepted as a chain.
-use Rattle.std.proofs.Common.{◌≡◌, inl, inr, ℕ, zero, suc, ◌+◌, ◌-◌, ◌^◌, ◌<◌, ◌≤◌, List, [], ◌∷◌, ◌++◌, length, get_or, refl, sym, ap, subst, ◌∙◌, arith}
-use Rattle.std.specs.Prelude.{Bool, true, false, not, ◌&&◌, ◌||◌, ◌==◌, nat_le, IsTrue, Option, Some, None, Result, Ok, Err}
-use Rattle.std.specs.List.{AllByRecursion}
+use Rattle.std.proofs.Common.{◌≡◌, inl, inr, ℕ, suc, ◌+◌, ◌<◌, ◌≤◌, List, [], ◌∷◌, length, refl, sym, ap, subst, ◌∙◌, arith}
+use Rattle.std.specs.Prelude.{Bool, true, false, not, ◌&&◌, ◌||◌, ◌==◌, Some, None, Ok}
 use Rattle.std.proofs.lemmas.Bool.Decides.{leb_tells, eqb_tells}
 use Rattle.nb_fields.specs.Page.{stamp_of}
-use Rattle.nb_fields.specs.Places.{is_page_size}
-use Rattle.nb_fields.specs.Header.{is_header, state_of, size_of, scn_of, guid_of}
 use Rattle.nb_host.specs.Files.{Files}
 use Rattle.nb_host.specs.Names.{same_name}
 use Rattle.nb_host.specs.declared.refusals.Refusal.{Refusal}
-use Rattle.nb_model.specs.Image.{Page, Image, Numbered, image_size, image_scn, first_page}
+use Rattle.nb_model.specs.Image.{Page, Image, Numbered, image_size, first_page}
 use Rattle.nb_model.specs.Account.{Ask, Kept}
 use Rattle.nb_model.specs.Causes.{Cause, first_cause, when}
-use Rattle.nb_model.specs.Levels.{Head, IsHead, IsLevel, Contents, AreRising, AreOfSize, taken_from, taken, head_for, file_for, file_of, level_bytes, head_then, begins_level, read_level, is_first_page}
+use Rattle.nb_model.specs.Levels.{Head, IsHead, IsLevel, Contents, AreRising, AreOfSize, taken_from, taken, head_for, file_for, file_of, level_bytes, begins_level, read_level, is_first_page}
 use Rattle.nb_model.specs.Restoring.{Link, level_link, not_behind, next_link, next_links, linked}
 use Rattle.nb_model.specs.Sound.{IsOfSize, IsSoundImage}
 use Rattle.nb_model.specs.Stands.{IsBegun}
@@ -134,7 +131,7 @@ kept_accepted k version r last name q ask eg es ez next =
     let spelled = level_read _ version h (0, b.first) rs (file_in_grammar version q ask b.first b.rest b.is next.known next.head next.whole next.begun later) in
     ap (next_link k last name) file
     ∙ accepts k last name (level_bytes version h ((0, b.first) ∷ rs)) _ (begins_bytes version h ((0, b.first) ∷ rs)) spelled
-      (is_behind k last name _ next.level (next.guid ∙ sym eg) (next.follows.size ∙ sym ez) (next.scn ∙ sym es))
+    (is_behind k last name _ next.level (next.guid ∙ sym eg) (next.follows.size ∙ sym ez) (next.scn ∙ sym es))
     ∙ ap (λ (ps : List Numbered). Ok (record { guid = q.guid; scn = q.scn; size = image_size q.image; pages = ps })) (sym all ∙ ap (λ (s : ℕ). taken s q.image) next.scn)
 
 -- one file more is read

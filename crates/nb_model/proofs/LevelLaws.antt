@@ -1,6 +1,6 @@
 -- Reading a level file gives what was written, in both versions. So bytes spell one level file at most.
-use Rattle.std.proofs.Common.{◌≡◌, inl, inr, ℕ, zero, suc, ◌+◌, ◌^◌, ◌<◌, ◌≤◌, ◌⊎◌, List, [], ◌∷◌, ◌++◌, length, take, drop, refl, sym, ap, subst, ◌∙◌, arith, length-append, append_assoc}
-use Rattle.std.specs.Prelude.{Bool, true, false, not, ◌&&◌, ◌||◌, ◌==◌, nat_lt, nat_le, IsTrue, Option, None, Result, Ok, Err}
+use Rattle.std.proofs.Common.{◌≡◌, inl, inr, ℕ, zero, suc, ◌+◌, ◌<◌, ◌≤◌, ◌⊎◌, List, [], ◌∷◌, ◌++◌, length, take, drop, refl, sym, ap, subst, ◌∙◌, arith, length-append, append_assoc}
+use Rattle.std.specs.Prelude.{Bool, true, false, not, ◌&&◌, ◌||◌, ◌==◌, nat_lt, nat_le, None, Result, Ok, Err}
 use Rattle.std.proofs.lemmas.Bool.{eqb-true, or_cases}
 use Rattle.std.proofs.lemmas.Bool.Decides.{leb_tells}
 use Rattle.std.proofs.lemmas.List.{take_at, drop_at, drop-drop}
@@ -8,10 +8,10 @@ use Rattle.nb_fields.specs.Bytes.{number_of, bytes_of, number_in, part}
 use Rattle.nb_fields.specs.Places.{is_page_size}
 use Rattle.nb_fields.proofs.NumberLemmas.{number_of-bytes_of}
 use Rattle.nb_fields.proofs.SizeLemmas.{size_facts}
-use Rattle.nb_model.specs.Image.{Page, Numbered}
+use Rattle.nb_model.specs.Image.{Numbered}
 use Rattle.nb_model.specs.Levels.{Head, IsHead, IsLevel, Contents, Test, Stretch, AreRising, AreOfSize, first_fault, ends_before, head_then, head_in, begins_level, body_bytes, single_bytes, run_bytes, runs_of, runs_behind, joined, end_bytes, end_mark, level_bytes, read_level, read_pages, read_singles, read_runs, with_head, is_first_page}
-use Rattle.nb_model.proofs.ReadLaws.{AreClear, clear_none, lt_no, lt_yes, eq_no, eq_yes, IsRun, single_read, singles_end}
-use Rattle.nb_model.proofs.GatherLaws.{AreRuns, total, pages_of_runs, one_numbered, gathered_pages, gathered_runs, gathered_total, runs_read}
+use Rattle.nb_model.proofs.ReadLaws.{AreClear, clear_none, lt_no, lt_yes, IsRun, single_read, singles_end}
+use Rattle.nb_model.proofs.GatherLaws.{AreRuns, total, one_numbered, gathered_pages, gathered_runs, gathered_total, runs_read}
 
 -- what stands behind two lists of sixteen
 past_guids : (g p w : List ℕ) (n k : ℕ) → length g ≡ 16 → length p ≡ 16 → n ≡ 32 + k → drop n (g ++ (p ++ w)) ≡ drop k w
@@ -211,10 +211,13 @@ contents version h r rs = record { version = version; head = h; pages = r ∷ rs
 
 -- a head that is of the form is read
 head_clear : (version : ℕ) (h : Head) (tail : List ℕ) → IsHead h → (version == 101 || version == 102) ≡ true → AreClear (head_tests (head_then version h tail) version h)
-head_clear version h tail is known =
-    (ap not (begins_there version h tail),
-      (lt_no (length (head_then version h tail)) 52 (omega (arith, head_longer version h tail is)),
-        (ap not known, (ap not is.level, (ap not is.size, (ap not (lt_yes h.previous_scn h.scn is.later), tt))))))
+head_clear version h tail is known = (
+  ap not (begins_there version h tail),
+  (
+    lt_no (length (head_then version h tail)) 52 (omega (arith, head_longer version h tail is)),
+    (ap not known, (ap not is.level, (ap not is.size, (ap not (lt_yes h.previous_scn h.scn is.later), tt)))),
+  ),
+)
 
 file_read : (version : ℕ) (h : Head) (tail : List ℕ) → IsHead h → (version == 101 || version == 102) ≡ true → version < 65536
     → read_level (head_then version h tail) ≡ with_head version h (read_pages version h (head_then version h tail))
@@ -246,6 +249,7 @@ level_read bytes version h r rs is = ap read_level is.spelled ∙ by_version (or
   where
     body : IsBody h r rs
     body = record { first = is.first; header = is.header; rising = is.rising; size = is.sizes.0; sizes = is.sizes.1; few = rising_few 1 rs (omega arith) is.rising }
+
     by_version : ((version == 101) ≡ true) ⊎ ((version == 102) ≡ true) → read_level (level_bytes version h (r ∷ rs)) ≡ Ok (contents version h r rs)
     by_version (inl e) = subst (λ v. read_level (level_bytes v h (r ∷ rs)) ≡ Ok (contents v h r rs)) (sym (eqb-true version 101 e)) (file_101 h r rs is.head body)
     by_version (inr e) = subst (λ v. read_level (level_bytes v h (r ∷ rs)) ≡ Ok (contents v h r rs)) (sym (eqb-true version 102 e)) (file_102 h r rs is.head body)

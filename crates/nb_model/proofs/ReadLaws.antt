@@ -1,6 +1,6 @@
 -- Reading the pages of a level file, step by step.
-use Rattle.std.proofs.Common.{◌≡◌, ◌≢◌, inl, inr, ℕ, zero, suc, ◌+◌, ◌*◌, ◌^◌, ◌<◌, ◌≤◌, List, [], ◌∷◌, ◌++◌, length, get_or, take, drop, refl, sym, ap, ◌∙◌, arith, length-append, append_assoc, add-zero}
-use Rattle.std.specs.Prelude.{Bool, true, false, not, ◌&&◌, ◌||◌, ◌==◌, nat_lt, nat_le, Option, None, Result, Ok}
+use Rattle.std.proofs.Common.{◌≡◌, ◌≢◌, inl, inr, ℕ, zero, suc, ◌+◌, ◌*◌, ◌<◌, ◌≤◌, List, [], ◌∷◌, ◌++◌, length, get_or, take, drop, refl, sym, ap, ◌∙◌, arith, length-append, append_assoc}
+use Rattle.std.specs.Prelude.{Bool, true, false, not, ◌&&◌, ◌||◌, ◌==◌, nat_lt, nat_le, None, Result, Ok}
 use Rattle.std.specs.List.{AllByRecursion}
 use Rattle.std.proofs.lemmas.Bool.Decides.{eqb_tells, leb_tells}
 use Rattle.std.proofs.lemmas.List.{drop_at, take_at, drop-drop}
@@ -229,12 +229,19 @@ run_read left h at count least barred first ps more rs run later =
     let wide : h.size ≤ m * h.size = size_le m h.size run.some in
     let small : first < 1048576 = omega (arith, run.below, run.some) in
     run_step left h at count least barred rest first m (number_first first (bytes_of 4 m ++ (joined ps ++ more)) (omega arith)) (number_second first m (joined ps ++ more) (omega (arith, run.few)))
-    (lt_no (length rest) 4 (omega arith)) (eq_no first end_mark (omega arith))
-    (or_no _ _ (good_number count least first run.begins run.low small) (eq_no first barred run.apart),
-      (lt_no (length rest) 8 (omega arith),
-        (or_no _ _ (eq_no m 0 (omega (arith, run.some))) (or_no _ _ (lt_no 16 m run.few) (lt_no 1048576 (first + m) run.below)),
-          (and_no_right (first == 0) (nat_lt (length rest) (8 + h.size)) (lt_no (length rest) (8 + h.size) (omega arith)),
-            (zero_test first (is_first_page h (part 8 h.size rest)) (λ e. ap (is_first_page h) page ∙ run.head e), (lt_no (length rest) (8 + m * h.size) (omega arith), tt))))))
+    (lt_no (length rest) 4 (omega arith)) (eq_no first end_mark (omega arith)) (
+      or_no _ _ (good_number count least first run.begins run.low small) (eq_no first barred run.apart),
+      (
+        lt_no (length rest) 8 (omega arith),
+        (
+          or_no _ _ (eq_no m 0 (omega (arith, run.some))) (or_no _ _ (lt_no 16 m run.few) (lt_no 1048576 (first + m) run.below)),
+          (
+            and_no_right (first == 0) (nat_lt (length rest) (8 + h.size)) (lt_no (length rest) (8 + h.size) (omega arith)),
+            (zero_test first (is_first_page h (part 8 h.size rest)) (λ e. ap (is_first_page h) page ∙ run.head e), (lt_no (length rest) (8 + m * h.size) (omega arith), tt)),
+          ),
+        ),
+      ),
+    )
     ∙ ap (λ (x : List ℕ). behind (pages_in h.size m first x) (read_runs left h (at + 8 + m * h.size) (count + m) (first + m) (barred_after first m) (drop (8 + m * h.size) rest))) front
     ∙ ap (λ (r : List Numbered). behind r (read_runs left h (at + 8 + m * h.size) (count + m) (first + m) (barred_after first m) (drop (8 + m * h.size) rest))) (joined_read h.size first ps more run.sizes)
     ∙ ap (λ (x : List ℕ). behind (numbered_from first ps) (read_runs left h (at + 8 + m * h.size) (count + m) (first + m) (barred_after first m) x)) past

@@ -1,7 +1,6 @@
 -- A copy of a kept image is accepted as the first file of a chain, and a kept chain gives the kept image.
-use Rattle.std.proofs.Common.{◌≡◌, inl, inr, ℕ, zero, suc, ◌+◌, ◌-◌, ◌*◌, ◌/◌, ◌%◌, ◌<◌, ◌≤◌, List, [], ◌∷◌, ◌++◌, length, take, drop, refl, sym, ap, subst, ◌∙◌, arith, length-append, append_assoc}
-use Rattle.std.specs.Prelude.{Bool, true, false, not, ◌&&◌, ◌||◌, ◌==◌, nat_le, nat_lt, Option, Some, None, Result, Ok}
-use Rattle.std.specs.List.{AllByRecursion}
+use Rattle.std.proofs.Common.{◌≡◌, inl, inr, ℕ, suc, ◌+◌, ◌-◌, ◌*◌, ◌/◌, ◌%◌, ◌<◌, ◌≤◌, List, [], ◌∷◌, ◌++◌, length, take, drop, refl, sym, ap, subst, ◌∙◌, arith, length-append}
+use Rattle.std.specs.Prelude.{Bool, true, false, not, ◌&&◌, ◌==◌, nat_lt, Some, None, Ok}
 use Rattle.std.proofs.lemmas.Bool.Decides.{eqb_tells, leb_tells}
 use Rattle.std.proofs.lemmas.List.{take_at, drop_at, take-append-le}
 use Rattle.std.proofs.Math.Nat.{mul-mod_left, mul-div_cancel, suc-mul}
@@ -11,14 +10,13 @@ use Rattle.nb_fields.proofs.HeaderLemmas.{is_header-short, is_header-long, is_he
 use Rattle.nb_fields.proofs.PartLemmas.{part-take}
 use Rattle.nb_host.specs.Files.{Files}
 use Rattle.nb_host.specs.declared.refusals.Refusal.{Refusal}
-use Rattle.nb_model.specs.Image.{Page, Image, Numbered, image_size, image_state, image_scn, image_guid, first_page, cut}
+use Rattle.nb_model.specs.Image.{Page, Image, image_size, first_page, cut}
 use Rattle.nb_model.specs.Account.{Kept}
 use Rattle.nb_model.specs.Causes.{Cause, first_cause, when}
 use Rattle.nb_model.specs.Levels.{joined, numbered_from, begins_level}
 use Rattle.nb_model.specs.Restoring.{Link, whole_link, is_bad_length, not_whole, first_link, next_links, linked, verdict, applied}
 use Rattle.nb_model.specs.Sound.{IsOfSize, HasNoZeros}
-use Rattle.nb_model.specs.Stands.{IsBegun}
-use Rattle.nb_model.specs.Line.{IsLine, HoldLine, HoldsFirst, AreZeroPages, first_file, next_files, last_in}
+use Rattle.nb_model.specs.Line.{HoldLine, HoldsFirst, first_file, next_files, last_in}
 use Rattle.nb_model.proofs.ReadLaws.{eq_yes, lt_no, or_no}
 use Rattle.nb_model.proofs.LineLaws.{line_applied}
 use Rattle.nb_model.proofs.ChainLaws.{line_accepted, held_line}
@@ -86,7 +84,7 @@ unfolding cut
 cut_joined size [] h = refl
 cut_joined size (p ∷ ps) h = elim (leb_tells size (length (p ++ joined ps))) [
   | inl w ↦ rw (w.0, cut) (ap (λ (x : Page). x ∷ cut size (length ps) (drop size (p ++ joined ps))) (take_at p (joined ps) size h.0)
-    ∙ ap (λ (x : List ℕ). p ∷ cut size (length ps) x) (drop_at p (joined ps) size h.0) ∙ ap (λ (xs : Image). p ∷ xs) (cut_joined size ps h.1))
+      ∙ ap (λ (x : List ℕ). p ∷ cut size (length ps) x) (drop_at p (joined ps) size h.0) ∙ ap (λ (xs : Image). p ∷ xs) (cut_joined size ps h.1))
   | inr w ↦ absurd (omega (arith, w.1, h.0, length-append p (joined ps)))
 ]
 

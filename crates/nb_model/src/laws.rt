@@ -52,20 +52,17 @@ pub fn a_line_gives_its_last()
 pub fn a_kept_chain_is_accepted()
     ensures accepted { (files : Files) (r : Kept) (zeros : Image) (qs : List Kept) (name : List ℕ) (names : List (List ℕ)) → HoldsFirst files r zeros name → HoldLine files 1 r names qs → verdict files (name ∷ names) ≡ Ok (first_file r zeros ∷ next_files r qs) }
     ensures gives { (files : Files) (r : Kept) (zeros : Image) (qs : List Kept) (name : List ℕ) (names : List (List ℕ)) → HoldsFirst files r zeros name → HoldLine files 1 r names qs → HasNoZeros (last_in r qs).image → applied (first_file r zeros ∷ next_files r qs) ≡ (last_in r qs).image }
-{
-}
+{}
 
 /// What the grammar of level files spells is read back, in both versions.
 pub fn a_level_is_read_back()
     ensures { (bytes : List ℕ) (version : ℕ) (h : Head) (r : Numbered) (rs : List Numbered) → IsLevel bytes version h r rs → read_level bytes ≡ Ok (record { version = version; head = h; pages = r ∷ rs }) }
-{
-}
+{}
 
 /// Bytes spell one level file at most.
 pub fn bytes_spell_one_level()
     ensures { (bytes : List ℕ) (v w : ℕ) (h k : Head) (r q : Numbered) (rs qs : List Numbered) → IsLevel bytes v h r rs → IsLevel bytes w k q qs → (v ≡ w) × (h ≡ k) × (r ∷ rs ≡ q ∷ qs) }
-{
-}
+{}
 
 /// Strokes behind strokes.
 pub fn strokes_join()

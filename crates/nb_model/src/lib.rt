@@ -25,3 +25,6 @@ pub use rows::RowList;
 pub use statement::Statement;
 pub use table_name::{MOST_TABLE_NAME, TableName};
 pub use text::Text;
+
+#[cfg(test)]
+mod tests;

@@ -165,8 +165,7 @@ pub fn restore_a_chain()
     ensures second { restored_text (codes "a.0" ∷ codes "a.1" ∷ []) ≡ codes "new" }
     ensures third { restored_text (codes "a.0" ∷ codes "a.1" ∷ codes "a.2" ∷ []) ≡ codes "later" }
     ensures none { restore_reply (codes "no.0" ∷ []) ≡ Some (Refused (NoFile (codes "no.0"))) }
-{
-}
+{}
 
 /// A level file is merged into a standby once, and only where it is read-only.
 pub fn in_place()
@@ -176,8 +175,7 @@ pub fn in_place()
     ensures pending { apply_reply (with_part 22 (3 ∷ []) (with_part 48 (g 2) (standby 1))) ≡ Some (Pages 13) }
     ensures unfinished { apply_reply (with_part 22 (3 ∷ []) (with_part 48 (g 3) (standby 1))) ≡ Some (Refused Unfinished) }
     ensures stalled { apply_reply stalled_file ≡ Some (Refused (WrongState 1)) }
-{
-}
+{}
 
 /// A copy of a stalled database is fixed up once, and only without a difference file.
 pub fn lock_copy_fixup()
@@ -185,12 +183,10 @@ pub fn lock_copy_fixup()
     ensures done { fixup_reply (Some stalled_file) None ≡ Some Done }
     ensures normal { fixup_reply (Some (main_file 8)) None ≡ Some (Refused (WrongState 0)) }
     ensures missing { fixup_reply None None ≡ Some (Refused (NoFile (codes "k.db"))) }
-{
-}
+{}
 
 /// Rows are inserted while a backup runs.
 pub fn rows_under_a_backup()
     ensures { replies 2 ((Backup 0 (codes "s.0") ∷ []) ∷ (CreateTable (codes "t") ∷ Insert (codes "t") 1 (codes "a") ∷ Insert (codes "t") 2 (codes "b") ∷ Scan (codes "t") ∷ []) ∷ (Scan (codes "t") ∷ []) ∷ []) (2 ∷ 2 ∷ 1 ∷ 2 ∷ 3 ∷ 2 ∷ [] ++ rounds 14)
         ≡ (2, Done) ∷ (2, Done) ∷ (2, Done) ∷ (3, Rows ((1, codes "a") ∷ (2, codes "b") ∷ [])) ∷ (2, Rows ((1, codes "a") ∷ (2, codes "b") ∷ [])) ∷ (1, Level 0 1 8 (g 1)) ∷ [] }
-{
-}
+{}
