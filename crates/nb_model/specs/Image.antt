@@ -1,5 +1,5 @@
 -- The image of a database: the list of its pages. The place of a page in the list is its number.
-use Rattle.std.specs.Prelude.{ℕ, zero, suc, List, [], ◌∷◌, ◌++◌, length, take, drop, slice_set, Bool, true, false, nat_le, nat_lt, not, ◌==◌}
+use Rattle.std.specs.Prelude.{ℕ, zero, suc, ◌-◌, List, [], ◌∷◌, ◌++◌, length, take, drop, replicate, slice_set, Bool, true, false, nat_le, nat_lt, not, ◌==◌}
 use Rattle.std.specs.List.{slice_index_or}
 use Rattle.nb_fields.specs.Bytes.{is_zeros, number_in}
 use Rattle.nb_fields.specs.Header.{state_of, size_of, scn_of, guid_of}
@@ -63,3 +63,19 @@ image_in bytes = trimmed (cut (size_of bytes) (length bytes) bytes)
 -- the image with page p, which is at most the length, replaced
 unfoldable pub with_page : ℕ → Page → Image → Image
 with_page p page image = elim (nat_lt p (length image)) [ true ↦ slice_set image p page | false ↦ image ++ page ∷ [] ]
+
+-- a page and its number, as a level file gives it
+abbrev pub Numbered : Type 0
+Numbered = ℕ × Page
+
+-- the image with that page written over its place, and zeros between where it lies past the end
+unfoldable pub written_at : (size : ℕ) → Numbered → Image → Image
+written_at size r image = elim (nat_lt r.0 (length image)) [
+  | true ↦ slice_set image r.0 r.1
+  | false ↦ image ++ (replicate (r.0 - length image) (replicate size 0) ++ r.1 ∷ [])
+]
+
+-- with each of these pages written over, in order
+unfoldable pub overwritten : (size : ℕ) → List Numbered → Image → Image
+overwritten size [] image = image
+overwritten size (r ∷ rs) image = overwritten size rs (written_at size r image)

@@ -1,8 +1,8 @@
 -- Strokes: the single changes of a database, and what stands after them.
-use Rattle.std.specs.Prelude.{ℕ, zero, suc, ◌+◌, ◌%◌, ◌^◌, List, [], ◌∷◌, ◌++◌, take, drop, Option, true, false, ◌==◌, nat_eq}
+use Rattle.std.specs.Prelude.{ℕ, zero, suc, ◌+◌, ◌%◌, ◌^◌, List, [], ◌∷◌, ◌++◌, take, drop, replicate, Option, true, false, ◌==◌, nat_eq}
 use Rattle.std.specs.List.{list_any}
 use Rattle.nb_fields.specs.Bytes.{bytes_of, with_part, number_in}
-use Rattle.nb_model.specs.Image.{Page, Image, first_page, image_state, image_scn, image_guid, image_in, with_page}
+use Rattle.nb_model.specs.Image.{Page, Image, first_page, image_state, image_scn, image_guid, image_size, image_in, with_page, trimmed, Numbered, overwritten}
 use Rattle.nb_model.specs.Account.{Ask, Kept, Base, base_of, Entry, Missing, Plain, IsBase, Account, with_entry}
 
 pub data Stroke : Type 0 where
@@ -16,6 +16,8 @@ pub data Stroke : Type 0 where
   finish : Stroke
   -- a copy of a stalled database becomes a database in the normal state
   fix : Stroke
+  -- the pages of a level file are merged into a standby
+  merge : List Numbered → Stroke
 
 -- page 0 with another state, SCN and GUID: its generation rises, and that SCN is its stamp
 unfoldable pub controlled : (state scn : ℕ) (guid : List ℕ) → Page → Page
@@ -42,6 +44,18 @@ unfoldable pub fixed : Image → Image
 fixed [] = []
 fixed (p ∷ ps) = with_part 22 (bytes_of 2 0) p ∷ ps
 
+-- page 0 in the normal state, read-only, and with no merge pending
+abbrev pub standby_page : Page → Page
+standby_page p = with_part 22 (bytes_of 2 0) (with_part 48 (replicate 16 0) (with_part 65 (1 ∷ []) p))
+
+abbrev pub as_standby : Image → Image
+as_standby [] = []
+as_standby (p ∷ ps) = standby_page p ∷ ps
+
+-- the image with the pages of a level file written over, in the normal state, read-only and with no merge pending
+unfoldable pub merged : List Numbered → Image → Image
+merged records image = as_standby (trimmed (overwritten (image_size image) records image))
+
 -- a database after one stroke
 unfoldable pub on_base : Stroke → Base → Base
 on_base (make image) b = base_of image
@@ -54,7 +68,8 @@ on_base (begin guid ask) b =
     record { image = now; frozen = now; diverted = [] }
 on_base ends b = record b { image = with_control 2 (image_scn b.image + 1) (image_guid b.image) b.image; frozen = [] }
 on_base finish b = record b { image = with_control 0 (image_scn b.image) (image_guid b.image) b.image; diverted = [] }
-on_base fix b = record b { image = fixed b.image }
+on_base fix b = base_of (fixed b.image)
+on_base (merge records) b = base_of (merged records b.image)
 
 -- what a stroke adds to the records of backups
 unfoldable pub records_of : Stroke → Base → List Kept
@@ -64,6 +79,7 @@ records_of (begin guid ask) b = record { guid = guid; scn = image_scn b.image; a
 records_of ends b = []
 records_of finish b = []
 records_of fix b = []
+records_of (merge records) b = []
 
 -- a database after strokes, in order
 unfoldable pub base_after : Base → List Stroke → Base

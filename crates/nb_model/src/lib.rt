@@ -1,19 +1,30 @@
-//! The words of the whole: what may be asked of the program, and what it answers.
+//! The words of the whole: what may be asked of the program, what it answers, and what each layer must do.
 //!
-//! It rests on `nb_host` alone. The types are those of the final program; the definitions of what a
-//! statement does and what its reply is stand in `specs/`, and every layer above cites them.
+//! It rests on `nb_fields` and `nb_host`. The types are those of the final program. The definitions stand in `specs/` and
+//! compute: `Image`, `Account` and `Strokes` (what stands, and its single changes), `Forms` and `Causes` (how a change is drafted,
+//! and why it is refused), `Turns` over `Pages`, `Tables` and `Backups` (what one turn of a session does), `Run` and `Output` (a
+//! script, what it says and what is acknowledged), `Owner`, `Sound` and `Stands` (what files mean), `Levels`, `Restoring`,
+//! `InPlace` and `Follows` (level files and lineage), `Waiting` and `Pagewise` (forced writes off), `Words` and `Jobs`. A layer
+//! above cites them in its contracts. `laws` shows that they mean what they say, and `worked` computes examples.
 #![tactic(auto)]
 
 mod built;
+mod job;
+pub mod laws;
 mod reply;
 mod rows;
 mod statement;
 mod table_name;
 mod text;
+pub mod worked;
 
 pub use built::{are_schedules_built, is_built};
+pub use job::{Job, NameList};
 pub use reply::Reply;
 pub use rows::RowList;
 pub use statement::Statement;
 pub use table_name::{MOST_TABLE_NAME, TableName};
 pub use text::Text;
+
+#[cfg(test)]
+mod tests;

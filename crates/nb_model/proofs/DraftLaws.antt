@@ -1,0 +1,143 @@
+-- What one write of the short forms keeps, every form keeps, and it holds after each of their strokes.
+use Rattle.std.proofs.Common.{◌≡◌, inl, inr, ℕ, zero, suc, ◌+◌, ◌≤◌, List, [], ◌∷◌, ◌++◌, length, take, refl, sym, ap, subst, ◌∙◌, arith, length-append}
+use Rattle.std.specs.Prelude.{Bool, true, false, ◌==◌, nat_lt}
+use Rattle.std.proofs.lemmas.Bool.Decides.{leb_tells}
+use Rattle.std.proofs.lemmas.List.{take-append-le}
+use Rattle.nb_fields.specs.Places.{is_system_place}
+use Rattle.nb_model.specs.Image.{Page, Image, image_size, image_scn, with_page}
+use Rattle.nb_model.specs.Account.{Base}
+use Rattle.nb_model.specs.Strokes.{Stroke, page, base_after, on_base, merged_page}
+use Rattle.nb_model.specs.Forms.{Draft, drafted, wrote, written, needs, is_kind, has_entry, scn_entry, entry_written, entry_raised, raised, put, set_bit, lowest_free, needs_inventories, searched, system_kind, system_page, no_page, new_within}
+use Rattle.nb_model.proofs.StrokeLaws.{base_after-append}
+
+-- What is kept by each write, and says nothing of what was read.
+pub record IsKept (P : Draft → Type 0) : Type 0 where
+  pub writes : (p kind : ℕ) (payload : List ℕ) (d : Draft) → P d → P (written p kind payload d)
+  pub reads : (broken : List ℕ) (d : Draft) → P d → P (record d { broken = broken })
+  pub fills : (d : Draft) → P d → P (no_page d)
+
+either : (P : Draft → Type 0) (t : Bool) (x y : Draft) → P x → P y → P (elim t as (λ z. Draft) [ true ↦ x | false ↦ y ])
+either P true x y px py = px
+either P false x y px py = py
+
+either_page : (P : Draft → Type 0) (t : Bool) (x y : Draft × ℕ) → P x.0 → P y.0 → P (elim t as (λ z. Draft × ℕ) [ true ↦ x | false ↦ y ]).0
+either_page P true x y px py = px
+either_page P false x y px py = py
+
+module _ (P : Draft → Type 0) (kept : IsKept P) where
+  pub needs_keeps : (kind p : ℕ) (d : Draft) → P d → P (needs kind p d)
+  unfolding needs
+  needs_keeps kind p d h = either P _ _ _ h (kept.reads _ d h)
+
+  entry_keeps : (p : ℕ) (d : Draft) → P d → P (entry_raised p d)
+  unfolding entry_raised entry_written
+  entry_keeps p d h = either P (nat_lt (scn_entry d.image p) (image_scn d.image)) _ _ (kept.writes _ 10 _ d h) h
+
+  raised_keeps : (p : ℕ) (d : Draft) → P d → P (raised p d)
+  unfolding raised
+  raised_keeps p d h = either P (has_entry d.image p) _ _ (entry_keeps p _ (needs_keeps 10 _ d h)) h
+
+  pub put_keeps : (p kind : ℕ) (payload : List ℕ) (d : Draft) → P d → P (put p kind payload d)
+  unfolding put
+  put_keeps p kind payload d h = kept.writes p kind payload _ (raised_keeps p d h)
+
+  pub set_bit_keeps : (bit p : ℕ) (d : Draft) → P d → P (set_bit bit p d)
+  unfolding set_bit
+  set_bit_keeps bit p d h = put_keeps _ 2 _ _ (needs_keeps 2 _ d h)
+
+  inventories_keep : (count k : ℕ) (d : Draft) → P d → P (needs_inventories count k d)
+  unfolding needs_inventories
+  inventories_keep zero k d h = h
+  inventories_keep (suc count) k d h = inventories_keep count (k + 1) _ (needs_keeps 2 _ d h)
+
+  searched_keeps : (p : ℕ) (d : Draft) → P d → P (searched p d)
+  unfolding searched
+  searched_keeps p d h = inventories_keep _ 0 d h
+
+  system_keeps : (p : ℕ) (d : Draft) → P d → P (system_page p d)
+  unfolding system_page
+  system_keeps p d h = either P (is_kind d.image (system_kind d.image p) p) _ _ h (put_keeps p _ _ d h)
+
+  pub new_keeps : (tries kind : ℕ) (payload : ℕ → List ℕ) (d : Draft) → P d → P (new_within tries kind payload d).0
+  unfolding new_within
+  new_keeps zero kind payload d h = kept.fills d h
+  new_keeps (suc tries) kind payload d h =
+      let p : ℕ = lowest_free d.image in
+      let read : P (searched p d) = searched_keeps p d h in
+      either_page P (p == 1048576) _ _ (kept.fills _ read)
+      (either_page P (is_system_place (image_size d.image) p) _ _
+      (new_keeps tries kind payload _ (set_bit_keeps 0 p _ (system_keeps p _ read)))
+      (set_bit_keeps 0 p _ (put_keeps p kind (payload p) _ read)))
+
+-- The draft's image is that of the database after its strokes.
+pub record IsOf (b : Base) (d : Draft) : Type 0 where
+  pub is : (base_after b d.strokes).image ≡ d.image
+
+pub drafted_is : (b : Base) → IsOf b (drafted b.image)
+unfolding base_after
+drafted_is b = record { is = refl }
+
+page_image : (b : Base) (p : ℕ) (bytes : Page) → (base_after b (page p bytes ∷ [])).image ≡ with_page p (merged_page p bytes b.image) b.image
+unfolding base_after on_base
+page_image b p bytes = refl
+
+wrote_is : (b : Base) (p : ℕ) (bytes : Page) (d : Draft) → IsOf b d → IsOf b (wrote p bytes d)
+unfolding wrote
+wrote_is b p bytes d h = record {
+  is = ap (λ (x : Base). x.image) (base_after-append b d.strokes (page p bytes ∷ [])) ∙ page_image (base_after b d.strokes) p bytes
+      ∙ ap (λ (x : Image). with_page p (merged_page p bytes x) x) h.is;
+}
+
+written_is : (b : Base) (p kind : ℕ) (payload : List ℕ) (d : Draft) → IsOf b d → IsOf b (written p kind payload d)
+unfolding written
+written_is b p kind payload d h = wrote_is b p _ d h
+
+pub drafts_are : (b : Base) → IsKept (IsOf b)
+drafts_are b = record {
+  writes = written_is b;
+  reads = λ broken d h. record { is = h.is };
+  fills = λ d h. record { is = h.is };
+}
+
+-- The draft has P, and the database had Q after each front of the strokes.
+pub record Stays (P : Draft → Type 0) (Q : Image → Type 0) (b : Base) (d : Draft) : Type 0 where
+  pub is : IsOf b d
+  pub now : P d
+  pub each : (k : ℕ) → Q (base_after b (take k d.strokes)).image
+
+take_all : (k : ℕ) (xs : List Stroke) → length xs ≤ k → take k xs ≡ xs
+take_all zero [] h = refl
+take_all (suc k) [] h = refl
+take_all zero (x ∷ xs) h = absurd (omega arith)
+take_all (suc k) (x ∷ xs) h = ap (λ (ys : List Stroke). x ∷ ys) (take_all k xs (omega arith))
+
+one_more : (Q : Image → Type 0) (b : Base) (ss : List Stroke) (s : Stroke) → ((k : ℕ) → Q (base_after b (take k ss)).image) → Q (base_after b (ss ++ s ∷ [])).image
+    → (k : ℕ) → Q (base_after b (take k (ss ++ s ∷ []))).image
+one_more Q b ss s each whole k = elim (leb_tells k (length ss)) [
+  | inl w ↦ subst (λ (ys : List Stroke). Q (base_after b ys).image) (sym (take-append-le k ss (s ∷ []) w.1)) (each k)
+  | inr w ↦ subst (λ (ys : List Stroke). Q (base_after b ys).image) (sym (take_all k (ss ++ s ∷ []) (omega (arith, length-append ss (s ∷ []))))) whole
+]
+
+module _ (P : Draft → Type 0) (Q : Image → Type 0) (b : Base) (kept : IsKept P) (tells : (d : Draft) → P d → Q d.image) where
+  written_stays : (p kind : ℕ) (payload : List ℕ) (d : Draft) → Stays P Q b d → Stays P Q b (written p kind payload d)
+  unfolding written wrote
+  written_stays p kind payload d h =
+      let is : IsOf b (written p kind payload d) = (drafts_are b).writes p kind payload d h.is in
+      let now : P (written p kind payload d) = kept.writes p kind payload d h.now in
+      record { is = is; now = now; each = one_more Q b d.strokes _ h.each (subst Q (sym is.is) (tells (written p kind payload d) now)) }
+
+  -- so what each write keeps holds at each moment of a form
+  pub stays_kept : IsKept (Stays P Q b)
+  stays_kept = record {
+    writes = written_stays;
+    reads = λ broken d h. record { is = (drafts_are b).reads broken d h.is; now = kept.reads broken d h.now; each = h.each };
+    fills = λ d h. record { is = (drafts_are b).fills d h.is; now = kept.fills d h.now; each = h.each };
+  }
+
+  pub stays_first : P (drafted b.image) → Stays P Q b (drafted b.image)
+  unfolding base_after
+  stays_first h = record { is = drafted_is b; now = h; each = λ k. none k }
+    where
+      none : (k : ℕ) → Q (base_after b (take k [])).image
+      none zero = tells (drafted b.image) h
+      none (suc k) = tells (drafted b.image) h

@@ -1,0 +1,14 @@
+pub mod FollowsLaws
+pub mod StrokeLaws
+pub mod AckedLaws
+pub mod RunLaws
+pub mod TurnLaws
+pub mod DraftLaws
+pub mod LineLaws
+pub mod OwnerLaws
+pub mod SessionLaws
+pub mod ReadLaws
+pub mod GatherLaws
+pub mod LevelLaws
+pub mod ChainLaws
+pub mod WholeLaws

@@ -1,0 +1,75 @@
+-- The files of a line of backups give the image of its last.
+use Rattle.std.proofs.Common.{◌≡◌, ℕ, zero, suc, ◌+◌, ◌-◌, ◌<◌, ◌≤◌, List, [], ◌∷◌, ◌++◌, length, drop, refl, sym, ap, ◌∙◌, arith, length-append, append_assoc}
+use Rattle.std.proofs.lemmas.List.{append-nil, get_or_append_left}
+use Rattle.nb_fields.specs.Page.{stamp_of}
+use Rattle.nb_model.specs.Image.{Page, Image, page_at, image_size, trimmed, written_at, overwritten}
+use Rattle.nb_model.specs.Account.{Kept}
+use Rattle.nb_model.specs.Levels.{taken, numbered_from}
+use Rattle.nb_model.specs.Restoring.{all_over, applied}
+use Rattle.nb_model.specs.Follows.{Follows}
+use Rattle.nb_model.specs.Sound.{HasNoZeros}
+use Rattle.nb_model.specs.Line.{IsLine, last_in, AreZeroPages, first_file, next_files}
+use Rattle.nb_model.proofs.FollowsLaws.{meets, overwrites, written_end}
+
+-- pages of zeros at the end go
+trimmed_zeros : (zs : Image) → AreZeroPages zs → trimmed zs ≡ []
+unfolding trimmed
+trimmed_zeros [] h = refl
+trimmed_zeros (z ∷ zs) h = rw (trimmed_zeros zs h.1, trimmed) (rw h.0 refl)
+
+trimmed_step : (p : Page) (ps : Image) (q : Page) (qs : Image) → trimmed ps ≡ q ∷ qs → trimmed (p ∷ ps) ≡ p ∷ q ∷ qs
+unfolding trimmed
+trimmed_step p ps q qs e = rw (e, trimmed) refl
+
+pub trimmed_all : (ps zs : Image) → HasNoZeros ps → AreZeroPages zs → trimmed (ps ++ zs) ≡ ps
+unfolding trimmed
+trimmed_all [] zs h z = trimmed_zeros zs z
+trimmed_all (p ∷ []) zs h z = rw (trimmed_zeros zs z, trimmed) (rw h.0 refl)
+trimmed_all (p ∷ q ∷ qs) zs h z = trimmed_step p (q ∷ (qs ++ zs)) q qs (trimmed_all (q ∷ qs) zs h.1 z)
+
+drop_zeros : (k : ℕ) (zs : Image) → AreZeroPages zs → AreZeroPages (drop k zs)
+drop_zeros zero zs h = h
+drop_zeros (suc k) [] h = tt
+drop_zeros (suc k) (z ∷ zs) h = drop_zeros k zs h.1
+
+-- all pages written give the image
+writes_all : (size n : ℕ) (front a : Image) → length front ≡ n → overwritten size (numbered_from n a) front ≡ front ++ a
+unfolding overwritten numbered_from
+writes_all size n front [] e = sym (append-nil front)
+writes_all size n front (p ∷ ps) e =
+    let next : length (front ++ p ∷ []) ≡ n + 1 = omega (arith, length-append front (p ∷ [])) in
+    let here : written_at size (n, p) front ≡ front ++ p ∷ [] = ap (written_at size (n, p)) (sym (append-nil front)) ∙ written_end size n front p e ∙ append-nil (front ++ p ∷ []) in
+    ap (overwritten size (numbered_from (n + 1) ps)) here ∙ writes_all size (n + 1) (front ++ p ∷ []) ps next ∙ append_assoc front (p ∷ []) ps
+
+meets_behind : {a b : Image} {s : ℕ} (zs : Image) → Follows a s b → (p : ℕ) → p < length b → stamp_of (page_at b p) ≤ s → (p < length (a ++ zs)) × (page_at b p ≡ page_at (a ++ zs) p)
+meets_behind {a} {b} {s} zs f p h low =
+    let old = f.same p h low in
+    (omega (arith, old.0, length-append a zs), old.1 ∙ sym (get_or_append_left a zs [] p old.0))
+
+drop_behind : (n : ℕ) (xs ys : Image) → length xs ≤ n → drop n (xs ++ ys) ≡ drop (n - length xs) ys
+drop_behind n [] ys h = ap (λ k. drop k ys) (omega arith)
+drop_behind zero (x ∷ xs) ys h = absurd (omega arith)
+drop_behind (suc n) (x ∷ xs) ys h = drop_behind n xs ys (omega arith) ∙ ap (λ k. drop k ys) (omega arith)
+
+-- one level more
+one_level : (size s : ℕ) (a b zs : Image) → Follows a s b → AreZeroPages zs → (left : Image) × AreZeroPages left × (overwritten size (taken s b) (a ++ zs) ≡ b ++ left)
+one_level size s a b zs f z =
+    let k : ℕ = length b - length a in
+    let split : drop (length b) (a ++ zs) ≡ drop k zs = drop_behind (length b) a zs f.no_shorter in
+    (drop k zs, drop_zeros k zs z, overwrites size s 0 [] (a ++ zs) b refl (meets s (a ++ zs) b (meets_behind zs f)) ∙ ap (λ (x : Image). b ++ x) split)
+
+-- all levels of a line
+line_over : (r : Kept) (qs : List Kept) (zs : Image) → IsLine r qs → AreZeroPages zs → (left : Image) × AreZeroPages left × (all_over (next_files r qs) (r.image ++ zs) ≡ (last_in r qs).image ++ left)
+unfolding all_over next_files
+line_over r [] zs line z = (zs, z, refl)
+line_over r (q ∷ qs) zs line z =
+    let step = one_level (image_size q.image) r.scn r.image q.image zs line.0.follows z in
+    let rest = line_over q qs step.0 line.1 step.1 in
+    (rest.0, rest.1, ap (all_over (next_files q qs)) step.2 ∙ rest.2)
+
+-- what the files of a line give is the image of its last backup
+pub line_applied : (r : Kept) (qs : List Kept) (zs : Image) → IsLine r qs → AreZeroPages zs → HasNoZeros (last_in r qs).image → applied (first_file r zs ∷ next_files r qs) ≡ (last_in r qs).image
+unfolding applied all_over first_file
+line_applied r qs zs line z none =
+    let rest = line_over r qs zs line z in
+    ap (λ (x : Image). trimmed (all_over (next_files r qs) x)) (writes_all (image_size r.image) 0 [] (r.image ++ zs) refl) ∙ ap trimmed rest.2 ∙ trimmed_all (last_in r qs).image rest.0 none rest.1

@@ -1,0 +1,98 @@
+-- A refused statement changes nothing and leaves nothing to do.
+use Rattle.std.proofs.Common.{◌≡◌, ℕ, zero, suc, List, [], refl, sym, ap, ◌∙◌}
+use Rattle.std.specs.Prelude.{Bool, true, false, Option, Some, None}
+use Rattle.nb_host.specs.declared.refusals.Refusal.{Refusal}
+use Rattle.nb_model.specs.declared.reply.Reply.{Reply}
+use Rattle.nb_model.specs.declared.reply.Reply.TheVariants.{Refused}
+use Rattle.nb_model.specs.declared.statement.Statement.{Statement}
+use Rattle.nb_model.specs.declared.statement.Statement.TheVariants.{CreateDb, OpenDb, PageNew, Write, Read, Free, BeginBackup, EndBackup, Backup, BackupSince, CopyTo, CreateTable, DropTable, Insert, Update, Delete, Get, Scan, Forced, Access, Sync, ShowHeader, ShowPages, ShowImage, ShowCache}
+use Rattle.nb_model.specs.Account.{Ask}
+use Rattle.nb_model.specs.Forms.{Draft}
+use Rattle.nb_model.specs.Causes.{Cause}
+use Rattle.nb_model.specs.Chains.{Chain, Slot, Spot}
+use Rattle.nb_model.specs.Outcomes.{DoesNothing, Seen, Outcome, says, unless, changes}
+use Rattle.nb_model.specs.Pages.{new_turn, write_turn, read_turn, free_turn, begin_turn, end_turn, ends_by, forced_turn, access_turn, header_turn, image_turn, cache_turn}
+use Rattle.nb_model.specs.Tables.{with_spot, in_table, in_row, create_turn, drop_turn, insert_turn, update_turn, delete_turn, get_turn, scan_turn}
+use Rattle.nb_model.specs.Backups.{starts, backup_turn, since_turn, copy_turn, pages_turn}
+use Rattle.nb_model.specs.Turns.{first_turn}
+
+-- where it is refused it does nothing
+pub record IsQuiet (s : Seen) (o : Outcome) : Type 0 where
+  pub quiet : (r : Refusal) → o.reply ≡ Some (Refused r) → DoesNothing s o
+
+refuses : (s : Seen) (r : Refusal) → IsQuiet s (says s (Refused r) [])
+refuses s r = record { quiet = λ q e. record { strokes = refl; next = refl; made = refl; running = refl; given = refl } }
+
+abbrev is_refusal : Option Reply → Bool
+is_refusal (Some (Refused r)) = true
+is_refusal other = false
+
+refused_is : (r : Option Reply) (q : Refusal) → r ≡ Some (Refused q) → is_refusal r ≡ true
+refused_is r q e = ap is_refusal e
+
+false_true : false ≡ true → ⊥
+false_true h = cc
+
+-- it says something else, or nothing
+answers : (s : Seen) (o : Outcome) → is_refusal o.reply ≡ false → IsQuiet s o
+answers s o e = record { quiet = λ r is. absurd (false_true (sym e ∙ refused_is o.reply r is)) }
+
+guarded : (s : Seen) (c : Cause) (o : Outcome) → IsQuiet s o → IsQuiet s (unless s c o)
+unfolding unless
+guarded s None o h = h
+guarded s (Some r) o h = refuses s r
+
+changed : (s : Seen) (cs : List Cause) (d : Draft) (reply : Reply) → is_refusal (Some reply) ≡ false → IsQuiet s (changes s cs d reply)
+unfolding changes
+changed s cs d reply h = guarded s _ _ (answers s _ h)
+
+spotted : (s : Seen) (spot : Option Spot) (r : Refusal) (go : Spot → Outcome) → ((x : Spot) → IsQuiet s (go x)) → IsQuiet s (with_spot s spot r go)
+unfolding with_spot
+spotted s None r go h = refuses s r
+spotted s (Some x) r go h = h x
+
+tabled : (s : Seen) (before : Cause) (table : List ℕ) (behind : Cause) (go : Spot → Chain → Outcome) → ((spot : Spot) (chain : Chain) → IsQuiet s (go spot chain)) → IsQuiet s (in_table s before table behind go)
+unfolding in_table
+tabled s before table behind go h = guarded s _ _ (spotted s _ _ _ (λ spot. guarded s _ _ (h spot _)))
+
+in_row_quiet : (s : Seen) (chain : Chain) (key : ℕ) (bytes : Slot) → IsQuiet s (in_row s chain key bytes)
+unfolding in_row
+in_row_quiet s chain key bytes = spotted s _ _ _ (λ row. changed s _ _ _ refl)
+
+started : (s : Seen) (session : ℕ) (name : List ℕ) (ask : Ask) (missing : Cause) → IsQuiet s (starts s session name ask missing)
+unfolding starts
+started s session name ask missing = guarded s _ _ (answers s _ refl)
+
+backed : (s : Seen) (session level : ℕ) (name : List ℕ) → IsQuiet s (backup_turn s session level name)
+unfolding backup_turn
+backed s session zero name = started s session name _ _
+backed s session (suc below) name = started s session name _ _
+
+-- the first turn of each statement
+pub first_quiet : (s : Seen) (session : ℕ) (statement : Statement) → IsQuiet s (first_turn s session statement)
+unfolding first_turn new_turn write_turn read_turn free_turn begin_turn end_turn ends_by forced_turn access_turn header_turn image_turn cache_turn create_turn drop_turn insert_turn update_turn delete_turn get_turn scan_turn since_turn copy_turn pages_turn
+first_quiet s session (CreateDb name size raw cache) = answers s _ refl
+first_quiet s session (OpenDb name cache) = answers s _ refl
+first_quiet s session PageNew = changed s _ _ _ refl
+first_quiet s session (Write p text) = changed s _ _ _ refl
+first_quiet s session (Read p) = guarded s _ _ (answers s _ refl)
+first_quiet s session (Free p) = changed s _ _ _ refl
+first_quiet s session BeginBackup = guarded s _ _ (answers s _ refl)
+first_quiet s session EndBackup = guarded s _ _ (answers s _ refl)
+first_quiet s session (Backup level name) = backed s session level name
+first_quiet s session (BackupSince guid name) = started s session name _ _
+first_quiet s session (CopyTo name) = guarded s _ _ (answers s _ refl)
+first_quiet s session (CreateTable table) = changed s _ _ _ refl
+first_quiet s session (DropTable table) = tabled s _ table _ _ (λ spot chain. changed s _ _ _ refl)
+first_quiet s session (Insert table key text) = tabled s _ table _ _ (λ spot chain. changed s _ _ _ refl)
+first_quiet s session (Update table key text) = tabled s _ table _ _ (λ spot chain. in_row_quiet s chain key _)
+first_quiet s session (Delete table key) = tabled s _ table _ _ (λ spot chain. in_row_quiet s chain key _)
+first_quiet s session (Get table key) = tabled s _ table _ _ (λ spot chain. spotted s _ _ _ (λ row. answers s _ refl))
+first_quiet s session (Scan table) = tabled s _ table _ _ (λ spot chain. answers s _ refl)
+first_quiet s session (Forced on) = guarded s _ _ (answers s _ refl)
+first_quiet s session (Access closed) = guarded s _ _ (answers s _ refl)
+first_quiet s session Sync = answers s _ refl
+first_quiet s session ShowHeader = answers s _ refl
+first_quiet s session ShowPages = guarded s _ _ (answers s _ refl)
+first_quiet s session ShowImage = answers s _ refl
+first_quiet s session ShowCache = answers s _ refl

@@ -1,0 +1,40 @@
+use Rattle.std.proofs.Common.{refl}
+use Rattle.uuid.specs.Text.{by_index}
+use Rattle.nb_model.specs.Opened.{opened}
+use Rattle.nb_model.proofs.worked.words_name_jobs.Goals as goal
+
+pub returns-clause-backup : goal.returns-clause-backup
+unfolding opened by_index
+returns-clause-backup c = refl
+
+pub returns-clause-behind : goal.returns-clause-behind
+unfolding opened by_index
+returns-clause-behind c = refl
+
+pub returns-clause-apart : goal.returns-clause-apart
+unfolding opened by_index
+returns-clause-apart c = refl
+
+pub returns-clause-twice : goal.returns-clause-twice
+unfolding opened by_index
+returns-clause-twice c = refl
+
+pub returns-clause-restore : goal.returns-clause-restore
+unfolding opened by_index
+returns-clause-restore c = refl
+
+pub returns-clause-since : goal.returns-clause-since
+unfolding opened by_index
+returns-clause-since c = refl
+
+pub returns-clause-dashes : goal.returns-clause-dashes
+unfolding opened by_index
+returns-clause-dashes c = refl
+
+pub returns-clause-number : goal.returns-clause-number
+unfolding opened by_index
+returns-clause-number c = refl
+
+pub returns-clause-none : goal.returns-clause-none
+unfolding opened by_index
+returns-clause-none c = refl

@@ -1,0 +1,15 @@
+use Rattle.std.proofs.Common.{refl}
+use Rattle.nb_model.specs.Opened.{opened}
+use Rattle.nb_model.proofs.worked.write_while_stalled.Goals as goal
+
+pub returns-clause-replies : goal.returns-clause-replies
+unfolding opened
+returns-clause-replies c = refl
+
+pub returns-clause-strokes : goal.returns-clause-strokes
+unfolding opened
+returns-clause-strokes c = refl
+
+pub returns-clause-diverted : goal.returns-clause-diverted
+unfolding opened
+returns-clause-diverted c = refl

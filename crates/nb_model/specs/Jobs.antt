@@ -1,0 +1,118 @@
+-- What the jobs of the command line do. A job that attaches a database is the script of one session that opens it. Restore, fixup
+-- and merging in place are one turn without an opening.
+use Rattle.std.specs.Prelude.{◌≡◌, ℕ, List, [], ◌∷◌, length, replicate, Option, Some, None, is_some, Ok, Err, true, not, ◌==◌}
+use Rattle.nb_fields.specs.Header.{state_of}
+use Rattle.nb_host.specs.Files.{File, Files}
+use Rattle.nb_host.specs.declared.refusals.Refusal.{Refusal}
+use Rattle.nb_host.specs.declared.refusals.Refusal.TheVariants.{NoFile, WrongState, DeltaPresent}
+use Rattle.nb_model.specs.declared.job.Job.{Job}
+use Rattle.nb_model.specs.declared.job.Job.TheVariants.{Stat, Backup, BackupSince, Restore, Apply, Lock, LockWithSize, Unlock, Fixup}
+use Rattle.nb_model.specs.declared.reply.Reply.{Reply}
+use Rattle.nb_model.specs.declared.reply.Reply.TheVariants.{Done, Pages, Scn, ScnPages, Refused}
+use Rattle.nb_model.specs.declared.statement.Statement.{Statement}
+use Rattle.nb_model.specs.declared.statement.Statement.TheVariants.{OpenDb, BeginBackup, EndBackup, ShowHeader, ShowPages}
+use Rattle.nb_model.specs.declared.statement.Statement.TheVariants.{Backup as BackupTo, BackupSince as BackupOf}
+use Rattle.nb_model.specs.Image.{image_in}
+use Rattle.nb_model.specs.Account.{Account}
+use Rattle.nb_model.specs.Strokes.{Stroke, make, fix, merge, fixed, merged, base_in}
+use Rattle.nb_model.specs.Causes.{Cause, first_cause, when, not_database, not_free}
+use Rattle.nb_model.specs.Outcomes.{Given}
+use Rattle.nb_model.specs.Owner.{delta_name}
+use Rattle.nb_model.specs.Restoring.{verdict, applied}
+use Rattle.nb_model.specs.InPlace.{in_place, bytes_in}
+use Rattle.nb_model.specs.Run.{Event, account_after, IsRun}
+
+-- how many pages the cache of such a job holds
+abbrev pub usual_cache : ℕ
+usual_cache = 64
+
+-- the database that a job attaches, and what it asks then
+pub record Asks : Type 0 where
+  pub db : List ℕ
+  pub statements : List Statement
+
+unfoldable pub asks_of : Job → Option Asks
+asks_of (Stat db) = Some (record { db = db; statements = ShowHeader ∷ ShowPages ∷ [] })
+asks_of (Backup level db file) = Some (record { db = db; statements = BackupTo level file ∷ [] })
+asks_of (BackupSince guid db file) = Some (record { db = db; statements = BackupOf guid file ∷ [] })
+asks_of (Lock db) = Some (record { db = db; statements = BeginBackup ∷ [] })
+asks_of (LockWithSize db) = Some (record { db = db; statements = BeginBackup ∷ [] })
+asks_of (Unlock db) = Some (record { db = db; statements = EndBackup ∷ [] })
+asks_of other = None
+
+-- of the first statement only a refusal is said
+abbrev pub refusal_in : Option Reply → Option Reply
+refusal_in (Some (Refused refusal)) = Some (Refused refusal)
+refusal_in other = None
+
+abbrev pub quiet : List Event → List Event
+quiet [] = []
+quiet (e ∷ es) = record e { reply = refusal_in e.reply } ∷ es
+
+-- a begin also says the number of pages
+abbrev pub sized : (pages : ℕ) → Option Reply → Option Reply
+sized pages (Some (Scn scn)) = Some (ScnPages scn pages)
+sized pages other = other
+
+unfoldable pub all_sized : (pages : ℕ) → List Event → List Event
+all_sized pages [] = []
+all_sized pages (e ∷ es) = record e { reply = sized pages e.reply } ∷ all_sized pages es
+
+-- what such a job says
+abbrev pub said_by : Job → Account → List Event → List Event
+said_by (LockWithSize db) before events = all_sized (length (base_in (before.entry db)).image) (quiet events)
+said_by other before events = quiet events
+
+-- a job that attaches: the run of its script, whose opening it doesn't say
+pub record IsAttaching (before : Account) (given : Given) (job : Job) (asks : Asks) (events : List Event) (after : Account) : Type 0 where
+  pub whole : List Event
+  pub run : IsRun before given 1 (OpenDb asks.db usual_cache) [] (asks.statements ∷ replicate 15 []) whole after
+  pub said : events ≡ said_by job before whole
+
+-- one turn of session 1
+abbrev pub only_turn : Reply → List Stroke → Event
+only_turn reply strokes = record { session = 1; strokes = strokes; reply = Some reply; made = None; syncs = true }
+
+abbrev pub only_refusal : Refusal → Event
+only_refusal refusal = only_turn (Refused refusal) []
+
+-- `-R`: the target has to be free, and the files have to be a chain
+unfoldable pub restore_turn : Files → Account → (db : List ℕ) → (names : List (List ℕ)) → Event
+restore_turn files account db names = elim (not_free db (account.entry db)) [
+  | Some refusal ↦ only_refusal refusal
+  | None ↦ elim (verdict files names) [
+    | Err refusal ↦ only_refusal refusal
+    | Ok links ↦ only_turn (Pages (length (applied links))) (make (fixed (applied links)) ∷ [])
+  ]
+]
+
+-- why a fixup is refused
+unfoldable pub not_fixable : (name : List ℕ) → (main delta : File) → Cause
+not_fixable name None delta = Some (NoFile name)
+not_fixable name (Some bytes) delta = first_cause (
+    not_database bytes
+    ∷ when (not (state_of bytes == 1)) (WrongState (state_of bytes))
+    ∷ when (is_some delta) (DeltaPresent (delta_name name))
+    ∷ [])
+
+-- `-F`
+unfoldable pub fixup_turn : Files → (db : List ℕ) → Event
+fixup_turn files db = elim (not_fixable db (files db) (files (delta_name db))) [ Some refusal ↦ only_refusal refusal | None ↦ only_turn Done (fix ∷ []) ]
+
+-- `-I -R`
+unfoldable pub apply_turn : Files → (db name : List ℕ) → Event
+apply_turn files db name = elim (in_place files db name) [
+  | Err refusal ↦ only_refusal refusal
+  | Ok c ↦ only_turn (Pages (length (merged c.pages (image_in (bytes_in (files db)))))) (merge c.pages ∷ [])
+]
+
+-- the turn of a job that attaches nothing and runs no script
+unfoldable pub turn_of : Files → Account → Job → Option (List ℕ × Event)
+turn_of files account (Restore db names) = Some (db, restore_turn files account db names)
+turn_of files account (Apply db file) = Some (db, apply_turn files db file)
+turn_of files account (Fixup db) = Some (db, fixup_turn files db)
+turn_of files account other = None
+
+-- the account after it
+unfoldable pub account_behind : (db : List ℕ) → Event → Account → Account
+account_behind db e account = elim e.strokes [ [] ↦ account | s ∷ ss ↦ account_after db e.strokes None account ]

@@ -1,0 +1,124 @@
+-- Which job the words of the command line name.
+use Rattle.std.specs.Prelude.{ℕ, ◌-◌, ◌^◌, Bool, true, false, ◌&&◌, ◌||◌, ◌==◌, not, nat_le, nat_lt, nat_eq, List, [], ◌∷◌, ◌++◌, length, drop, slice_index, Option, None, Some, codes}
+use Rattle.std.specs.List.{list_all, list_any}
+use Rattle.std.specs.Str.Parse.{digits_value}
+use Rattle.uuid.specs.Text.{parsed_hyphenated}
+use Rattle.nb_host.specs.Names.{is_name, is_delta, same_name}
+use Rattle.nb_model.specs.declared.job.Job.{Job}
+use Rattle.nb_model.specs.declared.job.Job.TheVariants.{Run, Stat, Gen, Backup, BackupSince, Restore, Apply, Lock, LockWithSize, Unlock, Fixup}
+
+abbrev pub Word : Type 0
+Word = List ℕ
+
+-- the letters of the flags that were given, in order, and the plain words
+pub record Read : Type 0 where
+  pub flags : List ℕ
+  pub plain : List Word
+
+-- a word of two or more bytes that begins with a dash
+abbrev pub is_flags : Word → Bool
+is_flags word = nat_le 2 (length word) && slice_index word 0 == 45
+
+-- one of B, R, L, S, N, F and I
+abbrev pub is_flag : ℕ → Bool
+is_flag letter = list_any (nat_eq letter) (codes "BRLSNFI")
+
+abbrev pub with_flags : List ℕ → Option Read → Option Read
+with_flags letters None = None
+with_flags letters (Some r) = Some (record { flags = letters ++ r.flags; plain = r.plain })
+
+abbrev pub with_word : Word → Option Read → Option Read
+with_word word None = None
+with_word word (Some r) = Some (record { flags = r.flags; plain = word ∷ r.plain })
+
+-- Flags may stand before, between and behind plain words, until the first word `--`, which is dropped and behind which all words
+-- are plain. A letter that is no flag leaves nothing.
+unfoldable pub read_words : List Word → Option Read
+read_words [] = Some (record { flags = []; plain = [] })
+read_words (w ∷ ws) = elim (same_name w (codes "--")) [
+  | true ↦ Some (record { flags = []; plain = ws })
+  | false ↦ elim (is_flags w) [
+    | false ↦ with_word w (read_words ws)
+    | true ↦ elim (list_all is_flag (drop 1 w)) [ true ↦ with_flags (drop 1 w) (read_words ws) | false ↦ None ]
+  ]
+]
+
+-- these flags were given, each once, and no other
+abbrev pub are_flags : List ℕ → List ℕ → Bool
+are_flags given wanted = length given == length wanted && list_all (λ letter. list_any (nat_eq letter) given) wanted
+
+-- the name of a file that a user may give
+abbrev pub is_file : Word → Bool
+is_file word = is_name word && not (is_delta word)
+
+-- of a database: the name of its difference file has to be a name too
+abbrev pub is_database : Word → Bool
+is_database word = is_file word && nat_le (length word) 94
+
+-- decimal digits without a needless zero in front, below 2 ^ 64
+unfoldable pub number_in_word : Word → Option ℕ
+number_in_word word = elim (
+    nat_lt 0 (length word) && (list_all (λ b. nat_le 48 b && nat_le b 57) word && ((length word == 1 || not (slice_index word 0 == 48)) && nat_lt (digits_value 10 word) (2 ^ 64)))) [
+      | true ↦ Some (digits_value 10 word)
+      | false ↦ None
+    ]
+
+-- a job where a test holds
+abbrev pub job_if : Bool → Job → Option Job
+job_if true job = Some job
+job_if false job = None
+
+-- what the first word names where no flag is given
+abbrev pub plain_job : List Word → Option Job
+plain_job (verb ∷ name ∷ []) = elim (same_name verb (codes "run")) [
+  | true ↦ job_if (is_file name) (Run name)
+  | false ↦ job_if (same_name verb (codes "stat") && is_database name) (Stat name)
+]
+plain_job (verb ∷ number ∷ name ∷ []) = elim (number_in_word number) [
+  | None ↦ None
+  | Some n ↦ job_if (same_name verb (codes "gen") && is_file name) (Gen n name)
+]
+plain_job other = None
+
+-- a backup of a level, or since a GUID
+abbrev pub backup_job : List Word → Option Job
+backup_job (since ∷ db ∷ file ∷ []) = elim (parsed_hyphenated since) [
+  | Some guid ↦ job_if (is_database db && is_file file) (BackupSince guid db file)
+  | None ↦ job_if (length since == 1 && (nat_le 48 (slice_index since 0) && nat_le (slice_index since 0) 57) && is_database db && is_file file) (Backup (slice_index since 0 - 48) db file)
+]
+backup_job other = None
+
+abbrev pub restore_job : List Word → Option Job
+restore_job (db ∷ files) = job_if (is_database db && nat_le 1 (length files) && nat_le (length files) 10 && list_all is_file files) (Restore db files)
+restore_job other = None
+
+abbrev pub apply_job : List Word → Option Job
+apply_job (db ∷ file ∷ []) = job_if (is_database db && is_file file) (Apply db file)
+apply_job other = None
+
+-- a job on one database
+abbrev pub database_job : (Word → Job) → List Word → Option Job
+database_job job (db ∷ []) = job_if (is_database db) (job db)
+database_job job other = None
+
+-- the first whose flags were given
+unfoldable pub job_of_flags : (given : List ℕ) → List (List ℕ × Option Job) → Option Job
+job_of_flags given [] = None
+job_of_flags given (row ∷ rows) = elim (are_flags given row.0) [ true ↦ row.1 | false ↦ job_of_flags given rows ]
+
+-- by the flags
+unfoldable pub job_read : Read → Option Job
+job_read r = job_of_flags r.flags (
+    (codes "", plain_job r.plain)
+    ∷ (codes "B", backup_job r.plain)
+    ∷ (codes "R", restore_job r.plain)
+    ∷ (codes "IR", apply_job r.plain)
+    ∷ (codes "L", database_job Lock r.plain)
+    ∷ (codes "LS", database_job LockWithSize r.plain)
+    ∷ (codes "N", database_job Unlock r.plain)
+    ∷ (codes "F", database_job Fixup r.plain)
+    ∷ [])
+
+-- the job that the words name
+unfoldable pub job_of : List Word → Option Job
+job_of words = elim (read_words words) [ None ↦ None | Some read ↦ job_read read ]

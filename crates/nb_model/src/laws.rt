@@ -1,0 +1,125 @@
+// Laws: each is a public function with an empty body, whose contract is the law. They show that the definitions mean what
+// they say.
+ghost use Rattle.nb_model.specs.Account.{Base, Kept};
+ghost use Rattle.nb_model.specs.Follows.{Follows, IsMixed};
+ghost use Rattle.nb_model.specs.Forms.{drafted, give_page, new_page, put, take_page};
+ghost use Rattle.nb_model.specs.Image.{Image, Numbered, Page, image_size, overwritten, page_at, with_page, written_at};
+ghost use Rattle.nb_model.specs.Levels.{Head, IsLevel, read_level, taken};
+ghost use Rattle.nb_model.specs.Line.{AreZeroPages, HoldLine, HoldsFirst, IsLine, first_file, last_in, next_files};
+ghost use Rattle.nb_model.specs.Outcomes.{DoesNothing, Seen};
+ghost use Rattle.nb_model.specs.Output.{acked};
+ghost use Rattle.nb_model.specs.Owner.{entry_for, owned, slot_page};
+ghost use Rattle.nb_model.specs.Restoring.{applied, verdict};
+ghost use Rattle.nb_model.specs.Run.{Event, IsPlayed, Now, base_now, play, rounds, strokes_of};
+ghost use Rattle.nb_model.specs.Sound.{HasNoZeros};
+ghost use Rattle.nb_model.specs.Strokes.{Stroke, base_after, fixed, merged_page, on_base, page as page_stroke, records_after};
+ghost use Rattle.nb_model.specs.Turns.{first_turn};
+ghost use Rattle.nb_model.specs.declared.reply.Reply.TheVariants.{Refused};
+ghost use Rattle.nb_model.specs.declared.statement.Statement.{Statement};
+ghost use Rattle.nb_fields.specs.Page.{stamp_of};
+ghost use Rattle.nb_host.specs.Files.{Files};
+ghost use Rattle.nb_host.specs.declared.refusals.Refusal.{Refusal};
+ghost use Rattle.std.specs.Prelude.{Contains, List, Ok, Some, [], ◌++◌, ◌+◌, ◌<◌, ◌∷◌, ◌≡◌, ◌≢◌, ◌≤◌, drop, length, replicate, slice_set, take, ℕ};
+ghost use Rattle.std.specs.List.{slice_index_or};
+
+/// Lineage goes on: an image follows each one that it followed step by step, at the lowest SCN.
+pub fn lineage_goes_on()
+    ensures { (a b c : Image) (s t : ℕ) → Follows a s b → Follows b t c → s ≤ t → Follows a s c }
+{}
+
+/// A page that is stamped above the SCN changes nothing of lineage, whether it is written over one or added at the end.
+pub fn lineage_stays()
+    ensures over { (a b : Image) (s p : ℕ) (page : Page) → Follows a s b → p < length b → s < stamp_of page → image_size (slice_set b p page) ≡ image_size b → Follows a s (slice_set b p page) }
+    ensures added { (a b : Image) (s : ℕ) (page : Page) → Follows a s b → 1 ≤ length b → s < stamp_of page → Follows a s (b ++ page ∷ []) }
+{}
+
+/// An image whose pages are those of images that follow, each page by itself, follows too.
+pub fn lineage_mixes()
+    ensures { (a : Image) (s : ℕ) (images : List Image) (c : Image) → ((m : Image) → Contains images m → Follows a s m) → image_size c ≡ image_size a → IsMixed images s c → Follows a s c }
+{}
+
+/// The pages stamped above the SCN, written over, give the image that follows.
+pub fn lineage_restores()
+    ensures { (size s : ℕ) (a b : Image) → Follows a s b → overwritten size (taken s b) a ≡ b }
+{}
+
+/// The files of a line of backups give the image of its last, whatever pages of zeros stood behind the first.
+pub fn a_line_gives_its_last()
+    ensures { (r : Kept) (qs : List Kept) (zeros : Image) → IsLine r qs → AreZeroPages zeros → HasNoZeros (last_in r qs).image → applied (first_file r zeros ∷ next_files r qs) ≡ (last_in r qs).image }
+{}
+
+/// The files of kept backups that go on from one another are a chain, in either version, and give the image of the last.
+pub fn a_kept_chain_is_accepted()
+    ensures accepted { (files : Files) (r : Kept) (zeros : Image) (qs : List Kept) (name : List ℕ) (names : List (List ℕ)) → HoldsFirst files r zeros name → HoldLine files 1 r names qs → verdict files (name ∷ names) ≡ Ok (first_file r zeros ∷ next_files r qs) }
+    ensures gives { (files : Files) (r : Kept) (zeros : Image) (qs : List Kept) (name : List ℕ) (names : List (List ℕ)) → HoldsFirst files r zeros name → HoldLine files 1 r names qs → HasNoZeros (last_in r qs).image → applied (first_file r zeros ∷ next_files r qs) ≡ (last_in r qs).image }
+{}
+
+/// What the grammar of level files spells is read back, in both versions.
+pub fn a_level_is_read_back()
+    ensures { (bytes : List ℕ) (version : ℕ) (h : Head) (r : Numbered) (rs : List Numbered) → IsLevel bytes version h r rs → read_level bytes ≡ Ok (record { version = version; head = h; pages = r ∷ rs }) }
+{}
+
+/// Bytes spell one level file at most.
+pub fn bytes_spell_one_level()
+    ensures { (bytes : List ℕ) (v w : ℕ) (h k : Head) (r q : Numbered) (rs qs : List Numbered) → IsLevel bytes v h r rs → IsLevel bytes w k q qs → (v ≡ w) × (h ≡ k) × (r ∷ rs ≡ q ∷ qs) }
+{}
+
+/// Strokes behind strokes.
+pub fn strokes_join()
+    ensures base { (b : Base) (xs ys : List Stroke) → base_after b (xs ++ ys) ≡ base_after (base_after b xs) ys }
+    ensures records { (b : Base) (xs ys : List Stroke) → records_after b (xs ++ ys) ≡ records_after b xs ++ records_after (base_after b xs) ys }
+{}
+
+/// A page stroke changes its page and no other.
+pub fn a_page_stroke_changes_one_page()
+    ensures page { (b : Base) (p : ℕ) (bytes : Page) → p ≤ length b.image → page_at (on_base (page_stroke p bytes) b).image p ≡ merged_page p bytes b.image }
+    ensures others { (b : Base) (p q : ℕ) (bytes : Page) → p ≤ length b.image → q ≢ p → page_at (on_base (page_stroke p bytes) b).image q ≡ page_at b.image q }
+{}
+
+/// A fixup changes the two state bytes and nothing else.
+pub fn a_fixup_changes_the_state()
+    ensures { (page : Page) (pages : Image) → fixed (page ∷ pages) ≡ (take 22 page ++ 0 ∷ 0 ∷ drop 24 page) ∷ pages }
+{}
+
+/// Where the page in the slot of an entry is written into the main file, the image stays.
+pub fn a_merge_changes_no_image()
+    ensures { (size k n : ℕ) (main : Image) (delta table : List ℕ) → entry_for n table ≡ Some k → 1 ≤ length main → 64 ≤ length (page_at main 0) → owned size (written_at size (n, slot_page size main delta n k) main) delta table ≡ owned size main delta table }
+{}
+
+/// The strokes that a short form drafts lead to the image that it drafts.
+pub fn forms_are_their_strokes()
+    ensures put { (b : Base) (p kind : ℕ) (payload : List ℕ) → (base_after b (put p kind payload (drafted b.image)).strokes).image ≡ (put p kind payload (drafted b.image)).image }
+    ensures take { (b : Base) (p : ℕ) → (base_after b (take_page p (drafted b.image)).strokes).image ≡ (take_page p (drafted b.image)).image }
+    ensures give { (b : Base) (p : ℕ) → (base_after b (give_page p (drafted b.image)).strokes).image ≡ (give_page p (drafted b.image)).image }
+    ensures new { (b : Base) (kind : ℕ) (payload : ℕ → List ℕ) → (base_after b (new_page kind payload (drafted b.image)).0.strokes).image ≡ (new_page kind payload (drafted b.image)).0.image }
+{}
+
+/// A refused statement makes no stroke and no file, takes nothing of what is given, and leaves nothing to do.
+pub fn a_refused_statement_does_nothing()
+    ensures { (s : Seen) (session : ℕ) (statement : Statement) (r : Refusal) → (first_turn s session statement).reply ≡ Some (Refused r) → DoesNothing s (first_turn s session statement) }
+{}
+
+/// Turns behind turns are one run.
+pub fn turns_join()
+    ensures { (xs ys : List ℕ) (now : Now) → play (xs ++ ys) now ≡ ((play xs now).0 ++ (play ys (play xs now).1).0, (play ys (play xs now).1).1) }
+{}
+
+/// What stands after turns is the database after their strokes.
+pub fn turns_are_their_strokes()
+    ensures { (xs : List ℕ) (now : Now) → base_now (play xs now).1 ≡ base_after (base_now now) (strokes_of (play xs now).0) }
+{}
+
+/// A script has one run.
+pub fn a_script_has_one_run()
+    ensures { (schedule : List ℕ) (first : Now) (es fs : List Event) (x y : Now) → IsPlayed schedule first es x → IsPlayed schedule first fs y → (es ≡ fs) × (x ≡ y) }
+{}
+
+/// A session that is alone takes its turns one after the other: its statements are done in order.
+pub fn a_session_alone_goes_in_order()
+    ensures { (n : ℕ) (now : Now) → ((i : ℕ) → 1 ≤ i → slice_index_or now.todo i [] ≡ []) → play (rounds n) now ≡ play (replicate n 1) now }
+{}
+
+/// What is acknowledged never falls as more is said.
+pub fn acknowledged_never_falls()
+    ensures { (events : List Event) (said later : ℕ) → said ≤ later → acked events said ≤ acked events later }
+{}
