@@ -195,5 +195,4 @@ pub fn rows_under_a_backup()
 /// The first line that the generator makes of a number.
 pub fn generated_script()
     ensures { lines_from 1 1 7 ≡ codes "3: read 97" ++ 10 ∷ [] }
-{
-}
+{}
