@@ -74,8 +74,7 @@ pub fn strokes_join()
 pub fn accounts_join()
     ensures entry { (name : List ℕ) (account : Account) (xs ys : List Stroke) (n : List ℕ) → (after name account (xs ++ ys)).entry n ≡ (after name (after name account xs) ys).entry n }
     ensures kept { (name : List ℕ) (account : Account) (xs ys : List Stroke) → (after name account (xs ++ ys)).kept ≡ (after name (after name account xs) ys).kept }
-{
-}
+{}
 
 /// A page stroke changes its page and no other.
 pub fn a_page_stroke_changes_one_page()
