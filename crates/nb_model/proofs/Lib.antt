@@ -12,3 +12,4 @@ pub mod GatherLaws
 pub mod LevelLaws
 pub mod ChainLaws
 pub mod WholeLaws
+pub mod AfterLaws

@@ -23,11 +23,11 @@ pub same_self : (xs : List ℕ) → same_name xs xs ≡ true
 same_self [] = refl
 same_self (x ∷ xs) = elim (eqb_tells x x) [ inl w ↦ rw (w.0, same_self xs) refl | inr w ↦ absurd (w.1 refl) ]
 
-entry_same : (name : List ℕ) (entry : Entry) (account : Account) → (with_entry name entry account).entry name ≡ entry
+pub entry_same : (name : List ℕ) (entry : Entry) (account : Account) → (with_entry name entry account).entry name ≡ entry
 unfolding with_entry
 entry_same name entry account = rw (same_self name, with_entry) refl
 
-base_in_base : (b : Base) → base_in (IsBase b) ≡ b
+pub base_in_base : (b : Base) → base_in (IsBase b) ≡ b
 unfolding base_in
 base_in_base b = refl
 

@@ -28,4 +28,5 @@ pub mod Words
 pub mod Jobs
 pub mod Line
 pub mod Worked
+pub mod Generated
 pub mod Opened

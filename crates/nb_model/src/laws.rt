@@ -1,6 +1,6 @@
 // Laws: each is a public function with an empty body, whose contract is the law. They show that the definitions mean what
 // they say.
-ghost use Rattle.nb_model.specs.Account.{Base, Kept};
+ghost use Rattle.nb_model.specs.Account.{Account, Base, Kept};
 ghost use Rattle.nb_model.specs.Follows.{Follows, IsMixed};
 ghost use Rattle.nb_model.specs.Forms.{drafted, give_page, new_page, put, take_page};
 ghost use Rattle.nb_model.specs.Image.{Image, Numbered, Page, image_size, overwritten, page_at, with_page, written_at};
@@ -12,7 +12,7 @@ ghost use Rattle.nb_model.specs.Owner.{entry_for, owned, slot_page};
 ghost use Rattle.nb_model.specs.Restoring.{applied, verdict};
 ghost use Rattle.nb_model.specs.Run.{Event, IsPlayed, Now, base_now, play, rounds, strokes_of};
 ghost use Rattle.nb_model.specs.Sound.{HasNoZeros};
-ghost use Rattle.nb_model.specs.Strokes.{Stroke, base_after, fixed, merged_page, on_base, page as page_stroke, records_after};
+ghost use Rattle.nb_model.specs.Strokes.{Stroke, after, base_after, fixed, merged_page, on_base, page as page_stroke, records_after};
 ghost use Rattle.nb_model.specs.Turns.{first_turn};
 ghost use Rattle.nb_model.specs.declared.reply.Reply.TheVariants.{Refused};
 ghost use Rattle.nb_model.specs.declared.statement.Statement.{Statement};
@@ -68,6 +68,12 @@ pub fn bytes_spell_one_level()
 pub fn strokes_join()
     ensures base { (b : Base) (xs ys : List Stroke) → base_after b (xs ++ ys) ≡ base_after (base_after b xs) ys }
     ensures records { (b : Base) (xs ys : List Stroke) → records_after b (xs ++ ys) ≡ records_after b xs ++ records_after (base_after b xs) ys }
+{}
+
+/// The account after two lists of strokes is the one after their join.
+pub fn accounts_join()
+    ensures entry { (name : List ℕ) (account : Account) (xs ys : List Stroke) (n : List ℕ) → (after name account (xs ++ ys)).entry n ≡ (after name (after name account xs) ys).entry n }
+    ensures kept { (name : List ℕ) (account : Account) (xs ys : List Stroke) → (after name account (xs ++ ys)).kept ≡ (after name (after name account xs) ys).kept }
 {}
 
 /// A page stroke changes its page and no other.

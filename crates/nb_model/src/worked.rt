@@ -2,6 +2,7 @@
 // what a session is answered, which pages it writes, which files are refused. All databases have pages of 1,024 bytes.
 ghost use Rattle.nb_fields.specs.Bytes.{with_part};
 ghost use Rattle.nb_host.specs.declared.refusals.Refusal.TheVariants.{NotAllocated, SystemPage, TextLong, WrongState, BackupRunning, ChainLevel, ChainGuid, NoFile, PageRange, NoGuid, NoHistory, NotDatabase, BadDelta, NoTable, TableExists, KeyExists, NoKey, Usage, Access as NoAccess, DeltaPresent, Unfinished};
+ghost use Rattle.nb_model.specs.Generated.{lines_from};
 ghost use Rattle.nb_model.specs.Lines.{line_text};
 ghost use Rattle.nb_model.specs.Run.{rounds};
 ghost use Rattle.nb_model.specs.Words.{job_of};
@@ -189,4 +190,9 @@ pub fn lock_copy_fixup()
 pub fn rows_under_a_backup()
     ensures { replies 2 ((Backup 0 (codes "s.0") ∷ []) ∷ (CreateTable (codes "t") ∷ Insert (codes "t") 1 (codes "a") ∷ Insert (codes "t") 2 (codes "b") ∷ Scan (codes "t") ∷ []) ∷ (Scan (codes "t") ∷ []) ∷ []) (2 ∷ 2 ∷ 1 ∷ 2 ∷ 3 ∷ 2 ∷ [] ++ rounds 14)
         ≡ (2, Done) ∷ (2, Done) ∷ (2, Done) ∷ (3, Rows ((1, codes "a") ∷ (2, codes "b") ∷ [])) ∷ (2, Rows ((1, codes "a") ∷ (2, codes "b") ∷ [])) ∷ (1, Level 0 1 8 (g 1)) ∷ [] }
+{}
+
+/// The first line that the generator makes of a number.
+pub fn generated_script()
+    ensures { lines_from 1 1 7 ≡ codes "3: read 97" ++ 10 ∷ [] }
 {}
