@@ -4,10 +4,7 @@ use Rattle.std.specs.Fmt.{decimal}
 use Rattle.nb_model.specs.declared.reply.Reply.{Reply}
 use Rattle.nb_model.specs.declared.reply.Reply.TheVariants.{PagesShown, Refused}
 use Rattle.nb_model.specs.Run.{Event}
-
--- the next number of the generator
-abbrev pub next_number : ℕ → ℕ
-next_number x = (x * 6364136223846793005 + 1442695040888963407) % 2 ^ 64
+use Rattle.nb_model.specs.Seeds.{stepped}
 
 abbrev pub ended : List ℕ → List ℕ
 ended line = line ++ 10 ∷ []
@@ -39,7 +36,7 @@ backup_line i = elim (i == 250) [
 -- so many lines from line i on, behind the number x
 unfoldable pub lines_from : (left i x : ℕ) → List ℕ
 lines_from zero i x = []
-lines_from (suc left) i x = ended (line_of i (next_number x / 2 ^ 33)) ++ (backup_line i ++ lines_from left (i + 1) (next_number x))
+lines_from (suc left) i x = ended (line_of i (stepped x / 2 ^ 33)) ++ (backup_line i ++ lines_from left (i + 1) (stepped x))
 
 -- the script of a number
 unfoldable pub generated : ℕ → List ℕ

@@ -28,5 +28,6 @@ pub mod Words
 pub mod Jobs
 pub mod Line
 pub mod Worked
+pub mod Seeds
 pub mod Generated
 pub mod Opened

@@ -5,6 +5,7 @@ ghost use Rattle.nb_host.specs.declared.refusals.Refusal.TheVariants.{NotAllocat
 ghost use Rattle.nb_model.specs.Generated.{lines_from};
 ghost use Rattle.nb_model.specs.Lines.{line_text};
 ghost use Rattle.nb_model.specs.Run.{rounds};
+ghost use Rattle.nb_model.specs.Seeds.{seeded};
 ghost use Rattle.nb_model.specs.Words.{job_of};
 ghost use Rattle.nb_model.specs.Worked.{g, says, replies, strokes, base_then, pages_held, refused, chain_files, level_1_file, broken_place, not_open, main_file, stalled_file, delta_file, standby, merged_standby, apply_reply, restore_reply, restored_text, fixup_reply};
 ghost use Rattle.nb_model.specs.declared.job.Job.TheVariants.{Run, Restore, LockWithSize, Backup as JobBackup, BackupSince as JobBackupSince};
@@ -190,6 +191,11 @@ pub fn lock_copy_fixup()
 pub fn rows_under_a_backup()
     ensures { replies 2 ((Backup 0 (codes "s.0") ∷ []) ∷ (CreateTable (codes "t") ∷ Insert (codes "t") 1 (codes "a") ∷ Insert (codes "t") 2 (codes "b") ∷ Scan (codes "t") ∷ []) ∷ (Scan (codes "t") ∷ []) ∷ []) (2 ∷ 2 ∷ 1 ∷ 2 ∷ 3 ∷ 2 ∷ [] ++ rounds 14)
         ≡ (2, Done) ∷ (2, Done) ∷ (2, Done) ∷ (3, Rows ((1, codes "a") ∷ (2, codes "b") ∷ [])) ∷ (2, Rows ((1, codes "a") ∷ (2, codes "b") ∷ [])) ∷ (1, Level 0 1 8 (g 1)) ∷ [] }
+{}
+
+/// The order of turns of seed 7 begins with session 15.
+pub fn seed_seven()
+    ensures { seeded 1 7 ≡ 15 ∷ [] }
 {}
 
 /// The first line that the generator makes of a number.

@@ -3,7 +3,8 @@ use Rattle.std.proofs.Common.{◌≡◌, ℕ, suc, ◌+◌, ◌-◌, ◌<◌, �
 use Rattle.std.proofs.lemmas.Bool.{cond-true, cond-false, eqb-true, eq-eqb}
 use Rattle.std.proofs.lemmas.List.{append-nil}
 use Rattle.nb_script.specs.Words.{Bytes}
-use Rattle.nb_script.specs.Order.{sessions_at, spaced_session, seeded, stepped, session_of}
+use Rattle.nb_script.specs.Order.{sessions_at, spaced_session}
+use Rattle.nb_model.specs.Seeds.{seeded, stepped, session_of}
 
 -- sessions before those that are still read
 abbrev pub behind : List ℕ → Option (List ℕ) → Option (List ℕ)

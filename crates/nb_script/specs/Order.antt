@@ -1,6 +1,7 @@
 -- The order of turns: a line `schedule ..` or `seed ..`.
-use Rattle.std.specs.Prelude.{ℕ, zero, suc, ◌+◌, ◌*◌, ◌/◌, ◌%◌, ◌^◌, ◌==◌, Bool, List, [], ◌∷◌, length, Option, Some, None, if◌then◌else◌, option_map, codes}
+use Rattle.std.specs.Prelude.{ℕ, zero, suc, ◌==◌, Bool, List, [], ◌∷◌, length, Option, Some, None, if◌then◌else◌, option_map, codes}
 use Rattle.nb_model.specs.Built.{are_schedules_built}
+use Rattle.nb_model.specs.Seeds.{seeded}
 use Rattle.nb_script.specs.Words.{Bytes, ◌>>=◌, after, number_at, session_at, alone}
 
 -- a session with a space before it
@@ -13,19 +14,6 @@ sessions_at zero bytes = None
 sessions_at (suc most) bytes = do
   session ← spaced_session bytes
   if length session.1 == 0 then Some (session.0 ∷ []) else option_map (λ others. session.0 ∷ others) (sessions_at most session.1)
-
--- how a seed goes on
-unfoldable pub stepped : ℕ → ℕ
-stepped x = (x * 6364136223846793005 + 1442695040888963407) % 2 ^ 64
-
--- the session that a stepped seed means
-unfoldable pub session_of : ℕ → ℕ
-session_of x = x / 2 ^ 33 % 16 + 1
-
--- so many sessions, from a seed
-unfoldable pub seeded : ℕ → ℕ → List ℕ
-seeded zero x = []
-seeded (suc count) x = session_of (stepped x) ∷ seeded count (stepped x)
 
 -- `U` at the end of the line
 unfoldable pub seed_at : Bytes → Option ℕ

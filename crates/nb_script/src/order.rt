@@ -1,6 +1,7 @@
 ghost use Rattle.std.specs.Prelude.{◌≡◌, ℕ, List, option_map, IfOk, IfErr};
 ghost use Rattle.nb_host.specs.declared.faults.Fault.TheVariants.{Memory};
-ghost use Rattle.nb_script.specs.Order.{spaced_session, sessions_at, stepped, session_of, seeded, seed_at, order_spelled, order_at};
+ghost use Rattle.nb_model.specs.Seeds.{stepped, session_of, seeded};
+ghost use Rattle.nb_script.specs.Order.{spaced_session, sessions_at, seed_at, order_spelled, order_at};
 
 use crate::words::{after, number, within};
 use nb_host::Fault;
@@ -39,7 +40,7 @@ fn sessions(alloc: Global, most: u32, bytes: &[u8]) -> Result<Option<Vec<u32>>, 
     Ok(None)
 }
 
-#[tactic(auto, unfolding(crate::specs::Order::stepped))]
+#[tactic(auto, unfolding(nb_model::specs::Seeds::stepped))]
 fn stepped(seed: u64) -> u64
     ensures { result ≡ stepped seed }
 {
@@ -47,7 +48,7 @@ fn stepped(seed: u64) -> u64
         .wrapping_add(1442695040888963407)
 }
 
-#[tactic(auto, unfolding(crate::specs::Order::session_of))]
+#[tactic(auto, unfolding(nb_model::specs::Seeds::session_of))]
 fn session_of(seed: u64) -> u32
     ensures { result ≡ session_of seed }
 {
