@@ -1,13 +1,13 @@
 -- Names are ASCII, so they are text.
-use Rattle.std.proofs.Common.{◌≡◌, ℕ, ◌<◌, ◌≤◌, Bool, true, false, ◌&&◌, ◌||◌, nat_le, nat_lt, nat_eq, ◌==◌, List, length, get_or, slice_index, ap, sym, subst, ◌∙◌, inl, inr, arith}
-use Rattle.std.specs.List.{AllPass, list_all}
+use Rattle.std.proofs.Common.{◌≡◌, ℕ, ◌<◌, Bool, true, false, ◌&&◌, ◌||◌, nat_le, ◌==◌, List, length, slice_index, inl, inr, arith}
+use Rattle.std.specs.List.{list_all}
 use Rattle.std.specs.Str.{IsAscii, IsUtf8}
 use Rattle.std.proofs.lemmas.Bool.{and_parts, or_cases, leb-true, eqb-true, cases_Bool, cases_lt}
 use Rattle.std.proofs.lemmas.List.{get_or_past}
 use Rattle.std.proofs.lemmas.List.Sums.{AllPass-from_list_all}
 use Rattle.std.proofs.lemmas.Str.{IsUtf8-from_ascii}
 use Rattle.nb_host.specs.Names.{is_name, is_name_byte}
-use Rattle.nb_model.specs.TableNames.{is_table_name, is_table_byte, is_letter}
+use Rattle.nb_model.specs.TableNames.{is_table_name, is_table_byte}
 
 below : (b low high : ℕ) → high < 128 → (nat_le low b && nat_le b high) ≡ true → b < 128
 below b low high h e = omega (arith, leb-true b high (and_parts (nat_le low b) (nat_le b high) e).1)

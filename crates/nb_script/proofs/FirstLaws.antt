@@ -1,5 +1,5 @@
 -- The first line of a script is read as its first statement.
-use Rattle.std.proofs.Common.{◌≡◌, ℕ, ◌+◌, ◌^◌, ◌<◌, ◌≤◌, ◌==◌, ◌||◌, Bool, true, false, List, [], ◌∷◌, ◌++◌, length, Option, Some, None, option_map, if◌then◌else◌, codes, refl, ap, sym, ◌∙◌, inl, inr, append_assoc, arith}
+use Rattle.std.proofs.Common.{◌≡◌, ℕ, ◌≤◌, ◌==◌, true, [], ◌++◌, length, Some, None, if◌then◌else◌, codes, refl, ap, sym, ◌∙◌, inl, inr, append_assoc, arith}
 use Rattle.std.specs.Fmt.{decimal}
 use Rattle.std.proofs.lemmas.Bool.{cond-true, cond-false, ne_eqb, or_cases, eqb-true}
 use Rattle.std.proofs.lemmas.List.{append-nil}
@@ -7,7 +7,7 @@ use Rattle.nb_host.specs.Files.{is_page_size}
 use Rattle.nb_model.specs.declared.statement.Statement.{Statement}
 use Rattle.nb_model.specs.declared.statement.Statement.TheVariants.{CreateDb, OpenDb, PageNew, Write, Read, Free, BeginBackup, EndBackup, Backup, BackupSince, CopyTo, CreateTable, DropTable, Insert, Update, Delete, Get, Scan, Forced, Access, Sync, ShowHeader, ShowPages, ShowImage, ShowCache}
 use Rattle.nb_script.specs.Words.{Bytes, ◌>>=◌, after, within, name_at, alone}
-use Rattle.nb_script.specs.Statements.{session_line, built}
+use Rattle.nb_script.specs.Statements.{built}
 use Rattle.nb_script.specs.FirstLine.{cache_at, page_size_at, sizes_at, create_at, open_at, database_at, first_spelled, first_at}
 use Rattle.nb_script.specs.Spelling.{quoted, cache_text, sizes_text, command_text, line_text}
 use Rattle.nb_script.specs.Fits.{FitsFirst, IsBase}

@@ -1,6 +1,5 @@
 -- Sessions that are read or made one after the other.
-use Rattle.std.proofs.Common.{◌≡◌, ℕ, suc, ◌+◌, ◌-◌, ◌<◌, ◌≤◌, ◌==◌, List, [], ◌∷◌, ◌++◌, length, Option, Some, None, option_map, refl, ap, sym, ◌∙◌, append_assoc, arith, if◌then◌else◌, true, false}
-use Rattle.std.proofs.lemmas.Bool.{cond-true, cond-false, eqb-true, eq-eqb}
+use Rattle.std.proofs.Common.{◌≡◌, ℕ, suc, ◌+◌, ◌-◌, ◌<◌, ◌≤◌, ◌==◌, List, [], ◌∷◌, ◌++◌, length, Option, Some, None, option_map, refl, ap, sym, ◌∙◌, append_assoc, arith, true, false}
 use Rattle.std.proofs.lemmas.List.{append-nil}
 use Rattle.nb_script.specs.Words.{Bytes}
 use Rattle.nb_script.specs.Order.{sessions_at, spaced_session}

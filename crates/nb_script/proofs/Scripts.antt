@@ -1,6 +1,5 @@
 -- Statements are added to a script line by line.
-use Rattle.std.proofs.Common.{◌≡◌, ℕ, ◌+◌, ◌<◌, ◌≤◌, nat_lt, List, [], ◌∷◌, length, Option, Some, None, Result, Ok, Err, refl, ap, sym, ◌∙◌, arith, if◌then◌else◌}
-use Rattle.nb_host.specs.declared.refusals.Refusal.{Refusal}
+use Rattle.std.proofs.Common.{◌≡◌, ℕ, ◌+◌, ◌≤◌, nat_lt, List, [], ◌∷◌, length, Some, None, Ok, Err, refl, ap, sym, ◌∙◌, if◌then◌else◌}
 use Rattle.nb_host.specs.declared.refusals.Refusal.TheVariants.{BadScript}
 use Rattle.nb_model.specs.declared.statement.Statement.{Statement}
 use Rattle.nb_script.specs.Words.{Bytes}

@@ -1,10 +1,10 @@
 -- The line of a statement is read as that statement.
-use Rattle.std.proofs.Common.{◌≡◌, ℕ, ◌+◌, ◌^◌, ◌<◌, ◌≤◌, ◌==◌, Bool, true, false, List, [], ◌∷◌, ◌++◌, length, Option, Some, None, option_map, if◌then◌else◌, codes, refl, ap, sym, ◌∙◌, append_assoc, arith}
+use Rattle.std.proofs.Common.{◌≡◌, ℕ, ◌^◌, ◌<◌, ◌≤◌, ◌==◌, true, false, [], ◌++◌, length, Some, None, if◌then◌else◌, codes, refl, ap, sym, ◌∙◌, append_assoc, arith}
 use Rattle.std.specs.Fmt.{decimal}
 use Rattle.std.proofs.lemmas.List.{append-nil}
 use Rattle.nb_model.specs.declared.statement.Statement.{Statement}
 use Rattle.nb_model.specs.declared.statement.Statement.TheVariants.{CreateDb, OpenDb, PageNew, Write, Read, Free, BeginBackup, EndBackup, Backup, BackupSince, CopyTo, CreateTable, DropTable, Insert, Update, Delete, Get, Scan, Forced, Access, Sync, ShowHeader, ShowPages, ShowImage, ShowCache}
-use Rattle.nb_script.specs.Words.{Bytes, ◌>>=◌, after, number_at, within, session_at, page_at, text_at, name_at, table_at, alone, digit_count}
+use Rattle.nb_script.specs.Words.{Bytes, ◌>>=◌, after, number_at, page_at, text_at, table_at, alone, digit_count}
 use Rattle.nb_script.specs.Statements.{last_page, page_text, last_name, backup_at, last_table, row_at, last_row, row_text, fixed, of_page, of_file, of_table, scan_at, of_row, without_text, command_at, session_line, spelled_at, built, statement_at}
 use Rattle.nb_script.specs.Spelling.{quoted, row_text_of, command_text, line_text}
 use Rattle.nb_script.specs.Fits.{Fits, IsText, IsFile, IsTable}

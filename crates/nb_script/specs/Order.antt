@@ -1,5 +1,5 @@
 -- The order of turns: a line `schedule ..` or `seed ..`.
-use Rattle.std.specs.Prelude.{ℕ, zero, suc, ◌==◌, Bool, List, [], ◌∷◌, length, Option, Some, None, if◌then◌else◌, option_map, codes}
+use Rattle.std.specs.Prelude.{ℕ, zero, suc, ◌==◌, List, [], ◌∷◌, length, Option, Some, None, if◌then◌else◌, option_map, codes}
 use Rattle.nb_model.specs.Built.{are_schedules_built}
 use Rattle.nb_model.specs.Seeds.{seeded}
 use Rattle.nb_script.specs.Words.{Bytes, ◌>>=◌, after, number_at, session_at, alone}

@@ -1,5 +1,5 @@
 -- The words of a line: each reader takes what the bytes begin with, and gives it with the rest.
-use Rattle.std.specs.Prelude.{ℕ, ◌+◌, ◌-◌, ◌^◌, ◌==◌, ◌&&◌, ◌||◌, not, Bool, nat_lt, nat_le, nat_eq, List, [], ◌∷◌, length, take, drop, slice_index, Option, Some, None, if◌then◌else◌, option_map, codes}
+use Rattle.std.specs.Prelude.{ℕ, ◌+◌, ◌^◌, ◌==◌, ◌&&◌, ◌||◌, not, Bool, nat_lt, nat_le, nat_eq, List, length, take, drop, slice_index, Option, Some, None, if◌then◌else◌, option_map, codes}
 use Rattle.std.specs.List.{prefix_len, starts_with}
 use Rattle.std.specs.Str.Parse.{digits_value}
 use Rattle.nb_host.specs.Names.{is_name, is_name_byte, is_delta}

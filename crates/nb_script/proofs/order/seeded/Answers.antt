@@ -1,5 +1,4 @@
-use Rattle.std.proofs.Common.{◌≡◌, ◌++◌, ◌∷◌, [], ap, sym, ◌∙◌, arith, ◌-◌, ◌+◌}
-use Rattle.nb_model.specs.Seeds.{seeded, stepped, session_of}
+use Rattle.std.proofs.Common.{◌∙◌, arith}
 use Rattle.nb_script.proofs.Orders.{next_seeded, all_seeded}
 use Rattle.nb_script.proofs.order.seeded.Goals as goal
 

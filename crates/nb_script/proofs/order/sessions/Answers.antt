@@ -1,5 +1,5 @@
-use Rattle.std.proofs.Common.{◌≡◌, ◌++◌, ◌∷◌, [], ap, sym, ◌∙◌, arith, length, ◌==◌}
-use Rattle.nb_script.proofs.Orders.{start, goes_on, ends, fails, too_many}
+use Rattle.std.proofs.Common.{sym, ◌∙◌, arith}
+use Rattle.nb_script.proofs.Orders.{goes_on, ends, fails, too_many}
 use Rattle.nb_script.proofs.order.sessions.Goals as goal
 
 pub returns-in_default-clause-ok : goal.returns-in_default-clause-ok

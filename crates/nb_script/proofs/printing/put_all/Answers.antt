@@ -1,4 +1,4 @@
-use Rattle.std.proofs.Common.{◌≡◌, ℕ, ◌+◌, ◌-◌, List, [], ◌++◌, drop, get_or, ap, ◌∙◌, arith}
+use Rattle.std.proofs.Common.{◌≡◌, ◌+◌, ◌-◌, [], ◌++◌, drop, get_or, ap, ◌∙◌, arith}
 use Rattle.nb_script.specs.Words.{Bytes}
 use Rattle.nb_script.specs.Spelling.{statements_text, sessions_text}
 use Rattle.nb_script.proofs.Prints.{next_session, all_written, no_others}

@@ -1,4 +1,4 @@
-use Rattle.std.proofs.Common.{◌≡◌, ◌+◌, List, [], ◌∷◌, ◌++◌, drop, ap, sym, ◌∙◌, arith}
+use Rattle.std.proofs.Common.{◌+◌, [], ◌∷◌, ◌++◌, drop, ap, sym, ◌∙◌, arith}
 use Rattle.nb_script.specs.Words.{Bytes}
 use Rattle.nb_script.specs.Spelling.{line_text, statements_text}
 use Rattle.nb_script.proofs.Prints.{next_written, all_written, no_statements, first_statement}

@@ -1,4 +1,4 @@
-use Rattle.std.proofs.Common.{◌≡◌, ◌∷◌, sym, ap₂, ◌∙◌, arith}
+use Rattle.std.proofs.Common.{sym, ap₂, ◌∙◌, arith}
 use Rattle.nb_script.specs.Lines.{left}
 use Rattle.nb_script.proofs.Scripts.{script_meant}
 use Rattle.nb_script.proofs.reading.parse.Goals as goal

@@ -1,5 +1,5 @@
 use Rattle.std.proofs.Common.{ap, ◌∙◌}
-use Rattle.nb_script.specs.Statements.{built, spelled_at, statement_at}
+use Rattle.nb_script.specs.Statements.{built, statement_at}
 use Rattle.nb_script.proofs.StatementLaws.{statement_again}
 use Rattle.nb_script.proofs.statements.statement.Goals as goal
 

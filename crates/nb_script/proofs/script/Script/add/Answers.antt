@@ -1,4 +1,4 @@
-use Rattle.std.proofs.Common.{◌≡◌, ap, ◌∙◌, arith, List, ◌-◌, ◌<◌, length}
+use Rattle.std.proofs.Common.{ap, ◌∙◌, arith, List, ◌-◌, ◌<◌, length}
 use Rattle.nb_model.specs.declared.statement.Statement.{Statement}
 use Rattle.nb_script.specs.Scripts.{Plan, with_statement}
 use Rattle.nb_script.proofs.Sessions.{one_more}
