@@ -1,0 +1,21 @@
+-- What holds under Ok.
+use Rattle.std.proofs.Common.{◌≡◌}
+use Rattle.std.specs.Prelude.{Result, Ok, Err, OnOk}
+use Rattle.nb_host.specs.Calls.{WholeOrNot}
+
+-- at Ok it was done whole
+pub whole_on_ok : {T E X : Type 0} (result : Result T E) (before done after : X) → WholeOrNot result before done after → OnOk result (after ≡ done)
+whole_on_ok (Ok x) before done after is = is
+whole_on_ok (Err e) before done after is = tt
+
+pub on_ok : {T E P : Type 0} (result : Result T E) → P → OnOk result P
+on_ok (Ok x) p = p
+on_ok (Err e) p = tt
+
+pub on_ok_then : {T E P Q : Type 0} (result : Result T E) → (P → Q) → OnOk result P → OnOk result Q
+on_ok_then (Ok x) f p = f p
+on_ok_then (Err e) f p = tt
+
+pub on_ok_both : {T E P Q R : Type 0} (result : Result T E) → (P → Q → R) → OnOk result P → OnOk result Q → OnOk result R
+on_ok_both (Ok x) f p q = f p q
+on_ok_both (Err e) f p q = tt
