@@ -12,4 +12,4 @@ mod places;
 mod tests;
 
 pub use bits::{give, is_used, lowest_free, take};
-pub use places::{is_place, place_of};
+pub use places::{covers, is_place, place_of};

@@ -1,4 +1,4 @@
-ghost use Rattle.std.specs.Prelude.{◌≡◌, ◌↔◌, ℕ, ◌^◌, ◌<◌, IsTrue};
+ghost use Rattle.std.specs.Prelude.{◌≡◌, ◌↔◌, ℕ, ◌/◌, ◌%◌, ◌^◌, ◌<◌, IsTrue};
 ghost use Rattle.nb_fields.specs.Places.{is_page_size, bits_in, inventory_place, is_inventory_place};
 
 // How many bits an inventory page of that size has.
@@ -27,4 +27,19 @@ pub fn is_place(size: u32, page: u32) -> bool
     ensures value { result ≡ is_inventory_place size page }
 {
     page == 1 || (page + 1) % bits_in(size) == 0
+}
+
+/// The number of the inventory page that covers that page, and the index of the page's bit in it.
+pub fn covers(size: u32, page: u32) -> (u32, u32)
+    requires size { IsTrue (is_page_size size) }
+    requires page { page < 2 ^ 20 }
+    ensures number { result.0 ≡ page / bits_in size }
+    ensures index { result.1 ≡ page % bits_in size }
+
+    // So both may be passed on to `place_of` and `is_used`.
+    ensures place { inventory_place size result.0 < 2 ^ 20 }
+    ensures inside { result.1 < bits_in size }
+{
+    let bits = bits_in(size);
+    (page / bits, page % bits)
 }

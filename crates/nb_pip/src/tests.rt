@@ -1,4 +1,4 @@
-use crate::{give, is_place, is_used, lowest_free, place_of, take};
+use crate::{covers, give, is_place, is_used, lowest_free, place_of, take};
 
 #[test]
 fn last_places(rt: HostRuntime) {
@@ -22,6 +22,8 @@ fn last_places(rt: HostRuntime) {
             "page size {size}"
         );
     }
+    assert_eq!(rt; covers(1024, 7935), (0, 7935));
+    assert_eq!(rt; covers(1024, 7940), (1, 4));
 }
 
 #[test]

@@ -1,0 +1,5 @@
+pub mod Open
+pub mod Create
+pub mod Turn
+pub mod Put
+pub mod Replies

@@ -1,0 +1,13 @@
+-- The replies of calls by what they answer.
+use Rattle.std.specs.Prelude.{ℕ}
+use Rattle.arrayvec.specs.ArrayVec.{ArrayVec}
+use Rattle.nb_model.specs.declared.reply.Reply.{Reply}
+use Rattle.nb_model.specs.declared.reply.Reply.TheVariants.{Done, Value}
+
+-- `ok`
+abbrev pub done : Unit {0} → Reply
+done value = Done
+
+-- the text
+abbrev pub valued : ArrayVec ℕ → Reply
+valued text = Value text.items
