@@ -13,3 +13,7 @@ pub mod LevelLaws
 pub mod ChainLaws
 pub mod WholeLaws
 pub mod AfterLaws
+pub mod HeaderLaws
+pub mod ImageLaws
+pub mod MainLaws
+pub mod PutLaws
