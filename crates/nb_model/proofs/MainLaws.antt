@@ -1,23 +1,24 @@
 -- A main file in the normal state: the database of it, and where its pages stand.
 use Rattle.std.proofs.Common.{◌≡◌, inl, inr, ℕ, zero, suc, ◌+◌, ◌*◌, ◌/◌, ◌%◌, ◌<◌, ◌≤◌, List, [], ◌∷◌, ◌++◌, length, take, drop, refl, sym, ap, subst, ◌∙◌, arith, length-append, length-take-le, take-take, mul-le-mul_right, mul-le-mul_left, div-add-mod', mul-div_cancel, suc-mul}
-use Rattle.std.specs.Prelude.{Bool, true, false, IsTrue, not, ◌||◌, ◌==◌, nat_lt, Option, Some, None, Result, Ok, Err, min}
+use Rattle.std.specs.Prelude.{Bool, true, false, IsTrue, not, ◌||◌, ◌==◌, nat_lt, Option, Some, None, Result, Ok, Err, min, max}
 use Rattle.std.proofs.lemmas.Bool.{or_parts, or_from}
 use Rattle.std.proofs.lemmas.Bool.Decides.{leb_tells, eqb_tells}
-use Rattle.std.proofs.lemmas.List.{take-append-le, get_or_append_left}
+use Rattle.std.proofs.lemmas.List.{take-append-le, take_at, get_or_append_left}
 use Rattle.std.proofs.Math.Nat.{mul-mod_left}
 use Rattle.nb_fields.specs.Bytes.{is_zeros, number_in}
 use Rattle.nb_fields.specs.Header.{is_header, state_of, size_of}
 use Rattle.nb_fields.specs.Places.{is_page_size}
+use Rattle.nb_fields.specs.Table.{table_of}
 use Rattle.nb_fields.proofs.SizeLemmas.{size_facts}
 use Rattle.nb_host.specs.Files.{File}
 use Rattle.nb_host.specs.declared.refusals.Refusal.{Refusal}
-use Rattle.nb_host.specs.declared.refusals.Refusal.TheVariants.{NotDatabase}
+use Rattle.nb_host.specs.declared.refusals.Refusal.TheVariants.{NoFile, NotDatabase, BadDelta, Unfinished}
 use Rattle.nb_model.specs.Image.{Page, Image, page_at, first_page, image_size, image_state, image_in, cut, trimmed}
 use Rattle.nb_model.specs.Causes.{Cause, first_cause, when, not_database}
 use Rattle.nb_model.specs.Levels.{joined}
 use Rattle.nb_model.specs.Sound.{IsOfSize}
 use Rattle.nb_model.specs.Account.{Base, base_of}
-use Rattle.nb_model.specs.Owner.{owner, owner_in}
+use Rattle.nb_model.specs.Owner.{delta_name, entry_for, behind_entries, slot_page, main_page, owned_page, owned_from, owned, diverted_base, owner_with, owner_in, owner}
 use Rattle.nb_model.specs.Main.{HoldsMain}
 use Rattle.nb_model.proofs.ReadLaws.{lt_no}
 use Rattle.nb_model.proofs.HeaderLaws.{header-long, header-size, header-other, same-header, same-number}
@@ -265,3 +266,109 @@ pub owner_main : (name : List ℕ) (image : Image) (m d : File) → HoldsMain im
 owner_main name image m d h =
     ap (λ (f : File). owner name f d) h.there ∙ owner-formed name h.bytes d h.formed ∙ ap (λ x. owner_in x name h.bytes d) h.normal
     ∙ owner_in-normal name h.bytes d ∙ ap (λ (x : Image). Ok (base_of x)) h.is
+
+-- page 0 of the image of two files has the first 64 bytes of the main file's
+owned-front : (size : ℕ) (main : Image) (delta table : List ℕ) → 1 ≤ length main → 64 ≤ length (page_at main 0) → take 64 (owned_page size main delta table 0) ≡ take 64 (page_at main 0)
+unfolding owned_page slot_page main_page
+owned-front size main delta table some long = by (entry_for 0 table)
+  where
+    here : take 64 (main_page size main 0) ≡ take 64 (page_at main 0)
+    here = elim (leb_tells 1 (length main)) [ inl w ↦ rw (w.0, main_page) refl | inr w ↦ absurd (omega (arith, w.1)) ]
+
+    by : (x : Option ℕ) → take 64 (elim x as (λ z. Page) [ Some k ↦ slot_page size main delta 0 k | None ↦ main_page size main 0 ]) ≡ take 64 (page_at main 0)
+    by (Some k) = take_at (take 64 (page_at main 0)) _ 64 (length-take-le 64 (page_at main 0) long)
+    by None = here
+
+owned-first : (size : ℕ) (main : Image) (delta table : List ℕ) → 1 ≤ length main → first_page (owned size main delta table) ≡ owned_page size main delta table 0
+unfolding owned owned_from
+owned-first size main delta table some = by (max (length main) (behind_entries table)) (omega arith)
+  where
+    by : (count : ℕ) → 1 ≤ count → first_page (owned_from size main delta table count 0) ≡ owned_page size main delta table 0
+    by zero h = absurd (omega arith)
+    by (suc count) h = refl
+
+-- the image of two files is in the state of the main file
+owned-state : (bytes delta table : List ℕ) → not_database bytes ≡ None → image_state (owned (size_of bytes) (image_in bytes) delta table) ≡ state_of bytes
+owned-state bytes delta table none =
+    let main : Image = image_in bytes in
+    let l : IsLaid main bytes = laid bytes none in
+    let some : 1 ≤ length main = some_page main l.header in
+    let front : take 64 (first_page (owned (size_of bytes) main delta table)) ≡ take 64 bytes =
+    ap (take 64) (owned-first (size_of bytes) main delta table some) ∙ owned-front (size_of bytes) main delta table some (header-long (first_page main) l.header) ∙ sym (laid-front main bytes l) in
+    same-number (first_page (owned (size_of bytes) main delta table)) bytes front 22 2 (omega arith)
+
+-- why two files hold no database
+owner-none : (name : List ℕ) (delta : File) → owner name None delta ≡ Err (NoFile name)
+unfolding owner
+owner-none name delta = refl
+
+owner-refused : (name bytes : List ℕ) (delta : File) (r : Refusal) → not_database bytes ≡ Some r → owner name (Some bytes) delta ≡ Err r
+unfolding owner
+owner-refused name bytes delta r e = rw (e, owner) refl
+
+ok_same : (a b : Base) (answer : Result Base Refusal) → answer ≡ Ok a → answer ≡ Ok b → a ≡ b
+ok_same a b answer e f = cc
+
+-- the image of a database whose difference file is there
+abbrev by_table : (bytes delta : List ℕ) → Result (List ℕ) ℕ → Result Base Refusal
+by_table bytes delta found = elim found [ Err page ↦ Err (BadDelta page) | Ok table ↦ Ok (diverted_base bytes delta table) ]
+
+diverted-image : (bytes delta table : List ℕ) → (diverted_base bytes delta table).image ≡ owned (size_of bytes) (image_in bytes) delta table
+unfolding diverted_base
+diverted-image bytes delta table = refl
+
+-- a database with this image has a difference file with some table
+record Diverts (bytes : List ℕ) (image : Image) : Type 0 where
+  delta : List ℕ
+  table : List ℕ
+  is : owned (size_of bytes) (image_in bytes) delta table ≡ image
+
+table-image : (bytes delta : List ℕ) (found : Result (List ℕ) ℕ) (base : Base) → by_table bytes delta found ≡ Ok base → Diverts bytes base.image
+table-image bytes delta (Err page) base e = absurd (err_ok e)
+  where
+    err_ok : Err (BadDelta page) ≡ Ok base → ⊥
+    err_ok h = cc
+table-image bytes delta (Ok table) base e = record { delta = delta; table = table; is = sym (diverted-image bytes delta table) ∙ ap (λ (b : Base). b.image) (ok_same (diverted_base bytes delta table) base (by_table bytes delta (Ok table)) refl e) }
+
+with-image : (name bytes : List ℕ) (delta : File) (base : Base) → owner_with name bytes delta ≡ Ok base → Diverts bytes base.image
+unfolding owner_with
+with-image name bytes None base e = absurd (err_ok e)
+  where
+    err_ok : Err (NoFile (delta_name name)) ≡ Ok base → ⊥
+    err_ok h = cc
+with-image name bytes (Some delta) base e = table-image bytes delta (table_of (size_of bytes) delta) base e
+
+in-image : (k : ℕ) (name bytes : List ℕ) (delta : File) (base : Base) → owner_in (suc k) name bytes delta ≡ Ok base → Diverts bytes base.image
+unfolding owner_in
+in-image k name bytes delta base = by (k == 2)
+  where
+    by : (t : Bool) → elim t as (λ z. Result Base Refusal) [ true ↦ Err Unfinished | false ↦ owner_with name bytes delta ] ≡ Ok base → Diverts bytes base.image
+    by true e = absurd (err_ok e)
+      where
+        err_ok : Err Unfinished ≡ Ok base → ⊥
+        err_ok h = cc
+    by false e = with-image name bytes delta base e
+
+-- a database whose image is in the normal state is that of a main file in the normal state
+pub main_of_owner : (name : List ℕ) (image : Image) (m d : File) → owner name m d ≡ Ok (base_of image) → image_state image ≡ 0 → HoldsMain image m
+main_of_owner name image None d e normal = absurd (err_ok (sym (owner-none name d) ∙ e))
+  where
+    err_ok : Err (NoFile name) ≡ Ok (base_of image) → ⊥
+    err_ok h = cc
+main_of_owner name image (Some bytes) d e normal = by_cause (not_database bytes) refl
+  where
+    by_state : not_database bytes ≡ None → (state : ℕ) → state_of bytes ≡ state → owner_in state name bytes d ≡ Ok (base_of image) → HoldsMain image (Some bytes)
+    by_state none zero is h = record { bytes = bytes; there = refl; formed = none; normal = is; is = ap (λ (b : Base). b.image) (ok_same (base_of (image_in bytes)) (base_of image) (owner_in 0 name bytes d) (owner_in-normal name bytes d) h) }
+    by_state none (suc k) is h =
+        let diverts : Diverts bytes image = in-image k name bytes d (base_of image) h in
+        absurd (other (sym is ∙ sym (owned-state bytes diverts.delta diverts.table none) ∙ ap image_state diverts.is ∙ normal))
+      where
+        other : suc k ≡ 0 → ⊥
+        other h = omega arith
+
+    by_cause : (cause : Cause) → not_database bytes ≡ cause → HoldsMain image (Some bytes)
+    by_cause (Some r) none = absurd (err_ok (sym (owner-refused name bytes d r none) ∙ e))
+      where
+        err_ok : Err r ≡ Ok (base_of image) → ⊥
+        err_ok h = cc
+    by_cause None none = by_state none (state_of bytes) refl (sym (owner-formed name bytes d none) ∙ e)
