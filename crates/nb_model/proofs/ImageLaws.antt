@@ -1,13 +1,13 @@
 -- Lists of pages: their bytes joined and cut again, and the pages of zeros at their end.
 use Rattle.std.proofs.Common.{◌≡◌, inl, inr, ℕ, zero, suc, ◌+◌, ◌*◌, ◌<◌, ◌≤◌, List, [], ◌∷◌, ◌++◌, length, get_or, take, drop, replicate, refl, sym, ap, subst, ◌∙◌, arith, ◌⊎◌, length-append, append_assoc, suc-mul}
 use Rattle.std.specs.Prelude.{Bool, true, false}
-use Rattle.std.specs.List.{AllByRecursion}
+use Rattle.std.specs.List.{AllByRecursion, flat_map}
 use Rattle.std.proofs.lemmas.Bool.Decides.{leb_tells}
 use Rattle.std.proofs.lemmas.List.{take_at, drop_at, length-drop, length-take-le, take-append-drop, replicate-append-replicate}
 use Rattle.nb_fields.specs.Bytes.{is_zeros}
 use Rattle.nb_model.specs.Image.{Page, Image, page_at, cut, trimmed}
 use Rattle.nb_model.specs.Levels.{joined}
-use Rattle.nb_model.specs.Sound.{IsOfSize}
+use Rattle.nb_model.specs.Sound.{HasNoZeros, IsOfSize}
 
 true_false : true ≡ false → ⊥
 true_false h = cc
@@ -49,7 +49,11 @@ module _ (P : Page → Type 0) where
   all-at zero (x ∷ xs) h k = h.0
   all-at (suc n) (x ∷ xs) h k = all-at n xs h.1 (omega arith)
 
--- pages joined
+-- pages joined, which is std's word for it too
+pub joined-flat_map : (ps : List Page) → joined ps ≡ flat_map (λ p. p) ps
+joined-flat_map [] = refl
+joined-flat_map (p ∷ ps) = ap (λ (bytes : List ℕ). p ++ bytes) (joined-flat_map ps)
+
 pub joined-append : (xs ys : List Page) → joined (xs ++ ys) ≡ joined xs ++ joined ys
 joined-append [] ys = refl
 joined-append (x ∷ xs) ys = ap (λ (bytes : List ℕ). x ++ bytes) (joined-append xs ys) ∙ sym (append_assoc x (joined xs) (joined ys))
@@ -169,6 +173,11 @@ pub trimmed-before : (xs : List Page) (p : Page) (ps : Image) → is_zeros p ≡
 trimmed-before [] p ps h k = trimmed-other p ps h ∙ ap (λ (qs : Image). p ∷ qs) k
 trimmed-before (x ∷ xs) p ps h k =
     trimmed-cons x (xs ++ p ∷ ps) ∙ ap (kept x) (trimmed-before xs p ps h k) ∙ kept-some x (xs ++ p ∷ ps) (omega (arith, length-append xs (p ∷ ps)))
+
+-- where no page is zeros nothing is cut off
+pub trimmed-no_zeros : (ps : Image) → HasNoZeros ps → IsTrimmed ps
+trimmed-no_zeros [] h = trimmed-none
+trimmed-no_zeros (p ∷ ps) h = trimmed-other p ps h.0 ∙ ap (λ (qs : Image). p ∷ qs) (trimmed-no_zeros ps h.1)
 
 -- zeros behind are cut off
 pub trimmed-zeros : (zs : List Page) → AreZeros zs → trimmed zs ≡ []

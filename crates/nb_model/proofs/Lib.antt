@@ -17,3 +17,4 @@ pub mod HeaderLaws
 pub mod ImageLaws
 pub mod MainLaws
 pub mod PutLaws
+pub mod FreshImageLaws

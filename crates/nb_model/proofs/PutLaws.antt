@@ -26,7 +26,7 @@ with_page-split p page image low = elim (leb_tells (suc p) (length image)) [
 ]
 
 -- a page put into pages that are joined
-put-joined : (size p : ℕ) (page : Page) (ps : List Page) → IsOfSize size ps → p ≤ length ps → length page ≡ size
+pub put-joined : (size p : ℕ) (page : Page) (ps : List Page) → IsOfSize size ps → p ≤ length ps → length page ≡ size
     → put_at (joined ps) (p * size) page ≡ joined (take p ps ++ page ∷ drop (suc p) ps)
 unfolding put_at padded
 put-joined size p page ps sizes low long =
@@ -46,6 +46,17 @@ put-joined size p page ps sizes low long =
         let same : length ps ≡ p = omega (arith, w.1, low) in
         let short : length (joined ps) ≤ p * size + length page = omega (arith, all, ap (λ x. x * size) same) in
         drop_all (p * size + length page) (joined ps) short ∙ ap joined (sym (drop_all (suc p) ps (omega (arith, w.1))))
+
+-- the next page, and the first one again: so a file is made
+pub put-next : (size : ℕ) (page : Page) (ps : List Page) → IsOfSize size ps → length page ≡ size → put_at (joined ps) (length ps * size) page ≡ joined (ps ++ page ∷ [])
+put-next size page ps sizes long =
+    put-joined size (length ps) page ps sizes (omega arith) long
+    ∙ ap (λ (x : List Page). joined (x ++ page ∷ drop (suc (length ps)) ps)) (take_all (length ps) ps (omega arith))
+    ∙ ap (λ (x : List Page). joined (ps ++ page ∷ x)) (drop_all (suc (length ps)) ps (omega arith))
+
+pub put-first : (size : ℕ) (old page : Page) (ps : List Page) → IsOfSize size (old ∷ ps) → length page ≡ size → put_at (joined (old ∷ ps)) 0 page ≡ joined (page ∷ ps)
+put-first size old page ps sizes long =
+    ap (λ x. put_at (joined (old ∷ ps)) x page) (let e : 0 ≡ 0 * size = omega arith in e) ∙ put-joined size 0 page (old ∷ ps) sizes (omega arith) long
 
 -- what stands behind the image then
 abbrev behind : (p : ℕ) (image : Image) (rest : List Page) → List Page
