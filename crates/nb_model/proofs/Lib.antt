@@ -13,3 +13,8 @@ pub mod LevelLaws
 pub mod ChainLaws
 pub mod WholeLaws
 pub mod AfterLaws
+pub mod HeaderLaws
+pub mod ImageLaws
+pub mod MainLaws
+pub mod PutLaws
+pub mod FreshImageLaws

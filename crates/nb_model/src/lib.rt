@@ -3,7 +3,7 @@
 //! It rests on `nb_fields` and `nb_host`. The types are those of the final program. The definitions stand in `specs/` and
 //! compute: `Image`, `Account` and `Strokes` (what stands, and its single changes), `Forms` and `Causes` (how a change is drafted,
 //! and why it is refused), `Turns` over `Pages`, `Tables` and `Backups` (what one turn of a session does), `Run` and `Output` (a
-//! script, what it says and what is acknowledged), `Owner`, `Sound` and `Stands` (what files mean), `Levels`, `Restoring`,
+//! script, what it says and what is acknowledged), `Owner`, `Main`, `Sound` and `Stands` (what files mean), `Levels`, `Restoring`,
 //! `InPlace` and `Follows` (level files and lineage), `Waiting` and `Pagewise` (forced writes off), `Words` and `Jobs`. A layer
 //! above cites them in its contracts. `laws` shows that they mean what they say, and `worked` computes examples.
 #![tactic(auto)]

@@ -9,7 +9,7 @@ ghost use Rattle.nb_model.specs.Seeds.{seeded};
 ghost use Rattle.nb_model.specs.Words.{job_of};
 ghost use Rattle.nb_model.specs.Worked.{g, says, replies, strokes, base_then, pages_held, refused, chain_files, level_1_file, broken_place, not_open, main_file, stalled_file, delta_file, standby, merged_standby, apply_reply, restore_reply, restored_text, fixup_reply};
 ghost use Rattle.nb_model.specs.declared.job.Job.TheVariants.{Run, Restore, LockWithSize, Backup as JobBackup, BackupSince as JobBackupSince};
-ghost use Rattle.nb_model.specs.declared.reply.Reply.TheVariants.{Done, Opened, Value, Scn, Level, Rows, HeaderShown, PagesShown, PageMade, CacheShown, Refused, Pages};
+ghost use Rattle.nb_model.specs.declared.reply.Reply.TheVariants.{Done, Opened, Value, Scn, ScnPages, Level, Rows, HeaderShown, PagesShown, PageMade, ImageShown, CacheShown, Refused, Pages};
 ghost use Rattle.nb_model.specs.declared.statement.Statement.TheVariants.{Write, Read, Free, PageNew, BeginBackup, EndBackup, Backup, BackupSince, CreateTable, DropTable, Insert, Update, Delete, Get, Scan, Access, ShowHeader, ShowPages, ShowCache};
 ghost use Rattle.std.specs.Prelude.{[], ◌++◌, ◌∷◌, ◌≡◌, None, Some, codes, length, replicate, take, true, false};
 
@@ -138,12 +138,21 @@ pub fn pages_shown()
 /// Each kind of line.
 pub fn lines_of_replies()
     ensures done { line_text 1 Done ≡ codes "1: ok" ++ 10 ∷ [] }
+    ensures pages { line_text 2 (Pages 13) ≡ codes "2: ok pages 13" ++ 10 ∷ [] }
     ensures opened { line_text 1 (Opened 13 0) ≡ codes "1: ok pages 13 state 0" ++ 10 ∷ [] }
+    ensures page_made { line_text 1 (PageMade 249) ≡ codes "1: ok page 249" ++ 10 ∷ [] }
     ensures value { line_text 16 (Value (codes "hello")) ≡ codes "16: ok 'hello'" ++ 10 ∷ [] }
+    ensures scn { line_text 1 (Scn 2) ≡ codes "1: ok scn 2" ++ 10 ∷ [] }
+    ensures scn_pages { line_text 4 (ScnPages 3 14) ≡ codes "4: ok scn 3 pages 14" ++ 10 ∷ [] }
     ensures level { line_text 1 (Level 0 1 13 (g 1)) ≡ codes "1: ok level 0 scn 1 pages 13 guid 00000000-0000-0000-0000-000000000001" ++ 10 ∷ [] }
     ensures rows { line_text 3 (Rows ((1, codes "a") ∷ (2, codes "b") ∷ [])) ≡ codes "3: ok rows 2 1 'a' 2 'b'" ++ 10 ∷ [] }
+    ensures no_rows { line_text 3 (Rows []) ≡ codes "3: ok rows 0" ++ 10 ∷ [] }
     ensures header { line_text 1 (HeaderShown 1024 13 1 2 (g 1) true 0 2) ≡ codes "1: ok size 1024 pages 13 state 1 scn 2 guid 00000000-0000-0000-0000-000000000001 forced 1 access 0 delta 2" ++ 10 ∷ [] }
+    ensures pages_shown { line_text 1 (PagesShown 1 1 1 2 7 0 1) ≡ codes "1: ok header 1 inventory 1 scn 1 data 2 raw 7 other 0 free 1" ++ 10 ∷ [] }
+    ensures image { line_text 1 (ImageShown 13 (replicate 31 0 ++ 171 ∷ [])) ≡ codes "1: ok pages 13 sha256 00000000000000000000000000000000000000000000000000000000000000ab" ++ 10 ∷ [] }
+    ensures cache { line_text 1 (CacheShown 64 7) ≡ codes "1: ok cache 64 held 7" ++ 10 ∷ [] }
     ensures refused { line_text 1 (Refused (ChainLevel (codes "a.1") 1 0)) ≡ codes "1: refused 16 ChainLevel a.1 1 0" ++ 10 ∷ [] }
+    ensures refused_guids { line_text 1 (Refused (ChainGuid (codes "a.1") (g 1) (g 2))) ≡ codes "1: refused 17 ChainGuid a.1 00000000-0000-0000-0000-000000000001 00000000-0000-0000-0000-000000000002" ++ 10 ∷ [] }
     ensures no_words { line_text 0 (Refused Usage) ≡ codes "0: refused 1 Usage" ++ 10 ∷ [] }
 {}
 

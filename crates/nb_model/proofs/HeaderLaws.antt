@@ -1,0 +1,68 @@
+-- What the form of a header says of the bytes, and that the first 64 bytes decide it.
+use Rattle.std.proofs.Common.{◌≡◌, inl, inr, ℕ, suc, ◌+◌, ◌≤◌, List, [], ◌∷◌, ◌++◌, length, take, refl, sym, ap, ◌∙◌, arith}
+use Rattle.std.specs.Prelude.{Bool, true, false, IsTrue, ◌&&◌, ◌==◌}
+use Rattle.std.proofs.lemmas.Bool.{and_parts}
+use Rattle.std.proofs.lemmas.Bool.Decides.{leb_tells, eqb_tells}
+use Rattle.nb_fields.specs.Bytes.{number_of, number_in, is_zeros}
+use Rattle.nb_fields.specs.Header.{is_header, is_marked, is_sound, state_of, size_of, scn_of}
+use Rattle.nb_fields.specs.Places.{is_page_size}
+use Rattle.nb_fields.proofs.HeaderLemmas.{is_header-short, is_header-long, is_header-take}
+use Rattle.nb_fields.proofs.PartLemmas.{number_in-take}
+use Rattle.nb_model.specs.Image.{Page}
+
+true_false : true ≡ false → ⊥
+true_false h = cc
+
+not_marked : (p : Page) → (number_in 0 1 p == 1) ≡ false → is_marked p ≡ false
+unfolding is_marked
+not_marked p e = rw e refl
+
+first_byte : (b : ℕ) (bs : List ℕ) → number_in 0 1 (b ∷ bs) ≡ b
+unfolding number_in number_of
+first_byte b bs = omega arith
+
+-- the bytes of a header
+module _ (p : Page) (h : is_header p ≡ true) where
+  pub header-long : 64 ≤ length p
+  header-long = elim (leb_tells (suc (length p)) 64) [ inl w ↦ absurd (true_false (sym h ∙ is_header-short p w.1)) | inr w ↦ omega (arith, w.1) ]
+
+  form : (is_marked p && is_sound (state_of p) (size_of p) (scn_of p)) ≡ true
+  form = sym (is_header-long p header-long) ∙ h
+
+  -- the page size is one of the six
+  pub header-size : IsTrue (is_page_size (size_of p))
+  header-size = second _ _ _ _ (and_parts (is_marked p) _ form).1
+    where
+      second : (a b c d : Bool) → (a && b && c && d) ≡ true → b ≡ true
+      second true true c d k = refl
+      second true false c d k = absurd (true_false (sym k))
+      second false b c d k = absurd (true_false (sym k))
+
+  -- the first byte is the kind
+  pub header-kind : number_in 0 1 p ≡ 1
+  header-kind = elim (eqb_tells (number_in 0 1 p) 1) [
+    | inl w ↦ w.1
+    | inr w ↦ absurd (true_false (sym (and_parts (is_marked p) _ form).0 ∙ not_marked p w.0))
+  ]
+
+-- a page whose first byte isn't 0 isn't all zeros
+pub first-other : (b : ℕ) (bs : List ℕ) → (b == 0) ≡ false → is_zeros (b ∷ bs) ≡ false
+first-other b bs e = rw e refl
+
+pub header-other : (p : Page) → is_header p ≡ true → is_zeros p ≡ false
+header-other [] h = absurd (none (header-long [] h))
+  where
+    none : 64 ≤ 0 → ⊥
+    none k = omega arith
+header-other (b ∷ bs) h = first-other b bs (not_zero b (sym (first_byte b bs) ∙ header-kind (b ∷ bs) h))
+  where
+    not_zero : (b : ℕ) → b ≡ 1 → (b == 0) ≡ false
+    not_zero b e = ap (λ (x : ℕ). x == 0) e
+
+-- with the same first 64 bytes the header and its fields are the same
+module _ (a b : List ℕ) (same : take 64 a ≡ take 64 b) where
+  pub same-header : is_header a ≡ is_header b
+  same-header = sym (is_header-take a) ∙ ap is_header same ∙ is_header-take b
+
+  pub same-number : (at w : ℕ) → at + w ≤ 64 → number_in at w a ≡ number_in at w b
+  same-number at w h = sym (number_in-take 64 at w a h) ∙ ap (λ (x : List ℕ). number_in at w x) same ∙ number_in-take 64 at w b h

@@ -1,0 +1,374 @@
+-- A main file in the normal state: the database of it, and where its pages stand.
+use Rattle.std.proofs.Common.{◌≡◌, inl, inr, ℕ, zero, suc, ◌+◌, ◌*◌, ◌/◌, ◌%◌, ◌<◌, ◌≤◌, List, [], ◌∷◌, ◌++◌, length, take, drop, refl, sym, ap, subst, ◌∙◌, arith, length-append, length-take-le, take-take, mul-le-mul_right, mul-le-mul_left, div-add-mod', mul-div_cancel, suc-mul}
+use Rattle.std.specs.Prelude.{Bool, true, false, IsTrue, not, ◌||◌, ◌==◌, nat_lt, Option, Some, None, Result, Ok, Err, min, max}
+use Rattle.std.proofs.lemmas.Bool.{or_parts, or_from}
+use Rattle.std.proofs.lemmas.Bool.Decides.{leb_tells, eqb_tells}
+use Rattle.std.proofs.lemmas.List.{take-append-le, take_at, get_or_append_left}
+use Rattle.std.proofs.Math.Nat.{mul-mod_left}
+use Rattle.nb_fields.specs.Bytes.{is_zeros, number_in}
+use Rattle.nb_fields.specs.Header.{is_header, state_of, size_of}
+use Rattle.nb_fields.specs.Places.{is_page_size}
+use Rattle.nb_fields.specs.Table.{table_of}
+use Rattle.nb_fields.proofs.SizeLemmas.{size_facts}
+use Rattle.nb_host.specs.Files.{File}
+use Rattle.nb_host.specs.declared.refusals.Refusal.{Refusal}
+use Rattle.nb_host.specs.declared.refusals.Refusal.TheVariants.{NoFile, NotDatabase, BadDelta, Unfinished}
+use Rattle.nb_model.specs.Image.{Page, Image, page_at, first_page, image_size, image_state, image_in, cut, trimmed}
+use Rattle.nb_model.specs.Causes.{Cause, first_cause, when, not_database}
+use Rattle.nb_model.specs.Levels.{joined}
+use Rattle.nb_model.specs.Sound.{IsOfSize}
+use Rattle.nb_model.specs.Account.{Base, base_of}
+use Rattle.nb_model.specs.Owner.{delta_name, entry_for, behind_entries, slot_page, main_page, owned_page, owned_from, owned, diverted_base, owner_with, owner_in, owner}
+use Rattle.nb_model.specs.Main.{HoldsMain}
+use Rattle.nb_model.proofs.ReadLaws.{lt_no}
+use Rattle.nb_model.proofs.HeaderLaws.{header-long, header-size, header-other, same-header, same-number}
+use Rattle.nb_model.proofs.ImageLaws.{AreZeros, IsTrimmed, Pages, pages_of, cut-joined, page-joined, length-joined, trimming, trimmed-other, trimmed-append_zeros, all-at, all-left}
+
+-- what the form of a database says of a file's bytes
+record Formed (bytes : List ℕ) : Type 0 where
+  header : is_header bytes ≡ true
+  size : IsTrue (is_page_size (size_of bytes))
+  count : ℕ
+  whole : length bytes ≡ count * size_of bytes
+  least : 5 ≤ count
+  most : count ≤ 1048576
+
+-- two tests that don't apply
+abbrev two_tests : (a b : Bool) (r q : Refusal) → Cause
+two_tests a b r q = first_cause (when a r ∷ when b q ∷ [])
+
+two_tests-none : (a b : Bool) (r q : Refusal) → two_tests a b r q ≡ None → (a ≡ false) × (b ≡ false)
+unfolding first_cause
+two_tests-none false false r q h = (refl, refl)
+two_tests-none false true r q h = absurd (some_none h)
+  where
+    some_none : Some q ≡ None → ⊥
+    some_none k = cc
+two_tests-none true b r q h = absurd (some_none h)
+  where
+    some_none : Some r ≡ None → ⊥
+    some_none k = cc
+
+two_tests-from : (a b : Bool) (r q : Refusal) → a ≡ false → b ≡ false → two_tests a b r q ≡ None
+unfolding first_cause
+two_tests-from a b r q e f = rw (e, first_cause) (rw (f, first_cause) refl)
+
+-- the tests of the length
+abbrev length_cause : List ℕ → Cause
+length_cause bytes =
+    two_tests (not (length bytes % size_of bytes == 0) || nat_lt (length bytes / size_of bytes) 5) (nat_lt 1048576 (length bytes / size_of bytes))
+    (NotDatabase (min (length bytes / size_of bytes) 1048576)) (NotDatabase 1048576)
+
+not_database-is : (bytes : List ℕ) → not_database bytes ≡ elim (is_header bytes) as (λ z. Cause) [ false ↦ Some (NotDatabase 0) | true ↦ length_cause bytes ]
+unfolding not_database
+not_database-is bytes = by (is_header bytes)
+  where
+    by : (t : Bool) → elim t as (λ z. Cause) [ false ↦ Some (NotDatabase 0) | true ↦ length_cause bytes ] ≡ elim t as (λ z. Cause) [ false ↦ Some (NotDatabase 0) | true ↦ length_cause bytes ]
+    by t = refl
+
+-- what the tests of the length say
+true_false : true ≡ false → ⊥
+true_false h = cc
+
+at_most : (m n : ℕ) → nat_lt n m ≡ false → m ≤ n
+at_most m n h = elim (leb_tells (suc n) m) [ inl w ↦ absurd (true_false (sym w.0 ∙ h)) | inr w ↦ omega (arith, w.1) ]
+
+whole_pages : (left count : ℕ) → (not (left == 0) || nat_lt count 5) ≡ false → (left ≡ 0) × (5 ≤ count)
+whole_pages left count h = (elim (eqb_tells left 0) [ inl w ↦ w.1 | inr w ↦ absurd (true_false (sym (ap not w.0) ∙ (or_parts (not (left == 0)) (nat_lt count 5) h).0)) ], least (or_parts (not (left == 0)) (nat_lt count 5) h).1)
+  where
+    least : nat_lt count 5 ≡ false → 5 ≤ count
+    least e = elim (leb_tells (suc count) 5) [ inl w ↦ absurd (true_false (sym w.0 ∙ e)) | inr w ↦ omega (arith, w.1) ]
+
+formed : (bytes : List ℕ) → not_database bytes ≡ None → Formed bytes
+formed bytes none = by (is_header bytes) refl (sym (not_database-is bytes) ∙ none)
+  where
+    some_none : (r : Refusal) → Some r ≡ None → ⊥
+    some_none r k = cc
+
+    by : (t : Bool) → is_header bytes ≡ t → elim t as (λ z. Cause) [ false ↦ Some (NotDatabase 0) | true ↦ length_cause bytes ] ≡ None → Formed bytes
+    by false e h = absurd (some_none (NotDatabase 0) h)
+    by true e h =
+        let count : ℕ = length bytes / size_of bytes in
+        let left : ℕ = length bytes % size_of bytes in
+        let tests : ((not (left == 0) || nat_lt count 5) ≡ false) × (nat_lt 1048576 count ≡ false) =
+        two_tests-none (not (left == 0) || nat_lt count 5) (nat_lt 1048576 count) (NotDatabase (min count 1048576)) (NotDatabase 1048576) h in
+        let parts : (left ≡ 0) × (5 ≤ count) = whole_pages left count tests.0 in
+        record {
+          header = e;
+          size = header-size bytes e;
+          count = count;
+          whole = omega (arith, div-add-mod' (length bytes) (size_of bytes), parts.0);
+          least = parts.1;
+          most = at_most count 1048576 tests.1;
+        }
+
+-- and back
+no_cause : (bytes : List ℕ) (size count : ℕ) → is_header bytes ≡ true → size_of bytes ≡ size → 0 < size → length bytes ≡ count * size → 5 ≤ count → count ≤ 1048576 → not_database bytes ≡ None
+no_cause bytes size count header same some whole least most =
+    let left : length bytes % size_of bytes ≡ 0 = ap (λ x. length bytes % x) same ∙ ap (λ x. x % size) whole ∙ mul-mod_left count size in
+    let pages : length bytes / size_of bytes ≡ count = ap (λ x. length bytes / x) same ∙ ap (λ x. x / size) whole ∙ mul-div_cancel count some in
+    not_database-is bytes
+    ∙ ap (λ (t : Bool). elim t as (λ z. Cause) [ false ↦ Some (NotDatabase 0) | true ↦ length_cause bytes ]) header
+    ∙ two_tests-from _ _ (NotDatabase (min (length bytes / size_of bytes) 1048576)) (NotDatabase 1048576)
+    (or_from _ _ (ap (λ x. not (x == 0)) left) (ap (λ x. nat_lt x 5) pages ∙ lt_no count 5 least)) (ap (λ x. nat_lt 1048576 x) pages ∙ lt_no 1048576 count most)
+
+-- A file is an image and pages of zeros behind it. The image has a header, and its last page isn't zeros.
+pub record IsLaid (image : Image) (bytes : List ℕ) : Type 0 where
+  pub rest : List Page
+  pub is : bytes ≡ joined (image ++ rest)
+  pub size : IsTrue (is_page_size (image_size image))
+  pub sizes : IsOfSize (image_size image) (image ++ rest)
+  pub zeros : AreZeros rest
+  pub whole : IsTrimmed image
+  pub header : is_header (first_page image) ≡ true
+  pub least : 5 ≤ length (image ++ rest)
+  pub most : length (image ++ rest) ≤ 1048576
+
+-- an image with a header has a page
+pub some_page : (image : Image) → is_header (first_page image) ≡ true → 1 ≤ length image
+some_page [] h = absurd (none (header-long [] h))
+  where
+    none : 64 ≤ 0 → ⊥
+    none k = omega arith
+some_page (p ∷ ps) h = omega arith
+
+-- its first 64 bytes are those of the file
+pub laid-front : (image : Image) (bytes : List ℕ) → IsLaid image bytes → take 64 bytes ≡ take 64 (first_page image)
+laid-front [] bytes laid = absurd (none (some_page [] laid.header))
+  where
+    none : 1 ≤ 0 → ⊥
+    none k = omega arith
+laid-front (p ∷ ps) bytes laid = ap (take 64) laid.is ∙ take-append-le 64 p (joined (ps ++ laid.rest)) (header-long p laid.header)
+
+pub laid-wide : (image : Image) (bytes : List ℕ) → IsLaid image bytes → 1024 ≤ image_size image
+laid-wide image bytes laid = (size_facts (image_size image) laid.size).at_least
+
+-- so many pages
+times-one : (n size : ℕ) → 0 < size → n ≤ n * size
+times-one n size h = let low : n * 1 ≤ n * size = mul-le-mul_left n h in omega (arith, low)
+
+image_in-is : (bytes : List ℕ) (size : ℕ) (ps : List Page) → size_of bytes ≡ size → bytes ≡ joined ps → IsOfSize size ps → 0 < size → image_in bytes ≡ trimmed ps
+unfolding image_in
+image_in-is bytes size ps same is sizes some =
+    let long : length bytes ≡ length ps * size = ap length is ∙ length-joined size ps sizes in
+    let low : length ps ≤ length bytes = omega (arith, times-one (length ps) size some) in
+    ap (λ x. trimmed (cut x (length bytes) bytes)) same ∙ ap (λ (x : List ℕ). trimmed (cut size (length bytes) x)) is ∙ ap trimmed (cut-joined size (length bytes) ps sizes some low)
+
+-- a file laid so holds the image
+pub main_laid : (image : Image) (bytes : List ℕ) → IsLaid image bytes → image_state image ≡ 0 → HoldsMain image (Some bytes)
+main_laid image bytes laid normal =
+    let front : take 64 bytes ≡ take 64 (first_page image) = laid-front image bytes laid in
+    let wide : 1024 ≤ image_size image = laid-wide image bytes laid in
+    let same : size_of bytes ≡ image_size image = same-number bytes (first_page image) front 24 4 (omega arith) in
+    let long : length bytes ≡ length (image ++ laid.rest) * image_size image = ap length laid.is ∙ length-joined (image_size image) (image ++ laid.rest) laid.sizes in
+    record {
+      bytes = bytes;
+      there = refl;
+      formed = no_cause bytes (image_size image) (length (image ++ laid.rest)) (same-header bytes (first_page image) front ∙ laid.header) same (omega arith) long laid.least laid.most;
+      normal = same-number bytes (first_page image) front 22 2 (omega arith) ∙ normal;
+      is = image_in-is bytes (image_size image) (image ++ laid.rest) same laid.is laid.sizes (omega arith) ∙ trimmed-append_zeros image laid.rest laid.zeros ∙ laid.whole;
+    }
+
+-- page 0 of pages of which the first isn't zeros
+trimmed-first : (ps : List Page) → 1 ≤ length ps → is_zeros (first_page ps) ≡ false → first_page (trimmed ps) ≡ first_page ps
+trimmed-first [] some other = absurd (omega arith)
+trimmed-first (p ∷ ps) some other = ap first_page (trimmed-other p ps other)
+
+-- a file of the form is laid so
+pub laid : (bytes : List ℕ) → not_database bytes ≡ None → IsLaid (image_in bytes) bytes
+laid bytes none =
+    let facts : Formed bytes = formed bytes none in
+    let size : ℕ = size_of bytes in
+    let wide : 1024 ≤ size = (size_facts size facts.size).at_least in
+    let all : Pages size bytes facts.count = pages_of size facts.count bytes facts.whole in
+    let ps : List Page = all.pages in
+    let some : 1 ≤ length ps = omega (arith, all.count, facts.least) in
+    let image_is : image_in bytes ≡ trimmed ps = image_in-is bytes size ps refl all.is all.sizes (omega arith) in
+    let first_is : take size bytes ≡ first_page ps = ap (take size) all.is ∙ ap (λ x. take size (drop x (joined ps))) (let e : 0 ≡ 0 * size = omega arith in e) ∙ page-joined size 0 ps all.sizes some in
+    let front : take 64 (first_page ps) ≡ take 64 bytes = ap (take 64) (sym first_is) ∙ take-take 64 size bytes (omega arith) in
+    let header : is_header (first_page ps) ≡ true = same-header (first_page ps) bytes front ∙ facts.header in
+    let first : first_page (image_in bytes) ≡ first_page ps = ap first_page image_is ∙ trimmed-first ps some (header-other (first_page ps) header) in
+    let same : image_size (image_in bytes) ≡ size = ap size_of first ∙ same-number (first_page ps) bytes front 24 4 (omega arith) in
+    let cut_off = trimming ps in
+    let is : ps ≡ image_in bytes ++ cut_off.rest = cut_off.is ∙ ap (λ (x : Image). x ++ cut_off.rest) (sym image_is) in
+    record {
+      rest = cut_off.rest;
+      is = all.is ∙ ap joined is;
+      size = subst (λ x. IsTrue (is_page_size x)) (sym same) facts.size;
+      sizes = subst (λ x. IsOfSize x (image_in bytes ++ cut_off.rest)) (sym same) (subst (λ (x : List Page). IsOfSize size x) is all.sizes);
+      zeros = cut_off.zeros;
+      whole = ap trimmed image_is ∙ cut_off.whole ∙ sym image_is;
+      header = ap is_header first ∙ header;
+      least = omega (arith, facts.least, all.count, ap length is);
+      most = omega (arith, facts.most, all.count, ap length is);
+    }
+
+pub laid_main : (image : Image) (file : File) (h : HoldsMain image file) → IsLaid image h.bytes
+laid_main image file h = subst (λ (x : Image). IsLaid x h.bytes) h.is (laid h.bytes h.formed)
+
+pub main_state : (image : Image) (file : File) → HoldsMain image file → image_state image ≡ 0
+main_state image file h =
+    let front : take 64 h.bytes ≡ take 64 (first_page image) = laid-front image h.bytes (laid_main image file h) in
+    sym (same-number h.bytes (first_page image) front 22 2 (omega arith)) ∙ h.normal
+
+-- What a main file's image and its bytes have in common. The file has at least the pages of the image.
+pub record MainFacts (image : Image) (bytes : List ℕ) : Type 0 where
+  pub size : IsTrue (is_page_size (image_size image))
+  pub same_size : size_of bytes ≡ image_size image
+  pub state : image_state image ≡ 0
+  pub some : 1 ≤ length image
+  pub whole : (n : ℕ) × (length bytes ≡ n * image_size image) × (n ≤ 1048576) × (length image ≤ n)
+  pub sizes : (p : ℕ) → p < length image → length (page_at image p) ≡ image_size image
+  pub header : is_header (page_at image 0) ≡ true
+  pub front : take 64 bytes ≡ take 64 (page_at image 0)
+
+pub main_facts : (image : Image) (file : File) (h : HoldsMain image file) → MainFacts image h.bytes
+main_facts image file h =
+    let l : IsLaid image h.bytes = laid_main image file h in
+    let front : take 64 h.bytes ≡ take 64 (first_page image) = laid-front image h.bytes l in
+    let pages : List Page = image ++ l.rest in
+    record {
+      size = l.size;
+      same_size = same-number h.bytes (first_page image) front 24 4 (omega arith);
+      state = main_state image file h;
+      some = some_page image l.header;
+      whole = (length pages, ap length l.is ∙ length-joined (image_size image) pages l.sizes, l.most, omega (arith, length-append image l.rest));
+      sizes = λ p low. all-at (λ page. length page ≡ image_size image) p image (all-left (λ page. length page ≡ image_size image) image l.rest l.sizes) low;
+      header = l.header;
+      front = front;
+    }
+
+-- page p stands at its place in the file
+pub page_read : (image : Image) (file : File) (h : HoldsMain image file) (p : ℕ) → p < length image
+    → (p * image_size image + image_size image ≤ length h.bytes) × (take (image_size image) (drop (p * image_size image) h.bytes) ≡ page_at image p)
+page_read image file h p low =
+    let l : IsLaid image h.bytes = laid_main image file h in
+    let size : ℕ = image_size image in
+    let pages : List Page = image ++ l.rest in
+    let long : length h.bytes ≡ length pages * size = ap length l.is ∙ length-joined size pages l.sizes in
+    let below : p < length pages = omega (arith, length-append image l.rest, low) in
+    let fits : (p + 1) * size ≤ length pages * size = mul-le-mul_right size (omega (arith, below)) in (
+      omega (arith, fits, long, suc-mul p size),
+      ap (λ (x : List ℕ). take size (drop (p * size) x)) l.is ∙ page-joined size p pages l.sizes below ∙ get_or_append_left image l.rest [] p low,
+    )
+
+-- the database by the state
+owner-formed : (name bytes : List ℕ) (delta : File) → not_database bytes ≡ None → owner name (Some bytes) delta ≡ owner_in (state_of bytes) name bytes delta
+unfolding owner
+owner-formed name bytes delta none = rw (none, owner) refl
+
+owner_in-normal : (name bytes : List ℕ) (delta : File) → owner_in 0 name bytes delta ≡ Ok (base_of (image_in bytes))
+unfolding owner_in
+owner_in-normal name bytes delta = refl
+
+-- the database of a main file in the normal state is that of the file alone, whatever stands beside
+pub owner_main : (name : List ℕ) (image : Image) (m d : File) → HoldsMain image m → owner name m d ≡ Ok (base_of image)
+owner_main name image m d h =
+    ap (λ (f : File). owner name f d) h.there ∙ owner-formed name h.bytes d h.formed ∙ ap (λ x. owner_in x name h.bytes d) h.normal
+    ∙ owner_in-normal name h.bytes d ∙ ap (λ (x : Image). Ok (base_of x)) h.is
+
+-- page 0 of the image of two files has the first 64 bytes of the main file's
+owned-front : (size : ℕ) (main : Image) (delta table : List ℕ) → 1 ≤ length main → 64 ≤ length (page_at main 0) → take 64 (owned_page size main delta table 0) ≡ take 64 (page_at main 0)
+unfolding owned_page slot_page main_page
+owned-front size main delta table some long = by (entry_for 0 table)
+  where
+    here : take 64 (main_page size main 0) ≡ take 64 (page_at main 0)
+    here = elim (leb_tells 1 (length main)) [ inl w ↦ rw (w.0, main_page) refl | inr w ↦ absurd (omega (arith, w.1)) ]
+
+    by : (x : Option ℕ) → take 64 (elim x as (λ z. Page) [ Some k ↦ slot_page size main delta 0 k | None ↦ main_page size main 0 ]) ≡ take 64 (page_at main 0)
+    by (Some k) = take_at (take 64 (page_at main 0)) _ 64 (length-take-le 64 (page_at main 0) long)
+    by None = here
+
+owned-first : (size : ℕ) (main : Image) (delta table : List ℕ) → 1 ≤ length main → first_page (owned size main delta table) ≡ owned_page size main delta table 0
+unfolding owned owned_from
+owned-first size main delta table some = by (max (length main) (behind_entries table)) (omega arith)
+  where
+    by : (count : ℕ) → 1 ≤ count → first_page (owned_from size main delta table count 0) ≡ owned_page size main delta table 0
+    by zero h = absurd (omega arith)
+    by (suc count) h = refl
+
+-- the image of two files is in the state of the main file
+owned-state : (bytes delta table : List ℕ) → not_database bytes ≡ None → image_state (owned (size_of bytes) (image_in bytes) delta table) ≡ state_of bytes
+owned-state bytes delta table none =
+    let main : Image = image_in bytes in
+    let l : IsLaid main bytes = laid bytes none in
+    let some : 1 ≤ length main = some_page main l.header in
+    let front : take 64 (first_page (owned (size_of bytes) main delta table)) ≡ take 64 bytes =
+    ap (take 64) (owned-first (size_of bytes) main delta table some) ∙ owned-front (size_of bytes) main delta table some (header-long (first_page main) l.header) ∙ sym (laid-front main bytes l) in
+    same-number (first_page (owned (size_of bytes) main delta table)) bytes front 22 2 (omega arith)
+
+-- why two files hold no database
+owner-none : (name : List ℕ) (delta : File) → owner name None delta ≡ Err (NoFile name)
+unfolding owner
+owner-none name delta = refl
+
+owner-refused : (name bytes : List ℕ) (delta : File) (r : Refusal) → not_database bytes ≡ Some r → owner name (Some bytes) delta ≡ Err r
+unfolding owner
+owner-refused name bytes delta r e = rw (e, owner) refl
+
+ok_same : (a b : Base) (answer : Result Base Refusal) → answer ≡ Ok a → answer ≡ Ok b → a ≡ b
+ok_same a b answer e f = cc
+
+-- the image of a database whose difference file is there
+abbrev by_table : (bytes delta : List ℕ) → Result (List ℕ) ℕ → Result Base Refusal
+by_table bytes delta found = elim found [ Err page ↦ Err (BadDelta page) | Ok table ↦ Ok (diverted_base bytes delta table) ]
+
+diverted-image : (bytes delta table : List ℕ) → (diverted_base bytes delta table).image ≡ owned (size_of bytes) (image_in bytes) delta table
+unfolding diverted_base
+diverted-image bytes delta table = refl
+
+-- a database with this image has a difference file with some table
+record Diverts (bytes : List ℕ) (image : Image) : Type 0 where
+  delta : List ℕ
+  table : List ℕ
+  is : owned (size_of bytes) (image_in bytes) delta table ≡ image
+
+table-image : (bytes delta : List ℕ) (found : Result (List ℕ) ℕ) (base : Base) → by_table bytes delta found ≡ Ok base → Diverts bytes base.image
+table-image bytes delta (Err page) base e = absurd (err_ok e)
+  where
+    err_ok : Err (BadDelta page) ≡ Ok base → ⊥
+    err_ok h = cc
+table-image bytes delta (Ok table) base e = record { delta = delta; table = table; is = sym (diverted-image bytes delta table) ∙ ap (λ (b : Base). b.image) (ok_same (diverted_base bytes delta table) base (by_table bytes delta (Ok table)) refl e) }
+
+with-image : (name bytes : List ℕ) (delta : File) (base : Base) → owner_with name bytes delta ≡ Ok base → Diverts bytes base.image
+unfolding owner_with
+with-image name bytes None base e = absurd (err_ok e)
+  where
+    err_ok : Err (NoFile (delta_name name)) ≡ Ok base → ⊥
+    err_ok h = cc
+with-image name bytes (Some delta) base e = table-image bytes delta (table_of (size_of bytes) delta) base e
+
+in-image : (k : ℕ) (name bytes : List ℕ) (delta : File) (base : Base) → owner_in (suc k) name bytes delta ≡ Ok base → Diverts bytes base.image
+unfolding owner_in
+in-image k name bytes delta base = by (k == 2)
+  where
+    by : (t : Bool) → elim t as (λ z. Result Base Refusal) [ true ↦ Err Unfinished | false ↦ owner_with name bytes delta ] ≡ Ok base → Diverts bytes base.image
+    by true e = absurd (err_ok e)
+      where
+        err_ok : Err Unfinished ≡ Ok base → ⊥
+        err_ok h = cc
+    by false e = with-image name bytes delta base e
+
+-- a database whose image is in the normal state is that of a main file in the normal state
+pub main_of_owner : (name : List ℕ) (image : Image) (m d : File) → owner name m d ≡ Ok (base_of image) → image_state image ≡ 0 → HoldsMain image m
+main_of_owner name image None d e normal = absurd (err_ok (sym (owner-none name d) ∙ e))
+  where
+    err_ok : Err (NoFile name) ≡ Ok (base_of image) → ⊥
+    err_ok h = cc
+main_of_owner name image (Some bytes) d e normal = by_cause (not_database bytes) refl
+  where
+    by_state : not_database bytes ≡ None → (state : ℕ) → state_of bytes ≡ state → owner_in state name bytes d ≡ Ok (base_of image) → HoldsMain image (Some bytes)
+    by_state none zero is h = record { bytes = bytes; there = refl; formed = none; normal = is; is = ap (λ (b : Base). b.image) (ok_same (base_of (image_in bytes)) (base_of image) (owner_in 0 name bytes d) (owner_in-normal name bytes d) h) }
+    by_state none (suc k) is h =
+        let diverts : Diverts bytes image = in-image k name bytes d (base_of image) h in
+        absurd (other (sym is ∙ sym (owned-state bytes diverts.delta diverts.table none) ∙ ap image_state diverts.is ∙ normal))
+      where
+        other : suc k ≡ 0 → ⊥
+        other h = omega arith
+
+    by_cause : (cause : Cause) → not_database bytes ≡ cause → HoldsMain image (Some bytes)
+    by_cause (Some r) none = absurd (err_ok (sym (owner-refused name bytes d r none) ∙ e))
+      where
+        err_ok : Err r ≡ Ok (base_of image) → ⊥
+        err_ok h = cc
+    by_cause None none = by_state none (state_of bytes) refl (sym (owner-formed name bytes d none) ∙ e)

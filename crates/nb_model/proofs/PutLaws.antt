@@ -1,0 +1,174 @@
+-- A page write to a main file in the normal state: what the file holds then, and what a stop leaves of it.
+use Rattle.std.proofs.Common.{◌≡◌, ◌≢◌, ◌⊎◌, inl, inr, ⊎_elim, ℕ, zero, suc, ◌+◌, ◌-◌, ◌*◌, ◌<◌, ◌≤◌, List, [], ◌∷◌, ◌++◌, length, take, drop, replicate, refl, sym, ap, subst, ◌∙◌, arith, length-append, append_assoc, suc-mul, add-mul, mul-le-mul_right, le_of_mul-le-mul_right}
+use Rattle.std.specs.Prelude.{Bool, true, false, IsTrue, Some, nat_le}
+use Rattle.std.proofs.lemmas.Bool.Decides.{leb_tells}
+use Rattle.std.proofs.lemmas.List.{take-append-le, drop-append-le, take_all, drop_all, drop_at, length-take-le, length-drop, length-replicate, set_split, drop-drop, append-nil, take-append-drop}
+use Rattle.nb_fields.specs.Bytes.{is_zeros}
+use Rattle.nb_fields.specs.Header.{is_header, size_of, state_of}
+use Rattle.nb_fields.specs.Places.{is_page_size}
+use Rattle.nb_host.specs.Files.{File, bytes_of, padded, put_at, with_page as with_page_at}
+use Rattle.nb_host.specs.Crash.{PageLeft}
+use Rattle.nb_model.specs.Image.{Page, Image, page_at, first_page, image_size, image_state, with_page}
+use Rattle.nb_model.specs.Levels.{joined}
+use Rattle.nb_model.specs.Sound.{IsOfSize}
+use Rattle.nb_model.specs.Main.{HoldsMain}
+use Rattle.nb_model.proofs.HeaderLaws.{header-long, same-header, same-number}
+use Rattle.nb_model.proofs.ImageLaws.{AreZeros, IsTrimmed, joined-append, length-joined, take-joined, drop-joined, joined-zeros, zeros-are, trimmed-before, trimmed-drop, all-append, all-left, all-right, all-take, all-drop, all-replicate}
+use Rattle.nb_model.proofs.StrokeLaws.{with_page_same, with_page_other}
+use Rattle.nb_model.proofs.MainLaws.{IsLaid, laid_main, main_laid, main_state, laid-wide, some_page}
+
+-- the image with page p: what stands before it, the page, and what stands behind it
+with_page-split : (p : ℕ) (page : Page) (image : Image) → p ≤ length image → with_page p page image ≡ take p image ++ page ∷ drop (suc p) image
+unfolding with_page
+with_page-split p page image low = elim (leb_tells (suc p) (length image)) [
+  | inl w ↦ rw (w.0, with_page) (set_split image p page w.1)
+  | inr w ↦ rw (w.0, with_page) (ap (λ (x : Image). x ++ page ∷ []) (sym (take_all p image (omega (arith, w.1)))) ∙ ap (λ (x : Image). take p image ++ page ∷ x) (sym (drop_all (suc p) image (omega (arith, w.1)))))
+]
+
+-- a page put into pages that are joined
+pub put-joined : (size p : ℕ) (page : Page) (ps : List Page) → IsOfSize size ps → p ≤ length ps → length page ≡ size
+    → put_at (joined ps) (p * size) page ≡ joined (take p ps ++ page ∷ drop (suc p) ps)
+unfolding put_at padded
+put-joined size p page ps sizes low long =
+    let all : length (joined ps) ≡ length ps * size = length-joined size ps sizes in
+    let fits : p * size ≤ length ps * size = mul-le-mul_right size low in
+    let none : p * size - length (joined ps) ≡ 0 = omega (arith, fits, all) in
+    let front : take (p * size) (joined ps ++ replicate (p * size - length (joined ps)) 0) ≡ joined (take p ps) =
+    take-append-le (p * size) (joined ps) _ (omega (arith, fits, all)) ∙ take-joined size p ps sizes low in
+    let behind : drop (p * size + length page) (joined ps) ≡ joined (drop (suc p) ps) = past (leb_tells (suc p) (length ps)) in
+    ap (λ (x : List ℕ). x ++ (page ++ drop (p * size + length page) (joined ps))) front
+    ∙ ap (λ (x : List ℕ). joined (take p ps) ++ (page ++ x)) behind ∙ sym (joined-append (take p ps) (page ∷ drop (suc p) ps))
+  where
+    past : ((nat_le (suc p) (length ps) ≡ true) × (suc p ≤ length ps)) ⊎ ((nat_le (suc p) (length ps) ≡ false) × (length ps < suc p)) → drop (p * size + length page) (joined ps) ≡ joined (drop (suc p) ps)
+    past (inl w) = ap (λ x. drop x (joined ps)) (let e : p * size + length page ≡ suc p * size = omega (arith, long, suc-mul p size) in e) ∙ drop-joined size (suc p) ps sizes w.1
+    past (inr w) =
+        let all : length (joined ps) ≡ length ps * size = length-joined size ps sizes in
+        let same : length ps ≡ p = omega (arith, w.1, low) in
+        let short : length (joined ps) ≤ p * size + length page = omega (arith, all, ap (λ x. x * size) same) in
+        drop_all (p * size + length page) (joined ps) short ∙ ap joined (sym (drop_all (suc p) ps (omega (arith, w.1))))
+
+-- the next page, and the first one again: so a file is made
+pub put-next : (size : ℕ) (page : Page) (ps : List Page) → IsOfSize size ps → length page ≡ size → put_at (joined ps) (length ps * size) page ≡ joined (ps ++ page ∷ [])
+put-next size page ps sizes long =
+    put-joined size (length ps) page ps sizes (omega arith) long
+    ∙ ap (λ (x : List Page). joined (x ++ page ∷ drop (suc (length ps)) ps)) (take_all (length ps) ps (omega arith))
+    ∙ ap (λ (x : List Page). joined (ps ++ page ∷ x)) (drop_all (suc (length ps)) ps (omega arith))
+
+pub put-first : (size : ℕ) (old page : Page) (ps : List Page) → IsOfSize size (old ∷ ps) → length page ≡ size → put_at (joined (old ∷ ps)) 0 page ≡ joined (page ∷ ps)
+put-first size old page ps sizes long =
+    ap (λ x. put_at (joined (old ∷ ps)) x page) (let e : 0 ≡ 0 * size = omega arith in e) ∙ put-joined size 0 page (old ∷ ps) sizes (omega arith) long
+
+-- what stands behind the image then
+abbrev behind : (p : ℕ) (image : Image) (rest : List Page) → List Page
+behind p image rest = drop (suc p - length image) rest
+
+drop-behind : (p : ℕ) (image : Image) (rest : List Page) → p ≤ length image → drop (suc p) (image ++ rest) ≡ drop (suc p) image ++ behind p image rest
+drop-behind p image rest low = by (leb_tells (suc p) (length image))
+  where
+    by : ((nat_le (suc p) (length image) ≡ true) × (suc p ≤ length image)) ⊎ ((nat_le (suc p) (length image) ≡ false) × (length image < suc p)) → drop (suc p) (image ++ rest) ≡ drop (suc p) image ++ behind p image rest
+    by (inl w) = drop-append-le (suc p) image rest w.1 ∙ ap (λ x. drop (suc p) image ++ drop x rest) (let e : 0 ≡ suc p - length image = omega (arith, w.1) in e)
+    by (inr w) =
+        ap (λ x. drop x (image ++ rest)) (let e : suc p ≡ length image + (suc p - length image) = omega (arith, w.1) in e)
+        ∙ sym (drop-drop (suc p - length image) (length image) (image ++ rest)) ∙ ap (drop (suc p - length image)) (drop_at image rest (length image) refl)
+        ∙ ap (λ (x : Image). x ++ behind p image rest) (sym (drop_all (suc p) image (omega (arith, w.1))))
+
+-- what a page may be that is put there
+pub record MayPut (p : ℕ) (page : Page) (image : Image) : Type 0 where
+  pub low : p ≤ length image
+  pub below : p < 1048576
+  pub long : length page ≡ image_size image
+  pub other : is_zeros page ≡ false
+  pub front : p ≡ 0 → take 64 page ≡ take 64 (page_at image 0)
+
+-- page 0 keeps its first 64 bytes
+put-front : (p : ℕ) (page : Page) (image : Image) → MayPut p page image → take 64 (first_page (with_page p page image)) ≡ take 64 (first_page image)
+put-front zero page image may = ap (take 64) (with_page_same 0 page image may.low) ∙ may.front refl
+put-front (suc p) page image may = ap (take 64) (with_page_other (suc p) 0 page image may.low (λ e. none p e))
+  where
+    none : (p : ℕ) → 0 ≡ suc p → ⊥
+    none p e = omega arith
+
+laid_put : (p : ℕ) (page : Page) (image : Image) (bytes : List ℕ) → MayPut p page image → IsLaid image bytes → IsLaid (with_page p page image) (put_at bytes (p * image_size image) page)
+laid_put p page image bytes may laid =
+    let size : ℕ = image_size image in
+    let new : Image = take p image ++ page ∷ drop (suc p) image in
+    let pages : List Page = image ++ laid.rest in
+    let rest : List Page = behind p image laid.rest in
+    let new_is : with_page p page image ≡ new = with_page-split p page image may.low in
+    let below : p ≤ length pages = omega (arith, may.low, length-append image laid.rest) in
+    let pages_are : take p pages ++ page ∷ drop (suc p) pages ≡ with_page p page image ++ rest =
+    ap (λ (x : Image). x ++ page ∷ drop (suc p) pages) (take-append-le p image laid.rest may.low)
+    ∙ ap (λ (x : Image). take p image ++ page ∷ x) (drop-behind p image laid.rest may.low)
+    ∙ sym (append_assoc (take p image) (page ∷ drop (suc p) image) rest) ∙ ap (λ (x : Image). x ++ rest) (sym new_is) in
+    let front : take 64 (first_page (with_page p page image)) ≡ take 64 (first_page image) = put-front p page image may in
+    let same : image_size (with_page p page image) ≡ size = same-number _ (first_page image) front 24 4 (omega arith) in
+    let ofsize : IsOfSize size (take p pages ++ page ∷ drop (suc p) pages) =
+    all-append (λ x. length x ≡ size) (take p pages) (page ∷ drop (suc p) pages) (all-take (λ x. length x ≡ size) p pages laid.sizes) (may.long, all-drop (λ x. length x ≡ size) (suc p) pages laid.sizes) in
+    let count : length (take p pages ++ page ∷ drop (suc p) pages) ≡ p + suc (length pages - suc p) =
+    omega (arith, length-append (take p pages) (page ∷ drop (suc p) pages), length-take-le p pages below, length-drop (suc p) pages) in
+    record {
+      rest = rest;
+      is = ap (λ (x : List ℕ). put_at x (p * size) page) laid.is ∙ put-joined size p page pages laid.sizes below may.long ∙ ap joined pages_are;
+      size = subst (λ x. IsTrue (is_page_size x)) (sym same) laid.size;
+      sizes = subst (λ (x : List Page). IsOfSize (image_size (with_page p page image)) x) pages_are (subst (λ x. IsOfSize x (take p pages ++ page ∷ drop (suc p) pages)) (sym same) ofsize);
+      zeros = all-drop (λ x. is_zeros x ≡ true) (suc p - length image) laid.rest laid.zeros;
+      whole = subst (λ (x : Image). IsTrimmed x) (sym new_is) (trimmed-before (take p image) page (drop (suc p) image) may.other (trimmed-drop (suc p) image laid.whole));
+      header = same-header _ (first_page image) front ∙ laid.header;
+      least = omega (arith, count, ap length pages_are, laid.least);
+      most = omega (arith, count, ap length pages_are, laid.most, may.below);
+    }
+
+-- the file with a page at its place holds the image with that page
+pub main_put : (p : ℕ) (page : Page) (image : Image) (m : File) → MayPut p page image → HoldsMain image m → HoldsMain (with_page p page image) (with_page_at m (p * image_size image) page)
+main_put p page image m may h =
+    let front : take 64 (first_page (with_page p page image)) ≡ take 64 (first_page image) = put-front p page image may in
+    subst (λ (x : File). HoldsMain (with_page p page image) (with_page_at x (p * image_size image) page)) (sym h.there)
+    (main_laid (with_page p page image) (put_at h.bytes (p * image_size image) page) (laid_put p page image h.bytes may (laid_main image m h))
+    (same-number _ (first_page image) front 22 2 (omega arith) ∙ main_state image m h))
+
+-- the file with zeros behind
+abbrev pub with_zeros : File → ℕ → File
+with_zeros file n = Some (bytes_of file ++ replicate n 0)
+
+laid_grown : (k : ℕ) (image : Image) (bytes : List ℕ) (laid : IsLaid image bytes) → length (image ++ laid.rest) + k ≤ 1048576 → IsLaid image (bytes ++ replicate (k * image_size image) 0)
+laid_grown k image bytes laid most =
+    let size : ℕ = image_size image in
+    let zeros : List Page = replicate k (replicate {A = ℕ} size 0) in
+    let pages_are : (image ++ laid.rest) ++ zeros ≡ image ++ (laid.rest ++ zeros) = append_assoc image laid.rest zeros in
+    let count : length ((image ++ laid.rest) ++ zeros) ≡ length (image ++ laid.rest) + k = omega (arith, length-append (image ++ laid.rest) zeros, length-replicate k (replicate {A = ℕ} size 0)) in
+    record {
+      rest = laid.rest ++ zeros;
+      is = ap (λ (x : List ℕ). x ++ replicate {A = ℕ} (k * size) 0) laid.is ∙ ap (λ (x : List ℕ). joined (image ++ laid.rest) ++ x) (joined-zeros k size) ∙ sym (joined-append (image ++ laid.rest) zeros) ∙ ap joined pages_are;
+      size = laid.size;
+      sizes = subst (λ (x : List Page). IsOfSize size x) pages_are (all-append (λ x. length x ≡ size) (image ++ laid.rest) zeros laid.sizes (all-replicate (λ x. length x ≡ size) k (replicate {A = ℕ} size 0) (length-replicate {A = ℕ} size 0)));
+      zeros = all-append (λ x. is_zeros x ≡ true) laid.rest zeros laid.zeros (all-replicate (λ x. is_zeros x ≡ true) k (replicate {A = ℕ} size 0) (zeros-are size));
+      whole = laid.whole;
+      header = laid.header;
+      least = omega (arith, count, ap length pages_are, laid.least);
+      most = omega (arith, count, ap length pages_are, most);
+    }
+
+-- a file that grew by pages of zeros holds the same image
+pub main_grown : (k : ℕ) (image : Image) (m : File) → HoldsMain image m → length (bytes_of m) + k * image_size image ≤ 1048576 * image_size image → HoldsMain image (with_zeros m (k * image_size image))
+main_grown k image m h fits =
+    let laid : IsLaid image h.bytes = laid_main image m h in
+    let size : ℕ = image_size image in
+    let wide : 1024 ≤ size = laid-wide image h.bytes laid in
+    let pages : List Page = image ++ laid.rest in
+    let long : length h.bytes ≡ length pages * size = ap length laid.is ∙ length-joined size pages laid.sizes in
+    let all : (length pages + k) * size ≤ 1048576 * size = omega (arith, fits, long, ap (λ (x : File). length (bytes_of x)) h.there, add-mul (length pages) k size) in
+    let most : length pages + k ≤ 1048576 = le_of_mul-le-mul_right {k = size} all (omega arith) in
+    subst (λ (x : File). HoldsMain image (with_zeros x (k * size))) (sym h.there) (main_laid image (h.bytes ++ replicate (k * size) 0) (laid_grown k image h.bytes laid most) (main_state image m h))
+
+-- what a stop leaves of a page write: the image as it was, or with the page
+pub main_left : (p : ℕ) (page : Page) (image : Image) (b c : File) → MayPut p page image → HoldsMain image b → PageLeft (p * length page) page b c → HoldsMain image c ⊎ HoldsMain (with_page p page image) c
+main_left p page image b c may h (inl same) = inl (subst (λ (x : File). HoldsMain image x) (sym same) h)
+main_left p page image b c may h (inr (inl put)) =
+    let place : p * image_size image ≡ p * length page = ap (λ x. p * x) (sym may.long) in
+    inr (subst (λ (x : File). HoldsMain (with_page p page image) x) (ap (λ x. with_page_at b x page) place ∙ sym put) (main_put p page image b may h))
+main_left p page image b c may h (inr (inr (k, fits, grown))) =
+    let size : ℕ = image_size image in
+    let same : k * length page ≡ k * size = ap (λ x. k * x) may.long in
+    let place : p * length page ≡ p * size = ap (λ x. p * x) may.long in
+    let all : (p + 1) * size ≤ 1048576 * size = mul-le-mul_right size (omega (arith, may.below)) in
+    inl (subst (λ (x : File). HoldsMain image x) (ap (λ x. with_zeros b x) (sym same) ∙ sym grown) (main_grown k image b h (omega (arith, fits, same, place, all, suc-mul p size, may.long))))
