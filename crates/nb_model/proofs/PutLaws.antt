@@ -46,7 +46,13 @@ put-joined size p page ps sizes low long =
         let short : length (joined ps) ≤ p * size + length page = omega (arith, all, ap (λ x. x * size) same) in
         drop_all (p * size + length page) (joined ps) short ∙ ap joined (sym (drop_all (suc p) ps (omega (arith, w.1))))
 
--- the next page, and the first one again: so a file is made
+-- So a file is made: page 1 first, then the next pages, and page 0 over the zeros in its place.
+pub put-second : (size : ℕ) (page : Page) → put_at [] size page ≡ joined (replicate size 0 ∷ page ∷ [])
+unfolding put_at padded
+put-second size page =
+    ap (λ (x : List ℕ). x ++ (page ++ drop (size + length page) [])) (ap (λ n. take size (replicate {A = ℕ} n 0)) (let e : size - 0 ≡ size = omega arith in e) ∙ take_all size (replicate size 0) (omega (arith, length-replicate {A = ℕ} size 0)))
+    ∙ ap (λ (x : List ℕ). replicate size 0 ++ (page ++ x)) (drop_all (size + length page) [] (omega arith))
+
 pub put-next : (size : ℕ) (page : Page) (ps : List Page) → IsOfSize size ps → length page ≡ size → put_at (joined ps) (length ps * size) page ≡ joined (ps ++ page ∷ [])
 put-next size page ps sizes long =
     put-joined size (length ps) page ps sizes (omega arith) long
