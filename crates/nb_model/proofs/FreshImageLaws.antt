@@ -1,9 +1,8 @@
 -- A new database: its image, and the file that holds it.
-use Rattle.std.proofs.Common.{◌≡◌, ℕ, zero, suc, ◌+◌, ◌-◌, ◌*◌, ◌/◌, ◌<◌, ◌≤◌, List, [], ◌∷◌, ◌++◌, length, take, drop, map, replicate, refl, sym, ap, subst, ◌∙◌, arith, length-append, append-nil}
+use Rattle.std.proofs.Common.{◌≡◌, ℕ, zero, suc, ◌+◌, ◌-◌, ◌*◌, ◌/◌, ◌<◌, ◌≤◌, List, [], ◌∷◌, ◌++◌, length, drop, map, refl, sym, ap, subst, ◌∙◌, arith, append-nil}
 use Rattle.std.specs.Prelude.{Bool, true, false, IsTrue, not, ◌&&◌, ◌||◌, ◌==◌, nat_le, nat_lt, Some, if◌then◌else◌}
 use Rattle.std.specs.List.{AllByRecursion, flat_map, range_with_len}
 use Rattle.std.proofs.lemmas.Bool.{cond_both}
-use Rattle.std.proofs.lemmas.List.{length-replicate}
 use Rattle.std.proofs.lemmas.List.FromFn.{length-map-range_with_len, get_or-map-range_with_len}
 use Rattle.nb_fields.specs.declared.kinds.PageKind.{PageKind}
 use Rattle.nb_fields.specs.declared.kinds.PageKind.TheVariants.{Header, Inventory, Data, Raw, ScnInventory}
@@ -11,10 +10,10 @@ use Rattle.nb_fields.specs.Bytes.{bytes_of, number_of, number_in, padded, is_zer
 use Rattle.nb_fields.specs.Kinds.{code_of}
 use Rattle.nb_fields.specs.Places.{is_page_size, is_system_place, entries_in, bits_in}
 use Rattle.nb_fields.specs.Page.{head_of, page_of}
-use Rattle.nb_fields.specs.Payloads.{control_block, header_payload, inventory_payload, same_entries, scn_payload, data_payload, text_payload, taken_bits}
+use Rattle.nb_fields.specs.Payloads.{control_block, header_payload, inventory_payload, same_entries, scn_payload, data_payload, text_payload}
 use Rattle.nb_fields.specs.Header.{is_header, is_marked, is_sound, state_of, size_of, scn_of}
 use Rattle.nb_fields.specs.Fresh.{next_plain, length_after, fresh_count, fresh_kind, fresh_payload, fresh_page, fresh}
-use Rattle.nb_fields.proofs.NumberLemmas.{number_of-bytes_of, length-bytes_of}
+use Rattle.nb_fields.proofs.NumberLemmas.{number_of-bytes_of}
 use Rattle.nb_fields.proofs.SizeLemmas.{SizeFacts, size_facts}
 use Rattle.nb_fields.proofs.HeaderLemmas.{is_header-long}
 use Rattle.nb_fields.proofs.PageLemmas.{length-page_of}

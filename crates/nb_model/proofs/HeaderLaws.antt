@@ -1,5 +1,5 @@
 -- What the form of a header says of the bytes, and that the first 64 bytes decide it.
-use Rattle.std.proofs.Common.{◌≡◌, inl, inr, ℕ, suc, ◌+◌, ◌≤◌, List, [], ◌∷◌, ◌++◌, length, take, refl, sym, ap, ◌∙◌, arith}
+use Rattle.std.proofs.Common.{◌≡◌, inl, inr, ℕ, suc, ◌+◌, ◌≤◌, List, [], ◌∷◌, length, take, refl, sym, ap, ◌∙◌, arith}
 use Rattle.std.specs.Prelude.{Bool, true, false, IsTrue, ◌&&◌, ◌==◌}
 use Rattle.std.proofs.lemmas.Bool.{and_parts}
 use Rattle.std.proofs.lemmas.Bool.Decides.{leb_tells, eqb_tells}
@@ -17,7 +17,8 @@ not_marked : (p : Page) → (number_in 0 1 p == 1) ≡ false → is_marked p ≡
 unfolding is_marked
 not_marked p e = rw e refl
 
-first_byte : (b : ℕ) (bs : List ℕ) → number_in 0 1 (b ∷ bs) ≡ b
+-- the first byte of a page
+pub first_byte : (b : ℕ) (bs : List ℕ) → number_in 0 1 (b ∷ bs) ≡ b
 unfolding number_in number_of
 first_byte b bs = omega arith
 

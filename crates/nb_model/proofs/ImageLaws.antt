@@ -1,7 +1,8 @@
 -- Lists of pages: their bytes joined and cut again, and the pages of zeros at their end.
-use Rattle.std.proofs.Common.{◌≡◌, inl, inr, ℕ, zero, suc, ◌+◌, ◌*◌, ◌<◌, ◌≤◌, List, [], ◌∷◌, ◌++◌, length, get_or, take, drop, replicate, refl, sym, ap, subst, ◌∙◌, arith, ◌⊎◌, length-append, append_assoc, suc-mul}
+use Rattle.std.proofs.Common.{◌≡◌, inl, inr, ℕ, zero, suc, ◌+◌, ◌*◌, ◌<◌, ◌≤◌, List, [], ◌∷◌, ◌++◌, length, take, drop, replicate, refl, sym, ap, ◌∙◌, arith, length-append, append_assoc, suc-mul}
 use Rattle.std.specs.Prelude.{Bool, true, false}
 use Rattle.std.specs.List.{AllByRecursion, flat_map}
+use Rattle.std.proofs.lemmas.Bool.{cases_Bool}
 use Rattle.std.proofs.lemmas.Bool.Decides.{leb_tells}
 use Rattle.std.proofs.lemmas.List.{take_at, drop_at, length-drop, length-take-le, take-append-drop, replicate-append-replicate}
 use Rattle.nb_fields.specs.Bytes.{is_zeros}
@@ -25,10 +26,6 @@ module _ (P : Page → Type 0) where
   pub all-left : (xs ys : List Page) → AllByRecursion P (xs ++ ys) → AllByRecursion P xs
   all-left [] ys h = tt
   all-left (x ∷ xs) ys h = (h.0, all-left xs ys h.1)
-
-  pub all-right : (xs ys : List Page) → AllByRecursion P (xs ++ ys) → AllByRecursion P ys
-  all-right [] ys h = h
-  all-right (x ∷ xs) ys h = all-right xs ys h.1
 
   pub all-take : (n : ℕ) (xs : List Page) → AllByRecursion P xs → AllByRecursion P (take n xs)
   all-take zero xs h = tt
@@ -193,7 +190,7 @@ trimmed-tail : (p : Page) (ps : Image) → IsTrimmed (p ∷ ps) → IsTrimmed ps
 trimmed-tail p ps h = by (trimmed ps) (sym (trimmed-cons p ps) ∙ h)
   where
     by : (qs : Image) → kept p qs ≡ p ∷ ps → qs ≡ ps
-    by [] e = elim (true_or_false (is_zeros p)) [
+    by [] e = elim (cases_Bool (is_zeros p)) [
       | inl w ↦ absurd (none_some (sym (kept-zero p w) ∙ e))
       | inr w ↦ ap tail (sym (kept-other p [] w) ∙ e)
     ]
@@ -204,10 +201,6 @@ trimmed-tail p ps h = by (trimmed ps) (sym (trimmed-cons p ps) ∙ h)
         tail : Image → Image
         tail [] = []
         tail (x ∷ xs) = xs
-
-        true_or_false : (t : Bool) → (t ≡ true) ⊎ (t ≡ false)
-        true_or_false true = inl refl
-        true_or_false false = inr refl
     by (q ∷ qs) e = cc
 
 pub trimmed-drop : (n : ℕ) (ps : Image) → IsTrimmed ps → IsTrimmed (drop n ps)
@@ -230,15 +223,11 @@ trimming (p ∷ ps) = by (trimmed ps) refl (trimming ps)
     found image rest e is zeros whole = record { rest = rest; is = is ∙ ap (λ (x : Image). x ++ rest) (sym e); zeros = zeros; whole = ap trimmed e ∙ whole ∙ sym e }
 
     by : (qs : Image) → trimmed ps ≡ qs → Trimming ps → Trimming (p ∷ ps)
-    by [] e t = elim (true_or_false (is_zeros p)) [
+    by [] e t = elim (cases_Bool (is_zeros p)) [
       | inl w ↦ found [] (p ∷ t.rest) (trimmed-cons p ps ∙ ap (kept p) e ∙ kept-zero p w) (ap (λ (x : List Page). p ∷ x) (t.is ∙ ap (λ (x : Image). x ++ t.rest) e)) (w, t.zeros) trimmed-none
       | inr w ↦ found (p ∷ []) t.rest (trimmed-cons p ps ∙ ap (kept p) e ∙ kept-other p [] w) (ap (λ (x : List Page). p ∷ x) (t.is ∙ ap (λ (x : Image). x ++ t.rest) e)) t.zeros
           (trimmed-before [] p [] w trimmed-none)
     ]
-      where
-        true_or_false : (t : Bool) → (t ≡ true) ⊎ (t ≡ false)
-        true_or_false true = inl refl
-        true_or_false false = inr refl
     by (q ∷ qs) e t =
         let whole : IsTrimmed (q ∷ qs) = ap trimmed (sym e) ∙ t.whole ∙ e in
         found (p ∷ q ∷ qs) t.rest (trimmed-cons p ps ∙ ap (kept p) e) (ap (λ (x : List Page). p ∷ x) (t.is ∙ ap (λ (x : Image). x ++ t.rest) e)) t.zeros

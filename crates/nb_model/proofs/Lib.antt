@@ -15,6 +15,7 @@ pub mod WholeLaws
 pub mod AfterLaws
 pub mod HeaderLaws
 pub mod ImageLaws
+pub mod FormLaws
 pub mod MainLaws
 pub mod PutLaws
 pub mod FreshImageLaws

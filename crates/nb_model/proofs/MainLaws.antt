@@ -1,116 +1,26 @@
 -- A main file in the normal state: the database of it, and where its pages stand.
-use Rattle.std.proofs.Common.{◌≡◌, inl, inr, ℕ, zero, suc, ◌+◌, ◌*◌, ◌/◌, ◌%◌, ◌<◌, ◌≤◌, List, [], ◌∷◌, ◌++◌, length, take, drop, refl, sym, ap, subst, ◌∙◌, arith, length-append, length-take-le, take-take, mul-le-mul_right, mul-le-mul_left, div-add-mod', mul-div_cancel, suc-mul}
-use Rattle.std.specs.Prelude.{Bool, true, false, IsTrue, not, ◌||◌, ◌==◌, nat_lt, Option, Some, None, Result, Ok, Err, min, max}
-use Rattle.std.proofs.lemmas.Bool.{or_parts, or_from}
-use Rattle.std.proofs.lemmas.Bool.Decides.{leb_tells, eqb_tells}
+use Rattle.std.proofs.Common.{◌≡◌, inl, inr, ℕ, zero, suc, ◌+◌, ◌*◌, ◌<◌, ◌≤◌, List, [], ◌∷◌, ◌++◌, length, take, drop, refl, sym, ap, subst, ◌∙◌, arith, length-append, length-take-le, take-take, mul-le-mul_right, mul-le-mul_left, suc-mul}
+use Rattle.std.specs.Prelude.{Bool, true, false, IsTrue, ◌==◌, Option, Some, None, Result, Ok, Err, max}
+use Rattle.std.proofs.lemmas.Bool.Decides.{leb_tells}
 use Rattle.std.proofs.lemmas.List.{take-append-le, take_at, get_or_append_left}
-use Rattle.std.proofs.Math.Nat.{mul-mod_left}
-use Rattle.nb_fields.specs.Bytes.{is_zeros, number_in}
+use Rattle.nb_fields.specs.Bytes.{is_zeros}
 use Rattle.nb_fields.specs.Header.{is_header, state_of, size_of}
 use Rattle.nb_fields.specs.Places.{is_page_size}
 use Rattle.nb_fields.specs.Table.{table_of}
 use Rattle.nb_fields.proofs.SizeLemmas.{size_facts}
 use Rattle.nb_host.specs.Files.{File}
 use Rattle.nb_host.specs.declared.refusals.Refusal.{Refusal}
-use Rattle.nb_host.specs.declared.refusals.Refusal.TheVariants.{NoFile, NotDatabase, BadDelta, Unfinished}
+use Rattle.nb_host.specs.declared.refusals.Refusal.TheVariants.{NoFile, BadDelta, Unfinished}
 use Rattle.nb_model.specs.Image.{Page, Image, page_at, first_page, image_size, image_state, image_in, cut, trimmed}
-use Rattle.nb_model.specs.Causes.{Cause, first_cause, when, not_database}
+use Rattle.nb_model.specs.Causes.{Cause, not_database}
 use Rattle.nb_model.specs.Levels.{joined}
 use Rattle.nb_model.specs.Sound.{IsOfSize}
 use Rattle.nb_model.specs.Account.{Base, base_of}
 use Rattle.nb_model.specs.Owner.{delta_name, entry_for, behind_entries, slot_page, main_page, owned_page, owned_from, owned, diverted_base, owner_with, owner_in, owner}
 use Rattle.nb_model.specs.Main.{HoldsMain}
-use Rattle.nb_model.proofs.ReadLaws.{lt_no}
-use Rattle.nb_model.proofs.HeaderLaws.{header-long, header-size, header-other, same-header, same-number}
+use Rattle.nb_model.proofs.FormLaws.{Formed, formed, no_cause}
+use Rattle.nb_model.proofs.HeaderLaws.{header-long, header-other, same-header, same-number}
 use Rattle.nb_model.proofs.ImageLaws.{AreZeros, IsTrimmed, Pages, pages_of, cut-joined, page-joined, length-joined, trimming, trimmed-other, trimmed-append_zeros, all-at, all-left}
-
--- what the form of a database says of a file's bytes
-record Formed (bytes : List ℕ) : Type 0 where
-  header : is_header bytes ≡ true
-  size : IsTrue (is_page_size (size_of bytes))
-  count : ℕ
-  whole : length bytes ≡ count * size_of bytes
-  least : 5 ≤ count
-  most : count ≤ 1048576
-
--- two tests that don't apply
-abbrev two_tests : (a b : Bool) (r q : Refusal) → Cause
-two_tests a b r q = first_cause (when a r ∷ when b q ∷ [])
-
-two_tests-none : (a b : Bool) (r q : Refusal) → two_tests a b r q ≡ None → (a ≡ false) × (b ≡ false)
-unfolding first_cause
-two_tests-none false false r q h = (refl, refl)
-two_tests-none false true r q h = absurd (some_none h)
-  where
-    some_none : Some q ≡ None → ⊥
-    some_none k = cc
-two_tests-none true b r q h = absurd (some_none h)
-  where
-    some_none : Some r ≡ None → ⊥
-    some_none k = cc
-
-two_tests-from : (a b : Bool) (r q : Refusal) → a ≡ false → b ≡ false → two_tests a b r q ≡ None
-unfolding first_cause
-two_tests-from a b r q e f = rw (e, first_cause) (rw (f, first_cause) refl)
-
--- the tests of the length
-abbrev length_cause : List ℕ → Cause
-length_cause bytes =
-    two_tests (not (length bytes % size_of bytes == 0) || nat_lt (length bytes / size_of bytes) 5) (nat_lt 1048576 (length bytes / size_of bytes))
-    (NotDatabase (min (length bytes / size_of bytes) 1048576)) (NotDatabase 1048576)
-
-not_database-is : (bytes : List ℕ) → not_database bytes ≡ elim (is_header bytes) as (λ z. Cause) [ false ↦ Some (NotDatabase 0) | true ↦ length_cause bytes ]
-unfolding not_database
-not_database-is bytes = by (is_header bytes)
-  where
-    by : (t : Bool) → elim t as (λ z. Cause) [ false ↦ Some (NotDatabase 0) | true ↦ length_cause bytes ] ≡ elim t as (λ z. Cause) [ false ↦ Some (NotDatabase 0) | true ↦ length_cause bytes ]
-    by t = refl
-
--- what the tests of the length say
-true_false : true ≡ false → ⊥
-true_false h = cc
-
-at_most : (m n : ℕ) → nat_lt n m ≡ false → m ≤ n
-at_most m n h = elim (leb_tells (suc n) m) [ inl w ↦ absurd (true_false (sym w.0 ∙ h)) | inr w ↦ omega (arith, w.1) ]
-
-whole_pages : (left count : ℕ) → (not (left == 0) || nat_lt count 5) ≡ false → (left ≡ 0) × (5 ≤ count)
-whole_pages left count h = (elim (eqb_tells left 0) [ inl w ↦ w.1 | inr w ↦ absurd (true_false (sym (ap not w.0) ∙ (or_parts (not (left == 0)) (nat_lt count 5) h).0)) ], least (or_parts (not (left == 0)) (nat_lt count 5) h).1)
-  where
-    least : nat_lt count 5 ≡ false → 5 ≤ count
-    least e = elim (leb_tells (suc count) 5) [ inl w ↦ absurd (true_false (sym w.0 ∙ e)) | inr w ↦ omega (arith, w.1) ]
-
-formed : (bytes : List ℕ) → not_database bytes ≡ None → Formed bytes
-formed bytes none = by (is_header bytes) refl (sym (not_database-is bytes) ∙ none)
-  where
-    some_none : (r : Refusal) → Some r ≡ None → ⊥
-    some_none r k = cc
-
-    by : (t : Bool) → is_header bytes ≡ t → elim t as (λ z. Cause) [ false ↦ Some (NotDatabase 0) | true ↦ length_cause bytes ] ≡ None → Formed bytes
-    by false e h = absurd (some_none (NotDatabase 0) h)
-    by true e h =
-        let count : ℕ = length bytes / size_of bytes in
-        let left : ℕ = length bytes % size_of bytes in
-        let tests : ((not (left == 0) || nat_lt count 5) ≡ false) × (nat_lt 1048576 count ≡ false) =
-        two_tests-none (not (left == 0) || nat_lt count 5) (nat_lt 1048576 count) (NotDatabase (min count 1048576)) (NotDatabase 1048576) h in
-        let parts : (left ≡ 0) × (5 ≤ count) = whole_pages left count tests.0 in
-        record {
-          header = e;
-          size = header-size bytes e;
-          count = count;
-          whole = omega (arith, div-add-mod' (length bytes) (size_of bytes), parts.0);
-          least = parts.1;
-          most = at_most count 1048576 tests.1;
-        }
-
--- and back
-no_cause : (bytes : List ℕ) (size count : ℕ) → is_header bytes ≡ true → size_of bytes ≡ size → 0 < size → length bytes ≡ count * size → 5 ≤ count → count ≤ 1048576 → not_database bytes ≡ None
-no_cause bytes size count header same some whole least most =
-    let left : length bytes % size_of bytes ≡ 0 = ap (λ x. length bytes % x) same ∙ ap (λ x. x % size) whole ∙ mul-mod_left count size in
-    let pages : length bytes / size_of bytes ≡ count = ap (λ x. length bytes / x) same ∙ ap (λ x. x / size) whole ∙ mul-div_cancel count some in
-    not_database-is bytes
-    ∙ ap (λ (t : Bool). elim t as (λ z. Cause) [ false ↦ Some (NotDatabase 0) | true ↦ length_cause bytes ]) header
-    ∙ two_tests-from _ _ (NotDatabase (min (length bytes / size_of bytes) 1048576)) (NotDatabase 1048576)
-    (or_from _ _ (ap (λ x. not (x == 0)) left) (ap (λ x. nat_lt x 5) pages ∙ lt_no count 5 least)) (ap (λ x. nat_lt 1048576 x) pages ∙ lt_no 1048576 count most)
 
 -- A file is an image and pages of zeros behind it. The image has a header, and its last page isn't zeros.
 pub record IsLaid (image : Image) (bytes : List ℕ) : Type 0 where
@@ -210,6 +120,13 @@ pub main_state : (image : Image) (file : File) → HoldsMain image file → imag
 main_state image file h =
     let front : take 64 h.bytes ≡ take 64 (first_page image) = laid-front image h.bytes (laid_main image file h) in
     sym (same-number h.bytes (first_page image) front 22 2 (omega arith)) ∙ h.normal
+
+-- a file holds one image
+pub main_same : (i j : Image) (file : File) → HoldsMain i file → HoldsMain j file → i ≡ j
+main_same i j file h k = sym h.is ∙ ap image_in (one_file (sym h.there ∙ k.there)) ∙ k.is
+  where
+    one_file : {a b : List ℕ} → Some a ≡ Some b → a ≡ b
+    one_file e = cc
 
 -- What a main file's image and its bytes have in common. The file has at least the pages of the image.
 pub record MainFacts (image : Image) (bytes : List ℕ) : Type 0 where

@@ -1,21 +1,20 @@
 -- A page write to a main file in the normal state: what the file holds then, and what a stop leaves of it.
-use Rattle.std.proofs.Common.{◌≡◌, ◌≢◌, ◌⊎◌, inl, inr, ⊎_elim, ℕ, zero, suc, ◌+◌, ◌-◌, ◌*◌, ◌<◌, ◌≤◌, List, [], ◌∷◌, ◌++◌, length, take, drop, replicate, refl, sym, ap, subst, ◌∙◌, arith, length-append, append_assoc, suc-mul, add-mul, mul-le-mul_right, le_of_mul-le-mul_right}
-use Rattle.std.specs.Prelude.{Bool, true, false, IsTrue, Some, nat_le}
+use Rattle.std.proofs.Common.{◌≡◌, ◌⊎◌, inl, inr, ℕ, zero, suc, ◌+◌, ◌-◌, ◌*◌, ◌<◌, ◌≤◌, List, [], ◌∷◌, ◌++◌, length, take, drop, replicate, refl, sym, ap, subst, ◌∙◌, arith, length-append, append_assoc, suc-mul, add-mul, mul-le-mul_right, le_of_mul-le-mul_right}
+use Rattle.std.specs.Prelude.{true, false, IsTrue, Some, nat_le}
 use Rattle.std.proofs.lemmas.Bool.Decides.{leb_tells}
-use Rattle.std.proofs.lemmas.List.{take-append-le, drop-append-le, take_all, drop_all, drop_at, length-take-le, length-drop, length-replicate, set_split, drop-drop, append-nil, take-append-drop}
+use Rattle.std.proofs.lemmas.List.{take-append-le, drop-append-le, take_all, drop_all, drop_at, length-take-le, length-drop, length-replicate, set_split, drop-drop}
 use Rattle.nb_fields.specs.Bytes.{is_zeros}
-use Rattle.nb_fields.specs.Header.{is_header, size_of, state_of}
 use Rattle.nb_fields.specs.Places.{is_page_size}
 use Rattle.nb_host.specs.Files.{File, bytes_of, padded, put_at, with_page as with_page_at}
 use Rattle.nb_host.specs.Crash.{PageLeft}
-use Rattle.nb_model.specs.Image.{Page, Image, page_at, first_page, image_size, image_state, with_page}
+use Rattle.nb_model.specs.Image.{Page, Image, page_at, first_page, image_size, with_page}
 use Rattle.nb_model.specs.Levels.{joined}
 use Rattle.nb_model.specs.Sound.{IsOfSize}
 use Rattle.nb_model.specs.Main.{HoldsMain}
-use Rattle.nb_model.proofs.HeaderLaws.{header-long, same-header, same-number}
-use Rattle.nb_model.proofs.ImageLaws.{AreZeros, IsTrimmed, joined-append, length-joined, take-joined, drop-joined, joined-zeros, zeros-are, trimmed-before, trimmed-drop, all-append, all-left, all-right, all-take, all-drop, all-replicate}
+use Rattle.nb_model.proofs.HeaderLaws.{same-header, same-number}
+use Rattle.nb_model.proofs.ImageLaws.{IsTrimmed, joined-append, length-joined, take-joined, drop-joined, joined-zeros, zeros-are, trimmed-before, trimmed-drop, all-append, all-take, all-drop, all-replicate}
 use Rattle.nb_model.proofs.StrokeLaws.{with_page_same, with_page_other}
-use Rattle.nb_model.proofs.MainLaws.{IsLaid, laid_main, main_laid, main_state, laid-wide, some_page}
+use Rattle.nb_model.proofs.MainLaws.{IsLaid, laid_main, main_laid, main_state, laid-wide}
 
 -- the image with page p: what stands before it, the page, and what stands behind it
 with_page-split : (p : ℕ) (page : Page) (image : Image) → p ≤ length image → with_page p page image ≡ take p image ++ page ∷ drop (suc p) image
@@ -47,7 +46,13 @@ put-joined size p page ps sizes low long =
         let short : length (joined ps) ≤ p * size + length page = omega (arith, all, ap (λ x. x * size) same) in
         drop_all (p * size + length page) (joined ps) short ∙ ap joined (sym (drop_all (suc p) ps (omega (arith, w.1))))
 
--- the next page, and the first one again: so a file is made
+-- So a file is made: page 1 first, then the next pages, and page 0 over the zeros in its place.
+pub put-second : (size : ℕ) (page : Page) → put_at [] size page ≡ joined (replicate size 0 ∷ page ∷ [])
+unfolding put_at padded
+put-second size page =
+    ap (λ (x : List ℕ). x ++ (page ++ drop (size + length page) [])) (ap (λ n. take size (replicate {A = ℕ} n 0)) (let e : size - 0 ≡ size = omega arith in e) ∙ take_all size (replicate size 0) (omega (arith, length-replicate {A = ℕ} size 0)))
+    ∙ ap (λ (x : List ℕ). replicate size 0 ++ (page ++ x)) (drop_all (size + length page) [] (omega arith))
+
 pub put-next : (size : ℕ) (page : Page) (ps : List Page) → IsOfSize size ps → length page ≡ size → put_at (joined ps) (length ps * size) page ≡ joined (ps ++ page ∷ [])
 put-next size page ps sizes long =
     put-joined size (length ps) page ps sizes (omega arith) long

@@ -9,6 +9,7 @@ use Rattle.nb_fields.specs.Bytes.{number_of, bytes_of, part, number_in}
 use Rattle.nb_fields.proofs.NumberLemmas.{number_of-bytes_of}
 use Rattle.nb_model.specs.Image.{Page, Numbered}
 use Rattle.nb_model.specs.Levels.{Head, Test, first_fault, ends_before, behind, read_end, read_singles, read_runs, pages_in, barred_after, is_bad_number, is_first_page, end_mark, end_bytes, joined, numbered_from}
+use Rattle.nb_model.proofs.ImageLaws.{length-joined}
 
 -- no test fails
 abbrev pub AreClear : List Test → Type 0
@@ -168,14 +169,6 @@ single_read left h at count least n page more rs size begins low small first lat
     ∙ ap (λ (x : List ℕ). behind ((n, page) ∷ []) (read_singles left h (at + 4 + h.size) (count + 1) (n + 1) x)) past
     ∙ ap (behind ((n, page) ∷ [])) later
 
--- so many pages have so many bytes
-joined_length : (size : ℕ) (ps : List Page) → AllByRecursion (λ p. length p ≡ size) ps → length (joined ps) ≡ length ps * size
-joined_length size [] h = omega arith
-joined_length size (p ∷ ps) h =
-    let rest = joined_length size ps h.1 in
-    let here = h.0 in
-    omega (arith, length-append p (joined ps), suc-mul (length ps) size)
-
 joined_read : (size n : ℕ) (ps : List Page) (more : List ℕ) → AllByRecursion (λ p. length p ≡ size) ps → pages_in size (length ps) n (joined ps ++ more) ≡ numbered_from n ps
 unfolding pages_in numbered_from
 joined_read size n [] more h = refl
@@ -222,7 +215,7 @@ run_read left h at count least barred first ps more rs run later =
     let m : ℕ = length ps in
     let rest : List ℕ = bytes_of 4 first ++ (bytes_of 4 m ++ (joined ps ++ more)) in
     let front : drop 8 rest ≡ joined ps ++ more = behind_eight first m (joined ps ++ more) in
-    let size : length (joined ps) ≡ m * h.size = joined_length h.size ps run.sizes in
+    let size : length (joined ps) ≡ m * h.size = length-joined h.size ps run.sizes in
     let long : length rest ≡ 8 + (m * h.size + length more) = omega (arith, eight_longer first m (joined ps) more, size) in
     let past : drop (8 + m * h.size) rest ≡ more = sym (drop-drop (m * h.size) 8 rest) ∙ ap (drop (m * h.size)) front ∙ drop_at (joined ps) more (m * h.size) size in
     let page : part 8 h.size rest ≡ get_or ps 0 [] = ap (take h.size) front ∙ first_joined h.size ps more run.some run.sizes in

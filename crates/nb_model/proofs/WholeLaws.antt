@@ -1,12 +1,11 @@
 -- A copy of a kept image is accepted as the first file of a chain, and a kept chain gives the kept image.
-use Rattle.std.proofs.Common.{◌≡◌, inl, inr, ℕ, suc, ◌+◌, ◌-◌, ◌*◌, ◌/◌, ◌%◌, ◌<◌, ◌≤◌, List, [], ◌∷◌, ◌++◌, length, take, drop, refl, sym, ap, subst, ◌∙◌, arith, length-append}
-use Rattle.std.specs.Prelude.{Bool, true, false, not, ◌&&◌, ◌==◌, nat_lt, Some, None, Ok}
-use Rattle.std.proofs.lemmas.Bool.Decides.{eqb_tells, leb_tells}
-use Rattle.std.proofs.lemmas.List.{take_at, drop_at, take-append-le}
-use Rattle.std.proofs.Math.Nat.{mul-mod_left, mul-div_cancel, suc-mul}
+use Rattle.std.proofs.Common.{◌≡◌, ℕ, ◌+◌, ◌-◌, ◌*◌, ◌/◌, ◌%◌, ◌<◌, ◌≤◌, List, [], ◌∷◌, ◌++◌, length, take, refl, sym, ap, subst, ◌∙◌, arith, length-append}
+use Rattle.std.specs.Prelude.{Bool, true, false, not, nat_lt, Some, None, Ok}
+use Rattle.std.proofs.lemmas.List.{take-append-le}
+use Rattle.std.proofs.Math.Nat.{mul-mod_left, mul-div_cancel}
 use Rattle.nb_fields.specs.Bytes.{number_of, number_in, part}
-use Rattle.nb_fields.specs.Header.{is_header, is_marked, is_sound, state_of, size_of, scn_of, guid_of}
-use Rattle.nb_fields.proofs.HeaderLemmas.{is_header-short, is_header-long, is_header-take}
+use Rattle.nb_fields.specs.Header.{is_header, state_of, size_of, scn_of, guid_of}
+use Rattle.nb_fields.proofs.HeaderLemmas.{is_header-take}
 use Rattle.nb_fields.proofs.PartLemmas.{part-take}
 use Rattle.nb_host.specs.Files.{Files}
 use Rattle.nb_host.specs.declared.refusals.Refusal.{Refusal}
@@ -17,32 +16,11 @@ use Rattle.nb_model.specs.Levels.{joined, numbered_from, begins_level}
 use Rattle.nb_model.specs.Restoring.{Link, whole_link, is_bad_length, not_whole, first_link, next_links, linked, verdict, applied}
 use Rattle.nb_model.specs.Sound.{IsOfSize, HasNoZeros}
 use Rattle.nb_model.specs.Line.{HoldLine, HoldsFirst, first_file, next_files, last_in}
+use Rattle.nb_model.proofs.HeaderLaws.{first_byte, header-long, header-kind}
+use Rattle.nb_model.proofs.ImageLaws.{all-append, length-joined, cut-joined}
 use Rattle.nb_model.proofs.ReadLaws.{eq_yes, lt_no, or_no}
 use Rattle.nb_model.proofs.LineLaws.{line_applied}
 use Rattle.nb_model.proofs.ChainLaws.{line_accepted, held_line}
-
-true_false : true ≡ false → ⊥
-true_false h = cc
-
-header_long : (p : Page) → is_header p ≡ true → 64 ≤ length p
-header_long p h = elim (leb_tells (suc (length p)) 64) [ inl w ↦ absurd (true_false (sym h ∙ is_header-short p w.1)) | inr w ↦ omega (arith, w.1) ]
-
-not_marked : (p : Page) → (number_in 0 1 p == 1) ≡ false → is_marked p ≡ false
-unfolding is_marked
-not_marked p e = rw e refl
-
-left_false : (a b : Bool) → a ≡ false → (a && b) ≡ false
-left_false a b e = rw e refl
-
-header_kind : (p : Page) → is_header p ≡ true → number_in 0 1 p ≡ 1
-header_kind p h = elim (eqb_tells (number_in 0 1 p) 1) [
-  | inl w ↦ w.1
-  | inr w ↦ absurd (true_false (sym h ∙ is_header-long p (header_long p h) ∙ left_false (is_marked p) (is_sound (state_of p) (size_of p) (scn_of p)) (not_marked p w.0)))
-]
-
-first_byte : (b : ℕ) (bs : List ℕ) → number_in 0 1 (b ∷ bs) ≡ b
-unfolding number_in number_of
-first_byte b bs = omega arith
 
 one_is_no_level : (bs : List ℕ) → begins_level (1 ∷ bs) ≡ false
 unfolding begins_level
@@ -50,11 +28,11 @@ one_is_no_level bs = refl
 
 -- a page with a header begins no level file
 no_level : (p : Page) (rest : List ℕ) → is_header p ≡ true → begins_level (p ++ rest) ≡ false
-no_level [] rest h = absurd (none (header_long [] h))
+no_level [] rest h = absurd (none (header-long [] h))
   where
     none : 64 ≤ 0 → ⊥
     none h = omega arith
-no_level (b ∷ bs) rest h = ap (λ (x : ℕ). begins_level (x ∷ (bs ++ rest))) (sym (first_byte b bs) ∙ header_kind (b ∷ bs) h) ∙ one_is_no_level (bs ++ rest)
+no_level (b ∷ bs) rest h = ap (λ (x : ℕ). begins_level (x ∷ (bs ++ rest))) (sym (first_byte b bs) ∙ header-kind (b ∷ bs) h) ∙ one_is_no_level (bs ++ rest)
 
 -- the first 64 bytes of a file are those of its first page
 module _ (p : Page) (rest : List ℕ) (long : 64 ≤ length p) where
@@ -70,27 +48,6 @@ module _ (p : Page) (rest : List ℕ) (long : 64 ≤ length p) where
 
   header : is_header (p ++ rest) ≡ is_header p
   header = sym (is_header-take (p ++ rest)) ∙ ap is_header front ∙ is_header-take p
-
-joined_size : (size : ℕ) (ps : Image) → IsOfSize size ps → length (joined ps) ≡ length ps * size
-joined_size size [] h = omega arith
-joined_size size (p ∷ ps) h =
-    let rest = joined_size size ps h.1 in
-    let here = h.0 in
-    omega (arith, length-append p (joined ps), suc-mul (length ps) size)
-
--- pages that were joined are cut again
-cut_joined : (size : ℕ) (ps : Image) → IsOfSize size ps → cut size (length ps) (joined ps) ≡ ps
-unfolding cut
-cut_joined size [] h = refl
-cut_joined size (p ∷ ps) h = elim (leb_tells size (length (p ++ joined ps))) [
-  | inl w ↦ rw (w.0, cut) (ap (λ (x : Page). x ∷ cut size (length ps) (drop size (p ++ joined ps))) (take_at p (joined ps) size h.0)
-      ∙ ap (λ (x : List ℕ). p ∷ cut size (length ps) x) (drop_at p (joined ps) size h.0) ∙ ap (λ (xs : Image). p ∷ xs) (cut_joined size ps h.1))
-  | inr w ↦ absurd (omega (arith, w.1, h.0, length-append p (joined ps)))
-]
-
-sizes_join : (size : ℕ) (xs ys : Image) → IsOfSize size xs → IsOfSize size ys → IsOfSize size (xs ++ ys)
-sizes_join size [] ys h k = k
-sizes_join size (x ∷ xs) ys h k = (h.0, sizes_join size xs ys h.1 k)
 
 -- so many whole pages as a database may have
 good_length : (bytes : List ℕ) (n size : ℕ) → size_of bytes ≡ size → length bytes ≡ n * size → 0 < size → 5 ≤ n → n ≤ 1048576 → is_bad_length bytes ≡ false
@@ -143,13 +100,13 @@ copy_accepted files r zeros name holds =
     let rest : List ℕ = joined (behind_first r.image ++ zeros) in
     let some : 1 ≤ length r.image = omega (arith, holds.whole.least) in
     let is : bytes ≡ p ++ rest = ap (λ (x : Image). joined (x ++ zeros)) (split r.image some) in
-    let sizes : IsOfSize size pages = sizes_join size r.image zeros holds.whole.sizes holds.sizes in
+    let sizes : IsOfSize size pages = all-append (λ (page : Page). length page ≡ size) r.image zeros holds.whole.sizes holds.sizes in
     let first : IsOfSize size (p ∷ behind_first r.image) = subst (λ (x : Image). IsOfSize size x) (split r.image some) holds.whole.sizes in
-    let long : 64 ≤ length p = header_long p holds.begun.header in
+    let long : 64 ≤ length p = header-long p holds.begun.header in
     let wide : 0 < size = omega (arith, long, first.0) in
     let n : ℕ = length pages in
     let least : 5 ≤ n = omega (arith, holds.whole.least, length-append r.image zeros) in
-    let all : length bytes ≡ n * size = joined_size size pages sizes in
+    let all : length bytes ≡ n * size = length-joined size pages sizes in
     let is_header_too : is_header bytes ≡ true = ap is_header is ∙ header p rest long ∙ holds.begun.header in
     let state : state_of bytes ≡ 1 = ap state_of is ∙ number p rest long 22 2 (omega arith) ∙ holds.begun.state in
     let size_too : size_of bytes ≡ size = ap size_of is ∙ number p rest long 24 4 (omega arith) in
@@ -158,7 +115,7 @@ copy_accepted files r zeros name holds =
     let count : length bytes / size_of bytes ≡ n = ap (λ x. length bytes / x) size_too ∙ ap (λ x. x / size) all ∙ mul-div_cancel n wide in
     whole_accepted name bytes (ap begins_level is ∙ no_level p rest holds.begun.header)
     (is_whole name bytes is_header_too state (good_length bytes n size size_too all wide least holds.most))
-    ∙ ap (λ (l : Link). Ok l) (copy_link r zeros bytes n guid scn size_too count (cut_joined size pages sizes))
+    ∙ ap (λ (l : Link). Ok l) (copy_link r zeros bytes n guid scn size_too count (cut-joined size (length pages) pages sizes wide (omega arith)))
 
 verdict_there : (files : Files) (name : List ℕ) (names : List (List ℕ)) (bytes : List ℕ) (l : Link) → files name ≡ Some bytes → first_link name bytes ≡ Ok l → verdict files (name ∷ names) ≡ linked l (next_links files 1 l names)
 unfolding verdict
