@@ -1,3 +1,1 @@
-pub mod WordLemmas
 pub mod JobLemmas
-pub mod AskedLemmas

@@ -1,4 +1,2 @@
-pub mod Words
 pub mod Jobs
-pub mod Causes
-pub mod Asked
+pub mod Performed

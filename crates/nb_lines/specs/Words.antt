@@ -1,8 +1,8 @@
 -- A word of a line, without where it lies in memory.
 use Rattle.std.specs.Prelude.{ℕ}
 use Rattle.nb_model.specs.Lines.{Word as Spelled, is, number, guid, hex, quoted}
-use Rattle.nb_top.specs.declared.word.Word.{Word}
-use Rattle.nb_top.specs.declared.word.Word.TheVariants.{Is, Name, Number, Guid, Digest, Quoted}
+use Rattle.nb_lines.specs.declared.word.Word.{Word}
+use Rattle.nb_lines.specs.declared.word.Word.TheVariants.{Is, Name, Number, Guid, Digest, Quoted}
 
 abbrev pub seen : Word → Spelled
 seen (Is text) = is text.now

@@ -1,5 +1,5 @@
 ghost use Rattle.std.specs.Prelude.{◌≡◌};
-ghost use Rattle.nb_top.specs.declared.stop.Stop.TheVariants.{Device, Memory};
+ghost use Rattle.nb_sched.specs.declared.stop.Stop.TheVariants.{Device, Memory};
 
 use nb_host::HostFault;
 use std::alloc::AllocError;

@@ -13,7 +13,7 @@ use Rattle.nb_script.specs.Statements.{or_next, or_else, built, statement_at, sp
 use Rattle.nb_script.specs.FirstLine.{first_at, first_spelled, database_at, create_at, open_at, sizes_at, cache_at}
 use Rattle.nb_script.specs.Scripts.{Plan, Numbered, started, statements_of, with_statement, or_bad, with_lines, order_in, with_order, of_lines, script_of}
 use Rattle.nb_script.specs.Lines.{lines_of, left}
-use Rattle.nb_top.specs.Asked.{opens, IsFirst, IsFurther, IsAskable}
+use Rattle.nb_sched.specs.Asked.{opens, IsFirst, IsFurther, IsAskable}
 
 -- where a statement was read, it has P
 record If (P : Statement → Type 0) (o : Option Statement) : Type 0 where

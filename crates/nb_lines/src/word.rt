@@ -4,7 +4,7 @@ ghost use Rattle.std.specs.Fmt.{decimal};
 ghost use Rattle.uuid.specs.Text.{hyphenated_text, lower};
 ghost use Rattle.hex.specs.Hex.{encode_lower};
 ghost use Rattle.nb_model.specs.Lines.{word_text, spaced};
-ghost use Rattle.nb_top.specs.Words.{seen};
+ghost use Rattle.nb_lines.specs.Words.{seen};
 
 use nb_host::Name;
 use std::alloc::AllocError;

@@ -1,7 +1,7 @@
 use Rattle.std.proofs.Common.{◌∙◌, ap, List, ℕ, ◌++◌, ◌∷◌, [], append_assoc}
 use Rattle.std.specs.Fmt.{decimal}
 use Rattle.nb_model.specs.Lines.{line_text, spaced, reply_words}
-use Rattle.nb_top.proofs.line.line_of.Goals as goal
+use Rattle.nb_lines.proofs.line.line_of.Goals as goal
 
 pub returns : goal.returns
 unfolding line_text

@@ -1,8 +1,8 @@
 use Rattle.std.proofs.Common.{sym, ◌∙◌, ap, List, ℕ, ◌++◌, append_assoc}
 use Rattle.std.proofs.lemmas.List.{append-nil}
 use Rattle.nb_model.specs.Lines.{spaced}
-use Rattle.nb_top.proofs.WordLemmas.{one_word_more}
-use Rattle.nb_top.proofs.word.push_words.Goals as goal
+use Rattle.nb_lines.proofs.WordLemmas.{one_word_more}
+use Rattle.nb_lines.proofs.word.push_words.Goals as goal
 
 pub loop-word-init : goal.loop-word-init
 unfolding spaced

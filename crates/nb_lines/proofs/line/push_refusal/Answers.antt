@@ -1,4 +1,4 @@
-use Rattle.nb_top.proofs.line.push_refusal.Goals as goal
+use Rattle.nb_lines.proofs.line.push_refusal.Goals as goal
 
 pub returns-in-Usage : goal.returns-in-Usage
 returns-in-Usage c = rw c.in-Usage.is c.push_words.ensures

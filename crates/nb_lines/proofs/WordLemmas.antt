@@ -3,8 +3,8 @@ use Rattle.std.proofs.Common.{◌≡◌, ℕ, ◌+◌, ◌<◌, length, take, ge
 use Rattle.std.proofs.lemmas.Option.{get_or_from_slice_get}
 use Rattle.std.proofs.lemmas.List.{take_more, map-append, append-nil}
 use Rattle.nb_model.specs.Lines.{Word, number, quoted, word_text, spaced, row_words}
-use Rattle.nb_top.specs.declared.word.Word.{Word as InLine}
-use Rattle.nb_top.specs.Words.{seen}
+use Rattle.nb_lines.specs.declared.word.Word.{Word as InLine}
+use Rattle.nb_lines.specs.Words.{seen}
 
 pub spaced-append : (a b : List Word) → spaced (a ++ b) ≡ spaced a ++ spaced b
 unfolding spaced

@@ -1,5 +1,5 @@
-use Rattle.nb_top.proofs.WordLemmas.{words_then}
-use Rattle.nb_top.proofs.line.push_reply.Goals as goal
+use Rattle.nb_lines.proofs.WordLemmas.{words_then}
+use Rattle.nb_lines.proofs.line.push_reply.Goals as goal
 
 pub returns-in-Done : goal.returns-in-Done
 returns-in-Done c = rw c.in-Done.is c.push_words.ensures

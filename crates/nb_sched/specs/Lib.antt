@@ -1,0 +1,4 @@
+pub mod Causes
+pub mod Asked
+pub mod Stops
+pub mod Todo
