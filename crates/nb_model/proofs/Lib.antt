@@ -13,3 +13,7 @@ pub mod LevelLaws
 pub mod ChainLaws
 pub mod WholeLaws
 pub mod AfterLaws
+pub mod SoundLaws
+pub mod FreshSound
+pub mod PutSound
+pub mod StandsLaws

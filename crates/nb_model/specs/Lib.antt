@@ -15,6 +15,7 @@ pub mod Levels
 pub mod Backups
 pub mod Turns
 pub mod Owner
+pub mod Main
 pub mod Run
 pub mod Output
 pub mod Follows

@@ -1,0 +1,515 @@
+-- What `put` keeps: after each front of its strokes the image is sound, and names the same backups.
+use Rattle.std.proofs.Common.{◌≡◌, ◌≢◌, ◌⊎◌, inl, inr, ℕ, zero, suc, ◌+◌, ◌-◌, ◌*◌, ◌/◌, ◌%◌, ◌^◌, ◌<◌, ◌≤◌, List, [], ◌∷◌, ◌++◌, length, take, drop, replicate, refl, sym, ap, subst, ◌∙◌, arith, length-append, length-drop, set, get_or-set_other}
+use Rattle.std.specs.Prelude.{Bool, true, false, not, ◌==◌, ◌||◌, ◌&&◌, nat_lt, nat_le, Option, Some, None, IsTrue}
+use Rattle.std.specs.List.{AllByRecursion}
+use Rattle.std.proofs.lemmas.Bool.{and_left, and_parts, or_parts, eqb-true, ne_eqb, cases_lt}
+use Rattle.std.proofs.lemmas.Bool.Decides.{eqb_tells, leb_tells}
+use Rattle.std.proofs.lemmas.List.{length-replicate, take-append-le, take_all, drop-drop}
+use Rattle.nb_fields.specs.Bytes.{number_of, bytes_of, number_in, part, with_part, is_zeros, padded}
+use Rattle.nb_fields.specs.Header.{is_marked, is_header, size_of}
+use Rattle.nb_fields.specs.Places.{is_page_size, entries_in, bits_in, is_inventory_place, is_scn_place, is_system_place}
+use Rattle.nb_fields.specs.Page.{head_of, page_of, kind_of, stamp_of, generation_of, stamped}
+use Rattle.nb_fields.specs.Payloads.{bit_of, entry_of, text_payload}
+use Rattle.nb_fields.proofs.NumberLemmas.{length-bytes_of}
+use Rattle.nb_fields.proofs.PartLemmas.{length-with_part, number_in-with_part, number_in-with_part_other}
+use Rattle.nb_fields.proofs.PageLemmas.{length-head_of, length-page_of, kind_of-page_of, stamp_of-page_of, padded_whole, part-append}
+use Rattle.nb_fields.proofs.SizeLemmas.{SizeFacts, size_facts}
+use Rattle.nb_fields.proofs.PlaceLemmas.{entries-least}
+use Rattle.nb_host.specs.declared.refusals.Refusal.{Refusal}
+use Rattle.nb_model.specs.Image.{Page, Image, page_at, first_page, image_size, image_scn, image_guid, with_page}
+use Rattle.nb_model.specs.Account.{Base, base_of, Kept}
+use Rattle.nb_model.specs.Strokes.{Stroke, page, base_after, merged_page}
+use Rattle.nb_model.specs.Forms.{Draft, drafted, old_page, wrote, written, needs, is_kind, inventory_of, scn_page_of, bit_number, entry_number, scn_entry, is_free_page, has_entry, entry_written, entry_raised, raised, put}
+use Rattle.nb_model.specs.Causes.{Cause, first_cause, when, not_raw}
+use Rattle.nb_model.specs.Sound.{IsSoundImage}
+use Rattle.nb_model.specs.Chains.{Slot, is_used, slots_in}
+use Rattle.nb_model.specs.Follows.{Follows}
+use Rattle.nb_model.specs.Stands.{IsKeptAs, is_history_page, GoesOn, IsRemembered, NamesItsPast}
+use Rattle.nb_model.proofs.StrokeLaws.{with_page_same}
+use Rattle.nb_model.proofs.FollowsLaws.{follows_set, follows_add}
+use Rattle.nb_model.proofs.DraftLaws.{IsOf, drafted_is, drafts_are}
+use Rattle.nb_model.proofs.SoundLaws.{all_at, page_no_zeros, inventory_there, scn_page_there, scn_place_some, scn_place_before, with_page_length, HasFields, FitsAt, scn_no_entry, first_stays, size_stays, scn_stays, fields_stay, written_other, entry_here, page_sound}
+
+true_false : true ≡ false → ⊥
+true_false h = cc
+
+-- Page p may get a payload: it is no system page, and stands below the length or at it.
+pub record IsPlain (image : Image) (p : ℕ) : Type 0 where
+  pub behind : 1 ≤ p
+  pub there : p ≤ length image
+  pub most : p < 1048576
+  pub no_inventory : is_inventory_place (image_size image) p ≡ false
+  pub no_scn_page : is_scn_place (image_size image) p ≡ false
+
+-- A page with the current SCN as its stamp.
+module _ (image : Image) (p kind : ℕ) (payload : List ℕ) (fields : HasFields image) (is : IsSoundImage image) (some : (kind == 0) ≡ false) (room : 16 + length payload ≤ image_size image) where
+  abbrev now_page : Page
+  now_page = stamped (old_page p image) kind payload (image_scn image) p
+
+  old_length : length (old_page p image) ≡ image_size image
+  unfolding old_page
+  old_length = elim (leb_tells (suc p) (length image)) [
+    | inl w ↦ rw (w.0, old_page) (all_at (λ page. length page ≡ image_size image) image is.sizes p w.1)
+    | inr w ↦ rw (w.0, old_page) (length-replicate (image_size image) 0)
+  ]
+
+  now_length : length now_page ≡ image_size image
+  unfolding stamped
+  now_length = length-page_of (length (old_page p image)) kind _ (image_scn image) p payload (omega (arith, old_length)) ∙ old_length
+
+  now_kind : kind_of now_page ≡ kind
+  unfolding stamped
+  now_kind = kind_of-page_of (length (old_page p image)) kind _ (image_scn image) p payload
+
+  now_stamp : stamp_of now_page ≡ image_scn image
+  unfolding stamped
+  now_stamp = stamp_of-page_of (length (old_page p image)) kind _ (image_scn image) p payload fields.scn
+
+  now_some : is_zeros now_page ≡ false
+  unfolding stamped
+  now_some = page_no_zeros (length (old_page p image)) kind _ (image_scn image) p payload some
+
+  -- it fits where no system page stands, once the entry is current
+  plain_fits : IsPlain image p → (has_entry image p ≡ true → scn_entry image p ≡ image_scn image) → FitsAt image p now_page
+  plain_fits plain current = record {
+    behind = plain.behind;
+    there = plain.there;
+    most = plain.most;
+    size = now_length;
+    no_zeros = now_some;
+    stamp = now_stamp;
+    inventory = λ at. absurd (true_false (sym at ∙ plain.no_inventory));
+    scn_page = λ at. absurd (true_false (sym at ∙ plain.no_scn_page));
+    bits = λ q at taken. absurd (inventory q at);
+    current = current;
+    no_lower = λ q at has low. absurd (scn_page q at);
+    no_later = λ q at has. absurd (scn_page q at);
+  }
+    where
+      inventory : (q : ℕ) → inventory_of image q ≡ p → ⊥
+      inventory q at =
+          let there : is_inventory_place (image_size image) p ≡ true = subst (λ (n : ℕ). is_inventory_place (image_size image) n ≡ true) at (inventory_there (image_size image) (q / bits_in (image_size image)) fields.size) in
+          true_false (sym there ∙ plain.no_inventory)
+
+      scn_page : (q : ℕ) → scn_page_of image q ≡ p → ⊥
+      scn_page q at =
+          let there : is_scn_place (image_size image) p ≡ true = subst (λ (n : ℕ). is_scn_place (image_size image) n ≡ true) at (scn_page_there (image_size image) (q / entries_in (image_size image)) fields.size) in
+          true_false (sym there ∙ plain.no_scn_page)
+
+-- the SCN page of a plain page is there
+scn_page_below : (image : Image) (p : ℕ) → HasFields image → 5 ≤ length image → IsPlain image p → scn_page_of image p < length image
+scn_page_below image p fields least plain =
+    let place : is_scn_place (image_size image) (scn_page_of image p) ≡ true = scn_page_there (image_size image) (p / entries_in (image_size image)) fields.size in
+    let other : scn_page_of image p ≢ p = λ e. true_false (sym place ∙ ap (is_scn_place (image_size image)) e ∙ plain.no_scn_page) in
+    let there = plain.there in
+    elim (scn_place_before (image_size image) p fields.size) [ inl second ↦ omega arith | inr before ↦ omega arith ]
+
+-- an entry behind the head of a page that is stamped
+entry_behind : (old : Page) (kind scn number i : ℕ) (whole : Page) → length whole ≡ length old → 16 ≤ length old → entry_of (stamped old kind (drop 16 whole) scn number) i ≡ entry_of whole i
+unfolding stamped page_of number_in
+entry_behind old kind scn number i whole len long =
+    let g : ℕ = (generation_of old + 1) % 2 ^ 32 in
+    let head : List ℕ = head_of kind g scn number in
+    let place : 32 + 4 * i ≡ 16 + (16 + 4 * i) = omega arith in
+    let rest : padded (length old - 16) (drop 16 whole) ≡ drop 16 whole = padded_whole (length old - 16) (drop 16 whole) (omega (arith, length-drop 16 whole)) in
+    ap (λ (xs : List ℕ). number_of (part (32 + 4 * i) 4 (head ++ xs))) rest
+    ∙ ap (λ (at : ℕ). number_of (part at 4 (head ++ drop 16 whole))) place
+    ∙ ap number_of (part-append 16 (16 + 4 * i) 4 head (drop 16 whole) (length-head_of kind g scn number))
+    ∙ ap (λ (xs : List ℕ). number_of (take 4 xs)) (drop-drop (16 + 4 * i) 16 whole)
+    ∙ ap (λ (at : ℕ). number_of (part at 4 whole)) (sym place)
+
+-- An SCN page with one entry raised to the current SCN.
+module _ (image : Image) (p : ℕ) (fields : HasFields image) (is : IsSoundImage image) (low : scn_page_of image p < length image) where
+  abbrev s : ℕ
+  s = scn_page_of image p
+
+  abbrev i : ℕ
+  i = entry_number image p
+
+  abbrev entries : Page
+  entries = with_part (32 + 4 * i) (bytes_of 4 (image_scn image)) (page_at image s)
+
+  abbrev raised_page : Page
+  raised_page = stamped (old_page s image) 10 (drop 16 entries) (image_scn image) s
+
+  page_length : length (page_at image s) ≡ image_size image
+  page_length = all_at (λ page. length page ≡ image_size image) image is.sizes s low
+
+  inside : (q : ℕ) → 32 + 4 * entry_number image q + 4 ≤ image_size image
+  inside q =
+      let facts : SizeFacts (image_size image) = size_facts (image_size image) fields.size in
+      let least = entries-least (image_size image) fields.size in
+      let below : entry_number image q < entries_in (image_size image) = omega arith in
+      omega (arith, facts.at_least)
+
+  entries_length : length entries ≡ image_size image
+  entries_length =
+      let room = inside p in
+      let four = length-bytes_of 4 (image_scn image) in
+      length-with_part (32 + 4 * i) (bytes_of 4 (image_scn image)) (page_at image s) (omega (arith, page_length)) ∙ page_length
+
+  room : 16 + length (drop 16 entries) ≤ image_size image
+  room = let facts : SizeFacts (image_size image) = size_facts (image_size image) fields.size in omega (arith, facts.at_least, entries_length, length-drop 16 entries)
+
+  read_back : (q : ℕ) → entry_of raised_page (entry_number image q) ≡ entry_of entries (entry_number image q)
+  read_back q =
+      let facts : SizeFacts (image_size image) = size_facts (image_size image) fields.size in
+      let len = old_length image s 10 (drop 16 entries) fields is refl room in
+      entry_behind (old_page s image) 10 (image_scn image) s (entry_number image q) entries (entries_length ∙ sym len) (omega (arith, facts.at_least))
+
+  entry_same : (q : ℕ) → entry_number image q ≡ i → entry_of raised_page (entry_number image q) ≡ image_scn image
+  entry_same q e =
+      let here = inside p in
+      read_back q ∙ ap (entry_of entries) e ∙ number_in-with_part (32 + 4 * i) 4 (image_scn image) (page_at image s) fields.scn (omega (arith, page_length))
+
+  entry_else : (q : ℕ) → scn_page_of image q ≡ s → entry_number image q ≢ i → entry_of raised_page (entry_number image q) ≡ scn_entry image q
+  unfolding scn_entry
+  entry_else q at other =
+      let here = inside p in
+      read_back q
+      ∙ number_in-with_part_other (32 + 4 * i) 4 (32 + 4 * entry_number image q) 4 (bytes_of 4 (image_scn image)) (page_at image s) (length-bytes_of 4 (image_scn image)) (omega (arith, page_length))
+      (elim (cases_lt i (entry_number image q)) [ inl less ↦ inl (omega arith) | inr more ↦ inr (omega (arith, other)) ])
+      ∙ ap (λ (n : ℕ). entry_of (page_at image n) (entry_number image q)) (sym at)
+
+  place : is_scn_place (image_size image) s ≡ true
+  place = scn_page_there (image_size image) (p / entries_in (image_size image)) fields.size
+
+  no_inventory : is_inventory_place (image_size image) s ≡ true → ⊥
+  no_inventory at =
+      let two = is.sound.system.inventories s low at in
+      let ten = is.sound.system.scn_pages s low place in
+      absurd (omega arith)
+
+  raised_fits : FitsAt image s raised_page
+  raised_fits = record {
+    behind = let two = scn_place_some (image_size image) (p / entries_in (image_size image)) fields.size in omega arith;
+    there = omega arith;
+    most = let most = is.most in omega arith;
+    size = now_length image s 10 (drop 16 entries) fields is refl room;
+    no_zeros = now_some image s 10 (drop 16 entries) fields is refl room;
+    stamp = now_stamp image s 10 (drop 16 entries) fields is refl room;
+    inventory = λ at. absurd (no_inventory at);
+    scn_page = λ at. now_kind image s 10 (drop 16 entries) fields is refl room;
+    bits = λ q at taken. absurd (no_inventory (subst (λ (n : ℕ). is_inventory_place (image_size image) n ≡ true) at (inventory_there (image_size image) (q / bits_in (image_size image)) fields.size)));
+    current = λ has. absurd (true_false (sym has ∙ scn_no_entry image s place));
+    no_lower = λ q at has below. elim (eqb_tells (entry_number image q) i) [
+      | inl w ↦ omega (arith, entry_same q w.1, is.sound.entries.no_later q (subst (λ (n : ℕ). n < length image) (sym at) low) has)
+      | inr w ↦ omega (arith, entry_else q at w.1)
+    ];
+    no_later = λ q at has. elim (eqb_tells (entry_number image q) i) [
+      | inl w ↦ omega (arith, entry_same q w.1)
+      | inr w ↦ omega (arith, entry_else q at w.1, is.sound.entries.no_later q (subst (λ (n : ℕ). n < length image) (sym at) low) has)
+    ];
+  }
+
+  now_current : scn_entry (with_page s raised_page image) p ≡ image_scn image
+  now_current = entry_here image s raised_page fields is raised_fits p refl ∙ entry_same p refl
+
+-- after each front of the strokes of a draft the image has Q
+pub record Throughout (Q : Image → Type 0) (b : Base) (d : Draft) : Type 0 where
+  pub is : IsOf b d
+  pub each : (k : ℕ) → Q (base_after b (take k d.strokes)).image
+
+pub at_first : (Q : Image → Type 0) (b : Base) → Q b.image → Throughout Q b (drafted b.image)
+unfolding base_after
+at_first Q b h = record { is = drafted_is b; each = none }
+  where
+    none : (k : ℕ) → Q (base_after b (take k [])).image
+    none zero = h
+    none (suc k) = h
+
+pub holds_now : (Q : Image → Type 0) (b : Base) (d : Draft) → Throughout Q b d → Q d.image
+holds_now Q b d h = subst Q h.is.is (subst (λ (ss : List Stroke). Q (base_after b ss).image) (take_all (length d.strokes) d.strokes (omega arith)) (h.each (length d.strokes)))
+
+one_more : (Q : Image → Type 0) (b : Base) (ss : List Stroke) (s : Stroke) → ((k : ℕ) → Q (base_after b (take k ss)).image) → Q (base_after b (ss ++ s ∷ [])).image
+    → (k : ℕ) → Q (base_after b (take k (ss ++ s ∷ []))).image
+one_more Q b ss s each whole k = elim (leb_tells k (length ss)) [
+  | inl w ↦ subst (λ (ys : List Stroke). Q (base_after b ys).image) (sym (take-append-le k ss (s ∷ []) w.1)) (each k)
+  | inr w ↦ subst (λ (ys : List Stroke). Q (base_after b ys).image) (sym (take_all k (ss ++ s ∷ []) (omega (arith, w.1, length-append ss (s ∷ []))))) whole
+]
+
+-- one write more
+pub holds_after : (Q : Image → Type 0) (b : Base) (p kind : ℕ) (payload : List ℕ) (d : Draft) → Throughout Q b d → Q (written p kind payload d).image → Throughout Q b (written p kind payload d)
+unfolding written wrote
+holds_after Q b p kind payload d h whole =
+    let is : IsOf b (written p kind payload d) = (drafts_are b).writes p kind payload d h.is in
+    record { is = is; each = one_more Q b d.strokes _ h.each (subst Q (sym is.is) whole) }
+
+chosen : (P : Draft → Type 0) (t : Bool) (x y : Draft) → P x → P y → P (elim t as (λ z. Draft) [ true ↦ x | false ↦ y ])
+chosen P true x y px py = px
+chosen P false x y px py = py
+
+-- reading an inventory page changes no image
+needs_image : (kind p : ℕ) (d : Draft) → (needs kind p d).image ≡ d.image
+unfolding needs
+needs_image kind p d = chosen (λ (x : Draft). x.image ≡ d.image) (is_kind d.image kind p) _ _ refl refl
+
+needs_holds : (Q : Image → Type 0) (b : Base) (kind p : ℕ) (d : Draft) → Throughout Q b d → Throughout Q b (needs kind p d)
+unfolding needs
+needs_holds Q b kind p d h = chosen (Throughout Q b) (is_kind d.image kind p) _ _ h (record { is = (drafts_are b).reads _ d h.is; each = h.each })
+
+-- a page that isn't page 0 is written whole
+whole_page : (p : ℕ) (bytes : Page) (image : Image) → 1 ≤ p → merged_page p bytes image ≡ bytes
+unfolding merged_page
+whole_page zero bytes image h = absurd (omega arith)
+whole_page (suc p) bytes image h = refl
+
+written_image : (p kind : ℕ) (payload : List ℕ) (d : Draft) → 1 ≤ p → (written p kind payload d).image ≡ with_page p (stamped (old_page p d.image) kind payload (image_scn d.image) p) d.image
+unfolding written wrote
+written_image p kind payload d h = ap (λ (bytes : Page). with_page p bytes d.image) (whole_page p (stamped (old_page p d.image) kind payload (image_scn d.image) p) d.image h)
+
+-- what is known of the image of a draft
+pub record Held (Q : Image → Type 0) (image : Image) : Type 0 where
+  pub fields : HasFields image
+  pub sound : IsSoundImage image
+  pub also : Q image
+
+-- the entry of page p is current in a draft
+record IsCurrent (Q : Image → Type 0) (b : Base) (size p : ℕ) (d : Draft) : Type 0 where
+  through : Throughout (Held Q) b d
+  plain : IsPlain d.image p
+  same_size : image_size d.image ≡ size
+  current : has_entry d.image p ≡ true → scn_entry d.image p ≡ image_scn d.image
+
+-- Q is kept by each page that fits, if it is of that kind or an SCN page
+module _ (Q : Image → Type 0) (kind : ℕ)
+    (step : (image : Image) (p : ℕ) (bytes : Page) → HasFields image → IsSoundImage image → FitsAt image p bytes → (kind_of bytes ≡ kind) ⊎ (kind_of bytes ≡ 10) → Q image → Q (with_page p bytes image)) where
+  stepped : (image : Image) (p : ℕ) (bytes : Page) → Held Q image → FitsAt image p bytes → (kind_of bytes ≡ kind) ⊎ (kind_of bytes ≡ 10) → Held Q (with_page p bytes image)
+  stepped image p bytes h fits of_kind = record {
+    fields = fields_stay image p bytes h.fields h.sound fits;
+    sound = page_sound image p bytes h.fields h.sound fits;
+    also = step image p bytes h.fields h.sound fits of_kind h.also;
+  }
+
+  -- a plain page stays one
+  plain_stays : (image : Image) (p q : ℕ) (bytes : Page) → Held Q image → FitsAt image q bytes → IsPlain image p → IsPlain (with_page q bytes image) p
+  plain_stays image p q bytes h fits plain =
+      let size = size_stays image q bytes h.fields h.sound fits in
+      record {
+        behind = plain.behind;
+        there = let there = plain.there in omega (arith, with_page_length q bytes image fits.there);
+        most = plain.most;
+        no_inventory = ap (λ (s : ℕ). is_inventory_place s p) size ∙ plain.no_inventory;
+        no_scn_page = ap (λ (s : ℕ). is_scn_place s p) size ∙ plain.no_scn_page;
+      }
+
+  entry_is_written : (b : Base) (p : ℕ) (d : Draft) → Throughout (Held Q) b d → IsPlain d.image p → IsCurrent Q b (image_size d.image) p (entry_written p d)
+  unfolding entry_written
+  entry_is_written b p d through plain =
+      let h : Held Q d.image = holds_now (Held Q) b d through in
+      let low : scn_page_of d.image p < length d.image = scn_page_below d.image p h.fields h.sound.least plain in
+      let fits : FitsAt d.image (scn_page_of d.image p) (raised_page d.image p h.fields h.sound low) = raised_fits d.image p h.fields h.sound low in
+      let of_kind : kind_of (raised_page d.image p h.fields h.sound low) ≡ 10 = fits.scn_page (place d.image p h.fields h.sound low) in
+      let image : (entry_written p d).image ≡ with_page (scn_page_of d.image p) (raised_page d.image p h.fields h.sound low) d.image = written_image (scn_page_of d.image p) 10 _ d fits.behind in
+      let after : Held Q (with_page (scn_page_of d.image p) (raised_page d.image p h.fields h.sound low) d.image) = stepped d.image _ _ h fits (inr of_kind) in
+      record {
+        through = holds_after (Held Q) b (scn_page_of d.image p) 10 _ d through (subst (Held Q) (sym image) after);
+        plain = subst (λ (x : Image). IsPlain x p) (sym image) (plain_stays d.image p _ _ h fits plain);
+        same_size = ap image_size image ∙ size_stays d.image _ _ h.fields h.sound fits;
+        current = λ has. ap (λ (x : Image). scn_entry x p) image ∙ now_current d.image p h.fields h.sound low ∙ sym (scn_stays d.image _ _ h.fields h.sound fits) ∙ ap image_scn (sym image);
+      }
+
+  entry_is_raised : (b : Base) (p : ℕ) (d : Draft) → has_entry d.image p ≡ true → Throughout (Held Q) b d → IsPlain d.image p → IsCurrent Q b (image_size d.image) p (entry_raised p d)
+  unfolding entry_raised
+  entry_is_raised b p d has through plain = elim (leb_tells (suc (scn_entry d.image p)) (image_scn d.image)) [
+    | inl w ↦ rw (w.0, entry_raised) (entry_is_written b p d through plain)
+    | inr w ↦
+        let h : Held Q d.image = holds_now (Held Q) b d through in
+        let low : scn_page_of d.image p < length d.image = scn_page_below d.image p h.fields h.sound.least plain in
+        let most = h.sound.sound.entries.no_later p low has in
+        rw (w.0, entry_raised) (record { through = through; plain = plain; same_size = refl; current = λ also. omega (arith, w.1) })
+  ]
+
+  is_raised : (b : Base) (p : ℕ) (d : Draft) → Throughout (Held Q) b d → IsPlain d.image p → IsCurrent Q b (image_size d.image) p (raised p d)
+  unfolding raised
+  is_raised b p d through plain = by_test (has_entry d.image p) refl
+    where
+      read : Draft
+      read = needs 10 (scn_page_of d.image p) d
+
+      same : read.image ≡ d.image
+      same = needs_image 10 (scn_page_of d.image p) d
+
+      by_test : (t : Bool) → has_entry d.image p ≡ t → IsCurrent Q b (image_size d.image) p (raised p d)
+      by_test true has = rw (has, raised) (subst (λ (size : ℕ). IsCurrent Q b size p (entry_raised p read)) (ap image_size same)
+          (entry_is_raised b p read (ap (λ (x : Image). has_entry x p) same ∙ has) (needs_holds (Held Q) b 10 (scn_page_of d.image p) d through) (subst (λ (x : Image). IsPlain x p) (sym same) plain)))
+      by_test false has = rw (has, raised) (record { through = through; plain = plain; same_size = refl; current = λ also. absurd (true_false (sym also ∙ has)) })
+
+  -- so it holds after each front of the strokes of `put`
+  pub put_holds : (b : Base) (p : ℕ) (payload : List ℕ) (d : Draft) → Throughout (Held Q) b d → IsPlain d.image p → (kind == 0) ≡ false → 16 + length payload ≤ image_size d.image → Throughout (Held Q) b (put p kind payload d)
+  unfolding put
+  put_holds b p payload d through plain some room =
+      let ready : IsCurrent Q b (image_size d.image) p (raised p d) = is_raised b p d through plain in
+      let x : Image = (raised p d).image in
+      let h : Held Q x = holds_now (Held Q) b (raised p d) ready.through in
+      let fit : 16 + length payload ≤ image_size x = omega (arith, ready.same_size) in
+      let fits : FitsAt x p (now_page x p kind payload h.fields h.sound some fit) = plain_fits x p kind payload h.fields h.sound some fit ready.plain ready.current in
+      let image : (written p kind payload (raised p d)).image ≡ with_page p (now_page x p kind payload h.fields h.sound some fit) x = written_image p kind payload (raised p d) fits.behind in
+      holds_after (Held Q) b p kind payload (raised p d) ready.through (subst (Held Q) (sym image) (stepped x p _ h fits (inl (now_kind x p kind payload h.fields h.sound some fit))))
+
+-- a header names a page size, and its page is of kind 1
+header_size : (first : Page) → is_header first ≡ true → IsTrue (is_page_size (size_of first))
+unfolding is_header
+header_size first is =
+    let sound = (and_parts (is_marked first) _ (and_parts (nat_le 64 (length first)) _ is).1).1 in
+    (and_parts _ _ (and_parts _ _ (and_parts _ _ sound).0).0).1
+
+header_kind : (first : Page) → is_header first ≡ true → kind_of first ≡ 1
+unfolding is_header is_marked
+header_kind first is =
+    let marked = (and_parts (is_marked first) _ (and_parts (nat_le 64 (length first)) _ is).1).0 in
+    eqb-true (kind_of first) 1 (and_parts _ _ (and_parts _ _ (and_parts _ _ marked).0).0).0
+
+-- page 0 is a header, and its SCN has four bytes
+pub record HasHeader (image : Image) : Type 0 where
+  pub header : is_header (first_page image) ≡ true
+  pub scn : image_scn image < 4294967296
+
+pub header_fields : (image : Image) → HasHeader image → HasFields image
+header_fields image h = record { size = header_size (first_page image) h.header; scn = h.scn }
+
+-- no cause is there
+no_first : (c : Cause) (cs : List Cause) → first_cause (c ∷ cs) ≡ None → (c ≡ None) × (first_cause cs ≡ None)
+unfolding first_cause
+no_first None cs h = (refl, h)
+no_first (Some r) cs h = absurd (some_none h)
+  where
+    some_none : Some r ≡ None → ⊥
+    some_none e = cc
+
+not_when : (t : Bool) (r : Refusal) → when t r ≡ None → t ≡ false
+not_when false r h = refl
+not_when true r h = absurd (some_none h)
+  where
+    some_none : Some r ≡ None → ⊥
+    some_none e = cc
+
+-- what is read and written is below the length, and a raw page
+raw_facts : (image : Image) (p : ℕ) → not_raw image p ≡ None → (p < length image) × (kind_of (page_at image p) ≡ 8)
+unfolding not_raw
+raw_facts image p h =
+    let one = no_first _ _ h in
+    let two = no_first _ _ one.1 in
+    let three = no_first _ _ two.1 in
+    let four = no_first _ _ three.1 in
+    let inside : nat_le (length image) p ≡ false = not_when _ _ one.0 in
+    let raw : not (kind_of (page_at image p) == 8) ≡ false = not_when _ _ four.0 in
+    (
+      elim (leb_tells (length image) p) [ inl w ↦ absurd (true_false (sym w.0 ∙ inside)) | inr w ↦ w.1 ],
+      elim (eqb_tells (kind_of (page_at image p)) 8) [ inl w ↦ w.1 | inr w ↦ absurd (true_false (ap not (sym w.0) ∙ raw)) ]
+    )
+
+-- so it is no system page
+pub raw_plain : (image : Image) (p : ℕ) → HasHeader image → IsSoundImage image → not_raw image p ≡ None → IsPlain image p
+raw_plain image p h is none =
+    let raw = raw_facts image p none in
+    let low : p < length image = raw.0 in
+    let kind : kind_of (page_at image p) ≡ 8 = raw.1 in
+    let most = is.most in
+    record {
+      behind = elim (eqb_tells p 0) [
+        | inl w ↦ let first : kind_of (page_at image p) ≡ 1 = ap (λ (n : ℕ). kind_of (page_at image n)) w.1 ∙ header_kind (first_page image) h.header in absurd (omega arith)
+        | inr w ↦ omega (arith, w.1)
+      ];
+      there = omega arith;
+      most = omega arith;
+      no_inventory = by_inventory low kind (is_inventory_place (image_size image) p) refl;
+      no_scn_page = by_scn_page low kind (is_scn_place (image_size image) p) refl;
+    }
+  where
+    by_inventory : p < length image → kind_of (page_at image p) ≡ 8 → (t : Bool) → is_inventory_place (image_size image) p ≡ t → is_inventory_place (image_size image) p ≡ false
+    by_inventory low kind true at = absurd (let two = is.sound.system.inventories p low at in omega arith)
+    by_inventory low kind false at = at
+
+    by_scn_page : p < length image → kind_of (page_at image p) ≡ 8 → (t : Bool) → is_scn_place (image_size image) p ≡ t → is_scn_place (image_size image) p ≡ false
+    by_scn_page low kind true at = absurd (let ten = is.sound.system.scn_pages p low at in omega arith)
+    by_scn_page low kind false at = at
+
+text_room : (text : List ℕ) → length text ≤ 200 → length (text_payload text) ≤ 202
+unfolding text_payload bytes_of
+text_room text short = omega arith
+
+-- a text is put into a raw page, and Q is kept
+module _ (Q : Image → Type 0)
+    (step : (image : Image) (p : ℕ) (bytes : Page) → HasFields image → IsSoundImage image → FitsAt image p bytes → (kind_of bytes ≡ 8) ⊎ (kind_of bytes ≡ 10) → Q image → Q (with_page p bytes image)) where
+  pub text_holds : (image : Image) (p : ℕ) (text : List ℕ) → HasHeader image → IsSoundImage image → Q image → not_raw image p ≡ None → length text ≤ 200
+      → Throughout (Held Q) (base_of image) (put p 8 (text_payload text) (drafted image))
+  text_holds image p text h is also none short =
+      let fields : HasFields image = header_fields image h in
+      let facts : SizeFacts (image_size image) = size_facts (image_size image) fields.size in
+      put_holds Q 8 step (base_of image) p (text_payload text) (drafted image) (at_first (Held Q) (base_of image) (record { fields = fields; sound = is; also = also })) (raw_plain image p h is none) refl
+      (omega (arith, facts.at_least, text_room text short))
+
+-- each front of the strokes of a write leaves a sound image
+pub put_sound : (image : Image) (p : ℕ) (text : List ℕ) → HasHeader image → IsSoundImage image → not_raw image p ≡ None → length text ≤ 200
+    → (k : ℕ) → IsSoundImage (base_after (base_of image) (take k (put p 8 (text_payload text) (drafted image)).strokes)).image
+put_sound image p text h is none short k =
+    let through : Throughout (Held IsSoundImage) (base_of image) (put p 8 (text_payload text) (drafted image)) = text_holds IsSoundImage (λ x q bytes fields sound fits of_kind also. page_sound x q bytes fields sound fits) image p text h is is none short in
+    (through.each k).sound
+
+-- what holds of each row
+all_rows : (P R : Slot → Type 0) (rows : List Slot) → ((row : Slot) → P row → R row) → AllByRecursion P rows → AllByRecursion R rows
+all_rows P R [] goes h = tt
+all_rows P R (row ∷ rows) goes h = (goes row h.0, all_rows P R rows goes h.1)
+
+-- a page that fits changes nothing of lineage
+follows_written : (a image : Image) (n p : ℕ) (bytes : Page) → Follows a n image → 1 ≤ p → p ≤ length image → n < stamp_of bytes → 1 ≤ length image → Follows a n (with_page p bytes image)
+unfolding with_page
+follows_written a image n p bytes f behind there high some = elim (leb_tells (suc p) (length image)) [
+  | inl w ↦ rw (w.0, with_page) (follows_set p bytes f w.1 high (ap (λ (page : Page). image_size (page ∷ [])) (get_or-set_other image p 0 bytes [] (omega arith))))
+  | inr w ↦ rw (w.0, with_page) (follows_add bytes f some high)
+]
+
+no_history : (bytes : Page) → kind_of bytes ≢ 5 → is_history_page bytes ≡ false
+unfolding is_history_page
+no_history bytes other = and_left (kind_of bytes == 5) _ (ne_eqb (kind_of bytes) 5 other)
+
+module _ (kept : List Kept) (image : Image) (p : ℕ) (bytes : Page) (fields : HasFields image) (is : IsSoundImage image) (fits : FitsAt image p bytes) (no_rows : is_history_page bytes ≡ false) (past : NamesItsPast kept image) where
+  goes_on_still : (r : Kept) → GoesOn r image → GoesOn r (with_page p bytes image)
+  goes_on_still r on =
+      let least = is.least in
+      record {
+        earlier = subst (λ (n : ℕ). r.scn < n) (sym (scn_stays image p bytes fields is fits)) on.earlier;
+        follows = follows_written r.image image r.scn p bytes on.follows fits.behind fits.there (subst (λ (n : ℕ). r.scn < n) (sym fits.stamp) on.earlier) (omega arith);
+      }
+
+  remembered_still : (row : Slot) → IsRemembered kept image row → IsRemembered kept (with_page p bytes image) row
+  remembered_still row h = record {
+    backup = h.backup;
+    kept_as = h.kept_as;
+    scn = h.scn;
+    level = h.level;
+    goes_on = goes_on_still h.backup h.goes_on;
+  }
+
+  guid_stays : image_guid (with_page p bytes image) ≡ image_guid image
+  guid_stays = ap (λ (page : Page). image_guid (page ∷ [])) (first_stays image p bytes fields is fits)
+
+  -- the image names the same backups
+  pub page_past : NamesItsPast kept (with_page p bytes image)
+  page_past = record {
+    rows = λ q low history. elim (eqb_tells q p) [
+      | inl w ↦ absurd (true_false (sym history ∙ ap (λ (n : ℕ). is_history_page (page_at (with_page p bytes image) n)) w.1 ∙ ap is_history_page (with_page_same p bytes image fits.there) ∙ no_rows))
+      | inr w ↦
+          let same : page_at (with_page p bytes image) q ≡ page_at image q = written_other image p bytes fields is fits q w.1 in
+          let inside : q < length image = omega (arith, with_page_length p bytes image fits.there, w.1) in
+          subst (λ (page : Page). AllByRecursion (λ row. is_used row ≡ true → IsRemembered kept (with_page p bytes image) row) (slots_in page)) (sym same)
+          (all_rows (λ row. is_used row ≡ true → IsRemembered kept image row) (λ row. is_used row ≡ true → IsRemembered kept (with_page p bytes image) row) (slots_in (page_at image q))
+          (λ row h used. remembered_still row (h used)) (past.rows q inside (ap is_history_page (sym same) ∙ history)))
+    ];
+    last = λ some.
+        let old = past.last (λ none. some (guid_stays ∙ none)) in
+        (old.0, subst (λ (guid : List ℕ). IsKeptAs kept guid old.0) (sym guid_stays) old.1, goes_on_still old.0 old.2);
+  }
+
+-- each front of the strokes of a write names the same backups
+pub put_past : (kept : List Kept) (image : Image) (p : ℕ) (text : List ℕ) → HasHeader image → IsSoundImage image → NamesItsPast kept image → not_raw image p ≡ None → length text ≤ 200
+    → (k : ℕ) → NamesItsPast kept (base_after (base_of image) (take k (put p 8 (text_payload text) (drafted image)).strokes)).image
+put_past kept image p text h is past none short k =
+    let through : Throughout (Held (NamesItsPast kept)) (base_of image) (put p 8 (text_payload text) (drafted image)) = text_holds (NamesItsPast kept) step image p text h is past none short in
+    (through.each k).also
+  where
+    step : (x : Image) (q : ℕ) (bytes : Page) → HasFields x → IsSoundImage x → FitsAt x q bytes → (kind_of bytes ≡ 8) ⊎ (kind_of bytes ≡ 10) → NamesItsPast kept x → NamesItsPast kept (with_page q bytes x)
+    step x q bytes fields sound fits of_kind before =
+        let other : kind_of bytes ≢ 5 = elim of_kind [ inl e ↦ omega (arith, e) | inr e ↦ omega (arith, e) ] in
+        page_past kept x q bytes fields sound fits (no_history bytes other) before
