@@ -1,12 +1,13 @@
 -- A new database is sound, and names no backup.
 use Rattle.std.proofs.Common.{◌≡◌, ◌≢◌, inl, inr, ℕ, zero, suc, ◌+◌, ◌-◌, ◌*◌, ◌/◌, ◌%◌, ◌<◌, ◌≤◌, List, [], ◌∷◌, ◌++◌, length, get_or, take, drop, replicate, refl, sym, ap, subst, ◌∙◌, arith, length-append}
-use Rattle.std.specs.Prelude.{Bool, true, false, ◌==◌, ◌&&◌, IsTrue, if◌then◌else◌}
+use Rattle.std.specs.Prelude.{Bool, true, false, ◌==◌, ◌&&◌, IsTrue, if◌then◌else◌, slice_index}
 use Rattle.std.specs.List.{AllByRecursion}
-use Rattle.std.proofs.lemmas.Bool.{cond-true, cond-false, cond_both, ne_eqb, eq-eqb, cases_lt}
+use Rattle.std.proofs.lemmas.Bool.{cond-true, cond-false, cond_both, ne_eqb, eq-eqb, eqb-true, and_parts, cases_lt}
+use Rattle.std.proofs.lemmas.List.{drop-drop, drop-replicate}
 use Rattle.std.proofs.lemmas.List.FromFn.{length-map-range_with_len, get_or-map-range_with_len}
 use Rattle.nb_fields.specs.declared.kinds.PageKind.{PageKind}
 use Rattle.nb_fields.specs.declared.kinds.PageKind.TheVariants.{Header, Inventory, Data, Raw, ScnInventory}
-use Rattle.nb_fields.specs.Bytes.{bytes_of, number_of, number_in, padded, is_zeros}
+use Rattle.nb_fields.specs.Bytes.{bytes_of, number_of, number_in, padded, part, is_zeros}
 use Rattle.nb_fields.specs.Header.{size_of, scn_of, guid_of}
 use Rattle.nb_fields.specs.Kinds.{code_of}
 use Rattle.nb_fields.specs.Places.{is_page_size, entries_in, bits_in, inventory_place, scn_place, is_inventory_place, is_scn_place, is_system_place}
@@ -20,6 +21,9 @@ use Rattle.nb_fields.proofs.FreshLemmas.{fresh_count-most}
 use Rattle.nb_fields.proofs.FreshLaws.{fresh_shows, length-taken_bits}
 use Rattle.nb_fields.proofs.PlaceLemmas.{fresh_kind-scn}
 use Rattle.nb_model.specs.Image.{Page, Image, page_at, image_size, image_scn, image_guid}
+use Rattle.nb_model.specs.Account.{Kept}
+use Rattle.nb_model.specs.Chains.{Slot, is_used, slots_from, slots_in}
+use Rattle.nb_model.specs.Stands.{IsRemembered, NamesItsPast, is_history_page}
 use Rattle.nb_model.specs.Forms.{inventory_of, scn_page_of, scn_entry, has_entry, is_free_page}
 use Rattle.nb_model.specs.Sound.{HasNoZeros, IsOfSize, HasSystemPages, HasBitsBelow, HasEntries, HasStamps, SoundInventory, IsSoundImage}
 use Rattle.nb_model.proofs.SoundLaws.{all_from, page_no_zeros, inventory_behind, scn_place_of, scn_place_before}
@@ -114,6 +118,44 @@ header_scn size raw = refl
 header_guid : (size raw : ℕ) → guid_of (fresh_page size raw 0) ≡ replicate 16 0
 unfolding fresh_page fresh_kind fresh_payload page_of head_of padded header_payload control_block bytes_of
 header_guid size raw = refl
+
+-- slots of zeros are free
+free_first : (m : ℕ) → slice_index (take 256 (replicate {A = ℕ} m 0)) 0 ≡ 0
+free_first zero = refl
+free_first (suc m) = refl
+
+all_free : (X : Slot → Type 0) (page : Page) (n count at : ℕ) → drop 32 page ≡ replicate n 0 → 32 ≤ at → AllByRecursion (λ row. is_used row ≡ true → X row) (slots_from count at page)
+unfolding slots_from
+all_free X page n zero at zeros behind = tt
+all_free X page n (suc count) at zeros behind =
+    let place : 32 + (at - 32) ≡ at = omega arith in
+    let rest : drop at page ≡ replicate (n - (at - 32)) 0 = ap (λ (k : ℕ). drop k page) (sym place) ∙ sym (drop-drop (at - 32) 32 page) ∙ ap (drop (at - 32)) zeros ∙ drop-replicate (at - 32) n 0 in
+    let first : slice_index (part at 256 page) 0 ≡ 0 = ap (λ (bytes : List ℕ). slice_index (take 256 bytes) 0) rest ∙ free_first (n - (at - 32)) in
+    (
+      λ used. let one = eqb-true (slice_index (part at 256 page) 0) 1 used in absurd (omega arith),
+      all_free X page n count (at + 256) zeros (omega arith),
+    )
+
+-- a page of data begins without a slot
+data_rest : (size p owner : ℕ) → drop 32 (page_of size 5 1 1 p (data_payload 0 owner [])) ≡ replicate (size - 16 - 16) 0
+unfolding page_of head_of padded data_payload bytes_of
+data_rest size p owner = refl
+
+kind_data : (kind : PageKind) → code_of kind ≡ 5 → kind ≡ Data
+kind_data Header e = absurd (omega arith)
+kind_data Inventory e = absurd (omega arith)
+kind_data Data e = refl
+kind_data Raw e = absurd (omega arith)
+kind_data ScnInventory e = absurd (omega arith)
+
+fresh_rest : (size raw p : ℕ) → code_of (fresh_kind size p) ≡ 5 → drop 32 (fresh_page size raw p) ≡ replicate (size - 16 - 16) 0
+unfolding fresh_page fresh_payload
+fresh_rest size raw p e =
+    ap (λ (kind : PageKind). drop 32 (page_of size (code_of kind) 1 1 p (fresh_payload size raw p kind))) (kind_data (fresh_kind size p) e) ∙ data_rest size p (if p == 4 then 1 else 0)
+
+history_kind : (page : Page) → is_history_page page ≡ true → kind_of page ≡ 5
+unfolding is_history_page
+history_kind page is = eqb-true (kind_of page) 5 (and_parts (kind_of page == 5) _ is).0
 
 module _ (size raw : ℕ) (is : IsTrue (is_page_size size)) (few : raw ≤ 65535) where
   pub fresh_length : length (fresh size raw) ≡ fresh_count size raw
@@ -218,3 +260,15 @@ module _ (size raw : ℕ) (is : IsTrue (is_page_size size)) (few : raw ≤ 65535
         most = omega (arith, fresh_length);
         sizes = of_size;
       }
+
+  -- it names no backup
+  pub fresh_past : (kept : List Kept) → NamesItsPast kept (fresh size raw)
+  unfolding slots_in
+  fresh_past kept = record {
+    rows = λ p low history.
+        let page : Page = page_at (fresh size raw) p in
+        let kind : code_of (fresh_kind size p) ≡ 5 = sym (shows p low).kind ∙ history_kind page history in
+        let rest : drop 32 page ≡ replicate (size - 16 - 16) 0 = ap (drop 32) (fresh_at p (omega (arith, fresh_length))) ∙ fresh_rest size raw p kind in
+        all_free (IsRemembered kept (fresh size raw)) page (size - 16 - 16) ((length page - 32) / 256) 32 rest (omega arith);
+    last = λ some. absurd (some fresh_guid);
+  }
