@@ -1,6 +1,6 @@
 -- A new database is sound, and names no backup.
-use Rattle.std.proofs.Common.{◌≡◌, ◌≢◌, inl, inr, ℕ, zero, suc, ◌+◌, ◌-◌, ◌*◌, ◌/◌, ◌%◌, ◌<◌, ◌≤◌, List, [], ◌∷◌, ◌++◌, length, get_or, take, drop, replicate, refl, sym, ap, subst, ◌∙◌, arith, length-append}
-use Rattle.std.specs.Prelude.{Bool, true, false, ◌==◌, ◌&&◌, IsTrue, if◌then◌else◌, slice_index}
+use Rattle.std.proofs.Common.{◌≡◌, inl, inr, ℕ, zero, suc, ◌+◌, ◌-◌, ◌*◌, ◌/◌, ◌%◌, ◌<◌, ◌≤◌, List, [], length, take, drop, replicate, refl, sym, ap, subst, ◌∙◌, arith}
+use Rattle.std.specs.Prelude.{true, false, ◌==◌, IsTrue, if◌then◌else◌, slice_index}
 use Rattle.std.specs.List.{AllByRecursion}
 use Rattle.std.proofs.lemmas.Bool.{cond-true, cond-false, cond_both, ne_eqb, eq-eqb, eqb-true, and_parts, cases_lt}
 use Rattle.std.proofs.lemmas.List.{drop-drop, drop-replicate}
@@ -11,21 +11,21 @@ use Rattle.nb_fields.specs.Bytes.{bytes_of, number_of, number_in, padded, part, 
 use Rattle.nb_fields.specs.Header.{size_of, scn_of, guid_of}
 use Rattle.nb_fields.specs.Kinds.{code_of}
 use Rattle.nb_fields.specs.Places.{is_page_size, entries_in, bits_in, inventory_place, scn_place, is_inventory_place, is_scn_place, is_system_place}
-use Rattle.nb_fields.specs.Page.{head_of, page_of, kind_of, stamp_of}
+use Rattle.nb_fields.specs.Page.{head_of, page_of, kind_of}
 use Rattle.nb_fields.specs.Payloads.{control_block, header_payload, inventory_payload, same_entries, scn_payload, data_payload, text_payload, bit_of, entry_of}
 use Rattle.nb_fields.specs.Fresh.{next_plain, length_after, fresh_count, fresh_kind, fresh_payload, fresh_page, fresh, ShowsFresh}
-use Rattle.nb_fields.proofs.NumberLemmas.{number_of-bytes_of, length-bytes_of}
+use Rattle.nb_fields.proofs.NumberLemmas.{number_of-bytes_of}
 use Rattle.nb_fields.proofs.PageLemmas.{length-page_of}
 use Rattle.nb_fields.proofs.SizeLemmas.{size_facts}
 use Rattle.nb_fields.proofs.FreshLemmas.{fresh_count-most}
 use Rattle.nb_fields.proofs.FreshLaws.{fresh_shows, length-taken_bits}
 use Rattle.nb_fields.proofs.PlaceLemmas.{fresh_kind-scn}
-use Rattle.nb_model.specs.Image.{Page, Image, page_at, image_size, image_scn, image_guid}
+use Rattle.nb_model.specs.Image.{Page, page_at, image_size, image_scn, image_guid}
 use Rattle.nb_model.specs.Account.{Kept}
 use Rattle.nb_model.specs.Chains.{Slot, is_used, slots_from, slots_in}
 use Rattle.nb_model.specs.Stands.{IsRemembered, NamesItsPast, is_history_page}
-use Rattle.nb_model.specs.Forms.{inventory_of, scn_page_of, scn_entry, has_entry, is_free_page}
-use Rattle.nb_model.specs.Sound.{HasNoZeros, IsOfSize, HasSystemPages, HasBitsBelow, HasEntries, HasStamps, SoundInventory, IsSoundImage}
+use Rattle.nb_model.specs.Forms.{scn_page_of, scn_entry, is_free_page}
+use Rattle.nb_model.specs.Sound.{HasNoZeros, IsOfSize, HasSystemPages, HasBitsBelow, HasEntries, HasStamps, IsSoundImage}
 use Rattle.nb_model.proofs.SoundLaws.{all_from, page_no_zeros, inventory_behind, scn_place_of, scn_place_before}
 
 -- a new database has five pages at least
@@ -130,8 +130,7 @@ all_free X page n zero at zeros behind = tt
 all_free X page n (suc count) at zeros behind =
     let place : 32 + (at - 32) ≡ at = omega arith in
     let rest : drop at page ≡ replicate (n - (at - 32)) 0 = ap (λ (k : ℕ). drop k page) (sym place) ∙ sym (drop-drop (at - 32) 32 page) ∙ ap (drop (at - 32)) zeros ∙ drop-replicate (at - 32) n 0 in
-    let first : slice_index (part at 256 page) 0 ≡ 0 = ap (λ (bytes : List ℕ). slice_index (take 256 bytes) 0) rest ∙ free_first (n - (at - 32)) in
-    (
+    let first : slice_index (part at 256 page) 0 ≡ 0 = ap (λ (bytes : List ℕ). slice_index (take 256 bytes) 0) rest ∙ free_first (n - (at - 32)) in (
       λ used. let one = eqb-true (slice_index (part at 256 page) 0) 1 used in absurd (omega arith),
       all_free X page n count (at + 256) zeros (omega arith),
     )
@@ -158,24 +157,24 @@ unfolding is_history_page
 history_kind page is = eqb-true (kind_of page) 5 (and_parts (kind_of page == 5) _ is).0
 
 module _ (size raw : ℕ) (is : IsTrue (is_page_size size)) (few : raw ≤ 65535) where
-  pub fresh_length : length (fresh size raw) ≡ fresh_count size raw
+  fresh_length : length (fresh size raw) ≡ fresh_count size raw
   unfolding fresh
   fresh_length = length-map-range_with_len (fresh_page size raw) 0 (fresh_count size raw)
 
-  pub fresh_at : (p : ℕ) → p < fresh_count size raw → page_at (fresh size raw) p ≡ fresh_page size raw p
+  fresh_at : (p : ℕ) → p < fresh_count size raw → page_at (fresh size raw) p ≡ fresh_page size raw p
   unfolding fresh
   fresh_at p h = get_or-map-range_with_len (fresh_page size raw) 0 (fresh_count size raw) p p [] h (omega arith)
 
   first_at : page_at (fresh size raw) 0 ≡ fresh_page size raw 0
   first_at = fresh_at 0 (let least = count_least size raw in omega arith)
 
-  pub fresh_size : image_size (fresh size raw) ≡ size
+  fresh_size : image_size (fresh size raw) ≡ size
   fresh_size = ap size_of first_at ∙ header_size size raw (let facts = size_facts size is in omega (arith, facts.at_most))
 
-  pub fresh_scn : image_scn (fresh size raw) ≡ 1
+  fresh_scn : image_scn (fresh size raw) ≡ 1
   fresh_scn = ap scn_of first_at ∙ header_scn size raw
 
-  pub fresh_guid : image_guid (fresh size raw) ≡ replicate 16 0
+  fresh_guid : image_guid (fresh size raw) ≡ replicate 16 0
   fresh_guid = ap guid_of first_at ∙ header_guid size raw
 
   -- what each page shows

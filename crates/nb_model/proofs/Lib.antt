@@ -16,4 +16,5 @@ pub mod AfterLaws
 pub mod SoundLaws
 pub mod FreshSound
 pub mod PutSound
+pub mod PastLaws
 pub mod StandsLaws

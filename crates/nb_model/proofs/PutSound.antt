@@ -1,34 +1,28 @@
--- What `put` keeps: after each front of its strokes the image is sound, and names the same backups.
-use Rattle.std.proofs.Common.{◌≡◌, ◌≢◌, ◌⊎◌, inl, inr, ℕ, zero, suc, ◌+◌, ◌-◌, ◌*◌, ◌/◌, ◌%◌, ◌^◌, ◌<◌, ◌≤◌, List, [], ◌∷◌, ◌++◌, length, take, drop, replicate, refl, sym, ap, subst, ◌∙◌, arith, length-append, length-drop, set, get_or-set_other}
-use Rattle.std.specs.Prelude.{Bool, true, false, not, ◌==◌, ◌||◌, ◌&&◌, nat_lt, nat_le, Option, Some, None, IsTrue}
-use Rattle.std.specs.List.{AllByRecursion}
-use Rattle.std.proofs.lemmas.Bool.{and_left, and_parts, or_parts, eqb-true, ne_eqb, cases_lt}
+-- What `put` keeps: after each front of its strokes the image is sound.
+use Rattle.std.proofs.Common.{◌≡◌, ◌≢◌, ◌⊎◌, inl, inr, ℕ, zero, suc, ◌+◌, ◌-◌, ◌*◌, ◌/◌, ◌%◌, ◌^◌, ◌<◌, ◌≤◌, List, [], ◌∷◌, ◌++◌, length, take, drop, refl, sym, ap, subst, ◌∙◌, arith, length-append, length-drop}
+use Rattle.std.specs.Prelude.{Bool, true, false, not, ◌==◌, nat_le, Some, None, IsTrue}
+use Rattle.std.proofs.lemmas.Bool.{and_parts, cases_lt}
 use Rattle.std.proofs.lemmas.Bool.Decides.{eqb_tells, leb_tells}
 use Rattle.std.proofs.lemmas.List.{length-replicate, take-append-le, take_all, drop-drop}
 use Rattle.nb_fields.specs.Bytes.{number_of, bytes_of, number_in, part, with_part, is_zeros, padded}
 use Rattle.nb_fields.specs.Header.{is_marked, is_header, size_of}
-use Rattle.nb_fields.specs.Places.{is_page_size, entries_in, bits_in, is_inventory_place, is_scn_place, is_system_place}
+use Rattle.nb_fields.specs.Places.{is_page_size, entries_in, bits_in, is_inventory_place, is_scn_place}
 use Rattle.nb_fields.specs.Page.{head_of, page_of, kind_of, stamp_of, generation_of, stamped}
-use Rattle.nb_fields.specs.Payloads.{bit_of, entry_of, text_payload}
+use Rattle.nb_fields.specs.Payloads.{entry_of, text_payload}
 use Rattle.nb_fields.proofs.NumberLemmas.{length-bytes_of}
 use Rattle.nb_fields.proofs.PartLemmas.{length-with_part, number_in-with_part, number_in-with_part_other}
 use Rattle.nb_fields.proofs.PageLemmas.{length-head_of, length-page_of, kind_of-page_of, stamp_of-page_of, padded_whole, part-append}
 use Rattle.nb_fields.proofs.SizeLemmas.{SizeFacts, size_facts}
 use Rattle.nb_fields.proofs.PlaceLemmas.{entries-least}
 use Rattle.nb_host.specs.declared.refusals.Refusal.{Refusal}
-use Rattle.nb_model.specs.Image.{Page, Image, page_at, first_page, image_size, image_scn, image_guid, with_page}
-use Rattle.nb_model.specs.Account.{Base, base_of, Kept}
-use Rattle.nb_model.specs.Strokes.{Stroke, page, base_after, merged_page}
-use Rattle.nb_model.specs.Forms.{Draft, drafted, old_page, wrote, written, needs, is_kind, inventory_of, scn_page_of, bit_number, entry_number, scn_entry, is_free_page, has_entry, entry_written, entry_raised, raised, put}
+use Rattle.nb_model.specs.Image.{Page, Image, page_at, first_page, image_size, image_scn, with_page}
+use Rattle.nb_model.specs.Account.{Base, base_of}
+use Rattle.nb_model.specs.Strokes.{Stroke, base_after, merged_page}
+use Rattle.nb_model.specs.Forms.{Draft, drafted, old_page, wrote, written, needs, is_kind, inventory_of, scn_page_of, entry_number, scn_entry, has_entry, entry_written, entry_raised, raised, put}
 use Rattle.nb_model.specs.Causes.{Cause, first_cause, when, not_raw}
 use Rattle.nb_model.specs.Sound.{IsSoundImage}
-use Rattle.nb_model.specs.Chains.{Slot, is_used, slots_in}
-use Rattle.nb_model.specs.Follows.{Follows}
-use Rattle.nb_model.specs.Stands.{IsKeptAs, is_history_page, GoesOn, IsRemembered, NamesItsPast}
-use Rattle.nb_model.proofs.StrokeLaws.{with_page_same}
-use Rattle.nb_model.proofs.FollowsLaws.{follows_set, follows_add}
 use Rattle.nb_model.proofs.DraftLaws.{IsOf, drafted_is, drafts_are}
-use Rattle.nb_model.proofs.SoundLaws.{all_at, page_no_zeros, inventory_there, scn_page_there, scn_place_some, scn_place_before, with_page_length, HasFields, FitsAt, scn_no_entry, first_stays, size_stays, scn_stays, fields_stay, written_other, entry_here, page_sound}
+use Rattle.nb_model.proofs.SoundLaws.{all_at, page_no_zeros, inventory_there, scn_page_there, scn_place_some, scn_place_before, with_page_length, HasFields, FitsAt, scn_no_entry, size_stays, scn_stays, fields_stay, entry_here, header_kind, page_sound}
 
 true_false : true ≡ false → ⊥
 true_false h = cc
@@ -347,18 +341,12 @@ module _ (Q : Image → Type 0) (kind : ℕ)
       let image : (written p kind payload (raised p d)).image ≡ with_page p (now_page x p kind payload h.fields h.sound some fit) x = written_image p kind payload (raised p d) fits.behind in
       holds_after (Held Q) b p kind payload (raised p d) ready.through (subst (Held Q) (sym image) (stepped x p _ h fits (inl (now_kind x p kind payload h.fields h.sound some fit))))
 
--- a header names a page size, and its page is of kind 1
+-- a header names a page size
 header_size : (first : Page) → is_header first ≡ true → IsTrue (is_page_size (size_of first))
 unfolding is_header
 header_size first is =
     let sound = (and_parts (is_marked first) _ (and_parts (nat_le 64 (length first)) _ is).1).1 in
     (and_parts _ _ (and_parts _ _ (and_parts _ _ sound).0).0).1
-
-header_kind : (first : Page) → is_header first ≡ true → kind_of first ≡ 1
-unfolding is_header is_marked
-header_kind first is =
-    let marked = (and_parts (is_marked first) _ (and_parts (nat_le 64 (length first)) _ is).1).0 in
-    eqb-true (kind_of first) 1 (and_parts _ _ (and_parts _ _ (and_parts _ _ marked).0).0).0
 
 -- page 0 is a header, and its SCN has four bytes
 pub record HasHeader (image : Image) : Type 0 where
@@ -393,10 +381,9 @@ raw_facts image p h =
     let three = no_first _ _ two.1 in
     let four = no_first _ _ three.1 in
     let inside : nat_le (length image) p ≡ false = not_when _ _ one.0 in
-    let raw : not (kind_of (page_at image p) == 8) ≡ false = not_when _ _ four.0 in
-    (
+    let raw : not (kind_of (page_at image p) == 8) ≡ false = not_when _ _ four.0 in (
       elim (leb_tells (length image) p) [ inl w ↦ absurd (true_false (sym w.0 ∙ inside)) | inr w ↦ w.1 ],
-      elim (eqb_tells (kind_of (page_at image p)) 8) [ inl w ↦ w.1 | inr w ↦ absurd (true_false (ap not (sym w.0) ∙ raw)) ]
+      elim (eqb_tells (kind_of (page_at image p)) 8) [ inl w ↦ w.1 | inr w ↦ absurd (true_false (ap not (sym w.0) ∙ raw)) ],
     )
 
 -- so it is no system page
@@ -446,70 +433,3 @@ pub put_sound : (image : Image) (p : ℕ) (text : List ℕ) → HasHeader image 
 put_sound image p text h is none short k =
     let through : Throughout (Held IsSoundImage) (base_of image) (put p 8 (text_payload text) (drafted image)) = text_holds IsSoundImage (λ x q bytes fields sound fits of_kind also. page_sound x q bytes fields sound fits) image p text h is is none short in
     (through.each k).sound
-
--- what holds of each row
-all_rows : (P R : Slot → Type 0) (rows : List Slot) → ((row : Slot) → P row → R row) → AllByRecursion P rows → AllByRecursion R rows
-all_rows P R [] goes h = tt
-all_rows P R (row ∷ rows) goes h = (goes row h.0, all_rows P R rows goes h.1)
-
--- a page that fits changes nothing of lineage
-follows_written : (a image : Image) (n p : ℕ) (bytes : Page) → Follows a n image → 1 ≤ p → p ≤ length image → n < stamp_of bytes → 1 ≤ length image → Follows a n (with_page p bytes image)
-unfolding with_page
-follows_written a image n p bytes f behind there high some = elim (leb_tells (suc p) (length image)) [
-  | inl w ↦ rw (w.0, with_page) (follows_set p bytes f w.1 high (ap (λ (page : Page). image_size (page ∷ [])) (get_or-set_other image p 0 bytes [] (omega arith))))
-  | inr w ↦ rw (w.0, with_page) (follows_add bytes f some high)
-]
-
-no_history : (bytes : Page) → kind_of bytes ≢ 5 → is_history_page bytes ≡ false
-unfolding is_history_page
-no_history bytes other = and_left (kind_of bytes == 5) _ (ne_eqb (kind_of bytes) 5 other)
-
-module _ (kept : List Kept) (image : Image) (p : ℕ) (bytes : Page) (fields : HasFields image) (is : IsSoundImage image) (fits : FitsAt image p bytes) (no_rows : is_history_page bytes ≡ false) (past : NamesItsPast kept image) where
-  goes_on_still : (r : Kept) → GoesOn r image → GoesOn r (with_page p bytes image)
-  goes_on_still r on =
-      let least = is.least in
-      record {
-        earlier = subst (λ (n : ℕ). r.scn < n) (sym (scn_stays image p bytes fields is fits)) on.earlier;
-        follows = follows_written r.image image r.scn p bytes on.follows fits.behind fits.there (subst (λ (n : ℕ). r.scn < n) (sym fits.stamp) on.earlier) (omega arith);
-      }
-
-  remembered_still : (row : Slot) → IsRemembered kept image row → IsRemembered kept (with_page p bytes image) row
-  remembered_still row h = record {
-    backup = h.backup;
-    kept_as = h.kept_as;
-    scn = h.scn;
-    level = h.level;
-    goes_on = goes_on_still h.backup h.goes_on;
-  }
-
-  guid_stays : image_guid (with_page p bytes image) ≡ image_guid image
-  guid_stays = ap (λ (page : Page). image_guid (page ∷ [])) (first_stays image p bytes fields is fits)
-
-  -- the image names the same backups
-  pub page_past : NamesItsPast kept (with_page p bytes image)
-  page_past = record {
-    rows = λ q low history. elim (eqb_tells q p) [
-      | inl w ↦ absurd (true_false (sym history ∙ ap (λ (n : ℕ). is_history_page (page_at (with_page p bytes image) n)) w.1 ∙ ap is_history_page (with_page_same p bytes image fits.there) ∙ no_rows))
-      | inr w ↦
-          let same : page_at (with_page p bytes image) q ≡ page_at image q = written_other image p bytes fields is fits q w.1 in
-          let inside : q < length image = omega (arith, with_page_length p bytes image fits.there, w.1) in
-          subst (λ (page : Page). AllByRecursion (λ row. is_used row ≡ true → IsRemembered kept (with_page p bytes image) row) (slots_in page)) (sym same)
-          (all_rows (λ row. is_used row ≡ true → IsRemembered kept image row) (λ row. is_used row ≡ true → IsRemembered kept (with_page p bytes image) row) (slots_in (page_at image q))
-          (λ row h used. remembered_still row (h used)) (past.rows q inside (ap is_history_page (sym same) ∙ history)))
-    ];
-    last = λ some.
-        let old = past.last (λ none. some (guid_stays ∙ none)) in
-        (old.0, subst (λ (guid : List ℕ). IsKeptAs kept guid old.0) (sym guid_stays) old.1, goes_on_still old.0 old.2);
-  }
-
--- each front of the strokes of a write names the same backups
-pub put_past : (kept : List Kept) (image : Image) (p : ℕ) (text : List ℕ) → HasHeader image → IsSoundImage image → NamesItsPast kept image → not_raw image p ≡ None → length text ≤ 200
-    → (k : ℕ) → NamesItsPast kept (base_after (base_of image) (take k (put p 8 (text_payload text) (drafted image)).strokes)).image
-put_past kept image p text h is past none short k =
-    let through : Throughout (Held (NamesItsPast kept)) (base_of image) (put p 8 (text_payload text) (drafted image)) = text_holds (NamesItsPast kept) step image p text h is past none short in
-    (through.each k).also
-  where
-    step : (x : Image) (q : ℕ) (bytes : Page) → HasFields x → IsSoundImage x → FitsAt x q bytes → (kind_of bytes ≡ 8) ⊎ (kind_of bytes ≡ 10) → NamesItsPast kept x → NamesItsPast kept (with_page q bytes x)
-    step x q bytes fields sound fits of_kind before =
-        let other : kind_of bytes ≢ 5 = elim of_kind [ inl e ↦ omega (arith, e) | inr e ↦ omega (arith, e) ] in
-        page_past kept x q bytes fields sound fits (no_history bytes other) before

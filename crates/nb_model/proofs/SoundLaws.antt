@@ -1,18 +1,19 @@
 -- What keeps an image sound: each page stroke of a page that fits at its place.
-use Rattle.std.proofs.Common.{◌≡◌, ◌≢◌, ◌⊎◌, inl, inr, ℕ, zero, suc, ◌+◌, ◌-◌, ◌*◌, ◌/◌, ◌%◌, ◌<◌, ◌≤◌, List, [], ◌∷◌, ◌++◌, length, refl, sym, ap, subst, ◌∙◌, arith, length-append, length-set}
-use Rattle.std.specs.Prelude.{Bool, true, false, ◌==◌, ◌||◌, ◌&&◌, nat_lt, max, IsTrue}
+use Rattle.std.proofs.Common.{◌≡◌, ◌≢◌, ◌⊎◌, inl, inr, ℕ, zero, suc, ◌+◌, ◌-◌, ◌*◌, ◌/◌, ◌%◌, ◌<◌, ◌≤◌, List, [], ◌∷◌, length, refl, sym, ap, subst, ◌∙◌, arith, length-append, length-set}
+use Rattle.std.specs.Prelude.{Bool, true, false, ◌==◌, ◌||◌, ◌&&◌, nat_le, nat_lt, max, IsTrue}
 use Rattle.std.specs.List.{AllByRecursion}
 use Rattle.std.proofs.Math.Nat.{mul-mod_left, mod-eq_of_lt, div-eq_of_lt}
-use Rattle.std.proofs.lemmas.Bool.{eq-eqb, eqb-true, lt-ltb, ltb-true, or_left, or_right, or_cases, and_left, and_from, and_parts}
+use Rattle.std.proofs.lemmas.Bool.{eq-eqb, eqb-true, lt-ltb, ltb-true, or_right, or_cases, and_left, and_from, and_parts}
 use Rattle.std.proofs.lemmas.Bool.Decides.{eqb_tells, leb_tells}
 use Rattle.nb_fields.specs.Bytes.{is_zeros}
+use Rattle.nb_fields.specs.Header.{is_marked, is_header}
 use Rattle.nb_fields.specs.Places.{is_page_size, entries_in, bits_in, inventory_place, scn_place, is_inventory_place, is_scn_place}
 use Rattle.nb_fields.specs.Page.{head_of, page_of, kind_of, stamp_of}
 use Rattle.nb_fields.specs.Payloads.{bit_of, entry_of}
 use Rattle.nb_fields.proofs.PlaceLemmas.{entries-least, bits-least}
 use Rattle.nb_model.specs.Image.{Page, Image, page_at, first_page, image_size, image_scn, with_page}
 use Rattle.nb_model.specs.Forms.{inventory_of, scn_page_of, bit_number, entry_number, scn_entry, is_free_page, has_entry}
-use Rattle.nb_model.specs.Sound.{HasNoZeros, IsOfSize, HasSystemPages, HasBitsBelow, HasEntries, HasStamps, IsSoundImage}
+use Rattle.nb_model.specs.Sound.{IsOfSize, HasSystemPages, HasBitsBelow, HasEntries, HasStamps, IsSoundImage}
 use Rattle.nb_model.proofs.StrokeLaws.{with_page_same, with_page_other}
 
 true_false : true ≡ false → ⊥
@@ -113,6 +114,13 @@ with_page_length p bytes image low = elim (leb_tells (suc p) (length image)) [
   | inl w ↦ rw (w.0, with_page) (omega (arith, w.1, length-set image p bytes))
   | inr w ↦ rw (w.0, with_page) (omega (arith, w.1, length-append image (bytes ∷ [])))
 ]
+
+-- a header's page is of kind 1
+pub header_kind : (first : Page) → is_header first ≡ true → kind_of first ≡ 1
+unfolding is_header is_marked
+header_kind first is =
+    let marked = (and_parts (is_marked first) _ (and_parts (nat_le 64 (length first)) _ is).1).0 in
+    eqb-true (kind_of first) 1 (and_parts _ _ (and_parts _ _ (and_parts _ _ marked).0).0).0
 
 -- the header names a page size, and its SCN has four bytes
 pub record HasFields (image : Image) : Type 0 where

@@ -1,11 +1,11 @@
 -- The files go on to stand for the account where one of them becomes a database in the normal state.
-use Rattle.std.proofs.Common.{◌≡◌, ◌≢◌, ◌⊎◌, inl, inr, ℕ, ◌+◌, ◌-◌, List, [], ◌∷◌, ◌++◌, length, take, drop, refl, sym, ap, subst, ◌∙◌, arith, length-append}
-use Rattle.std.specs.Prelude.{Bool, true, false, ◌&&◌, ◌==◌, Option, Some, None, Result, Ok, Err, IsTrue, is_some, Contains, nat_le, nat_eq}
+use Rattle.std.proofs.Common.{◌≡◌, ◌≢◌, ◌⊎◌, inl, inr, ℕ, ◌-◌, List, [], ◌∷◌, ◌++◌, length, drop, refl, sym, ap, subst, ◌∙◌, arith, length-append}
+use Rattle.std.specs.Prelude.{Bool, true, false, ◌==◌, Option, Some, None, Result, Ok, Err, IsTrue, is_some, Contains, nat_eq}
 use Rattle.std.specs.Cmp.Lexicographic.{told_text, pointwise}
 use Rattle.std.proofs.lemmas.Bool.{and_parts, eqb-true}
 use Rattle.std.proofs.lemmas.List.{drop_at}
 use Rattle.nb_fields.specs.Bytes.{number_of, number_in}
-use Rattle.nb_fields.specs.Header.{is_marked, is_sound, is_header, state_of, size_of, scn_of, pending_of}
+use Rattle.nb_fields.specs.Header.{is_header, state_of}
 use Rattle.nb_host.specs.Files.{File, Files}
 use Rattle.nb_host.specs.Names.{same_name, is_delta, delta_suffix}
 use Rattle.nb_host.specs.declared.refusals.Refusal.{Refusal}
@@ -18,6 +18,7 @@ use Rattle.nb_model.specs.Owner.{delta_name, owner, entry_of_files, entry_in}
 use Rattle.nb_model.specs.Main.{HoldsMain}
 use Rattle.nb_model.specs.Sound.{IsSoundImage}
 use Rattle.nb_model.specs.Stands.{Belongs, to_base, to_record, IsSameImage, IsFrozenMain, HasSoundImages, HoldsItsRecord, KeepsRecords, NamesItsPast, FollowsHistory, is_applying, HasNoStrayDelta, HasApplyingStandbys, Stands}
+use Rattle.nb_model.proofs.SoundLaws.{header_kind}
 use Rattle.nb_model.proofs.RunLaws.{same_self, entry_same}
 
 true_false : true ≡ false → ⊥
@@ -68,12 +69,6 @@ formed_header bytes formed = by_test (is_header bytes) refl
     by_test false is = absurd (some_none (not_database bytes) (refused is) formed)
 
 -- and begins no level file
-header_marked : (bytes : List ℕ) → is_header bytes ≡ true → number_in 0 1 bytes ≡ 1
-unfolding is_header is_marked
-header_marked bytes is =
-    let marked = and_parts (is_marked bytes) _ (and_parts (nat_le 64 (length bytes)) _ is).1 in
-    eqb-true (number_in 0 1 bytes) 1 (and_parts _ _ (and_parts _ _ (and_parts _ _ marked.0).0).0).0
-
 no_level_begins : (bytes : List ℕ) → number_in 0 1 bytes ≡ 1 → begins_level bytes ≡ false
 unfolding number_in number_of begins_level
 no_level_begins [] h = refl
@@ -84,7 +79,7 @@ unfolding read_level first_fault
 not_level bytes e = rw (e, read_level) refl
 
 header_no_level : (bytes : List ℕ) (c : Contents) → is_header bytes ≡ true → read_level bytes ≡ Ok c → ⊥
-header_no_level bytes c is reads = ok_err (read_level bytes) reads (not_level bytes (no_level_begins bytes (header_marked bytes is)))
+header_no_level bytes c is reads = ok_err (read_level bytes) reads (not_level bytes (no_level_begins bytes (header_kind bytes is)))
   where
     ok_err : (x : Result Contents ℕ) → x ≡ Ok c → x ≡ Err 0 → ⊥
     ok_err x a b = cc
