@@ -82,10 +82,7 @@ module _ (kept : List Kept) (image : Image) (p : ℕ) (bytes : Page) (fields : H
 pub put_past : (kept : List Kept) (image : Image) (p : ℕ) (text : List ℕ) → HasHeader image → IsSoundImage image → NamesItsPast kept image → not_raw image p ≡ None → length text ≤ 200
     → (k : ℕ) → NamesItsPast kept (base_after (base_of image) (take k (put p 8 (text_payload text) (drafted image)).strokes)).image
 put_past kept image p text h is past none short k =
-    let through : Throughout (Held (NamesItsPast kept)) (base_of image) (put p 8 (text_payload text) (drafted image)) = text_holds (NamesItsPast kept) step image p text h is past none short in
+    let through : Throughout (Held (NamesItsPast kept)) (base_of image) (put p 8 (text_payload text) (drafted image)) =
+    text_holds (NamesItsPast kept) (λ bytes. is_history_page bytes ≡ false) (λ bytes e. no_history bytes (omega (arith, e))) (λ bytes e. no_history bytes (omega (arith, e)))
+    (λ x q bytes fields sound fits no_rows before. page_past kept x q bytes fields sound fits no_rows before) image p text h is past none short in
     (through.each k).also
-  where
-    step : (x : Image) (q : ℕ) (bytes : Page) → HasFields x → IsSoundImage x → FitsAt x q bytes → (kind_of bytes ≡ 8) ⊎ (kind_of bytes ≡ 10) → NamesItsPast kept x → NamesItsPast kept (with_page q bytes x)
-    step x q bytes fields sound fits of_kind before =
-        let other : kind_of bytes ≢ 5 = elim of_kind [ inl e ↦ omega (arith, e) | inr e ↦ omega (arith, e) ] in
-        page_past kept x q bytes fields sound fits (no_history bytes other) before

@@ -22,16 +22,20 @@ use Rattle.nb_model.specs.Forms.{Draft, drafted, old_page, wrote, written, needs
 use Rattle.nb_model.specs.Causes.{Cause, first_cause, when, not_raw}
 use Rattle.nb_model.specs.Sound.{IsSoundImage}
 use Rattle.nb_model.proofs.DraftLaws.{IsOf, drafted_is, drafts_are}
-use Rattle.nb_model.proofs.SoundLaws.{all_at, page_no_zeros, inventory_there, scn_page_there, scn_place_some, scn_place_before, with_page_length, HasFields, FitsAt, scn_no_entry, size_stays, scn_stays, fields_stay, entry_here, header_kind, page_sound}
+use Rattle.nb_model.proofs.SoundLaws.{all_at, page_no_zeros, inventory_there, scn_page_there, scn_place_some, scn_place_before, with_page_length, HasFields, FitsAt, scn_no_entry, size_stays, scn_stays, fields_stay, entry_here, header_kind, written_other, page_sound}
 
 true_false : true ≡ false → ⊥
 true_false h = cc
 
--- Page p may get a payload: it is no system page, and stands below the length or at it.
-pub record IsPlain (image : Image) (p : ℕ) : Type 0 where
+-- page p may be written: it isn't page 0, and stands below the length or at it
+pub record IsPlace (image : Image) (p : ℕ) : Type 0 where
   pub behind : 1 ≤ p
   pub there : p ≤ length image
   pub most : p < 1048576
+
+-- such a page that is no system page
+pub record IsPlain (image : Image) (p : ℕ) : Type 0 where
+  pub place : IsPlace image p
   pub no_inventory : is_inventory_place (image_size image) p ≡ false
   pub no_scn_page : is_scn_place (image_size image) p ≡ false
 
@@ -66,9 +70,9 @@ module _ (image : Image) (p kind : ℕ) (payload : List ℕ) (fields : HasFields
   -- it fits where no system page stands, once the entry is current
   plain_fits : IsPlain image p → (has_entry image p ≡ true → scn_entry image p ≡ image_scn image) → FitsAt image p now_page
   plain_fits plain current = record {
-    behind = plain.behind;
-    there = plain.there;
-    most = plain.most;
+    behind = plain.place.behind;
+    there = plain.place.there;
+    most = plain.place.most;
     size = now_length;
     no_zeros = now_some;
     stamp = now_stamp;
@@ -90,12 +94,12 @@ module _ (image : Image) (p kind : ℕ) (payload : List ℕ) (fields : HasFields
           let there : is_scn_place (image_size image) p ≡ true = subst (λ (n : ℕ). is_scn_place (image_size image) n ≡ true) at (scn_page_there (image_size image) (q / entries_in (image_size image)) fields.size) in
           true_false (sym there ∙ plain.no_scn_page)
 
--- the SCN page of a plain page is there
-scn_page_below : (image : Image) (p : ℕ) → HasFields image → 5 ≤ length image → IsPlain image p → scn_page_of image p < length image
-scn_page_below image p fields least plain =
+-- the SCN page of a page with an entry is there
+scn_page_below : (image : Image) (p : ℕ) → HasFields image → 5 ≤ length image → IsPlace image p → has_entry image p ≡ true → scn_page_of image p < length image
+scn_page_below image p fields least at has =
     let place : is_scn_place (image_size image) (scn_page_of image p) ≡ true = scn_page_there (image_size image) (p / entries_in (image_size image)) fields.size in
-    let other : scn_page_of image p ≢ p = λ e. true_false (sym place ∙ ap (is_scn_place (image_size image)) e ∙ plain.no_scn_page) in
-    let there = plain.there in
+    let other : scn_page_of image p ≢ p = λ e. true_false (sym has ∙ scn_no_entry image p (ap (is_scn_place (image_size image)) (sym e) ∙ place)) in
+    let there = at.there in
     elim (scn_place_before (image_size image) p fields.size) [ inl second ↦ omega arith | inr before ↦ omega arith ]
 
 -- an entry behind the head of a page that is stamped
@@ -258,65 +262,70 @@ pub record Held (Q : Image → Type 0) (image : Image) : Type 0 where
   pub sound : IsSoundImage image
   pub also : Q image
 
--- the entry of page p is current in a draft
-record IsCurrent (Q : Image → Type 0) (b : Base) (size p : ℕ) (d : Draft) : Type 0 where
-  through : Throughout (Held Q) b d
-  plain : IsPlain d.image p
-  same_size : image_size d.image ≡ size
-  current : has_entry d.image p ≡ true → scn_entry d.image p ≡ image_scn d.image
+-- x is the image with the SCN entry of page p raised to the current SCN, and no other page changed
+pub record Raises (image x : Image) (p : ℕ) : Type 0 where
+  pub size : image_size x ≡ image_size image
+  pub scn : image_scn x ≡ image_scn image
+  pub long : length x ≡ length image
+  pub others : (q : ℕ) → q ≢ scn_page_of image p → page_at x q ≡ page_at image q
+  pub current : has_entry x p ≡ true → scn_entry x p ≡ image_scn x
 
--- Q is kept by each page that fits, if it is of that kind or an SCN page
-module _ (Q : Image → Type 0) (kind : ℕ)
-    (step : (image : Image) (p : ℕ) (bytes : Page) → HasFields image → IsSoundImage image → FitsAt image p bytes → (kind_of bytes ≡ kind) ⊎ (kind_of bytes ≡ 10) → Q image → Q (with_page p bytes image)) where
-  stepped : (image : Image) (p : ℕ) (bytes : Page) → Held Q image → FitsAt image p bytes → (kind_of bytes ≡ kind) ⊎ (kind_of bytes ≡ 10) → Held Q (with_page p bytes image)
+-- a draft whose image is the image with that entry raised
+record IsRaised (Q : Image → Type 0) (b : Base) (image : Image) (p : ℕ) (d : Draft) : Type 0 where
+  through : Throughout (Held Q) b d
+  raises : Raises image d.image p
+
+-- What `put` leaves: the image with the entry of page p raised, and then with that page.
+pub record IsPut (Q : Image → Type 0) (b : Base) (image : Image) (p kind : ℕ) (payload : List ℕ) (d : Draft) : Type 0 where
+  pub through : Throughout (Held Q) b d
+  pub between : Image
+  pub raises : Raises image between p
+  pub is : d.image ≡ with_page p (stamped (old_page p between) kind payload (image_scn between) p) between
+
+-- Q is kept by each page that fits and that K holds of, as it does of each SCN page
+module _ (Q : Image → Type 0) (K : Page → Type 0) (scn_pages : (bytes : Page) → kind_of bytes ≡ 10 → K bytes)
+    (step : (image : Image) (p : ℕ) (bytes : Page) → HasFields image → IsSoundImage image → FitsAt image p bytes → K bytes → Q image → Q (with_page p bytes image)) where
+  stepped : (image : Image) (p : ℕ) (bytes : Page) → Held Q image → FitsAt image p bytes → K bytes → Held Q (with_page p bytes image)
   stepped image p bytes h fits of_kind = record {
     fields = fields_stay image p bytes h.fields h.sound fits;
     sound = page_sound image p bytes h.fields h.sound fits;
     also = step image p bytes h.fields h.sound fits of_kind h.also;
   }
 
-  -- a plain page stays one
-  plain_stays : (image : Image) (p q : ℕ) (bytes : Page) → Held Q image → FitsAt image q bytes → IsPlain image p → IsPlain (with_page q bytes image) p
-  plain_stays image p q bytes h fits plain =
-      let size = size_stays image q bytes h.fields h.sound fits in
-      record {
-        behind = plain.behind;
-        there = let there = plain.there in omega (arith, with_page_length q bytes image fits.there);
-        most = plain.most;
-        no_inventory = ap (λ (s : ℕ). is_inventory_place s p) size ∙ plain.no_inventory;
-        no_scn_page = ap (λ (s : ℕ). is_scn_place s p) size ∙ plain.no_scn_page;
-      }
-
-  entry_is_written : (b : Base) (p : ℕ) (d : Draft) → Throughout (Held Q) b d → IsPlain d.image p → IsCurrent Q b (image_size d.image) p (entry_written p d)
+  entry_is_written : (b : Base) (p : ℕ) (d : Draft) → has_entry d.image p ≡ true → Throughout (Held Q) b d → IsPlace d.image p → IsRaised Q b d.image p (entry_written p d)
   unfolding entry_written
-  entry_is_written b p d through plain =
+  entry_is_written b p d has through at =
       let h : Held Q d.image = holds_now (Held Q) b d through in
-      let low : scn_page_of d.image p < length d.image = scn_page_below d.image p h.fields h.sound.least plain in
+      let low : scn_page_of d.image p < length d.image = scn_page_below d.image p h.fields h.sound.least at has in
       let fits : FitsAt d.image (scn_page_of d.image p) (raised_page d.image p h.fields h.sound low) = raised_fits d.image p h.fields h.sound low in
       let of_kind : kind_of (raised_page d.image p h.fields h.sound low) ≡ 10 = fits.scn_page (place d.image p h.fields h.sound low) in
       let image : (entry_written p d).image ≡ with_page (scn_page_of d.image p) (raised_page d.image p h.fields h.sound low) d.image = written_image (scn_page_of d.image p) 10 _ d fits.behind in
-      let after : Held Q (with_page (scn_page_of d.image p) (raised_page d.image p h.fields h.sound low) d.image) = stepped d.image _ _ h fits (inr of_kind) in
+      let after : Held Q (with_page (scn_page_of d.image p) (raised_page d.image p h.fields h.sound low) d.image) = stepped d.image _ _ h fits (scn_pages _ of_kind) in
       record {
         through = holds_after (Held Q) b (scn_page_of d.image p) 10 _ d through (subst (Held Q) (sym image) after);
-        plain = subst (λ (x : Image). IsPlain x p) (sym image) (plain_stays d.image p _ _ h fits plain);
-        same_size = ap image_size image ∙ size_stays d.image _ _ h.fields h.sound fits;
-        current = λ has. ap (λ (x : Image). scn_entry x p) image ∙ now_current d.image p h.fields h.sound low ∙ sym (scn_stays d.image _ _ h.fields h.sound fits) ∙ ap image_scn (sym image);
+        raises = subst (λ (x : Image). Raises d.image x p) (sym image) (record {
+          size = size_stays d.image _ _ h.fields h.sound fits;
+          scn = scn_stays d.image _ _ h.fields h.sound fits;
+          long = omega (arith, with_page_length (scn_page_of d.image p) (raised_page d.image p h.fields h.sound low) d.image fits.there);
+          others = λ q other. written_other d.image _ _ h.fields h.sound fits q other;
+          current = λ also. now_current d.image p h.fields h.sound low ∙ sym (scn_stays d.image _ _ h.fields h.sound fits);
+        });
       }
 
-  entry_is_raised : (b : Base) (p : ℕ) (d : Draft) → has_entry d.image p ≡ true → Throughout (Held Q) b d → IsPlain d.image p → IsCurrent Q b (image_size d.image) p (entry_raised p d)
+  entry_is_raised : (b : Base) (p : ℕ) (d : Draft) → has_entry d.image p ≡ true → Throughout (Held Q) b d → IsPlace d.image p → IsRaised Q b d.image p (entry_raised p d)
   unfolding entry_raised
-  entry_is_raised b p d has through plain = elim (leb_tells (suc (scn_entry d.image p)) (image_scn d.image)) [
-    | inl w ↦ rw (w.0, entry_raised) (entry_is_written b p d through plain)
+  entry_is_raised b p d has through at = elim (leb_tells (suc (scn_entry d.image p)) (image_scn d.image)) [
+    | inl w ↦ rw (w.0, entry_raised) (entry_is_written b p d has through at)
     | inr w ↦
         let h : Held Q d.image = holds_now (Held Q) b d through in
-        let low : scn_page_of d.image p < length d.image = scn_page_below d.image p h.fields h.sound.least plain in
+        let low : scn_page_of d.image p < length d.image = scn_page_below d.image p h.fields h.sound.least at has in
         let most = h.sound.sound.entries.no_later p low has in
-        rw (w.0, entry_raised) (record { through = through; plain = plain; same_size = refl; current = λ also. omega (arith, w.1) })
+        rw (w.0, entry_raised) (record { through = through; raises = record { size = refl; scn = refl; long = refl; others = λ q other. refl; current = λ also. omega (arith, w.1) } })
   ]
 
-  is_raised : (b : Base) (p : ℕ) (d : Draft) → Throughout (Held Q) b d → IsPlain d.image p → IsCurrent Q b (image_size d.image) p (raised p d)
+  is_raised : (b : Base) (p : ℕ) (d : Draft) → Throughout (Held Q) b d → IsPlace d.image p → IsRaised Q b d.image p (raised p d)
   unfolding raised
-  is_raised b p d through plain = by_test (has_entry d.image p) refl
+  is_raised b p d through at = by_test (has_entry d.image p) refl
     where
       read : Draft
       read = needs 10 (scn_page_of d.image p) d
@@ -324,22 +333,46 @@ module _ (Q : Image → Type 0) (kind : ℕ)
       same : read.image ≡ d.image
       same = needs_image 10 (scn_page_of d.image p) d
 
-      by_test : (t : Bool) → has_entry d.image p ≡ t → IsCurrent Q b (image_size d.image) p (raised p d)
-      by_test true has = rw (has, raised) (subst (λ (size : ℕ). IsCurrent Q b size p (entry_raised p read)) (ap image_size same)
-          (entry_is_raised b p read (ap (λ (x : Image). has_entry x p) same ∙ has) (needs_holds (Held Q) b 10 (scn_page_of d.image p) d through) (subst (λ (x : Image). IsPlain x p) (sym same) plain)))
-      by_test false has = rw (has, raised) (record { through = through; plain = plain; same_size = refl; current = λ also. absurd (true_false (sym also ∙ has)) })
+      by_test : (t : Bool) → has_entry d.image p ≡ t → IsRaised Q b d.image p (raised p d)
+      by_test true has = rw (has, raised) (subst (λ (image : Image). IsRaised Q b image p (entry_raised p read)) same
+          (entry_is_raised b p read (ap (λ (x : Image). has_entry x p) same ∙ has) (needs_holds (Held Q) b 10 (scn_page_of d.image p) d through) (subst (λ (x : Image). IsPlace x p) (sym same) at)))
+      by_test false has = rw (has, raised) (record {
+        through = through;
+        raises = record { size = refl; scn = refl; long = refl; others = λ q other. refl; current = λ also. absurd (true_false (sym also ∙ has)) };
+      })
 
-  -- so it holds after each front of the strokes of `put`
-  pub put_holds : (b : Base) (p : ℕ) (payload : List ℕ) (d : Draft) → Throughout (Held Q) b d → IsPlain d.image p → (kind == 0) ≡ false → 16 + length payload ≤ image_size d.image → Throughout (Held Q) b (put p kind payload d)
+  -- so Q holds after each front of the strokes of `put`, where the page fits once its entry is raised
+  pub put_holds : (b : Base) (p kind : ℕ) (payload : List ℕ) (d : Draft) → Throughout (Held Q) b d → IsPlace d.image p
+      → ((x : Image) → Held Q x → Raises d.image x p → FitsAt x p (stamped (old_page p x) kind payload (image_scn x) p) × K (stamped (old_page p x) kind payload (image_scn x) p))
+      → IsPut Q b d.image p kind payload (put p kind payload d)
   unfolding put
-  put_holds b p payload d through plain some room =
-      let ready : IsCurrent Q b (image_size d.image) p (raised p d) = is_raised b p d through plain in
+  put_holds b p kind payload d through at fit =
+      let ready : IsRaised Q b d.image p (raised p d) = is_raised b p d through at in
       let x : Image = (raised p d).image in
       let h : Held Q x = holds_now (Held Q) b (raised p d) ready.through in
-      let fit : 16 + length payload ≤ image_size x = omega (arith, ready.same_size) in
-      let fits : FitsAt x p (now_page x p kind payload h.fields h.sound some fit) = plain_fits x p kind payload h.fields h.sound some fit ready.plain ready.current in
-      let image : (written p kind payload (raised p d)).image ≡ with_page p (now_page x p kind payload h.fields h.sound some fit) x = written_image p kind payload (raised p d) fits.behind in
-      holds_after (Held Q) b p kind payload (raised p d) ready.through (subst (Held Q) (sym image) (stepped x p _ h fits (inl (now_kind x p kind payload h.fields h.sound some fit))))
+      let fits = fit x h ready.raises in
+      let image : (written p kind payload (raised p d)).image ≡ with_page p (stamped (old_page p x) kind payload (image_scn x) p) x = written_image p kind payload (raised p d) at.behind in
+      record {
+        through = holds_after (Held Q) b p kind payload (raised p d) ready.through (subst (Held Q) (sym image) (stepped x p _ h fits.0 fits.1));
+        between = x;
+        raises = ready.raises;
+        is = image;
+      }
+
+  -- a page that is no system page fits then
+  pub plain_holds : (b : Base) (p kind : ℕ) (payload : List ℕ) (d : Draft) → Throughout (Held Q) b d → IsPlain d.image p → (kind == 0) ≡ false → 16 + length payload ≤ image_size d.image
+      → ((bytes : Page) → kind_of bytes ≡ kind → K bytes) → IsPut Q b d.image p kind payload (put p kind payload d)
+  plain_holds b p kind payload d through plain some room of_kind = put_holds b p kind payload d through plain.place fit
+    where
+      fit : (x : Image) → Held Q x → Raises d.image x p → FitsAt x p (stamped (old_page p x) kind payload (image_scn x) p) × K (stamped (old_page p x) kind payload (image_scn x) p)
+      fit x h raises =
+          let room_x : 16 + length payload ≤ image_size x = omega (arith, raises.size) in
+          let plain_x : IsPlain x p = record {
+            place = record { behind = plain.place.behind; there = let low = plain.place.there in omega (arith, raises.long); most = plain.place.most };
+            no_inventory = ap (λ (s : ℕ). is_inventory_place s p) raises.size ∙ plain.no_inventory;
+            no_scn_page = ap (λ (s : ℕ). is_scn_place s p) raises.size ∙ plain.no_scn_page;
+          } in
+          (plain_fits x p kind payload h.fields h.sound some room_x plain_x raises.current, of_kind _ (now_kind x p kind payload h.fields h.sound some room_x))
 
 -- a header names a page size
 header_size : (first : Page) → is_header first ≡ true → IsTrue (is_page_size (size_of first))
@@ -394,12 +427,14 @@ raw_plain image p h is none =
     let kind : kind_of (page_at image p) ≡ 8 = raw.1 in
     let most = is.most in
     record {
-      behind = elim (eqb_tells p 0) [
+      place = record {
+        behind = elim (eqb_tells p 0) [
         | inl w ↦ let first : kind_of (page_at image p) ≡ 1 = ap (λ (n : ℕ). kind_of (page_at image n)) w.1 ∙ header_kind (first_page image) h.header in absurd (omega arith)
         | inr w ↦ omega (arith, w.1)
-      ];
-      there = omega arith;
-      most = omega arith;
+        ];
+        there = omega arith;
+        most = omega arith;
+      };
       no_inventory = by_inventory low kind (is_inventory_place (image_size image) p) refl;
       no_scn_page = by_scn_page low kind (is_scn_place (image_size image) p) refl;
     }
@@ -417,19 +452,20 @@ unfolding text_payload bytes_of
 text_room text short = omega arith
 
 -- a text is put into a raw page, and Q is kept
-module _ (Q : Image → Type 0)
-    (step : (image : Image) (p : ℕ) (bytes : Page) → HasFields image → IsSoundImage image → FitsAt image p bytes → (kind_of bytes ≡ 8) ⊎ (kind_of bytes ≡ 10) → Q image → Q (with_page p bytes image)) where
+module _ (Q : Image → Type 0) (K : Page → Type 0) (scn_pages : (bytes : Page) → kind_of bytes ≡ 10 → K bytes) (raw_pages : (bytes : Page) → kind_of bytes ≡ 8 → K bytes)
+    (step : (image : Image) (p : ℕ) (bytes : Page) → HasFields image → IsSoundImage image → FitsAt image p bytes → K bytes → Q image → Q (with_page p bytes image)) where
   pub text_holds : (image : Image) (p : ℕ) (text : List ℕ) → HasHeader image → IsSoundImage image → Q image → not_raw image p ≡ None → length text ≤ 200
       → Throughout (Held Q) (base_of image) (put p 8 (text_payload text) (drafted image))
   text_holds image p text h is also none short =
       let fields : HasFields image = header_fields image h in
       let facts : SizeFacts (image_size image) = size_facts (image_size image) fields.size in
-      put_holds Q 8 step (base_of image) p (text_payload text) (drafted image) (at_first (Held Q) (base_of image) (record { fields = fields; sound = is; also = also })) (raw_plain image p h is none) refl
-      (omega (arith, facts.at_least, text_room text short))
+      let first : Throughout (Held Q) (base_of image) (drafted image) = at_first (Held Q) (base_of image) (record { fields = fields; sound = is; also = also }) in
+      (plain_holds Q K scn_pages step (base_of image) p 8 (text_payload text) (drafted image) first (raw_plain image p h is none) refl (omega (arith, facts.at_least, text_room text short)) raw_pages).through
 
 -- each front of the strokes of a write leaves a sound image
 pub put_sound : (image : Image) (p : ℕ) (text : List ℕ) → HasHeader image → IsSoundImage image → not_raw image p ≡ None → length text ≤ 200
     → (k : ℕ) → IsSoundImage (base_after (base_of image) (take k (put p 8 (text_payload text) (drafted image)).strokes)).image
 put_sound image p text h is none short k =
-    let through : Throughout (Held IsSoundImage) (base_of image) (put p 8 (text_payload text) (drafted image)) = text_holds IsSoundImage (λ x q bytes fields sound fits of_kind also. page_sound x q bytes fields sound fits) image p text h is is none short in
+    let through : Throughout (Held IsSoundImage) (base_of image) (put p 8 (text_payload text) (drafted image)) =
+    text_holds IsSoundImage (λ bytes. Unit {0}) (λ bytes e. tt) (λ bytes e. tt) (λ x q bytes fields sound fits any also. page_sound x q bytes fields sound fits) image p text h is is none short in
     (through.each k).sound
