@@ -17,4 +17,5 @@ pub mod SoundLaws
 pub mod FreshSound
 pub mod PutSound
 pub mod PastLaws
+pub mod HeadSound
 pub mod StandsLaws

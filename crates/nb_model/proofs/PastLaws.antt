@@ -1,5 +1,5 @@
 -- What a write of a raw page keeps: after each front of its strokes the image names the same backups.
-use Rattle.std.proofs.Common.{◌≡◌, ◌≢◌, ◌⊎◌, inl, inr, ℕ, suc, ◌<◌, ◌≤◌, List, [], ◌∷◌, length, take, sym, ap, subst, ◌∙◌, arith, get_or-set_other}
+use Rattle.std.proofs.Common.{◌≡◌, ◌≢◌, ◌⊎◌, inl, inr, ℕ, suc, ◌<◌, ◌≤◌, List, [], ◌∷◌, length, take, refl, sym, ap, subst, ◌∙◌, arith, set}
 use Rattle.std.specs.Prelude.{true, false, ◌==◌, None}
 use Rattle.std.specs.List.{AllByRecursion}
 use Rattle.std.proofs.lemmas.Bool.{and_left, ne_eqb}
@@ -17,7 +17,7 @@ use Rattle.nb_model.specs.Follows.{Follows}
 use Rattle.nb_model.specs.Stands.{IsKeptAs, is_history_page, GoesOn, IsRemembered, NamesItsPast}
 use Rattle.nb_model.proofs.StrokeLaws.{with_page_same}
 use Rattle.nb_model.proofs.FollowsLaws.{follows_set, follows_add}
-use Rattle.nb_model.proofs.SoundLaws.{first_stays, written_other, with_page_length, HasFields, FitsAt, scn_stays}
+use Rattle.nb_model.proofs.SoundLaws.{written_other, with_page_length, HasFields, FitsAt, size_stays, scn_stays, guid_stays}
 use Rattle.nb_model.proofs.PutSound.{HasHeader, Held, Throughout, text_holds}
 
 true_false : true ≡ false → ⊥
@@ -29,14 +29,16 @@ all_rows P R [] goes h = tt
 all_rows P R (row ∷ rows) goes h = (goes row h.0, all_rows P R rows goes h.1)
 
 -- a page that fits changes nothing of lineage
-follows_written : (a image : Image) (n p : ℕ) (bytes : Page) → Follows a n image → 1 ≤ p → p ≤ length image → n < stamp_of bytes → 1 ≤ length image → Follows a n (with_page p bytes image)
+follows_written : (a image : Image) (n p : ℕ) (bytes : Page) → Follows a n image → p ≤ length image → n < stamp_of bytes → 1 ≤ length image → image_size (with_page p bytes image) ≡ image_size image → Follows a n (with_page p bytes image)
 unfolding with_page
-follows_written a image n p bytes f behind there high some = elim (leb_tells (suc p) (length image)) [
-  | inl w ↦ rw (w.0, with_page) (follows_set p bytes f w.1 high (ap (λ (page : Page). image_size (page ∷ [])) (get_or-set_other image p 0 bytes [] (omega arith))))
+follows_written a image n p bytes f there high some size = elim (leb_tells (suc p) (length image)) [
+  | inl w ↦
+      let whole : with_page p bytes image ≡ set image p bytes = rw (w.0, with_page) refl in
+      subst (Follows a n) (sym whole) (follows_set p bytes f w.1 high (sym (ap image_size whole) ∙ size))
   | inr w ↦ rw (w.0, with_page) (follows_add bytes f some high)
 ]
 
-no_history : (bytes : Page) → kind_of bytes ≢ 5 → is_history_page bytes ≡ false
+pub no_history : (bytes : Page) → kind_of bytes ≢ 5 → is_history_page bytes ≡ false
 unfolding is_history_page
 no_history bytes other = and_left (kind_of bytes == 5) _ (ne_eqb (kind_of bytes) 5 other)
 
@@ -46,7 +48,7 @@ module _ (kept : List Kept) (image : Image) (p : ℕ) (bytes : Page) (fields : H
       let least = is.least in
       record {
         earlier = subst (λ (n : ℕ). r.scn < n) (sym (scn_stays image p bytes fields is fits)) on.earlier;
-        follows = follows_written r.image image r.scn p bytes on.follows fits.behind fits.there (subst (λ (n : ℕ). r.scn < n) (sym fits.stamp) on.earlier) (omega arith);
+        follows = follows_written r.image image r.scn p bytes on.follows fits.there (subst (λ (n : ℕ). r.scn < n) (sym fits.stamp) on.earlier) (omega arith) (size_stays image p bytes fields is fits);
       }
 
   remembered_still : (row : Slot) → IsRemembered kept image row → IsRemembered kept (with_page p bytes image) row
@@ -57,9 +59,6 @@ module _ (kept : List Kept) (image : Image) (p : ℕ) (bytes : Page) (fields : H
     level = h.level;
     goes_on = goes_on_still h.backup h.goes_on;
   }
-
-  guid_stays : image_guid (with_page p bytes image) ≡ image_guid image
-  guid_stays = ap (λ (page : Page). image_guid (page ∷ [])) (first_stays image p bytes fields is fits)
 
   -- the image names the same backups
   pub page_past : NamesItsPast kept (with_page p bytes image)
@@ -74,8 +73,8 @@ module _ (kept : List Kept) (image : Image) (p : ℕ) (bytes : Page) (fields : H
           (λ row h used. remembered_still row (h used)) (past.rows q inside (ap is_history_page (sym same) ∙ history)))
     ];
     last = λ some.
-        let old = past.last (λ none. some (guid_stays ∙ none)) in
-        (old.0, subst (λ (guid : List ℕ). IsKeptAs kept guid old.0) (sym guid_stays) old.1, goes_on_still old.0 old.2);
+        let old = past.last (λ none. some (guid_stays image p bytes fields is fits ∙ none)) in
+        (old.0, subst (λ (guid : List ℕ). IsKeptAs kept guid old.0) (sym (guid_stays image p bytes fields is fits)) old.1, goes_on_still old.0 old.2);
   }
 
 -- each front of the strokes of a write names the same backups

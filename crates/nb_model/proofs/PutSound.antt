@@ -70,7 +70,7 @@ module _ (image : Image) (p kind : ℕ) (payload : List ℕ) (fields : HasFields
   -- it fits where no system page stands, once the entry is current
   plain_fits : IsPlain image p → (has_entry image p ≡ true → scn_entry image p ≡ image_scn image) → FitsAt image p now_page
   plain_fits plain current = record {
-    behind = plain.place.behind;
+    head = λ e. absurd (let some = plain.place.behind in omega arith);
     there = plain.place.there;
     most = plain.place.most;
     size = now_length;
@@ -180,7 +180,7 @@ module _ (image : Image) (p : ℕ) (fields : HasFields image) (is : IsSoundImage
 
   raised_fits : FitsAt image s raised_page
   raised_fits = record {
-    behind = let two = scn_place_some (image_size image) (p / entries_in (image_size image)) fields.size in omega arith;
+    head = λ e. absurd (let two = scn_place_some (image_size image) (p / entries_in (image_size image)) fields.size in omega arith);
     there = omega arith;
     most = let most = is.most in omega arith;
     size = now_length image s 10 (drop 16 entries) fields is refl room;
@@ -299,7 +299,7 @@ module _ (Q : Image → Type 0) (K : Page → Type 0) (scn_pages : (bytes : Page
       let low : scn_page_of d.image p < length d.image = scn_page_below d.image p h.fields h.sound.least at has in
       let fits : FitsAt d.image (scn_page_of d.image p) (raised_page d.image p h.fields h.sound low) = raised_fits d.image p h.fields h.sound low in
       let of_kind : kind_of (raised_page d.image p h.fields h.sound low) ≡ 10 = fits.scn_page (place d.image p h.fields h.sound low) in
-      let image : (entry_written p d).image ≡ with_page (scn_page_of d.image p) (raised_page d.image p h.fields h.sound low) d.image = written_image (scn_page_of d.image p) 10 _ d fits.behind in
+      let image : (entry_written p d).image ≡ with_page (scn_page_of d.image p) (raised_page d.image p h.fields h.sound low) d.image = written_image (scn_page_of d.image p) 10 _ d (let two = scn_place_some (image_size d.image) (p / entries_in (image_size d.image)) h.fields.size in omega arith) in
       let after : Held Q (with_page (scn_page_of d.image p) (raised_page d.image p h.fields h.sound low) d.image) = stepped d.image _ _ h fits (scn_pages _ of_kind) in
       record {
         through = holds_after (Held Q) b (scn_page_of d.image p) 10 _ d through (subst (Held Q) (sym image) after);

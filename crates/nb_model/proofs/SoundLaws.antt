@@ -1,17 +1,18 @@
 -- What keeps an image sound: each page stroke of a page that fits at its place.
-use Rattle.std.proofs.Common.{◌≡◌, ◌≢◌, ◌⊎◌, inl, inr, ℕ, zero, suc, ◌+◌, ◌-◌, ◌*◌, ◌/◌, ◌%◌, ◌<◌, ◌≤◌, List, [], ◌∷◌, length, refl, sym, ap, subst, ◌∙◌, arith, length-append, length-set}
+use Rattle.std.proofs.Common.{◌≡◌, ◌≢◌, ◌⊎◌, inl, inr, ℕ, zero, suc, ◌+◌, ◌-◌, ◌*◌, ◌/◌, ◌%◌, ◌<◌, ◌≤◌, List, [], ◌∷◌, length, take, refl, sym, ap, subst, ◌∙◌, arith, length-append, length-set}
 use Rattle.std.specs.Prelude.{Bool, true, false, ◌==◌, ◌||◌, ◌&&◌, nat_le, nat_lt, max, IsTrue}
 use Rattle.std.specs.List.{AllByRecursion}
 use Rattle.std.proofs.Math.Nat.{mul-mod_left, mod-eq_of_lt, div-eq_of_lt}
 use Rattle.std.proofs.lemmas.Bool.{eq-eqb, eqb-true, lt-ltb, ltb-true, or_right, or_cases, and_left, and_from, and_parts}
 use Rattle.std.proofs.lemmas.Bool.Decides.{eqb_tells, leb_tells}
-use Rattle.nb_fields.specs.Bytes.{is_zeros}
+use Rattle.nb_fields.specs.Bytes.{part, number_in, is_zeros}
 use Rattle.nb_fields.specs.Header.{is_marked, is_header}
 use Rattle.nb_fields.specs.Places.{is_page_size, entries_in, bits_in, inventory_place, scn_place, is_inventory_place, is_scn_place}
 use Rattle.nb_fields.specs.Page.{head_of, page_of, kind_of, stamp_of}
 use Rattle.nb_fields.specs.Payloads.{bit_of, entry_of}
+use Rattle.nb_fields.proofs.PartLemmas.{number_in-take, part-take}
 use Rattle.nb_fields.proofs.PlaceLemmas.{entries-least, bits-least}
-use Rattle.nb_model.specs.Image.{Page, Image, page_at, first_page, image_size, image_scn, with_page}
+use Rattle.nb_model.specs.Image.{Page, Image, page_at, first_page, image_size, image_scn, image_guid, with_page}
 use Rattle.nb_model.specs.Forms.{inventory_of, scn_page_of, bit_number, entry_number, scn_entry, is_free_page, has_entry}
 use Rattle.nb_model.specs.Sound.{IsOfSize, HasSystemPages, HasBitsBelow, HasEntries, HasStamps, IsSoundImage}
 use Rattle.nb_model.proofs.StrokeLaws.{with_page_same, with_page_other}
@@ -57,7 +58,14 @@ scn_place_some size (suc k) is =
     let more : entries_in size ≤ suc k * entries_in size = omega arith in
     omega arith
 
--- page 0 is no inventory page
+-- page 0 is no inventory page, and no SCN page
+pub inventory_place_some : (size k : ℕ) → IsTrue (is_page_size size) → 1 ≤ inventory_place size k
+inventory_place_some size zero is = omega arith
+inventory_place_some size (suc k) is =
+    let least = bits-least size is in
+    let more : bits_in size ≤ suc k * bits_in size = omega arith in
+    omega arith
+
 pub inventory_behind : (size p : ℕ) → IsTrue (is_page_size size) → is_inventory_place size p ≡ true → p ≢ 0
 unfolding is_inventory_place
 inventory_behind size p is at e =
@@ -68,6 +76,10 @@ inventory_behind size p is at e =
       | inl first ↦ let is_one = eqb-true p 1 first in absurd (omega arith)
       | inr whole ↦ let none = eqb-true ((p + 1) % bits_in size) 0 whole in absurd (omega arith)
     ]
+
+pub scn_page_behind : (size p : ℕ) → is_scn_place size p ≡ true → p ≢ 0
+unfolding is_scn_place
+scn_page_behind size p at e = true_false (sym at ∙ ap (is_scn_place size) e)
 
 -- an SCN page stands where its number says
 pub scn_place_of : (size p : ℕ) → IsTrue (is_page_size size) → is_scn_place size p ≡ true → scn_place size (p / entries_in size) ≡ p
@@ -127,10 +139,10 @@ pub record HasFields (image : Image) : Type 0 where
   pub size : IsTrue (is_page_size (image_size image))
   pub scn : image_scn image < 4294967296
 
--- What may be written at a place: a page stamped with the current SCN, whose own entry is current. A system page takes no bit
--- past the length, and lowers no entry.
+-- What may be written at a place: a page stamped with the current SCN, whose own entry is current. Page 0 keeps its first 64
+-- bytes. A system page takes no bit past the length, and lowers no entry.
 pub record FitsAt (image : Image) (p : ℕ) (bytes : Page) : Type 0 where
-  pub behind : 1 ≤ p
+  pub head : p ≡ 0 → take 64 bytes ≡ take 64 (first_page image)
   pub there : p ≤ length image
   pub most : p < 1048576
   pub size : length bytes ≡ image_size image
@@ -161,15 +173,24 @@ module _ (image : Image) (p : ℕ) (bytes : Page) (fields : HasFields image) (is
   longer : length new ≡ max (length image) (p + 1)
   longer = with_page_length p bytes image fits.there
 
-  -- the header stays
-  pub first_stays : first_page new ≡ first_page image
-  first_stays = let some = fits.behind in written_other 0 (omega arith)
+  -- the header's fields stay
+  head_stays : take 64 (first_page new) ≡ take 64 (first_page image)
+  head_stays = elim (eqb_tells p 0) [
+    | inl w ↦ ap (λ (n : ℕ). take 64 (page_at new n)) (sym w.1) ∙ ap (take 64) written_here ∙ fits.head w.1
+    | inr w ↦ ap (take 64) (written_other 0 (λ e. w.1 (sym e)))
+  ]
+
+  number_stays : (at w : ℕ) → at + w ≤ 64 → number_in at w (first_page new) ≡ number_in at w (first_page image)
+  number_stays at w inside = sym (number_in-take 64 at w (first_page new) inside) ∙ ap (number_in at w) head_stays ∙ number_in-take 64 at w (first_page image) inside
 
   pub size_stays : image_size new ≡ image_size image
-  size_stays = ap (λ (page : Page). image_size (page ∷ [])) first_stays
+  size_stays = number_stays 24 4 (omega arith)
 
   pub scn_stays : image_scn new ≡ image_scn image
-  scn_stays = ap (λ (page : Page). image_scn (page ∷ [])) first_stays
+  scn_stays = number_stays 28 4 (omega arith)
+
+  pub guid_stays : image_guid new ≡ image_guid image
+  guid_stays = sym (part-take 64 32 16 (first_page new) (omega arith)) ∙ ap (part 32 16) head_stays ∙ part-take 64 32 16 (first_page image) (omega arith)
 
   pub fields_stay : HasFields new
   fields_stay = record {
@@ -299,7 +320,7 @@ module _ (image : Image) (p : ℕ) (bytes : Page) (fields : HasFields image) (is
           let stamp : stamp_of (page_at new q) ≡ stamp_of (page_at image q) = ap stamp_of (written_other q w.1) in
           omega (arith, is.sound.stamps.no_later q (omega (arith, longer, w.1)), scn_stays)
     ];
-    head = ap stamp_of first_stays ∙ is.sound.stamps.head ∙ sym scn_stays;
+    head = number_stays 8 4 (omega arith) ∙ is.sound.stamps.head ∙ sym scn_stays;
   }
 
   -- a page that fits keeps the image sound

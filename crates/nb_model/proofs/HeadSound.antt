@@ -1,0 +1,128 @@
+-- What a write of page 0 keeps, whose first 64 bytes stay.
+use Rattle.std.proofs.Common.{◌≡◌, ◌≢◌, ℕ, zero, suc, ◌+◌, ◌-◌, ◌<◌, ◌≤◌, ◌/◌, List, [], ◌∷◌, ◌++◌, length, take, drop, replicate, refl, sym, ap, subst, ◌∙◌, arith, length-append, length-drop}
+use Rattle.std.specs.Prelude.{Bool, true, false, ◌==◌, IsTrue}
+use Rattle.std.proofs.lemmas.Bool.{and_parts, eqb-true, false_from_ne_true}
+use Rattle.std.proofs.lemmas.List.{take_at, length-take-le, take-replicate, drop-replicate, take-take}
+use Rattle.nb_fields.specs.Bytes.{number_of, number_in, part, with_part, is_zeros}
+use Rattle.nb_fields.specs.Header.{is_header}
+use Rattle.nb_fields.specs.Places.{is_page_size, entries_in, bits_in, is_inventory_place, is_scn_place}
+use Rattle.nb_fields.specs.Page.{kind_of, stamp_of}
+use Rattle.nb_fields.specs.Payloads.{bit_of}
+use Rattle.nb_fields.proofs.NumberLemmas.{number_of-drop_zeros}
+use Rattle.nb_fields.proofs.PartLemmas.{number_in-take, length-with_part}
+use Rattle.nb_fields.proofs.SizeLemmas.{SizeFacts, size_facts}
+use Rattle.nb_model.specs.Image.{Page, Image, page_at, first_page, image_size, image_scn, with_page}
+use Rattle.nb_model.specs.Account.{Base, base_of, Kept}
+use Rattle.nb_model.specs.Strokes.{Stroke, page, on_base, base_after, merged_page}
+use Rattle.nb_model.specs.Forms.{inventory_of, scn_page_of, has_entry}
+use Rattle.nb_model.specs.Pages.{byte_strokes}
+use Rattle.nb_model.specs.Sound.{IsSoundImage}
+use Rattle.nb_model.specs.Stands.{NamesItsPast, is_history_page}
+use Rattle.nb_model.proofs.SoundLaws.{all_at, inventory_behind, inventory_place_some, scn_page_behind, scn_place_some, HasFields, FitsAt, header_kind, page_sound}
+use Rattle.nb_model.proofs.PutSound.{HasHeader, header_fields}
+use Rattle.nb_model.proofs.PastLaws.{no_history, page_past}
+
+true_false : true ≡ false → ⊥
+true_false h = cc
+
+-- bytes of zeros spell 0
+all_zeros : (bytes : List ℕ) → is_zeros bytes ≡ true → bytes ≡ replicate (length bytes) 0
+all_zeros [] h = refl
+all_zeros (b ∷ bs) h =
+    let parts = and_parts (b == 0) (is_zeros bs) h in
+    let here : b ≡ 0 = eqb-true b 0 parts.0 in
+    let rest = all_zeros bs parts.1 in
+    cc
+
+front_spells : (k m : ℕ) → number_of (take k (replicate m 0)) ≡ 0
+unfolding number_of
+front_spells zero m = refl
+front_spells (suc k) zero = refl
+front_spells (suc k) (suc m) = let rest = front_spells k m in omega arith
+
+zeros_spell : (at w n : ℕ) → number_in at w (replicate n 0) ≡ 0
+unfolding number_in
+zeros_spell at w n = ap (λ (xs : List ℕ). number_of (take w xs)) (drop-replicate at n 0) ∙ front_spells w (n - at)
+
+-- a page that has a number other than 0 isn't all zeros
+spells : (at w : ℕ) (bytes : List ℕ) → number_in at w bytes ≢ 0 → is_zeros bytes ≡ false
+spells at w bytes some = false_from_ne_true (is_zeros bytes) (λ none. some (ap (number_in at w) (all_zeros bytes none) ∙ zeros_spell at w (length bytes)))
+
+module _ (image : Image) (bytes : Page) (fields : HasFields image) (is : IsSoundImage image) (long : length bytes ≡ image_size image) where
+  abbrev head_page : Page
+  head_page = merged_page 0 bytes image
+
+  facts : SizeFacts (image_size image)
+  facts = size_facts (image_size image) fields.size
+
+  first_length : length (first_page image) ≡ image_size image
+  first_length = let least = is.least in all_at (λ page. length page ≡ image_size image) image is.sizes 0 (omega arith)
+
+  front_length : length (take 64 (first_page image)) ≡ 64
+  front_length = length-take-le 64 (first_page image) (omega (arith, facts.at_least, first_length))
+
+  front : take 64 head_page ≡ take 64 (first_page image)
+  unfolding merged_page
+  front = take_at (take 64 (first_page image)) (drop 64 bytes) 64 front_length
+
+  head_length : length head_page ≡ image_size image
+  unfolding merged_page
+  head_length = omega (arith, facts.at_least, front_length, length-append (take 64 (first_page image)) (drop 64 bytes), length-drop 64 bytes)
+
+  head_number : (at w : ℕ) → at + w ≤ 64 → number_in at w head_page ≡ number_in at w (first_page image)
+  head_number at w inside = sym (number_in-take 64 at w head_page inside) ∙ ap (number_in at w) front ∙ number_in-take 64 at w (first_page image) inside
+
+  first_has_none : has_entry image 0 ≡ false
+  unfolding has_entry
+  first_has_none = refl
+
+  -- page 0 fits with its first 64 bytes
+  pub head_fits : FitsAt image 0 (merged_page 0 bytes image)
+  head_fits = record {
+    head = λ e. front;
+    there = omega arith;
+    most = omega arith;
+    size = head_length;
+    no_zeros = spells 24 4 head_page (λ none. absurd (omega (arith, facts.at_least, head_number 24 4 (omega arith))));
+    stamp = head_number 8 4 (omega arith) ∙ is.sound.stamps.head;
+    inventory = λ at. absurd (inventory_behind (image_size image) 0 fields.size at refl);
+    scn_page = λ at. absurd (scn_page_behind (image_size image) 0 at refl);
+    bits = λ q at taken. absurd (let some = inventory_place_some (image_size image) (q / bits_in (image_size image)) fields.size in omega arith);
+    current = λ has. absurd (true_false (sym has ∙ first_has_none));
+    no_lower = λ q at has low. absurd (let some = scn_place_some (image_size image) (q / entries_in (image_size image)) fields.size in omega arith);
+    no_later = λ q at has. absurd (let some = scn_place_some (image_size image) (q / entries_in (image_size image)) fields.size in omega arith);
+  }
+
+  -- so the image stays sound
+  pub head_sound : IsSoundImage (with_page 0 (merged_page 0 bytes image) image)
+  head_sound = page_sound image 0 head_page fields is head_fits
+
+  -- and names the same backups
+  pub head_past : (kept : List Kept) → is_header (first_page image) ≡ true → NamesItsPast kept image → NamesItsPast kept (with_page 0 (merged_page 0 bytes image) image)
+  head_past kept header past =
+      let kind : kind_of head_page ≡ 1 = head_number 0 1 (omega arith) ∙ header_kind (first_page image) header in
+      page_past kept image 0 head_page fields is head_fits (no_history head_page (omega (arith, kind))) past
+
+-- one byte of page 0 behind its first 64 is written: forced writes, and access
+module _ (image : Image) (at value : ℕ) (h : HasHeader image) (is : IsSoundImage image) (inside : at < 1024) where
+  abbrev changed : Page
+  changed = with_part at (value ∷ []) (first_page image)
+
+  changed_length : length changed ≡ image_size image
+  changed_length =
+      let fields = header_fields image h in
+      let first = first_length image (first_page image) fields is (all_at (λ page. length page ≡ image_size image) image is.sizes 0 (let least = is.least in omega arith)) in
+      let size : SizeFacts (image_size image) = size_facts (image_size image) fields.size in
+      length-with_part at (value ∷ []) (first_page image) (omega (arith, size.at_least)) ∙ first
+
+  one_byte : (Q : Image → Type 0) → Q image → Q (with_page 0 (merged_page 0 changed image) image) → (k : ℕ) → Q (base_after (base_of image) (take k (byte_strokes at value image))).image
+  unfolding base_after on_base byte_strokes
+  one_byte Q before now zero = before
+  one_byte Q before now (suc zero) = now
+  one_byte Q before now (suc (suc k)) = now
+
+  pub byte_sound : (k : ℕ) → IsSoundImage (base_after (base_of image) (take k (byte_strokes at value image))).image
+  byte_sound = one_byte IsSoundImage is (head_sound image changed (header_fields image h) is changed_length)
+
+  pub byte_past : (kept : List Kept) → NamesItsPast kept image → (k : ℕ) → NamesItsPast kept (base_after (base_of image) (take k (byte_strokes at value image))).image
+  byte_past kept past = one_byte (NamesItsPast kept) past (head_past image changed (header_fields image h) is changed_length kept h.header past)
