@@ -18,4 +18,5 @@ pub mod FreshSound
 pub mod PutSound
 pub mod PastLaws
 pub mod HeadSound
+pub mod BitLaws
 pub mod StandsLaws
