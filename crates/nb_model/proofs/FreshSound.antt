@@ -47,11 +47,11 @@ unfolding fresh_count
 count_least size raw = after_least size raw 5
 
 -- what stands at the system places
-kind_inventory : (size p : ℕ) → IsTrue (is_page_size size) → is_inventory_place size p ≡ true → fresh_kind size p ≡ Inventory
+pub kind_inventory : (size p : ℕ) → IsTrue (is_page_size size) → is_inventory_place size p ≡ true → fresh_kind size p ≡ Inventory
 unfolding fresh_kind
 kind_inventory size p is at = cond-false (p == 0) _ _ (ne_eqb p 0 (inventory_behind size p is at)) ∙ cond-true (is_inventory_place size p) _ _ at
 
-kind_scn : (size p : ℕ) → IsTrue (is_page_size size) → is_scn_place size p ≡ true → fresh_kind size p ≡ ScnInventory
+pub kind_scn : (size p : ℕ) → IsTrue (is_page_size size) → is_scn_place size p ≡ true → fresh_kind size p ≡ ScnInventory
 kind_scn size p is at = fresh_kind-scn size (p / entries_in size) p is (scn_place_of size p is at)
 
 -- a payload fits into its page
@@ -60,11 +60,11 @@ unfolding same_entries bytes_of
 entries_length scn zero = refl
 entries_length scn (suc n) = let h = entries_length scn n in omega arith
 
-inventory_length : (size k taken : ℕ) → length (inventory_payload size k taken) ≡ 16 + (size - 32)
+pub inventory_length : (size k taken : ℕ) → length (inventory_payload size k taken) ≡ 16 + (size - 32)
 unfolding inventory_payload bytes_of
 inventory_length size k taken = let h = length-taken_bits (size - 32) taken in omega arith
 
-scn_length : (size k scn : ℕ) → length (scn_payload size k scn) ≡ 16 + 4 * entries_in size
+pub scn_length : (size k scn : ℕ) → length (scn_payload size k scn) ≡ 16 + 4 * entries_in size
 unfolding scn_payload bytes_of
 scn_length size k scn = let h = entries_length scn (entries_in size) in omega arith
 

@@ -19,4 +19,5 @@ pub mod PutSound
 pub mod PastLaws
 pub mod HeadSound
 pub mod BitLaws
+pub mod BitSound
 pub mod StandsLaws

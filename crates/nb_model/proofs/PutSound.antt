@@ -44,26 +44,26 @@ module _ (image : Image) (p kind : ℕ) (payload : List ℕ) (fields : HasFields
   abbrev now_page : Page
   now_page = stamped (old_page p image) kind payload (image_scn image) p
 
-  old_length : length (old_page p image) ≡ image_size image
+  pub old_length : length (old_page p image) ≡ image_size image
   unfolding old_page
   old_length = elim (leb_tells (suc p) (length image)) [
     | inl w ↦ rw (w.0, old_page) (all_at (λ page. length page ≡ image_size image) image is.sizes p w.1)
     | inr w ↦ rw (w.0, old_page) (length-replicate (image_size image) 0)
   ]
 
-  now_length : length now_page ≡ image_size image
+  pub now_length : length now_page ≡ image_size image
   unfolding stamped
   now_length = length-page_of (length (old_page p image)) kind _ (image_scn image) p payload (omega (arith, old_length)) ∙ old_length
 
-  now_kind : kind_of now_page ≡ kind
+  pub now_kind : kind_of now_page ≡ kind
   unfolding stamped
   now_kind = kind_of-page_of (length (old_page p image)) kind _ (image_scn image) p payload
 
-  now_stamp : stamp_of now_page ≡ image_scn image
+  pub now_stamp : stamp_of now_page ≡ image_scn image
   unfolding stamped
   now_stamp = stamp_of-page_of (length (old_page p image)) kind _ (image_scn image) p payload fields.scn
 
-  now_some : is_zeros now_page ≡ false
+  pub now_some : is_zeros now_page ≡ false
   unfolding stamped
   now_some = page_no_zeros (length (old_page p image)) kind _ (image_scn image) p payload some
 
@@ -238,11 +238,11 @@ chosen P true x y px py = px
 chosen P false x y px py = py
 
 -- reading an inventory page changes no image
-needs_image : (kind p : ℕ) (d : Draft) → (needs kind p d).image ≡ d.image
+pub needs_image : (kind p : ℕ) (d : Draft) → (needs kind p d).image ≡ d.image
 unfolding needs
 needs_image kind p d = chosen (λ (x : Draft). x.image ≡ d.image) (is_kind d.image kind p) _ _ refl refl
 
-needs_holds : (Q : Image → Type 0) (b : Base) (kind p : ℕ) (d : Draft) → Throughout Q b d → Throughout Q b (needs kind p d)
+pub needs_holds : (Q : Image → Type 0) (b : Base) (kind p : ℕ) (d : Draft) → Throughout Q b d → Throughout Q b (needs kind p d)
 unfolding needs
 needs_holds Q b kind p d h = chosen (Throughout Q b) (is_kind d.image kind p) _ _ h (record { is = (drafts_are b).reads _ d h.is; each = h.each })
 
@@ -390,7 +390,7 @@ pub header_fields : (image : Image) → HasHeader image → HasFields image
 header_fields image h = record { size = header_size (first_page image) h.header; scn = h.scn }
 
 -- no cause is there
-no_first : (c : Cause) (cs : List Cause) → first_cause (c ∷ cs) ≡ None → (c ≡ None) × (first_cause cs ≡ None)
+pub no_first : (c : Cause) (cs : List Cause) → first_cause (c ∷ cs) ≡ None → (c ≡ None) × (first_cause cs ≡ None)
 unfolding first_cause
 no_first None cs h = (refl, h)
 no_first (Some r) cs h = absurd (some_none h)
@@ -398,7 +398,7 @@ no_first (Some r) cs h = absurd (some_none h)
     some_none : Some r ≡ None → ⊥
     some_none e = cc
 
-not_when : (t : Bool) (r : Refusal) → when t r ≡ None → t ≡ false
+pub not_when : (t : Bool) (r : Refusal) → when t r ≡ None → t ≡ false
 not_when false r h = refl
 not_when true r h = absurd (some_none h)
   where
@@ -406,7 +406,7 @@ not_when true r h = absurd (some_none h)
     some_none e = cc
 
 -- what is read and written is below the length, and a raw page
-raw_facts : (image : Image) (p : ℕ) → not_raw image p ≡ None → (p < length image) × (kind_of (page_at image p) ≡ 8)
+pub raw_facts : (image : Image) (p : ℕ) → not_raw image p ≡ None → (p < length image) × (kind_of (page_at image p) ≡ 8)
 unfolding not_raw
 raw_facts image p h =
     let one = no_first _ _ h in
