@@ -20,4 +20,5 @@ pub mod PastLaws
 pub mod HeadSound
 pub mod BitLaws
 pub mod BitSound
+pub mod NewSound
 pub mod StandsLaws
