@@ -1,19 +1,18 @@
 -- One bit of an inventory page is written: the page fits, and what is kept.
-use Rattle.std.proofs.Common.{◌≡◌, ◌≢◌, ◌⊎◌, inl, inr, ℕ, zero, suc, ◌+◌, ◌-◌, ◌*◌, ◌/◌, ◌%◌, ◌^◌, ◌<◌, ◌≤◌, List, [], ◌∷◌, ◌++◌, length, get_or, take, drop, refl, sym, ap, subst, ◌∙◌, arith, length-append, length-drop, set, length-set, get_or-set_same, get_or-set_other}
-use Rattle.std.specs.Prelude.{Bool, true, false, ◌==◌, None, IsTrue, slice_index, slice_set}
+use Rattle.std.proofs.Common.{◌≡◌, ◌≢◌, inl, inr, ℕ, zero, suc, ◌+◌, ◌-◌, ◌*◌, ◌/◌, ◌%◌, ◌^◌, ◌<◌, ◌≤◌, List, ◌++◌, length, get_or, drop, refl, sym, ap, ◌∙◌, arith, length-drop, set, length-set, get_or-set_same, get_or-set_other}
+use Rattle.std.specs.Prelude.{IsTrue, slice_index}
 use Rattle.std.specs.Int.{bit_at}
 use Rattle.std.proofs.Math.Nat.{pow-suc}
 use Rattle.std.proofs.lemmas.Nat.Bits.{bit_at_lowest, bit_at-suc}
 use Rattle.std.proofs.lemmas.Bool.Decides.{eqb_tells}
 use Rattle.std.proofs.lemmas.List.{get_or-append_right, get_or-drop}
 use Rattle.nb_fields.specs.Bytes.{padded}
-use Rattle.nb_fields.specs.Places.{is_page_size, bits_in, entries_in, inventory_place, is_inventory_place, is_scn_place}
-use Rattle.nb_fields.specs.Page.{head_of, page_of, kind_of, generation_of, stamped}
+use Rattle.nb_fields.specs.Places.{is_page_size, bits_in, inventory_place}
+use Rattle.nb_fields.specs.Page.{head_of, page_of, generation_of, stamped}
 use Rattle.nb_fields.specs.Payloads.{bit_of}
 use Rattle.nb_fields.proofs.PageLemmas.{length-head_of, padded_whole}
-use Rattle.nb_fields.proofs.SizeLemmas.{SizeFacts, size_facts}
 use Rattle.nb_fields.proofs.PlaceLemmas.{bits-least, inventory_index}
-use Rattle.nb_model.specs.Image.{Page, Image, page_at, image_size, image_scn, with_page}
+use Rattle.nb_model.specs.Image.{Page}
 use Rattle.nb_model.specs.Forms.{with_bit}
 
 -- a number with bit m so

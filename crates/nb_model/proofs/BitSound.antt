@@ -1,9 +1,9 @@
 -- What taking a page and giving it back keep: each front of their strokes leaves a sound image.
-use Rattle.std.proofs.Common.{◌≡◌, ◌≢◌, ◌⊎◌, inl, inr, ℕ, zero, suc, ◌+◌, ◌-◌, ◌*◌, ◌/◌, ◌%◌, ◌<◌, ◌≤◌, List, [], ◌∷◌, length, take, drop, refl, sym, ap, subst, ◌∙◌, arith, length-drop}
-use Rattle.std.specs.Prelude.{Bool, true, false, not, ◌==◌, nat_lt, None, IsTrue}
-use Rattle.std.proofs.lemmas.Bool.{and_parts, ltb-true}
+use Rattle.std.proofs.Common.{◌≡◌, inl, inr, ℕ, ◌+◌, ◌/◌, ◌%◌, ◌<◌, ◌≤◌, List, length, take, drop, refl, sym, ap, subst, ◌∙◌, arith, length-drop}
+use Rattle.std.specs.Prelude.{Bool, true, false, not, ◌==◌, nat_lt, None}
+use Rattle.std.proofs.lemmas.Bool.{true≢false, and_parts, ltb-true}
 use Rattle.std.proofs.lemmas.Bool.Decides.{eqb_tells}
-use Rattle.nb_fields.specs.Places.{is_page_size, entries_in, bits_in, inventory_place, scn_place, is_inventory_place, is_scn_place}
+use Rattle.nb_fields.specs.Places.{entries_in, bits_in, inventory_place, is_scn_place}
 use Rattle.nb_fields.specs.Page.{kind_of, stamped}
 use Rattle.nb_fields.specs.Payloads.{bit_of}
 use Rattle.nb_fields.proofs.SizeLemmas.{SizeFacts, size_facts}
@@ -11,7 +11,7 @@ use Rattle.nb_fields.proofs.PlaceLemmas.{bits-least}
 use Rattle.nb_model.specs.Image.{Page, Image, page_at, image_size, image_scn, with_page}
 use Rattle.nb_model.specs.Account.{Base, base_of, Kept}
 use Rattle.nb_model.specs.Strokes.{base_after}
-use Rattle.nb_model.specs.Forms.{Draft, drafted, old_page, needs, is_kind, inventory_of, scn_page_of, bit_number, entry_number, is_free_page, with_bit, set_bit, give_page}
+use Rattle.nb_model.specs.Forms.{Draft, drafted, old_page, needs, is_kind, inventory_of, scn_page_of, bit_number, is_free_page, with_bit, set_bit, give_page}
 use Rattle.nb_model.specs.Causes.{not_raw, not_kind}
 use Rattle.nb_model.specs.Sound.{IsSoundImage}
 use Rattle.nb_model.specs.Stands.{NamesItsPast, is_history_page}
@@ -19,9 +19,6 @@ use Rattle.nb_model.proofs.SoundLaws.{all_at, inventory_there, inventory_place_s
 use Rattle.nb_model.proofs.PutSound.{IsPlace, Raises, IsPut, Held, Throughout, HasHeader, header_fields, at_first, needs_image, needs_holds, holds_now, old_length, now_length, now_some, now_stamp, now_kind, put_holds, raw_facts, no_first, not_when}
 use Rattle.nb_model.proofs.PastLaws.{no_history, page_past}
 use Rattle.nb_model.proofs.BitLaws.{bit_else, with_bit_length, bit_behind, one_bit}
-
-true_false : true ≡ false → ⊥
-true_false h = cc
 
 -- The inventory page of page p with its bit written, once the entry of that inventory page is raised.
 module _ (image x : Image) (p bit : ℕ) (fields : HasFields image) (is : IsSoundImage image) (fields_x : HasFields x) (is_x : IsSoundImage x)
@@ -112,7 +109,7 @@ raw_inventory image p none =
   where
     by_test : (t : Bool) → is_kind image 2 (inventory_of image p) ≡ t → not_kind image 2 (inventory_of image p) ≡ None → inventory_of image p < length image
     by_test true is e = ltb-true (inventory_of image p) (length image) (and_parts (nat_lt (inventory_of image p) (length image)) _ is).0
-    by_test false is e = absurd (true_false (sym (ap not is) ∙ not_when _ _ e))
+    by_test false is e = absurd (true≢false (sym (ap not is) ∙ not_when _ _ e))
 
 module _ (Q : Image → Type 0) (K : Page → Type 0) (scn_pages : (bytes : Page) → kind_of bytes ≡ 10 → K bytes) (inventories : (bytes : Page) → kind_of bytes ≡ 2 → K bytes)
     (step : (image : Image) (p : ℕ) (bytes : Page) → HasFields image → IsSoundImage image → FitsAt image p bytes → K bytes → Q image → Q (with_page p bytes image)) where

@@ -2,7 +2,7 @@
 use Rattle.std.proofs.Common.{◌≡◌, inl, inr, ℕ, zero, suc, ◌+◌, ◌-◌, ◌*◌, ◌/◌, ◌%◌, ◌<◌, ◌≤◌, List, [], length, take, drop, replicate, refl, sym, ap, subst, ◌∙◌, arith}
 use Rattle.std.specs.Prelude.{true, false, ◌==◌, IsTrue, if◌then◌else◌, slice_index}
 use Rattle.std.specs.List.{AllByRecursion}
-use Rattle.std.proofs.lemmas.Bool.{cond-true, cond-false, cond_both, ne_eqb, eq-eqb, eqb-true, and_parts, cases_lt}
+use Rattle.std.proofs.lemmas.Bool.{true≢false, cond-true, cond-false, cond_both, ne_eqb, eq-eqb, eqb-true, and_parts, cases_lt}
 use Rattle.std.proofs.lemmas.List.{drop-drop, drop-replicate}
 use Rattle.std.proofs.lemmas.List.FromFn.{length-map-range_with_len, get_or-map-range_with_len}
 use Rattle.nb_fields.specs.declared.kinds.PageKind.{PageKind}
@@ -204,11 +204,8 @@ module _ (size raw : ℕ) (is : IsTrue (is_page_size size)) (few : raw ≤ 65535
     | inl below ↦ omega (arith, fresh_length)
     | inr past ↦
         let free = (shows (inventory_place size (p / bits_in size)) low).free p refl past in
-        absurd (true_false (sym (eq-eqb _ 1 free) ∙ taken))
+        absurd (true≢false (sym (eq-eqb _ 1 free) ∙ taken))
   ]
-    where
-      true_false : true ≡ false → ⊥
-      true_false h = cc
 
   bits : HasBitsBelow (fresh size raw)
   unfolding is_free_page

@@ -1,29 +1,24 @@
 -- What a write of page 0 keeps, whose first 64 bytes stay.
-use Rattle.std.proofs.Common.{◌≡◌, ◌≢◌, ℕ, zero, suc, ◌+◌, ◌-◌, ◌<◌, ◌≤◌, ◌/◌, List, [], ◌∷◌, ◌++◌, length, take, drop, replicate, refl, sym, ap, subst, ◌∙◌, arith, length-append, length-drop}
-use Rattle.std.specs.Prelude.{Bool, true, false, ◌==◌, IsTrue}
-use Rattle.std.proofs.lemmas.Bool.{and_parts, eqb-true, false_from_ne_true}
-use Rattle.std.proofs.lemmas.List.{take_at, length-take-le, take-replicate, drop-replicate, take-take}
-use Rattle.nb_fields.specs.Bytes.{number_of, number_in, part, with_part, is_zeros}
+use Rattle.std.proofs.Common.{◌≡◌, ◌≢◌, ℕ, zero, suc, ◌+◌, ◌-◌, ◌<◌, ◌≤◌, ◌/◌, List, [], ◌∷◌, length, take, drop, replicate, refl, sym, ap, ◌∙◌, arith, length-append, length-drop}
+use Rattle.std.specs.Prelude.{true, false, ◌==◌}
+use Rattle.std.proofs.lemmas.Bool.{true≢false, and_parts, eqb-true, false_from_ne_true}
+use Rattle.std.proofs.lemmas.List.{take_at, length-take-le, drop-replicate}
+use Rattle.nb_fields.specs.Bytes.{number_of, number_in, with_part, is_zeros}
 use Rattle.nb_fields.specs.Header.{is_header}
-use Rattle.nb_fields.specs.Places.{is_page_size, entries_in, bits_in, is_inventory_place, is_scn_place}
-use Rattle.nb_fields.specs.Page.{kind_of, stamp_of}
-use Rattle.nb_fields.specs.Payloads.{bit_of}
-use Rattle.nb_fields.proofs.NumberLemmas.{number_of-drop_zeros}
+use Rattle.nb_fields.specs.Places.{entries_in, bits_in}
+use Rattle.nb_fields.specs.Page.{kind_of}
 use Rattle.nb_fields.proofs.PartLemmas.{number_in-take, length-with_part}
 use Rattle.nb_fields.proofs.SizeLemmas.{SizeFacts, size_facts}
-use Rattle.nb_model.specs.Image.{Page, Image, page_at, first_page, image_size, image_scn, with_page}
-use Rattle.nb_model.specs.Account.{Base, base_of, Kept}
-use Rattle.nb_model.specs.Strokes.{Stroke, page, on_base, base_after, merged_page}
-use Rattle.nb_model.specs.Forms.{inventory_of, scn_page_of, has_entry}
+use Rattle.nb_model.specs.Image.{Page, Image, first_page, image_size, with_page}
+use Rattle.nb_model.specs.Account.{base_of, Kept}
+use Rattle.nb_model.specs.Strokes.{on_base, base_after, merged_page}
+use Rattle.nb_model.specs.Forms.{has_entry}
 use Rattle.nb_model.specs.Pages.{byte_strokes}
 use Rattle.nb_model.specs.Sound.{IsSoundImage}
 use Rattle.nb_model.specs.Stands.{NamesItsPast, is_history_page}
-use Rattle.nb_model.proofs.SoundLaws.{all_at, inventory_behind, inventory_place_some, scn_page_behind, scn_place_some, HasFields, FitsAt, header_kind, page_sound}
-use Rattle.nb_model.proofs.PutSound.{HasHeader, header_fields}
+use Rattle.nb_model.proofs.SoundLaws.{all_at, inventory_behind, inventory_place_some, scn_page_behind, scn_place_some, HasFields, FitsAt, header_kind, fields_stay, page_sound}
+use Rattle.nb_model.proofs.PutSound.{HasHeader, Held, header_fields}
 use Rattle.nb_model.proofs.PastLaws.{no_history, page_past}
-
-true_false : true ≡ false → ⊥
-true_false h = cc
 
 -- bytes of zeros spell 0
 all_zeros : (bytes : List ℕ) → is_zeros bytes ≡ true → bytes ≡ replicate (length bytes) 0
@@ -88,41 +83,56 @@ module _ (image : Image) (bytes : Page) (fields : HasFields image) (is : IsSound
     inventory = λ at. absurd (inventory_behind (image_size image) 0 fields.size at refl);
     scn_page = λ at. absurd (scn_page_behind (image_size image) 0 at refl);
     bits = λ q at taken. absurd (let some = inventory_place_some (image_size image) (q / bits_in (image_size image)) fields.size in omega arith);
-    current = λ has. absurd (true_false (sym has ∙ first_has_none));
+    current = λ has. absurd (true≢false (sym has ∙ first_has_none));
     no_lower = λ q at has low. absurd (let some = scn_place_some (image_size image) (q / entries_in (image_size image)) fields.size in omega arith);
     no_later = λ q at has. absurd (let some = scn_place_some (image_size image) (q / entries_in (image_size image)) fields.size in omega arith);
   }
 
-  -- so the image stays sound
-  pub head_sound : IsSoundImage (with_page 0 (merged_page 0 bytes image) image)
-  head_sound = page_sound image 0 head_page fields is head_fits
+  head_kind : is_header (first_page image) ≡ true → kind_of head_page ≡ 1
+  head_kind header = head_number 0 1 (omega arith) ∙ header_kind (first_page image) header
 
-  -- and names the same backups
-  pub head_past : (kept : List Kept) → is_header (first_page image) ≡ true → NamesItsPast kept image → NamesItsPast kept (with_page 0 (merged_page 0 bytes image) image)
-  head_past kept header past =
-      let kind : kind_of head_page ≡ 1 = head_number 0 1 (omega arith) ∙ header_kind (first_page image) header in
-      page_past kept image 0 head_page fields is head_fits (no_history head_page (omega (arith, kind))) past
-
--- one byte of page 0 behind its first 64 is written: forced writes, and access
-module _ (image : Image) (at value : ℕ) (h : HasHeader image) (is : IsSoundImage image) (inside : at < 1024) where
-  abbrev changed : Page
-  changed = with_part at (value ∷ []) (first_page image)
-
-  changed_length : length changed ≡ image_size image
-  changed_length =
-      let fields = header_fields image h in
-      let first = first_length image (first_page image) fields is (all_at (λ page. length page ≡ image_size image) image is.sizes 0 (let least = is.least in omega arith)) in
+-- One byte of page 0 is written, as for forced writes and for access, and Q is kept.
+module _ (Q : Image → Type 0) (K : Page → Type 0) (headers : (bytes : Page) → kind_of bytes ≡ 1 → K bytes)
+    (step : (image : Image) (p : ℕ) (bytes : Page) → HasFields image → IsSoundImage image → FitsAt image p bytes → K bytes → Q image → Q (with_page p bytes image)) where
+  changed_length : (image : Image) (at value : ℕ) → HasFields image → IsSoundImage image → at < 1024 → length (with_part at (value ∷ []) (first_page image)) ≡ image_size image
+  changed_length image at value fields is inside =
       let size : SizeFacts (image_size image) = size_facts (image_size image) fields.size in
+      let first : length (first_page image) ≡ image_size image = let least = is.least in all_at (λ page. length page ≡ image_size image) image is.sizes 0 (omega arith) in
       length-with_part at (value ∷ []) (first_page image) (omega (arith, size.at_least)) ∙ first
 
-  one_byte : (Q : Image → Type 0) → Q image → Q (with_page 0 (merged_page 0 changed image) image) → (k : ℕ) → Q (base_after (base_of image) (take k (byte_strokes at value image))).image
+  pub byte_holds : (image : Image) (at value : ℕ) → HasHeader image → IsSoundImage image → at < 1024 → Q image → (k : ℕ) → Held Q (base_after (base_of image) (take k (byte_strokes at value image))).image
   unfolding base_after on_base byte_strokes
-  one_byte Q before now zero = before
-  one_byte Q before now (suc zero) = now
-  one_byte Q before now (suc (suc k)) = now
+  byte_holds image at value h is inside also = by_count
+    where
+      fields : HasFields image
+      fields = header_fields image h
 
-  pub byte_sound : (k : ℕ) → IsSoundImage (base_after (base_of image) (take k (byte_strokes at value image))).image
-  byte_sound = one_byte IsSoundImage is (head_sound image changed (header_fields image h) is changed_length)
+      fits : FitsAt image 0 (merged_page 0 (with_part at (value ∷ []) (first_page image)) image)
+      fits = head_fits image (with_part at (value ∷ []) (first_page image)) fields is (changed_length image at value fields is inside)
 
-  pub byte_past : (kept : List Kept) → NamesItsPast kept image → (k : ℕ) → NamesItsPast kept (base_after (base_of image) (take k (byte_strokes at value image))).image
-  byte_past kept past = one_byte (NamesItsPast kept) past (head_past image changed (header_fields image h) is changed_length kept h.header past)
+      before : Held Q image
+      before = record { fields = fields; sound = is; also = also }
+
+      now : Held Q (with_page 0 (merged_page 0 (with_part at (value ∷ []) (first_page image)) image) image)
+      now = record {
+        fields = fields_stay image 0 _ fields is fits;
+        sound = page_sound image 0 _ fields is fits;
+        also = step image 0 _ fields is fits (headers _ (head_kind image (with_part at (value ∷ []) (first_page image)) fields is (changed_length image at value fields is inside) h.header)) also;
+      }
+
+      by_count : (k : ℕ) → Held Q (base_after (base_of image) (take k (byte_strokes at value image))).image
+      by_count zero = before
+      by_count (suc zero) = now
+      by_count (suc (suc k)) = now
+
+-- each front of that stroke leaves a sound image
+pub byte_sound : (image : Image) (at value : ℕ) → HasHeader image → IsSoundImage image → at < 1024 → (k : ℕ) → IsSoundImage (base_after (base_of image) (take k (byte_strokes at value image))).image
+byte_sound image at value h is inside k =
+    (byte_holds IsSoundImage (λ bytes. Unit {0}) (λ bytes e. tt) (λ x q bytes fields sound fits any also. page_sound x q bytes fields sound fits) image at value h is inside is k).sound
+
+-- and one that names the same backups
+pub byte_past : (kept : List Kept) (image : Image) (at value : ℕ) → HasHeader image → IsSoundImage image → NamesItsPast kept image → at < 1024
+    → (k : ℕ) → NamesItsPast kept (base_after (base_of image) (take k (byte_strokes at value image))).image
+byte_past kept image at value h is past inside k =
+    (byte_holds (NamesItsPast kept) (λ bytes. is_history_page bytes ≡ false) (λ bytes e. no_history bytes (omega (arith, e)))
+    (λ x q bytes fields sound fits no_rows before. page_past kept x q bytes fields sound fits no_rows before) image at value h is inside past k).also

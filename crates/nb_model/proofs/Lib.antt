@@ -21,4 +21,5 @@ pub mod HeadSound
 pub mod BitLaws
 pub mod BitSound
 pub mod NewSound
+pub mod NormalLaws
 pub mod StandsLaws

@@ -1,17 +1,14 @@
 -- What a new page keeps: each front of its strokes leaves a sound image, also where system pages are made on the way.
-use Rattle.std.proofs.Common.{◌≡◌, ◌≢◌, ◌⊎◌, inl, inr, ℕ, zero, suc, ◌+◌, ◌-◌, ◌*◌, ◌/◌, ◌%◌, ◌^◌, ◌<◌, ◌≤◌, List, [], ◌∷◌, length, take, replicate, refl, sym, ap, subst, ◌∙◌, arith}
-use Rattle.std.specs.Prelude.{Bool, true, false, not, ◌&&◌, ◌||◌, ◌==◌, nat_lt, None, IsTrue, max}
-use Rattle.std.specs.Int.{bit_at}
-use Rattle.std.proofs.lemmas.Bool.{and_parts, and_from, or_parts, or_cases, ltb-true, lt-ltb, eq-eqb, eqb-false}
-use Rattle.std.proofs.lemmas.Bool.Decides.{eqb_tells, leb_tells}
-use Rattle.nb_fields.specs.declared.kinds.PageKind.{PageKind}
+use Rattle.std.proofs.Common.{◌≡◌, ◌≢◌, inl, inr, ℕ, zero, suc, ◌+◌, ◌-◌, ◌*◌, ◌/◌, ◌%◌, ◌^◌, ◌<◌, ◌≤◌, List, [], length, take, refl, sym, ap, subst, ◌∙◌, arith}
+use Rattle.std.specs.Prelude.{Bool, true, false, ◌==◌, nat_lt, IsTrue, max}
+use Rattle.std.proofs.lemmas.Bool.{true≢false, and_parts, and_from, or_parts, or_cases, ltb-true, eq-eqb, eqb-false}
+use Rattle.std.proofs.lemmas.Bool.Decides.{leb_tells}
 use Rattle.nb_fields.specs.declared.kinds.PageKind.TheVariants.{Inventory, ScnInventory}
 use Rattle.nb_fields.specs.Bytes.{bytes_of}
 use Rattle.nb_fields.specs.Kinds.{code_of}
-use Rattle.nb_fields.specs.Places.{is_page_size, entries_in, bits_in, inventory_place, scn_place, is_inventory_place, is_scn_place, is_system_place}
+use Rattle.nb_fields.specs.Places.{is_page_size, entries_in, bits_in, inventory_place, is_inventory_place, is_scn_place, is_system_place}
 use Rattle.nb_fields.specs.Page.{page_of, kind_of, generation_of, stamped}
 use Rattle.nb_fields.specs.Payloads.{inventory_payload, scn_payload, text_payload, bit_of, entry_of}
-use Rattle.nb_fields.specs.Fresh.{fresh_kind}
 use Rattle.nb_fields.proofs.FreshLaws.{taken_bits-free, bit_of-inventory, entry_of-scn}
 use Rattle.nb_fields.proofs.PageLemmas.{kind_of-page_of}
 use Rattle.nb_fields.proofs.SizeLemmas.{SizeFacts, size_facts}
@@ -19,18 +16,15 @@ use Rattle.nb_fields.proofs.PlaceLemmas.{bits-least, entries-least}
 use Rattle.nb_model.specs.Image.{Page, Image, page_at, image_size, image_scn, with_page}
 use Rattle.nb_model.specs.Account.{Base, base_of, Kept}
 use Rattle.nb_model.specs.Strokes.{base_after}
-use Rattle.nb_model.specs.Forms.{Draft, drafted, old_page, needs, is_kind, put, inventory_of, scn_page_of, bit_number, entry_number, scn_entry, has_entry, is_free_page, take_page, free_from, lowest_free, needs_inventories, searched, system_kind, system_payload, system_page, no_page, new_within, new_page}
+use Rattle.nb_model.specs.Forms.{Draft, drafted, old_page, is_kind, put, scn_page_of, bit_number, entry_number, scn_entry, has_entry, is_free_page, take_page, free_from, lowest_free, needs_inventories, searched, system_kind, system_payload, system_page, no_page, new_within, new_page}
 use Rattle.nb_model.specs.Sound.{IsSoundImage}
 use Rattle.nb_model.specs.Stands.{NamesItsPast, is_history_page}
 use Rattle.nb_model.proofs.DraftLaws.{drafts_are}
-use Rattle.nb_model.proofs.SoundLaws.{inventory_there, inventory_place_some, scn_page_there, HasFields, FitsAt, scn_no_entry, size_stays, fields_stay, with_page_length, page_sound}
+use Rattle.nb_model.proofs.SoundLaws.{inventory_there, scn_page_there, HasFields, FitsAt, scn_no_entry, with_page_length, page_sound}
 use Rattle.nb_model.proofs.FreshSound.{kind_inventory, kind_scn, inventory_length, scn_length}
-use Rattle.nb_model.proofs.PutSound.{IsPlace, IsPlain, Raises, IsPut, Held, Throughout, HasHeader, header_fields, at_first, needs_image, needs_holds, holds_now, old_length, now_length, now_some, now_stamp, now_kind, put_holds, plain_holds}
+use Rattle.nb_model.proofs.PutSound.{IsPlace, Raises, IsPut, Held, Throughout, HasHeader, header_fields, at_first, needs_image, needs_holds, holds_now, old_length, now_length, now_some, now_stamp, now_kind, put_holds, plain_holds}
 use Rattle.nb_model.proofs.PastLaws.{no_history, page_past}
 use Rattle.nb_model.proofs.BitSound.{bit_holds}
-
-true_false : true ≡ false → ⊥
-true_false h = cc
 
 -- no page is of both kinds of inventory
 places_apart : (size p : ℕ) → IsTrue (is_page_size size) → is_inventory_place size p ≡ true → is_scn_place size p ≡ true → ⊥
@@ -125,7 +119,7 @@ module _ (x : Image) (p : ℕ) (fields : HasFields x) (is : IsSoundImage x) (at 
       bits = λ q e taken.
           let least = bits-least (image_size x) fields.size in
           let inside : bit_number x q < bits_in (image_size x) = omega arith in
-          absurd (true_false (sym (eq-eqb _ 1 (all_free (bit_number x q) inside)) ∙ taken));
+          absurd (true≢false (sym (eq-eqb _ 1 (all_free (bit_number x q) inside)) ∙ taken));
       current = current;
       no_lower = λ q e has below. absurd (none q e);
       no_later = λ q e has. absurd (none q e);
@@ -160,7 +154,7 @@ module _ (x : Image) (p : ℕ) (fields : HasFields x) (is : IsSoundImage x) (at 
       inventory = λ e. absurd (places_apart (image_size x) p fields.size e place);
       scn_page = λ e. now_kind x p 10 entries fields is refl entries_room;
       bits = λ q e taken. absurd (places_apart (image_size x) p fields.size (subst (λ (n : ℕ). is_inventory_place (image_size x) n ≡ true) e (inventory_there (image_size x) (q / bits_in (image_size x)) fields.size)) place);
-      current = λ has. absurd (true_false (sym has ∙ scn_no_entry x p place));
+      current = λ has. absurd (true≢false (sym has ∙ scn_no_entry x p place));
       no_lower = λ q e has below. absurd (let there = is.sound.entries.there q below has in omega arith);
       no_later = λ q e has.
           let least = entries-least (image_size x) fields.size in
@@ -184,9 +178,9 @@ system_is p kind payload d e f =
     ∙ ap (λ (xs : List ℕ). elim (is_kind d.image kind p) as (λ z. Draft) [ true ↦ d | false ↦ put p kind xs d ]) f
 
 -- what K has to hold of
-record HoldsOfKinds (K : Page → Type 0) : Type 0 where
-  inventories : (bytes : Page) → kind_of bytes ≡ 2 → K bytes
-  scn_pages : (bytes : Page) → kind_of bytes ≡ 10 → K bytes
+pub record HoldsOfKinds (K : Page → Type 0) : Type 0 where
+  pub inventories : (bytes : Page) → kind_of bytes ≡ 2 → K bytes
+  pub scn_pages : (bytes : Page) → kind_of bytes ≡ 10 → K bytes
 
 module _ (Q : Image → Type 0) (K : Page → Type 0) (kinds : HoldsOfKinds K)
     (step : (image : Image) (p : ℕ) (bytes : Page) → HasFields image → IsSoundImage image → FitsAt image p bytes → K bytes → Q image → Q (with_page p bytes image)) (b : Base) where
@@ -224,7 +218,7 @@ module _ (Q : Image → Type 0) (K : Page → Type 0) (kinds : HoldsOfKinds K)
       by_test : (t : Bool) → is_kind d.image kind p ≡ t → IsThere p (elim t as (λ z. Draft) [ true ↦ d | false ↦ put p kind payload d ])
       by_test true is = record { through = through; below = ltb-true p (length d.image) (and_parts (nat_lt p (length d.image)) _ is).0 }
       by_test false none = elim (leb_tells (suc p) (length d.image)) [
-        | inl w ↦ absurd (true_false (sym (and_from _ _ w.0 (eq-eqb _ kind (of_kind w.1))) ∙ none))
+        | inl w ↦ absurd (true≢false (sym (and_from _ _ w.0 (eq-eqb _ kind (of_kind w.1))) ∙ none))
         | inr w ↦ put_there d.image p kind payload _ at (made (omega (arith, w.1)))
       ]
 
@@ -233,21 +227,23 @@ module _ (Q : Image → Type 0) (K : Page → Type 0) (kinds : HoldsOfKinds K)
       → IsPut Q b d.image p 2 (inventory_payload (image_size d.image) ((p + 1) / bits_in (image_size d.image)) 0) (put p 2 (inventory_payload (image_size d.image) ((p + 1) / bits_in (image_size d.image)) 0) d)
   inventory_made p d place at through end = put_holds Q K kinds.scn_pages step b p 2 _ d through at
       (λ x h raises.
-      let there = at.there in
-      (subst (λ (s : ℕ). FitsAt x p (stamped (old_page p x) 2 (inventory_payload s ((p + 1) / bits_in s) 0) (image_scn x) p)) raises.size
-      (inventory_fits x p h.fields h.sound (place_later d.image x p raises at) (omega (arith, raises.long)) (subst (λ (s : ℕ). is_inventory_place s p ≡ true) (sym raises.size) place) raises.current),
-      kinds.inventories _ (stamped_kind (old_page p x) 2 _ (image_scn x) p)))
+      let there = at.there in (
+        subst (λ (s : ℕ). FitsAt x p (stamped (old_page p x) 2 (inventory_payload s ((p + 1) / bits_in s) 0) (image_scn x) p)) raises.size
+            (inventory_fits x p h.fields h.sound (place_later d.image x p raises at) (omega (arith, raises.long)) (subst (λ (s : ℕ). is_inventory_place s p ≡ true) (sym raises.size) place) raises.current),
+        kinds.inventories _ (stamped_kind (old_page p x) 2 _ (image_scn x) p),
+      ))
 
   -- an SCN page of the current SCN is made at the end
   scn_page_made : (p : ℕ) (d : Draft) → is_scn_place (image_size d.image) p ≡ true → IsPlace d.image p → Throughout (Held Q) b d → length d.image ≤ p
       → IsPut Q b d.image p 10 (scn_payload (image_size d.image) (p / entries_in (image_size d.image)) (image_scn d.image)) (put p 10 (scn_payload (image_size d.image) (p / entries_in (image_size d.image)) (image_scn d.image)) d)
   scn_page_made p d place at through end = put_holds Q K kinds.scn_pages step b p 10 _ d through at
       (λ x h raises.
-      let there = at.there in
-      (subst (λ (n : ℕ). FitsAt x p (stamped (old_page p x) 10 (scn_payload (image_size d.image) (p / entries_in (image_size d.image)) n) (image_scn x) p)) raises.scn
-      (subst (λ (s : ℕ). FitsAt x p (stamped (old_page p x) 10 (scn_payload s (p / entries_in s) (image_scn x)) (image_scn x) p)) raises.size
-      (scn_fits x p h.fields h.sound (place_later d.image x p raises at) (omega (arith, raises.long)) (subst (λ (s : ℕ). is_scn_place s p ≡ true) (sym raises.size) place))),
-      kinds.scn_pages _ (stamped_kind (old_page p x) 10 _ (image_scn x) p)))
+      let there = at.there in (
+        subst (λ (n : ℕ). FitsAt x p (stamped (old_page p x) 10 (scn_payload (image_size d.image) (p / entries_in (image_size d.image)) n) (image_scn x) p)) raises.scn
+            (subst (λ (s : ℕ). FitsAt x p (stamped (old_page p x) 10 (scn_payload s (p / entries_in s) (image_scn x)) (image_scn x) p)) raises.size
+            (scn_fits x p h.fields h.sound (place_later d.image x p raises at) (omega (arith, raises.long)) (subst (λ (s : ℕ). is_scn_place s p ≡ true) (sym raises.size) place))),
+        kinds.scn_pages _ (stamped_kind (old_page p x) 10 _ (image_scn x) p),
+      ))
 
   -- so a system page is there
   system_there : (p : ℕ) (d : Draft) → is_system_place (image_size d.image) p ≡ true → IsPlace d.image p → Throughout (Held Q) b d → IsThere p (system_page p d)
@@ -258,7 +254,7 @@ module _ (Q : Image → Type 0) (K : Page → Type 0) (kinds : HoldsOfKinds K)
       held = holds_now (Held Q) b d through
 
       scn_place_there : is_inventory_place (image_size d.image) p ≡ false → is_scn_place (image_size d.image) p ≡ true
-      scn_place_there other = elim (or_cases (is_inventory_place (image_size d.image) p) _ place) [ inl e ↦ absurd (true_false (sym e ∙ other)) | inr e ↦ e ]
+      scn_place_there other = elim (or_cases (is_inventory_place (image_size d.image) p) _ place) [ inl e ↦ absurd (true≢false (sym e ∙ other)) | inr e ↦ e ]
 
       chosen_kind : (t : Bool) → is_inventory_place (image_size d.image) p ≡ t → system_kind d.image p ≡ elim t as (λ z. ℕ) [ true ↦ 2 | false ↦ 10 ]
       chosen_kind t e = ap (λ (u : Bool). elim u as (λ z. ℕ) [ true ↦ 2 | false ↦ 10 ]) e
@@ -337,23 +333,27 @@ empty_text : (p : ℕ) → length (text_payload []) ≤ 1008
 unfolding text_payload bytes_of
 empty_text p = omega arith
 
+-- a new raw page, and Q is kept
+pub new_raw_holds : (Q : Image → Type 0) (K : Page → Type 0) → HoldsOfKinds K → ((bytes : Page) → kind_of bytes ≡ 8 → K bytes)
+    → ((image : Image) (p : ℕ) (bytes : Page) → HasFields image → IsSoundImage image → FitsAt image p bytes → K bytes → Q image → Q (with_page p bytes image))
+    → (image : Image) → HasHeader image → IsSoundImage image → Q image → Throughout (Held Q) (base_of image) (new_page 8 (λ p. text_payload []) (drafted image)).0
+new_raw_holds Q K kinds raw_pages step image h is also =
+    let first : Throughout (Held Q) (base_of image) (drafted image) = at_first (Held Q) (base_of image) (record { fields = header_fields image h; sound = is; also = also }) in
+    new_holds Q K kinds step (base_of image) (length image + 4) 8 (λ p. text_payload []) (drafted image) refl empty_text raw_pages first
+
 -- each front of the strokes of a new raw page leaves a sound image
 pub new_sound : (image : Image) → HasHeader image → IsSoundImage image → (k : ℕ) → IsSoundImage (base_after (base_of image) (take k (new_page 8 (λ p. text_payload []) (drafted image)).0.strokes)).image
 new_sound image h is k =
-    let first : Throughout (Held IsSoundImage) (base_of image) (drafted image) = at_first (Held IsSoundImage) (base_of image) (record { fields = header_fields image h; sound = is; also = is }) in
     let through : Throughout (Held IsSoundImage) (base_of image) (new_page 8 (λ p. text_payload []) (drafted image)).0 =
-    new_holds IsSoundImage (λ bytes. Unit {0}) (record { inventories = λ bytes e. tt; scn_pages = λ bytes e. tt }) (λ x q bytes fields sound fits any also. page_sound x q bytes fields sound fits) (base_of image)
-    (length image + 4) 8 (λ p. text_payload []) (drafted image) refl empty_text (λ bytes e. tt) first in
+    new_raw_holds IsSoundImage (λ bytes. Unit {0}) (record { inventories = λ bytes e. tt; scn_pages = λ bytes e. tt }) (λ bytes e. tt) (λ x q bytes fields sound fits any also. page_sound x q bytes fields sound fits) image h is is in
     (through.each k).sound
 
 -- and one that names the same backups
 pub new_past : (kept : List Kept) (image : Image) → HasHeader image → IsSoundImage image → NamesItsPast kept image
     → (k : ℕ) → NamesItsPast kept (base_after (base_of image) (take k (new_page 8 (λ p. text_payload []) (drafted image)).0.strokes)).image
 new_past kept image h is past k =
-    let first : Throughout (Held (NamesItsPast kept)) (base_of image) (drafted image) = at_first (Held (NamesItsPast kept)) (base_of image) (record { fields = header_fields image h; sound = is; also = past }) in
     let other : (kind : ℕ) → kind ≢ 5 → (bytes : Page) → kind_of bytes ≡ kind → is_history_page bytes ≡ false = λ kind ne bytes e. no_history bytes (λ five. ne (sym e ∙ five)) in
     let through : Throughout (Held (NamesItsPast kept)) (base_of image) (new_page 8 (λ p. text_payload []) (drafted image)).0 =
-    new_holds (NamesItsPast kept) (λ bytes. is_history_page bytes ≡ false) (record { inventories = other 2 (omega arith); scn_pages = other 10 (omega arith) })
-    (λ x q bytes fields sound fits no_rows before. page_past kept x q bytes fields sound fits no_rows before) (base_of image)
-    (length image + 4) 8 (λ p. text_payload []) (drafted image) refl empty_text (other 8 (omega arith)) first in
+    new_raw_holds (NamesItsPast kept) (λ bytes. is_history_page bytes ≡ false) (record { inventories = other 2 (omega arith); scn_pages = other 10 (omega arith) }) (other 8 (omega arith))
+    (λ x q bytes fields sound fits no_rows before. page_past kept x q bytes fields sound fits no_rows before) image h is past in
     (through.each k).also

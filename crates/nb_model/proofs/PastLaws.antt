@@ -1,12 +1,12 @@
 -- What a write of a raw page keeps: after each front of its strokes the image names the same backups.
-use Rattle.std.proofs.Common.{◌≡◌, ◌≢◌, ◌⊎◌, inl, inr, ℕ, suc, ◌<◌, ◌≤◌, List, [], ◌∷◌, length, take, refl, sym, ap, subst, ◌∙◌, arith, set}
+use Rattle.std.proofs.Common.{◌≡◌, ◌≢◌, inl, inr, ℕ, suc, ◌<◌, ◌≤◌, List, [], ◌∷◌, length, take, refl, sym, ap, subst, ◌∙◌, arith, set}
 use Rattle.std.specs.Prelude.{true, false, ◌==◌, None}
 use Rattle.std.specs.List.{AllByRecursion}
-use Rattle.std.proofs.lemmas.Bool.{and_left, ne_eqb}
+use Rattle.std.proofs.lemmas.Bool.{true≢false, and_left, ne_eqb}
 use Rattle.std.proofs.lemmas.Bool.Decides.{eqb_tells, leb_tells}
 use Rattle.nb_fields.specs.Page.{kind_of, stamp_of}
 use Rattle.nb_fields.specs.Payloads.{text_payload}
-use Rattle.nb_model.specs.Image.{Page, Image, page_at, image_size, image_guid, with_page}
+use Rattle.nb_model.specs.Image.{Page, Image, page_at, image_size, with_page}
 use Rattle.nb_model.specs.Account.{base_of, Kept}
 use Rattle.nb_model.specs.Strokes.{base_after}
 use Rattle.nb_model.specs.Forms.{drafted, put}
@@ -19,9 +19,6 @@ use Rattle.nb_model.proofs.StrokeLaws.{with_page_same}
 use Rattle.nb_model.proofs.FollowsLaws.{follows_set, follows_add}
 use Rattle.nb_model.proofs.SoundLaws.{written_other, with_page_length, HasFields, FitsAt, size_stays, scn_stays, guid_stays}
 use Rattle.nb_model.proofs.PutSound.{HasHeader, Held, Throughout, text_holds}
-
-true_false : true ≡ false → ⊥
-true_false h = cc
 
 -- what holds of each row
 all_rows : (P R : Slot → Type 0) (rows : List Slot) → ((row : Slot) → P row → R row) → AllByRecursion P rows → AllByRecursion R rows
@@ -64,7 +61,7 @@ module _ (kept : List Kept) (image : Image) (p : ℕ) (bytes : Page) (fields : H
   pub page_past : NamesItsPast kept (with_page p bytes image)
   page_past = record {
     rows = λ q low history. elim (eqb_tells q p) [
-      | inl w ↦ absurd (true_false (sym history ∙ ap (λ (n : ℕ). is_history_page (page_at (with_page p bytes image) n)) w.1 ∙ ap is_history_page (with_page_same p bytes image fits.there) ∙ no_rows))
+      | inl w ↦ absurd (true≢false (sym history ∙ ap (λ (n : ℕ). is_history_page (page_at (with_page p bytes image) n)) w.1 ∙ ap is_history_page (with_page_same p bytes image fits.there) ∙ no_rows))
       | inr w ↦
           let same : page_at (with_page p bytes image) q ≡ page_at image q = written_other image p bytes fields is fits q w.1 in
           let inside : q < length image = omega (arith, with_page_length p bytes image fits.there, w.1) in

@@ -1,7 +1,7 @@
 -- What `put` keeps: after each front of its strokes the image is sound.
-use Rattle.std.proofs.Common.{◌≡◌, ◌≢◌, ◌⊎◌, inl, inr, ℕ, zero, suc, ◌+◌, ◌-◌, ◌*◌, ◌/◌, ◌%◌, ◌^◌, ◌<◌, ◌≤◌, List, [], ◌∷◌, ◌++◌, length, take, drop, refl, sym, ap, subst, ◌∙◌, arith, length-append, length-drop}
+use Rattle.std.proofs.Common.{◌≡◌, ◌≢◌, inl, inr, ℕ, zero, suc, ◌+◌, ◌-◌, ◌*◌, ◌/◌, ◌%◌, ◌^◌, ◌<◌, ◌≤◌, List, [], ◌∷◌, ◌++◌, length, take, drop, refl, sym, ap, subst, ◌∙◌, arith, length-append, length-drop}
 use Rattle.std.specs.Prelude.{Bool, true, false, not, ◌==◌, nat_le, Some, None, IsTrue}
-use Rattle.std.proofs.lemmas.Bool.{and_parts, cases_lt}
+use Rattle.std.proofs.lemmas.Bool.{true≢false, and_parts, cases_lt}
 use Rattle.std.proofs.lemmas.Bool.Decides.{eqb_tells, leb_tells}
 use Rattle.std.proofs.lemmas.List.{length-replicate, take-append-le, take_all, drop-drop}
 use Rattle.nb_fields.specs.Bytes.{number_of, bytes_of, number_in, part, with_part, is_zeros, padded}
@@ -23,9 +23,6 @@ use Rattle.nb_model.specs.Causes.{Cause, first_cause, when, not_raw}
 use Rattle.nb_model.specs.Sound.{IsSoundImage}
 use Rattle.nb_model.proofs.DraftLaws.{IsOf, drafted_is, drafts_are}
 use Rattle.nb_model.proofs.SoundLaws.{all_at, page_no_zeros, inventory_there, scn_page_there, scn_place_some, scn_place_before, with_page_length, HasFields, FitsAt, scn_no_entry, size_stays, scn_stays, fields_stay, entry_here, header_kind, written_other, page_sound}
-
-true_false : true ≡ false → ⊥
-true_false h = cc
 
 -- page p may be written: it isn't page 0, and stands below the length or at it
 pub record IsPlace (image : Image) (p : ℕ) : Type 0 where
@@ -76,8 +73,8 @@ module _ (image : Image) (p kind : ℕ) (payload : List ℕ) (fields : HasFields
     size = now_length;
     no_zeros = now_some;
     stamp = now_stamp;
-    inventory = λ at. absurd (true_false (sym at ∙ plain.no_inventory));
-    scn_page = λ at. absurd (true_false (sym at ∙ plain.no_scn_page));
+    inventory = λ at. absurd (true≢false (sym at ∙ plain.no_inventory));
+    scn_page = λ at. absurd (true≢false (sym at ∙ plain.no_scn_page));
     bits = λ q at taken. absurd (inventory q at);
     current = current;
     no_lower = λ q at has low. absurd (scn_page q at);
@@ -87,18 +84,18 @@ module _ (image : Image) (p kind : ℕ) (payload : List ℕ) (fields : HasFields
       inventory : (q : ℕ) → inventory_of image q ≡ p → ⊥
       inventory q at =
           let there : is_inventory_place (image_size image) p ≡ true = subst (λ (n : ℕ). is_inventory_place (image_size image) n ≡ true) at (inventory_there (image_size image) (q / bits_in (image_size image)) fields.size) in
-          true_false (sym there ∙ plain.no_inventory)
+          true≢false (sym there ∙ plain.no_inventory)
 
       scn_page : (q : ℕ) → scn_page_of image q ≡ p → ⊥
       scn_page q at =
           let there : is_scn_place (image_size image) p ≡ true = subst (λ (n : ℕ). is_scn_place (image_size image) n ≡ true) at (scn_page_there (image_size image) (q / entries_in (image_size image)) fields.size) in
-          true_false (sym there ∙ plain.no_scn_page)
+          true≢false (sym there ∙ plain.no_scn_page)
 
 -- the SCN page of a page with an entry is there
 scn_page_below : (image : Image) (p : ℕ) → HasFields image → 5 ≤ length image → IsPlace image p → has_entry image p ≡ true → scn_page_of image p < length image
 scn_page_below image p fields least at has =
     let place : is_scn_place (image_size image) (scn_page_of image p) ≡ true = scn_page_there (image_size image) (p / entries_in (image_size image)) fields.size in
-    let other : scn_page_of image p ≢ p = λ e. true_false (sym has ∙ scn_no_entry image p (ap (is_scn_place (image_size image)) (sym e) ∙ place)) in
+    let other : scn_page_of image p ≢ p = λ e. true≢false (sym has ∙ scn_no_entry image p (ap (is_scn_place (image_size image)) (sym e) ∙ place)) in
     let there = at.there in
     elim (scn_place_before (image_size image) p fields.size) [ inl second ↦ omega arith | inr before ↦ omega arith ]
 
@@ -189,7 +186,7 @@ module _ (image : Image) (p : ℕ) (fields : HasFields image) (is : IsSoundImage
     inventory = λ at. absurd (no_inventory at);
     scn_page = λ at. now_kind image s 10 (drop 16 entries) fields is refl room;
     bits = λ q at taken. absurd (no_inventory (subst (λ (n : ℕ). is_inventory_place (image_size image) n ≡ true) at (inventory_there (image_size image) (q / bits_in (image_size image)) fields.size)));
-    current = λ has. absurd (true_false (sym has ∙ scn_no_entry image s place));
+    current = λ has. absurd (true≢false (sym has ∙ scn_no_entry image s place));
     no_lower = λ q at has below. elim (eqb_tells (entry_number image q) i) [
       | inl w ↦ omega (arith, entry_same q w.1, is.sound.entries.no_later q (subst (λ (n : ℕ). n < length image) (sym at) low) has)
       | inr w ↦ omega (arith, entry_else q at w.1)
@@ -338,7 +335,7 @@ module _ (Q : Image → Type 0) (K : Page → Type 0) (scn_pages : (bytes : Page
           (entry_is_raised b p read (ap (λ (x : Image). has_entry x p) same ∙ has) (needs_holds (Held Q) b 10 (scn_page_of d.image p) d through) (subst (λ (x : Image). IsPlace x p) (sym same) at)))
       by_test false has = rw (has, raised) (record {
         through = through;
-        raises = record { size = refl; scn = refl; long = refl; others = λ q other. refl; current = λ also. absurd (true_false (sym also ∙ has)) };
+        raises = record { size = refl; scn = refl; long = refl; others = λ q other. refl; current = λ also. absurd (true≢false (sym also ∙ has)) };
       })
 
   -- so Q holds after each front of the strokes of `put`, where the page fits once its entry is raised
@@ -415,8 +412,8 @@ raw_facts image p h =
     let four = no_first _ _ three.1 in
     let inside : nat_le (length image) p ≡ false = not_when _ _ one.0 in
     let raw : not (kind_of (page_at image p) == 8) ≡ false = not_when _ _ four.0 in (
-      elim (leb_tells (length image) p) [ inl w ↦ absurd (true_false (sym w.0 ∙ inside)) | inr w ↦ w.1 ],
-      elim (eqb_tells (kind_of (page_at image p)) 8) [ inl w ↦ w.1 | inr w ↦ absurd (true_false (ap not (sym w.0) ∙ raw)) ],
+      elim (leb_tells (length image) p) [ inl w ↦ absurd (true≢false (sym w.0 ∙ inside)) | inr w ↦ w.1 ],
+      elim (eqb_tells (kind_of (page_at image p)) 8) [ inl w ↦ w.1 | inr w ↦ absurd (true≢false (ap not (sym w.0) ∙ raw)) ],
     )
 
 -- so it is no system page
@@ -429,8 +426,8 @@ raw_plain image p h is none =
     record {
       place = record {
         behind = elim (eqb_tells p 0) [
-        | inl w ↦ let first : kind_of (page_at image p) ≡ 1 = ap (λ (n : ℕ). kind_of (page_at image n)) w.1 ∙ header_kind (first_page image) h.header in absurd (omega arith)
-        | inr w ↦ omega (arith, w.1)
+          | inl w ↦ let first : kind_of (page_at image p) ≡ 1 = ap (λ (n : ℕ). kind_of (page_at image n)) w.1 ∙ header_kind (first_page image) h.header in absurd (omega arith)
+          | inr w ↦ omega (arith, w.1)
         ];
         there = omega arith;
         most = omega arith;

@@ -3,22 +3,21 @@ use Rattle.std.proofs.Common.{◌≡◌, ◌≢◌, ◌⊎◌, inl, inr, ℕ, ze
 use Rattle.std.specs.Prelude.{Bool, true, false, ◌==◌, ◌||◌, ◌&&◌, nat_le, nat_lt, max, IsTrue}
 use Rattle.std.specs.List.{AllByRecursion}
 use Rattle.std.proofs.Math.Nat.{mul-mod_left, mod-eq_of_lt, div-eq_of_lt}
-use Rattle.std.proofs.lemmas.Bool.{eq-eqb, eqb-true, lt-ltb, ltb-true, or_right, or_cases, and_left, and_from, and_parts}
+use Rattle.std.proofs.lemmas.Bool.{true≢false, eq-eqb, eqb-true, lt-ltb, ltb-true, or_right, or_cases, and_left, and_from, and_parts}
 use Rattle.std.proofs.lemmas.Bool.Decides.{eqb_tells, leb_tells}
+use Rattle.std.proofs.lemmas.List.{take-take}
 use Rattle.nb_fields.specs.Bytes.{part, number_in, is_zeros}
 use Rattle.nb_fields.specs.Header.{is_marked, is_header}
 use Rattle.nb_fields.specs.Places.{is_page_size, entries_in, bits_in, inventory_place, scn_place, is_inventory_place, is_scn_place}
 use Rattle.nb_fields.specs.Page.{head_of, page_of, kind_of, stamp_of}
 use Rattle.nb_fields.specs.Payloads.{bit_of, entry_of}
+use Rattle.nb_fields.proofs.HeaderLemmas.{is_header-take}
 use Rattle.nb_fields.proofs.PartLemmas.{number_in-take, part-take}
 use Rattle.nb_fields.proofs.PlaceLemmas.{entries-least, bits-least}
-use Rattle.nb_model.specs.Image.{Page, Image, page_at, first_page, image_size, image_scn, image_guid, with_page}
+use Rattle.nb_model.specs.Image.{Page, Image, page_at, first_page, image_size, image_state, image_scn, image_guid, with_page}
 use Rattle.nb_model.specs.Forms.{inventory_of, scn_page_of, bit_number, entry_number, scn_entry, is_free_page, has_entry}
 use Rattle.nb_model.specs.Sound.{IsOfSize, HasSystemPages, HasBitsBelow, HasEntries, HasStamps, IsSoundImage}
 use Rattle.nb_model.proofs.StrokeLaws.{with_page_same, with_page_other}
-
-true_false : true ≡ false → ⊥
-true_false h = cc
 
 -- what holds of each page holds of the list, and back
 pub all_from : (P : Page → Type 0) (image : Image) → ((p : ℕ) → p < length image → P (page_at image p)) → AllByRecursion P image
@@ -79,7 +78,7 @@ inventory_behind size p is at e =
 
 pub scn_page_behind : (size p : ℕ) → is_scn_place size p ≡ true → p ≢ 0
 unfolding is_scn_place
-scn_page_behind size p at e = true_false (sym at ∙ ap (is_scn_place size) e)
+scn_page_behind size p at e = true≢false (sym at ∙ ap (is_scn_place size) e)
 
 -- an SCN page stands where its number says
 pub scn_place_of : (size p : ℕ) → IsTrue (is_page_size size) → is_scn_place size p ≡ true → scn_place size (p / entries_in size) ≡ p
@@ -133,6 +132,10 @@ unfolding is_header is_marked
 header_kind first is =
     let marked = (and_parts (is_marked first) _ (and_parts (nat_le 64 (length first)) _ is).1).0 in
     eqb-true (kind_of first) 1 (and_parts _ _ (and_parts _ _ (and_parts _ _ marked).0).0).0
+
+-- page 0 of a file with a header has it
+pub header_front : (size : ℕ) (bytes : List ℕ) → 64 ≤ size → is_header bytes ≡ true → is_header (take size bytes) ≡ true
+header_front size bytes long is = sym (is_header-take (take size bytes)) ∙ ap is_header (take-take 64 size bytes long) ∙ is_header-take bytes ∙ is
 
 -- the header names a page size, and its SCN has four bytes
 pub record HasFields (image : Image) : Type 0 where
@@ -188,6 +191,9 @@ module _ (image : Image) (p : ℕ) (bytes : Page) (fields : HasFields image) (is
 
   pub scn_stays : image_scn new ≡ image_scn image
   scn_stays = number_stays 28 4 (omega arith)
+
+  pub state_stays : image_state new ≡ image_state image
+  state_stays = number_stays 22 2 (omega arith)
 
   pub guid_stays : image_guid new ≡ image_guid image
   guid_stays = sym (part-take 64 32 16 (first_page new) (omega arith)) ∙ ap (part 32 16) head_stays ∙ part-take 64 32 16 (first_page image) (omega arith)
@@ -269,7 +275,7 @@ module _ (image : Image) (p : ℕ) (bytes : Page) (fields : HasFields image) (is
   not_itself : (q : ℕ) → scn_page_of image q ≡ p → has_entry image q ≡ true → q ≢ p
   not_itself q at has same =
       let place : is_scn_place (image_size image) q ≡ true = subst (λ (n : ℕ). is_scn_place (image_size image) n ≡ true) (at ∙ sym same) (scn_page_there (image_size image) (q / entries_in (image_size image)) fields.size) in
-      true_false (sym has ∙ scn_no_entry image q place)
+      true≢false (sym has ∙ scn_no_entry image q place)
 
   entry_there : (q : ℕ) → q < length new → scn_page_of new q < length new
   entry_there q low =

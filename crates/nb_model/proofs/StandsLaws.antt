@@ -1,28 +1,26 @@
 -- The files go on to stand for the account where one of them becomes a database in the normal state.
-use Rattle.std.proofs.Common.{◌≡◌, ◌≢◌, ◌⊎◌, inl, inr, ℕ, ◌-◌, List, [], ◌∷◌, ◌++◌, length, drop, refl, sym, ap, subst, ◌∙◌, arith, length-append}
+use Rattle.std.proofs.Common.{◌≡◌, ◌≢◌, ◌⊎◌, inl, inr, ℕ, ◌-◌, ◌≤◌, List, [], ◌∷◌, ◌++◌, length, drop, refl, sym, ap, subst, ◌∙◌, arith, length-append}
 use Rattle.std.specs.Prelude.{Bool, true, false, ◌==◌, Option, Some, None, Result, Ok, Err, IsTrue, is_some, Contains, nat_eq}
 use Rattle.std.specs.Cmp.Lexicographic.{told_text, pointwise}
-use Rattle.std.proofs.lemmas.Bool.{and_parts, eqb-true}
-use Rattle.std.proofs.lemmas.List.{drop_at}
+use Rattle.std.proofs.lemmas.Bool.{true≢false, and_parts, eqb-true}
+use Rattle.std.proofs.lemmas.List.{drop_at, append-nil}
 use Rattle.nb_fields.specs.Bytes.{number_of, number_in}
 use Rattle.nb_fields.specs.Header.{is_header, state_of}
 use Rattle.nb_host.specs.Files.{File, Files}
 use Rattle.nb_host.specs.Names.{same_name, is_delta, delta_suffix}
 use Rattle.nb_host.specs.declared.refusals.Refusal.{Refusal}
 use Rattle.nb_host.specs.declared.refusals.Refusal.TheVariants.{NotDatabase}
-use Rattle.nb_model.specs.Image.{Image, image_state}
-use Rattle.nb_model.specs.Account.{Base, base_of, Kept, Entry, IsBase, Account, with_entry}
+use Rattle.nb_model.specs.Image.{Image, image_state, image_guid}
+use Rattle.nb_model.specs.Account.{Ask, Base, base_of, Kept, Entry, IsBase, Account, with_entry}
+use Rattle.nb_model.specs.Strokes.{Stroke, base_after, records_after, base_in, after}
 use Rattle.nb_model.specs.Causes.{not_database}
 use Rattle.nb_model.specs.Levels.{Contents, first_fault, begins_level, read_level}
 use Rattle.nb_model.specs.Owner.{delta_name, owner, entry_of_files, entry_in}
 use Rattle.nb_model.specs.Main.{HoldsMain}
 use Rattle.nb_model.specs.Sound.{IsSoundImage}
-use Rattle.nb_model.specs.Stands.{Belongs, to_base, to_record, IsSameImage, IsFrozenMain, HasSoundImages, HoldsItsRecord, KeepsRecords, NamesItsPast, FollowsHistory, is_applying, HasNoStrayDelta, HasApplyingStandbys, Stands}
+use Rattle.nb_model.specs.Stands.{nil, IsKeptAs, GoesOnFrom, Belongs, to_base, to_record, IsSameImage, IsFrozenMain, HasSoundImages, HoldsItsRecord, KeepsRecords, NamesItsPast, FollowsHistory, is_applying, HasNoStrayDelta, HasApplyingStandbys, Stands}
 use Rattle.nb_model.proofs.SoundLaws.{header_kind}
 use Rattle.nb_model.proofs.RunLaws.{same_self, entry_same}
-
-true_false : true ≡ false → ⊥
-true_false h = cc
 
 -- two names are the same or not
 names_tell : (m n : List ℕ) → (m ≡ n) ⊎ (m ≢ n)
@@ -40,7 +38,7 @@ delta_named name =
     ∙ ap (pointwise nat_eq delta_suffix) (drop_at name delta_suffix (length name) refl) ∙ same_self delta_suffix
 
 no_main : (n name : List ℕ) → is_delta name ≡ false → delta_name n ≢ name
-no_main n name plain e = true_false (sym (delta_named n) ∙ ap is_delta e ∙ plain)
+no_main n name plain e = true≢false (sym (delta_named n) ∙ ap is_delta e ∙ plain)
 
 pub entry_other : (name n : List ℕ) (entry : Entry) (account : Account) → n ≢ name → (with_entry name entry account).entry n ≡ account.entry n
 unfolding with_entry
@@ -54,7 +52,7 @@ base_same : (a b : Base) → IsBase a ≡ IsBase b → a ≡ b
 base_same a b e = cc
 
 -- a file of a database's form has a header
-formed_header : (bytes : List ℕ) → not_database bytes ≡ None → is_header bytes ≡ true
+pub formed_header : (bytes : List ℕ) → not_database bytes ≡ None → is_header bytes ≡ true
 unfolding not_database
 formed_header bytes formed = by_test (is_header bytes) refl
   where
@@ -230,3 +228,69 @@ module _ (old new : Files) (account : Account) (name : List ℕ) (image : Image)
     no_stray = no_stray;
     standbys = standbys;
   }
+
+-- Accounts of the same entries and the same records stand for the same.
+module _ (files : Files) (a b : Account) (entries : (n : List ℕ) → a.entry n ≡ b.entry n) (kept : a.kept ≡ b.kept) (stands : Stands files a) where
+  before : (n : List ℕ) (base : Base) → b.entry n ≡ IsBase base → a.entry n ≡ IsBase base
+  before n base e = entries n ∙ e
+
+  belonged_before : (x : Image) → Belongs b x → Belongs a x
+  belonged_before x (to_base n base e is) = to_base n base (before n base e) is
+  belonged_before x (to_record r there is) = to_record r (subst (λ (rs : List Kept). Contains rs r) (sym kept) there) is
+
+  pub stands_same : Stands files b
+  stands_same = record {
+    same_image = λ n plain. sym (entries n) ∙ stands.same_image n plain;
+    frozen_main = λ n base e. stands.frozen_main n base (before n base e);
+    sound_images = record {
+      images = λ x belongs. stands.sound_images.images x (belonged_before x belongs);
+      records = λ r there. stands.sound_images.records r (subst (λ (rs : List Kept). Contains rs r) (sym kept) there);
+    };
+    kept_records = record {
+      distinct = subst AreDistinct kept stands.kept_records.distinct;
+      not_nil = subst HasNoNil kept stands.kept_records.not_nil;
+      stalled = λ n base e is. subst (λ (rs : List Kept). (r : Kept) × IsKeptAs rs (image_guid base.image) r) kept (stands.kept_records.stalled n base (before n base e) is);
+      levels = λ n bytes there. subst (λ (rs : List Kept). HoldsItsRecord rs bytes) kept (stands.kept_records.levels n bytes there);
+    };
+    history = record {
+      images = λ x belongs. subst (λ (rs : List Kept). NamesItsPast rs x) kept (stands.history.images x (belonged_before x belongs));
+      records = subst HaveParents kept stands.history.records;
+    };
+    no_stray = λ n beside. elim (stands.no_stray n beside) [
+      | inl base ↦ inl (base.0, sym (entries n) ∙ base.1)
+      | inr standby ↦ inr standby
+    ];
+    standbys = subst (HasApplyingStandbys files) kept stands.standbys;
+  }
+    where
+      AreDistinct : List Kept → Type 0
+      AreDistinct rs = (r q : Kept) → Contains rs r → Contains rs q → r.guid ≡ q.guid → r ≡ q
+
+      HasNoNil : List Kept → Type 0
+      HasNoNil rs = (r : Kept) → Contains rs r → r.guid ≢ nil
+
+      HaveParents : List Kept → Type 0
+      HaveParents rs = (r : Kept) (ask : Ask) → Contains rs r → r.ask ≡ Some ask → ask.previous ≢ nil → GoesOnFrom rs r ask
+
+-- strokes that keep no record change one entry
+after_entry : (name : List ℕ) (account : Account) (ss : List Stroke) (b : Base) → 1 ≤ length ss → base_after (base_in (account.entry name)) ss ≡ b
+    → (n : List ℕ) → (with_entry name (IsBase b) account).entry n ≡ (after name account ss).entry n
+unfolding after
+after_entry name account [] b some is n = absurd (omega arith)
+after_entry name account (s ∷ ss) b some is n = ap (λ (c : Base). (with_entry name (IsBase c) account).entry n) (sym is)
+
+after_kept : (name : List ℕ) (account : Account) (ss : List Stroke) (b : Base) → records_after (base_in (account.entry name)) ss ≡ [] → (with_entry name (IsBase b) account).kept ≡ (after name account ss).kept
+unfolding after with_entry
+after_kept name account [] b none = refl
+after_kept name account (s ∷ ss) b none = sym (ap (λ (rs : List Kept). account.kept ++ rs) none ∙ append-nil account.kept)
+
+-- the files stand for the account after strokes that leave a database in the normal state and keep no record
+pub stands_after : (old new : Files) (account : Account) (name : List ℕ) (image : Image) (ss : List Stroke)
+    → Stands old account → is_delta name ≡ false → ((m : List ℕ) → m ≢ name → new m ≡ old m)
+    → HoldsMain image (new name) → owner name (new name) (new (delta_name name)) ≡ Ok (base_of image)
+    → image_state image ≡ 0 → IsSoundImage image → NamesItsPast account.kept image
+    → 1 ≤ length ss → base_after (base_in (account.entry name)) ss ≡ base_of image → records_after (base_in (account.entry name)) ss ≡ []
+    → Stands new (after name account ss)
+stands_after old new account name image ss stands plain others holds opens normal sound past some is none =
+    stands_same new (with_entry name (IsBase (base_of image)) account) (after name account ss) (after_entry name account ss (base_of image) some is) (after_kept name account ss (base_of image) none)
+    (stands_with_database old new account name image stands plain others holds opens normal sound past)
