@@ -19,6 +19,7 @@ use Rattle.nb_model.proofs.HeadSound.{byte_holds}
 use Rattle.nb_model.proofs.BitSound.{give_holds}
 use Rattle.nb_model.proofs.NewSound.{new_raw_holds}
 
+-- the stroke is of a page
 abbrev pub IsPage : Stroke → Type 0
 IsPage (page p bytes) = Unit {0}
 IsPage other = ⊥
@@ -81,6 +82,7 @@ quiet_all (s ∷ ss) b pages normal =
     let rest = quiet_all ss (on_base s b) pages.1 (λ k. normal (suc k)) in
     (rest.0 ∙ one.frozen, rest.1 ∙ one.diverted, ap (λ (rs : List Kept). rs ++ records_after (on_base s b) ss) one.records ∙ rest.2)
 
+-- so it is as its image tells it
 told_whole : (b : Base) → b.frozen ≡ [] → b.diverted ≡ [] → b ≡ base_of b.image
 told_whole b frozen diverted = λ i. record { image = b.image; frozen = frozen i; diverted = diverted i }
 
@@ -110,6 +112,7 @@ normal_throughout image d pages through k =
 keeps_state : (x : Image) (p : ℕ) (bytes : Page) → HasFields x → IsSoundImage x → FitsAt x p bytes → Unit {0} → image_state x ≡ 0 → image_state (with_page p bytes x) ≡ 0
 keeps_state x p bytes fields sound fits any normal = state_stays x p bytes fields sound fits ∙ normal
 
+-- nothing is asked of a page
 abbrev Any : Page → Type 0
 Any bytes = Unit {0}
 

@@ -57,7 +57,7 @@ scn_place_some size (suc k) is =
     let more : entries_in size ≤ suc k * entries_in size = omega arith in
     omega arith
 
--- page 0 is no inventory page, and no SCN page
+-- no inventory page is page 0, and no SCN page is
 pub inventory_place_some : (size k : ℕ) → IsTrue (is_page_size size) → 1 ≤ inventory_place size k
 inventory_place_some size zero is = omega arith
 inventory_place_some size (suc k) is =
@@ -182,6 +182,9 @@ module _ (image : Image) (p : ℕ) (bytes : Page) (fields : HasFields image) (is
     | inl w ↦ ap (λ (n : ℕ). take 64 (page_at new n)) (sym w.1) ∙ ap (take 64) written_here ∙ fits.head w.1
     | inr w ↦ ap (take 64) (written_other 0 (λ e. w.1 (sym e)))
   ]
+
+  pub header_stays : is_header (first_page new) ≡ is_header (first_page image)
+  header_stays = sym (is_header-take (first_page new)) ∙ ap is_header head_stays ∙ is_header-take (first_page image)
 
   number_stays : (at w : ℕ) → at + w ≤ 64 → number_in at w (first_page new) ≡ number_in at w (first_page image)
   number_stays at w inside = sym (number_in-take 64 at w (first_page new) inside) ∙ ap (number_in at w) head_stays ∙ number_in-take 64 at w (first_page image) inside

@@ -37,9 +37,11 @@ delta_named name =
     ap (λ (k : ℕ). pointwise nat_eq delta_suffix (drop k (name ++ delta_suffix))) whole
     ∙ ap (pointwise nat_eq delta_suffix) (drop_at name delta_suffix (length name) refl) ∙ same_self delta_suffix
 
+-- so no difference file has the name of a database
 no_main : (n name : List ℕ) → is_delta name ≡ false → delta_name n ≢ name
 no_main n name plain e = true≢false (sym (delta_named n) ∙ ap is_delta e ∙ plain)
 
+-- another name keeps its entry
 pub entry_other : (name n : List ℕ) (entry : Entry) (account : Account) → n ≢ name → (with_entry name entry account).entry n ≡ account.entry n
 unfolding with_entry
 entry_other name n entry account other = by_test (same_name n name) refl
@@ -217,7 +219,7 @@ module _ (old new : Files) (account : Account) (name : List ℕ) (image : Image)
     | inr w ↦ stands.standbys n bytes r (sym (others n w) ∙ there) applying kept
   ]
 
-  -- whatever stood under the name before
+  -- The files stand for the account with that database, whatever stood under the name before.
   pub stands_with_database : Stands new (with_entry name (IsBase (base_of image)) account)
   stands_with_database = record {
     same_image = same_image;
