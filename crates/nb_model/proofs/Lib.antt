@@ -19,3 +19,13 @@ pub mod FormLaws
 pub mod MainLaws
 pub mod PutLaws
 pub mod FreshImageLaws
+pub mod SoundLaws
+pub mod FreshSound
+pub mod PutSound
+pub mod PastLaws
+pub mod HeadSound
+pub mod BitLaws
+pub mod BitSound
+pub mod NewSound
+pub mod NormalLaws
+pub mod StandsLaws

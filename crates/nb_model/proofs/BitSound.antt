@@ -1,0 +1,169 @@
+-- What taking a page and giving it back keep: each front of their strokes leaves a sound image.
+use Rattle.std.proofs.Common.{◌≡◌, inl, inr, ℕ, ◌+◌, ◌/◌, ◌%◌, ◌<◌, ◌≤◌, List, length, take, drop, refl, sym, ap, subst, ◌∙◌, arith, length-drop}
+use Rattle.std.specs.Prelude.{Bool, true, false, not, ◌==◌, nat_lt, None}
+use Rattle.std.proofs.lemmas.Bool.{true≢false, and_parts, ltb-true}
+use Rattle.std.proofs.lemmas.Bool.Decides.{eqb_tells}
+use Rattle.nb_fields.specs.Places.{entries_in, bits_in, inventory_place, is_scn_place}
+use Rattle.nb_fields.specs.Page.{kind_of, stamped}
+use Rattle.nb_fields.specs.Payloads.{bit_of}
+use Rattle.nb_fields.proofs.SizeLemmas.{SizeFacts, size_facts}
+use Rattle.nb_fields.proofs.PlaceLemmas.{bits-least}
+use Rattle.nb_model.specs.Image.{Page, Image, page_at, image_size, image_scn, with_page}
+use Rattle.nb_model.specs.Account.{Base, base_of, Kept}
+use Rattle.nb_model.specs.Strokes.{base_after}
+use Rattle.nb_model.specs.Forms.{Draft, drafted, old_page, needs, is_kind, inventory_of, scn_page_of, bit_number, is_free_page, with_bit, set_bit, give_page}
+use Rattle.nb_model.specs.Causes.{not_raw, not_kind}
+use Rattle.nb_model.specs.Sound.{IsSoundImage}
+use Rattle.nb_model.specs.Stands.{NamesItsPast, is_history_page}
+use Rattle.nb_model.proofs.SoundLaws.{all_at, inventory_there, inventory_place_some, scn_page_there, HasFields, FitsAt, page_sound}
+use Rattle.nb_model.proofs.PutSound.{IsPlace, Raises, IsPut, Held, Throughout, HasHeader, header_fields, at_first, needs_image, needs_holds, holds_now, old_length, now_length, now_some, now_stamp, now_kind, put_holds, raw_facts, no_first, not_when}
+use Rattle.nb_model.proofs.PastLaws.{no_history, page_past}
+use Rattle.nb_model.proofs.BitLaws.{bit_else, with_bit_length, bit_behind, one_bit}
+
+-- The inventory page of page p with its bit written, once the entry of that inventory page is raised.
+module _ (image x : Image) (p bit : ℕ) (fields : HasFields image) (is : IsSoundImage image) (fields_x : HasFields x) (is_x : IsSoundImage x)
+    (raises : Raises image x (inventory_of image p)) (low : p < length image) (there : inventory_of image p < length image) (small : bit ≤ 1) where
+  abbrev i : ℕ
+  i = inventory_of image p
+
+  abbrev row : Page
+  row = with_bit (bit_number image p) bit (page_at image i)
+
+  abbrev bit_page : Page
+  bit_page = stamped (old_page i x) 2 (drop 16 row) (image_scn x) i
+
+  no_scn_page : is_scn_place (image_size image) i ≡ true → ⊥
+  no_scn_page at =
+      let two = is.sound.system.inventories i there (inventory_there (image_size image) (p / bits_in (image_size image)) fields.size) in
+      let ten = is.sound.system.scn_pages i there at in
+      absurd (omega arith)
+
+  -- so it is no page of SCN entries
+  no_entries : (q : ℕ) → scn_page_of x q ≡ i → ⊥
+  no_entries q at =
+      let place : is_scn_place (image_size x) i ≡ true = subst (λ (n : ℕ). is_scn_place (image_size x) n ≡ true) at (scn_page_there (image_size x) (q / entries_in (image_size x)) fields_x.size) in
+      no_scn_page (subst (λ (s : ℕ). is_scn_place s i ≡ true) raises.size place)
+
+  inventory_length : length (page_at image i) ≡ image_size image
+  inventory_length = all_at (λ page. length page ≡ image_size image) image is.sizes i there
+
+  row_length : length row ≡ image_size image
+  row_length = with_bit_length (bit_number image p) bit (page_at image i) ∙ inventory_length
+
+  inside : 32 + bit_number image p / 8 < length (page_at image i)
+  inside =
+      let facts : SizeFacts (image_size image) = size_facts (image_size image) fields.size in
+      let least = bits-least (image_size image) fields.size in
+      let below : bit_number image p < bits_in (image_size image) = omega arith in
+      omega (arith, facts.at_least, inventory_length)
+
+  room : 16 + length (drop 16 row) ≤ image_size x
+  room = let facts : SizeFacts (image_size image) = size_facts (image_size image) fields.size in omega (arith, facts.at_least, row_length, length-drop 16 row, raises.size)
+
+  read_back : (j : ℕ) → bit_of bit_page j ≡ bit_of row j
+  read_back j =
+      let facts : SizeFacts (image_size image) = size_facts (image_size image) fields.size in
+      let old = old_length x i 2 (drop 16 row) fields_x is_x refl room in
+      bit_behind (old_page i x) 2 (image_scn x) i j row (row_length ∙ sym raises.size ∙ sym old) (omega (arith, facts.at_least, raises.size))
+
+  bits_below : (q : ℕ) → inventory_of image q ≡ i → (bit_of bit_page (bit_number image q) == 1) ≡ false → q < length image
+  unfolding is_free_page
+  bits_below q at taken = elim (eqb_tells (bit_number image q) (bit_number image p)) [
+    | inl w ↦ subst (λ (n : ℕ). n < length image) (sym (one_bit (image_size image) p q fields.size at w.1)) low
+    | inr w ↦
+        let before : bit_of bit_page (bit_number image q) ≡ bit_of (page_at image (inventory_of image q)) (bit_number image q) =
+        read_back (bit_number image q) ∙ bit_else (bit_number image p) (bit_number image q) bit (page_at image i) small inside w.1
+        ∙ ap (λ (n : ℕ). bit_of (page_at image n) (bit_number image q)) (sym at) in
+        is.sound.bits q (subst (λ (n : ℕ). n < length image) (sym at) there) (ap (λ (n : ℕ). n == 1) (sym before) ∙ taken)
+  ]
+
+  bit_fits : FitsAt x i bit_page
+  bit_fits = record {
+    head = λ e. absurd (let some = inventory_place_some (image_size image) (p / bits_in (image_size image)) fields.size in omega arith);
+    there = omega (arith, raises.long);
+    most = let most = is.most in omega arith;
+    size = now_length x i 2 (drop 16 row) fields_x is_x refl room;
+    no_zeros = now_some x i 2 (drop 16 row) fields_x is_x refl room;
+    stamp = now_stamp x i 2 (drop 16 row) fields_x is_x refl room;
+    inventory = λ at. now_kind x i 2 (drop 16 row) fields_x is_x refl room;
+    scn_page = λ at. absurd (no_scn_page (subst (λ (s : ℕ). is_scn_place s i ≡ true) raises.size at));
+    bits = λ q at taken.
+        let place : inventory_of image q ≡ i = ap (λ (s : ℕ). inventory_place s (q / bits_in s)) (sym raises.size) ∙ at in
+        let bit_there : (bit_of bit_page (bit_number image q) == 1) ≡ false = ap (λ (s : ℕ). bit_of bit_page (q % bits_in s) == 1) (sym raises.size) ∙ taken in
+        let below = bits_below q place bit_there in
+        omega (arith, raises.long);
+    current = raises.current;
+    no_lower = λ q at has below. absurd (no_entries q at);
+    no_later = λ q at has. absurd (no_entries q at);
+  }
+
+  bit_kind : kind_of bit_page ≡ 2
+  bit_kind = now_kind x i 2 (drop 16 row) fields_x is_x refl room
+
+-- the inventory page of a raw page is there
+raw_inventory : (image : Image) (p : ℕ) → not_raw image p ≡ None → inventory_of image p < length image
+unfolding not_raw is_kind
+raw_inventory image p none =
+    let second = no_first _ _ (no_first _ _ none).1 in
+    by_test (is_kind image 2 (inventory_of image p)) refl second.0
+  where
+    by_test : (t : Bool) → is_kind image 2 (inventory_of image p) ≡ t → not_kind image 2 (inventory_of image p) ≡ None → inventory_of image p < length image
+    by_test true is e = ltb-true (inventory_of image p) (length image) (and_parts (nat_lt (inventory_of image p) (length image)) _ is).0
+    by_test false is e = absurd (true≢false (sym (ap not is) ∙ not_when _ _ e))
+
+module _ (Q : Image → Type 0) (K : Page → Type 0) (scn_pages : (bytes : Page) → kind_of bytes ≡ 10 → K bytes) (inventories : (bytes : Page) → kind_of bytes ≡ 2 → K bytes)
+    (step : (image : Image) (p : ℕ) (bytes : Page) → HasFields image → IsSoundImage image → FitsAt image p bytes → K bytes → Q image → Q (with_page p bytes image)) where
+  -- the bit of a page below the length is written
+  pub bit_holds : (b : Base) (bit p : ℕ) (d : Draft) → bit ≤ 1 → Throughout (Held Q) b d → p < length d.image → inventory_of d.image p < length d.image
+      → IsPut Q b d.image (inventory_of d.image p) 2 (drop 16 (with_bit (bit_number d.image p) bit (page_at d.image (inventory_of d.image p)))) (set_bit bit p d)
+  unfolding set_bit
+  bit_holds b bit p d small through low there =
+      subst (λ (y : Image). IsPut Q b y (inventory_of d.image p) 2 (drop 16 (with_bit (bit_number d.image p) bit (page_at d.image (inventory_of d.image p)))) (set_bit bit p d)) same
+      (put_holds Q K scn_pages step b (inventory_of d.image p) 2 _ read (needs_holds (Held Q) b 2 (inventory_of d.image p) d through) at fit)
+    where
+      read : Draft
+      read = needs 2 (inventory_of d.image p) d
+
+      same : read.image ≡ d.image
+      same = needs_image 2 (inventory_of d.image p) d
+
+      h : Held Q d.image
+      h = holds_now (Held Q) b d through
+
+      at : IsPlace read.image (inventory_of d.image p)
+      at = subst (λ (y : Image). IsPlace y (inventory_of d.image p)) (sym same) (record {
+        behind = inventory_place_some (image_size d.image) (p / bits_in (image_size d.image)) h.fields.size;
+        there = omega arith;
+        most = let most = h.sound.most in omega arith;
+      })
+
+      written_bit : Image → Page
+      written_bit x = stamped (old_page (inventory_of d.image p) x) 2 (drop 16 (with_bit (bit_number d.image p) bit (page_at d.image (inventory_of d.image p)))) (image_scn x) (inventory_of d.image p)
+
+      fit : (x : Image) → Held Q x → Raises read.image x (inventory_of d.image p)
+          → FitsAt x (inventory_of d.image p) (written_bit x) × K (written_bit x)
+      fit x h_x before =
+          let raises : Raises d.image x (inventory_of d.image p) = subst (λ (y : Image). Raises y x (inventory_of d.image p)) same before in
+          (bit_fits d.image x p bit h.fields h.sound h_x.fields h_x.sound raises low there small, inventories _ (bit_kind d.image x p bit h.fields h.sound h_x.fields h_x.sound raises low there small))
+
+  -- a page is given back
+  pub give_holds : (image : Image) (p : ℕ) → HasHeader image → IsSoundImage image → Q image → not_raw image p ≡ None → Throughout (Held Q) (base_of image) (give_page p (drafted image))
+  give_holds image p h is also none =
+      let first : Throughout (Held Q) (base_of image) (drafted image) = at_first (Held Q) (base_of image) (record { fields = header_fields image h; sound = is; also = also }) in
+      (bit_holds (base_of image) 1 p (drafted image) (omega arith) first (raw_facts image p none).0 (raw_inventory image p none)).through
+
+-- each front of the strokes of a page given back leaves a sound image
+pub give_sound : (image : Image) (p : ℕ) → HasHeader image → IsSoundImage image → not_raw image p ≡ None → (k : ℕ) → IsSoundImage (base_after (base_of image) (take k (give_page p (drafted image)).strokes)).image
+give_sound image p h is none k =
+    let through : Throughout (Held IsSoundImage) (base_of image) (give_page p (drafted image)) =
+    give_holds IsSoundImage (λ bytes. Unit {0}) (λ bytes e. tt) (λ bytes e. tt) (λ x q bytes fields sound fits any also. page_sound x q bytes fields sound fits) image p h is is none in
+    (through.each k).sound
+
+-- and one that names the same backups
+pub give_past : (kept : List Kept) (image : Image) (p : ℕ) → HasHeader image → IsSoundImage image → NamesItsPast kept image → not_raw image p ≡ None
+    → (k : ℕ) → NamesItsPast kept (base_after (base_of image) (take k (give_page p (drafted image)).strokes)).image
+give_past kept image p h is past none k =
+    let through : Throughout (Held (NamesItsPast kept)) (base_of image) (give_page p (drafted image)) =
+    give_holds (NamesItsPast kept) (λ bytes. is_history_page bytes ≡ false) (λ bytes e. no_history bytes (omega (arith, e))) (λ bytes e. no_history bytes (omega (arith, e)))
+    (λ x q bytes fields sound fits no_rows before. page_past kept x q bytes fields sound fits no_rows before) image p h is past none in
+    (through.each k).also

@@ -1,0 +1,138 @@
+-- What a write of page 0 keeps, whose first 64 bytes stay.
+use Rattle.std.proofs.Common.{◌≡◌, ◌≢◌, ℕ, zero, suc, ◌+◌, ◌-◌, ◌<◌, ◌≤◌, ◌/◌, List, [], ◌∷◌, length, take, drop, replicate, refl, sym, ap, ◌∙◌, arith, length-append, length-drop}
+use Rattle.std.specs.Prelude.{true, false, ◌==◌}
+use Rattle.std.proofs.lemmas.Bool.{true≢false, and_parts, eqb-true, false_from_ne_true}
+use Rattle.std.proofs.lemmas.List.{take_at, length-take-le, drop-replicate}
+use Rattle.nb_fields.specs.Bytes.{number_of, number_in, with_part, is_zeros}
+use Rattle.nb_fields.specs.Header.{is_header}
+use Rattle.nb_fields.specs.Places.{entries_in, bits_in}
+use Rattle.nb_fields.specs.Page.{kind_of}
+use Rattle.nb_fields.proofs.PartLemmas.{number_in-take, length-with_part}
+use Rattle.nb_fields.proofs.SizeLemmas.{SizeFacts, size_facts}
+use Rattle.nb_model.specs.Image.{Page, Image, first_page, image_size, with_page}
+use Rattle.nb_model.specs.Account.{base_of, Kept}
+use Rattle.nb_model.specs.Strokes.{on_base, base_after, merged_page}
+use Rattle.nb_model.specs.Forms.{has_entry}
+use Rattle.nb_model.specs.Pages.{byte_strokes}
+use Rattle.nb_model.specs.Sound.{IsSoundImage}
+use Rattle.nb_model.specs.Stands.{NamesItsPast, is_history_page}
+use Rattle.nb_model.proofs.SoundLaws.{all_at, inventory_behind, inventory_place_some, scn_page_behind, scn_place_some, HasFields, FitsAt, header_kind, fields_stay, page_sound}
+use Rattle.nb_model.proofs.PutSound.{HasHeader, Held, header_fields}
+use Rattle.nb_model.proofs.PastLaws.{no_history, page_past}
+
+-- bytes of zeros spell 0
+all_zeros : (bytes : List ℕ) → is_zeros bytes ≡ true → bytes ≡ replicate (length bytes) 0
+all_zeros [] h = refl
+all_zeros (b ∷ bs) h =
+    let parts = and_parts (b == 0) (is_zeros bs) h in
+    let here : b ≡ 0 = eqb-true b 0 parts.0 in
+    let rest = all_zeros bs parts.1 in
+    cc
+
+front_spells : (k m : ℕ) → number_of (take k (replicate m 0)) ≡ 0
+unfolding number_of
+front_spells zero m = refl
+front_spells (suc k) zero = refl
+front_spells (suc k) (suc m) = let rest = front_spells k m in omega arith
+
+zeros_spell : (at w n : ℕ) → number_in at w (replicate n 0) ≡ 0
+unfolding number_in
+zeros_spell at w n = ap (λ (xs : List ℕ). number_of (take w xs)) (drop-replicate at n 0) ∙ front_spells w (n - at)
+
+-- a page that has a number other than 0 isn't all zeros
+spells : (at w : ℕ) (bytes : List ℕ) → number_in at w bytes ≢ 0 → is_zeros bytes ≡ false
+spells at w bytes some = false_from_ne_true (is_zeros bytes) (λ none. some (ap (number_in at w) (all_zeros bytes none) ∙ zeros_spell at w (length bytes)))
+
+module _ (image : Image) (bytes : Page) (fields : HasFields image) (is : IsSoundImage image) (long : length bytes ≡ image_size image) where
+  abbrev head_page : Page
+  head_page = merged_page 0 bytes image
+
+  facts : SizeFacts (image_size image)
+  facts = size_facts (image_size image) fields.size
+
+  first_length : length (first_page image) ≡ image_size image
+  first_length = let least = is.least in all_at (λ page. length page ≡ image_size image) image is.sizes 0 (omega arith)
+
+  front_length : length (take 64 (first_page image)) ≡ 64
+  front_length = length-take-le 64 (first_page image) (omega (arith, facts.at_least, first_length))
+
+  front : take 64 head_page ≡ take 64 (first_page image)
+  unfolding merged_page
+  front = take_at (take 64 (first_page image)) (drop 64 bytes) 64 front_length
+
+  head_length : length head_page ≡ image_size image
+  unfolding merged_page
+  head_length = omega (arith, facts.at_least, front_length, length-append (take 64 (first_page image)) (drop 64 bytes), length-drop 64 bytes)
+
+  head_number : (at w : ℕ) → at + w ≤ 64 → number_in at w head_page ≡ number_in at w (first_page image)
+  head_number at w inside = sym (number_in-take 64 at w head_page inside) ∙ ap (number_in at w) front ∙ number_in-take 64 at w (first_page image) inside
+
+  first_has_none : has_entry image 0 ≡ false
+  unfolding has_entry
+  first_has_none = refl
+
+  -- page 0 fits with its first 64 bytes
+  pub head_fits : FitsAt image 0 (merged_page 0 bytes image)
+  head_fits = record {
+    head = λ e. front;
+    there = omega arith;
+    most = omega arith;
+    size = head_length;
+    no_zeros = spells 24 4 head_page (λ none. absurd (omega (arith, facts.at_least, head_number 24 4 (omega arith))));
+    stamp = head_number 8 4 (omega arith) ∙ is.sound.stamps.head;
+    inventory = λ at. absurd (inventory_behind (image_size image) 0 fields.size at refl);
+    scn_page = λ at. absurd (scn_page_behind (image_size image) 0 at refl);
+    bits = λ q at taken. absurd (let some = inventory_place_some (image_size image) (q / bits_in (image_size image)) fields.size in omega arith);
+    current = λ has. absurd (true≢false (sym has ∙ first_has_none));
+    no_lower = λ q at has low. absurd (let some = scn_place_some (image_size image) (q / entries_in (image_size image)) fields.size in omega arith);
+    no_later = λ q at has. absurd (let some = scn_place_some (image_size image) (q / entries_in (image_size image)) fields.size in omega arith);
+  }
+
+  head_kind : is_header (first_page image) ≡ true → kind_of head_page ≡ 1
+  head_kind header = head_number 0 1 (omega arith) ∙ header_kind (first_page image) header
+
+-- One byte of page 0 is written, as for forced writes and for access, and Q is kept.
+module _ (Q : Image → Type 0) (K : Page → Type 0) (headers : (bytes : Page) → kind_of bytes ≡ 1 → K bytes)
+    (step : (image : Image) (p : ℕ) (bytes : Page) → HasFields image → IsSoundImage image → FitsAt image p bytes → K bytes → Q image → Q (with_page p bytes image)) where
+  changed_length : (image : Image) (at value : ℕ) → HasFields image → IsSoundImage image → at < 1024 → length (with_part at (value ∷ []) (first_page image)) ≡ image_size image
+  changed_length image at value fields is inside =
+      let size : SizeFacts (image_size image) = size_facts (image_size image) fields.size in
+      let first : length (first_page image) ≡ image_size image = let least = is.least in all_at (λ page. length page ≡ image_size image) image is.sizes 0 (omega arith) in
+      length-with_part at (value ∷ []) (first_page image) (omega (arith, size.at_least)) ∙ first
+
+  pub byte_holds : (image : Image) (at value : ℕ) → HasHeader image → IsSoundImage image → at < 1024 → Q image → (k : ℕ) → Held Q (base_after (base_of image) (take k (byte_strokes at value image))).image
+  unfolding base_after on_base byte_strokes
+  byte_holds image at value h is inside also = by_count
+    where
+      fields : HasFields image
+      fields = header_fields image h
+
+      fits : FitsAt image 0 (merged_page 0 (with_part at (value ∷ []) (first_page image)) image)
+      fits = head_fits image (with_part at (value ∷ []) (first_page image)) fields is (changed_length image at value fields is inside)
+
+      before : Held Q image
+      before = record { fields = fields; sound = is; also = also }
+
+      now : Held Q (with_page 0 (merged_page 0 (with_part at (value ∷ []) (first_page image)) image) image)
+      now = record {
+        fields = fields_stay image 0 _ fields is fits;
+        sound = page_sound image 0 _ fields is fits;
+        also = step image 0 _ fields is fits (headers _ (head_kind image (with_part at (value ∷ []) (first_page image)) fields is (changed_length image at value fields is inside) h.header)) also;
+      }
+
+      by_count : (k : ℕ) → Held Q (base_after (base_of image) (take k (byte_strokes at value image))).image
+      by_count zero = before
+      by_count (suc zero) = now
+      by_count (suc (suc k)) = now
+
+-- each front of that stroke leaves a sound image
+pub byte_sound : (image : Image) (at value : ℕ) → HasHeader image → IsSoundImage image → at < 1024 → (k : ℕ) → IsSoundImage (base_after (base_of image) (take k (byte_strokes at value image))).image
+byte_sound image at value h is inside k =
+    (byte_holds IsSoundImage (λ bytes. Unit {0}) (λ bytes e. tt) (λ x q bytes fields sound fits any also. page_sound x q bytes fields sound fits) image at value h is inside is k).sound
+
+-- and one that names the same backups
+pub byte_past : (kept : List Kept) (image : Image) (at value : ℕ) → HasHeader image → IsSoundImage image → NamesItsPast kept image → at < 1024
+    → (k : ℕ) → NamesItsPast kept (base_after (base_of image) (take k (byte_strokes at value image))).image
+byte_past kept image at value h is past inside k =
+    (byte_holds (NamesItsPast kept) (λ bytes. is_history_page bytes ≡ false) (λ bytes e. no_history bytes (omega (arith, e)))
+    (λ x q bytes fields sound fits no_rows before. page_past kept x q bytes fields sound fits no_rows before) image at value h is inside past k).also

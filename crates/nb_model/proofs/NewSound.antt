@@ -1,0 +1,359 @@
+-- What a new page keeps: each front of its strokes leaves a sound image, also where system pages are made on the way.
+use Rattle.std.proofs.Common.{◌≡◌, ◌≢◌, inl, inr, ℕ, zero, suc, ◌+◌, ◌-◌, ◌*◌, ◌/◌, ◌%◌, ◌^◌, ◌<◌, ◌≤◌, List, [], length, take, refl, sym, ap, subst, ◌∙◌, arith}
+use Rattle.std.specs.Prelude.{Bool, true, false, ◌==◌, nat_lt, IsTrue, max}
+use Rattle.std.proofs.lemmas.Bool.{true≢false, and_parts, and_from, or_parts, or_cases, ltb-true, eq-eqb, eqb-false}
+use Rattle.std.proofs.lemmas.Bool.Decides.{leb_tells}
+use Rattle.nb_fields.specs.declared.kinds.PageKind.TheVariants.{Inventory, ScnInventory}
+use Rattle.nb_fields.specs.Bytes.{bytes_of}
+use Rattle.nb_fields.specs.Kinds.{code_of}
+use Rattle.nb_fields.specs.Places.{is_page_size, entries_in, bits_in, inventory_place, is_inventory_place, is_scn_place, is_system_place}
+use Rattle.nb_fields.specs.Page.{page_of, kind_of, generation_of, stamped}
+use Rattle.nb_fields.specs.Payloads.{inventory_payload, scn_payload, text_payload, bit_of, entry_of}
+use Rattle.nb_fields.proofs.FreshLaws.{taken_bits-free, bit_of-inventory, entry_of-scn}
+use Rattle.nb_fields.proofs.PageLemmas.{kind_of-page_of}
+use Rattle.nb_fields.proofs.SizeLemmas.{SizeFacts, size_facts}
+use Rattle.nb_fields.proofs.PlaceLemmas.{bits-least, entries-least}
+use Rattle.nb_model.specs.Image.{Page, Image, page_at, image_size, image_scn, with_page}
+use Rattle.nb_model.specs.Account.{Base, base_of, Kept}
+use Rattle.nb_model.specs.Strokes.{base_after}
+use Rattle.nb_model.specs.Forms.{Draft, drafted, old_page, is_kind, put, scn_page_of, bit_number, entry_number, scn_entry, has_entry, is_free_page, take_page, free_from, lowest_free, needs_inventories, searched, system_kind, system_payload, system_page, no_page, new_within, new_page}
+use Rattle.nb_model.specs.Sound.{IsSoundImage}
+use Rattle.nb_model.specs.Stands.{NamesItsPast, is_history_page}
+use Rattle.nb_model.proofs.DraftLaws.{drafts_are}
+use Rattle.nb_model.proofs.SoundLaws.{inventory_there, scn_page_there, HasFields, FitsAt, scn_no_entry, with_page_length, page_sound}
+use Rattle.nb_model.proofs.FreshSound.{kind_inventory, kind_scn, inventory_length, scn_length}
+use Rattle.nb_model.proofs.PutSound.{IsPlace, Raises, IsPut, Held, Throughout, HasHeader, header_fields, at_first, needs_image, needs_holds, holds_now, old_length, now_length, now_some, now_stamp, now_kind, put_holds, plain_holds}
+use Rattle.nb_model.proofs.PastLaws.{no_history, page_past}
+use Rattle.nb_model.proofs.BitSound.{bit_holds}
+
+-- no page is of both kinds of inventory
+places_apart : (size p : ℕ) → IsTrue (is_page_size size) → is_inventory_place size p ≡ true → is_scn_place size p ≡ true → ⊥
+places_apart size p is inventory scn =
+    let e : code_of Inventory ≡ code_of ScnInventory = ap code_of (sym (kind_inventory size p is inventory) ∙ kind_scn size p is scn) in
+    absurd (omega arith)
+
+-- the inventory page of a page stands before it
+inventory_before : (size p : ℕ) → IsTrue (is_page_size size) → 2 ≤ p → inventory_place size (p / bits_in size) < p
+inventory_before size p is behind =
+    let least = bits-least size is in
+    let low : p / bits_in size * bits_in size ≤ p = omega arith in
+    by_index (p / bits_in size) low
+  where
+    by_index : (k : ℕ) → k * bits_in size ≤ p → inventory_place size k < p
+    by_index zero low = omega arith
+    by_index (suc k) low =
+        let least = bits-least size is in
+        let more : bits_in size ≤ suc k * bits_in size = omega arith in
+        omega arith
+
+-- the lowest free page isn't behind the end
+free_between : (left p : ℕ) (image : Image) → (p ≤ free_from left p image) × (free_from left p image ≤ p + left)
+unfolding free_from
+free_between zero p image = (omega arith, omega arith)
+free_between (suc left) p image = let rest = free_between left (p + 1) image in by_test rest.0 rest.1 (is_free_page image p)
+  where
+    by_test : p + 1 ≤ free_from left (p + 1) image → free_from left (p + 1) image ≤ p + 1 + left → (t : Bool)
+        → (p ≤ (elim t as (λ z. ℕ) [ true ↦ p | false ↦ free_from left (p + 1) image ])) × ((elim t as (λ z. ℕ) [ true ↦ p | false ↦ free_from left (p + 1) image ]) ≤ p + suc left)
+    by_test low high true = (omega arith, omega arith)
+    by_test low high false = (omega arith, omega arith)
+
+lowest_between : (image : Image) → 5 ≤ length image → (5 ≤ lowest_free image) × (lowest_free image ≤ length image)
+unfolding lowest_free
+lowest_between image least = let found = free_between (length image - 5) 5 image in (found.0, omega (arith, found.1))
+
+-- reading inventory pages changes no image
+inventories_image : (count k : ℕ) (d : Draft) → (needs_inventories count k d).image ≡ d.image
+unfolding needs_inventories
+inventories_image zero k d = refl
+inventories_image (suc count) k d = inventories_image count (k + 1) _ ∙ needs_image 2 (inventory_place (image_size d.image) k) d
+
+searched_image : (p : ℕ) (d : Draft) → (searched p d).image ≡ d.image
+unfolding searched
+searched_image p d = inventories_image _ 0 d
+
+module _ (Q : Image → Type 0) (b : Base) where
+  inventories_hold : (count k : ℕ) (d : Draft) → Throughout Q b d → Throughout Q b (needs_inventories count k d)
+  unfolding needs_inventories
+  inventories_hold zero k d h = h
+  inventories_hold (suc count) k d h = inventories_hold count (k + 1) _ (needs_holds Q b 2 _ d h)
+
+  searched_holds : (p : ℕ) (d : Draft) → Throughout Q b d → Throughout Q b (searched p d)
+  unfolding searched
+  searched_holds p d h = inventories_hold _ 0 d h
+
+  full_holds : (d : Draft) → Throughout Q b d → Throughout Q b (no_page d)
+  full_holds d h = record { is = (drafts_are b).fills d h.is; each = h.each }
+
+-- A system page at the end of the image.
+module _ (x : Image) (p : ℕ) (fields : HasFields x) (is : IsSoundImage x) (at : IsPlace x p) (past : p ≡ length x) where
+  facts : SizeFacts (image_size x)
+  facts = size_facts (image_size x) fields.size
+
+  -- an inventory page of free bits
+  module _ (place : is_inventory_place (image_size x) p ≡ true) (current : has_entry x p ≡ true → scn_entry x p ≡ image_scn x) where
+    abbrev bits : List ℕ
+    bits = inventory_payload (image_size x) ((p + 1) / bits_in (image_size x)) 0
+
+    bits_room : 16 + length bits ≤ image_size x
+    bits_room = omega (arith, facts.at_least, inventory_length (image_size x) ((p + 1) / bits_in (image_size x)) 0)
+
+    all_free : (i : ℕ) → i < bits_in (image_size x) → bit_of (stamped (old_page p x) 2 bits (image_scn x) p) i ≡ 1
+    unfolding stamped
+    all_free i inside =
+        let g : ℕ = (generation_of (old_page p x) + 1) % 2 ^ 32 in
+        let byte : i / 8 < image_size x - 32 = omega (arith, facts.at_least) in
+        ap (λ (s : ℕ). bit_of (page_of s 2 g (image_scn x) p bits) i) (old_length x p 2 bits fields is refl bits_room)
+        ∙ bit_of-inventory (image_size x) 2 g (image_scn x) p ((p + 1) / bits_in (image_size x)) 0 i byte
+        ∙ taken_bits-free (image_size x - 32) 0 i byte (omega arith)
+
+    inventory_fits : FitsAt x p (stamped (old_page p x) 2 bits (image_scn x) p)
+    inventory_fits = record {
+      head = λ e. absurd (let some = at.behind in omega arith);
+      there = at.there;
+      most = at.most;
+      size = now_length x p 2 bits fields is refl bits_room;
+      no_zeros = now_some x p 2 bits fields is refl bits_room;
+      stamp = now_stamp x p 2 bits fields is refl bits_room;
+      inventory = λ e. now_kind x p 2 bits fields is refl bits_room;
+      scn_page = λ e. absurd (places_apart (image_size x) p fields.size place e);
+      bits = λ q e taken.
+          let least = bits-least (image_size x) fields.size in
+          let inside : bit_number x q < bits_in (image_size x) = omega arith in
+          absurd (true≢false (sym (eq-eqb _ 1 (all_free (bit_number x q) inside)) ∙ taken));
+      current = current;
+      no_lower = λ q e has below. absurd (none q e);
+      no_later = λ q e has. absurd (none q e);
+    }
+      where
+        none : (q : ℕ) → scn_page_of x q ≡ p → ⊥
+        none q e = places_apart (image_size x) p fields.size place (subst (λ (n : ℕ). is_scn_place (image_size x) n ≡ true) e (scn_page_there (image_size x) (q / entries_in (image_size x)) fields.size))
+
+  -- an SCN page of the current SCN
+  module _ (place : is_scn_place (image_size x) p ≡ true) where
+    abbrev entries : List ℕ
+    entries = scn_payload (image_size x) (p / entries_in (image_size x)) (image_scn x)
+
+    entries_room : 16 + length entries ≤ image_size x
+    entries_room = omega (arith, facts.at_least, scn_length (image_size x) (p / entries_in (image_size x)) (image_scn x))
+
+    all_current : (i : ℕ) → i < entries_in (image_size x) → entry_of (stamped (old_page p x) 10 entries (image_scn x) p) i ≡ image_scn x
+    unfolding stamped
+    all_current i inside =
+        let g : ℕ = (generation_of (old_page p x) + 1) % 2 ^ 32 in
+        ap (λ (s : ℕ). entry_of (page_of s 10 g (image_scn x) p entries) i) (old_length x p 10 entries fields is refl entries_room)
+        ∙ entry_of-scn (image_size x) 10 g (image_scn x) p (p / entries_in (image_size x)) (image_scn x) i fields.scn inside
+
+    scn_fits : FitsAt x p (stamped (old_page p x) 10 entries (image_scn x) p)
+    scn_fits = record {
+      head = λ e. absurd (let some = at.behind in omega arith);
+      there = at.there;
+      most = at.most;
+      size = now_length x p 10 entries fields is refl entries_room;
+      no_zeros = now_some x p 10 entries fields is refl entries_room;
+      stamp = now_stamp x p 10 entries fields is refl entries_room;
+      inventory = λ e. absurd (places_apart (image_size x) p fields.size e place);
+      scn_page = λ e. now_kind x p 10 entries fields is refl entries_room;
+      bits = λ q e taken. absurd (places_apart (image_size x) p fields.size (subst (λ (n : ℕ). is_inventory_place (image_size x) n ≡ true) e (inventory_there (image_size x) (q / bits_in (image_size x)) fields.size)) place);
+      current = λ has. absurd (true≢false (sym has ∙ scn_no_entry x p place));
+      no_lower = λ q e has below. absurd (let there = is.sound.entries.there q below has in omega arith);
+      no_later = λ q e has.
+          let least = entries-least (image_size x) fields.size in
+          let inside : entry_number x q < entries_in (image_size x) = omega arith in
+          omega (arith, all_current (entry_number x q) inside);
+    }
+
+stamped_kind : (old : Page) (kind : ℕ) (payload : List ℕ) (scn number : ℕ) → kind_of (stamped old kind payload scn number) ≡ kind
+unfolding stamped
+stamped_kind old kind payload scn number = kind_of-page_of (length old) kind _ scn number payload
+
+plain_place : (size p : ℕ) → is_system_place size p ≡ false → (is_inventory_place size p ≡ false) × (is_scn_place size p ≡ false)
+unfolding is_system_place
+plain_place size p none = or_parts (is_inventory_place size p) (is_scn_place size p) none
+
+-- a system page by its kind and its payload
+system_is : (p kind : ℕ) (payload : List ℕ) (d : Draft) → system_kind d.image p ≡ kind → system_payload d.image p ≡ payload → system_page p d ≡ elim (is_kind d.image kind p) as (λ z. Draft) [ true ↦ d | false ↦ put p kind payload d ]
+unfolding system_page
+system_is p kind payload d e f =
+    ap (λ (k : ℕ). elim (is_kind d.image k p) as (λ z. Draft) [ true ↦ d | false ↦ put p k (system_payload d.image p) d ]) e
+    ∙ ap (λ (xs : List ℕ). elim (is_kind d.image kind p) as (λ z. Draft) [ true ↦ d | false ↦ put p kind xs d ]) f
+
+-- what K has to hold of
+pub record HoldsOfKinds (K : Page → Type 0) : Type 0 where
+  pub inventories : (bytes : Page) → kind_of bytes ≡ 2 → K bytes
+  pub scn_pages : (bytes : Page) → kind_of bytes ≡ 10 → K bytes
+
+module _ (Q : Image → Type 0) (K : Page → Type 0) (kinds : HoldsOfKinds K)
+    (step : (image : Image) (p : ℕ) (bytes : Page) → HasFields image → IsSoundImage image → FitsAt image p bytes → K bytes → Q image → Q (with_page p bytes image)) (b : Base) where
+  -- a draft in which page p is there
+  record IsThere (p : ℕ) (d : Draft) : Type 0 where
+    through : Throughout (Held Q) b d
+    below : p < length d.image
+
+  put_there : (image : Image) (p kind : ℕ) (payload : List ℕ) (d : Draft) → IsPlace image p → IsPut Q b image p kind payload d → IsThere p d
+  put_there image p kind payload d at h = record {
+    through = h.through;
+    below =
+        let low = at.there in
+        let long : length d.image ≡ max (length h.between) (p + 1) = ap length h.is ∙ with_page_length p _ h.between (omega (arith, h.raises.long)) in
+        omega arith;
+  }
+
+  -- a page that is there is taken
+  taken_holds : (p : ℕ) (d : Draft) → 2 ≤ p → IsThere p d → Throughout (Held Q) b (take_page p d)
+  taken_holds p d behind h =
+      let held : Held Q d.image = holds_now (Held Q) b d h.through in
+      let low = h.below in
+      let before = inventory_before (image_size d.image) p held.fields.size behind in
+      (bit_holds Q K kinds.scn_pages kinds.inventories step b 0 p d (omega arith) h.through low (omega arith)).through
+
+  place_later : (image x : Image) (p : ℕ) → Raises image x p → IsPlace image p → IsPlace x p
+  place_later image x p raises at = record { behind = at.behind; there = let low = at.there in omega (arith, raises.long); most = at.most }
+
+  -- a page of that kind is there already, or is made
+  kind_there : (p kind : ℕ) (payload : List ℕ) (d : Draft) → IsPlace d.image p → Throughout (Held Q) b d → (p < length d.image → kind_of (page_at d.image p) ≡ kind)
+      → (length d.image ≤ p → IsPut Q b d.image p kind payload (put p kind payload d)) → IsThere p (elim (is_kind d.image kind p) as (λ z. Draft) [ true ↦ d | false ↦ put p kind payload d ])
+  unfolding is_kind
+  kind_there p kind payload d at through of_kind made = by_test (is_kind d.image kind p) refl
+    where
+      by_test : (t : Bool) → is_kind d.image kind p ≡ t → IsThere p (elim t as (λ z. Draft) [ true ↦ d | false ↦ put p kind payload d ])
+      by_test true is = record { through = through; below = ltb-true p (length d.image) (and_parts (nat_lt p (length d.image)) _ is).0 }
+      by_test false none = elim (leb_tells (suc p) (length d.image)) [
+        | inl w ↦ absurd (true≢false (sym (and_from _ _ w.0 (eq-eqb _ kind (of_kind w.1))) ∙ none))
+        | inr w ↦ put_there d.image p kind payload _ at (made (omega (arith, w.1)))
+      ]
+
+  -- an inventory page of free bits is made at the end
+  inventory_made : (p : ℕ) (d : Draft) → is_inventory_place (image_size d.image) p ≡ true → IsPlace d.image p → Throughout (Held Q) b d → length d.image ≤ p
+      → IsPut Q b d.image p 2 (inventory_payload (image_size d.image) ((p + 1) / bits_in (image_size d.image)) 0) (put p 2 (inventory_payload (image_size d.image) ((p + 1) / bits_in (image_size d.image)) 0) d)
+  inventory_made p d place at through end = put_holds Q K kinds.scn_pages step b p 2 _ d through at
+      (λ x h raises.
+      let there = at.there in (
+        subst (λ (s : ℕ). FitsAt x p (stamped (old_page p x) 2 (inventory_payload s ((p + 1) / bits_in s) 0) (image_scn x) p)) raises.size
+            (inventory_fits x p h.fields h.sound (place_later d.image x p raises at) (omega (arith, raises.long)) (subst (λ (s : ℕ). is_inventory_place s p ≡ true) (sym raises.size) place) raises.current),
+        kinds.inventories _ (stamped_kind (old_page p x) 2 _ (image_scn x) p),
+      ))
+
+  -- an SCN page of the current SCN is made at the end
+  scn_page_made : (p : ℕ) (d : Draft) → is_scn_place (image_size d.image) p ≡ true → IsPlace d.image p → Throughout (Held Q) b d → length d.image ≤ p
+      → IsPut Q b d.image p 10 (scn_payload (image_size d.image) (p / entries_in (image_size d.image)) (image_scn d.image)) (put p 10 (scn_payload (image_size d.image) (p / entries_in (image_size d.image)) (image_scn d.image)) d)
+  scn_page_made p d place at through end = put_holds Q K kinds.scn_pages step b p 10 _ d through at
+      (λ x h raises.
+      let there = at.there in (
+        subst (λ (n : ℕ). FitsAt x p (stamped (old_page p x) 10 (scn_payload (image_size d.image) (p / entries_in (image_size d.image)) n) (image_scn x) p)) raises.scn
+            (subst (λ (s : ℕ). FitsAt x p (stamped (old_page p x) 10 (scn_payload s (p / entries_in s) (image_scn x)) (image_scn x) p)) raises.size
+            (scn_fits x p h.fields h.sound (place_later d.image x p raises at) (omega (arith, raises.long)) (subst (λ (s : ℕ). is_scn_place s p ≡ true) (sym raises.size) place))),
+        kinds.scn_pages _ (stamped_kind (old_page p x) 10 _ (image_scn x) p),
+      ))
+
+  -- so a system page is there
+  system_there : (p : ℕ) (d : Draft) → is_system_place (image_size d.image) p ≡ true → IsPlace d.image p → Throughout (Held Q) b d → IsThere p (system_page p d)
+  unfolding system_payload is_system_place
+  system_there p d place at through = by_kind (is_inventory_place (image_size d.image) p) refl
+    where
+      held : Held Q d.image
+      held = holds_now (Held Q) b d through
+
+      scn_place_there : is_inventory_place (image_size d.image) p ≡ false → is_scn_place (image_size d.image) p ≡ true
+      scn_place_there other = elim (or_cases (is_inventory_place (image_size d.image) p) _ place) [ inl e ↦ absurd (true≢false (sym e ∙ other)) | inr e ↦ e ]
+
+      chosen_kind : (t : Bool) → is_inventory_place (image_size d.image) p ≡ t → system_kind d.image p ≡ elim t as (λ z. ℕ) [ true ↦ 2 | false ↦ 10 ]
+      chosen_kind t e = ap (λ (u : Bool). elim u as (λ z. ℕ) [ true ↦ 2 | false ↦ 10 ]) e
+
+      chosen_payload : (t : Bool) → is_inventory_place (image_size d.image) p ≡ t
+          → system_payload d.image p
+          ≡ elim t as (λ z. List ℕ) [
+            | true ↦ inventory_payload (image_size d.image) ((p + 1) / bits_in (image_size d.image)) 0
+            | false ↦ scn_payload (image_size d.image) (p / entries_in (image_size d.image)) (image_scn d.image)
+          ]
+      chosen_payload t e = ap (λ (u : Bool). elim u as (λ z. List ℕ) [
+        | true ↦ inventory_payload (image_size d.image) ((p + 1) / bits_in (image_size d.image)) 0
+        | false ↦ scn_payload (image_size d.image) (p / entries_in (image_size d.image)) (image_scn d.image)
+      ]) e
+
+      by_kind : (t : Bool) → is_inventory_place (image_size d.image) p ≡ t → IsThere p (system_page p d)
+      by_kind true inventory = subst (IsThere p)
+          (sym (system_is p 2 (inventory_payload (image_size d.image) ((p + 1) / bits_in (image_size d.image)) 0) d (chosen_kind true inventory) (chosen_payload true inventory)))
+          (kind_there p 2 _ d at through (λ low. held.sound.sound.system.inventories p low inventory) (inventory_made p d inventory at through))
+      by_kind false other =
+          let scn : is_scn_place (image_size d.image) p ≡ true = scn_place_there other in
+          subst (IsThere p)
+          (sym (system_is p 10 (scn_payload (image_size d.image) (p / entries_in (image_size d.image)) (image_scn d.image)) d (chosen_kind false other) (chosen_payload false other)))
+          (kind_there p 10 _ d at through (λ low. held.sound.sound.system.scn_pages p low scn) (scn_page_made p d scn at through))
+
+  -- a new page with a payload that fits into each page size
+  new_holds : (tries kind : ℕ) (payload : ℕ → List ℕ) (d : Draft) → (kind == 0) ≡ false → ((p : ℕ) → length (payload p) ≤ 1008) → ((bytes : Page) → kind_of bytes ≡ kind → K bytes)
+      → Throughout (Held Q) b d → Throughout (Held Q) b (new_within tries kind payload d).0
+  unfolding new_within
+  new_holds zero kind payload d some room of_kind through = full_holds (Held Q) b d through
+  new_holds (suc tries) kind payload d some room of_kind through = by_end (λ e h. new_holds tries kind payload e some room of_kind h) (lowest_free d.image == 1048576) refl
+    where
+      p : ℕ
+      p = lowest_free d.image
+
+      read : Draft
+      read = searched p d
+
+      same : read.image ≡ d.image
+      same = searched_image p d
+
+      read_holds : Throughout (Held Q) b read
+      read_holds = searched_holds (Held Q) b p d through
+
+      held : Held Q d.image
+      held = holds_now (Held Q) b d through
+
+      between : (5 ≤ p) × (p ≤ length d.image)
+      between = lowest_between d.image held.sound.least
+
+      at_place : (p == 1048576) ≡ false → IsPlace read.image p
+      at_place below =
+          let most = held.sound.most in
+          subst (λ (x : Image). IsPlace x p) (sym same) (record { behind = omega (arith, between.0); there = between.1; most = omega (arith, between.1, eqb-false p 1048576 below) })
+
+      by_place : ((e : Draft) → Throughout (Held Q) b e → Throughout (Held Q) b (new_within tries kind payload e).0) → IsPlace read.image p → (t : Bool) → is_system_place (image_size d.image) p ≡ t
+          → Throughout (Held Q) b (elim t as (λ z. Draft × ℕ) [ true ↦ new_within tries kind payload (take_page p (system_page p read)) | false ↦ (take_page p (put p kind (payload p) read), p) ]).0
+      by_place again at true place =
+          let there : is_system_place (image_size read.image) p ≡ true = ap (λ (x : Image). is_system_place (image_size x) p) same ∙ place in
+          again (take_page p (system_page p read)) (taken_holds p (system_page p read) (omega (arith, between.0)) (system_there p read there at read_holds))
+      by_place again at false place =
+          let plain = plain_place (image_size read.image) p (ap (λ (x : Image). is_system_place (image_size x) p) same ∙ place) in
+          let size : SizeFacts (image_size read.image) = size_facts (image_size read.image) (holds_now (Held Q) b read read_holds).fields.size in
+          taken_holds p (put p kind (payload p) read) (omega (arith, between.0)) (put_there read.image p kind (payload p) _ at
+          (plain_holds Q K kinds.scn_pages step b p kind (payload p) read read_holds (record { place = at; no_inventory = plain.0; no_scn_page = plain.1 }) some (omega (arith, size.at_least, room p)) of_kind))
+
+      by_end : ((e : Draft) → Throughout (Held Q) b e → Throughout (Held Q) b (new_within tries kind payload e).0) → (t : Bool) → (p == 1048576) ≡ t
+          → Throughout (Held Q) b (elim t as (λ z. Draft × ℕ) [
+            | true ↦ (no_page read, p)
+            | false ↦ elim (is_system_place (image_size d.image) p) as (λ z. Draft × ℕ) [ true ↦ new_within tries kind payload (take_page p (system_page p read)) | false ↦ (take_page p (put p kind (payload p) read), p) ]
+          ]).0
+      by_end again true none = full_holds (Held Q) b read read_holds
+      by_end again false below = by_place again (at_place below) (is_system_place (image_size d.image) p) refl
+
+empty_text : (p : ℕ) → length (text_payload []) ≤ 1008
+unfolding text_payload bytes_of
+empty_text p = omega arith
+
+-- a new raw page, and Q is kept
+pub new_raw_holds : (Q : Image → Type 0) (K : Page → Type 0) → HoldsOfKinds K → ((bytes : Page) → kind_of bytes ≡ 8 → K bytes)
+    → ((image : Image) (p : ℕ) (bytes : Page) → HasFields image → IsSoundImage image → FitsAt image p bytes → K bytes → Q image → Q (with_page p bytes image))
+    → (image : Image) → HasHeader image → IsSoundImage image → Q image → Throughout (Held Q) (base_of image) (new_page 8 (λ p. text_payload []) (drafted image)).0
+new_raw_holds Q K kinds raw_pages step image h is also =
+    let first : Throughout (Held Q) (base_of image) (drafted image) = at_first (Held Q) (base_of image) (record { fields = header_fields image h; sound = is; also = also }) in
+    new_holds Q K kinds step (base_of image) (length image + 4) 8 (λ p. text_payload []) (drafted image) refl empty_text raw_pages first
+
+-- each front of the strokes of a new raw page leaves a sound image
+pub new_sound : (image : Image) → HasHeader image → IsSoundImage image → (k : ℕ) → IsSoundImage (base_after (base_of image) (take k (new_page 8 (λ p. text_payload []) (drafted image)).0.strokes)).image
+new_sound image h is k =
+    let through : Throughout (Held IsSoundImage) (base_of image) (new_page 8 (λ p. text_payload []) (drafted image)).0 =
+    new_raw_holds IsSoundImage (λ bytes. Unit {0}) (record { inventories = λ bytes e. tt; scn_pages = λ bytes e. tt }) (λ bytes e. tt) (λ x q bytes fields sound fits any also. page_sound x q bytes fields sound fits) image h is is in
+    (through.each k).sound
+
+-- and one that names the same backups
+pub new_past : (kept : List Kept) (image : Image) → HasHeader image → IsSoundImage image → NamesItsPast kept image
+    → (k : ℕ) → NamesItsPast kept (base_after (base_of image) (take k (new_page 8 (λ p. text_payload []) (drafted image)).0.strokes)).image
+new_past kept image h is past k =
+    let other : (kind : ℕ) → kind ≢ 5 → (bytes : Page) → kind_of bytes ≡ kind → is_history_page bytes ≡ false = λ kind ne bytes e. no_history bytes (λ five. ne (sym e ∙ five)) in
+    let through : Throughout (Held (NamesItsPast kept)) (base_of image) (new_page 8 (λ p. text_payload []) (drafted image)).0 =
+    new_raw_holds (NamesItsPast kept) (λ bytes. is_history_page bytes ≡ false) (record { inventories = other 2 (omega arith); scn_pages = other 10 (omega arith) }) (other 8 (omega arith))
+    (λ x q bytes fields sound fits no_rows before. page_past kept x q bytes fields sound fits no_rows before) image h is past in
+    (through.each k).also

@@ -1,0 +1,468 @@
+-- What `put` keeps: after each front of its strokes the image is sound.
+use Rattle.std.proofs.Common.{◌≡◌, ◌≢◌, inl, inr, ℕ, zero, suc, ◌+◌, ◌-◌, ◌*◌, ◌/◌, ◌%◌, ◌^◌, ◌<◌, ◌≤◌, List, [], ◌∷◌, ◌++◌, length, take, drop, refl, sym, ap, subst, ◌∙◌, arith, length-append, length-drop}
+use Rattle.std.specs.Prelude.{Bool, true, false, not, ◌==◌, nat_le, Some, None, IsTrue}
+use Rattle.std.proofs.lemmas.Bool.{true≢false, and_parts, cases_lt}
+use Rattle.std.proofs.lemmas.Bool.Decides.{eqb_tells, leb_tells}
+use Rattle.std.proofs.lemmas.List.{length-replicate, take-append-le, take_all, drop-drop}
+use Rattle.nb_fields.specs.Bytes.{number_of, bytes_of, number_in, part, with_part, is_zeros, padded}
+use Rattle.nb_fields.specs.Header.{is_marked, is_header, size_of}
+use Rattle.nb_fields.specs.Places.{is_page_size, entries_in, bits_in, is_inventory_place, is_scn_place}
+use Rattle.nb_fields.specs.Page.{head_of, page_of, kind_of, stamp_of, generation_of, stamped}
+use Rattle.nb_fields.specs.Payloads.{entry_of, text_payload}
+use Rattle.nb_fields.proofs.NumberLemmas.{length-bytes_of}
+use Rattle.nb_fields.proofs.PartLemmas.{length-with_part, number_in-with_part, number_in-with_part_other}
+use Rattle.nb_fields.proofs.PageLemmas.{length-head_of, length-page_of, kind_of-page_of, stamp_of-page_of, padded_whole, part-append}
+use Rattle.nb_fields.proofs.SizeLemmas.{SizeFacts, size_facts}
+use Rattle.nb_fields.proofs.PlaceLemmas.{entries-least}
+use Rattle.nb_host.specs.declared.refusals.Refusal.{Refusal}
+use Rattle.nb_model.specs.Image.{Page, Image, page_at, first_page, image_size, image_scn, with_page}
+use Rattle.nb_model.specs.Account.{Base, base_of}
+use Rattle.nb_model.specs.Strokes.{Stroke, base_after, merged_page}
+use Rattle.nb_model.specs.Forms.{Draft, drafted, old_page, wrote, written, needs, is_kind, inventory_of, scn_page_of, entry_number, scn_entry, has_entry, entry_written, entry_raised, raised, put}
+use Rattle.nb_model.specs.Causes.{Cause, first_cause, when, not_raw}
+use Rattle.nb_model.specs.Sound.{IsSoundImage}
+use Rattle.nb_model.proofs.DraftLaws.{IsOf, drafted_is, drafts_are}
+use Rattle.nb_model.proofs.SoundLaws.{all_at, page_no_zeros, inventory_there, scn_page_there, scn_place_some, scn_place_before, with_page_length, HasFields, FitsAt, scn_no_entry, size_stays, scn_stays, fields_stay, entry_here, header_kind, written_other, page_sound}
+
+-- page p may be written: it isn't page 0, and stands below the length or at it
+pub record IsPlace (image : Image) (p : ℕ) : Type 0 where
+  pub behind : 1 ≤ p
+  pub there : p ≤ length image
+  pub most : p < 1048576
+
+-- such a page that is no system page
+pub record IsPlain (image : Image) (p : ℕ) : Type 0 where
+  pub place : IsPlace image p
+  pub no_inventory : is_inventory_place (image_size image) p ≡ false
+  pub no_scn_page : is_scn_place (image_size image) p ≡ false
+
+-- A page with the current SCN as its stamp.
+module _ (image : Image) (p kind : ℕ) (payload : List ℕ) (fields : HasFields image) (is : IsSoundImage image) (some : (kind == 0) ≡ false) (room : 16 + length payload ≤ image_size image) where
+  abbrev now_page : Page
+  now_page = stamped (old_page p image) kind payload (image_scn image) p
+
+  pub old_length : length (old_page p image) ≡ image_size image
+  unfolding old_page
+  old_length = elim (leb_tells (suc p) (length image)) [
+    | inl w ↦ rw (w.0, old_page) (all_at (λ page. length page ≡ image_size image) image is.sizes p w.1)
+    | inr w ↦ rw (w.0, old_page) (length-replicate (image_size image) 0)
+  ]
+
+  pub now_length : length now_page ≡ image_size image
+  unfolding stamped
+  now_length = length-page_of (length (old_page p image)) kind _ (image_scn image) p payload (omega (arith, old_length)) ∙ old_length
+
+  pub now_kind : kind_of now_page ≡ kind
+  unfolding stamped
+  now_kind = kind_of-page_of (length (old_page p image)) kind _ (image_scn image) p payload
+
+  pub now_stamp : stamp_of now_page ≡ image_scn image
+  unfolding stamped
+  now_stamp = stamp_of-page_of (length (old_page p image)) kind _ (image_scn image) p payload fields.scn
+
+  pub now_some : is_zeros now_page ≡ false
+  unfolding stamped
+  now_some = page_no_zeros (length (old_page p image)) kind _ (image_scn image) p payload some
+
+  -- it fits where no system page stands, once the entry is current
+  plain_fits : IsPlain image p → (has_entry image p ≡ true → scn_entry image p ≡ image_scn image) → FitsAt image p now_page
+  plain_fits plain current = record {
+    head = λ e. absurd (let some = plain.place.behind in omega arith);
+    there = plain.place.there;
+    most = plain.place.most;
+    size = now_length;
+    no_zeros = now_some;
+    stamp = now_stamp;
+    inventory = λ at. absurd (true≢false (sym at ∙ plain.no_inventory));
+    scn_page = λ at. absurd (true≢false (sym at ∙ plain.no_scn_page));
+    bits = λ q at taken. absurd (inventory q at);
+    current = current;
+    no_lower = λ q at has low. absurd (scn_page q at);
+    no_later = λ q at has. absurd (scn_page q at);
+  }
+    where
+      inventory : (q : ℕ) → inventory_of image q ≡ p → ⊥
+      inventory q at =
+          let there : is_inventory_place (image_size image) p ≡ true = subst (λ (n : ℕ). is_inventory_place (image_size image) n ≡ true) at (inventory_there (image_size image) (q / bits_in (image_size image)) fields.size) in
+          true≢false (sym there ∙ plain.no_inventory)
+
+      scn_page : (q : ℕ) → scn_page_of image q ≡ p → ⊥
+      scn_page q at =
+          let there : is_scn_place (image_size image) p ≡ true = subst (λ (n : ℕ). is_scn_place (image_size image) n ≡ true) at (scn_page_there (image_size image) (q / entries_in (image_size image)) fields.size) in
+          true≢false (sym there ∙ plain.no_scn_page)
+
+-- the SCN page of a page with an entry is there
+scn_page_below : (image : Image) (p : ℕ) → HasFields image → 5 ≤ length image → IsPlace image p → has_entry image p ≡ true → scn_page_of image p < length image
+scn_page_below image p fields least at has =
+    let place : is_scn_place (image_size image) (scn_page_of image p) ≡ true = scn_page_there (image_size image) (p / entries_in (image_size image)) fields.size in
+    let other : scn_page_of image p ≢ p = λ e. true≢false (sym has ∙ scn_no_entry image p (ap (is_scn_place (image_size image)) (sym e) ∙ place)) in
+    let there = at.there in
+    elim (scn_place_before (image_size image) p fields.size) [ inl second ↦ omega arith | inr before ↦ omega arith ]
+
+-- an entry behind the head of a page that is stamped
+entry_behind : (old : Page) (kind scn number i : ℕ) (whole : Page) → length whole ≡ length old → 16 ≤ length old → entry_of (stamped old kind (drop 16 whole) scn number) i ≡ entry_of whole i
+unfolding stamped page_of number_in
+entry_behind old kind scn number i whole len long =
+    let g : ℕ = (generation_of old + 1) % 2 ^ 32 in
+    let head : List ℕ = head_of kind g scn number in
+    let place : 32 + 4 * i ≡ 16 + (16 + 4 * i) = omega arith in
+    let rest : padded (length old - 16) (drop 16 whole) ≡ drop 16 whole = padded_whole (length old - 16) (drop 16 whole) (omega (arith, length-drop 16 whole)) in
+    ap (λ (xs : List ℕ). number_of (part (32 + 4 * i) 4 (head ++ xs))) rest
+    ∙ ap (λ (at : ℕ). number_of (part at 4 (head ++ drop 16 whole))) place
+    ∙ ap number_of (part-append 16 (16 + 4 * i) 4 head (drop 16 whole) (length-head_of kind g scn number))
+    ∙ ap (λ (xs : List ℕ). number_of (take 4 xs)) (drop-drop (16 + 4 * i) 16 whole)
+    ∙ ap (λ (at : ℕ). number_of (part at 4 whole)) (sym place)
+
+-- An SCN page with one entry raised to the current SCN.
+module _ (image : Image) (p : ℕ) (fields : HasFields image) (is : IsSoundImage image) (low : scn_page_of image p < length image) where
+  abbrev s : ℕ
+  s = scn_page_of image p
+
+  abbrev i : ℕ
+  i = entry_number image p
+
+  abbrev entries : Page
+  entries = with_part (32 + 4 * i) (bytes_of 4 (image_scn image)) (page_at image s)
+
+  abbrev raised_page : Page
+  raised_page = stamped (old_page s image) 10 (drop 16 entries) (image_scn image) s
+
+  page_length : length (page_at image s) ≡ image_size image
+  page_length = all_at (λ page. length page ≡ image_size image) image is.sizes s low
+
+  inside : (q : ℕ) → 32 + 4 * entry_number image q + 4 ≤ image_size image
+  inside q =
+      let facts : SizeFacts (image_size image) = size_facts (image_size image) fields.size in
+      let least = entries-least (image_size image) fields.size in
+      let below : entry_number image q < entries_in (image_size image) = omega arith in
+      omega (arith, facts.at_least)
+
+  entries_length : length entries ≡ image_size image
+  entries_length =
+      let room = inside p in
+      let four = length-bytes_of 4 (image_scn image) in
+      length-with_part (32 + 4 * i) (bytes_of 4 (image_scn image)) (page_at image s) (omega (arith, page_length)) ∙ page_length
+
+  room : 16 + length (drop 16 entries) ≤ image_size image
+  room = let facts : SizeFacts (image_size image) = size_facts (image_size image) fields.size in omega (arith, facts.at_least, entries_length, length-drop 16 entries)
+
+  read_back : (q : ℕ) → entry_of raised_page (entry_number image q) ≡ entry_of entries (entry_number image q)
+  read_back q =
+      let facts : SizeFacts (image_size image) = size_facts (image_size image) fields.size in
+      let len = old_length image s 10 (drop 16 entries) fields is refl room in
+      entry_behind (old_page s image) 10 (image_scn image) s (entry_number image q) entries (entries_length ∙ sym len) (omega (arith, facts.at_least))
+
+  entry_same : (q : ℕ) → entry_number image q ≡ i → entry_of raised_page (entry_number image q) ≡ image_scn image
+  entry_same q e =
+      let here = inside p in
+      read_back q ∙ ap (entry_of entries) e ∙ number_in-with_part (32 + 4 * i) 4 (image_scn image) (page_at image s) fields.scn (omega (arith, page_length))
+
+  entry_else : (q : ℕ) → scn_page_of image q ≡ s → entry_number image q ≢ i → entry_of raised_page (entry_number image q) ≡ scn_entry image q
+  unfolding scn_entry
+  entry_else q at other =
+      let here = inside p in
+      read_back q
+      ∙ number_in-with_part_other (32 + 4 * i) 4 (32 + 4 * entry_number image q) 4 (bytes_of 4 (image_scn image)) (page_at image s) (length-bytes_of 4 (image_scn image)) (omega (arith, page_length))
+      (elim (cases_lt i (entry_number image q)) [ inl less ↦ inl (omega arith) | inr more ↦ inr (omega (arith, other)) ])
+      ∙ ap (λ (n : ℕ). entry_of (page_at image n) (entry_number image q)) (sym at)
+
+  place : is_scn_place (image_size image) s ≡ true
+  place = scn_page_there (image_size image) (p / entries_in (image_size image)) fields.size
+
+  no_inventory : is_inventory_place (image_size image) s ≡ true → ⊥
+  no_inventory at =
+      let two = is.sound.system.inventories s low at in
+      let ten = is.sound.system.scn_pages s low place in
+      absurd (omega arith)
+
+  raised_fits : FitsAt image s raised_page
+  raised_fits = record {
+    head = λ e. absurd (let two = scn_place_some (image_size image) (p / entries_in (image_size image)) fields.size in omega arith);
+    there = omega arith;
+    most = let most = is.most in omega arith;
+    size = now_length image s 10 (drop 16 entries) fields is refl room;
+    no_zeros = now_some image s 10 (drop 16 entries) fields is refl room;
+    stamp = now_stamp image s 10 (drop 16 entries) fields is refl room;
+    inventory = λ at. absurd (no_inventory at);
+    scn_page = λ at. now_kind image s 10 (drop 16 entries) fields is refl room;
+    bits = λ q at taken. absurd (no_inventory (subst (λ (n : ℕ). is_inventory_place (image_size image) n ≡ true) at (inventory_there (image_size image) (q / bits_in (image_size image)) fields.size)));
+    current = λ has. absurd (true≢false (sym has ∙ scn_no_entry image s place));
+    no_lower = λ q at has below. elim (eqb_tells (entry_number image q) i) [
+      | inl w ↦ omega (arith, entry_same q w.1, is.sound.entries.no_later q (subst (λ (n : ℕ). n < length image) (sym at) low) has)
+      | inr w ↦ omega (arith, entry_else q at w.1)
+    ];
+    no_later = λ q at has. elim (eqb_tells (entry_number image q) i) [
+      | inl w ↦ omega (arith, entry_same q w.1)
+      | inr w ↦ omega (arith, entry_else q at w.1, is.sound.entries.no_later q (subst (λ (n : ℕ). n < length image) (sym at) low) has)
+    ];
+  }
+
+  now_current : scn_entry (with_page s raised_page image) p ≡ image_scn image
+  now_current = entry_here image s raised_page fields is raised_fits p refl ∙ entry_same p refl
+
+-- after each front of the strokes of a draft the image has Q
+pub record Throughout (Q : Image → Type 0) (b : Base) (d : Draft) : Type 0 where
+  pub is : IsOf b d
+  pub each : (k : ℕ) → Q (base_after b (take k d.strokes)).image
+
+pub at_first : (Q : Image → Type 0) (b : Base) → Q b.image → Throughout Q b (drafted b.image)
+unfolding base_after
+at_first Q b h = record { is = drafted_is b; each = none }
+  where
+    none : (k : ℕ) → Q (base_after b (take k [])).image
+    none zero = h
+    none (suc k) = h
+
+pub holds_now : (Q : Image → Type 0) (b : Base) (d : Draft) → Throughout Q b d → Q d.image
+holds_now Q b d h = subst Q h.is.is (subst (λ (ss : List Stroke). Q (base_after b ss).image) (take_all (length d.strokes) d.strokes (omega arith)) (h.each (length d.strokes)))
+
+one_more : (Q : Image → Type 0) (b : Base) (ss : List Stroke) (s : Stroke) → ((k : ℕ) → Q (base_after b (take k ss)).image) → Q (base_after b (ss ++ s ∷ [])).image
+    → (k : ℕ) → Q (base_after b (take k (ss ++ s ∷ []))).image
+one_more Q b ss s each whole k = elim (leb_tells k (length ss)) [
+  | inl w ↦ subst (λ (ys : List Stroke). Q (base_after b ys).image) (sym (take-append-le k ss (s ∷ []) w.1)) (each k)
+  | inr w ↦ subst (λ (ys : List Stroke). Q (base_after b ys).image) (sym (take_all k (ss ++ s ∷ []) (omega (arith, w.1, length-append ss (s ∷ []))))) whole
+]
+
+-- one write more
+pub holds_after : (Q : Image → Type 0) (b : Base) (p kind : ℕ) (payload : List ℕ) (d : Draft) → Throughout Q b d → Q (written p kind payload d).image → Throughout Q b (written p kind payload d)
+unfolding written wrote
+holds_after Q b p kind payload d h whole =
+    let is : IsOf b (written p kind payload d) = (drafts_are b).writes p kind payload d h.is in
+    record { is = is; each = one_more Q b d.strokes _ h.each (subst Q (sym is.is) whole) }
+
+chosen : (P : Draft → Type 0) (t : Bool) (x y : Draft) → P x → P y → P (elim t as (λ z. Draft) [ true ↦ x | false ↦ y ])
+chosen P true x y px py = px
+chosen P false x y px py = py
+
+-- reading an inventory page changes no image
+pub needs_image : (kind p : ℕ) (d : Draft) → (needs kind p d).image ≡ d.image
+unfolding needs
+needs_image kind p d = chosen (λ (x : Draft). x.image ≡ d.image) (is_kind d.image kind p) _ _ refl refl
+
+pub needs_holds : (Q : Image → Type 0) (b : Base) (kind p : ℕ) (d : Draft) → Throughout Q b d → Throughout Q b (needs kind p d)
+unfolding needs
+needs_holds Q b kind p d h = chosen (Throughout Q b) (is_kind d.image kind p) _ _ h (record { is = (drafts_are b).reads _ d h.is; each = h.each })
+
+-- a page that isn't page 0 is written whole
+whole_page : (p : ℕ) (bytes : Page) (image : Image) → 1 ≤ p → merged_page p bytes image ≡ bytes
+unfolding merged_page
+whole_page zero bytes image h = absurd (omega arith)
+whole_page (suc p) bytes image h = refl
+
+written_image : (p kind : ℕ) (payload : List ℕ) (d : Draft) → 1 ≤ p → (written p kind payload d).image ≡ with_page p (stamped (old_page p d.image) kind payload (image_scn d.image) p) d.image
+unfolding written wrote
+written_image p kind payload d h = ap (λ (bytes : Page). with_page p bytes d.image) (whole_page p (stamped (old_page p d.image) kind payload (image_scn d.image) p) d.image h)
+
+-- what is known of the image of a draft
+pub record Held (Q : Image → Type 0) (image : Image) : Type 0 where
+  pub fields : HasFields image
+  pub sound : IsSoundImage image
+  pub also : Q image
+
+-- x is the image with the SCN entry of page p raised to the current SCN, and no other page changed
+pub record Raises (image x : Image) (p : ℕ) : Type 0 where
+  pub size : image_size x ≡ image_size image
+  pub scn : image_scn x ≡ image_scn image
+  pub long : length x ≡ length image
+  pub others : (q : ℕ) → q ≢ scn_page_of image p → page_at x q ≡ page_at image q
+  pub current : has_entry x p ≡ true → scn_entry x p ≡ image_scn x
+
+-- a draft whose image is the image with that entry raised
+record IsRaised (Q : Image → Type 0) (b : Base) (image : Image) (p : ℕ) (d : Draft) : Type 0 where
+  through : Throughout (Held Q) b d
+  raises : Raises image d.image p
+
+-- What `put` leaves: the image with the entry of page p raised, and then with that page.
+pub record IsPut (Q : Image → Type 0) (b : Base) (image : Image) (p kind : ℕ) (payload : List ℕ) (d : Draft) : Type 0 where
+  pub through : Throughout (Held Q) b d
+  pub between : Image
+  pub raises : Raises image between p
+  pub is : d.image ≡ with_page p (stamped (old_page p between) kind payload (image_scn between) p) between
+
+-- Q is kept by each page that fits and that K holds of, as it does of each SCN page
+module _ (Q : Image → Type 0) (K : Page → Type 0) (scn_pages : (bytes : Page) → kind_of bytes ≡ 10 → K bytes)
+    (step : (image : Image) (p : ℕ) (bytes : Page) → HasFields image → IsSoundImage image → FitsAt image p bytes → K bytes → Q image → Q (with_page p bytes image)) where
+  stepped : (image : Image) (p : ℕ) (bytes : Page) → Held Q image → FitsAt image p bytes → K bytes → Held Q (with_page p bytes image)
+  stepped image p bytes h fits of_kind = record {
+    fields = fields_stay image p bytes h.fields h.sound fits;
+    sound = page_sound image p bytes h.fields h.sound fits;
+    also = step image p bytes h.fields h.sound fits of_kind h.also;
+  }
+
+  entry_is_written : (b : Base) (p : ℕ) (d : Draft) → has_entry d.image p ≡ true → Throughout (Held Q) b d → IsPlace d.image p → IsRaised Q b d.image p (entry_written p d)
+  unfolding entry_written
+  entry_is_written b p d has through at =
+      let h : Held Q d.image = holds_now (Held Q) b d through in
+      let low : scn_page_of d.image p < length d.image = scn_page_below d.image p h.fields h.sound.least at has in
+      let fits : FitsAt d.image (scn_page_of d.image p) (raised_page d.image p h.fields h.sound low) = raised_fits d.image p h.fields h.sound low in
+      let of_kind : kind_of (raised_page d.image p h.fields h.sound low) ≡ 10 = fits.scn_page (place d.image p h.fields h.sound low) in
+      let image : (entry_written p d).image ≡ with_page (scn_page_of d.image p) (raised_page d.image p h.fields h.sound low) d.image = written_image (scn_page_of d.image p) 10 _ d (let two = scn_place_some (image_size d.image) (p / entries_in (image_size d.image)) h.fields.size in omega arith) in
+      let after : Held Q (with_page (scn_page_of d.image p) (raised_page d.image p h.fields h.sound low) d.image) = stepped d.image _ _ h fits (scn_pages _ of_kind) in
+      record {
+        through = holds_after (Held Q) b (scn_page_of d.image p) 10 _ d through (subst (Held Q) (sym image) after);
+        raises = subst (λ (x : Image). Raises d.image x p) (sym image) (record {
+          size = size_stays d.image _ _ h.fields h.sound fits;
+          scn = scn_stays d.image _ _ h.fields h.sound fits;
+          long = omega (arith, with_page_length (scn_page_of d.image p) (raised_page d.image p h.fields h.sound low) d.image fits.there);
+          others = λ q other. written_other d.image _ _ h.fields h.sound fits q other;
+          current = λ also. now_current d.image p h.fields h.sound low ∙ sym (scn_stays d.image _ _ h.fields h.sound fits);
+        });
+      }
+
+  entry_is_raised : (b : Base) (p : ℕ) (d : Draft) → has_entry d.image p ≡ true → Throughout (Held Q) b d → IsPlace d.image p → IsRaised Q b d.image p (entry_raised p d)
+  unfolding entry_raised
+  entry_is_raised b p d has through at = elim (leb_tells (suc (scn_entry d.image p)) (image_scn d.image)) [
+    | inl w ↦ rw (w.0, entry_raised) (entry_is_written b p d has through at)
+    | inr w ↦
+        let h : Held Q d.image = holds_now (Held Q) b d through in
+        let low : scn_page_of d.image p < length d.image = scn_page_below d.image p h.fields h.sound.least at has in
+        let most = h.sound.sound.entries.no_later p low has in
+        rw (w.0, entry_raised) (record { through = through; raises = record { size = refl; scn = refl; long = refl; others = λ q other. refl; current = λ also. omega (arith, w.1) } })
+  ]
+
+  is_raised : (b : Base) (p : ℕ) (d : Draft) → Throughout (Held Q) b d → IsPlace d.image p → IsRaised Q b d.image p (raised p d)
+  unfolding raised
+  is_raised b p d through at = by_test (has_entry d.image p) refl
+    where
+      read : Draft
+      read = needs 10 (scn_page_of d.image p) d
+
+      same : read.image ≡ d.image
+      same = needs_image 10 (scn_page_of d.image p) d
+
+      by_test : (t : Bool) → has_entry d.image p ≡ t → IsRaised Q b d.image p (raised p d)
+      by_test true has = rw (has, raised) (subst (λ (image : Image). IsRaised Q b image p (entry_raised p read)) same
+          (entry_is_raised b p read (ap (λ (x : Image). has_entry x p) same ∙ has) (needs_holds (Held Q) b 10 (scn_page_of d.image p) d through) (subst (λ (x : Image). IsPlace x p) (sym same) at)))
+      by_test false has = rw (has, raised) (record {
+        through = through;
+        raises = record { size = refl; scn = refl; long = refl; others = λ q other. refl; current = λ also. absurd (true≢false (sym also ∙ has)) };
+      })
+
+  -- so Q holds after each front of the strokes of `put`, where the page fits once its entry is raised
+  pub put_holds : (b : Base) (p kind : ℕ) (payload : List ℕ) (d : Draft) → Throughout (Held Q) b d → IsPlace d.image p
+      → ((x : Image) → Held Q x → Raises d.image x p → FitsAt x p (stamped (old_page p x) kind payload (image_scn x) p) × K (stamped (old_page p x) kind payload (image_scn x) p))
+      → IsPut Q b d.image p kind payload (put p kind payload d)
+  unfolding put
+  put_holds b p kind payload d through at fit =
+      let ready : IsRaised Q b d.image p (raised p d) = is_raised b p d through at in
+      let x : Image = (raised p d).image in
+      let h : Held Q x = holds_now (Held Q) b (raised p d) ready.through in
+      let fits = fit x h ready.raises in
+      let image : (written p kind payload (raised p d)).image ≡ with_page p (stamped (old_page p x) kind payload (image_scn x) p) x = written_image p kind payload (raised p d) at.behind in
+      record {
+        through = holds_after (Held Q) b p kind payload (raised p d) ready.through (subst (Held Q) (sym image) (stepped x p _ h fits.0 fits.1));
+        between = x;
+        raises = ready.raises;
+        is = image;
+      }
+
+  -- a page that is no system page fits then
+  pub plain_holds : (b : Base) (p kind : ℕ) (payload : List ℕ) (d : Draft) → Throughout (Held Q) b d → IsPlain d.image p → (kind == 0) ≡ false → 16 + length payload ≤ image_size d.image
+      → ((bytes : Page) → kind_of bytes ≡ kind → K bytes) → IsPut Q b d.image p kind payload (put p kind payload d)
+  plain_holds b p kind payload d through plain some room of_kind = put_holds b p kind payload d through plain.place fit
+    where
+      fit : (x : Image) → Held Q x → Raises d.image x p → FitsAt x p (stamped (old_page p x) kind payload (image_scn x) p) × K (stamped (old_page p x) kind payload (image_scn x) p)
+      fit x h raises =
+          let room_x : 16 + length payload ≤ image_size x = omega (arith, raises.size) in
+          let plain_x : IsPlain x p = record {
+            place = record { behind = plain.place.behind; there = let low = plain.place.there in omega (arith, raises.long); most = plain.place.most };
+            no_inventory = ap (λ (s : ℕ). is_inventory_place s p) raises.size ∙ plain.no_inventory;
+            no_scn_page = ap (λ (s : ℕ). is_scn_place s p) raises.size ∙ plain.no_scn_page;
+          } in
+          (plain_fits x p kind payload h.fields h.sound some room_x plain_x raises.current, of_kind _ (now_kind x p kind payload h.fields h.sound some room_x))
+
+-- a header names a page size
+header_size : (first : Page) → is_header first ≡ true → IsTrue (is_page_size (size_of first))
+unfolding is_header
+header_size first is =
+    let sound = (and_parts (is_marked first) _ (and_parts (nat_le 64 (length first)) _ is).1).1 in
+    (and_parts _ _ (and_parts _ _ (and_parts _ _ sound).0).0).1
+
+-- page 0 is a header, and its SCN has four bytes
+pub record HasHeader (image : Image) : Type 0 where
+  pub header : is_header (first_page image) ≡ true
+  pub scn : image_scn image < 4294967296
+
+pub header_fields : (image : Image) → HasHeader image → HasFields image
+header_fields image h = record { size = header_size (first_page image) h.header; scn = h.scn }
+
+-- no cause is there
+pub no_first : (c : Cause) (cs : List Cause) → first_cause (c ∷ cs) ≡ None → (c ≡ None) × (first_cause cs ≡ None)
+unfolding first_cause
+no_first None cs h = (refl, h)
+no_first (Some r) cs h = absurd (some_none h)
+  where
+    some_none : Some r ≡ None → ⊥
+    some_none e = cc
+
+pub not_when : (t : Bool) (r : Refusal) → when t r ≡ None → t ≡ false
+not_when false r h = refl
+not_when true r h = absurd (some_none h)
+  where
+    some_none : Some r ≡ None → ⊥
+    some_none e = cc
+
+-- what is read and written is below the length, and a raw page
+pub raw_facts : (image : Image) (p : ℕ) → not_raw image p ≡ None → (p < length image) × (kind_of (page_at image p) ≡ 8)
+unfolding not_raw
+raw_facts image p h =
+    let one = no_first _ _ h in
+    let two = no_first _ _ one.1 in
+    let three = no_first _ _ two.1 in
+    let four = no_first _ _ three.1 in
+    let inside : nat_le (length image) p ≡ false = not_when _ _ one.0 in
+    let raw : not (kind_of (page_at image p) == 8) ≡ false = not_when _ _ four.0 in (
+      elim (leb_tells (length image) p) [ inl w ↦ absurd (true≢false (sym w.0 ∙ inside)) | inr w ↦ w.1 ],
+      elim (eqb_tells (kind_of (page_at image p)) 8) [ inl w ↦ w.1 | inr w ↦ absurd (true≢false (ap not (sym w.0) ∙ raw)) ],
+    )
+
+-- so it is no system page
+pub raw_plain : (image : Image) (p : ℕ) → HasHeader image → IsSoundImage image → not_raw image p ≡ None → IsPlain image p
+raw_plain image p h is none =
+    let raw = raw_facts image p none in
+    let low : p < length image = raw.0 in
+    let kind : kind_of (page_at image p) ≡ 8 = raw.1 in
+    let most = is.most in
+    record {
+      place = record {
+        behind = elim (eqb_tells p 0) [
+          | inl w ↦ let first : kind_of (page_at image p) ≡ 1 = ap (λ (n : ℕ). kind_of (page_at image n)) w.1 ∙ header_kind (first_page image) h.header in absurd (omega arith)
+          | inr w ↦ omega (arith, w.1)
+        ];
+        there = omega arith;
+        most = omega arith;
+      };
+      no_inventory = by_inventory low kind (is_inventory_place (image_size image) p) refl;
+      no_scn_page = by_scn_page low kind (is_scn_place (image_size image) p) refl;
+    }
+  where
+    by_inventory : p < length image → kind_of (page_at image p) ≡ 8 → (t : Bool) → is_inventory_place (image_size image) p ≡ t → is_inventory_place (image_size image) p ≡ false
+    by_inventory low kind true at = absurd (let two = is.sound.system.inventories p low at in omega arith)
+    by_inventory low kind false at = at
+
+    by_scn_page : p < length image → kind_of (page_at image p) ≡ 8 → (t : Bool) → is_scn_place (image_size image) p ≡ t → is_scn_place (image_size image) p ≡ false
+    by_scn_page low kind true at = absurd (let ten = is.sound.system.scn_pages p low at in omega arith)
+    by_scn_page low kind false at = at
+
+text_room : (text : List ℕ) → length text ≤ 200 → length (text_payload text) ≤ 202
+unfolding text_payload bytes_of
+text_room text short = omega arith
+
+-- a text is put into a raw page, and Q is kept
+module _ (Q : Image → Type 0) (K : Page → Type 0) (scn_pages : (bytes : Page) → kind_of bytes ≡ 10 → K bytes) (raw_pages : (bytes : Page) → kind_of bytes ≡ 8 → K bytes)
+    (step : (image : Image) (p : ℕ) (bytes : Page) → HasFields image → IsSoundImage image → FitsAt image p bytes → K bytes → Q image → Q (with_page p bytes image)) where
+  pub text_holds : (image : Image) (p : ℕ) (text : List ℕ) → HasHeader image → IsSoundImage image → Q image → not_raw image p ≡ None → length text ≤ 200
+      → Throughout (Held Q) (base_of image) (put p 8 (text_payload text) (drafted image))
+  text_holds image p text h is also none short =
+      let fields : HasFields image = header_fields image h in
+      let facts : SizeFacts (image_size image) = size_facts (image_size image) fields.size in
+      let first : Throughout (Held Q) (base_of image) (drafted image) = at_first (Held Q) (base_of image) (record { fields = fields; sound = is; also = also }) in
+      (plain_holds Q K scn_pages step (base_of image) p 8 (text_payload text) (drafted image) first (raw_plain image p h is none) refl (omega (arith, facts.at_least, text_room text short)) raw_pages).through
+
+-- each front of the strokes of a write leaves a sound image
+pub put_sound : (image : Image) (p : ℕ) (text : List ℕ) → HasHeader image → IsSoundImage image → not_raw image p ≡ None → length text ≤ 200
+    → (k : ℕ) → IsSoundImage (base_after (base_of image) (take k (put p 8 (text_payload text) (drafted image)).strokes)).image
+put_sound image p text h is none short k =
+    let through : Throughout (Held IsSoundImage) (base_of image) (put p 8 (text_payload text) (drafted image)) =
+    text_holds IsSoundImage (λ bytes. Unit {0}) (λ bytes e. tt) (λ bytes e. tt) (λ x q bytes fields sound fits any also. page_sound x q bytes fields sound fits) image p text h is is none short in
+    (through.each k).sound

@@ -1,0 +1,298 @@
+-- The files go on to stand for the account where one of them becomes a database in the normal state.
+use Rattle.std.proofs.Common.{◌≡◌, ◌≢◌, ◌⊎◌, inl, inr, ℕ, ◌-◌, ◌≤◌, List, [], ◌∷◌, ◌++◌, length, drop, refl, sym, ap, subst, ◌∙◌, arith, length-append}
+use Rattle.std.specs.Prelude.{Bool, true, false, ◌==◌, Option, Some, None, Result, Ok, Err, IsTrue, is_some, Contains, nat_eq}
+use Rattle.std.specs.Cmp.Lexicographic.{told_text, pointwise}
+use Rattle.std.proofs.lemmas.Bool.{true≢false, and_parts, eqb-true}
+use Rattle.std.proofs.lemmas.List.{drop_at, append-nil}
+use Rattle.nb_fields.specs.Bytes.{number_of, number_in}
+use Rattle.nb_fields.specs.Header.{is_header, state_of}
+use Rattle.nb_host.specs.Files.{File, Files}
+use Rattle.nb_host.specs.Names.{same_name, is_delta, delta_suffix}
+use Rattle.nb_host.specs.declared.refusals.Refusal.{Refusal}
+use Rattle.nb_host.specs.declared.refusals.Refusal.TheVariants.{NotDatabase}
+use Rattle.nb_model.specs.Image.{Image, image_state, image_guid}
+use Rattle.nb_model.specs.Account.{Ask, Base, base_of, Kept, Entry, IsBase, Account, with_entry}
+use Rattle.nb_model.specs.Strokes.{Stroke, base_after, records_after, base_in, after}
+use Rattle.nb_model.specs.Causes.{not_database}
+use Rattle.nb_model.specs.Levels.{Contents, first_fault, begins_level, read_level}
+use Rattle.nb_model.specs.Owner.{delta_name, owner, entry_of_files, entry_in}
+use Rattle.nb_model.specs.Main.{HoldsMain}
+use Rattle.nb_model.specs.Sound.{IsSoundImage}
+use Rattle.nb_model.specs.Stands.{nil, IsKeptAs, GoesOnFrom, Belongs, to_base, to_record, IsSameImage, IsFrozenMain, HasSoundImages, HoldsItsRecord, KeepsRecords, NamesItsPast, FollowsHistory, is_applying, HasNoStrayDelta, HasApplyingStandbys, Stands}
+use Rattle.nb_model.proofs.SoundLaws.{header_kind}
+use Rattle.nb_model.proofs.RunLaws.{same_self, entry_same}
+
+-- two names are the same or not
+names_tell : (m n : List ℕ) → (m ≡ n) ⊎ (m ≢ n)
+names_tell m n = by_test (same_name m n) refl
+  where
+    by_test : (t : Bool) → t ≡ same_name m n → (m ≡ n) ⊎ (m ≢ n)
+    by_test true is = inl (told_text m n true is)
+    by_test false is = inr (told_text m n false is)
+
+-- the name of a difference file ends as such
+delta_named : (name : List ℕ) → is_delta (delta_name name) ≡ true
+delta_named name =
+    let whole : length (name ++ delta_suffix) - length delta_suffix ≡ length name = omega (arith, length-append name delta_suffix) in
+    ap (λ (k : ℕ). pointwise nat_eq delta_suffix (drop k (name ++ delta_suffix))) whole
+    ∙ ap (pointwise nat_eq delta_suffix) (drop_at name delta_suffix (length name) refl) ∙ same_self delta_suffix
+
+-- so no difference file has the name of a database
+no_main : (n name : List ℕ) → is_delta name ≡ false → delta_name n ≢ name
+no_main n name plain e = true≢false (sym (delta_named n) ∙ ap is_delta e ∙ plain)
+
+-- another name keeps its entry
+pub entry_other : (name n : List ℕ) (entry : Entry) (account : Account) → n ≢ name → (with_entry name entry account).entry n ≡ account.entry n
+unfolding with_entry
+entry_other name n entry account other = by_test (same_name n name) refl
+  where
+    by_test : (t : Bool) → t ≡ same_name n name → elim (same_name n name) as (λ z. Entry) [ true ↦ entry | false ↦ account.entry n ] ≡ account.entry n
+    by_test true is = absurd (other (told_text n name true is))
+    by_test false is = ap (λ (t : Bool). elim t as (λ z. Entry) [ true ↦ entry | false ↦ account.entry n ]) (sym is)
+
+base_same : (a b : Base) → IsBase a ≡ IsBase b → a ≡ b
+base_same a b e = cc
+
+-- a file of a database's form has a header
+pub formed_header : (bytes : List ℕ) → not_database bytes ≡ None → is_header bytes ≡ true
+unfolding not_database
+formed_header bytes formed = by_test (is_header bytes) refl
+  where
+    refused : is_header bytes ≡ false → not_database bytes ≡ Some (NotDatabase 0)
+    refused none = rw (none, not_database) refl
+
+    some_none : (x : Option Refusal) → x ≡ Some (NotDatabase 0) → x ≡ None → ⊥
+    some_none x a b = cc
+
+    by_test : (t : Bool) → is_header bytes ≡ t → is_header bytes ≡ true
+    by_test true is = is
+    by_test false is = absurd (some_none (not_database bytes) (refused is) formed)
+
+-- and begins no level file
+no_level_begins : (bytes : List ℕ) → number_in 0 1 bytes ≡ 1 → begins_level bytes ≡ false
+unfolding number_in number_of begins_level
+no_level_begins [] h = refl
+no_level_begins (b ∷ bs) h = let e : b ≡ 1 = omega arith in rw e refl
+
+not_level : (bytes : List ℕ) → begins_level bytes ≡ false → read_level bytes ≡ Err 0
+unfolding read_level first_fault
+not_level bytes e = rw (e, read_level) refl
+
+header_no_level : (bytes : List ℕ) (c : Contents) → is_header bytes ≡ true → read_level bytes ≡ Ok c → ⊥
+header_no_level bytes c is reads = ok_err (read_level bytes) reads (not_level bytes (no_level_begins bytes (header_kind bytes is)))
+  where
+    ok_err : (x : Result Contents ℕ) → x ≡ Ok c → x ≡ Err 0 → ⊥
+    ok_err x a b = cc
+
+applying_state : (bytes : List ℕ) → IsTrue (is_applying bytes) → state_of bytes ≡ 3
+applying_state bytes is = eqb-true (state_of bytes) 3 (and_parts (is_header bytes) (state_of bytes == 3) is).1
+
+-- the entry of a file that is opened
+opened_entry : (name : List ℕ) (main delta : File) (bytes : List ℕ) (b : Base) → main ≡ Some bytes → owner name main delta ≡ Ok b → entry_of_files name main delta ≡ IsBase b
+unfolding entry_of_files
+opened_entry name main delta bytes b there opens = ap (λ (f : File). entry_of_files name f delta) there ∙ by_owner (sym (ap (λ (f : File). owner name f delta) there) ∙ opens)
+  where
+    by_owner : owner name (Some bytes) delta ≡ Ok b → entry_of_files name (Some bytes) delta ≡ IsBase b
+    by_owner e = rw (e, entry_of_files) refl
+
+module _ (old new : Files) (account : Account) (name : List ℕ) (image : Image)
+    (stands : Stands old account) (plain : is_delta name ≡ false) (others : (m : List ℕ) → m ≢ name → new m ≡ old m)
+    (holds : HoldsMain image (new name)) (opens : owner name (new name) (new (delta_name name)) ≡ Ok (base_of image))
+    (normal : image_state image ≡ 0) (sound : IsSoundImage image) (past : NamesItsPast account.kept image) where
+  abbrev next : Account
+  next = with_entry name (IsBase (base_of image)) account
+
+  same_kept : next.kept ≡ account.kept
+  unfolding with_entry
+  same_kept = refl
+
+  here : next.entry name ≡ IsBase (base_of image)
+  here = entry_same name (IsBase (base_of image)) account
+
+  elsewhere : (n : List ℕ) → n ≢ name → next.entry n ≡ account.entry n
+  elsewhere n other = entry_other name n (IsBase (base_of image)) account other
+
+  -- a database of the account is this one, or was one before
+  whose : (n : List ℕ) (b : Base) → next.entry n ≡ IsBase b → (b ≡ base_of image) ⊎ (account.entry n ≡ IsBase b)
+  whose n b e = elim (names_tell n name) [
+    | inl w ↦ inl (base_same b (base_of image) (sym e ∙ ap (λ (m : List ℕ). next.entry m) w ∙ here))
+    | inr w ↦ inr (sym (elsewhere n w) ∙ e)
+  ]
+
+  belonged : (x : Image) → Belongs next x → (x ≡ image) ⊎ Belongs account x
+  belonged x (to_base n b e is) = elim (whose n b e) [
+    | inl w ↦ inl (sym is ∙ ap (λ (c : Base). c.image) w)
+    | inr w ↦ inr (to_base n b w is)
+  ]
+  belonged x (to_record r there is) = inr (to_record r (subst (λ (rs : List Kept). Contains rs r) same_kept there) is)
+
+  not_stalled : (b : Base) → b ≡ base_of image → image_state b.image ≡ 1 → ⊥
+  not_stalled b e stalled =
+      let is : image_state b.image ≡ 0 = ap (λ (c : Base). image_state c.image) e ∙ normal in
+      absurd (omega arith)
+
+  delta_kept : (n : List ℕ) → new (delta_name n) ≡ old (delta_name n)
+  delta_kept n = others (delta_name n) (no_main n name plain)
+
+  -- what the file of the name is
+  bytes_here : (n bytes : List ℕ) → n ≡ name → new n ≡ Some bytes → bytes ≡ holds.bytes
+  bytes_here n bytes e there = some_same (sym there ∙ ap new e ∙ holds.there)
+    where
+      some_same : Some bytes ≡ Some holds.bytes → bytes ≡ holds.bytes
+      some_same h = cc
+
+  same_image : IsSameImage new next
+  same_image n plain_n = elim (names_tell n name) [
+    | inl w ↦
+        ap (λ (m : List ℕ). next.entry m) w ∙ here
+        ∙ sym (opened_entry name (new name) (new (delta_name name)) holds.bytes (base_of image) holds.there opens)
+        ∙ ap (λ (m : List ℕ). entry_in new m) (sym w)
+    | inr w ↦
+        elsewhere n w ∙ stands.same_image n plain_n
+        ∙ ap (λ (f : File). entry_of_files n f (old (delta_name n))) (sym (others n w))
+        ∙ ap (λ (f : File). entry_of_files n (new n) f) (sym (delta_kept n))
+  ]
+
+  frozen_main : IsFrozenMain next
+  frozen_main n b e stalled = elim (whose n b e) [
+    | inl w ↦ absurd (not_stalled b w stalled)
+    | inr w ↦ stands.frozen_main n b w stalled
+  ]
+
+  sound_images : HasSoundImages next
+  sound_images = record {
+    images = λ x b. elim (belonged x b) [
+      | inl w ↦ subst IsSoundImage (sym w) sound
+      | inr w ↦ stands.sound_images.images x w
+    ];
+    records = λ r there. stands.sound_images.records r (subst (λ (rs : List Kept). Contains rs r) same_kept there);
+  }
+
+  -- a database in the normal state is no file of a backup
+  holds_here : HoldsItsRecord account.kept holds.bytes
+  holds_here = record {
+    level = λ c r reads kept. absurd (header_no_level holds.bytes c (formed_header holds.bytes holds.formed) reads);
+    copy = λ r header stalled whole kept. let is = holds.normal in absurd (omega arith);
+  }
+
+  kept_records : KeepsRecords new next
+  unfolding with_entry
+  kept_records = record {
+    distinct = stands.kept_records.distinct;
+    not_nil = stands.kept_records.not_nil;
+    stalled = λ n b e is. elim (whose n b e) [
+      | inl w ↦ absurd (not_stalled b w is)
+      | inr w ↦ stands.kept_records.stalled n b w is
+    ];
+    levels = λ n bytes there. elim (names_tell n name) [
+      | inl w ↦ subst (HoldsItsRecord account.kept) (sym (bytes_here n bytes w there)) holds_here
+      | inr w ↦ stands.kept_records.levels n bytes (sym (others n w) ∙ there)
+    ];
+  }
+
+  history : FollowsHistory next
+  unfolding with_entry
+  history = record {
+    images = λ x b. elim (belonged x b) [
+      | inl w ↦ subst (NamesItsPast account.kept) (sym w) past
+      | inr w ↦ stands.history.images x w
+    ];
+    records = stands.history.records;
+  }
+
+  no_stray : HasNoStrayDelta new next
+  no_stray n beside = elim (names_tell n name) [
+    | inl w ↦ inl (base_of image, ap (λ (m : List ℕ). next.entry m) w ∙ here)
+    | inr w ↦ elim (stands.no_stray n (subst (λ (f : File). IsTrue (is_some f)) (delta_kept n) beside)) [
+      | inl base ↦ inl (base.0, elsewhere n w ∙ base.1)
+      | inr standby ↦ inr (standby.0, others n w ∙ standby.1, standby.2)
+    ]
+  ]
+
+  standbys : HasApplyingStandbys new next.kept
+  unfolding with_entry
+  standbys n bytes r there applying kept = elim (names_tell n name) [
+    | inl w ↦
+        let state : state_of bytes ≡ 3 = applying_state bytes applying in
+        let is : state_of bytes ≡ 0 = ap state_of (bytes_here n bytes w there) ∙ holds.normal in
+        absurd (omega arith)
+    | inr w ↦ stands.standbys n bytes r (sym (others n w) ∙ there) applying kept
+  ]
+
+  -- The files stand for the account with that database, whatever stood under the name before.
+  pub stands_with_database : Stands new (with_entry name (IsBase (base_of image)) account)
+  stands_with_database = record {
+    same_image = same_image;
+    frozen_main = frozen_main;
+    sound_images = sound_images;
+    kept_records = kept_records;
+    history = history;
+    no_stray = no_stray;
+    standbys = standbys;
+  }
+
+-- Accounts of the same entries and the same records stand for the same.
+module _ (files : Files) (a b : Account) (entries : (n : List ℕ) → a.entry n ≡ b.entry n) (kept : a.kept ≡ b.kept) (stands : Stands files a) where
+  before : (n : List ℕ) (base : Base) → b.entry n ≡ IsBase base → a.entry n ≡ IsBase base
+  before n base e = entries n ∙ e
+
+  belonged_before : (x : Image) → Belongs b x → Belongs a x
+  belonged_before x (to_base n base e is) = to_base n base (before n base e) is
+  belonged_before x (to_record r there is) = to_record r (subst (λ (rs : List Kept). Contains rs r) (sym kept) there) is
+
+  pub stands_same : Stands files b
+  stands_same = record {
+    same_image = λ n plain. sym (entries n) ∙ stands.same_image n plain;
+    frozen_main = λ n base e. stands.frozen_main n base (before n base e);
+    sound_images = record {
+      images = λ x belongs. stands.sound_images.images x (belonged_before x belongs);
+      records = λ r there. stands.sound_images.records r (subst (λ (rs : List Kept). Contains rs r) (sym kept) there);
+    };
+    kept_records = record {
+      distinct = subst AreDistinct kept stands.kept_records.distinct;
+      not_nil = subst HasNoNil kept stands.kept_records.not_nil;
+      stalled = λ n base e is. subst (λ (rs : List Kept). (r : Kept) × IsKeptAs rs (image_guid base.image) r) kept (stands.kept_records.stalled n base (before n base e) is);
+      levels = λ n bytes there. subst (λ (rs : List Kept). HoldsItsRecord rs bytes) kept (stands.kept_records.levels n bytes there);
+    };
+    history = record {
+      images = λ x belongs. subst (λ (rs : List Kept). NamesItsPast rs x) kept (stands.history.images x (belonged_before x belongs));
+      records = subst HaveParents kept stands.history.records;
+    };
+    no_stray = λ n beside. elim (stands.no_stray n beside) [
+      | inl base ↦ inl (base.0, sym (entries n) ∙ base.1)
+      | inr standby ↦ inr standby
+    ];
+    standbys = subst (HasApplyingStandbys files) kept stands.standbys;
+  }
+    where
+      AreDistinct : List Kept → Type 0
+      AreDistinct rs = (r q : Kept) → Contains rs r → Contains rs q → r.guid ≡ q.guid → r ≡ q
+
+      HasNoNil : List Kept → Type 0
+      HasNoNil rs = (r : Kept) → Contains rs r → r.guid ≢ nil
+
+      HaveParents : List Kept → Type 0
+      HaveParents rs = (r : Kept) (ask : Ask) → Contains rs r → r.ask ≡ Some ask → ask.previous ≢ nil → GoesOnFrom rs r ask
+
+-- strokes that keep no record change one entry
+after_entry : (name : List ℕ) (account : Account) (ss : List Stroke) (b : Base) → 1 ≤ length ss → base_after (base_in (account.entry name)) ss ≡ b
+    → (n : List ℕ) → (with_entry name (IsBase b) account).entry n ≡ (after name account ss).entry n
+unfolding after
+after_entry name account [] b some is n = absurd (omega arith)
+after_entry name account (s ∷ ss) b some is n = ap (λ (c : Base). (with_entry name (IsBase c) account).entry n) (sym is)
+
+after_kept : (name : List ℕ) (account : Account) (ss : List Stroke) (b : Base) → records_after (base_in (account.entry name)) ss ≡ [] → (with_entry name (IsBase b) account).kept ≡ (after name account ss).kept
+unfolding after with_entry
+after_kept name account [] b none = refl
+after_kept name account (s ∷ ss) b none = sym (ap (λ (rs : List Kept). account.kept ++ rs) none ∙ append-nil account.kept)
+
+-- the files stand for the account after strokes that leave a database in the normal state and keep no record
+pub stands_after : (old new : Files) (account : Account) (name : List ℕ) (image : Image) (ss : List Stroke)
+    → Stands old account → is_delta name ≡ false → ((m : List ℕ) → m ≢ name → new m ≡ old m)
+    → HoldsMain image (new name) → owner name (new name) (new (delta_name name)) ≡ Ok (base_of image)
+    → image_state image ≡ 0 → IsSoundImage image → NamesItsPast account.kept image
+    → 1 ≤ length ss → base_after (base_in (account.entry name)) ss ≡ base_of image → records_after (base_in (account.entry name)) ss ≡ []
+    → Stands new (after name account ss)
+stands_after old new account name image ss stands plain others holds opens normal sound past some is none =
+    stands_same new (with_entry name (IsBase (base_of image)) account) (after name account ss) (after_entry name account ss (base_of image) some is) (after_kept name account ss (base_of image) none)
+    (stands_with_database old new account name image stands plain others holds opens normal sound past)
