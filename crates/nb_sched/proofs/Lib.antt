@@ -1,1 +1,4 @@
 pub mod AskedLemmas
+pub mod StopLaws
+pub mod PlayLaws
+pub mod EventLaws
