@@ -53,7 +53,7 @@ turn_stands : (session : ℕ) (rest : List Turn) (o : Outcome) (now : Now) → b
 unfolding stands_then
 turn_stands session rest o now = after_turn now.name o.strokes o.made now.account
 
-taken_is : (session : ℕ) (ts : List Turn) (now : Now) → base_now (take_turn session ts now).1 ≡ base_after (base_now now) (strokes_of (take_turn session ts now).0)
+pub taken_is : (session : ℕ) (ts : List Turn) (now : Now) → base_now (take_turn session ts now).1 ≡ base_after (base_now now) (strokes_of (take_turn session ts now).0)
 unfolding take_turn
 taken_is session [] now = sym (strokes_none (base_now now))
 taken_is session (t ∷ rest) now = turn_stands session rest (outcome session t now) now ∙ ap (base_after (base_now now)) (sym (strokes_of_one (event_of session t (outcome session t now))))

@@ -29,3 +29,140 @@ use Rattle.nb_sched.specs.declared.stop.Stop.{Stop}
 use Rattle.nb_sched.specs.Replies.{as_said, HasEnded, is_refusal}
 use Rattle.nb_sched.specs.Says.{FrontSaid, SaysLine}
 use Rattle.nb_sched.specs.Stops.{StopLeft, PlayedOut, Plays}
+
+-- what holds where a call ended with a value or a refusal
+pub ended : {T P : Type 0} (answer : Result T Fault) → HasEnded answer → WhereSettled answer P → P
+ended (Ok value) has is = is
+ended (Err (Rattle.nb_host.specs.declared.faults.Fault.TheVariants.Refused refusal)) has is = is
+ended (Err Rattle.nb_host.specs.declared.faults.Fault.TheVariants.Device) has is = absurd has
+ended (Err Rattle.nb_host.specs.declared.faults.Fault.TheVariants.Memory) has is = absurd has
+
+after_is : (b : Base) (ss : List Stroke) → Rattle.nb_change.specs.Change.after_all on_base b ss ≡ base_after b ss
+unfolding base_after
+after_is b [] = refl
+after_is b (s ∷ ss) = after_is (on_base s b) ss
+
+take_self : (n : ℕ) (l : List ℕ) → take n l ≡ take (length (take n l)) l
+take_self Rattle.std.specs.Prelude.zero l = refl
+take_self (Rattle.std.specs.Prelude.suc n) [] = refl
+take_self (Rattle.std.specs.Prelude.suc n) (x ∷ l) = ap (λ (k : List ℕ). x ∷ k) (take_self n l)
+
+-- before anything is said, nothing is acknowledged
+acked_none : (e : Event) → acked (e ∷ []) 0 ≤ 0
+unfolding acked Rattle.nb_model.specs.Output.acked_in
+acked_none e = Rattle.nb_model.proofs.OutputLaws.acked_front [] (e ∷ []) 0 (omega arith)
+
+module _ (old mid new : World) (held : Opened) (now : Now) (session : ℕ) (statement : Statement) (rest : List Turn) where
+  abbrev here : Outcome
+  here = outcome session (Begins statement) now
+
+  abbrev event : Event
+  event = event_of session (Begins statement) here
+
+  abbrev played : Played
+  played = take_turn session (Begins statement ∷ rest) now
+
+  played_is : played ≡ (event ∷ [], stands_then session rest here now)
+  unfolding take_turn
+  played_is = refl
+
+  strokes_are : strokes_of (event ∷ []) ≡ here.strokes
+  unfolding strokes_of
+  strokes_are = append-nil here.strokes
+
+  base_is : base_now played.1 ≡ base_after (base_now now) here.strokes
+  base_is = taken_is session (Begins statement ∷ rest) now ∙ ap (λ (es : List Event). base_after (base_now now) (strokes_of es)) (ap (λ (p : Played). p.0) played_is) ∙ ap (base_after (base_now now)) strokes_are
+
+  abbrev Left : Files → List ℕ → Type 0
+  Left = StopLeft old held.name (base_now now) (event ∷ [])
+
+  module _ {T : Type 0} (result : Result T Fault) (reply : T → Reply) (does : Does reply result old mid (base_now now) held here) where
+    -- while the statement is done
+    during : AtEachMoment old mid Left
+    during = weaker old mid _ _ does.left.moments (λ files said left.
+        let by = reached_by on_base (Shows held.name) (base_now now) here.strokes (files held.name) (files (delta_name held.name)) left.both in
+        record {
+          out = record { part = []; is = left.output ∙ sym (append-nil old.said); front = refl };
+          count = by.count;
+          front = record { most = omega (arith, by.most, ap length strokes_are); acknowledged = omega (arith, acked_none event) };
+          database = subst (λ (ss : List Stroke). Shows held.name (base_after (base_now now) (take by.count ss)) (files held.name) (files (delta_name held.name))) (sym strokes_are)
+              (subst (λ (b : Base). Shows held.name b (files held.name) (files (delta_name held.name))) (after_is (base_now now) (take by.count here.strokes)) by.is);
+          others = left.others;
+        })
+
+    to_played : AtEachMoment old mid Left → AtEachMoment old mid (StopLeft old held.name (base_now now) played.0)
+    to_played is = subst (λ (es : List Event). AtEachMoment old mid (StopLeft old held.name (base_now now) es)) (sym (ap (λ (p : Played). p.0) played_is)) is
+
+    -- the statement failed
+    pub event_failed : (e : Stop) → Plays (Err e) old mid held held now played
+    event_failed e = record {
+      stops = to_played during;
+      others = does.left.others;
+      others_read = does.left.others_read;
+      name = refl;
+      done = tt;
+    }
+
+    module _ (r : Reply) (has : HasEnded result) (is_said : here.reply ≡ Some r) {S E : Type 0} (told : Result S E) (says : SaysLine told mid new (line_text session r)) where
+      abbrev line : List ℕ
+      line = line_text session r
+
+      output_is : output (event ∷ []) ≡ line
+      unfolding text_of replies_of
+      output_is = ap (λ (x : Option Reply). text_of (elim x as (λ z. List (ℕ × Reply)) [ Rattle.std.specs.Prelude.Some s ↦ (session, s) ∷ [] | Rattle.std.specs.Prelude.None ↦ [] ])) is_said ∙ append-nil line
+
+      opened_mid : IsOpen mid held (base_after (base_now now) here.strokes)
+      opened_mid = ended result has does.after
+
+      -- while the line is said
+      saying : (files : Files) (said : List ℕ) → FrontSaid mid line files said → Left files said
+      saying files said front =
+          let part : List ℕ = take front.count line in
+          record {
+            out = record {
+              part = part;
+              is = front.is ∙ ap (λ (l : List ℕ). l ++ part) does.left.silent.said;
+              front = take_self front.count line ∙ ap (take (length part)) (sym output_is);
+            };
+            count = length here.strokes;
+            front = record { most = omega (arith, ap length strokes_are); acknowledged = omega (arith, acked_most_strokes (event ∷ []) (length part), ap length strokes_are) };
+            database = subst (λ (ss : List Stroke). Shows held.name (base_after (base_now now) ss) (files held.name) (files (delta_name held.name)))
+                (sym (ap (take (length here.strokes)) strokes_are ∙ take_all (length here.strokes) here.strokes (omega arith)))
+                (opened_mid.settled.left (files held.name) (files (delta_name held.name)) (front.left held.name) (front.left (delta_name held.name)));
+            others = λ m other. left_before old mid _ does.left.others m (files m) other (front.left m);
+          }
+
+      whole : AtEachMoment old new (StopLeft old held.name (base_now now) played.0)
+      whole = subst (λ (es : List Event). AtEachMoment old new (StopLeft old held.name (base_now now) es)) (sym (ap (λ (p : Played). p.0) played_is))
+          (joined old mid new _ _ _ during says.moments (λ files said is. is) saying)
+
+      others_whole : Untouched old new (IsOther held.name (delta_name held.name))
+      others_whole = untouched_joined old mid new _ does.left.others (untouched_fewer mid new _ _ says.still.left (λ m other. tt))
+
+      read_whole : (m : List ℕ) → IsOther held.name (delta_name held.name) m → new.files m ≡ old.files m
+      read_whole m other = ap (λ (f : Files). f m) says.still.files ∙ does.left.others_read m other
+
+      -- its line wasn't said whole
+      pub event_unsaid : (e : Stop) → Plays (Err e) old new held held now played
+      event_unsaid e = record { stops = whole; others = others_whole; others_read = read_whole; name = refl; done = tt }
+
+      -- it was
+      pub event_said : new.said ≡ mid.said ++ line → status_after r ≡ (if is_refusal r then 1 else 0) → Plays (Ok (is_refusal r)) old new held held now played
+      event_said said status = record {
+        stops = whole;
+        others = others_whole;
+        others_read = read_whole;
+        name = refl;
+        done = record {
+          opened = subst (IsOpen new held) (sym base_is) (open_still mid new held _ says.still opened_mid);
+          said = said ∙ ap (λ (l : List ℕ). l ++ line) does.left.silent.said ∙ ap (λ (l : List ℕ). old.said ++ l) (sym (output_is) ∙ ap output (sym (ap (λ (p : Played). p.0) played_is)));
+          status = ap (λ (es : List Event). status_of (replies_of es)) (ap (λ (p : Played). p.0) played_is) ∙ status_one ∙ status;
+        };
+      }
+        where
+          status_one : status_of (replies_of (event ∷ [])) ≡ status_after r
+          unfolding status_of replies_of
+          status_one = ap (λ (x : Option Reply). status_of (elim x as (λ z. List (ℕ × Reply)) [ Rattle.std.specs.Prelude.Some s ↦ (session, s) ∷ [] | Rattle.std.specs.Prelude.None ↦ [] ])) is_said ∙ max_zero (status_after r)
+
+          max_zero : (n : ℕ) → max n 0 ≡ n
+          max_zero n = omega arith
