@@ -1,1 +1,3 @@
 
+pub mod CreateLaws
+pub mod MakingLaws
