@@ -1,20 +1,13 @@
-use Rattle.std.proofs.Common.{rules, ◌≡◌, ◌≢◌, ◌<◌, ◌≤◌, IsTrue, OnOk, IfOk, IfErr, length, ℕ, ◌+◌, ◌-◌, ◌*◌, ◌/◌, ◌%◌, Bool, true, false, nat_eq, nat_lt, List, [], ◌∷◌, ◌++◌, slice_index_or, slice_set, bit_and, bit_or, Fits, w8, w32, w64, Bor, MutBor}
-use Rattle.nb_fields.specs.Places.{is_page_size}
-use Rattle.nb_fields.specs.Fresh.{fresh, fresh_count}
-use Rattle.nb_host.specs.Causes.{CountsFault}
-use Rattle.nb_host.specs.declared.faults.Fault.TheVariants.{Memory}
-use Rattle.nb_change.specs.Change.{Advances}
-use Rattle.nb_change.specs.Counts.{CountsDevice}
-use Rattle.nb_model.specs.Account.{base_of}
-use Rattle.nb_model.specs.Owner.{delta_name}
-use Rattle.nb_engine.specs.Create.{CreateLeft, Creates}
-use Rattle.nb_engine.specs.Open.{IsSettled}
+use Rattle.std.proofs.Common.{sym, ◌∙◌}
+use Rattle.nb_engine.proofs.CreatedLaws.{quiet_then, failed, created}
 use Rattle.nb_engine.proofs.create.create_file.Goals as goal
 
--- src/create.rt:71:5
 pub returns-in_err-make_file-clause-creates : goal.returns-in_err-make_file-clause-creates
-returns-in_err-make_file-clause-creates g c = ?
+returns-in_err-make_file-clause-creates g c tells =
+    failed _ _ _ _ _ c.from_residual-in_err-make_file.ensures.1 (quiet_then _ _ _ _ _ c.in_ok-is_free.ensures.quiet (c.in_err-make_file.ensures.left tells))
 
--- src/create.rt:49:1
 pub returns-clause-creates : goal.returns-clause-creates
-returns-clause-creates g c = ?
+returns-clause-creates g c tells = record {
+  answer = (sym (c.in_ok-is_free.ensures.answer tells) ∙ c.if-not-branch.false, c.copied-2.ensures, created _ _ c.requires.size _ _ _ c.copied-2.ensures _ c.fresh_count-count.ensures.value (c.in_ok-make_file.ensures.made tells));
+  left = quiet_then _ _ _ _ _ c.in_ok-is_free.ensures.quiet (c.in_ok-make_file.ensures.left tells);
+}
