@@ -1,20 +1,20 @@
 -- The file of a new database as it reads while it is made: pages from 1 on, and page 0 at last.
-use Rattle.std.proofs.Common.{◌≡◌, ◌≢◌, ℕ, zero, suc, ◌+◌, ◌-◌, ◌*◌, ◌<◌, ◌≤◌, List, [], ◌∷◌, ◌++◌, length, take, drop, map, replicate, refl, sym, ◌∙◌, ap, subst, arith, length-append, mul-le-mul_right}
+use Rattle.std.proofs.Common.{◌≡◌, ◌≢◌, ℕ, zero, suc, ◌+◌, ◌-◌, ◌*◌, ◌≤◌, List, [], ◌∷◌, ◌++◌, length, drop, map, replicate, refl, sym, ◌∙◌, ap, subst, arith, length-append, mul-le-mul_right}
 use Rattle.std.specs.Prelude.{IsTrue, Some}
-use Rattle.std.specs.List.{AllByRecursion, flat_map, range_with_len}
+use Rattle.std.specs.List.{flat_map, range_with_len}
 use Rattle.std.proofs.lemmas.List.{length-replicate, take_all, drop_all}
 use Rattle.std.proofs.lemmas.List.FromFn.{length-map-range_with_len, map-range_with_len_more}
 use Rattle.nb_fields.specs.Places.{is_page_size}
 use Rattle.nb_fields.specs.Fresh.{fresh, fresh_count, fresh_page}
 use Rattle.nb_fields.proofs.SizeLemmas.{size_facts}
 use Rattle.nb_host.specs.Names.{delta_suffix}
-use Rattle.nb_host.specs.Files.{File, Files, bytes_of, padded, put_at, with_file, with_page}
+use Rattle.nb_host.specs.Files.{File, Files, padded, put_at, with_file, with_page}
 use Rattle.nb_change.proofs.NameLaws.{with_file-same}
 use Rattle.nb_model.specs.Image.{Page}
 use Rattle.nb_model.specs.Levels.{joined}
 use Rattle.nb_model.specs.Sound.{IsOfSize}
 use Rattle.nb_model.specs.Account.{base_of}
-use Rattle.nb_model.specs.Owner.{delta_name, owner}
+use Rattle.nb_model.specs.Owner.{delta_name}
 use Rattle.nb_model.proofs.ImageLaws.{joined-flat_map}
 use Rattle.nb_model.proofs.PutLaws.{put-next}
 use Rattle.nb_model.proofs.MainLaws.{owner_main}

@@ -11,7 +11,7 @@ use Rattle.nb_host.specs.World.{World}
 use Rattle.nb_host.specs.Crash.{Leaves, PageLeft, IsDurable, Untouched}
 use Rattle.nb_host.specs.Calls.{Remakes, WritesPage, Syncs, IsSilent}
 use Rattle.nb_host.specs.Moments.{Passes, IsTimely}
-use Rattle.nb_change.specs.Change.{LeavesBoth, SaysNothing, Advances}
+use Rattle.nb_change.specs.Change.{Advances}
 use Rattle.nb_change.proofs.MomentLaws.{left_before, untouched_joined, untouched_fewer, untouched_begun}
 use Rattle.nb_change.proofs.NameLaws.{whole-other}
 use Rattle.nb_change.proofs.ResultLaws.{on_ok_then}

@@ -1,8 +1,6 @@
-use Rattle.std.proofs.Common.{◌≡◌, ℕ, ◌*◌, List, length, sym, ◌∙◌, ap, subst, arith}
-use Rattle.nb_fields.specs.Fresh.{fresh, fresh_page}
-use Rattle.nb_host.specs.Files.{File, Files, with_page}
-use Rattle.nb_host.specs.Crash.{IsDurable}
-use Rattle.nb_change.proofs.ResultLaws.{on_ok_then}
+use Rattle.std.proofs.Common.{◌*◌, length, ◌∙◌, ap, arith}
+use Rattle.nb_fields.specs.Fresh.{fresh_page}
+use Rattle.nb_host.specs.Files.{Files, with_page}
 use Rattle.nb_model.proofs.FreshImageLaws.{fresh_count-least, fresh_state}
 use Rattle.nb_engine.proofs.CreateLaws.{named, rest_begun, far_behind, rest_more, whole_shows}
 use Rattle.nb_engine.proofs.MakingLaws.{made, making_begun, page_more, synced, first_page, synced_whole, settled}
@@ -50,19 +48,19 @@ returns-in_err-write_page-2-clause-left g c tells =
     let page_is = c.fresh-2.ensures.image ∙ ap (λ size. fresh_page size c.args.raw 0) c.loop-number.auto.page in
     let so_far = c.loop-number in
     let shows = whole_shows _ _ c.requires.size c.args.name.now so_far.number c.args.count _ _ c.requires.few c.requires.count c.loop-number-test.false so_far.auto.number-end page_is (so_far.invariant.pages tells) in
-    let sync = c.in_ok-sync.ensures in
+    let sync = c.sync.ensures in
     let rest = synced _ _ _ _ _ _ _ (so_far.invariant.making tells) sync.files sync.log sync.time in
-    let write = c.write_page-2.ensures in first_page _ _ _ _ _ _ _ _ _ _ tells rest (sync.files.durable tells) shows write.files write.log write.time
+    let write = c.write_page-2.ensures in first_page _ _ _ _ _ _ _ _ _ _ tells rest (c.in_ok-sync.ensures.files.durable tells) shows write.files write.log write.time
 
 pub returns-clause-left : goal.returns-clause-left
 returns-clause-left g c tells =
     let page_is = c.fresh-2.ensures.image ∙ ap (λ size. fresh_page size c.args.raw 0) c.loop-number.auto.page in
     let so_far = c.loop-number in
     let shows = whole_shows _ _ c.requires.size c.args.name.now so_far.number c.args.count _ _ c.requires.few c.requires.count c.loop-number-test.false so_far.auto.number-end page_is (so_far.invariant.pages tells) in
-    let sync = c.in_ok-sync.ensures in
+    let sync = c.sync.ensures in
     let rest = synced _ _ _ _ _ _ _ (so_far.invariant.making tells) sync.files sync.log sync.time in
-    let write = c.in_ok-write_page-2.ensures in
-    let all = first_page _ _ _ _ _ _ _ _ _ _ tells rest (sync.files.durable tells) shows write.files write.log write.time in
+    let write = c.write_page-2.ensures in
+    let all = first_page _ _ _ _ _ _ _ _ _ _ tells rest (c.in_ok-sync.ensures.files.durable tells) shows write.files write.log write.time in
     let last = c.sync-2.ensures in synced_whole _ _ _ _ _ _ _ all last.files last.log last.time
 
 pub returns-clause-made : goal.returns-clause-made
