@@ -1,1 +1,4 @@
 pub mod StoreLaws
+pub mod CreateLaws
+pub mod MakingLaws
+pub mod CreatedLaws

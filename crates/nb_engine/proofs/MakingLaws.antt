@@ -1,0 +1,163 @@
+-- The file of a new database while it is made: until page 0 is written it has no header, whatever a stop leaves of it.
+use Rattle.std.proofs.Common.{◌≡◌, ◌≢◌, ◌⊎◌, inl, inr, ⊎_elim, ℕ, zero, suc, ◌+◌, ◌-◌, ◌*◌, ◌≤◌, List, [], ◌∷◌, ◌++◌, length, take, drop, replicate, refl, sym, ◌∙◌, ap, subst, arith, length-append}
+use Rattle.std.specs.Prelude.{Bool, true, IsTrue, ◌||◌, ◌==◌, Some, None, Result, Ok, OnOk}
+use Rattle.std.proofs.lemmas.Bool.{and_parts, and_from}
+use Rattle.std.proofs.lemmas.List.{take-append-le, take-take, length-take-le, length-replicate}
+use Rattle.nb_fields.specs.Bytes.{is_zeros}
+use Rattle.nb_fields.specs.Fresh.{fresh}
+use Rattle.nb_fields.specs.Free.{is_free_file, is_unfinished}
+use Rattle.nb_host.specs.Files.{File, Files, bytes_of, padded, put_at, with_page}
+use Rattle.nb_host.specs.World.{World}
+use Rattle.nb_host.specs.Crash.{Leaves, PageLeft, IsDurable, Untouched}
+use Rattle.nb_host.specs.Calls.{Remakes, WritesPage, Syncs, IsSilent}
+use Rattle.nb_host.specs.Moments.{Passes, IsTimely}
+use Rattle.nb_change.specs.Change.{Advances}
+use Rattle.nb_change.proofs.MomentLaws.{left_before, untouched_joined, untouched_fewer, untouched_begun}
+use Rattle.nb_change.proofs.NameLaws.{whole-other}
+use Rattle.nb_change.proofs.ResultLaws.{on_ok_then}
+use Rattle.nb_change.proofs.ChangeLaws.{begun, one_more, still_more, silent_call}
+use Rattle.nb_model.specs.Image.{Image, image_state}
+use Rattle.nb_model.specs.Account.{base_of}
+use Rattle.nb_model.specs.Owner.{delta_name}
+use Rattle.nb_engine.specs.Create.{CreateLeft}
+use Rattle.nb_engine.specs.Open.{Shows, IsSettled}
+use Rattle.nb_engine.proofs.CreateLaws.{HasRest, delta_apart}
+
+-- the bytes where a header would stand are zeros, or there are fewer
+abbrev IsBlank : File → Type 0
+IsBlank file = is_zeros (take 64 (bytes_of file)) ≡ true
+
+blank-free : (c : File) → IsBlank c → is_free_file c ≡ true
+unfolding is_free_file
+blank-free None h = refl
+blank-free (Some bytes) h = ap (λ (b : Bool). b || is_unfinished bytes) h
+
+blank-empty : (c : File) → c ≡ Some [] → IsBlank c
+blank-empty c is = ap (λ (x : File). is_zeros (take 64 (bytes_of x))) is
+
+-- zeros behind leave it blank
+zeros-take : (k n : ℕ) → is_zeros (take k (replicate n 0)) ≡ true
+zeros-take zero n = refl
+zeros-take (suc k) zero = refl
+zeros-take (suc k) (suc n) = zeros-take k n
+
+zeros-behind : (k n : ℕ) (bytes : List ℕ) → is_zeros (take k bytes) ≡ true → is_zeros (take k (bytes ++ replicate n 0)) ≡ true
+zeros-behind zero n bytes h = refl
+zeros-behind (suc k) n [] h = zeros-take (suc k) n
+zeros-behind (suc k) n (b ∷ bs) h = let both = and_parts (b == 0) (is_zeros (take k bs)) h in and_from (b == 0) (is_zeros (take k (bs ++ replicate n 0))) both.0 (zeros-behind k n bs both.1)
+
+-- and so does a page behind it
+blank-put : (at : ℕ) (page : List ℕ) (file : File) → 64 ≤ at → IsBlank file → IsBlank (with_page file at page)
+unfolding put_at padded
+blank-put at page file far h =
+    let bytes : List ℕ = bytes_of file in
+    let long : at ≤ length (padded bytes at) = omega (arith, length-append bytes (replicate (at - length bytes) 0), length-replicate {A = ℕ} (at - length bytes) 0) in
+    ap is_zeros (take-append-le 64 (take at (padded bytes at)) (page ++ drop (at + length page) bytes) (omega (arith, far, length-take-le at (padded bytes at) long)) ∙ take-take 64 at (padded bytes at) far)
+    ∙ zeros-behind 64 (at - length bytes) bytes h
+
+blank-grown : (n : ℕ) (b c : File) → c ≡ Some (bytes_of b ++ replicate n 0) → IsBlank b → IsBlank c
+blank-grown n b c grown h = ap (λ (x : File). is_zeros (take 64 (bytes_of x))) grown ∙ zeros-behind 64 n (bytes_of b) h
+
+blank-same : (b c : File) → c ≡ b → IsBlank b → IsBlank c
+blank-same b c same h = subst (λ (x : File). IsBlank x) (sym same) h
+
+blank-left : (at : ℕ) (page : List ℕ) (b c : File) → 64 ≤ at → PageLeft at page b c → IsBlank b → IsBlank c
+blank-left at page b c far (inl same) h = blank-same b c same h
+blank-left at page b c far (inr (inl put)) h = blank-same (with_page b at page) c put (blank-put at page b far h)
+blank-left at page b c far (inr (inr (k, fits, grown))) h = blank-grown (k * length page) b c grown h
+
+-- from one moment to a later one a stop gains nothing of any other file
+abbrev Alone : List ℕ → World → World → Type 0
+Alone name old new = Untouched old new (λ m. m ≢ name)
+
+-- what a stop leaves of the new file, and of the difference file beside it
+abbrev MainLeft : (old : World) (name : List ℕ) (image : Image) (m d : File) → Type 0
+MainLeft old name image m d = Leaves old name m ⊎ (is_free_file m ≡ true) ⊎ Shows name (base_of image) m d
+
+-- The new file has no header yet, and is the only one that was touched.
+pub record Making (old w : World) (name : List ℕ) (image : Image) : Type 0 where
+  pub so_far : Advances old w name (delta_name name) (CreateLeft old name image)
+  pub others : Alone name old w
+  pub back : (c : File) → w.back name c → Leaves old name c
+  pub blank : (c : File) → w.now name c → IsBlank c
+
+module _ (name : List ℕ) (image : Image) where
+  -- one call more that touches the new file alone
+  call_more : (old mid new : World) → Advances old mid name (delta_name name) (CreateLeft old name image) → Alone name old mid → Passes mid new → IsSilent mid new → Alone name mid new
+      → ((n : List ℕ) → n ≢ name → new.files n ≡ mid.files n) → ((m d : File) → Leaves new name m → MainLeft old name image m d) → Advances old new name (delta_name name) (CreateLeft old name image)
+  call_more old mid new so_far before time silent others read main =
+      one_more name (delta_name name) old mid new _ _ so_far time (untouched_fewer mid new _ _ others (λ n other. other.not_main)) (λ n other. read n other.not_main) (silent_call mid new silent) (λ m d p. p)
+      (λ m d lm ld. record { main = main m d lm; delta = left_before old new _ (untouched_joined old mid new _ before others) (delta_name name) d (delta_apart name) ld })
+
+  -- one call more that leaves it blank
+  blank_more : (old mid new : World) → Advances old mid name (delta_name name) (CreateLeft old name image) → Alone name old mid → Passes mid new → IsSilent mid new → Alone name mid new
+      → ((n : List ℕ) → n ≢ name → new.files n ≡ mid.files n) → ((c : File) → new.back name c → Leaves old name c) → ((c : File) → new.now name c → IsBlank c) → Making old new name image
+  blank_more old mid new so_far before time silent others read back blank = record {
+    so_far = call_more old mid new so_far before time silent others read (λ m d lm. ⊎_elim (λ b. inl (back m b)) (λ n. inr (inl (blank-free m (blank m n)))) lm);
+    others = untouched_joined old mid new _ before others;
+    back = back;
+    blank = blank;
+  }
+
+  not_begun : (old : World) → IsTimely old → Advances old old name (delta_name name) (CreateLeft old name image)
+  not_begun old timely = begun name (delta_name name) old _ timely (λ m d lm ld. record { main = inl lm; delta = ld })
+
+  -- the file is made, also where that fails
+  pub made : {T E : Type 0} (tells : Bool) (result : Result T E) (old new : World) → IsTrue tells → IsTimely old → Remakes tells result old new name (Some []) → IsSilent old new → Passes old new
+      → Advances old new name (delta_name name) (CreateLeft old name image)
+  made tells result old new so timely is silent time =
+      call_more old old new (not_begun old timely) (untouched_begun old _) time silent is.others (whole-other result old.files new.files name (Some []) (is.files so))
+      (λ m d lm. ⊎_elim (λ b. inl (is.back m b)) (λ n. ⊎_elim (λ l. inl l) (λ e. inr (inl (blank-free m (blank-empty m e)))) (is.now m n)) lm)
+
+  pub making_begun : {T E : Type 0} (tells : Bool) (value : T) (old new : World) → IsTrue tells → IsTimely old → Remakes {T = T} {E = E} tells (Ok value) old new name (Some []) → IsSilent old new → Passes old new → Making old new name image
+  making_begun {T} {E} tells value old new so timely is silent time =
+      blank_more old old new (not_begun old timely) (untouched_begun old _) time silent is.others (whole-other {T = T} {E = E} (Ok value) old.files new.files name (Some []) (is.files so)) is.back
+      (λ c n. blank-empty c (is.done c n))
+
+  -- a page behind page 0 is written, also where that fails
+  pub page_more : {T E : Type 0} (tells : Bool) (result : Result T E) (old mid new : World) (at : ℕ) (page : List ℕ) → IsTrue tells → 64 ≤ at → Making old mid name image → WritesPage tells result mid new name at page → IsSilent mid new
+      → Passes mid new → Making old new name image
+  page_more tells result old mid new at page so far making is silent time =
+      blank_more old mid new making.so_far making.others time silent is.left.others (whole-other result mid.files new.files name _ (is.files so)) (λ c b. making.back c (is.left.back c b))
+      (λ c n. let from = is.left.now c n in blank-left at page from.0 c far from.2 (making.blank from.0 from.1))
+
+  -- the file is synced, also where that fails
+  pub synced : {T E : Type 0} (tells : Bool) (result : Result T E) (old mid new : World) → Making old mid name image → Syncs tells result mid new name → IsSilent mid new → Passes mid new → Making old new name image
+  synced tells result old mid new making is silent time =
+      blank_more old mid new making.so_far making.others time silent (untouched_fewer mid new _ _ is.still.left (λ n other. tt)) (λ n other. ap (λ (f : Files). f n) is.still.files)
+      (λ c b. making.back c (is.still.left.back name c tt b)) (λ c n. making.blank c (is.still.left.now name c tt n))
+
+  -- page 0 is written to the file that was kept for good, also where that fails
+  pub first_page : {T E : Type 0} (tells : Bool) (result : Result T E) (old mid new : World) (at : ℕ) (page : List ℕ) (file : File) → IsTrue tells → Making old mid name image → IsDurable mid name file
+      → ((d : File) → Shows name (base_of image) (with_page file at page) d) → WritesPage tells result mid new name at page → IsSilent mid new → Passes mid new → Advances old new name (delta_name name) (CreateLeft old name image)
+  first_page tells result old mid new at page file so making durable whole is silent time =
+      call_more old mid new making.so_far making.others time silent is.left.others (whole-other result mid.files new.files name _ (is.files so))
+      (λ m d lm. ⊎_elim (λ b. inl (making.back m (is.left.back m b))) (λ n. let from = is.left.now m n in inr (by from.0 m d from.1 from.2)) lm)
+    where
+      by : (b c d : File) → mid.now name b → PageLeft at page b c → (is_free_file c ≡ true) ⊎ Shows name (base_of image) c d
+      by b c d n (inl same) = inl (blank-free c (blank-same b c same (making.blank b n)))
+      by b c d n (inr (inl put)) = inr (subst (λ (x : File). Shows name (base_of image) x d) (sym (put ∙ ap (λ (x : File). with_page x at page) (durable.only b n))) (whole d))
+      by b c d n (inr (inr (k, fits, grown))) = inl (blank-free c (blank-grown (k * length page) b c grown (making.blank b n)))
+
+  -- the whole file is synced, also where that fails
+  pub synced_whole : {T E : Type 0} (tells : Bool) (result : Result T E) (old mid new : World) → Advances old mid name (delta_name name) (CreateLeft old name image) → Syncs tells result mid new name → IsSilent mid new → Passes mid new
+      → Advances old new name (delta_name name) (CreateLeft old name image)
+  synced_whole tells result old mid new so_far is silent time = still_more name (delta_name name) old mid new _ so_far time is.still (silent_call mid new silent)
+
+  -- after the last sync nothing else is left of it
+  pub settled : {T E : Type 0} (tells : Bool) (result : Result T E) (mid new : World) (file : File) → IsTrue tells → mid.files name ≡ file → Syncs tells result mid new name → ((d : File) → Shows name (base_of image) file d)
+      → image_state image ≡ 0 → OnOk result (IsSettled new name (base_of image))
+  settled tells result mid new file so reads is whole normal = on_ok_then result by (is.durable so)
+    where
+      by : IsDurable new name (mid.files name) → IsSettled new name (base_of image)
+      by durable = record {
+        left = λ m d lm ld. subst (λ (x : File). Shows name (base_of image) x d) (sym (⊎_elim (λ b. durable.none_back m b) (λ n. durable.only m n) lm ∙ reads)) (whole d);
+        normal = normal;
+        whole = refl;
+      }
+
+-- How far the making has come: the pages from 1 on, up to this number, are written, and no call failed.
+pub record MakesFile {H : Type 0} (tells : Bool) (world : H → World) (faults : H → ℕ) (start here : H) (name : List ℕ) (size raw number : ℕ) : Type 0 where
+  pub making : IsTrue tells → Making (world start) (world here) name (fresh size raw)
+  pub pages : IsTrue tells → HasRest size raw number ((world here).files name)
+  pub cause : faults here ≡ faults start
