@@ -1,13 +1,15 @@
 -- What a run must do: the events of the job that the words name, and the account after.
-use Rattle.std.specs.Prelude.{◌≡◌, ◌≢◌, ◌⊎◌, ℕ, zero, suc, ◌≤◌, List, [], ◌∷◌, ◌++◌, length, take, Option, None, Some, Result, Ok, Err, true, false}
+use Rattle.std.specs.Prelude.{◌≡◌, ◌≢◌, ◌⊎◌, ℕ, zero, suc, ◌≤◌, List, [], ◌∷◌, ◌++◌, length, take, Bool, Vec, Option, None, Some, Result, Ok, Err, IfOk, true}
 use Rattle.nb_fields.specs.Free.{is_free_file}
 use Rattle.nb_host.specs.Files.{File, Files}
 use Rattle.nb_host.specs.World.{World}
 use Rattle.nb_host.specs.Crash.{Leaves}
 use Rattle.nb_host.specs.Moments.{AtEachMoment}
+use Rattle.nb_host.specs.declared.faults.Fault.{Fault}
+use Rattle.nb_host.specs.declared.faults.Fault.TheVariants.{Refused as RefusedFault, Device as DeviceFault, Memory as MemoryFault}
 use Rattle.nb_host.specs.declared.refusals.Refusal.{Refusal}
 use Rattle.nb_host.specs.declared.refusals.Refusal.TheVariants.{Usage, NoFile}
-use Rattle.nb_model.specs.declared.reply.Reply.TheVariants.{Refused}
+use Rattle.nb_model.specs.declared.reply.Reply.TheVariants.{Refused, Pages}
 use Rattle.nb_model.specs.declared.statement.Statement.{Statement}
 use Rattle.nb_model.specs.declared.statement.Statement.TheVariants.{CreateDb, OpenDb}
 use Rattle.nb_model.specs.Account.{Account}
@@ -15,15 +17,17 @@ use Rattle.nb_model.specs.Strokes.{Stroke, after}
 use Rattle.nb_model.specs.Owner.{delta_name, entry_in}
 use Rattle.nb_model.specs.Outcomes.{Given}
 use Rattle.nb_model.specs.Output.{output, status_of}
-use Rattle.nb_model.specs.Run.{Event, IsRun, strokes_of, replies_of}
+use Rattle.nb_model.specs.Run.{Event, Now, Played, IsRun, AreFinished, play, rounds, strokes_of, replies_of}
 use Rattle.nb_model.specs.Stands.{IsSameImage, HasNoStrayDelta}
 use Rattle.nb_script.specs.Scripts.{Plan, script_of}
 use Rattle.nb_top.specs.declared.job.Job.{Job}
 use Rattle.nb_top.specs.declared.job.Job.TheVariants.{Run}
 use Rattle.nb_top.specs.declared.status.Status.{Status}
 use Rattle.nb_top.specs.declared.status.Status.TheVariants.{Done, Refused as RefusedStatus, Usage as UsageStatus, Device, Memory}
+use Rattle.nb_sched.specs.declared.stop.Stop.{Stop}
+use Rattle.nb_sched.specs.Stops.{IsSaid, IsFront, Plays}
+use Rattle.nb_engine.specs.declared.opened.Opened.{Opened}
 use Rattle.nb_top.specs.Jobs.{job_of}
-use Rattle.nb_sched.specs.Stops.{IsSaid, IsFront}
 
 -- the job is refused, and that is all
 abbrev pub refused_job : Refusal → List Event
@@ -91,14 +95,51 @@ pub record Finished (status : Status) (old new : World) (events : List Event) (l
   pub status : number_of status ≡ status_of (replies_of events)
   pub files : StandsFor new.files last
 
--- What a run does, from files that stand for an account: its replies are those of the run that the words ask for, and the files then
--- stand for the account after. At each moment a stop leaves a front of it, and so do the files as they read now, also where the
--- run ended early.
-pub record Performs (status : Status) (old new : World) (words : List (List ℕ)) (account : Account) : Type 0 where
+-- What a run does that a script asks for, from files that stand for an account: its events are those that the script must have. At each
+-- moment a stop leaves a front of them, and at its end all is done.
+pub record RunsTo (result : Result Status Stop) (old new : World) (asked : Result Plan Refusal) (account : Account) : Type 0 where
   pub given : Given
   pub events : List Event
   pub last : Account
-  pub performed : IsPerformed (script_asked old.files words) account given events last
-  pub stops : AtEachMoment old new (RunLeft old account (database_of (script_asked old.files words)) events)
-  pub now : RunLeft old account (database_of (script_asked old.files words)) events new.files new.said
+  pub performed : IsPerformed asked account given events last
+  pub stops : AtEachMoment old new (RunLeft old account (database_of asked) events)
+  pub finished : IfOk result (λ status. Finished status old new events last)
+
+-- What `run` does on these words. The files as they read now are also what a stop may leave: so they are a front of the run where it
+-- ended early.
+pub record Performs (status : Status) (old new : World) (asked : Result Plan Refusal) (account : Account) : Type 0 where
+  pub given : Given
+  pub events : List Event
+  pub last : Account
+  pub performed : IsPerformed asked account given events last
+  pub stops : AtEachMoment old new (RunLeft old account (database_of asked) events)
+  pub now : RunLeft old account (database_of asked) events new.files new.said
   pub finished : status ≢ Device → status ≢ Memory → Finished status old new events last
+
+-- what is read is the script, or why there is none; a failure says nothing of it
+abbrev pub IsRead : Result Plan Fault → Result Plan Refusal → Type 0
+IsRead (Ok plan) meant = meant ≡ Ok plan
+IsRead (Err (RefusedFault refusal)) meant = meant ≡ Err refusal
+IsRead (Err DeviceFault) meant = Unit
+IsRead (Err MemoryFault) meant = Unit
+
+-- `ok pages N`, of a database that was made before
+abbrev pub pages_said : (session pages : ℕ) → Event
+pages_said session pages = record { session = session; strokes = []; reply = Some (Pages pages); made = None; syncs = true }
+
+-- the first reply and then all turns
+abbrev pub played_behind : Event → Played → Played
+played_behind event played = (event ∷ played.0, played.1)
+
+-- The length of a new database was said, and then the script's turns were taken to their end, or some of them.
+pub record PlaysCreated (result : Result Bool Stop) (old new : World) (before after : Opened) (now : Now) (plan : Plan) : Type 0 where
+  pub how_often : ℕ
+  pub plays : Plays result old new before after now (played_behind (pages_said plan.first_session before.count) (play (plan.schedule ++ rounds how_often) now))
+  pub finished : AreFinished (play (plan.schedule ++ rounds how_often) now).1.todo
+
+-- what is read of a script's file: its bytes, or that it isn't there or is too long
+abbrev pub IsFileRead : Result (Vec ℕ) Fault → (name : List ℕ) → File → Type 0
+IsFileRead (Ok bytes) name file = file ≡ Some bytes.items
+IsFileRead (Err (RefusedFault refusal)) name file = script_in name file ≡ Err refusal
+IsFileRead (Err DeviceFault) name file = Unit
+IsFileRead (Err MemoryFault) name file = Unit

@@ -4,17 +4,15 @@
 //! for each reply, and what it promises of the replies, the files and a stop stands in its contract.
 #![tactic(auto)]
 
-mod database;
 mod job;
-mod line;
 mod program;
+mod reading;
+mod script;
 mod status;
-mod stop;
 #[cfg(test)]
 mod tests;
-mod word;
 
 pub use job::{Job, read_job};
-pub use line::render;
+pub use nb_lines::render;
 pub use program::run;
 pub use status::Status;

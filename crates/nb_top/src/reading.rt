@@ -1,0 +1,42 @@
+// The script that a job names is read.
+ghost use Rattle.std.specs.Prelude.{◌≡◌, IsTrue, IfOk, IfErr, IfErrAnd, Some};
+ghost use Rattle.nb_change.specs.Counts.{CountsDevice};
+ghost use Rattle.nb_page.specs.Quiet.{Quiet};
+ghost use Rattle.nb_script.specs.Asked.{IsAskable};
+ghost use Rattle.nb_top.specs.Performed.{IsRead, IsFileRead, script_in};
+
+use nb_host::{Fault, Host, Name, Refusal};
+use nb_script::{MOST_BYTES, Script, parse};
+use std::alloc::Global;
+
+/// Reads a file of a script whole. The refusals are `NoFile` and `ScriptLong`.
+fn read_file<H: Host>(alloc: Global, host: &mut H, name: &Name) -> Result<Vec<u8>, Fault>
+    ensures read { IsTrue H.tells → IsFileRead result name.now ((H.world host.old).files name.now) }
+    ensures quiet { Quiet (H.world host.old) (H.world host.new) }
+    ensures cause { CountsDevice result (H.faults host.old) (H.faults host.new) }
+{
+    let Some(size) = host.size(name)? else {
+        return Err(Fault::Refused(Refusal::NoFile {
+            name: name.copied(),
+        }));
+    };
+    if size > MOST_BYTES as u64 {
+        return Err(Fault::Refused(Refusal::ScriptLong { bytes: size }));
+    }
+    let mut bytes = vec![in alloc; 0; size as usize]?;
+    let count = host.read_at(name, 0, &mut bytes)?;
+    bytes.truncate(count);
+    Ok(bytes)
+}
+
+/// Reads the script of that name. It changes nothing.
+pub fn read_script<H: Host>(alloc: Global, host: &mut H, name: &Name) -> Result<Script, Fault>
+    ensures read { IsTrue H.tells → IsRead result (script_in name.now ((H.world host.old).files name.now)) }
+    ensures askable { IfOk result IsAskable }
+    ensures quiet { Quiet (H.world host.old) (H.world host.new) }
+    ensures cause { CountsDevice result (H.faults host.old) (H.faults host.new) }
+{
+    let bytes = read_file(alloc, host, name)?;
+    let script = parse(alloc, &bytes)?;
+    Ok(script)
+}
