@@ -29,3 +29,4 @@ pub mod BitSound
 pub mod NewSound
 pub mod NormalLaws
 pub mod StandsLaws
+pub mod OutputLaws
