@@ -5,6 +5,7 @@ use Rattle.std.proofs.lemmas.List.{append-nil, take_all, take-take, take-append-
 use Rattle.nb_host.specs.Files.{File, Files}
 use Rattle.nb_host.specs.World.{World}
 use Rattle.nb_host.specs.Crash.{Leaves, Untouched}
+use Rattle.nb_host.specs.Calls.{IsStill}
 use Rattle.nb_host.specs.Moments.{AtEachMoment}
 use Rattle.nb_host.specs.declared.faults.Fault.{Fault}
 use Rattle.nb_change.specs.Change.{IsOther, BothLeft, Reached}
@@ -19,12 +20,11 @@ use Rattle.nb_model.specs.Owner.{delta_name}
 use Rattle.nb_model.specs.Outcomes.{Turn, Begins, Outcome}
 use Rattle.nb_model.specs.Run.{Event, Now, Played, base_now, event_of, outcome, stands_then, take_turn, strokes_of, replies_of}
 use Rattle.nb_model.specs.Output.{output, acked, text_of, status_of, status_after}
-use Rattle.nb_model.proofs.OutputLaws.{acked_silent, acked_most_strokes, line-some}
+use Rattle.nb_model.proofs.OutputLaws.{acked_front, acked_most_strokes, strokes_one, output_one, status_one}
 use Rattle.nb_model.proofs.RunLaws.{taken_is}
 use Rattle.nb_engine.specs.declared.opened.Opened.{Opened}
 use Rattle.nb_engine.specs.Open.{Shows, IsOpen}
 use Rattle.nb_engine.specs.Turn.{Does, WhereSettled}
-use Rattle.nb_engine.proofs.QuietDoes.{open_still}
 use Rattle.nb_sched.specs.declared.stop.Stop.{Stop}
 use Rattle.nb_sched.specs.Replies.{as_said, HasEnded, is_refusal}
 use Rattle.nb_sched.specs.Says.{FrontSaid, SaysLine}
@@ -48,9 +48,23 @@ take_self (Rattle.std.specs.Prelude.suc n) [] = refl
 take_self (Rattle.std.specs.Prelude.suc n) (x ∷ l) = ap (λ (k : List ℕ). x ∷ k) (take_self n l)
 
 -- before anything is said, nothing is acknowledged
-acked_none : (e : Event) → acked (e ∷ []) 0 ≤ 0
-unfolding acked Rattle.nb_model.specs.Output.acked_in
-acked_none e = Rattle.nb_model.proofs.OutputLaws.acked_front [] (e ∷ []) 0 (omega arith)
+pub acked_none : (es : List Event) → acked es 0 ≤ 0
+acked_none es =
+    let same = acked_front [] es 0 (omega arith) in
+    omega (arith, same, acked_most_strokes [] 0, ap length Rattle.nb_model.proofs.OutputLaws.strokes_no_event)
+
+open_still : (old new : World) (held : Opened) (b : Base) → IsStill old new → IsOpen old held b → IsOpen new held b
+open_still old new held b still opened = record {
+  settled = record {
+    left = λ m d lm ld. opened.settled.left m d (left_before old new _ still.left held.name m tt lm) (left_before old new _ still.left (delta_name held.name) d tt ld);
+    normal = opened.settled.normal;
+    whole = opened.settled.whole;
+  };
+  page_size = opened.page_size;
+  count = opened.count;
+  scn = opened.scn;
+  read_only = opened.read_only;
+}
 
 module _ (old mid new : World) (held : Opened) (now : Now) (session : ℕ) (statement : Statement) (rest : List Turn) where
   abbrev here : Outcome
@@ -67,8 +81,7 @@ module _ (old mid new : World) (held : Opened) (now : Now) (session : ℕ) (stat
   played_is = refl
 
   strokes_are : strokes_of (event ∷ []) ≡ here.strokes
-  unfolding strokes_of
-  strokes_are = append-nil here.strokes
+  strokes_are = strokes_one event
 
   base_is : base_now played.1 ≡ base_after (base_now now) here.strokes
   base_is = taken_is session (Begins statement ∷ rest) now ∙ ap (λ (es : List Event). base_after (base_now now) (strokes_of es)) (ap (λ (p : Played). p.0) played_is) ∙ ap (base_after (base_now now)) strokes_are
@@ -84,7 +97,7 @@ module _ (old mid new : World) (held : Opened) (now : Now) (session : ℕ) (stat
         record {
           out = record { part = []; is = left.output ∙ sym (append-nil old.said); front = refl };
           count = by.count;
-          front = record { most = omega (arith, by.most, ap length strokes_are); acknowledged = omega (arith, acked_none event) };
+          front = record { most = omega (arith, by.most, ap length strokes_are); acknowledged = omega (arith, acked_none (event ∷ [])) };
           database = subst (λ (ss : List Stroke). Shows held.name (base_after (base_now now) (take by.count ss)) (files held.name) (files (delta_name held.name))) (sym strokes_are)
               (subst (λ (b : Base). Shows held.name b (files held.name) (files (delta_name held.name))) (after_is (base_now now) (take by.count here.strokes)) by.is);
           others = left.others;
@@ -108,8 +121,7 @@ module _ (old mid new : World) (held : Opened) (now : Now) (session : ℕ) (stat
       line = line_text session r
 
       output_is : output (event ∷ []) ≡ line
-      unfolding text_of replies_of
-      output_is = ap (λ (x : Option Reply). text_of (elim x as (λ z. List (ℕ × Reply)) [ Rattle.std.specs.Prelude.Some s ↦ (session, s) ∷ [] | Rattle.std.specs.Prelude.None ↦ [] ])) is_said ∙ append-nil line
+      output_is = output_one event r is_said
 
       opened_mid : IsOpen mid held (base_after (base_now now) here.strokes)
       opened_mid = ended result has does.after
@@ -156,13 +168,48 @@ module _ (old mid new : World) (held : Opened) (now : Now) (session : ℕ) (stat
         done = record {
           opened = subst (IsOpen new held) (sym base_is) (open_still mid new held _ says.still opened_mid);
           said = said ∙ ap (λ (l : List ℕ). l ++ line) does.left.silent.said ∙ ap (λ (l : List ℕ). old.said ++ l) (sym (output_is) ∙ ap output (sym (ap (λ (p : Played). p.0) played_is)));
-          status = ap (λ (es : List Event). status_of (replies_of es)) (ap (λ (p : Played). p.0) played_is) ∙ status_one ∙ status;
+          status = ap (λ (es : List Event). status_of (replies_of es)) (ap (λ (p : Played). p.0) played_is) ∙ status_one event r is_said ∙ status;
         };
       }
-        where
-          status_one : status_of (replies_of (event ∷ [])) ≡ status_after r
-          unfolding status_of replies_of
-          status_one = ap (λ (x : Option Reply). status_of (elim x as (λ z. List (ℕ × Reply)) [ Rattle.std.specs.Prelude.Some s ↦ (session, s) ∷ [] | Rattle.std.specs.Prelude.None ↦ [] ])) is_said ∙ max_zero (status_after r)
 
-          max_zero : (n : ℕ) → max n 0 ≡ n
-          max_zero n = omega arith
+-- a line is said that has no strokes
+module _ (old new : World) (held : Opened) (now : Now) (session : ℕ) (r : Reply) {S E : Type 0} (told : Result S E) (says : SaysLine told old new (line_text session r)) (opened : IsOpen old held (base_now now)) where
+  abbrev said_event : Event
+  said_event = record { session = session; strokes = []; reply = Some r; made = Rattle.std.specs.Prelude.None; syncs = true }
+
+  abbrev said_played : Played
+  said_played = (said_event ∷ [], now)
+
+  no_strokes : length (strokes_of (said_event ∷ [])) ≡ 0
+  no_strokes = ap length (strokes_one said_event)
+
+  said_left : (files : Files) (said : List ℕ) → FrontSaid old (line_text session r) files said → StopLeft old held.name (base_now now) (said_event ∷ []) files said
+  unfolding base_after
+  said_left files said front =
+      let part : List ℕ = take front.count (line_text session r) in
+      record {
+        out = record { part = part; is = front.is; front = take_self front.count (line_text session r) ∙ ap (take (length part)) (sym (output_one said_event r refl)) };
+        count = 0;
+        front = record { most = omega arith; acknowledged = omega (arith, acked_most_strokes (said_event ∷ []) (length part), no_strokes) };
+        database = opened.settled.left (files held.name) (files (delta_name held.name)) (front.left held.name) (front.left (delta_name held.name));
+        others = λ m other. front.left m;
+      }
+
+  said_stops : AtEachMoment old new (StopLeft old held.name (base_now now) (said_event ∷ []))
+  said_stops = weaker old new _ _ says.moments said_left
+
+  pub line_unsaid : (e : Stop) → Plays (Err e) old new held held now said_played
+  line_unsaid e = record { stops = said_stops; others = untouched_fewer old new _ _ says.still.left (λ m other. tt); others_read = λ m other. ap (λ (f : Files). f m) says.still.files; name = refl; done = tt }
+
+  pub line_said : new.said ≡ old.said ++ line_text session r → status_after r ≡ 0 → Plays (Ok false) old new held held now said_played
+  line_said said status = record {
+    stops = said_stops;
+    others = untouched_fewer old new _ _ says.still.left (λ m other. tt);
+    others_read = λ m other. ap (λ (f : Files). f m) says.still.files;
+    name = refl;
+    done = record {
+      opened = open_still old new held (base_now now) says.still opened;
+      said = said ∙ ap (λ (l : List ℕ). old.said ++ l) (sym (output_one said_event r refl));
+      status = status_one said_event r refl ∙ status;
+    };
+  }

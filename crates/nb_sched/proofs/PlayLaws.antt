@@ -1,5 +1,5 @@
 -- Turns behind turns.
-use Rattle.std.proofs.Common.{◌≡◌, ℕ, List, [], ◌∷◌, ◌++◌, Bool, true, false, refl, sym, ap, subst, ◌∙◌, append_assoc}
+use Rattle.std.proofs.Common.{◌≡◌, ℕ, List, [], ◌∷◌, ◌++◌, Bool, true, false, refl, sym, ap, subst, ◌∙◌, ◌≤◌, length, arith, append_assoc}
 use Rattle.std.specs.Prelude.{Result, Ok, Err, ◌||◌, if◌then◌else◌, max}
 use Rattle.std.proofs.lemmas.List.{append-nil}
 use Rattle.nb_host.specs.World.{World}
@@ -11,8 +11,8 @@ use Rattle.nb_model.specs.Account.{Base}
 use Rattle.nb_model.specs.Strokes.{base_after}
 use Rattle.nb_model.specs.Owner.{delta_name}
 use Rattle.nb_model.specs.Run.{Event, Now, Played, base_now, strokes_of, replies_of}
-use Rattle.nb_model.specs.Output.{output, status_of}
-use Rattle.nb_model.proofs.OutputLaws.{output_append, replies_of-append, status_append}
+use Rattle.nb_model.specs.Output.{output, acked, status_of}
+use Rattle.nb_model.proofs.OutputLaws.{output_append, status_events, acked_most_strokes, output_no_event, status_no_event, strokes_no_event}
 use Rattle.nb_engine.specs.declared.opened.Opened.{Opened}
 use Rattle.nb_engine.specs.Open.{IsOpen}
 use Rattle.nb_sched.specs.declared.stop.Stop.{Stop}
@@ -29,20 +29,23 @@ behind p q = (p.0 ++ q.0, q.1)
 
 -- no turn yet
 pub plays_none : (old : World) (held : Opened) (now : Now) → IsTimely old → IsOpen old held (base_now now) → Plays (Ok false) old old held held now ([], now)
-unfolding base_after strokes_of replies_of status_of
+unfolding base_after strokes_of
 plays_none old held now timely opened = record {
   stops = started old _ timely (λ files said is. record {
     out = record { part = []; is = is.output ∙ sym (append-nil old.said); front = refl };
     count = 0;
-    front = record { most = Rattle.std.proofs.Common.omega_le0; acknowledged = Rattle.std.proofs.Common.omega_le0 };
+    front = record { most = omega arith; acknowledged = nothing };
     database = opened.settled.left _ _ (is.left held.name) (is.left (delta_name held.name));
     others = λ m other. is.left m;
   });
   others = untouched_begun old _;
   others_read = λ m other. refl;
   name = refl;
-  done = record { opened = opened; said = sym (append-nil old.said); status = refl };
+  done = record { opened = opened; said = sym (append-nil old.said) ∙ ap (λ (l : List ℕ). old.said ++ l) (sym output_no_event); status = status_no_event };
 }
+  where
+    nothing : acked [] 0 ≤ 0
+    nothing = omega (arith, acked_most_strokes [] 0, ap length strokes_no_event)
 
 either_refused : (a b : Bool) → max (if a then 1 else 0) (if b then 1 else 0) ≡ (if a || b then 1 else 0)
 either_refused true true = refl
@@ -79,7 +82,7 @@ module _ (old mid new : World) (e0 e1 e2 : Opened) (now : Now) (p q : Played) (i
     done = record {
       opened = second.done.opened;
       said = second.done.said ∙ ap (λ (l : List ℕ). l ++ output q.0) first.done.said ∙ append_assoc old.said (output p.0) (output q.0) ∙ ap (λ (l : List ℕ). old.said ++ l) (sym (output_append p.0 q.0));
-      status = ap status_of (replies_of-append p.0 q.0) ∙ status_append (replies_of p.0) (replies_of q.0) ∙ ap (λ (x : ℕ). max x (status_of (replies_of q.0))) first.done.status
+      status = status_events p.0 q.0 ∙ ap (λ (x : ℕ). max x (status_of (replies_of q.0))) first.done.status
           ∙ ap (λ (x : ℕ). max (if a then 1 else 0) x) second.done.status ∙ either_refused a b;
     };
   }

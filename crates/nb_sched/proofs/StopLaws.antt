@@ -12,7 +12,7 @@ use Rattle.nb_model.specs.Run.{Event, strokes_of}
 use Rattle.nb_model.specs.Output.{output, acked}
 use Rattle.nb_model.proofs.RunLaws.{strokes_of-append}
 use Rattle.nb_model.proofs.StrokeLaws.{base_after-append}
-use Rattle.nb_model.proofs.OutputLaws.{output_append, acked_front, acked_behind, take_front, take_behind, fronts_front, fronts_behind}
+use Rattle.nb_model.proofs.OutputLaws.{acked_front, acked_behind, front_more, front_behind, strokes_front, strokes_behind}
 use Rattle.nb_engine.specs.Open.{Shows}
 use Rattle.nb_sched.specs.Stops.{IsSaid, IsFront, StopLeft}
 
@@ -26,10 +26,10 @@ stop_more old name base es fs files said left =
     let low = acked_front es fs (length left.out.part) fits in
     let all : length (strokes_of (es ++ fs)) ≡ length (strokes_of es) + length (strokes_of fs) = ap length (strokes_of-append es fs) ∙ length-append (strokes_of es) (strokes_of fs) in
     record {
-      out = record { part = left.out.part; is = left.out.is; front = take_front es fs left.out.part left.out.front };
+      out = record { part = left.out.part; is = left.out.is; front = front_more es fs left.out.part left.out.front };
       count = left.count;
       front = record { most = omega (arith, all, left.front.most); acknowledged = omega (arith, low, left.front.acknowledged) };
-      database = subst (λ (ss : List Stroke). Shows name (base_after base ss) (files name) (files (delta_name name))) (sym (fronts_front es fs left.count left.front.most)) left.database;
+      database = subst (λ (ss : List Stroke). Shows name (base_after base ss) (files name) (files (delta_name name))) (sym (strokes_front es fs left.count left.front.most)) left.database;
       others = left.others;
     }
 
@@ -43,12 +43,12 @@ stop_then old mid name base es fs files said silent same left =
     let all : length (strokes_of (es ++ fs)) ≡ length (strokes_of es) + length (strokes_of fs) = ap length (strokes_of-append es fs) ∙ length-append (strokes_of es) (strokes_of fs) in
     let acked_is : acked (es ++ fs) (length part) ≡ acked (es ++ fs) (length (output es) + length left.out.part) = ap (acked (es ++ fs)) long in
     let is : base_after (base_after base (strokes_of es)) (take left.count (strokes_of fs)) ≡ base_after base (take (length (strokes_of es) + left.count) (strokes_of (es ++ fs))) =
-    sym (base_after-append base (strokes_of es) (take left.count (strokes_of fs))) ∙ ap (base_after base) (sym (fronts_behind es fs left.count)) in
+    sym (base_after-append base (strokes_of es) (take left.count (strokes_of fs))) ∙ ap (base_after base) (sym (strokes_behind es fs left.count)) in
     record {
       out = record {
         part = part;
         is = left.out.is ∙ ap (λ (l : List ℕ). l ++ left.out.part) silent ∙ append_assoc old.said (output es) left.out.part;
-        front = take_behind es fs left.out.part left.out.front;
+        front = front_behind es fs left.out.part left.out.front;
       };
       count = length (strokes_of es) + left.count;
       front = record { most = omega (arith, all, left.front.most); acknowledged = omega (arith, low, acked_is, left.front.acknowledged) };
