@@ -1,7 +1,6 @@
-use Rattle.std.proofs.Common.{◌*◌, length, ◌∙◌, ap, arith}
+use Rattle.std.proofs.Common.{length, ◌∙◌, ap, arith}
 use Rattle.nb_fields.specs.Fresh.{fresh_page}
-use Rattle.nb_host.specs.Files.{Files, with_page}
-use Rattle.nb_model.proofs.FreshImageLaws.{fresh_count-least, fresh_state}
+use Rattle.nb_model.proofs.FreshImageLaws.{fresh_count-least}
 use Rattle.nb_engine.proofs.CreateLaws.{named, rest_begun, far_behind, rest_more}
 use Rattle.nb_engine.proofs.MakingLaws.{made, making_begun, page_more, synced, synced_whole, rest_kept, first_page, settled}
 use Rattle.nb_engine.proofs.create.make_file.Goals as goal
