@@ -72,7 +72,7 @@ blank-left at page b c far (inr (inr (k, fits, grown))) h = blank-grown (k * len
 abbrev Alone : List ℕ → World → World → Type 0
 Alone name old new = Untouched old new (λ m. m ≢ name)
 
--- what a stop leaves of the new file, and of the difference file beside it
+-- what a stop leaves of the new file, where it leaves d beside it
 abbrev MainLeft : (old : World) (name : List ℕ) (image : Image) (m d : File) → Type 0
 MainLeft old name image m d = Leaves old name m ⊎ (is_free_file m ≡ true) ⊎ Shows name (base_of image) m d
 
@@ -111,6 +111,7 @@ module _ (name : List ℕ) (image : Image) where
       call_more old old new (not_begun old timely) (untouched_begun old _) time silent is.others (whole-other result old.files new.files name (Some []) (is.files so))
       (λ m d lm. ⊎_elim (λ b. inl (is.back m b)) (λ n. ⊎_elim (λ l. inl l) (λ e. inr (inl (blank-free m (blank-empty m e)))) (is.now m n)) lm)
 
+  -- and the making has begun
   pub making_begun : {T E : Type 0} (tells : Bool) (value : T) (old new : World) → IsTrue tells → IsTimely old → Remakes {T = T} {E = E} tells (Ok value) old new name (Some []) → IsSilent old new → Passes old new → Making old new name image
   making_begun {T} {E} tells value old new so timely is silent time =
       blank_more old old new (not_begun old timely) (untouched_begun old _) time silent is.others (whole-other {T = T} {E = E} (Ok value) old.files new.files name (Some []) (is.files so)) is.back
