@@ -4,9 +4,10 @@ use Rattle.std.specs.Prelude.{Bool, true, IsTrue, ◌||◌, ◌==◌, Some, None
 use Rattle.std.proofs.lemmas.Bool.{and_parts, and_from}
 use Rattle.std.proofs.lemmas.List.{take-append-le, take-take, length-take-le, length-replicate}
 use Rattle.nb_fields.specs.Bytes.{is_zeros}
-use Rattle.nb_fields.specs.Fresh.{fresh}
+use Rattle.nb_fields.specs.Fresh.{fresh, fresh_count, fresh_page}
+use Rattle.nb_fields.specs.Places.{is_page_size}
 use Rattle.nb_fields.specs.Free.{is_free_file, is_unfinished}
-use Rattle.nb_host.specs.Files.{File, Files, bytes_of, padded, put_at, with_page}
+use Rattle.nb_host.specs.Files.{File, Files, bytes_of, padded, put_at, with_file, with_page}
 use Rattle.nb_host.specs.World.{World}
 use Rattle.nb_host.specs.Crash.{Leaves, PageLeft, IsDurable, Untouched}
 use Rattle.nb_host.specs.Calls.{Remakes, WritesPage, Syncs, IsSilent}
@@ -16,12 +17,13 @@ use Rattle.nb_change.proofs.MomentLaws.{left_before, untouched_joined, untouched
 use Rattle.nb_change.proofs.NameLaws.{whole-other}
 use Rattle.nb_change.proofs.ResultLaws.{on_ok_then}
 use Rattle.nb_change.proofs.ChangeLaws.{begun, one_more, still_more, silent_call}
-use Rattle.nb_model.specs.Image.{Image, image_state}
+use Rattle.nb_model.specs.Image.{Image}
 use Rattle.nb_model.specs.Account.{base_of}
 use Rattle.nb_model.specs.Owner.{delta_name}
+use Rattle.nb_model.proofs.FreshImageLaws.{fresh_state}
 use Rattle.nb_engine.specs.Create.{CreateLeft}
 use Rattle.nb_engine.specs.Open.{Shows, IsSettled}
-use Rattle.nb_engine.proofs.CreateLaws.{HasRest, delta_apart}
+use Rattle.nb_engine.proofs.CreateLaws.{HasRest, delta_apart, named, whole_shows}
 
 -- the bytes where a header would stand are zeros, or there are fewer
 abbrev IsBlank : File → Type 0
@@ -70,7 +72,7 @@ blank-left at page b c far (inr (inr (k, fits, grown))) h = blank-grown (k * len
 abbrev Alone : List ℕ → World → World → Type 0
 Alone name old new = Untouched old new (λ m. m ≢ name)
 
--- what a stop leaves of the new file, and of the difference file beside it
+-- what a stop leaves of the new file, where it leaves d beside it
 abbrev MainLeft : (old : World) (name : List ℕ) (image : Image) (m d : File) → Type 0
 MainLeft old name image m d = Leaves old name m ⊎ (is_free_file m ≡ true) ⊎ Shows name (base_of image) m d
 
@@ -109,6 +111,7 @@ module _ (name : List ℕ) (image : Image) where
       call_more old old new (not_begun old timely) (untouched_begun old _) time silent is.others (whole-other result old.files new.files name (Some []) (is.files so))
       (λ m d lm. ⊎_elim (λ b. inl (is.back m b)) (λ n. ⊎_elim (λ l. inl l) (λ e. inr (inl (blank-free m (blank-empty m e)))) (is.now m n)) lm)
 
+  -- and the making has begun
   pub making_begun : {T E : Type 0} (tells : Bool) (value : T) (old new : World) → IsTrue tells → IsTimely old → Remakes {T = T} {E = E} tells (Ok value) old new name (Some []) → IsSilent old new → Passes old new → Making old new name image
   making_begun {T} {E} tells value old new so timely is silent time =
       blank_more old old new (not_begun old timely) (untouched_begun old _) time silent is.others (whole-other {T = T} {E = E} (Ok value) old.files new.files name (Some []) (is.files so)) is.back
@@ -127,37 +130,61 @@ module _ (name : List ℕ) (image : Image) where
       blank_more old mid new making.so_far making.others time silent (untouched_fewer mid new _ _ is.still.left (λ n other. tt)) (λ n other. ap (λ (f : Files). f n) is.still.files)
       (λ c b. making.back c (is.still.left.back name c tt b)) (λ c n. making.blank c (is.still.left.now name c tt n))
 
-  -- page 0 is written to the file that was kept for good, also where that fails
-  pub first_page : {T E : Type 0} (tells : Bool) (result : Result T E) (old mid new : World) (at : ℕ) (page : List ℕ) (file : File) → IsTrue tells → Making old mid name image → IsDurable mid name file
-      → ((d : File) → Shows name (base_of image) (with_page file at page) d) → WritesPage tells result mid new name at page → IsSilent mid new → Passes mid new → Advances old new name (delta_name name) (CreateLeft old name image)
-  first_page tells result old mid new at page file so making durable whole is silent time =
-      call_more old mid new making.so_far making.others time silent is.left.others (whole-other result mid.files new.files name _ (is.files so))
-      (λ m d lm. ⊎_elim (λ b. inl (making.back m (is.left.back m b))) (λ n. let from = is.left.now m n in inr (by from.0 m d from.1 from.2)) lm)
-    where
-      by : (b c d : File) → mid.now name b → PageLeft at page b c → (is_free_file c ≡ true) ⊎ Shows name (base_of image) c d
-      by b c d n (inl same) = inl (blank-free c (blank-same b c same (making.blank b n)))
-      by b c d n (inr (inl put)) = inr (subst (λ (x : File). Shows name (base_of image) x d) (sym (put ∙ ap (λ (x : File). with_page x at page) (durable.only b n))) (whole d))
-      by b c d n (inr (inr (k, fits, grown))) = inl (blank-free c (blank-grown (k * length page) b c grown (making.blank b n)))
-
   -- the whole file is synced, also where that fails
   pub synced_whole : {T E : Type 0} (tells : Bool) (result : Result T E) (old mid new : World) → Advances old mid name (delta_name name) (CreateLeft old name image) → Syncs tells result mid new name → IsSilent mid new → Passes mid new
       → Advances old new name (delta_name name) (CreateLeft old name image)
   synced_whole tells result old mid new so_far is silent time = still_more name (delta_name name) old mid new _ so_far time is.still (silent_call mid new silent)
-
-  -- after the last sync nothing else is left of it
-  pub settled : {T E : Type 0} (tells : Bool) (result : Result T E) (mid new : World) (file : File) → IsTrue tells → mid.files name ≡ file → Syncs tells result mid new name → ((d : File) → Shows name (base_of image) file d)
-      → image_state image ≡ 0 → OnOk result (IsSettled new name (base_of image))
-  settled tells result mid new file so reads is whole normal = on_ok_then result by (is.durable so)
-    where
-      by : IsDurable new name (mid.files name) → IsSettled new name (base_of image)
-      by durable = record {
-        left = λ m d lm ld. subst (λ (x : File). Shows name (base_of image) x d) (sym (⊎_elim (λ b. durable.none_back m b) (λ n. durable.only m n) lm ∙ reads)) (whole d);
-        normal = normal;
-        whole = refl;
-      }
 
 -- How far the making has come: the pages from 1 on, up to this number, are written, and no call failed.
 pub record MakesFile {H : Type 0} (tells : Bool) (world : H → World) (faults : H → ℕ) (start here : H) (name : List ℕ) (size raw number : ℕ) : Type 0 where
   pub making : IsTrue tells → Making (world start) (world here) name (fresh size raw)
   pub pages : IsTrue tells → HasRest size raw number ((world here).files name)
   pub cause : faults here ≡ faults start
+
+-- The pages from 1 on are kept for good, and page 0 makes the file whole.
+pub record KeepsRest (old w : World) (name : List ℕ) (size raw : ℕ) : Type 0 where
+  pub file : File
+  pub reads : w.files name ≡ file
+  pub making : Making old w name (fresh size raw)
+  pub durable : IsDurable w name file
+  pub whole : (page : List ℕ) → page ≡ fresh_page size raw 0 → (d : File) → Shows name (base_of (fresh size raw)) (with_page file (0 * length page) page) d
+
+-- all pages but the first were written, and synced
+pub rest_kept : {H T E : Type 0} (tells : Bool) (world : H → World) (faults : H → ℕ) (start here : H) (name : List ℕ) (size raw number count : ℕ) (value : T) (new : World) → IsTrue tells → IsTrue (is_page_size size) → raw ≤ 65535
+    → count ≡ fresh_count size raw → count ≤ number → (1 ≤ count → number ≤ count) → MakesFile tells world faults start here name size raw number
+    → Syncs {T = T} {E = E} tells (Ok value) (world here) new name → IsSilent (world here) new → Passes (world here) new → KeepsRest (world start) new name size raw
+rest_kept {H} {T} {E} tells world faults start here name size raw number count value new so is few count_is done within makes sync silent time = record {
+  file = (world here).files name;
+  reads = ap (λ (f : Files). f name) sync.still.files;
+  making = synced name (fresh size raw) {T = T} {E = E} tells (Ok value) (world start) (world here) new (makes.making so) sync silent time;
+  durable = sync.durable so;
+  whole = λ page page_is. whole_shows size raw is name number count page ((world here).files name) few count_is done within page_is (makes.pages so);
+}
+
+-- page 0 is written, also where that fails
+pub first_page : {T E : Type 0} (tells : Bool) (result : Result T E) (old mid new : World) (name : List ℕ) (size raw : ℕ) (page : List ℕ) → IsTrue tells → page ≡ fresh_page size raw 0 → KeepsRest old mid name size raw
+    → WritesPage tells result mid new name (0 * length page) page → IsSilent mid new → Passes mid new → Advances old new name (delta_name name) (CreateLeft old name (fresh size raw))
+first_page tells result old mid new name size raw page so page_is kept is silent time =
+    let making = kept.making in
+    call_more name (fresh size raw) old mid new making.so_far making.others time silent is.left.others (whole-other result mid.files new.files name _ (is.files so))
+    (λ m d lm. ⊎_elim (λ b. inl (making.back m (is.left.back m b))) (λ n. let from = is.left.now m n in inr (by from.0 m d from.1 from.2)) lm)
+  where
+    by : (b c d : File) → mid.now name b → PageLeft (0 * length page) page b c → (is_free_file c ≡ true) ⊎ Shows name (base_of (fresh size raw)) c d
+    by b c d n (inl same) = inl (blank-free c (blank-same b c same (kept.making.blank b n)))
+    by b c d n (inr (inl put)) = inr (subst (λ (x : File). Shows name (base_of (fresh size raw)) x d) (sym (put ∙ ap (λ (x : File). with_page x (0 * length page) page) (kept.durable.only b n))) (kept.whole page page_is d))
+    by b c d n (inr (inr (k, fits, grown))) = inl (blank-free c (blank-grown (k * length page) b c grown (kept.making.blank b n)))
+
+-- after the last sync nothing but the new database is left
+pub settled : {T E : Type 0} (tells : Bool) (result : Result T E) (old mid written new : World) (name : List ℕ) (size raw : ℕ) (page : List ℕ) → IsTrue tells → page ≡ fresh_page size raw 0 → KeepsRest old mid name size raw
+    → written.files ≡ with_file mid.files name (with_page (mid.files name) (0 * length page) page) → Syncs tells result written new name → OnOk result (IsSettled new name (base_of (fresh size raw)))
+settled tells result old mid written new name size raw page so page_is kept put is = on_ok_then result by (is.durable so)
+  where
+    reads : written.files name ≡ with_page kept.file (0 * length page) page
+    reads = named mid.files written.files name _ put ∙ ap (λ (x : File). with_page x (0 * length page) page) kept.reads
+
+    by : IsDurable new name (written.files name) → IsSettled new name (base_of (fresh size raw))
+    by durable = record {
+      left = λ m d lm ld. subst (λ (x : File). Shows name (base_of (fresh size raw)) x d) (sym (⊎_elim (λ b. durable.none_back m b) (λ n. durable.only m n) lm ∙ reads)) (kept.whole page page_is d);
+      normal = fresh_state size raw;
+      whole = refl;
+    }

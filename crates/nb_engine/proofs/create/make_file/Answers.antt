@@ -1,9 +1,8 @@
-use Rattle.std.proofs.Common.{◌*◌, length, ◌∙◌, ap, arith}
+use Rattle.std.proofs.Common.{length, ◌∙◌, ap, arith}
 use Rattle.nb_fields.specs.Fresh.{fresh_page}
-use Rattle.nb_host.specs.Files.{Files, with_page}
-use Rattle.nb_model.proofs.FreshImageLaws.{fresh_count-least, fresh_state}
-use Rattle.nb_engine.proofs.CreateLaws.{named, rest_begun, far_behind, rest_more, whole_shows}
-use Rattle.nb_engine.proofs.MakingLaws.{made, making_begun, page_more, synced, first_page, synced_whole, settled}
+use Rattle.nb_model.proofs.FreshImageLaws.{fresh_count-least}
+use Rattle.nb_engine.proofs.CreateLaws.{named, rest_begun, far_behind, rest_more}
+use Rattle.nb_engine.proofs.MakingLaws.{made, making_begun, page_more, synced, synced_whole, rest_kept, first_page, settled}
 use Rattle.nb_engine.proofs.create.make_file.Goals as goal
 
 pub returns-in_err-make-clause-left : goal.returns-in_err-make-clause-left
@@ -45,29 +44,26 @@ fresh-requires-2-clause-inside g c = omega (arith, fresh_count-least (length c.l
 
 pub returns-in_err-write_page-2-clause-left : goal.returns-in_err-write_page-2-clause-left
 returns-in_err-write_page-2-clause-left g c tells =
-    let page_is = c.fresh-2.ensures.image ∙ ap (λ size. fresh_page size c.args.raw 0) c.loop-number.auto.page in
-    let so_far = c.loop-number in
-    let shows = whole_shows _ _ c.requires.size c.args.name.now so_far.number c.args.count _ _ c.requires.few c.requires.count c.loop-number-test.false so_far.auto.number-end page_is (so_far.invariant.pages tells) in
-    let sync = c.sync.ensures in
-    let rest = synced _ _ _ _ _ _ _ (so_far.invariant.making tells) sync.files sync.log sync.time in
-    let write = c.write_page-2.ensures in first_page _ _ _ _ _ _ _ _ _ _ tells rest (c.in_ok-sync.ensures.files.durable tells) shows write.files write.log write.time
+    let loop = c.loop-number in
+    let sync = c.in_ok-sync.ensures in
+    let kept = rest_kept _ _ _ _ _ _ _ _ _ _ _ _ tells c.requires.size c.requires.few c.requires.count c.loop-number-test.false loop.auto.number-end loop.invariant sync.files sync.log sync.time in
+    let page_is = c.fresh-2.ensures.image ∙ ap (λ size. fresh_page size c.args.raw 0) loop.auto.page in
+    let write = c.write_page-2.ensures in first_page _ _ _ _ _ _ _ _ _ tells page_is kept write.files write.log write.time
 
 pub returns-clause-left : goal.returns-clause-left
 returns-clause-left g c tells =
-    let page_is = c.fresh-2.ensures.image ∙ ap (λ size. fresh_page size c.args.raw 0) c.loop-number.auto.page in
-    let so_far = c.loop-number in
-    let shows = whole_shows _ _ c.requires.size c.args.name.now so_far.number c.args.count _ _ c.requires.few c.requires.count c.loop-number-test.false so_far.auto.number-end page_is (so_far.invariant.pages tells) in
-    let sync = c.sync.ensures in
-    let rest = synced _ _ _ _ _ _ _ (so_far.invariant.making tells) sync.files sync.log sync.time in
+    let loop = c.loop-number in
+    let sync = c.in_ok-sync.ensures in
+    let kept = rest_kept _ _ _ _ _ _ _ _ _ _ _ _ tells c.requires.size c.requires.few c.requires.count c.loop-number-test.false loop.auto.number-end loop.invariant sync.files sync.log sync.time in
+    let page_is = c.fresh-2.ensures.image ∙ ap (λ size. fresh_page size c.args.raw 0) loop.auto.page in
     let write = c.write_page-2.ensures in
-    let all = first_page _ _ _ _ _ _ _ _ _ _ tells rest (c.in_ok-sync.ensures.files.durable tells) shows write.files write.log write.time in
-    let last = c.sync-2.ensures in synced_whole _ _ _ _ _ _ _ all last.files last.log last.time
+    let whole = first_page _ _ _ _ _ _ _ _ _ tells page_is kept write.files write.log write.time in
+    let last = c.sync-2.ensures in synced_whole _ _ _ _ _ _ _ whole last.files last.log last.time
 
 pub returns-clause-made : goal.returns-clause-made
 returns-clause-made g c tells =
-    let page_is = c.fresh-2.ensures.image ∙ ap (λ size. fresh_page size c.args.raw 0) c.loop-number.auto.page in
-    let so_far = c.loop-number in
-    let shows = whole_shows _ _ c.requires.size c.args.name.now so_far.number c.args.count _ _ c.requires.few c.requires.count c.loop-number-test.false so_far.auto.number-end page_is (so_far.invariant.pages tells) in
-    let write = c.in_ok-write_page-2.ensures.files.files tells in
-    let reads = named _ _ c.args.name.now _ write ∙ ap (λ (f : Files). with_page (f c.args.name.now) (0 * length c.fresh-2.new.page) c.fresh-2.new.page) c.in_ok-sync.ensures.files.still.files in
-    settled _ _ _ _ _ _ _ tells reads c.sync-2.ensures.files shows (fresh_state (length c.args.page.now) c.args.raw)
+    let loop = c.loop-number in
+    let sync = c.in_ok-sync.ensures in
+    let kept = rest_kept _ _ _ _ _ _ _ _ _ _ _ _ tells c.requires.size c.requires.few c.requires.count c.loop-number-test.false loop.auto.number-end loop.invariant sync.files sync.log sync.time in
+    let page_is = c.fresh-2.ensures.image ∙ ap (λ size. fresh_page size c.args.raw 0) loop.auto.page in
+    settled _ _ _ _ _ _ _ _ _ _ tells page_is kept (c.in_ok-write_page-2.ensures.files.files tells) c.sync-2.ensures.files
