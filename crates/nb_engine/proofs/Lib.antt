@@ -1,1 +1,3 @@
 pub mod StoreLaws
+pub mod PutLaws
+pub mod RaiseLaws

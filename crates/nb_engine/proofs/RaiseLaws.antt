@@ -1,0 +1,71 @@
+-- The bytes of the pages that a write of a raw page makes, and what is held of the database after them.
+use Rattle.std.proofs.Common.{◌≡◌, ◌≢◌, ℕ, ◌+◌, ◌-◌, ◌*◌, ◌/◌, ◌%◌, ◌^◌, ◌<◌, ◌≤◌, inr, List, [], ◌∷◌, ◌++◌, length, get_or, drop, refl, sym, ap, subst, ◌∙◌, arith, length-append}
+use Rattle.std.specs.Prelude.{Bool, true, false, ◌==◌}
+use Rattle.nb_fields.specs.Bytes.{bytes_of, with_part, is_zeros}
+use Rattle.nb_fields.specs.Places.{entries_in}
+use Rattle.nb_fields.specs.Page.{head_of, page_of, with_payload, stamped, generation_of}
+use Rattle.nb_fields.specs.Payloads.{text_payload, entry_of}
+use Rattle.nb_fields.proofs.NumberLemmas.{length-bytes_of}
+use Rattle.nb_fields.proofs.PartLemmas.{length-with_part, number_in-with_part_other}
+use Rattle.nb_page.proofs.StampLemmas.{stamped-with_payload}
+use Rattle.nb_host.specs.World.{World}
+use Rattle.nb_model.specs.Image.{Page, Image, page_at, image_size, image_scn, is_read_only}
+use Rattle.nb_model.specs.Account.{Base}
+use Rattle.nb_model.specs.Strokes.{page, on_base}
+use Rattle.nb_model.proofs.StrokeLaws.{stroke_other}
+use Rattle.nb_engine.specs.declared.opened.Opened.{Opened}
+use Rattle.nb_engine.specs.Open.{IsSettled, IsOpen}
+use Rattle.nb_engine.proofs.PutLaws.{stroke_long}
+
+-- a database stays open after a stroke of a page behind the first
+pub open_stroked : (old new : World) (held : Opened) (b : Base) (p : ℕ) (bytes : Page) → IsOpen old held b → 0 < p → p < length b.image
+    → IsSettled new held.name (on_base (page p bytes) b) → IsOpen new held (on_base (page p bytes) b)
+open_stroked old new held b p bytes is some low settled =
+    let below : p ≤ length b.image = omega (arith, low) in
+    let first : page_at b.image 0 ≡ page_at (on_base (page p bytes) b).image 0 = sym (stroke_other b p 0 bytes below (λ (e : 0 ≡ p). absurd (omega (arith, e, some)))) in
+    record {
+      settled = settled;
+      page_size = is.page_size ∙ ap (λ (x : Page). Rattle.nb_fields.specs.Header.size_of x) first;
+      count = is.count ∙ sym (stroke_long b p bytes low);
+      scn = is.scn ∙ ap (λ (x : Page). Rattle.nb_fields.specs.Header.scn_of x) first;
+      read_only = is.read_only ∙ ap (λ (x : Page). is_read_only (x ∷ [])) first;
+    }
+
+-- a stamped page isn't all zeros, whatever it holds
+pub stamped-some : (old : Page) (kind : ℕ) (payload : List ℕ) (scn number : ℕ) → (kind == 0) ≡ false → is_zeros (stamped old kind payload scn number) ≡ false
+unfolding stamped page_of head_of
+stamped-some old kind payload scn number other = rw other refl
+
+-- the page that a text and then a stamp make
+pub texted : (old written new : Page) (text : List ℕ) (code scn p : ℕ) → written ≡ with_payload old (text_payload text) → new ≡ stamped written code (drop 16 written) scn p → code ≡ 8
+    → length text ≤ 200 → 1024 ≤ length old → new ≡ stamped old 8 (text_payload text) scn p
+unfolding text_payload
+texted old written new text code scn p put stamp raw short long =
+    stamp ∙ ap (λ (k : ℕ). stamped written k (drop 16 written) scn p) raw ∙ ap (λ (x : Page). stamped x 8 (drop 16 x) scn p) put
+    ∙ stamped-with_payload old 8 (text_payload text) scn p (omega (arith, length-append (bytes_of 2 (length text)) text, length-bytes_of 2 (length text), short, long))
+
+-- so it is that of the stroke
+pub raw_page : (image : Image) (old written new : Page) (text : List ℕ) (code scn p : ℕ) → written ≡ with_payload old (text_payload text) → new ≡ stamped written code (drop 16 written) scn p → code ≡ 8
+    → length text ≤ 200 → 1024 ≤ length old → old ≡ page_at image p → scn ≡ image_scn image → new ≡ stamped (page_at image p) 8 (text_payload text) (image_scn image) p
+raw_page image old written new text code scn p put stamp raw short long is now =
+    texted old written new text code scn p put stamp raw short long
+    ∙ ap (λ (x : Page). stamped x 8 (text_payload text) scn p) is ∙ ap (λ n. stamped (page_at image p) 8 (text_payload text) n p) now
+
+-- a stamp goes by the old generation and length
+pub stamped-over : (old other : Page) (kind : ℕ) (payload : List ℕ) (scn number : ℕ) → length other ≡ length old → generation_of other ≡ generation_of old
+    → stamped other kind payload scn number ≡ stamped old kind payload scn number
+unfolding stamped
+stamped-over old other kind payload scn number long generation =
+    ap (λ n. page_of n kind ((generation_of other + 1) % 2 ^ 32) scn number payload) long ∙ ap (λ g. page_of (length old) kind ((g + 1) % 2 ^ 32) scn number payload) generation
+
+-- the page that a raised entry and then a stamp make
+pub entered : (old raised new : Page) (index scn code place : ℕ) → raised ≡ with_part (32 + 4 * index) (bytes_of 4 scn) old → new ≡ stamped raised code (drop 16 raised) scn place → code ≡ 10
+    → index < entries_in (length old) → new ≡ stamped old 10 (drop 16 (with_part (32 + 4 * index) (bytes_of 4 scn) old)) scn place
+entered old raised new index scn code place put stamp inventory inside =
+    let with_entry : Page = with_part (32 + 4 * index) (bytes_of 4 scn) old in
+    let four : length (bytes_of 4 scn) ≡ 4 = length-bytes_of 4 scn in
+    let room : 32 + 4 * index + 4 ≤ length old = omega (arith, inside) in
+    let long : length with_entry ≡ length old = length-with_part (32 + 4 * index) (bytes_of 4 scn) old (omega (arith, room, four)) in
+    let generation : generation_of with_entry ≡ generation_of old = number_in-with_part_other (32 + 4 * index) 4 4 4 (bytes_of 4 scn) old four room (inr (omega arith)) in
+    stamp ∙ ap (λ (k : ℕ). stamped raised k (drop 16 raised) scn place) inventory ∙ ap (λ (x : Page). stamped x 10 (drop 16 x) scn place) put
+    ∙ stamped-over old with_entry 10 (drop 16 with_entry) scn place long generation
