@@ -1,8 +1,8 @@
 -- The bytes of the pages that a write of a raw page makes, and what is held of the database after them.
 use Rattle.std.proofs.Common.{◌≡◌, ◌≢◌, ℕ, ◌+◌, ◌-◌, ◌*◌, ◌/◌, ◌%◌, ◌^◌, ◌<◌, ◌≤◌, inr, List, [], ◌∷◌, ◌++◌, length, get_or, drop, refl, sym, ap, subst, ◌∙◌, arith, length-append}
-use Rattle.std.specs.Prelude.{Bool, true, false, ◌==◌}
+use Rattle.std.specs.Prelude.{Bool, true, false, ◌==◌, slice_index}
 use Rattle.nb_fields.specs.Bytes.{bytes_of, with_part, is_zeros}
-use Rattle.nb_fields.specs.Places.{entries_in}
+use Rattle.nb_fields.specs.Places.{entries_in, scn_place}
 use Rattle.nb_fields.specs.Page.{head_of, page_of, with_payload, stamped, generation_of}
 use Rattle.nb_fields.specs.Payloads.{text_payload, entry_of}
 use Rattle.nb_fields.proofs.NumberLemmas.{length-bytes_of}
@@ -14,6 +14,10 @@ use Rattle.nb_model.specs.Account.{Base}
 use Rattle.nb_model.specs.Strokes.{page, on_base}
 use Rattle.nb_model.proofs.StrokeLaws.{stroke_other}
 use Rattle.nb_engine.specs.declared.opened.Opened.{Opened}
+use Rattle.nb_model.specs.Forms.{scn_page_of, entry_number, scn_entry}
+use Rattle.nb_scn.specs.Entries.{entries, entry_place}
+use Rattle.nb_scn.proofs.EntryLemmas.{get_or-entries}
+use Rattle.nb_engine.specs.Put.{raise_stroke}
 use Rattle.nb_engine.specs.Open.{IsSettled, IsOpen}
 use Rattle.nb_engine.proofs.PutLaws.{stroke_long}
 
@@ -69,3 +73,35 @@ entered old raised new index scn code place put stamp inventory inside =
     let generation : generation_of with_entry ≡ generation_of old = number_in-with_part_other (32 + 4 * index) 4 4 4 (bytes_of 4 scn) old four room (inr (omega arith)) in
     stamp ∙ ap (λ (k : ℕ). stamped raised k (drop 16 raised) scn place) inventory ∙ ap (λ (x : Page). stamped x 10 (drop 16 x) scn place) put
     ∙ stamped-over old with_entry 10 (drop 16 with_entry) scn place long generation
+
+-- the page at which the entry of page p stands, and the entry's place there
+pub scn_page-is : (image : Image) (size k p place : ℕ) → size ≡ image_size image → k ≡ p / entries_in size → place ≡ scn_place size k → place ≡ scn_page_of image p
+scn_page-is image size k p place same cover at = at ∙ ap (λ n. scn_place size n) cover ∙ ap (λ n. scn_place n (p / entries_in n)) same
+
+-- an entry of that page is that of page p
+pub entry-is : (image : Image) (size p index : ℕ) (old : Page) → size ≡ image_size image → index ≡ p % entries_in size → size ≡ length old → index < entries_in size → old ≡ page_at image (scn_page_of image p)
+    → slice_index (entries old) index ≡ scn_entry image p
+unfolding scn_entry
+entry-is image size p index old same number long inside is =
+    get_or-entries old index (subst (λ n. index < entries_in n) long inside)
+    ∙ ap (λ (x : Page). entry_of x index) is
+    ∙ ap (λ n. entry_of (page_at image (scn_page_of image p)) n) (number ∙ ap (λ n. p % entries_in n) same)
+
+-- so the raise is that of the stroke
+pub raise_stroke-is : (image : Image) (size p k index place scn code : ℕ) (old raised new : Page) → size ≡ image_size image → k ≡ p / entries_in size → index ≡ p % entries_in size → place ≡ scn_place size k
+    → size ≡ length old → index < entries_in size → old ≡ page_at image (scn_page_of image p) → scn ≡ image_scn image → scn_entry image p < image_scn image
+    → (slice_index (entries old) index < scn → raised ≡ with_part (entry_place index) (bytes_of 4 scn) old) → new ≡ stamped raised code (drop 16 raised) scn place → code ≡ 10
+    → page place new ≡ raise_stroke image p
+raise_stroke-is image size p k index place scn code old raised new same cover number at long inside is now below put stamp inventory =
+    let q : ℕ = scn_page_of image p in
+    let old_entry : slice_index (entries old) index ≡ scn_entry image p = entry-is image size p index old same number long inside is in
+    let low : slice_index (entries old) index < scn = omega (arith, old_entry, below, now) in
+    let here : index < entries_in (length old) = subst (λ n. index < entries_in n) long inside in
+    let bytes : new ≡ stamped old 10 (drop 16 (with_part (32 + 4 * index) (bytes_of 4 scn) old)) scn place = entered old raised new index scn code place (put low) stamp inventory here in
+    let there : place ≡ q = scn_page-is image size k p place same cover at in
+    let entry : index ≡ p % entries_in (image_size image) = number ∙ ap (λ n. p % entries_in n) same in
+    ap (λ (x : Page). page place x) bytes
+    ∙ ap (λ n. page n (stamped old 10 (drop 16 (with_part (32 + 4 * index) (bytes_of 4 scn) old)) scn n)) there
+    ∙ ap (λ (x : Page). page q (stamped x 10 (drop 16 (with_part (32 + 4 * index) (bytes_of 4 scn) x)) scn q)) is
+    ∙ ap (λ n. page q (stamped (page_at image q) 10 (drop 16 (with_part (32 + 4 * n) (bytes_of 4 scn) (page_at image q))) scn q)) entry
+    ∙ ap (λ n. page q (stamped (page_at image q) 10 (drop 16 (with_part (32 + 4 * entry_number image p) (bytes_of 4 n) (page_at image q))) n q)) now
