@@ -1,3 +1,5 @@
 pub mod StoreLaws
+pub mod QuietDoes
+pub mod TestLaws
 pub mod PutLaws
 pub mod RaiseLaws

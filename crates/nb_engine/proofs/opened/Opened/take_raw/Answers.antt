@@ -1,29 +1,32 @@
-use Rattle.std.proofs.Common.{rules, ◌≡◌, ◌≢◌, ◌<◌, ◌≤◌, IsTrue, IfErr, OnOk, length, ℕ, ◌+◌, ◌-◌, ◌*◌, ◌/◌, ◌%◌, Bool, true, false, nat_eq, nat_lt, List, [], ◌∷◌, ◌++◌, slice_index_or, slice_set, bit_and, bit_or, Fits, w8, w32, w64, Bor, MutBor}
-use Rattle.nb_fields.specs.Kinds.{code_of}
-use Rattle.nb_fields.specs.Places.{is_page_size}
-use Rattle.nb_host.specs.declared.faults.Fault.TheVariants.{Memory}
-use Rattle.nb_change.specs.Counts.{CountsDevice}
-use Rattle.nb_page.specs.Quiet.{Quiet}
-use Rattle.nb_model.specs.Account.{Base}
-use Rattle.nb_model.specs.Image.{page_at}
-use Rattle.nb_model.specs.Causes.{not_kind, not_raw}
-use Rattle.nb_engine.specs.Open.{IsOpen}
-use Rattle.nb_engine.specs.Turn.{Tested}
-use Rattle.nb_engine.specs.Put.{not_taken}
+use Rattle.std.proofs.Common.{◌≡◌, ◌<◌, ◌≤◌, ℕ, length, sym, ap, ◌∙◌, arith}
+use Rattle.std.specs.Prelude.{Some}
+use Rattle.nb_host.specs.declared.refusals.Refusal.TheVariants.{PageRange}
+use Rattle.nb_engine.proofs.QuietDoes.{open_quiet}
+use Rattle.nb_engine.proofs.TestLaws.{passed_on, kind_read, raw_past, raw_untaken, raw_system, raw_is}
 use Rattle.nb_engine.proofs.opened.Opened.take_raw.Goals as goal
 
--- src/reads.rt:94:13
 pub returns-then-number-self-clause-test : goal.returns-then-number-self-clause-test
-returns-then-number-self-clause-test g c = ?
+returns-then-number-self-clause-test g c b tells is =
+    let far : length b.image ≤ c.args.number = omega (arith, is.count, c.if-number-self.true) in
+    raw_past b.image c.args.number far ∙ ap (λ (n : ℕ). Some (PageRange c.args.number n)) (sym is.count)
 
--- src/reads.rt:99:9
 pub returns-in_err-check_taken-clause-test : goal.returns-in_err-check_taken-clause-test
-returns-in_err-check_taken-clause-test g c = ?
+returns-in_err-check_taken-clause-test g c b tells is =
+    let low : c.args.number < length b.image = omega (arith, is.count, c.if-number-self.false) in
+    passed_on _ _ _ _ c.from_residual.ensures (c.in_err-check_taken.ensures.test b tells is) (raw_untaken b.image c.args.number low)
 
--- src/reads.rt:102:13
 pub returns-then-read_head-code-clause-test : goal.returns-then-read_head-code-clause-test
-returns-then-read_head-code-clause-test g c = ?
+returns-then-read_head-code-clause-test g c b tells is =
+    let low : c.args.number < length b.image = omega (arith, is.count, c.if-number-self.false) in
+    let still = open_quiet _ _ c.args.self.now b c.in_ok-check_taken.ensures.quiet is in
+    let page = c.in_ok-read_page.ensures.page b tells still.settled (sym (c.requires.page ∙ is.page_size)) low in
+    let kind = kind_read c.read_head.result c.read_page.new.into b.image c.args.number c.read_head.ensures page in
+    raw_system b.image c.args.number low (c.in_ok-check_taken.ensures.test b tells is) (λ e. c.if-read_head-code.true (kind ∙ e ∙ sym c.code.ensures))
 
--- src/reads.rt:75:5
 pub returns-clause-test : goal.returns-clause-test
-returns-clause-test g c = ?
+returns-clause-test g c b tells is =
+    let low : c.args.number < length b.image = omega (arith, is.count, c.if-number-self.false) in
+    let still = open_quiet _ _ c.args.self.now b c.in_ok-check_taken.ensures.quiet is in
+    let page = c.in_ok-read_page.ensures.page b tells still.settled (sym (c.requires.page ∙ is.page_size)) low in
+    let kind = kind_read c.read_head.result c.read_page.new.into b.image c.args.number c.read_head.ensures page in
+    raw_is b.image c.args.number low (c.in_ok-check_taken.ensures.test b tells is) (sym kind ∙ c.if-read_head-code.false ∙ c.code.ensures)

@@ -1,25 +1,24 @@
-use Rattle.std.proofs.Common.{rules, ◌≡◌, ◌≢◌, ◌<◌, ◌≤◌, IsTrue, IfErr, OnOk, length, ℕ, ◌+◌, ◌-◌, ◌*◌, ◌/◌, ◌%◌, Bool, true, false, nat_eq, nat_lt, List, [], ◌∷◌, ◌++◌, slice_index_or, slice_set, bit_and, bit_or, Fits, w8, w32, w64, Bor, MutBor}
-use Rattle.nb_fields.specs.Kinds.{code_of}
-use Rattle.nb_fields.specs.Places.{is_page_size}
-use Rattle.nb_host.specs.declared.faults.Fault.TheVariants.{Memory}
-use Rattle.nb_change.specs.Counts.{CountsDevice}
-use Rattle.nb_page.specs.Quiet.{Quiet}
-use Rattle.nb_model.specs.Account.{Base}
-use Rattle.nb_model.specs.Image.{page_at}
-use Rattle.nb_model.specs.Causes.{not_kind, not_raw}
-use Rattle.nb_engine.specs.Open.{IsOpen}
-use Rattle.nb_engine.specs.Turn.{Tested}
-use Rattle.nb_engine.specs.Put.{not_taken}
+use Rattle.std.proofs.Common.{◌≡◌, ◌<◌, ◌≤◌, length, sym, ◌∙◌, arith}
+use Rattle.nb_model.specs.Image.{image_size, page_at}
+use Rattle.nb_fields.specs.Page.{kind_of}
+use Rattle.nb_engine.proofs.TestLaws.{kind_read, kind_past, kind_other, kind_is}
 use Rattle.nb_engine.proofs.opened.Opened.take_system.Goals as goal
 
--- src/reads.rt:40:13
 pub returns-then-place-self-clause-test : goal.returns-then-place-self-clause-test
-returns-then-place-self-clause-test g c = ?
+returns-then-place-self-clause-test g c b tells is =
+    let far : length b.image ≤ c.args.place = omega (arith, is.count, c.if-place-self.true) in
+    kind_past b.image _ c.args.place far
 
--- src/reads.rt:44:13
 pub returns-then-read_head-code-clause-test : goal.returns-then-read_head-code-clause-test
-returns-then-read_head-code-clause-test g c = ?
+returns-then-read_head-code-clause-test g c b tells is =
+    let low : c.args.place < length b.image = omega (arith, is.count, c.if-place-self.false) in
+    let page = c.in_ok-read_page.ensures.page b tells is.settled (sym (c.requires.into ∙ is.page_size)) low in
+    let kind = kind_read c.read_head.result c.read_page.new.into b.image c.args.place c.read_head.ensures page in
+    kind_other b.image _ c.args.place low (λ e. c.if-read_head-code.true (kind ∙ e ∙ sym c.code.ensures))
 
--- src/reads.rt:24:5
 pub returns-clause-test : goal.returns-clause-test
-returns-clause-test g c = ?
+returns-clause-test g c b tells is =
+    let low : c.args.place < length b.image = omega (arith, is.count, c.if-place-self.false) in
+    let page = c.in_ok-read_page.ensures.page b tells is.settled (sym (c.requires.into ∙ is.page_size)) low in
+    let kind = kind_read c.read_head.result c.read_page.new.into b.image c.args.place c.read_head.ensures page in
+    kind_is b.image _ c.args.place low (sym kind ∙ c.if-read_head-code.false ∙ c.code.ensures)
