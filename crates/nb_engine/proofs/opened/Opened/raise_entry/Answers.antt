@@ -1,4 +1,4 @@
-use Rattle.std.proofs.Common.{rules, ◌≡◌, ◌≢◌, ◌<◌, ◌≤◌, [], ◌∷◌, true, IsTrue, IfErr, IfOk, OnOk, None, length, ℕ, ◌+◌, ◌-◌, ◌*◌, ◌/◌, ◌%◌, Bool, false, nat_eq, nat_lt, List, ◌++◌, slice_index_or, slice_set, bit_and, bit_or, Fits, w8, w32, w64, Bor, MutBor}
+use Rattle.std.proofs.Common.{rules, refl, sym, ap, subst, ◌∙◌, arith, ◌≡◌, ◌≢◌, ◌<◌, ◌≤◌, [], ◌∷◌, true, IsTrue, IfErr, IfOk, OnOk, None, length, ℕ, ◌+◌, ◌-◌, ◌*◌, ◌/◌, ◌%◌, Bool, false, nat_eq, nat_lt, List, ◌++◌, slice_index_or, slice_set, bit_and, bit_or, Fits, w8, w32, w64, Bor, MutBor}
 use Rattle.nb_fields.specs.Places.{is_page_size}
 use Rattle.nb_host.specs.Causes.{CountsFault}
 use Rattle.nb_host.specs.declared.faults.Fault.TheVariants.{Memory}
@@ -13,16 +13,25 @@ use Rattle.nb_model.specs.Owner.{delta_name}
 use Rattle.nb_engine.specs.Open.{IsOpen, Shows}
 use Rattle.nb_engine.specs.Turn.{Tested, WhereSettled}
 use Rattle.nb_engine.specs.Put.{entry_cause, must_raise, raise_stroke, raise_strokes, raw_stroke}
+use Rattle.nb_engine.proofs.opened.Opened.raise_entry.Goals.{then-branch+in_ok-raise, else-branch}
+use Rattle.nb_engine.proofs.QuietDoes.{open_quiet, quiet_left}
+use Rattle.nb_engine.proofs.PutLaws.{raised_never, raised_not, raised_once}
+use Rattle.nb_engine.proofs.RaiseLaws.{settled_passed, none_made, after_quiet}
 use Rattle.nb_engine.proofs.opened.Opened.raise_entry.Goals as goal
 
--- src/put.rt:97:12
 pub returns-in_err-must_raise-clause-after : goal.returns-in_err-must_raise-clause-after
-returns-in_err-must_raise-clause-after g c = ?
+returns-in_err-must_raise-clause-after g c b tells is =
+    settled_passed Bool (Unit {0}) c.from_residual.result c.in_err-must_raise.field-0.0 (entry_cause b.image c.args.number) _ c.from_residual.ensures (c.in_err-must_raise.ensures.test b tells is)
+    (λ r cause. none_made _ c.args.self.now b c.args.number (raised_never b.image c.args.number r cause) (open_quiet _ _ c.args.self.now b c.in_err-must_raise.ensures.quiet is))
 
--- src/put.rt:80:5
 pub returns-clause-left : goal.returns-clause-left
-returns-clause-left g c = ?
+returns-clause-left g c b tells is = elim c.if-branch.branch [
+  | then-branch+in_ok-raise w ↦ ?
+  | else-branch w ↦ ?
+]
 
--- src/put.rt:80:5
 pub returns-clause-after : goal.returns-clause-after
-returns-clause-after g c = ?
+returns-clause-after g c b tells is = elim c.if-branch.branch [
+  | then-branch+in_ok-raise w ↦ ?
+  | else-branch w ↦ ?
+]
