@@ -143,6 +143,10 @@ pub after_quiet : (old mid new : World) (held : Opened) (b : Base) (strokes : Li
 after_quiet old mid new held b strokes quiet is next =
     composed held.name (delta_name held.name) old mid new _ _ _ (quiet_left old mid held b strokes quiet is) next (λ m d here. here) (λ m d here. here)
 
+pub strokes_left : (old new : World) (held : Opened) (b : Base) (these those : List Stroke) → these ≡ those
+    → Advances old new held.name (delta_name held.name) (Reached on_base (Shows held.name) b these) → Advances old new held.name (delta_name held.name) (Reached on_base (Shows held.name) b those)
+strokes_left old new held b these those same left = subst (λ (ss : List Stroke). Advances old new held.name (delta_name held.name) (Reached on_base (Shows held.name) b ss)) same left
+
 -- a database that has no entry to raise is as it was
 pub none_made : (w : World) (held : Opened) (b : Base) (p : ℕ) → raise_strokes b.image p ≡ [] → IsOpen w held b → IsOpen w held (base_after b (raise_strokes b.image p))
 unfolding base_after
