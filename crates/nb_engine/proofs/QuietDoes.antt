@@ -1,6 +1,6 @@
 -- What a run of calls that changes nothing does of a turn.
 use Rattle.std.proofs.Common.{◌≡◌, List, [], ◌∷◌, ◌++◌, refl, sym, ap, ◌∙◌, subst}
-use Rattle.std.specs.Prelude.{Option, Some, None, Result, Ok, Err}
+use Rattle.std.specs.Prelude.{Option, Some, None, Result, Ok, Err, IsErr, IsErrAnd}
 use Rattle.nb_host.specs.Files.{File}
 use Rattle.nb_host.specs.World.{World}
 use Rattle.nb_host.specs.declared.faults.Fault.{Fault}
@@ -81,6 +81,13 @@ module _ {T : Type 0} (reply : T → Reply) (old new : World) (held : Opened) wh
   tested_does s o (RefusedFault r) cause quiet is tested refused = refused_does s o r quiet is (refused r tested)
   tested_does s o Device cause quiet is tested refused = device_does s.base o quiet is
   tested_does s o Memory cause quiet is tested refused = memory_does s.base o quiet is
+
+  -- the same where `?` passes the fault on
+  pub passed_does : (s : Seen) (o : Outcome) (result : Result T Fault) (fault : Fault) (cause : Cause) → IsErr result × IsErrAnd result (λ f. f ≡ fault) → Quiet old new → IsOpen old held s.base
+      → Tested {T = Unit {0}} (Err fault) cause → ((r : Refusal) → cause ≡ Some r → o ≡ says s (Refused r) []) → Does reply result old new s.base held o
+  passed_does s o (Ok value) fault cause passed quiet is tested refused = absurd passed.1
+  passed_does s o (Err e) fault cause passed quiet is tested refused =
+      subst (λ (f : Fault). Does reply (Err f) old new s.base held o) (sym passed.1) (tested_does s o fault cause quiet is tested refused)
 
 -- where there is a cause
 pub unless_refused : (s : Seen) (cause : Cause) (o : Outcome) (r : Refusal) → cause ≡ Some r → unless s cause o ≡ says s (Refused r) []

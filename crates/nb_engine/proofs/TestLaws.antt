@@ -1,11 +1,12 @@
 -- The causes of a page that is tested.
-use Rattle.std.proofs.Common.{◌≡◌, ◌≢◌, inl, inr, ℕ, ◌+◌, ◌/◌, ◌%◌, ◌<◌, ◌≤◌, List, [], ◌∷◌, ◌++◌, length, get_or, refl, sym, ap, ◌∙◌, subst, arith}
-use Rattle.std.specs.Prelude.{Bool, true, false, not, IsTrue, ◌&&◌, ◌==◌, nat_le, nat_lt, Option, Some, None, Result, Ok, Err, IsErr, IsErrAnd}
+use Rattle.std.proofs.Common.{◌≡◌, ◌≢◌, inl, inr, ℕ, ◌+◌, ◌/◌, ◌%◌, ◌<◌, ◌≤◌, List, [], ◌∷◌, ◌++◌, length, get_or, take, drop, refl, sym, ap, ◌∙◌, subst, arith}
+use Rattle.std.specs.Prelude.{Bool, true, false, not, IsTrue, ◌&&◌, ◌==◌, nat_le, nat_lt, Option, Some, None, Result, Ok, Err, IsOk, IsErr, IsErrAnd, OnOk}
 use Rattle.std.proofs.lemmas.Bool.Decides.{leb_tells}
 use Rattle.std.proofs.lemmas.Nat.Bits.{bit_at-lt}
+use Rattle.std.proofs.lemmas.List.{length-take, take_at}
 use Rattle.nb_fields.specs.Places.{bits_in, inventory_place}
 use Rattle.nb_fields.specs.Page.{kind_of}
-use Rattle.nb_fields.specs.Payloads.{bit_of}
+use Rattle.nb_fields.specs.Payloads.{bit_of, text_length, text_of}
 use Rattle.nb_host.specs.declared.faults.Fault.{Fault}
 use Rattle.nb_host.specs.declared.faults.Fault.TheVariants.{Refused, Device, Memory}
 use Rattle.nb_host.specs.declared.refusals.Refusal.{Refusal}
@@ -16,11 +17,14 @@ use Rattle.nb_pip.specs.Bits.{bits}
 use Rattle.nb_pip.proofs.BitLemmas.{get_or-bits}
 use Rattle.nb_model.specs.Image.{Page, Image, page_at, image_size, is_read_only}
 use Rattle.nb_model.specs.Forms.{is_kind, is_free_page, inventory_of, bit_number}
-use Rattle.nb_model.specs.Causes.{Cause, first_cause, when, read_only, too_long, past_end, not_kind, not_raw}
+use Rattle.nb_model.specs.Causes.{Cause, first_cause, when, read_only, too_long, past_end, not_kind, not_raw, no_text}
+use Rattle.nb_model.specs.declared.reply.Reply.TheVariants.{Refused as RefusedBy, Value}
+use Rattle.nb_model.specs.Outcomes.{Seen, says}
+use Rattle.nb_model.specs.Pages.{read_turn}
 use Rattle.nb_model.proofs.ReadLaws.{le_no, lt_no, lt_yes, eq_no, eq_yes}
 use Rattle.nb_engine.specs.Turn.{Tested}
 use Rattle.nb_engine.specs.Put.{not_taken}
-use Rattle.nb_engine.proofs.QuietDoes.{first_none, first_next, first_here, first_front, first_rest}
+use Rattle.nb_engine.proofs.QuietDoes.{first_none, first_next, first_here, first_front, first_rest, unless_refused, unless_allowed}
 
 le_yes : (a b : ℕ) → a ≤ b → nat_le a b ≡ true
 le_yes a b h = elim (leb_tells a b) [ inl w ↦ w.0 | inr w ↦ absurd (omega (arith, w.1, h)) ]
@@ -28,12 +32,27 @@ le_yes a b h = elim (leb_tells a b) [ inl w ↦ w.0 | inr w ↦ absurd (omega (a
 pub not_false : IsTrue false → ⊥
 not_false e = cc
 
+pub le_from : (a b : ℕ) → true ≡ nat_le a b → a ≤ b
+le_from a b e = elim (leb_tells a b) [ inl w ↦ w.1 | inr w ↦ absurd (not_false (sym w.0 ∙ sym e)) ]
+
+pub lt_from : (a b : ℕ) → false ≡ nat_le a b → b < a
+lt_from a b e = elim (leb_tells a b) [ inl w ↦ absurd (not_false (e ∙ w.0)) | inr w ↦ omega (arith, w.1) ]
+
 -- a test that applies, and one that doesn't
 pub applies : (test : Bool) (r : Refusal) → test ≡ true → when test r ≡ Some r
 applies test r e = ap (λ (t : Bool). when t r) e
 
 pub rests : (test : Bool) (r : Refusal) → test ≡ false → when test r ≡ None
 rests test r e = ap (λ (t : Bool). when t r) e
+
+-- what holds under Ok, at Ok
+pub at_ok : {T E P : Type 0} (result : Result T E) → IsOk result → OnOk result P → P
+at_ok (Ok value) is p = p
+at_ok (Err e) is p = absurd (not_false is)
+
+-- a vector whose elements a slice of all of them was
+pub vec_whole : (deref items rest : List ℕ) (n : ℕ) → deref ≡ take n (items ++ rest) → length items ≡ n → deref ≡ items
+vec_whole deref items rest n is long = is ∙ take_at items rest n long
 
 -- What a callee's test found is passed on, where each of its causes is one of this test.
 pub passed_on : (result : Result (Unit {0}) Fault) (fault : Fault) (found cause : Cause) → IsErr result × IsErrAnd result (λ f. f ≡ fault) → Tested {T = Unit {0}} (Err fault) found
@@ -148,6 +167,10 @@ module _ (image : Image) (p : ℕ) where
   pub raw_is : p < length image → not_taken image p ≡ None → kind_of (page_at image p) ≡ 8 → not_raw image p ≡ None
   raw_is low taken same = not_raw-below low ∙ first_rest untaken (system ∷ []) taken ∙ first_next system [] (rests _ _ (ap not (eq_yes _ 8 same))) ∙ first_none
 
+-- a text is no longer than the length before it
+pub text_short : (page : Page) → text_length page ≤ 200 → length (text_of page) ≤ 200
+text_short page short = let long = length-take (text_length page) (drop 18 page) in omega (arith, long, short)
+
 -- whether the database may be changed, and then whether the text fits
 module _ (image : Image) (text : List ℕ) where
   pub write_closed : is_read_only image ≡ true → first_cause (read_only image ∷ too_long text ∷ []) ≡ Some (Access 1)
@@ -158,3 +181,20 @@ module _ (image : Image) (text : List ℕ) where
 
   pub write_fits : is_read_only image ≡ false → length text ≤ 200 → first_cause (read_only image ∷ too_long text ∷ []) ≡ None
   write_fits free short = first_next _ _ (rests _ _ free) ∙ first_next _ [] (rests _ _ (lt_no 200 (length text) short)) ∙ first_none
+
+-- what reading page p says
+module _ (s : Seen) (p : ℕ) where
+  abbrev page : Page
+  page = page_at s.base.image p
+
+  pub read_refused : (r : Refusal) → not_raw s.base.image p ≡ Some r → read_turn s p ≡ says s (RefusedBy r) []
+  unfolding read_turn
+  read_refused r e = unless_refused s _ _ r (first_here _ (no_text s.base.image p ∷ []) r e)
+
+  pub read_broken : not_raw s.base.image p ≡ None → 200 < text_length page → read_turn s p ≡ says s (RefusedBy (NotDatabase p)) []
+  unfolding read_turn
+  read_broken raw long = unless_refused s _ _ _ (first_next _ (no_text s.base.image p ∷ []) raw ∙ first_here _ [] _ (applies _ _ (lt_yes 200 (text_length page) long)))
+
+  pub read_says : not_raw s.base.image p ≡ None → text_length page ≤ 200 → read_turn s p ≡ says s (Value (text_of page)) []
+  unfolding read_turn
+  read_says raw short = unless_allowed s _ _ (first_next _ (no_text s.base.image p ∷ []) raw ∙ first_next _ [] (rests _ _ (lt_no 200 (text_length page) short)) ∙ first_none)
