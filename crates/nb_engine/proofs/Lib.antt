@@ -3,3 +3,4 @@ pub mod QuietDoes
 pub mod TestLaws
 pub mod PutLaws
 pub mod RaiseLaws
+pub mod WriteLaws
