@@ -4,3 +4,6 @@ pub mod MakingLaws
 pub mod CreatedLaws
 pub mod QuietDoes
 pub mod TestLaws
+pub mod PutLaws
+pub mod RaiseLaws
+pub mod WriteLaws

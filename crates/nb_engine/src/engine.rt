@@ -110,6 +110,10 @@ impl Engine {
     {
         self.opened
             .take_raw(host, number, &mut self.page, &mut self.system)?;
+        // Page 0 is the header, whatever the host gave for it.
+        if number == 0 {
+            return Err(Fault::Refused(Refusal::SystemPage { page: number }));
+        }
         check_write(self.opened.read_only, text)?;
         self.opened.raise_entry(host, number, &mut self.system)?;
         self.opened.write_raw(host, number, text, &mut self.page)?;

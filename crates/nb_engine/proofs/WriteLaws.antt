@@ -1,0 +1,226 @@
+-- What the write of a raw page does of its turn, up to each of its ends.
+use Rattle.std.proofs.Common.{◌≡◌, inl, inr, ℕ, zero, suc, ◌<◌, ◌≤◌, List, [], ◌∷◌, ◌++◌, length, refl, sym, ap, subst, ◌∙◌, arith}
+use Rattle.std.specs.Prelude.{Bool, true, false, not, ◌==◌, nat_le, IsTrue, Option, Some, None, Result, Ok, Err, IsErr, IsErrAnd}
+use Rattle.std.proofs.lemmas.Bool.{eqb-true}
+use Rattle.std.proofs.lemmas.Bool.Decides.{leb_tells}
+use Rattle.nb_fields.specs.Places.{is_page_size, entries_in}
+use Rattle.nb_fields.specs.Page.{kind_of}
+use Rattle.nb_fields.specs.Payloads.{text_payload}
+use Rattle.nb_fields.proofs.PlaceLemmas.{entries-least}
+use Rattle.nb_host.specs.Files.{File}
+use Rattle.nb_host.specs.World.{World}
+use Rattle.nb_host.specs.Crash.{Leaves}
+use Rattle.nb_host.specs.declared.faults.Fault.{Fault}
+use Rattle.nb_host.specs.declared.faults.Fault.TheVariants.{Refused as RefusedFault, Device, Memory}
+use Rattle.nb_host.specs.declared.refusals.Refusal.{Refusal}
+use Rattle.nb_host.specs.declared.refusals.Refusal.TheVariants.{SystemPage, NotAllocated}
+use Rattle.nb_page.specs.Quiet.{Quiet}
+use Rattle.nb_change.specs.Change.{Advances, Reached, after_all}
+use Rattle.nb_change.proofs.ChangeLaws.{weakened}
+use Rattle.nb_change.proofs.StrokeLaws.{reached_none, reached_front, strokes_composed}
+use Rattle.nb_model.specs.declared.reply.Reply.{Reply}
+use Rattle.nb_model.specs.declared.reply.Reply.TheVariants.{Refused, Done}
+use Rattle.nb_model.specs.Image.{Image, page_at, image_size}
+use Rattle.nb_model.specs.Account.{Base}
+use Rattle.nb_model.specs.Strokes.{Stroke, on_base, base_after}
+use Rattle.nb_model.specs.Owner.{delta_name}
+use Rattle.nb_model.specs.Forms.{Draft, drafted, put}
+use Rattle.nb_model.specs.Causes.{Cause, first_cause, when, past_end, read_only, not_raw, too_long, not_of_form, no_room}
+use Rattle.nb_model.specs.Outcomes.{Seen, Outcome, says, unless, changes}
+use Rattle.nb_model.specs.Pages.{write_turn}
+use Rattle.nb_model.proofs.HeaderLaws.{header-kind}
+use Rattle.nb_model.proofs.MainLaws.{main_facts}
+use Rattle.nb_model.proofs.StrokeLaws.{base_after-append}
+use Rattle.nb_engine.specs.declared.opened.Opened.{Opened}
+use Rattle.nb_engine.specs.Open.{Shows, IsOpen}
+use Rattle.nb_engine.specs.Turn.{Tested, Answers, WhereSettled, Does}
+use Rattle.nb_engine.specs.Put.{entry_cause, raise_strokes, raw_stroke}
+use Rattle.nb_engine.specs.Replies.{done}
+use Rattle.nb_engine.proofs.StoreLaws.{main_now}
+use Rattle.nb_engine.proofs.QuietDoes.{unless_refused, first_next, first_here, refused_by, judged_by, allowed}
+use Rattle.nb_engine.proofs.PutLaws.{Keeps, raise_keeps, raised_never, raw_stroke-after, put_strokes, put_form, put_room, put_refused}
+use Rattle.nb_engine.proofs.RaiseLaws.{strokes_left, after_quiet}
+
+-- no cause of a list applies
+no_causes : (c : Cause) (cs : List Cause) → first_cause (c ∷ cs) ≡ None → (c ≡ None) × (first_cause cs ≡ None)
+unfolding first_cause
+no_causes None cs e = (refl, e)
+no_causes (Some r) cs e = cc
+
+not_when : (t : Bool) (r : Refusal) → when t r ≡ None → t ≡ false
+not_when false r e = refl
+not_when true r e = cc
+
+-- what a taken raw page is
+pub record IsRaw (image : Image) (p : ℕ) : Type 0 where
+  pub low : p < length image
+  pub kind : kind_of (page_at image p) ≡ 8
+
+pub is_raw : (image : Image) (p : ℕ) → not_raw image p ≡ None → IsRaw image p
+unfolding not_raw
+is_raw image p none =
+    let first = no_causes (past_end image p) _ none in
+    let second = no_causes _ _ first.1 in
+    let third = no_causes _ _ second.1 in
+    let fourth = no_causes (when (not (kind_of (page_at image p) == 8)) (SystemPage p)) [] third.1 in
+    record {
+      low = below (not_when (nat_le (length image) p) _ first.0);
+      kind = eqb-true (kind_of (page_at image p)) 8 (is_true (kind_of (page_at image p) == 8) (not_when _ (SystemPage p) fourth.0));
+    }
+  where
+    true_false : true ≡ false → ⊥
+    true_false h = cc
+
+    below : nat_le (length image) p ≡ false → p < length image
+    below over = elim (leb_tells (length image) p) [ inl w ↦ absurd (true_false (sym w.0 ∙ over)) | inr w ↦ w.1 ]
+
+    is_true : (t : Bool) → not t ≡ false → t ≡ true
+    is_true true e = refl
+    is_true false e = absurd (true_false e)
+
+-- page 0 of an open database is none
+pub first_not_raw : (w : World) (held : Opened) (b : Base) → ((name : List ℕ) → Leaves w name (w.files name)) → IsOpen w held b → not_raw b.image 0 ≡ None → ⊥
+first_not_raw w held b reads is none =
+    let header = (main_facts b.image (w.files held.name) (main_now w reads held.name b is.settled)).header in
+    absurd (omega (arith, (is_raw b.image 0 none).kind, header-kind (page_at b.image 0) header))
+
+-- the model's word for what stands after strokes is that of changes
+after_all-is : (b : Base) (ss : List Stroke) → after_all on_base b ss ≡ base_after b ss
+unfolding base_after
+after_all-is b [] = refl
+after_all-is b (s ∷ ss) = after_all-is (on_base s b) ss
+
+-- the turn, by its causes
+module _ (s : Seen) (p : ℕ) (text : List ℕ) where
+  abbrev image : Image
+  image = s.base.image
+
+  abbrev draft : Draft
+  draft = put p 8 (text_payload text) (drafted image)
+
+  abbrev own : List Cause
+  own = read_only image ∷ too_long text ∷ []
+
+  pub write_untaken : (r : Refusal) → not_raw image p ≡ Some r → write_turn s p text ≡ says s (Refused r) []
+  unfolding write_turn
+  write_untaken r e = refused_by s (not_raw image p ∷ own) draft Done r (first_here (not_raw image p) own r e)
+
+  pub write_checked : not_raw image p ≡ None → (r : Refusal) → first_cause own ≡ Some r → write_turn s p text ≡ says s (Refused r) []
+  unfolding write_turn
+  write_checked raw r e = refused_by s (not_raw image p ∷ own) draft Done r (first_next (not_raw image p) own raw ∙ e)
+
+  pub write_unraised : not_raw image p ≡ None → first_cause own ≡ None → (r : Refusal) → entry_cause image p ≡ Some r → write_turn s p text ≡ says s (Refused r) []
+  unfolding write_turn
+  write_unraised raw free r e =
+      judged_by s (not_raw image p ∷ own) draft Done (first_next (not_raw image p) own raw ∙ free)
+      ∙ unless_refused s (first_cause (not_of_form draft ∷ no_room draft ∷ [])) (says s Done draft.strokes) r (first_here (not_of_form draft) (no_room draft ∷ []) r (put_refused s.base p text r e))
+
+  pub write_strokes : not_raw image p ≡ None → first_cause own ≡ None → 0 < entries_in (image_size image) → entry_cause image p ≡ None
+      → write_turn s p text ≡ says s Done (raise_strokes image p ++ raw_stroke image p text ∷ [])
+  unfolding write_turn
+  write_strokes raw free some e =
+      let is = is_raw image p raw in
+      allowed s (not_raw image p ∷ own) draft Done (first_next (not_raw image p) own raw ∙ free) (put_form s.base p text e) (put_room s.base p text e)
+      ∙ ap (λ (ss : List Stroke). says s Done ss) (put_strokes s.base p text is.low is.kind some e)
+
+-- before the raise the database was open and the page is a taken raw page that may be written
+pub record MayWrite (w : World) (held : Opened) (s : Seen) (p : ℕ) (text : List ℕ) : Type 0 where
+  pub is : IsOpen w held s.base
+  pub size : IsTrue (is_page_size held.page_size)
+  pub raw : not_raw s.base.image p ≡ None
+  pub free : first_cause (read_only s.base.image ∷ too_long text ∷ []) ≡ None
+
+module _ (old mid raised : World) (held : Opened) (s : Seen) (p : ℕ) (text : List ℕ) (may : MayWrite old held s p text) (quiet : Quiet old mid) where
+  abbrev before : Image
+  before = s.base.image
+
+  abbrev entry : List Stroke
+  entry = raise_strokes before p
+
+  abbrev last : Stroke
+  last = raw_stroke before p text
+
+  abbrev turn : Outcome
+  turn = write_turn s p text
+
+  abbrev LeftBy : World → List Stroke → Type 0
+  LeftBy w ss = Advances old w held.name (delta_name held.name) (Reached on_base (Shows held.name) s.base ss)
+
+  entries : 0 < entries_in (image_size before)
+  entries = subst (λ n. 0 < entries_in n) may.is.page_size (let least = entries-least held.page_size may.size in omega (arith, least))
+
+  strokes_are : entry_cause before p ≡ None → turn ≡ says s Done (entry ++ last ∷ [])
+  strokes_are none = write_strokes s p text may.raw may.free entries none
+
+  -- a front of the raise is one of the turn
+  entry_front : (m d : File) → Reached on_base (Shows held.name) s.base entry m d → Reached on_base (Shows held.name) s.base turn.strokes m d
+  entry_front m d reached = by (entry_cause before p) refl
+    where
+      by : (c : Cause) → entry_cause before p ≡ c → Reached on_base (Shows held.name) s.base turn.strokes m d
+      by None e =
+          subst (λ (ss : List Stroke). Reached on_base (Shows held.name) s.base ss m d) (sym (ap (λ (o : Outcome). o.strokes) (strokes_are e)))
+          (reached_front on_base (Shows held.name) s.base entry (last ∷ []) m d reached)
+      by (Some r) e =
+          reached_none on_base (Shows held.name) s.base turn.strokes m d (subst (λ (ss : List Stroke). Reached on_base (Shows held.name) s.base ss m d) (raised_never before p r e) reached)
+
+  module _ (left : Advances mid raised held.name (delta_name held.name) (Reached on_base (Shows held.name) s.base entry)) where
+    entry_left : LeftBy raised entry
+    entry_left = after_quiet old mid raised held s.base entry quiet may.is left
+
+    turn_left : LeftBy raised turn.strokes
+    turn_left = weakened held.name (delta_name held.name) old raised _ _ entry_left entry_front
+
+    -- the raise was refused
+    refused_raise : (r : Refusal) → entry_cause before p ≡ Some r → IsOpen raised held (base_after s.base entry) → Does done (Err (RefusedFault r)) old raised s.base held turn
+    unfolding base_after
+    refused_raise r e open_after =
+        let none : entry ≡ [] = raised_never before p r e in
+        subst (λ (o : Outcome). Does done (Err (RefusedFault r)) old raised s.base held o) (sym (write_unraised s p text may.raw may.free r e)) (record {
+          answer = refl;
+          after = subst (λ (ss : List Stroke). IsOpen raised held (base_after s.base ss)) none open_after;
+          left = strokes_left old raised held s.base entry [] none entry_left;
+        })
+
+    -- the raise ended the call
+    pub raise_does : (result : Result (Unit {0}) Fault) (fault : Fault) → IsErr result × IsErrAnd result (λ f. f ≡ fault) → Tested {T = Unit {0}} (Err fault) (entry_cause before p)
+        → WhereSettled {T = Unit {0}} (Err fault) (IsOpen raised held (base_after s.base entry)) → Does done result old raised s.base held turn
+    raise_does (Ok value) fault passed tested open_after = absurd passed.1
+    raise_does (Err e) fault passed tested open_after = subst (λ (f : Fault). Does done (Err f) old raised s.base held turn) (sym passed.1) (on fault tested open_after)
+      where
+        on : (f : Fault) → Tested {T = Unit {0}} (Err f) (entry_cause before p) → WhereSettled {T = Unit {0}} (Err f) (IsOpen raised held (base_after s.base entry)) → Does done (Err f) old raised s.base held turn
+        on (RefusedFault r) cause after_it = refused_raise r cause after_it
+        on Device cause after_it = record { answer = tt; after = tt; left = turn_left }
+        on Memory cause after_it = record { answer = tt; after = tt; left = turn_left }
+
+    -- what the raise keeps
+    pub keeps : Keeps before p (base_after s.base entry).image
+    keeps = raise_keeps s.base p (is_raw before p may.raw).kind entries
+
+    module _ (new : World) (none : entry_cause before p ≡ None)
+        (next : Advances raised new held.name (delta_name held.name) (Reached on_base (Shows held.name) (base_after s.base entry) (raw_stroke (base_after s.base entry).image p text ∷ []))) where
+      same_last : raw_stroke (base_after s.base entry).image p text ≡ last
+      same_last = raw_stroke-after before (base_after s.base entry).image p text keeps
+
+      all_left : LeftBy new turn.strokes
+      all_left =
+          let then_last = strokes_left raised new held (base_after s.base entry) _ (last ∷ []) (ap (λ (x : Stroke). x ∷ []) same_last) next in
+          let from = subst (λ (b : Base). Advances raised new held.name (delta_name held.name) (Reached on_base (Shows held.name) b (last ∷ []))) (sym (after_all-is s.base entry)) then_last in
+          strokes_left old new held s.base (entry ++ last ∷ []) turn.strokes (sym (ap (λ (o : Outcome). o.strokes) (strokes_are none)))
+          (strokes_composed on_base (Shows held.name) held.name (delta_name held.name) old raised new s.base entry (last ∷ []) entry_left from)
+
+      -- the write of the page failed
+      pub failed_write : (result : Result (Unit {0}) Fault) → IsErr result × IsErrAnd result (λ f. f ≡ Device) → Does done result old new s.base held turn
+      failed_write (Ok value) passed = absurd passed.1
+      failed_write (Err e) passed = subst (λ (f : Fault). Does done (Err f) old new s.base held turn) (sym passed.1) (record { answer = tt; after = tt; left = all_left })
+
+      -- all is written
+      pub written_does : IsOpen new held (on_base (raw_stroke (base_after s.base entry).image p text) (base_after s.base entry)) → Does done (Ok tt) old new s.base held turn
+      unfolding base_after
+      written_does open_after =
+          let is : IsOpen new held (base_after s.base (entry ++ last ∷ [])) =
+          subst (λ (b : Base). IsOpen new held b) (sym (base_after-append s.base entry (last ∷ []))) (subst (λ (x : Stroke). IsOpen new held (on_base x (base_after s.base entry))) same_last open_after) in
+          record {
+            answer = ap (λ (o : Outcome). o.reply) (strokes_are none);
+            after = subst (λ (o : Outcome). IsOpen new held (base_after s.base o.strokes)) (sym (strokes_are none)) is;
+            left = all_left;
+          }

@@ -1,0 +1,59 @@
+use Rattle.std.proofs.Common.{rules, refl, sym, ap, subst, ◌∙◌, arith, ◌≡◌, ◌≢◌, ◌<◌, ◌≤◌, [], ◌∷◌, true, IsTrue, IfErr, IfOk, OnOk, None, length, ℕ, ◌+◌, ◌-◌, ◌*◌, ◌/◌, ◌%◌, Bool, false, nat_eq, nat_lt, List, ◌++◌, slice_index_or, slice_set, bit_and, bit_or, Fits, w8, w32, w64, Bor, MutBor}
+use Rattle.nb_fields.specs.Places.{is_page_size}
+use Rattle.nb_host.specs.Causes.{CountsFault}
+use Rattle.nb_host.specs.declared.faults.Fault.TheVariants.{Memory}
+use Rattle.nb_change.specs.Change.{Advances, Reached}
+use Rattle.nb_change.specs.Counts.{CountsDevice}
+use Rattle.nb_page.specs.Quiet.{Quiet}
+use Rattle.nb_model.specs.Account.{Base}
+use Rattle.nb_model.specs.Image.{page_at}
+use Rattle.nb_model.specs.Strokes.{on_base, base_after}
+use Rattle.nb_model.specs.Forms.{scn_page_of}
+use Rattle.nb_model.specs.Owner.{delta_name}
+use Rattle.nb_engine.specs.Open.{IsOpen, Shows}
+use Rattle.nb_engine.specs.Turn.{Tested, WhereSettled}
+use Rattle.nb_engine.specs.Put.{entry_cause, must_raise, raise_stroke, raise_strokes, raw_stroke}
+use Rattle.nb_engine.proofs.opened.Opened.raise_entry.Goals.{then-branch+in_ok-raise, else-branch}
+use Rattle.nb_engine.proofs.QuietDoes.{open_quiet, quiet_left}
+use Rattle.nb_engine.proofs.PutLaws.{raised_never, raised_not, raised_once}
+use Rattle.nb_engine.proofs.RaiseLaws.{settled_passed, none_made, one_made, strokes_left, after_quiet}
+use Rattle.nb_engine.proofs.opened.Opened.raise_entry.Goals as goal
+
+pub returns-in_err-must_raise-clause-after : goal.returns-in_err-must_raise-clause-after
+returns-in_err-must_raise-clause-after g c b tells is =
+    settled_passed Bool (Unit {0}) c.from_residual.result c.in_err-must_raise.field-0.0 (entry_cause b.image c.args.number) _ c.from_residual.ensures (c.in_err-must_raise.ensures.test b tells is)
+    (λ r cause. none_made _ c.args.self.now b c.args.number (raised_never b.image c.args.number r cause) (open_quiet _ _ c.args.self.now b c.in_err-must_raise.ensures.quiet is))
+
+pub returns-clause-left : goal.returns-clause-left
+returns-clause-left g c b tells is =
+    let held = c.args.self.now in
+    let p = c.args.number in
+    let before = g.H.Host.world c.args.host.now in
+    let quiet = c.in_ok-must_raise.ensures.quiet in
+    let none = c.in_ok-must_raise.ensures.test b tells is in
+    let found = c.in_ok-must_raise.ensures.value b tells is in
+    elim c.if-branch.branch [
+      | then-branch+in_ok-raise w ↦
+          let must : must_raise b.image p ≡ true = sym found ∙ w.if-branch.true in
+          rw w.host-is
+          (after_quiet before (g.H.Host.world c.must_raise.new.host) (g.H.Host.world w.raise.new.host) held b (raise_strokes b.image p) quiet is
+          (strokes_left _ _ held b (raise_stroke b.image p ∷ []) (raise_strokes b.image p) (sym (raised_once b.image p none must))
+          (w.raise.ensures.left b tells (open_quiet _ _ held b quiet is) none must (c.in_ok-must_raise.ensures.page b tells is w.if-branch.true))))
+      | else-branch w ↦ rw w.host-is (quiet_left before (g.H.Host.world c.must_raise.new.host) held b (raise_strokes b.image p) quiet is)
+    ]
+
+pub returns-clause-after : goal.returns-clause-after
+returns-clause-after g c b tells is =
+    let held = c.args.self.now in
+    let p = c.args.number in
+    let quiet = c.in_ok-must_raise.ensures.quiet in
+    let none = c.in_ok-must_raise.ensures.test b tells is in
+    let found = c.in_ok-must_raise.ensures.value b tells is in
+    elim c.if-branch.branch [
+      | then-branch+in_ok-raise w ↦
+          let must : must_raise b.image p ≡ true = sym found ∙ w.if-branch.true in
+          rw w.host-is
+          (one_made _ held b p (raised_once b.image p none must)
+          (w.in_ok-raise.ensures.after b tells (open_quiet _ _ held b quiet is) none must (c.in_ok-must_raise.ensures.page b tells is w.if-branch.true)))
+      | else-branch w ↦ rw w.host-is (none_made _ held b p (raised_not b.image p (sym found ∙ w.if-branch.false)) (open_quiet _ _ held b quiet is))
+    ]
