@@ -31,3 +31,4 @@ pub mod NormalLaws
 pub mod StandsLaws
 pub mod OutputLaws
 pub mod TodoLaws
+pub mod OpeningLaws

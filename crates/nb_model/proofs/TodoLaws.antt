@@ -278,7 +278,7 @@ turn_keeps session i now single other = by (get_or now.todo (session - 1) []) re
         ∙ get_or-set_other now.todo (session - 1) i rest [] other
 
 -- how many turns of an order are those of the session at that place
-abbrev turns_at : (place : ℕ) → List ℕ → ℕ
+abbrev pub turns_at : (place : ℕ) → List ℕ → ℕ
 turns_at place [] = 0
 turns_at place (x ∷ xs) = elim (nat_eq place (x - 1)) [ true ↦ 1 + turns_at place xs | false ↦ turns_at place xs ]
 
@@ -297,22 +297,22 @@ turns_at-here place x xs at = elim (eqb_tells place (x - 1)) [ inl w ↦ rw (w.0
 turns_at-other : (place x : ℕ) (xs : List ℕ) → place ≢ x - 1 → turns_at place (x ∷ xs) ≡ turns_at place xs
 turns_at-other place x xs other = elim (eqb_tells place (x - 1)) [ inl w ↦ absurd (other w.1) | inr w ↦ rw (w.0, turns_at) refl ]
 
-all_left : (P : Turn → Type 0) (n : ℕ) (ts : List Turn) → AllByRecursion P ts → AllByRecursion P (drop n ts)
+pub all_left : (P : Turn → Type 0) (n : ℕ) (ts : List Turn) → AllByRecursion P ts → AllByRecursion P (drop n ts)
 all_left P zero ts h = h
 all_left P (suc n) [] h = h
 all_left P (suc n) (t ∷ ts) h = all_left P n ts h.1
 
-one_left : (session i : ℕ) (now : Now) → AreSingle now → get_or (one_turn session now).1.todo i [] ≡ drop (turns_at i (session ∷ [])) (get_or now.todo i [])
+pub one_left : (session i : ℕ) (now : Now) → AreSingle now → get_or (one_turn session now).1.todo i [] ≡ drop (turns_at i (session ∷ [])) (get_or now.todo i [])
 one_left session i now single = elim (eqb_tells i (session - 1)) [
   | inl w ↦ turn_drops session i now single w.1 ∙ ap (λ k. drop k (get_or now.todo i [])) (sym (turns_at-here i session [] w.1))
   | inr w ↦ turn_keeps session i now single w.1 ∙ ap (λ k. drop k (get_or now.todo i [])) (sym (turns_at-other i session [] w.1))
 ]
 
-one_single : (session : ℕ) (now : Now) → AreSingle now → AreSingle (one_turn session now).1
+pub one_single : (session : ℕ) (now : Now) → AreSingle now → AreSingle (one_turn session now).1
 one_single session now single i = subst (AllByRecursion IsSingleTurn) (sym (one_left session i now single)) (all_left IsSingleTurn (turns_at i (session ∷ [])) (get_or now.todo i []) (single i))
 
 -- after turns each session has as many statements fewer to do as it had turns
-left_after : (order : List ℕ) (i : ℕ) (now : Now) → AreSingle now → get_or (play order now).1.todo i [] ≡ drop (turns_at i order) (get_or now.todo i [])
+pub left_after : (order : List ℕ) (i : ℕ) (now : Now) → AreSingle now → get_or (play order now).1.todo i [] ≡ drop (turns_at i order) (get_or now.todo i [])
 unfolding play
 left_after [] i now single = refl
 left_after (x ∷ xs) i now single =
