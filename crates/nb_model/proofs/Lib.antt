@@ -30,3 +30,5 @@ pub mod NewSound
 pub mod NormalLaws
 pub mod StandsLaws
 pub mod OutputLaws
+pub mod TodoLaws
+pub mod OpeningLaws
