@@ -24,7 +24,7 @@ pub record IsAfter (now : Now) (played : Played) : Type 0 where
   pub is : base_now played.1 ≡ base_after (base_now now) (strokes_of played.0)
 
 -- one list of turns behind another
-pub behind : Played → Played → Played
+abbrev pub behind : Played → Played → Played
 behind p q = (p.0 ++ q.0, q.1)
 
 -- no turn yet
