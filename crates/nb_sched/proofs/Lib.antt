@@ -2,3 +2,6 @@ pub mod AskedLemmas
 pub mod StopLaws
 pub mod PlayLaws
 pub mod EventLaws
+pub mod SaysLaws
+pub mod DoesLaws
+pub mod TurnLaws
