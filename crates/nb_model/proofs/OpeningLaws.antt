@@ -1,5 +1,5 @@
 -- The first statement of a run: whether its name is free, what it makes, and what a run leaves of the other files and records.
-use Rattle.std.proofs.Common.{◌≡◌, ◌≢◌, inl, inr, ℕ, ◌-◌, List, [], ◌∷◌, ◌++◌, map, take, get_or, refl, sym, ap, subst, ◌∙◌}
+use Rattle.std.proofs.Common.{◌≡◌, ◌≢◌, inl, inr, ℕ, ◌+◌, length, ◌-◌, List, [], ◌∷◌, ◌++◌, map, take, get_or, refl, sym, ap, subst, ◌∙◌}
 use Rattle.std.specs.Prelude.{Bool, true, false, not, ◌&&◌, ◌||◌, ◌==◌, Option, Some, None, Result, Ok, Err, is_some, is_none}
 use Rattle.std.specs.List.{AllByRecursion, slice_index_or}
 use Rattle.std.specs.Cmp.Lexicographic.{told_text}
@@ -19,19 +19,20 @@ use Rattle.nb_host.specs.declared.refusals.Refusal.TheVariants.{FileExists, Unfi
 use Rattle.nb_model.specs.declared.reply.Reply.{Reply}
 use Rattle.nb_model.specs.declared.reply.Reply.TheVariants.{Done, Pages, Refused}
 use Rattle.nb_model.specs.declared.statement.Statement.{Statement}
-use Rattle.nb_model.specs.declared.statement.Statement.TheVariants.{CreateDb, Write, Read}
+use Rattle.nb_model.specs.declared.statement.Statement.TheVariants.{CreateDb, PageNew, Write, Read, Free, Forced, Access, Sync, ShowHeader}
 use Rattle.nb_model.specs.Image.{Image}
 use Rattle.nb_model.specs.Account.{Base, base_of, Kept, Entry, Missing, Plain, IsBase, Account, with_entry}
 use Rattle.nb_model.specs.Strokes.{Stroke, make, page, begin, ends, finish, fix, merge, on_base, records_of, base_in, base_after, records_after}
-use Rattle.nb_model.specs.Forms.{Draft, drafted, put}
+use Rattle.nb_model.specs.Forms.{Draft, drafted, put, give_page, new_page}
+use Rattle.nb_model.specs.Built.{is_built}
 use Rattle.nb_model.specs.Causes.{Cause, not_database, when, is_free_entry}
 use Rattle.nb_model.specs.Owner.{delta_name, owner, owner_in, entry_of_files}
 use Rattle.nb_model.specs.Outcomes.{Turn, Begins, Copies, ClosesBackup, ClosesCopy, Ends, Merges, Finishes, Given, Seen, Outcome, says, unless, changes}
-use Rattle.nb_model.specs.Pages.{write_turn, read_turn}
+use Rattle.nb_model.specs.Pages.{new_turn, write_turn, read_turn, free_turn, forced_turn, access_turn, header_turn, byte_strokes}
 use Rattle.nb_model.specs.Turns.{first_turn, turn}
 use Rattle.nb_model.specs.Run.{Now, Event, base_now, with_made, account_after, outcome, stands_then, take_turn, one_turn, play, IsPlayed, Opening, begun, refused_opening, done_opening, opening_unless, opening, IsRest, IsRun}
 use Rattle.nb_model.specs.Stands.{Stands}
-use Rattle.nb_model.proofs.DraftLaws.{put_keeps}
+use Rattle.nb_model.proofs.DraftLaws.{put_keeps, set_bit_keeps, new_keeps}
 use Rattle.nb_model.proofs.HeaderLaws.{header-other}
 use Rattle.nb_model.proofs.NormalLaws.{IsPage, HasPages, forms_have_pages}
 use Rattle.nb_model.proofs.RunLaws.{entry_same, base_in_base}
@@ -252,6 +253,43 @@ write_paged p text s session =
 pub read_paged : (p : ℕ) → IsPaged (Read p)
 unfolding first_turn read_turn
 read_paged p s session = guarded_paged s _ _ (record { made = refl; pages = tt; next = refl })
+
+pub new_paged : IsPaged PageNew
+unfolding first_turn new_turn
+new_paged s session =
+    changed_paged s _ (new_page 8 (λ p. text_payload []) (drafted s.base.image)).0 _
+    (new_keeps HasPages forms_have_pages (length s.base.image + 4) 8 (λ p. text_payload []) (drafted s.base.image) (record { pages = tt }))
+
+pub free_paged : (p : ℕ) → IsPaged (Free p)
+unfolding first_turn free_turn
+free_paged p s session = changed_paged s _ (give_page p (drafted s.base.image)) Done (set_bit_keeps HasPages forms_have_pages 1 p (drafted s.base.image) (record { pages = tt }))
+
+pub forced_paged : (on : Bool) → IsPaged (Forced on)
+unfolding first_turn forced_turn byte_strokes
+forced_paged on s session = guarded_paged s _ _ (record { made = refl; pages = (tt, tt); next = refl })
+
+pub access_paged : (closed : Bool) → IsPaged (Access closed)
+unfolding first_turn access_turn byte_strokes
+access_paged closed s session = guarded_paged s _ _ (record { made = refl; pages = (tt, tt); next = refl })
+
+pub sync_paged : IsPaged Sync
+unfolding first_turn
+sync_paged s session = record { made = refl; pages = tt; next = refl }
+
+pub header_paged : IsPaged ShowHeader
+unfolding first_turn header_turn
+header_paged s session = record { made = refl; pages = tt; next = refl }
+
+-- So does each statement that the program does today.
+not_built : false ≡ true → ⊥
+not_built h = cc
+
+pub built_paged : (session : ℕ) (statement : Statement) → IsTrue (is_built session statement) → IsPaged statement
+unfolding first_turn
+built_paged session (CreateDb name size raw cache) h = λ s k. record { made = refl; pages = tt; next = refl }
+built_paged session (Write p text) h = write_paged p text
+built_paged session (Read p) h = read_paged p
+built_paged session other h = absurd (not_built h)
 
 -- what sessions have to do writes pages alone
 abbrev pub IsPagedTurn : Turn → Type 0
