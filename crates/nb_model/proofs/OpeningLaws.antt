@@ -280,10 +280,11 @@ pub header_paged : IsPaged ShowHeader
 unfolding first_turn header_turn
 header_paged s session = record { made = refl; pages = tt; next = refl }
 
--- So does each statement that the program does today.
+-- other statements aren't done yet
 not_built : false ≡ true → ⊥
 not_built h = cc
 
+-- So does each statement that the program does today.
 pub built_paged : (session : ℕ) (statement : Statement) → IsTrue (is_built session statement) → IsPaged statement
 unfolding first_turn
 built_paged session (CreateDb name size raw cache) h = λ s k. record { made = refl; pages = tt; next = refl }

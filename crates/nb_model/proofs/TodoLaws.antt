@@ -136,10 +136,11 @@ pub cache_single : IsSingle ShowCache
 unfolding first_turn cache_turn
 cache_single s session = refl
 
--- So is each statement that the program does today.
+-- other statements aren't done yet
 not_built : false ≡ true → ⊥
 not_built h = cc
 
+-- So is each statement that the program does today.
 pub built_single : (session : ℕ) (statement : Statement) → IsTrue (is_built session statement) → IsSingle statement
 unfolding first_turn
 built_single session (CreateDb name size raw cache) h = λ s k. refl
