@@ -1,6 +1,6 @@
 -- What sessions have still to do, when they have finished, and what page statements answer.
 use Rattle.std.proofs.Common.{◌≡◌, ◌≢◌, inl, inr, ℕ, zero, suc, ◌+◌, ◌-◌, ◌<◌, ◌≤◌, List, [], ◌∷◌, ◌++◌, length, map, drop, replicate, get_or, set, max, refl, sym, ap, subst, ◌∙◌, arith, get_or-set_other, get_or-set_same, append_assoc, drop_of_length-le, ◌⊎◌}
-use Rattle.std.specs.Prelude.{Bool, Option, Some, None, true, false, nat_eq, ◌||◌, if◌then◌else◌, slice_index, slice_set}
+use Rattle.std.specs.Prelude.{Bool, Option, Some, None, true, false, nat_eq, ◌||◌, if◌then◌else◌, slice_index, slice_set, IsTrue}
 use Rattle.std.specs.List.{AllByRecursion, slice_index_or}
 use Rattle.std.proofs.lemmas.Bool.Decides.{eqb_tells, leb_tells}
 use Rattle.std.proofs.lemmas.List.{get_or_past, drop-drop, drop_more, length-map}
@@ -10,9 +10,10 @@ use Rattle.nb_host.specs.declared.refusals.Refusal.TheVariants.{Usage}
 use Rattle.nb_model.specs.declared.reply.Reply.{Reply}
 use Rattle.nb_model.specs.declared.reply.Reply.TheVariants.{Done, Refused}
 use Rattle.nb_model.specs.declared.statement.Statement.{Statement}
-use Rattle.nb_model.specs.declared.statement.Statement.TheVariants.{PageNew, Write, Read, Free, BeginBackup, CreateTable, DropTable, Insert, Update, Delete, Get, Scan, Forced, Access as SetAccess, Sync, ShowHeader, ShowPages, ShowImage, ShowCache}
+use Rattle.nb_model.specs.declared.statement.Statement.TheVariants.{CreateDb, PageNew, Write, Read, Free, BeginBackup, CreateTable, DropTable, Insert, Update, Delete, Get, Scan, Forced, Access as SetAccess, Sync, ShowHeader, ShowPages, ShowImage, ShowCache}
 use Rattle.nb_model.specs.Image.{Image}
 use Rattle.nb_model.specs.Forms.{Draft}
+use Rattle.nb_model.specs.Built.{is_built}
 use Rattle.nb_model.specs.Causes.{Cause, first_cause, when, read_only, not_raw, lowest_broken, not_of_form, no_room}
 use Rattle.nb_model.specs.Chains.{Chain, Slot, Spot}
 use Rattle.nb_model.specs.Outcomes.{Turn, Begins, Copies, ClosesBackup, ClosesCopy, Ends, Merges, Finishes, Seen, Outcome, unless, changes}
@@ -134,6 +135,18 @@ image_single s session = refl
 pub cache_single : IsSingle ShowCache
 unfolding first_turn cache_turn
 cache_single s session = refl
+
+-- other statements aren't done yet
+not_built : false ≡ true → ⊥
+not_built h = cc
+
+-- So is each statement that the program does today.
+pub built_single : (session : ℕ) (statement : Statement) → IsTrue (is_built session statement) → IsSingle statement
+unfolding first_turn
+built_single session (CreateDb name size raw cache) h = λ s k. refl
+built_single session (Write p text) h = write_single p text
+built_single session (Read p) h = read_single p
+built_single session other h = absurd (not_built h)
 
 -- one number of an order: the session takes the first turn that it has to do, and where it has none it does nothing
 pub one_turn_is : (session : ℕ) (now : Now) (statement : Statement) (rest : List Turn) → slice_index_or now.todo (session - 1) [] ≡ Begins statement ∷ rest
@@ -440,22 +453,45 @@ unfolding unless
 guarded_other s None o c h = h
 guarded_other s (Some r) o c h = refused_other r c
 
-changed_other : (s : Seen) (cs : List Cause) (d : Draft) → AllByRecursion IsOther cs → NoUsage (changes s cs d Done)
+changed_other : (s : Seen) (cs : List Cause) (d : Draft) (reply : Reply) → AllByRecursion IsOther cs → Some reply ≢ Some (Refused Usage) → NoUsage (changes s cs d reply)
 unfolding changes
-changed_other s cs d h = guarded_other s _ _ (other_first _ (behind cs h)) (λ e. cc)
+changed_other s cs d reply h other = guarded_other s _ _ (other_first _ (behind cs h)) other
   where
     behind : (xs : List Cause) → AllByRecursion IsOther xs → AllByRecursion IsOther (xs ++ not_of_form d ∷ no_room d ∷ [])
     behind [] k = (other_broken d.broken, (other_when _ _ (λ e. cc), tt))
     behind (x ∷ xs) k = (k.0, behind xs k.1)
 
--- No write and no read is refused as words that name no job,
+-- No statement on a page or the header is refused as words that name no job,
 pub write_never_usage : (s : Seen) (session p : ℕ) (text : List ℕ) → (first_turn s session (Write p text)).reply ≢ Some (Refused Usage)
 unfolding first_turn write_turn
-write_never_usage s session p text = changed_other s _ _ (other_raw s.base.image p, (other_read_only s.base.image, (other_when _ _ (λ e. cc), tt)))
+write_never_usage s session p text = changed_other s _ _ Done (other_raw s.base.image p, (other_read_only s.base.image, (other_when _ _ (λ e. cc), tt))) (λ e. cc)
+
+pub free_never_usage : (s : Seen) (session p : ℕ) → (first_turn s session (Free p)).reply ≢ Some (Refused Usage)
+unfolding first_turn free_turn
+free_never_usage s session p = changed_other s _ _ Done (other_raw s.base.image p, (other_read_only s.base.image, tt)) (λ e. cc)
+
+pub new_never_usage : (s : Seen) (session : ℕ) → (first_turn s session PageNew).reply ≢ Some (Refused Usage)
+unfolding first_turn new_turn
+new_never_usage s session = changed_other s _ _ _ (other_read_only s.base.image, tt) (λ e. cc)
+
+pub forced_never_usage : (s : Seen) (session : ℕ) (on : Bool) → (first_turn s session (Forced on)).reply ≢ Some (Refused Usage)
+unfolding first_turn forced_turn
+forced_never_usage s session on = guarded_other s _ _ (other_read_only s.base.image) (λ e. cc)
+
+pub access_never_usage : (s : Seen) (session : ℕ) (closed : Bool) → (first_turn s session (SetAccess closed)).reply ≢ Some (Refused Usage)
+unfolding first_turn access_turn
+access_never_usage s session closed = guarded_other s _ _ (other_when _ _ (λ e. cc)) (λ e. cc)
 
 pub read_never_usage : (s : Seen) (session p : ℕ) → (first_turn s session (Read p)).reply ≢ Some (Refused Usage)
 unfolding first_turn read_turn
 read_never_usage s session p = guarded_other s _ _ (other_first _ (other_raw s.base.image p, (other_when _ _ (λ e. cc), tt))) (λ e. cc)
+
+pub built_never_usage : (k : ℕ) (statement : Statement) → IsTrue (is_built k statement) → (s : Seen) (session : ℕ) → (first_turn s session statement).reply ≢ Some (Refused Usage)
+unfolding first_turn
+built_never_usage k (CreateDb name size raw cache) h = λ s session e. cc
+built_never_usage k (Write p text) h = λ s session. write_never_usage s session p text
+built_never_usage k (Read p) h = λ s session. read_never_usage s session p
+built_never_usage k other h = absurd (not_built h)
 
 -- the reply is a refusal
 abbrev pub is_refusal : Reply → Bool
