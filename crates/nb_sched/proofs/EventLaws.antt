@@ -1,7 +1,8 @@
 -- One statement and its line are one event.
 use Rattle.std.proofs.Common.{◌≡◌, ℕ, ◌+◌, ◌≤◌, List, [], ◌∷◌, ◌++◌, length, take, Bool, true, false, refl, sym, ap, subst, ◌∙◌, arith, length-take, take-append-drop}
 use Rattle.std.specs.Prelude.{Result, Ok, Err, OnOk, IfOk, Option, Some, if◌then◌else◌, max}
-use Rattle.std.proofs.lemmas.List.{append-nil, take_all, take-take, take-append-le}
+use Rattle.std.specs.Result.{IsErr}
+use Rattle.std.proofs.lemmas.List.{append-nil, take_all}
 use Rattle.nb_host.specs.Files.{File, Files}
 use Rattle.nb_host.specs.World.{World}
 use Rattle.nb_host.specs.Crash.{Leaves, Untouched}
@@ -213,3 +214,18 @@ module _ (old new : World) (held : Opened) (now : Now) (session : ℕ) (r : Repl
       status = status_one said_event r refl ∙ status;
     };
   }
+
+-- a result that is a failure
+pub plays_err : (result : Result Bool Stop) (old new : World) (before after : Opened) (now : Now) (p : Played) → IsErr result → ((e : Stop) → Plays (Err e) old new before after now p) → Plays result old new before after now p
+plays_err (Ok x) old new before after now p is plays = absurd (no_err is)
+  where
+    no_err : IsErr {T = Bool} {E = Stop} (Ok x) → ⊥
+    no_err h = cc
+plays_err (Err e) old new before after now p is plays = plays e
+
+-- what is held was held before
+pub plays_from : (result : Result Bool Stop) (old new : World) (before after : Opened) (now : Now) (p : Played) → after ≡ before → Plays result old new after after now p → Plays result old new before after now p
+plays_from result old new before after now p same plays = subst (λ (x : Opened). Plays result old new x after now p) same plays
+
+pub plays_same : (a b : Bool) (old new : World) (before after : Opened) (now : Now) (p : Played) → a ≡ b → Plays (Ok a) old new before after now p → Plays (Ok b) old new before after now p
+plays_same a b old new before after now p same plays = subst (λ (x : Bool). Plays (Ok x) old new before after now p) same plays

@@ -1,6 +1,7 @@
 -- Saying a line.
-use Rattle.std.proofs.Common.{◌≡◌, ⊎_elim, inl, inr, ℕ, zero, suc, ◌+◌, ◌-◌, ◌≤◌, List, [], ◌∷◌, ◌++◌, Bool, length, take, refl, sym, ap, ◌∙◌, arith}
+use Rattle.std.proofs.Common.{◌≡◌, ⊎_elim, inl, inr, ℕ, zero, suc, ◌+◌, ◌-◌, ◌≤◌, List, [], ◌∷◌, ◌++◌, Bool, length, take, refl, sym, ap, ◌∙◌, subst, arith}
 use Rattle.std.specs.Prelude.{Result, Ok, Err, IsTrue, OnOk, min}
+use Rattle.std.specs.Result.{IsErr}
 use Rattle.std.proofs.Math.Seq.{take-append-add}
 use Rattle.std.proofs.lemmas.List.{append-nil, take_all, take-take}
 use Rattle.nb_host.specs.Files.{Files}
@@ -25,10 +26,10 @@ said_part tells told (Err e) old new bytes says = let part = says.said told in r
 
 -- a front of a front
 take_fewer : (j k : ℕ) (l : List ℕ) → take j (take k l) ≡ take (min j k) l
-take_fewer zero k l = refl
-take_fewer (suc j) zero l = refl
-take_fewer (suc j) (suc k) [] = refl
-take_fewer (suc j) (suc k) (x ∷ l) = ap (λ (r : List ℕ). x ∷ r) (take_fewer j k l)
+take_fewer zero k l = let e : min 0 k ≡ 0 = omega arith in sym (ap (λ (n : ℕ). take n l) e)
+take_fewer (suc j) zero l = let e : min (suc j) 0 ≡ 0 = omega arith in sym (ap (λ (n : ℕ). take n l) e)
+take_fewer (suc j) (suc k) [] = let e : min (suc j) (suc k) ≡ suc (min j k) = omega arith in sym (ap (λ (n : ℕ). take n []) e)
+take_fewer (suc j) (suc k) (x ∷ l) = let e : min (suc j) (suc k) ≡ suc (min j k) = omega arith in ap (λ (r : List ℕ). x ∷ r) (take_fewer j k l) ∙ sym (ap (λ (n : ℕ). take n (x ∷ l)) e)
 
 while_saying : (old new : World) (bytes : List ℕ) (count : ℕ) → IsStill old new → new.said ≡ old.said ++ take count bytes → (files : Files) (said : List ℕ) → IsWhileSaying old new files said → FrontSaid old bytes files said
 while_saying old new bytes count still is files said saying =
@@ -63,6 +64,14 @@ says_line tells told result after old new bytes timely still says time done =
       said = done;
     }
 
-pub err_unsaid : {S F P : Type 0} (result : Result S F) → Rattle.std.specs.Result.IsErr result → OnOk result P
-err_unsaid (Ok x) is = absurd is
-err_unsaid (Err e) is = tt
+-- a failure said nothing whole
+pub err_unsaid : {S F : Type 0} (P : Type 0) (result : Result S F) → IsErr result → OnOk result P
+err_unsaid {S} {F} P (Ok x) is = absurd (no_err is)
+  where
+    no_err : IsErr {T = S} {E = F} (Ok x) → ⊥
+    no_err h = cc
+err_unsaid P (Err e) is = tt
+
+-- the same line
+pub says_other : {T E : Type 0} (result : Result T E) (old new : World) (a b : List ℕ) → a ≡ b → SaysLine result old new a → SaysLine result old new b
+says_other result old new a b same says = subst (λ (l : List ℕ). SaysLine result old new l) same says
