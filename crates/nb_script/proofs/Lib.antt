@@ -8,3 +8,5 @@ pub mod Prints
 pub mod WordLaws
 pub mod StatementLaws
 pub mod FirstLaws
+pub mod FitLaws
+pub mod AskedLemmas

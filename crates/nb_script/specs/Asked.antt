@@ -1,26 +1,27 @@
--- What a script can ask today.
-use Rattle.std.specs.Prelude.{ℕ, Bool, true, false, not, IsTrue, List}
+-- What a script that was read asks.
+use Rattle.std.specs.Prelude.{ℕ, Bool, true, false, not, IsTrue}
 use Rattle.std.specs.List.{AllByRecursion}
 use Rattle.nb_model.specs.Built.{is_built}
 use Rattle.nb_model.specs.declared.statement.Statement.{Statement}
 use Rattle.nb_model.specs.declared.statement.Statement.TheVariants.{CreateDb, OpenDb}
+use Rattle.nb_script.specs.Fits.{Fits, FitsFirst}
 use Rattle.nb_script.specs.Scripts.{Plan, statements_of}
 
 -- the statement names the database of the script
 abbrev pub opens : Statement → Bool
 opens statement = elim statement [ CreateDb name page_size raw cache ↦ true | OpenDb name cache ↦ true | _ ↦ false ]
 
--- a first statement that some session can ask
+-- a first statement that can be asked today
 pub record IsFirst (statement : Statement) : Type 0 where
-  pub session : ℕ
-  pub is_built : IsTrue (is_built session statement)
+  pub is_built : IsTrue (is_built statement)
   pub opens : IsTrue (opens statement)
+  pub fits : FitsFirst statement
 
--- a further statement that some session can ask
+-- a further statement that can be asked today
 pub record IsFurther (statement : Statement) : Type 0 where
-  pub session : ℕ
-  pub is_built : IsTrue (is_built session statement)
+  pub is_built : IsTrue (is_built statement)
   pub opens_none : IsTrue (not (opens statement))
+  pub fits : Fits statement
 
 -- a script of such statements
 pub record IsAskable (script : Plan) : Type 0 where

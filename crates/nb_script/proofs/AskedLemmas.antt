@@ -1,0 +1,181 @@
+-- A script that bytes spell asks only what the program can do, and names its database in the first statement alone.
+use Rattle.std.proofs.Common.{◌≡◌, ℕ, zero, suc, ◌+◌, ◌-◌, ◌<◌, ◌≤◌, Bool, true, false, not, List, [], ◌∷◌, ◌++◌, length, get_or, set, refl, sym, ◌∙◌, ap, subst, arith}
+use Rattle.std.specs.Prelude.{Option, Some, None, Result, Ok, Err, IsTrue, IfOk, if◌then◌else◌, replicate, codes, nat_lt}
+use Rattle.std.specs.List.{AllByRecursion}
+use Rattle.nb_host.specs.declared.faults.Fault.{Fault}
+use Rattle.nb_host.specs.declared.refusals.Refusal.{Refusal}
+use Rattle.nb_host.specs.declared.refusals.Refusal.TheVariants.{BadScript, ScriptLong}
+use Rattle.nb_model.specs.Built.{is_built}
+use Rattle.nb_model.specs.declared.statement.Statement.{Statement}
+use Rattle.nb_model.specs.declared.statement.Statement.TheVariants.{CreateDb, OpenDb, PageNew, Write, Read, Free, BeginBackup, EndBackup, Backup, BackupSince, CopyTo, CreateTable, DropTable, Insert, Update, Delete, Get, Scan, Forced, Access, Sync, ShowHeader, ShowPages, ShowImage, ShowCache}
+use Rattle.nb_script.specs.Words.{Bytes, ◌>>=◌, after, session_at}
+use Rattle.nb_script.specs.Statements.{built, statement_at, spelled_at, session_line, command_at}
+use Rattle.nb_script.specs.FirstLine.{first_at, first_spelled, database_at}
+use Rattle.nb_script.specs.Scripts.{Plan, Numbered, started, statements_of, with_statement, or_bad, with_lines, order_in, with_order, of_lines, script_of, IsAnswer}
+use Rattle.nb_script.specs.Lines.{lines_of, left}
+use Rattle.nb_script.specs.Fits.{Fits, FitsFirst}
+use Rattle.nb_script.specs.Asked.{opens, IsFirst, IsFurther, IsAskable}
+use Rattle.nb_script.proofs.FitLaws.{If, nothing, just, either, tested, follows, mapped, any, within_fits, command_fits, database_fits}
+
+-- a line of a session 1 to 16 whose statement has P
+abbrev IsLine : (Statement → Type 0) → ℕ × Statement → Type 0
+IsLine P line = (1 ≤ line.0) × (line.0 ≤ 16) × P line.1
+
+session_fits : (line : Bytes) → If (λ (x : ℕ × Bytes). (1 ≤ x.0) × (x.0 ≤ 16)) (session_line line)
+unfolding session_line
+session_fits line = follows (session_at line) _ (within_fits 1 16 line) (λ session range. follows (after (codes ": ") session.1) _ (any _) (λ rest _. just _ range))
+
+spelled_fits : (line : Bytes) → If (IsLine Fits) (spelled_at line)
+unfolding spelled_at
+spelled_fits line = follows (session_line line) _ (session_fits line) (λ session range. follows (command_at session.1) _ (command_fits session.1) (λ statement fits. just _ (range.0, range.1, fits)))
+
+first_spelled_fits : (line : Bytes) → If (IsLine FitsFirst) (first_spelled line)
+unfolding first_spelled
+first_spelled_fits line = follows (session_line line) _ (session_fits line) (λ session range. follows (database_at session.1) _ (database_fits session.1) (λ statement fits. just _ (range.0, range.1, fits)))
+
+-- no further statement names a database
+opens_none : (s : Statement) → Fits s → IsTrue (not (opens s))
+opens_none (CreateDb name page_size raw cache) fits = absurd fits
+opens_none (OpenDb name cache) fits = absurd fits
+opens_none PageNew fits = refl
+opens_none (Write page text) fits = refl
+opens_none (Read page) fits = refl
+opens_none (Free page) fits = refl
+opens_none BeginBackup fits = refl
+opens_none EndBackup fits = refl
+opens_none (Backup level name) fits = refl
+opens_none (BackupSince guid name) fits = refl
+opens_none (CopyTo name) fits = refl
+opens_none (CreateTable table) fits = refl
+opens_none (DropTable table) fits = refl
+opens_none (Insert table key text) fits = refl
+opens_none (Update table key text) fits = refl
+opens_none (Delete table key) fits = refl
+opens_none (Get table key) fits = refl
+opens_none (Scan table) fits = refl
+opens_none (Forced on) fits = refl
+opens_none (Access read_only) fits = refl
+opens_none Sync fits = refl
+opens_none ShowHeader fits = refl
+opens_none ShowPages fits = refl
+opens_none ShowImage fits = refl
+opens_none ShowCache fits = refl
+
+-- and the first always does
+opens_one : (s : Statement) → FitsFirst s → IsTrue (opens s)
+opens_one (CreateDb name page_size raw cache) fits = refl
+opens_one (OpenDb name cache) fits = refl
+opens_one PageNew fits = absurd fits
+opens_one (Write page text) fits = absurd fits
+opens_one (Read page) fits = absurd fits
+opens_one (Free page) fits = absurd fits
+opens_one BeginBackup fits = absurd fits
+opens_one EndBackup fits = absurd fits
+opens_one (Backup level name) fits = absurd fits
+opens_one (BackupSince guid name) fits = absurd fits
+opens_one (CopyTo name) fits = absurd fits
+opens_one (CreateTable table) fits = absurd fits
+opens_one (DropTable table) fits = absurd fits
+opens_one (Insert table key text) fits = absurd fits
+opens_one (Update table key text) fits = absurd fits
+opens_one (Delete table key) fits = absurd fits
+opens_one (Get table key) fits = absurd fits
+opens_one (Scan table) fits = absurd fits
+opens_one (Forced on) fits = absurd fits
+opens_one (Access read_only) fits = absurd fits
+opens_one Sync fits = absurd fits
+opens_one ShowHeader fits = absurd fits
+opens_one ShowPages fits = absurd fits
+opens_one ShowImage fits = absurd fits
+opens_one ShowCache fits = absurd fits
+
+-- a line that is built has a statement that the program can do
+built_is : (P Q : Statement → Type 0) (o : Option (ℕ × Statement)) → If (IsLine P) o → ((s : Statement) → P s → IsTrue (is_built s) → Q s) → If (IsLine Q) (built o)
+built_is P Q None has next = nothing
+built_is P Q (Some line) has next = tested (Some line) (is_built line.1) (λ can. let is = has.holds line refl in just line (is.0, is.1, next line.1 is.2 can))
+
+further_line : (line : Bytes) → If (IsLine IsFurther) (statement_at line)
+unfolding statement_at
+further_line line = built_is Fits IsFurther (spelled_at line) (spelled_fits line) (λ s fits can. record { is_built = can; opens_none = opens_none s fits; fits = fits })
+
+first_line : (line : Bytes) → If (IsLine IsFirst) (first_at line)
+unfolding first_at
+first_line line = built_is FitsFirst IsFirst (first_spelled line) (first_spelled_fits line) (λ s fits can. record { is_built = can; opens = opens_one s fits; fits = fits })
+
+-- each list of statements asks only further ones
+abbrev AllFurther : List (List Statement) → Type 0
+AllFurther lists = AllByRecursion (AllByRecursion IsFurther) lists
+
+further_at : (lists : List (List Statement)) (i : ℕ) → AllFurther lists → AllByRecursion IsFurther (get_or lists i [])
+further_at [] i all = tt
+further_at (l ∷ lists) zero all = all.0
+further_at (l ∷ lists) (suc i) all = further_at lists i all.1
+
+further_push : (statements : List Statement) (s : Statement) → AllByRecursion IsFurther statements → IsFurther s → AllByRecursion IsFurther (statements ++ s ∷ [])
+further_push [] s all is = (is, tt)
+further_push (k ∷ statements) s all is = (all.0, further_push statements s all.1 is)
+
+further_set : (lists : List (List Statement)) (i : ℕ) (statements : List Statement) → AllFurther lists → AllByRecursion IsFurther statements → AllFurther (set lists i statements)
+further_set [] i statements all is = tt
+further_set (l ∷ lists) zero statements all is = (is, all.1)
+further_set (l ∷ lists) (suc i) statements all is = (all.0, further_set lists i statements all.1 is)
+
+none_asked : (n : ℕ) → AllFurther (replicate n [])
+none_asked zero = tt
+none_asked (suc n) = (tt, none_asked n)
+
+-- what is kept of a script while its lines are read
+record Holds (plan : Plan) : Type 0 where
+  pub first : IsFirst plan.first
+  pub further : AllFurther plan.sessions
+
+holds_more : (plan : Plan) (line : ℕ × Statement) → Holds plan → IsLine IsFurther line → Holds (with_statement plan line)
+holds_more plan line holds is = record {
+  first = holds.first;
+  further = further_set plan.sessions (line.0 - 1) (statements_of plan line.0 ++ line.1 ∷ []) holds.further (further_push (statements_of plan line.0) line.1 (further_at plan.sessions (line.0 - 1) holds.further) is.2);
+}
+
+holds_first : (first : ℕ × Statement) (order : List ℕ) → IsLine IsFirst first → Holds (started first.0 first.1 order)
+holds_first first order is = record { first = is.2; further = none_asked 16 }
+
+-- where an answer is a script, it holds
+abbrev IfRead : Result Plan Refusal → Type 0
+IfRead (Ok plan) = Holds plan
+IfRead (Err refusal) = Unit {0}
+
+or_bad_holds : (P : Statement → Type 0) (line : Numbered) (o : Option (ℕ × Statement)) (next : ℕ × Statement → Result Plan Refusal) → If (IsLine P) o → ((read : ℕ × Statement) → IsLine P read → IfRead (next read)) → IfRead (or_bad line o next)
+or_bad_holds P line None next is all = tt
+or_bad_holds P line (Some read) next is all = all read (is.holds read refl)
+
+lines_hold : (taken : ℕ) (plan : Plan) (lines : List Numbered) → Holds plan → IfRead (with_lines taken plan lines)
+unfolding with_lines
+lines_hold taken plan [] holds = holds
+lines_hold taken plan (line ∷ lines) holds =
+    or_bad_holds IsFurther line (if nat_lt taken 10000 then statement_at line.1 else None) (λ read. with_lines (taken + 1) (with_statement plan read) lines) (tested (statement_at line.1) (nat_lt taken 10000) (λ room. further_line line.1))
+    (λ read is. lines_hold (taken + 1) (with_statement plan read) lines (holds_more plan read holds is))
+
+of_lines_hold : (count : ℕ) (lines : List Numbered) → IfRead (of_lines count lines)
+unfolding of_lines with_order
+of_lines_hold count [] = tt
+of_lines_hold count (line ∷ lines) =
+    or_bad_holds IsFirst line (first_at line.1) (λ first. with_order first lines) (first_line line.1)
+    (λ first is. lines_hold 1 (started first.0 first.1 (order_in lines).0) (order_in lines).1 (holds_first first (order_in lines).0 is))
+
+script_holds : (bytes : Bytes) → IfRead (script_of bytes)
+unfolding script_of
+script_holds bytes = by_test (nat_lt 1048576 (length bytes))
+  where
+    by_test : (b : Bool) → IfRead (if b then Err (ScriptLong (length bytes)) else of_lines (length (lines_of bytes)) (left 0 bytes))
+    by_test true = tt
+    by_test false = of_lines_hold (length (lines_of bytes)) (left 0 bytes)
+
+-- a script that bytes spell is askable
+spelled_is_askable : (bytes : Bytes) (plan : Plan) → script_of bytes ≡ Ok plan → IsAskable plan
+spelled_is_askable bytes plan is =
+    let holds = subst IfRead is (script_holds bytes) in
+    record { first = holds.first; further = λ session. further_at plan.sessions (session - 1) holds.further }
+
+-- and so is a script that was answered
+pub answer_is_askable : (bytes : Bytes) (answer : Result Plan Fault) → IsAnswer answer (script_of bytes) → IfOk answer IsAskable
+answer_is_askable bytes (Ok plan) is = spelled_is_askable bytes plan is
+answer_is_askable bytes (Err fault) is = tt
