@@ -1,8 +1,10 @@
 -- A script that bytes spell asks only what the program can do, and names its database in the first statement alone.
-use Rattle.std.proofs.Common.{◌≡◌, ℕ, zero, suc, ◌+◌, ◌-◌, ◌<◌, ◌≤◌, Bool, true, false, not, List, [], ◌∷◌, ◌++◌, length, get_or, set, refl, sym, ◌∙◌, ap, subst, arith}
-use Rattle.std.specs.Prelude.{Option, Some, None, Result, Ok, Err, IsTrue, IfOk, if◌then◌else◌, replicate, codes, nat_lt}
+use Rattle.std.proofs.Common.{◌≡◌, ℕ, zero, suc, ◌+◌, ◌-◌, ◌<◌, ◌≤◌, ◌==◌, Bool, true, false, not, List, [], ◌∷◌, ◌++◌, length, get_or, set, length-append, refl, sym, ◌∙◌, ap, subst, arith}
+use Rattle.std.specs.Prelude.{Option, Some, None, Result, Ok, Err, IsTrue, IfOk, if◌then◌else◌, option_map, replicate, codes, nat_lt}
 use Rattle.std.specs.List.{AllByRecursion}
 use Rattle.nb_host.specs.declared.faults.Fault.{Fault}
+use Rattle.std.proofs.lemmas.Bool.{ltb-true}
+use Rattle.std.proofs.lemmas.List.{length-set}
 use Rattle.nb_host.specs.declared.refusals.Refusal.{Refusal}
 use Rattle.nb_host.specs.declared.refusals.Refusal.TheVariants.{BadScript, ScriptLong}
 use Rattle.nb_model.specs.Built.{is_built}
@@ -13,8 +15,10 @@ use Rattle.nb_script.specs.Statements.{built, statement_at, spelled_at, session_
 use Rattle.nb_script.specs.FirstLine.{first_at, first_spelled, database_at}
 use Rattle.nb_script.specs.Scripts.{Plan, Numbered, started, statements_of, with_statement, or_bad, with_lines, order_in, with_order, of_lines, script_of, IsAnswer}
 use Rattle.nb_script.specs.Lines.{lines_of, left}
-use Rattle.nb_script.specs.Fits.{Fits, FitsFirst}
-use Rattle.nb_script.specs.Asked.{opens, IsFirst, IsFurther, IsAskable}
+use Rattle.nb_script.specs.Fits.{Fits, FitsFirst, FitsOrder, IsSession}
+use Rattle.nb_script.specs.Asked.{opens, IsFirst, IsFurther, IsAskable, statement_count}
+use Rattle.nb_script.specs.Order.{spaced_session, sessions_at, seed_at, order_spelled, order_at}
+use Rattle.nb_model.specs.Seeds.{seeded, stepped, session_of}
 use Rattle.nb_script.proofs.FitLaws.{If, nothing, just, either, tested, follows, mapped, any, within_fits, command_fits, database_fits}
 
 -- a line of a session 1 to 16 whose statement has P
@@ -103,7 +107,7 @@ unfolding first_at
 first_line line = built_is FitsFirst IsFirst (first_spelled line) (first_spelled_fits line) (λ s fits can. record { is_built = can; opens = opens_one s fits; fits = fits })
 
 -- each list of statements asks only further ones
-abbrev AllFurther : List (List Statement) → Type 0
+abbrev pub AllFurther : List (List Statement) → Type 0
 AllFurther lists = AllByRecursion (AllByRecursion IsFurther) lists
 
 further_at : (lists : List (List Statement)) (i : ℕ) → AllFurther lists → AllByRecursion IsFurther (get_or lists i [])
@@ -124,42 +128,115 @@ none_asked : (n : ℕ) → AllFurther (replicate n [])
 none_asked zero = tt
 none_asked (suc n) = (tt, none_asked n)
 
--- what is kept of a script while its lines are read
-record Holds (plan : Plan) : Type 0 where
+-- one statement more is counted
+counted_push : (statements : List Statement) (s : Statement) → length (statements ++ s ∷ []) ≡ length statements + 1
+counted_push statements s = length-append statements (s ∷ [])
+
+counted_more : (lists : List (List Statement)) (i : ℕ) (s : Statement) → i < length lists → statement_count (set lists i (get_or lists i [] ++ s ∷ [])) ≡ statement_count lists + 1
+counted_more [] i s inside = absurd (omega arith)
+counted_more (l ∷ lists) zero s inside = omega (arith, counted_push l s)
+counted_more (l ∷ lists) (suc i) s inside = omega (arith, counted_more lists i s (omega arith))
+
+none_counted : (n : ℕ) → statement_count (replicate n []) ≡ 0
+none_counted zero = refl
+none_counted (suc n) = omega (arith, none_counted n)
+
+-- an order that is read names sessions, few enough
+each_read : (most : ℕ) (bytes : Bytes) → If (λ (order : List ℕ). (length order ≤ most) × AllByRecursion IsSession order) (sessions_at most bytes)
+unfolding sessions_at spaced_session
+each_read zero bytes = nothing
+each_read (suc most) bytes =
+    follows _ _ (follows (after (codes " ") bytes) _ (any _) (λ rest _. within_fits 1 16 rest))
+    (λ session range. either _ _ (length session.1 == 0) (λ _. just (session.0 ∷ []) (omega arith, (range, tt)))
+    (λ _. mapped (λ others. session.0 ∷ others) (sessions_at most session.1) (each_read most session.1) (λ others is. (omega (arith, is.0), (range, is.1)))))
+
+length_seeded : (count x : ℕ) → length (seeded count x) ≡ count
+unfolding seeded
+length_seeded zero x = refl
+length_seeded (suc count) x = ap suc (length_seeded count (stepped x))
+
+each_seeded : (count x : ℕ) → AllByRecursion IsSession (seeded count x)
+unfolding seeded session_of
+each_seeded zero x = tt
+each_seeded (suc count) x = ((omega arith, omega arith), each_seeded count (stepped x))
+
+order_fits : (line : Bytes) → If FitsOrder (order_at line)
+unfolding order_at order_spelled
+order_fits line = by_word (after (codes "schedule") line)
+  where
+    by_word : (word : Option Bytes) → If FitsOrder (elim word [ Some rest ↦ sessions_at 4096 rest | None ↦ option_map (seeded 4096) (after (codes "seed ") line >>= seed_at) ])
+    by_word (Some rest) = record { holds = λ order is. let read = (each_read 4096 rest).holds order is in record { few = read.0; each = read.1 } }
+    by_word None = mapped (seeded 4096) _ (any _) (λ seed _. record { few = omega (arith, length_seeded 4096 seed); each = each_seeded 4096 seed })
+
+order_in_fits : (lines : List Numbered) → FitsOrder (order_in lines).0
+unfolding order_in
+order_in_fits [] = record { few = omega arith; each = tt }
+order_in_fits (line ∷ lines) = by_order (order_at line.1) (order_fits line.1)
+  where
+    by_order : (order : Option (List ℕ)) → If FitsOrder order → FitsOrder (elim order as (λ (o : Option (List ℕ)). List ℕ × List Numbered) [ Some schedule ↦ (schedule, lines) | None ↦ ([], line ∷ lines) ]).0
+    by_order None is = record { few = omega arith; each = tt }
+    by_order (Some schedule) is = is.holds schedule refl
+
+-- what is kept of a script while its lines are read, where it has `taken` statements
+record Holds (taken : ℕ) (plan : Plan) : Type 0 where
+  pub asker : IsSession plan.first_session
   pub first : IsFirst plan.first
+  pub order : FitsOrder plan.schedule
+  pub sixteen : length plan.sessions ≡ 16
+  pub counted : statement_count plan.sessions + 1 ≡ taken
+  pub few : taken ≤ 10000
   pub further : AllFurther plan.sessions
 
-holds_more : (plan : Plan) (line : ℕ × Statement) → Holds plan → IsLine IsFurther line → Holds (with_statement plan line)
-holds_more plan line holds is = record {
+holds_more : (taken : ℕ) (plan : Plan) (line : ℕ × Statement) → taken < 10000 → Holds taken plan → IsLine IsFurther line → Holds (taken + 1) (with_statement plan line)
+holds_more taken plan line room holds is = record {
+  asker = holds.asker;
   first = holds.first;
+  order = holds.order;
+  sixteen = length-set plan.sessions (line.0 - 1) (statements_of plan line.0 ++ line.1 ∷ []) ∙ holds.sixteen;
+  counted = omega (arith, counted_more plan.sessions (line.0 - 1) line.1 (omega (arith, holds.sixteen, is.0, is.1)), holds.counted);
+  few = omega arith;
   further = further_set plan.sessions (line.0 - 1) (statements_of plan line.0 ++ line.1 ∷ []) holds.further (further_push (statements_of plan line.0) line.1 (further_at plan.sessions (line.0 - 1) holds.further) is.2);
 }
 
-holds_first : (first : ℕ × Statement) (order : List ℕ) → IsLine IsFirst first → Holds (started first.0 first.1 order)
-holds_first first order is = record { first = is.2; further = none_asked 16 }
+holds_first : (first : ℕ × Statement) (order : List ℕ) → IsLine IsFirst first → FitsOrder order → Holds 1 (started first.0 first.1 order)
+holds_first first order is fits = record { asker = (is.0, is.1); first = is.2; order = fits; sixteen = refl; counted = refl; few = omega arith; further = none_asked 16 }
 
 -- where an answer is a script, it holds
 abbrev IfRead : Result Plan Refusal → Type 0
-IfRead (Ok plan) = Holds plan
+IfRead (Ok plan) = IsAskable plan
 IfRead (Err refusal) = Unit {0}
 
-or_bad_holds : (P : Statement → Type 0) (line : Numbered) (o : Option (ℕ × Statement)) (next : ℕ × Statement → Result Plan Refusal) → If (IsLine P) o → ((read : ℕ × Statement) → IsLine P read → IfRead (next read)) → IfRead (or_bad line o next)
+or_bad_holds : (P : ℕ × Statement → Type 0) (line : Numbered) (o : Option (ℕ × Statement)) (next : ℕ × Statement → Result Plan Refusal) → If P o → ((read : ℕ × Statement) → P read → IfRead (next read)) → IfRead (or_bad line o next)
 or_bad_holds P line None next is all = tt
 or_bad_holds P line (Some read) next is all = all read (is.holds read refl)
 
-lines_hold : (taken : ℕ) (plan : Plan) (lines : List Numbered) → Holds plan → IfRead (with_lines taken plan lines)
+askable : (taken : ℕ) (plan : Plan) → Holds taken plan → IsAskable plan
+askable taken plan holds = record {
+  asker = holds.asker;
+  first = holds.first;
+  order = holds.order;
+  sixteen = holds.sixteen;
+  few = omega (arith, holds.counted, holds.few);
+  further = λ session. further_at plan.sessions (session - 1) holds.further;
+}
+
+lines_hold : (taken : ℕ) (plan : Plan) (lines : List Numbered) → Holds taken plan → IfRead (with_lines taken plan lines)
 unfolding with_lines
-lines_hold taken plan [] holds = holds
+lines_hold taken plan [] holds = askable taken plan holds
 lines_hold taken plan (line ∷ lines) holds =
-    or_bad_holds IsFurther line (if nat_lt taken 10000 then statement_at line.1 else None) (λ read. with_lines (taken + 1) (with_statement plan read) lines) (tested (statement_at line.1) (nat_lt taken 10000) (λ room. further_line line.1))
-    (λ read is. lines_hold (taken + 1) (with_statement plan read) lines (holds_more plan read holds is))
+    or_bad_holds (λ read. IsLine IsFurther read × (taken < 10000)) line (if nat_lt taken 10000 then statement_at line.1 else None) (λ read. with_lines (taken + 1) (with_statement plan read) lines)
+    (tested (statement_at line.1) (nat_lt taken 10000) (λ room. with_room (statement_at line.1) (further_line line.1) (ltb-true taken 10000 room)))
+    (λ read is. lines_hold (taken + 1) (with_statement plan read) lines (holds_more taken plan read is.1 holds is.0))
+  where
+    with_room : (o : Option (ℕ × Statement)) → If (IsLine IsFurther) o → taken < 10000 → If (λ (read : ℕ × Statement). IsLine IsFurther read × (taken < 10000)) o
+    with_room o is room = record { holds = λ read same. (is.holds read same, room) }
 
 of_lines_hold : (count : ℕ) (lines : List Numbered) → IfRead (of_lines count lines)
 unfolding of_lines with_order
 of_lines_hold count [] = tt
 of_lines_hold count (line ∷ lines) =
-    or_bad_holds IsFirst line (first_at line.1) (λ first. with_order first lines) (first_line line.1)
-    (λ first is. lines_hold 1 (started first.0 first.1 (order_in lines).0) (order_in lines).1 (holds_first first (order_in lines).0 is))
+    or_bad_holds (IsLine IsFirst) line (first_at line.1) (λ first. with_order first lines) (first_line line.1)
+    (λ first is. lines_hold 1 (started first.0 first.1 (order_in lines).0) (order_in lines).1 (holds_first first (order_in lines).0 is (order_in_fits lines)))
 
 script_holds : (bytes : Bytes) → IfRead (script_of bytes)
 unfolding script_of
@@ -171,9 +248,7 @@ script_holds bytes = by_test (nat_lt 1048576 (length bytes))
 
 -- a script that bytes spell is askable
 spelled_is_askable : (bytes : Bytes) (plan : Plan) → script_of bytes ≡ Ok plan → IsAskable plan
-spelled_is_askable bytes plan is =
-    let holds = subst IfRead is (script_holds bytes) in
-    record { first = holds.first; further = λ session. further_at plan.sessions (session - 1) holds.further }
+spelled_is_askable bytes plan is = subst IfRead is (script_holds bytes)
 
 -- and so is a script that was answered
 pub answer_is_askable : (bytes : Bytes) (answer : Result Plan Fault) → IsAnswer answer (script_of bytes) → IfOk answer IsAskable

@@ -10,3 +10,5 @@ pub mod StatementLaws
 pub mod FirstLaws
 pub mod FitLaws
 pub mod AskedLemmas
+pub mod Unbroken
+pub mod RoundTrip

@@ -119,6 +119,33 @@ fn parse_and_print(rt: HostRuntime) -> Result<(), Fail> {
 }
 
 #[test]
+fn print_parse(rt: HostRuntime) -> Result<(), Fail> {
+    let bytes = b"1: create database 'm.db' page_size 1024 raw 8
+schedule 1 1 1 1 1 1 1 1 1 2
+2: write 6 'y'
+1: write 5 'x'
+1: write 6 'x'
+1: write 7 'x'
+1: write 8 'x'
+1: read 6
+";
+    let text = print(rt.alloc(), &parse(rt.alloc(), bytes)?)?;
+    let wanted = b"1: create database 'm.db' page_size 1024 raw 8 cache 64
+schedule 1 1 1 1 1 1 1 1 1 2
+1: write 5 'x'
+1: write 6 'x'
+1: write 7 'x'
+1: write 8 'x'
+1: read 6
+2: write 6 'y'
+";
+    assert_eq!(rt; text.as_slice(), wanted.as_slice());
+    let again = print(rt.alloc(), &parse(rt.alloc(), &text)?)?;
+    assert_eq!(rt; again.as_slice(), text.as_slice());
+    Ok(())
+}
+
+#[test]
 fn seeds(rt: HostRuntime) -> Result<(), Fail> {
     let mut bytes = FIRST.to_vec(rt.alloc())?;
     bytes.extend_from_slice(b"seed 7\n3: read 6\n")?;
