@@ -47,7 +47,7 @@ fn names_of_tables(rt: HostRuntime) {
     assert!(rt; TableName::read("1t").is_none());
     assert!(rt; TableName::read("").is_none());
     assert!(rt; TableName::read("abcdefghijklmnopqrstuvwxyzabcde").is_none());
-    assert!(rt; is_built(1, &Statement::Read { page: 5 }));
-    assert!(rt; !is_built(2, &Statement::Read { page: 5 }));
-    assert!(rt; !are_schedules_built());
+    assert!(rt; is_built(&Statement::Read { page: 0 }));
+    assert!(rt; !is_built(&Statement::Free { page: 5 }));
+    assert!(rt; are_schedules_built());
 }

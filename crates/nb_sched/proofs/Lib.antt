@@ -1,4 +1,3 @@
-pub mod AskedLemmas
 pub mod StopLaws
 pub mod PlayLaws
 pub mod EventLaws

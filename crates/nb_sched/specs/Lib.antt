@@ -1,5 +1,4 @@
 pub mod Causes
-pub mod Asked
 pub mod Stops
 pub mod Todo
 pub mod Replies

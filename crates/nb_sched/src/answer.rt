@@ -6,7 +6,7 @@ ghost use Rattle.nb_model.specs.Lines.{line_text};
 ghost use Rattle.nb_model.specs.Outcomes.{Turn, Begins};
 ghost use Rattle.nb_model.specs.Run.{Now, base_now, take_turn};
 ghost use Rattle.nb_engine.specs.Open.{IsOpen};
-ghost use Rattle.nb_sched.specs.Asked.{IsFurther};
+ghost use Rattle.nb_script.specs.Asked.{IsFurther};
 ghost use Rattle.nb_sched.specs.Causes.{CountsStop};
 ghost use Rattle.nb_sched.specs.Replies.{is_refusal};
 ghost use Rattle.nb_sched.specs.Says.{SaysLine};

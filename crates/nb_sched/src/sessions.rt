@@ -5,7 +5,7 @@ ghost use Rattle.nb_model.specs.declared.statement.Statement.{Statement};
 ghost use Rattle.nb_model.specs.Run.{Now, base_now, begun, one_turn, play, rounds};
 ghost use Rattle.nb_script.specs.Scripts.{statements_of};
 ghost use Rattle.nb_engine.specs.Open.{IsOpen};
-ghost use Rattle.nb_sched.specs.Asked.{IsFurther, IsAskable};
+ghost use Rattle.nb_script.specs.Asked.{IsFurther, IsAskable};
 ghost use Rattle.nb_sched.specs.Causes.{CountsStop};
 ghost use Rattle.nb_sched.specs.Stops.{Plays};
 ghost use Rattle.nb_sched.specs.Todo.{IsLeft, PlaysWhole};

@@ -6,7 +6,7 @@ ghost use Rattle.nb_model.specs.Outcomes.{Seen};
 ghost use Rattle.nb_model.specs.Turns.{first_turn};
 ghost use Rattle.nb_engine.specs.Open.{IsOpen};
 ghost use Rattle.nb_engine.specs.Turn.{Does, Answers};
-ghost use Rattle.nb_sched.specs.Asked.{IsFurther};
+ghost use Rattle.nb_script.specs.Asked.{IsFurther};
 ghost use Rattle.nb_sched.specs.Causes.{CountsStop};
 ghost use Rattle.nb_sched.specs.Replies.{as_said, HasEnded};
 

@@ -21,7 +21,7 @@ cache_again cache low high =
     ∙ ap (λ b. within 1 4096 b >>= alone) (sym (append-nil (decimal cache))) ∙ ap (λ o. o >>= alone) (within_again 1 4096 cache [] (omega arith) low high refl)
 
 -- the six page sizes are of this range
-one_of : (n : ℕ) → is_page_size n ≡ true → (1024 ≤ n) × (n ≤ 32768)
+pub one_of : (n : ℕ) → is_page_size n ≡ true → (1024 ≤ n) × (n ≤ 32768)
 one_of n h =
     elim (or_cases _ (n == 32768) h) [
       | inr e ↦ let is = eqb-true n 32768 e in (omega arith, omega arith)

@@ -8,3 +8,7 @@ pub mod Prints
 pub mod WordLaws
 pub mod StatementLaws
 pub mod FirstLaws
+pub mod FitLaws
+pub mod AskedLemmas
+pub mod Unbroken
+pub mod RoundTrip

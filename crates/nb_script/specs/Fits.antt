@@ -1,11 +1,15 @@
 -- What a line can spell.
-use Rattle.std.specs.Prelude.{◌≡◌, ◌^◌, ◌<◌, ◌≤◌, true}
-use Rattle.std.specs.List.{list_all}
+use Rattle.std.specs.Prelude.{◌≡◌, ℕ, ◌^◌, ◌<◌, ◌≤◌, true, List, length}
+use Rattle.std.specs.List.{list_all, AllByRecursion}
 use Rattle.nb_host.specs.Files.{is_page_size}
 use Rattle.nb_model.specs.declared.statement.Statement.{Statement}
 use Rattle.nb_model.specs.declared.statement.Statement.TheVariants.{CreateDb, OpenDb, PageNew, Write, Read, Free, BeginBackup, EndBackup, Backup, BackupSince, CopyTo, CreateTable, DropTable, Insert, Update, Delete, Get, Scan, Forced, Access, Sync, ShowHeader, ShowPages, ShowImage, ShowCache}
 use Rattle.nb_model.specs.TableNames.{is_table_name}
 use Rattle.nb_script.specs.Words.{Bytes, is_text_byte, is_given}
+
+-- a session of a script, 1 to 16
+abbrev pub IsSession : ℕ → Type 0
+IsSession session = (1 ≤ session) × (session ≤ 16)
 
 -- bytes that may stand between quotes
 abbrev pub IsText : Bytes → Type 0
@@ -55,3 +59,8 @@ abbrev pub FitsFirst : Statement → Type 0
 FitsFirst (CreateDb name page_size raw cache) = IsBase name × (is_page_size page_size ≡ true) × (raw ≤ 65535) × (1 ≤ cache) × (cache ≤ 4096)
 FitsFirst (OpenDb name cache) = IsBase name × (1 ≤ cache) × (cache ≤ 4096)
 FitsFirst other = ⊥
+
+-- an order of turns that a line can give, or none
+pub record FitsOrder (order : List ℕ) : Type 0 where
+  pub few : length order ≤ 4096
+  pub each : AllByRecursion IsSession order

@@ -6,3 +6,4 @@ pub mod Lines
 pub mod Scripts
 pub mod Spelling
 pub mod Fits
+pub mod Asked

@@ -140,7 +140,7 @@ spelled_at line = do
 -- those that the program can do today
 abbrev pub built : Option (ℕ × Statement) → Option (ℕ × Statement)
 built None = None
-built (Some line) = if is_built line.0 line.1 then Some line else None
+built (Some line) = if is_built line.1 then Some line else None
 
 -- the line of a statement
 unfoldable pub statement_at : Bytes → Option (ℕ × Statement)

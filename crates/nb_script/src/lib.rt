@@ -3,7 +3,8 @@
 //! It rests on `nb_model`, whose statements it reads and writes, and on the names and refusals of
 //! `nb_host`. A layer above may rely on this: `parse` answers the script that the bytes spell, by
 //! `specs/Scripts`, or the refusal with the first line that breaks the form, and nothing else but want
-//! of memory; and what `print` writes of a script is read as that script again.
+//! of memory; what a script asks, the program can do (`specs/Asked`); and the text that `print` writes
+//! of such a script is read as that script again, where it has at most 1,048,576 bytes.
 #![tactic(auto)]
 
 mod first_line;

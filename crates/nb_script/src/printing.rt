@@ -1,7 +1,9 @@
-ghost use Rattle.std.specs.Prelude.{◌≡◌, ℕ, ◌++◌, ◌≤◌, [], ◌∷◌, IfOk, OnOk, IfErr};
+ghost use Rattle.std.specs.Prelude.{◌≡◌, ℕ, ◌++◌, ◌≤◌, [], ◌∷◌, length, Ok, IfOk, OnOk, IfErr};
 ghost use Rattle.std.specs.Fmt.{decimal};
 ghost use Rattle.nb_host.specs.declared.faults.Fault.TheVariants.{Memory};
 ghost use Rattle.nb_model.specs.declared.statement.Statement.TheVariants.{CreateDb, OpenDb, Write, Backup, CopyTo};
+ghost use Rattle.nb_script.specs.Asked.{IsAskable};
+ghost use Rattle.nb_script.specs.Scripts.{script_of};
 ghost use Rattle.nb_script.specs.Spelling.{quoted, cache_text, sizes_text, row_text_of, command_text, line_text, spaced_sessions, schedule_text, statements_text, sessions_text, script_text};
 
 use crate::Script;
@@ -233,16 +235,27 @@ fn put_all(out: &mut Vec<u8>, script: &Script) -> Result<(), AllocError>
     Ok(())
 }
 
+/// The first line, the order of turns if there is one, then the statements of each session.
+#[tactic(auto, unfolding(crate::specs::Spelling::script_text))]
+fn put_script(out: &mut Vec<u8>, script: &Script) -> Result<(), AllocError>
+    ensures { OnOk result (out.new.items ≡ out.old.items ++ script_text script.now) }
+{
+    put_line(out, script.first_session(), script.first())?;
+    put_schedule(out, script.schedule())?;
+    put_all(out, script)
+}
+
 /// The text of a script: the first line, the order of turns if there is one, then the statements of
 /// session 1, of session 2, and so on. Each line is ended by a line feed.
-#[tactic(auto, unfolding(crate::specs::Spelling::script_text))]
+///
+/// `parse` reads the text of a script that it gave as that script, where the text has at most
+/// 1,048,576 bytes.
 pub fn print(alloc: Global, script: &Script) -> Result<Vec<u8>, Fault>
     ensures text { IfOk result (λ text. text.items ≡ script_text script.now) }
+    ensures again { IfOk result (λ text. IsAskable script.now → length text.items ≤ 1048576 → script_of text.items ≡ Ok script.now) }
     ensures only_memory { IfErr result (λ fault. fault ≡ Memory) }
 {
     let mut out = Vec::new(alloc);
-    put_line(&mut out, script.first_session(), script.first())?;
-    put_schedule(&mut out, script.schedule())?;
-    put_all(&mut out, script)?;
+    put_script(&mut out, script)?;
     Ok(out)
 }

@@ -1,6 +1,7 @@
 ghost use Rattle.std.specs.Prelude.{◌≡◌, ℕ, ◌≤◌, ◌<◌, nat_lt, IfOk, IfErr, IfSome, None, if◌then◌else◌};
 ghost use Rattle.nb_host.specs.declared.faults.Fault.TheVariants.{Memory, Refused};
 ghost use Rattle.nb_host.specs.declared.refusals.Refusal.TheVariants.{BadScript};
+ghost use Rattle.nb_script.specs.Asked.{IsAskable};
 ghost use Rattle.nb_script.specs.Statements.{statement_at};
 ghost use Rattle.nb_script.specs.Lines.{left};
 ghost use Rattle.nb_script.specs.Scripts.{IsAnswer, script_of, order_in, with_lines};
@@ -75,9 +76,11 @@ fn add_lines(alloc: Global, mut script: Script, mut lines: Lines<'_>) -> Result<
 ///
 /// `ScriptLong` where there are more than 1,048,576 bytes, and `BadScript` with the first line, from 1,
 /// that breaks the form otherwise: the number of lines plus 1 where there is no first statement.
+/// What the script asks, the program can do today.
 #[tactic(auto, unfolding(crate::specs::Scripts::script_of, crate::specs::Scripts::of_lines, crate::specs::Scripts::with_order))]
 pub fn parse(alloc: Global, bytes: &[u8]) -> Result<Script, Fault>
-    ensures { IsAnswer result (script_of bytes.now) }
+    ensures exact { IsAnswer result (script_of bytes.now) }
+    ensures askable { IfOk result IsAskable }
 {
     if bytes.len() > MOST_BYTES {
         let bytes = bytes.len() as u64;

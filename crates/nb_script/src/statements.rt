@@ -277,7 +277,7 @@ pub(crate) fn built(read: Option<(u32, Statement)>) -> Option<(u32, Statement)>
     ensures same { IfSome result (λ line. read ≡ Some line) }
 {
     let (session, statement) = read?;
-    if is_built(session, &statement) {
+    if is_built(&statement) {
         Some((session, statement))
     } else {
         None

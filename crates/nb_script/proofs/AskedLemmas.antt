@@ -1,0 +1,256 @@
+-- A script that bytes spell asks only what the program can do, and names its database in the first statement alone.
+use Rattle.std.proofs.Common.{◌≡◌, ℕ, zero, suc, ◌+◌, ◌-◌, ◌<◌, ◌≤◌, ◌==◌, Bool, true, false, not, List, [], ◌∷◌, ◌++◌, length, get_or, set, length-append, refl, sym, ◌∙◌, ap, subst, arith}
+use Rattle.std.specs.Prelude.{Option, Some, None, Result, Ok, Err, IsTrue, IfOk, if◌then◌else◌, option_map, replicate, codes, nat_lt}
+use Rattle.std.specs.List.{AllByRecursion}
+use Rattle.nb_host.specs.declared.faults.Fault.{Fault}
+use Rattle.std.proofs.lemmas.Bool.{ltb-true}
+use Rattle.std.proofs.lemmas.List.{length-set}
+use Rattle.nb_host.specs.declared.refusals.Refusal.{Refusal}
+use Rattle.nb_host.specs.declared.refusals.Refusal.TheVariants.{BadScript, ScriptLong}
+use Rattle.nb_model.specs.Built.{is_built}
+use Rattle.nb_model.specs.declared.statement.Statement.{Statement}
+use Rattle.nb_model.specs.declared.statement.Statement.TheVariants.{CreateDb, OpenDb, PageNew, Write, Read, Free, BeginBackup, EndBackup, Backup, BackupSince, CopyTo, CreateTable, DropTable, Insert, Update, Delete, Get, Scan, Forced, Access, Sync, ShowHeader, ShowPages, ShowImage, ShowCache}
+use Rattle.nb_script.specs.Words.{Bytes, ◌>>=◌, after, session_at}
+use Rattle.nb_script.specs.Statements.{built, statement_at, spelled_at, session_line, command_at}
+use Rattle.nb_script.specs.FirstLine.{first_at, first_spelled, database_at}
+use Rattle.nb_script.specs.Scripts.{Plan, Numbered, started, statements_of, with_statement, or_bad, with_lines, order_in, with_order, of_lines, script_of, IsAnswer}
+use Rattle.nb_script.specs.Lines.{lines_of, left}
+use Rattle.nb_script.specs.Fits.{Fits, FitsFirst, FitsOrder, IsSession}
+use Rattle.nb_script.specs.Asked.{opens, IsFirst, IsFurther, IsAskable, statement_count}
+use Rattle.nb_script.specs.Order.{spaced_session, sessions_at, seed_at, order_spelled, order_at}
+use Rattle.nb_model.specs.Seeds.{seeded, stepped, session_of}
+use Rattle.nb_script.proofs.FitLaws.{If, nothing, just, either, tested, follows, mapped, any, within_fits, command_fits, database_fits}
+
+-- a line of a session 1 to 16 whose statement has P
+abbrev IsLine : (Statement → Type 0) → ℕ × Statement → Type 0
+IsLine P line = (1 ≤ line.0) × (line.0 ≤ 16) × P line.1
+
+session_fits : (line : Bytes) → If (λ (x : ℕ × Bytes). (1 ≤ x.0) × (x.0 ≤ 16)) (session_line line)
+unfolding session_line
+session_fits line = follows (session_at line) _ (within_fits 1 16 line) (λ session range. follows (after (codes ": ") session.1) _ (any _) (λ rest _. just _ range))
+
+spelled_fits : (line : Bytes) → If (IsLine Fits) (spelled_at line)
+unfolding spelled_at
+spelled_fits line = follows (session_line line) _ (session_fits line) (λ session range. follows (command_at session.1) _ (command_fits session.1) (λ statement fits. just _ (range.0, range.1, fits)))
+
+first_spelled_fits : (line : Bytes) → If (IsLine FitsFirst) (first_spelled line)
+unfolding first_spelled
+first_spelled_fits line = follows (session_line line) _ (session_fits line) (λ session range. follows (database_at session.1) _ (database_fits session.1) (λ statement fits. just _ (range.0, range.1, fits)))
+
+-- no further statement names a database
+opens_none : (s : Statement) → Fits s → IsTrue (not (opens s))
+opens_none (CreateDb name page_size raw cache) fits = absurd fits
+opens_none (OpenDb name cache) fits = absurd fits
+opens_none PageNew fits = refl
+opens_none (Write page text) fits = refl
+opens_none (Read page) fits = refl
+opens_none (Free page) fits = refl
+opens_none BeginBackup fits = refl
+opens_none EndBackup fits = refl
+opens_none (Backup level name) fits = refl
+opens_none (BackupSince guid name) fits = refl
+opens_none (CopyTo name) fits = refl
+opens_none (CreateTable table) fits = refl
+opens_none (DropTable table) fits = refl
+opens_none (Insert table key text) fits = refl
+opens_none (Update table key text) fits = refl
+opens_none (Delete table key) fits = refl
+opens_none (Get table key) fits = refl
+opens_none (Scan table) fits = refl
+opens_none (Forced on) fits = refl
+opens_none (Access read_only) fits = refl
+opens_none Sync fits = refl
+opens_none ShowHeader fits = refl
+opens_none ShowPages fits = refl
+opens_none ShowImage fits = refl
+opens_none ShowCache fits = refl
+
+-- and the first always does
+opens_one : (s : Statement) → FitsFirst s → IsTrue (opens s)
+opens_one (CreateDb name page_size raw cache) fits = refl
+opens_one (OpenDb name cache) fits = refl
+opens_one PageNew fits = absurd fits
+opens_one (Write page text) fits = absurd fits
+opens_one (Read page) fits = absurd fits
+opens_one (Free page) fits = absurd fits
+opens_one BeginBackup fits = absurd fits
+opens_one EndBackup fits = absurd fits
+opens_one (Backup level name) fits = absurd fits
+opens_one (BackupSince guid name) fits = absurd fits
+opens_one (CopyTo name) fits = absurd fits
+opens_one (CreateTable table) fits = absurd fits
+opens_one (DropTable table) fits = absurd fits
+opens_one (Insert table key text) fits = absurd fits
+opens_one (Update table key text) fits = absurd fits
+opens_one (Delete table key) fits = absurd fits
+opens_one (Get table key) fits = absurd fits
+opens_one (Scan table) fits = absurd fits
+opens_one (Forced on) fits = absurd fits
+opens_one (Access read_only) fits = absurd fits
+opens_one Sync fits = absurd fits
+opens_one ShowHeader fits = absurd fits
+opens_one ShowPages fits = absurd fits
+opens_one ShowImage fits = absurd fits
+opens_one ShowCache fits = absurd fits
+
+-- a line that is built has a statement that the program can do
+built_is : (P Q : Statement → Type 0) (o : Option (ℕ × Statement)) → If (IsLine P) o → ((s : Statement) → P s → IsTrue (is_built s) → Q s) → If (IsLine Q) (built o)
+built_is P Q None has next = nothing
+built_is P Q (Some line) has next = tested (Some line) (is_built line.1) (λ can. let is = has.holds line refl in just line (is.0, is.1, next line.1 is.2 can))
+
+further_line : (line : Bytes) → If (IsLine IsFurther) (statement_at line)
+unfolding statement_at
+further_line line = built_is Fits IsFurther (spelled_at line) (spelled_fits line) (λ s fits can. record { is_built = can; opens_none = opens_none s fits; fits = fits })
+
+first_line : (line : Bytes) → If (IsLine IsFirst) (first_at line)
+unfolding first_at
+first_line line = built_is FitsFirst IsFirst (first_spelled line) (first_spelled_fits line) (λ s fits can. record { is_built = can; opens = opens_one s fits; fits = fits })
+
+-- each list of statements asks only further ones
+abbrev pub AllFurther : List (List Statement) → Type 0
+AllFurther lists = AllByRecursion (AllByRecursion IsFurther) lists
+
+further_at : (lists : List (List Statement)) (i : ℕ) → AllFurther lists → AllByRecursion IsFurther (get_or lists i [])
+further_at [] i all = tt
+further_at (l ∷ lists) zero all = all.0
+further_at (l ∷ lists) (suc i) all = further_at lists i all.1
+
+further_push : (statements : List Statement) (s : Statement) → AllByRecursion IsFurther statements → IsFurther s → AllByRecursion IsFurther (statements ++ s ∷ [])
+further_push [] s all is = (is, tt)
+further_push (k ∷ statements) s all is = (all.0, further_push statements s all.1 is)
+
+further_set : (lists : List (List Statement)) (i : ℕ) (statements : List Statement) → AllFurther lists → AllByRecursion IsFurther statements → AllFurther (set lists i statements)
+further_set [] i statements all is = tt
+further_set (l ∷ lists) zero statements all is = (is, all.1)
+further_set (l ∷ lists) (suc i) statements all is = (all.0, further_set lists i statements all.1 is)
+
+none_asked : (n : ℕ) → AllFurther (replicate n [])
+none_asked zero = tt
+none_asked (suc n) = (tt, none_asked n)
+
+-- one statement more is counted
+counted_push : (statements : List Statement) (s : Statement) → length (statements ++ s ∷ []) ≡ length statements + 1
+counted_push statements s = length-append statements (s ∷ [])
+
+counted_more : (lists : List (List Statement)) (i : ℕ) (s : Statement) → i < length lists → statement_count (set lists i (get_or lists i [] ++ s ∷ [])) ≡ statement_count lists + 1
+counted_more [] i s inside = absurd (omega arith)
+counted_more (l ∷ lists) zero s inside = omega (arith, counted_push l s)
+counted_more (l ∷ lists) (suc i) s inside = omega (arith, counted_more lists i s (omega arith))
+
+none_counted : (n : ℕ) → statement_count (replicate n []) ≡ 0
+none_counted zero = refl
+none_counted (suc n) = omega (arith, none_counted n)
+
+-- an order that is read names sessions, few enough
+each_read : (most : ℕ) (bytes : Bytes) → If (λ (order : List ℕ). (length order ≤ most) × AllByRecursion IsSession order) (sessions_at most bytes)
+unfolding sessions_at spaced_session
+each_read zero bytes = nothing
+each_read (suc most) bytes =
+    follows _ _ (follows (after (codes " ") bytes) _ (any _) (λ rest _. within_fits 1 16 rest))
+    (λ session range. either _ _ (length session.1 == 0) (λ _. just (session.0 ∷ []) (omega arith, (range, tt)))
+    (λ _. mapped (λ others. session.0 ∷ others) (sessions_at most session.1) (each_read most session.1) (λ others is. (omega (arith, is.0), (range, is.1)))))
+
+length_seeded : (count x : ℕ) → length (seeded count x) ≡ count
+unfolding seeded
+length_seeded zero x = refl
+length_seeded (suc count) x = ap suc (length_seeded count (stepped x))
+
+each_seeded : (count x : ℕ) → AllByRecursion IsSession (seeded count x)
+unfolding seeded session_of
+each_seeded zero x = tt
+each_seeded (suc count) x = ((omega arith, omega arith), each_seeded count (stepped x))
+
+order_fits : (line : Bytes) → If FitsOrder (order_at line)
+unfolding order_at order_spelled
+order_fits line = by_word (after (codes "schedule") line)
+  where
+    by_word : (word : Option Bytes) → If FitsOrder (elim word [ Some rest ↦ sessions_at 4096 rest | None ↦ option_map (seeded 4096) (after (codes "seed ") line >>= seed_at) ])
+    by_word (Some rest) = record { holds = λ order is. let read = (each_read 4096 rest).holds order is in record { few = read.0; each = read.1 } }
+    by_word None = mapped (seeded 4096) _ (any _) (λ seed _. record { few = omega (arith, length_seeded 4096 seed); each = each_seeded 4096 seed })
+
+order_in_fits : (lines : List Numbered) → FitsOrder (order_in lines).0
+unfolding order_in
+order_in_fits [] = record { few = omega arith; each = tt }
+order_in_fits (line ∷ lines) = by_order (order_at line.1) (order_fits line.1)
+  where
+    by_order : (order : Option (List ℕ)) → If FitsOrder order → FitsOrder (elim order as (λ (o : Option (List ℕ)). List ℕ × List Numbered) [ Some schedule ↦ (schedule, lines) | None ↦ ([], line ∷ lines) ]).0
+    by_order None is = record { few = omega arith; each = tt }
+    by_order (Some schedule) is = is.holds schedule refl
+
+-- what is kept of a script while its lines are read, where it has `taken` statements
+record Holds (taken : ℕ) (plan : Plan) : Type 0 where
+  pub asker : IsSession plan.first_session
+  pub first : IsFirst plan.first
+  pub order : FitsOrder plan.schedule
+  pub sixteen : length plan.sessions ≡ 16
+  pub counted : statement_count plan.sessions + 1 ≡ taken
+  pub few : taken ≤ 10000
+  pub further : AllFurther plan.sessions
+
+holds_more : (taken : ℕ) (plan : Plan) (line : ℕ × Statement) → taken < 10000 → Holds taken plan → IsLine IsFurther line → Holds (taken + 1) (with_statement plan line)
+holds_more taken plan line room holds is = record {
+  asker = holds.asker;
+  first = holds.first;
+  order = holds.order;
+  sixteen = length-set plan.sessions (line.0 - 1) (statements_of plan line.0 ++ line.1 ∷ []) ∙ holds.sixteen;
+  counted = omega (arith, counted_more plan.sessions (line.0 - 1) line.1 (omega (arith, holds.sixteen, is.0, is.1)), holds.counted);
+  few = omega arith;
+  further = further_set plan.sessions (line.0 - 1) (statements_of plan line.0 ++ line.1 ∷ []) holds.further (further_push (statements_of plan line.0) line.1 (further_at plan.sessions (line.0 - 1) holds.further) is.2);
+}
+
+holds_first : (first : ℕ × Statement) (order : List ℕ) → IsLine IsFirst first → FitsOrder order → Holds 1 (started first.0 first.1 order)
+holds_first first order is fits = record { asker = (is.0, is.1); first = is.2; order = fits; sixteen = refl; counted = refl; few = omega arith; further = none_asked 16 }
+
+-- where an answer is a script, it holds
+abbrev IfRead : Result Plan Refusal → Type 0
+IfRead (Ok plan) = IsAskable plan
+IfRead (Err refusal) = Unit {0}
+
+or_bad_holds : (P : ℕ × Statement → Type 0) (line : Numbered) (o : Option (ℕ × Statement)) (next : ℕ × Statement → Result Plan Refusal) → If P o → ((read : ℕ × Statement) → P read → IfRead (next read)) → IfRead (or_bad line o next)
+or_bad_holds P line None next is all = tt
+or_bad_holds P line (Some read) next is all = all read (is.holds read refl)
+
+askable : (taken : ℕ) (plan : Plan) → Holds taken plan → IsAskable plan
+askable taken plan holds = record {
+  asker = holds.asker;
+  first = holds.first;
+  order = holds.order;
+  sixteen = holds.sixteen;
+  few = omega (arith, holds.counted, holds.few);
+  further = λ session. further_at plan.sessions (session - 1) holds.further;
+}
+
+lines_hold : (taken : ℕ) (plan : Plan) (lines : List Numbered) → Holds taken plan → IfRead (with_lines taken plan lines)
+unfolding with_lines
+lines_hold taken plan [] holds = askable taken plan holds
+lines_hold taken plan (line ∷ lines) holds =
+    or_bad_holds (λ read. IsLine IsFurther read × (taken < 10000)) line (if nat_lt taken 10000 then statement_at line.1 else None) (λ read. with_lines (taken + 1) (with_statement plan read) lines)
+    (tested (statement_at line.1) (nat_lt taken 10000) (λ room. with_room (statement_at line.1) (further_line line.1) (ltb-true taken 10000 room)))
+    (λ read is. lines_hold (taken + 1) (with_statement plan read) lines (holds_more taken plan read is.1 holds is.0))
+  where
+    with_room : (o : Option (ℕ × Statement)) → If (IsLine IsFurther) o → taken < 10000 → If (λ (read : ℕ × Statement). IsLine IsFurther read × (taken < 10000)) o
+    with_room o is room = record { holds = λ read same. (is.holds read same, room) }
+
+of_lines_hold : (count : ℕ) (lines : List Numbered) → IfRead (of_lines count lines)
+unfolding of_lines with_order
+of_lines_hold count [] = tt
+of_lines_hold count (line ∷ lines) =
+    or_bad_holds (IsLine IsFirst) line (first_at line.1) (λ first. with_order first lines) (first_line line.1)
+    (λ first is. lines_hold 1 (started first.0 first.1 (order_in lines).0) (order_in lines).1 (holds_first first (order_in lines).0 is (order_in_fits lines)))
+
+script_holds : (bytes : Bytes) → IfRead (script_of bytes)
+unfolding script_of
+script_holds bytes = by_test (nat_lt 1048576 (length bytes))
+  where
+    by_test : (b : Bool) → IfRead (if b then Err (ScriptLong (length bytes)) else of_lines (length (lines_of bytes)) (left 0 bytes))
+    by_test true = tt
+    by_test false = of_lines_hold (length (lines_of bytes)) (left 0 bytes)
+
+-- a script that bytes spell is askable
+spelled_is_askable : (bytes : Bytes) (plan : Plan) → script_of bytes ≡ Ok plan → IsAskable plan
+spelled_is_askable bytes plan is = subst IfRead is (script_holds bytes)
+
+-- and so is a script that was answered
+pub answer_is_askable : (bytes : Bytes) (answer : Result Plan Fault) → IsAnswer answer (script_of bytes) → IfOk answer IsAskable
+answer_is_askable bytes (Ok plan) is = spelled_is_askable bytes plan is
+answer_is_askable bytes (Err fault) is = tt

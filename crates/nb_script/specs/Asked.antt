@@ -1,0 +1,38 @@
+-- What a script that was read asks.
+use Rattle.std.specs.Prelude.{◌≡◌, ℕ, ◌+◌, ◌<◌, Bool, true, false, not, IsTrue, List, [], ◌∷◌, length}
+use Rattle.std.specs.List.{AllByRecursion}
+use Rattle.nb_model.specs.Built.{is_built}
+use Rattle.nb_model.specs.declared.statement.Statement.{Statement}
+use Rattle.nb_model.specs.declared.statement.Statement.TheVariants.{CreateDb, OpenDb}
+use Rattle.nb_script.specs.Fits.{Fits, FitsFirst, FitsOrder, IsSession}
+use Rattle.nb_script.specs.Scripts.{Plan, statements_of}
+
+-- the statement names the database of the script
+abbrev pub opens : Statement → Bool
+opens statement = elim statement [ CreateDb name page_size raw cache ↦ true | OpenDb name cache ↦ true | _ ↦ false ]
+
+-- a first statement that can be asked today
+pub record IsFirst (statement : Statement) : Type 0 where
+  pub is_built : IsTrue (is_built statement)
+  pub opens : IsTrue (opens statement)
+  pub fits : FitsFirst statement
+
+-- a further statement that can be asked today
+pub record IsFurther (statement : Statement) : Type 0 where
+  pub is_built : IsTrue (is_built statement)
+  pub opens_none : IsTrue (not (opens statement))
+  pub fits : Fits statement
+
+-- how many statements these sessions have
+abbrev pub statement_count : List (List Statement) → ℕ
+statement_count [] = 0
+statement_count (statements ∷ others) = length statements + statement_count others
+
+-- a script of such statements, 10,000 at most with the first
+pub record IsAskable (script : Plan) : Type 0 where
+  pub asker : IsSession script.first_session
+  pub first : IsFirst script.first
+  pub order : FitsOrder script.schedule
+  pub sixteen : length script.sessions ≡ 16
+  pub few : statement_count script.sessions < 10000
+  pub further : (session : ℕ) → AllByRecursion IsFurther (statements_of script session)
