@@ -1,6 +1,6 @@
 -- What creating a database answers, and what it leaves behind a test that changed nothing.
 use Rattle.std.proofs.Common.{◌≡◌, inl, inr, ⊎_elim, ℕ, List, sym, ◌∙◌, ap, subst}
-use Rattle.std.specs.Prelude.{IsTrue, false, Result, Err}
+use Rattle.std.specs.Prelude.{Bool, IsTrue, true, false, Result, Err}
 use Rattle.std.specs.Result.{IsErrAnd}
 use Rattle.std.proofs.lemmas.Result.{err_from_is_err_and}
 use Rattle.nb_fields.specs.Places.{is_page_size}
@@ -11,6 +11,7 @@ use Rattle.nb_host.specs.declared.faults.Fault.TheVariants.{Device}
 use Rattle.nb_change.specs.Change.{Advances}
 use Rattle.nb_change.proofs.MomentLaws.{left_before}
 use Rattle.nb_change.proofs.ChangeLaws.{rested, composed}
+use Rattle.nb_page.specs.Free.{is_free_name}
 use Rattle.nb_page.specs.Quiet.{Quiet}
 use Rattle.nb_model.specs.Image.{Image}
 use Rattle.nb_model.specs.Account.{base_of}
@@ -35,10 +36,11 @@ quiet_then old mid new name image quiet so_far =
     })
 
 -- the device failed
-pub failed : (result : Result Opened Fault) (old new : World) (name : List ℕ) (image : Image) → IsErrAnd result (λ fault. fault ≡ Device) → Advances old new name (delta_name name) (CreateLeft old name image) → Creates result old new name image
-failed result old new name image gives so_far =
+pub failed : (result : Result Opened Fault) (old new : World) (name : List ℕ) (image : Image) → IsErrAnd result (λ fault. fault ≡ Device) → Advances old new name (delta_name name) (CreateLeft old name image)
+    → (is_free_name old.files name ≡ false → Quiet old new) → Creates result old new name image
+failed result old new name image gives so_far taken =
     let error = err_from_is_err_and {Q = λ (fault : Fault). fault ≡ Device} result gives in
-    subst (λ (r : Result Opened Fault). Creates r old new name image) (sym (error.1 ∙ ap Err error.2)) (record { answer = tt; left = so_far })
+    subst (λ (r : Result Opened Fault). Creates r old new name image) (sym (error.1 ∙ ap Err error.2)) (record { answer = tt; left = so_far; taken = taken })
 
 -- what is held of a new database agrees with it
 pub created : (size raw : ℕ) → IsTrue (is_page_size size) → (w : World) (name held_name : List ℕ) → held_name ≡ name → (count : ℕ) → count ≡ fresh_count size raw → IsSettled w name (base_of (fresh size raw))
@@ -50,3 +52,10 @@ created size raw is w name held_name same count count_is settled = record {
   scn = sym (fresh_scn size raw);
   read_only = sym (fresh_open size raw);
 }
+
+-- a name that is free isn't taken
+pub not_taken : (old new : World) (name : List ℕ) (free : Bool) → free ≡ true → free ≡ is_free_name old.files name → is_free_name old.files name ≡ false → Quiet old new
+not_taken old new name free told is taken = absurd (true_false (sym told ∙ is ∙ taken))
+  where
+    true_false : true ≡ false → ⊥
+    true_false h = cc

@@ -5,7 +5,6 @@ use Rattle.nb_fields.specs.Fresh.{fresh}
 use Rattle.nb_host.specs.Files.{File}
 use Rattle.nb_host.specs.World.{World}
 use Rattle.nb_host.specs.Crash.{Leaves}
-use Rattle.nb_host.specs.Calls.{IsStill}
 use Rattle.nb_host.specs.declared.faults.Fault.{Fault}
 use Rattle.nb_host.specs.declared.faults.Fault.TheVariants.{Refused, Device, Memory}
 use Rattle.nb_host.specs.declared.refusals.Refusal.TheVariants.{FileExists}
@@ -14,6 +13,7 @@ use Rattle.nb_model.specs.Image.{Image}
 use Rattle.nb_model.specs.Account.{base_of}
 use Rattle.nb_model.specs.Owner.{delta_name}
 use Rattle.nb_page.specs.Free.{is_free_name}
+use Rattle.nb_page.specs.Quiet.{Quiet}
 use Rattle.nb_engine.specs.declared.opened.Opened.{Opened}
 use Rattle.nb_engine.specs.Open.{Shows, IsOpen}
 
@@ -25,10 +25,12 @@ pub record CreateLeft (old : World) (name : List ℕ) (image : Image) (m d : Fil
 -- it answers the new database, or that the name is not free
 abbrev pub CreateAnswers : Result Opened Fault → (old new : World) (name : List ℕ) (image : Image) → Type 0
 CreateAnswers (Ok held) old new name image = (is_free_name old.files name ≡ true) × (held.name ≡ name) × IsOpen new held (base_of image)
-CreateAnswers (Err (Refused refusal)) old new name image = (is_free_name old.files name ≡ false) × (refusal ≡ FileExists name) × IsStill old new
+CreateAnswers (Err (Refused refusal)) old new name image = (is_free_name old.files name ≡ false) × (refusal ≡ FileExists name)
 CreateAnswers (Err Device) old new name image = Unit
 CreateAnswers (Err Memory) old new name image = Unit
 
 pub record Creates (result : Result Opened Fault) (old new : World) (name : List ℕ) (image : Image) : Type 0 where
   pub answer : CreateAnswers result old new name image
   pub left : Advances old new name (delta_name name) (CreateLeft old name image)
+  -- where the name isn't free, nothing changes
+  pub taken : is_free_name old.files name ≡ false → Quiet old new

@@ -31,7 +31,7 @@ use Rattle.nb_model.specs.Outcomes.{Turn, Begins, Copies, ClosesBackup, ClosesCo
 use Rattle.nb_model.specs.Pages.{new_turn, write_turn, read_turn, free_turn, forced_turn, access_turn, header_turn, byte_strokes}
 use Rattle.nb_model.specs.Turns.{first_turn, turn}
 use Rattle.nb_model.specs.Run.{Now, Event, base_now, with_made, account_after, outcome, stands_then, take_turn, one_turn, play, IsPlayed, Opening, begun, refused_opening, done_opening, opening_unless, opening, IsRest, IsRun}
-use Rattle.nb_model.specs.Stands.{Stands}
+use Rattle.nb_model.specs.Stands.{Stands, IsSameImage, HasNoStrayDelta}
 use Rattle.nb_model.proofs.DraftLaws.{put_keeps, set_bit_keeps, new_keeps}
 use Rattle.nb_model.proofs.HeaderLaws.{header-other}
 use Rattle.nb_model.proofs.NormalLaws.{IsPage, HasPages, forms_have_pages}
@@ -100,10 +100,10 @@ unfolding entry_of_files
 missing_entry name delta = refl
 
 -- A name is free in the account where its file is free and no difference file stands beside it.
-pub free_entry : (files : Files) (account : Account) (name : List ℕ) → Stands files account → is_delta name ≡ false
+pub free_entry : (files : Files) (account : Account) (name : List ℕ) → IsSameImage files account → HasNoStrayDelta files account → is_delta name ≡ false
     → is_free_entry (account.entry name) ≡ (is_free_file (files name) && not (is_some (files (delta_name name))))
-free_entry files account name stands plain =
-    ap is_free_entry (stands.same_image name plain) ∙ free_of_files name (files name) (files (delta_name name)) alone
+free_entry files account name same no_stray plain =
+    ap is_free_entry (same name plain) ∙ free_of_files name (files name) (files (delta_name name)) alone
   where
     not_both : (entry : Entry) (b : Base) → entry ≡ IsBase b → entry ≡ Missing → ⊥
     not_both entry b e f = cc
@@ -116,8 +116,8 @@ free_entry files account name stands plain =
       where
         by : (t : Bool) → is_some (files (delta_name name)) ≡ t → is_some (files (delta_name name)) ≡ false
         by false is = is
-        by true is = elim (stands.no_stray name is) [
-          | inl base ↦ absurd (not_both (account.entry name) base.0 base.1 (stands.same_image name plain ∙ ap (λ (f : File). entry_of_files name f (files (delta_name name))) none ∙ missing_entry name (files (delta_name name))))
+        by true is = elim (no_stray name is) [
+          | inl base ↦ absurd (not_both (account.entry name) base.0 base.1 (same name plain ∙ ap (λ (f : File). entry_of_files name f (files (delta_name name))) none ∙ missing_entry name (files (delta_name name))))
           | inr standby ↦ absurd (not_some (files name) standby.0 standby.1 none)
         ]
 
@@ -285,12 +285,12 @@ not_built : false ≡ true → ⊥
 not_built h = cc
 
 -- So does each statement that the program does today.
-pub built_paged : (session : ℕ) (statement : Statement) → IsTrue (is_built session statement) → IsPaged statement
+pub built_paged : (statement : Statement) → IsTrue (is_built statement) → IsPaged statement
 unfolding first_turn
-built_paged session (CreateDb name size raw cache) h = λ s k. record { made = refl; pages = tt; next = refl }
-built_paged session (Write p text) h = write_paged p text
-built_paged session (Read p) h = read_paged p
-built_paged session other h = absurd (not_built h)
+built_paged (CreateDb name size raw cache) h = λ s k. record { made = refl; pages = tt; next = refl }
+built_paged (Write p text) h = write_paged p text
+built_paged (Read p) h = read_paged p
+built_paged other h = absurd (not_built h)
 
 -- what sessions have to do writes pages alone
 abbrev pub IsPagedTurn : Turn → Type 0

@@ -141,12 +141,12 @@ not_built : false ≡ true → ⊥
 not_built h = cc
 
 -- So is each statement that the program does today.
-pub built_single : (session : ℕ) (statement : Statement) → IsTrue (is_built session statement) → IsSingle statement
+pub built_single : (statement : Statement) → IsTrue (is_built statement) → IsSingle statement
 unfolding first_turn
-built_single session (CreateDb name size raw cache) h = λ s k. refl
-built_single session (Write p text) h = write_single p text
-built_single session (Read p) h = read_single p
-built_single session other h = absurd (not_built h)
+built_single (CreateDb name size raw cache) h = λ s k. refl
+built_single (Write p text) h = write_single p text
+built_single (Read p) h = read_single p
+built_single other h = absurd (not_built h)
 
 -- one number of an order: the session takes the first turn that it has to do, and where it has none it does nothing
 pub one_turn_is : (session : ℕ) (now : Now) (statement : Statement) (rest : List Turn) → slice_index_or now.todo (session - 1) [] ≡ Begins statement ∷ rest
@@ -486,12 +486,12 @@ pub read_never_usage : (s : Seen) (session p : ℕ) → (first_turn s session (R
 unfolding first_turn read_turn
 read_never_usage s session p = guarded_other s _ _ (other_first _ (other_raw s.base.image p, (other_when _ _ (λ e. cc), tt))) (λ e. cc)
 
-pub built_never_usage : (k : ℕ) (statement : Statement) → IsTrue (is_built k statement) → (s : Seen) (session : ℕ) → (first_turn s session statement).reply ≢ Some (Refused Usage)
+pub built_never_usage : (statement : Statement) → IsTrue (is_built statement) → (s : Seen) (session : ℕ) → (first_turn s session statement).reply ≢ Some (Refused Usage)
 unfolding first_turn
-built_never_usage k (CreateDb name size raw cache) h = λ s session e. cc
-built_never_usage k (Write p text) h = λ s session. write_never_usage s session p text
-built_never_usage k (Read p) h = λ s session. read_never_usage s session p
-built_never_usage k other h = absurd (not_built h)
+built_never_usage (CreateDb name size raw cache) h = λ s session e. cc
+built_never_usage (Write p text) h = λ s session. write_never_usage s session p text
+built_never_usage (Read p) h = λ s session. read_never_usage s session p
+built_never_usage other h = absurd (not_built h)
 
 -- the reply is a refusal
 abbrev pub is_refusal : Reply → Bool

@@ -11,7 +11,7 @@ use Rattle.nb_model.specs.Pages.{write_turn, read_turn}
 use Rattle.nb_model.specs.Run.{Now, base_now, outcome}
 use Rattle.nb_model.specs.Turns.{first_turn, turn}
 use Rattle.nb_model.proofs.TodoLaws.{built_never_usage}
-use Rattle.nb_sched.specs.Asked.{IsFurther}
+use Rattle.nb_script.specs.Asked.{IsFurther}
 
 pub write_is : (s : Seen) (session : ℕ) (statement : Statement) (p : ℕ) (text : List ℕ) → statement ≡ Write p text → write_turn s p text ≡ first_turn s session statement
 unfolding first_turn
@@ -31,4 +31,4 @@ outcome_is session statement now = refl
 
 -- none of them is refused with Usage
 pub never_usage : (s : Seen) (session : ℕ) (statement : Statement) → IsFurther statement → (first_turn s session statement).reply ≢ Some (Refused Usage)
-never_usage s session statement is = built_never_usage is.session statement is.is_built s session
+never_usage s session statement is = built_never_usage statement is.is_built s session
