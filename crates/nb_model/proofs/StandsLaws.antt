@@ -31,14 +31,14 @@ names_tell m n = by_test (same_name m n) refl
     by_test false is = inr (told_text m n false is)
 
 -- the name of a difference file ends as such
-delta_named : (name : List ℕ) → is_delta (delta_name name) ≡ true
+pub delta_named : (name : List ℕ) → is_delta (delta_name name) ≡ true
 delta_named name =
     let whole : length (name ++ delta_suffix) - length delta_suffix ≡ length name = omega (arith, length-append name delta_suffix) in
     ap (λ (k : ℕ). pointwise nat_eq delta_suffix (drop k (name ++ delta_suffix))) whole
     ∙ ap (pointwise nat_eq delta_suffix) (drop_at name delta_suffix (length name) refl) ∙ same_self delta_suffix
 
 -- so no difference file has the name of a database
-no_main : (n name : List ℕ) → is_delta name ≡ false → delta_name n ≢ name
+pub no_main : (n name : List ℕ) → is_delta name ≡ false → delta_name n ≢ name
 no_main n name plain e = true≢false (sym (delta_named n) ∙ ap is_delta e ∙ plain)
 
 -- another name keeps its entry
@@ -88,7 +88,7 @@ applying_state : (bytes : List ℕ) → IsTrue (is_applying bytes) → state_of 
 applying_state bytes is = eqb-true (state_of bytes) 3 (and_parts (is_header bytes) (state_of bytes == 3) is).1
 
 -- the entry of a file that is opened
-opened_entry : (name : List ℕ) (main delta : File) (bytes : List ℕ) (b : Base) → main ≡ Some bytes → owner name main delta ≡ Ok b → entry_of_files name main delta ≡ IsBase b
+pub opened_entry : (name : List ℕ) (main delta : File) (bytes : List ℕ) (b : Base) → main ≡ Some bytes → owner name main delta ≡ Ok b → entry_of_files name main delta ≡ IsBase b
 unfolding entry_of_files
 opened_entry name main delta bytes b there opens = ap (λ (f : File). entry_of_files name f delta) there ∙ by_owner (sym (ap (λ (f : File). owner name f delta) there) ∙ opens)
   where

@@ -43,7 +43,7 @@ unfolding base_after
 after_is b [] = refl
 after_is b (s ∷ ss) = after_is (on_base s b) ss
 
-take_self : (n : ℕ) (l : List ℕ) → take n l ≡ take (length (take n l)) l
+pub take_self : (n : ℕ) (l : List ℕ) → take n l ≡ take (length (take n l)) l
 take_self Rattle.std.specs.Prelude.zero l = refl
 take_self (Rattle.std.specs.Prelude.suc n) [] = refl
 take_self (Rattle.std.specs.Prelude.suc n) (x ∷ l) = ap (λ (k : List ℕ). x ∷ k) (take_self n l)
