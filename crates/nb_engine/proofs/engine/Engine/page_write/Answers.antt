@@ -1,7 +1,6 @@
-use Rattle.std.proofs.Common.{◌≡◌, ◌<◌, ◌≤◌, ℕ, List, length, refl, sym, ap, subst, ◌∙◌, arith}
+use Rattle.std.proofs.Common.{◌≡◌, ◌<◌, length, sym, subst, ◌∙◌, arith}
 use Rattle.nb_model.specs.Image.{page_at}
 use Rattle.nb_model.specs.Strokes.{base_after}
-use Rattle.nb_model.specs.Causes.{not_raw}
 use Rattle.nb_model.specs.Pages.{write_turn}
 use Rattle.nb_engine.specs.declared.opened.Opened.{Opened}
 use Rattle.nb_engine.specs.Open.{IsOpen}
@@ -9,7 +8,7 @@ use Rattle.nb_engine.specs.Replies.{done}
 use Rattle.nb_engine.specs.Put.{raise_strokes}
 use Rattle.nb_engine.proofs.TestLaws.{vec_whole}
 use Rattle.nb_engine.proofs.QuietDoes.{open_quiet, passed_does}
-use Rattle.nb_engine.proofs.WriteLaws.{MayWrite, is_raw, first_not_raw, write_untaken, write_checked, raise_does, keeps, failed_write, written_does}
+use Rattle.nb_engine.proofs.WriteLaws.{MayWrite, is_raw, header_does, write_untaken, write_checked, raise_does, keeps, failed_write, written_does}
 use Rattle.nb_engine.proofs.engine.Engine.page_write.Goals as goal
 
 pub returns-in_err-take_raw-clause-turn : goal.returns-in_err-take_raw-clause-turn
@@ -21,8 +20,8 @@ returns-in_err-take_raw-clause-turn g c s tells shown =
 pub returns-then-number-eq0-clause-turn : goal.returns-then-number-eq0-clause-turn
 returns-then-number-eq0-clause-turn g c s tells shown =
     let is = subst (λ (o : Opened). IsOpen (g.H.Host.world c.args.host.now) o s.base) (sym c.self.view_is) shown in
-    absurd (first_not_raw (g.H.Host.world c.args.host.now) c.self.inside.opened s.base (g.met.H.Host.reads_left c.args.host.now tells) is
-    (ap (λ (n : ℕ). not_raw s.base.image n) (sym c.if-number-eq0.true) ∙ c.in_ok-take_raw.ensures.test s.base tells is))
+    header_does (g.H.Host.world c.args.host.now) (g.H.Host.world c.take_raw.new.host) c.self.inside.opened s c.args.number _ (write_turn s c.args.number c.args.text.now) (g.met.H.Host.reads_left c.args.host.now tells) is
+    (c.in_ok-take_raw.ensures.test s.base tells is) c.if-number-eq0.true
 
 pub returns-in_err-check_write-clause-turn : goal.returns-in_err-check_write-clause-turn
 returns-in_err-check_write-clause-turn g c s tells shown =

@@ -1,18 +1,5 @@
-use Rattle.std.proofs.Common.{rules, refl, sym, ap, subst, ◌∙◌, arith, ◌≡◌, ◌≢◌, ◌<◌, ◌≤◌, [], ◌∷◌, true, IsTrue, IfErr, IfOk, OnOk, None, length, ℕ, ◌+◌, ◌-◌, ◌*◌, ◌/◌, ◌%◌, Bool, false, nat_eq, nat_lt, List, ◌++◌, slice_index_or, slice_set, bit_and, bit_or, Fits, w8, w32, w64, Bor, MutBor}
-use Rattle.nb_fields.specs.Places.{is_page_size}
-use Rattle.nb_host.specs.Causes.{CountsFault}
-use Rattle.nb_host.specs.declared.faults.Fault.TheVariants.{Memory}
-use Rattle.nb_change.specs.Change.{Advances, Reached}
-use Rattle.nb_change.specs.Counts.{CountsDevice}
-use Rattle.nb_page.specs.Quiet.{Quiet}
-use Rattle.nb_model.specs.Account.{Base}
-use Rattle.nb_model.specs.Image.{page_at}
-use Rattle.nb_model.specs.Strokes.{on_base, base_after}
-use Rattle.nb_model.specs.Forms.{scn_page_of}
-use Rattle.nb_model.specs.Owner.{delta_name}
-use Rattle.nb_engine.specs.Open.{IsOpen, Shows}
-use Rattle.nb_engine.specs.Turn.{Tested, WhereSettled}
-use Rattle.nb_engine.specs.Put.{entry_cause, must_raise, raise_stroke, raise_strokes, raw_stroke}
+use Rattle.std.proofs.Common.{sym, ◌∙◌, ◌≡◌, [], ◌∷◌, true, Bool}
+use Rattle.nb_engine.specs.Put.{entry_cause, must_raise, raise_stroke, raise_strokes}
 use Rattle.nb_engine.proofs.opened.Opened.raise_entry.Goals.{then-branch+in_ok-raise, else-branch}
 use Rattle.nb_engine.proofs.QuietDoes.{open_quiet, quiet_left}
 use Rattle.nb_engine.proofs.PutLaws.{raised_never, raised_not, raised_once}

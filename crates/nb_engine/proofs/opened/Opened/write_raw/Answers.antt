@@ -1,17 +1,13 @@
-use Rattle.std.proofs.Common.{◌≡◌, ◌≤◌, ◌<◌, length, refl, sym, ap, subst, ◌∙◌, arith}
+use Rattle.std.proofs.Common.{◌≡◌, ◌≤◌, length, sym, ap, subst, arith}
 use Rattle.std.specs.Prelude.{OnOk, [], ◌∷◌, false, ◌==◌}
 use Rattle.nb_fields.specs.Bytes.{is_zeros}
 use Rattle.nb_fields.proofs.SizeLemmas.{size_facts}
-use Rattle.nb_fields.specs.Page.{stamped}
-use Rattle.nb_fields.specs.Payloads.{text_payload}
 use Rattle.nb_change.specs.Change.{Advances, Reached}
 use Rattle.nb_change.proofs.ResultLaws.{on_ok_then}
-use Rattle.nb_model.specs.Account.{Base}
-use Rattle.nb_model.specs.Image.{Page, page_at, image_size}
+use Rattle.nb_model.specs.Image.{Page, image_size}
 use Rattle.nb_model.specs.Strokes.{page, on_base}
 use Rattle.nb_model.specs.Owner.{delta_name}
-use Rattle.nb_engine.specs.Open.{IsOpen, IsSettled, Shows}
-use Rattle.nb_engine.specs.Put.{raw_stroke}
+use Rattle.nb_engine.specs.Open.{IsOpen, Shows}
 use Rattle.nb_engine.proofs.RaiseLaws.{open_stroked, stamped-some, raw_page}
 use Rattle.nb_engine.proofs.opened.Opened.write_raw.Goals as goal
 
