@@ -19,7 +19,7 @@ use Rattle.nb_change.specs.Change.{Advances, Reached, after_all}
 use Rattle.nb_change.proofs.ChangeLaws.{weakened}
 use Rattle.nb_change.proofs.StrokeLaws.{reached_none, reached_front, strokes_composed}
 use Rattle.nb_model.specs.declared.reply.Reply.TheVariants.{Refused, Done}
-use Rattle.nb_model.specs.Image.{Image, page_at, image_size}
+use Rattle.nb_model.specs.Image.{Page, Image, page_at, image_size}
 use Rattle.nb_model.specs.Account.{Base}
 use Rattle.nb_model.specs.Strokes.{Stroke, on_base, base_after}
 use Rattle.nb_model.specs.Owner.{delta_name}
@@ -193,18 +193,28 @@ module _ (old mid raised : World) (held : Opened) (s : Seen) (p : ℕ) (text : L
         on Device cause after_it = record { answer = tt; after = tt; left = turn_left }
         on Memory cause after_it = record { answer = tt; after = tt; left = turn_left }
 
-    -- what the raise keeps
-    pub keeps : Keeps before p (base_after s.base entry).image
-    keeps = raise_keeps s.base p (is_raw before p may.raw).kind entries
+    -- The raise was done, and the page is written next. It was read before the raise, which left it as it was.
+    module _ (new : World) (bytes : Page) (none : entry_cause before p ≡ None) (settled : IsOpen raised held (base_after s.base entry)) (read : bytes ≡ page_at before p)
+        (writes : (b : Base) → IsOpen raised held b → p < length b.image → bytes ≡ page_at b.image p
+        → Advances raised new held.name (delta_name held.name) (Reached on_base (Shows held.name) b (raw_stroke b.image p text ∷ []))) where
+      abbrev entered : Base
+      entered = base_after s.base entry
 
-    module _ (new : World) (none : entry_cause before p ≡ None)
-        (next : Advances raised new held.name (delta_name held.name) (Reached on_base (Shows held.name) (base_after s.base entry) (raw_stroke (base_after s.base entry).image p text ∷ []))) where
-      same_last : raw_stroke (base_after s.base entry).image p text ≡ last
-      same_last = raw_stroke-after before (base_after s.base entry).image p text keeps
+      keeps : Keeps before p entered.image
+      keeps = raise_keeps s.base p (is_raw before p may.raw).kind entries
+
+      low : p < length entered.image
+      low = omega (arith, (is_raw before p may.raw).low, keeps.long)
+
+      same : bytes ≡ page_at entered.image p
+      same = read ∙ sym keeps.same
+
+      same_last : raw_stroke entered.image p text ≡ last
+      same_last = raw_stroke-after before entered.image p text keeps
 
       all_left : LeftBy new turn.strokes
       all_left =
-          let then_last = strokes_left raised new held (base_after s.base entry) _ (last ∷ []) (ap (λ (x : Stroke). x ∷ []) same_last) next in
+          let then_last = strokes_left raised new held entered _ (last ∷ []) (ap (λ (x : Stroke). x ∷ []) same_last) (writes entered settled low same) in
           let from = subst (λ (b : Base). Advances raised new held.name (delta_name held.name) (Reached on_base (Shows held.name) b (last ∷ []))) (sym (after_all-is s.base entry)) then_last in
           strokes_left old new held s.base (entry ++ last ∷ []) turn.strokes (sym (ap (λ (o : Outcome). o.strokes) (strokes_are none)))
           (strokes_composed on_base (Shows held.name) held.name (delta_name held.name) old raised new s.base entry (last ∷ []) entry_left from)
@@ -215,11 +225,11 @@ module _ (old mid raised : World) (held : Opened) (s : Seen) (p : ℕ) (text : L
       failed_write (Err e) passed = subst (λ (f : Fault). Does done (Err f) old new s.base held turn) (sym passed.1) (record { answer = tt; after = tt; left = all_left })
 
       -- all is written
-      pub written_does : IsOpen new held (on_base (raw_stroke (base_after s.base entry).image p text) (base_after s.base entry)) → Does done (Ok tt) old new s.base held turn
+      pub written_does : ((b : Base) → IsOpen raised held b → p < length b.image → bytes ≡ page_at b.image p → IsOpen new held (on_base (raw_stroke b.image p text) b)) → Does done (Ok tt) old new s.base held turn
       unfolding base_after
-      written_does open_after =
-          let is : IsOpen new held (base_after s.base (entry ++ last ∷ [])) =
-          subst (λ (b : Base). IsOpen new held b) (sym (base_after-append s.base entry (last ∷ []))) (subst (λ (x : Stroke). IsOpen new held (on_base x (base_after s.base entry))) same_last open_after) in
+      written_does settles =
+          let open_last : IsOpen new held (on_base last entered) = subst (λ (x : Stroke). IsOpen new held (on_base x entered)) same_last (settles entered settled low same) in
+          let is : IsOpen new held (base_after s.base (entry ++ last ∷ [])) = subst (λ (b : Base). IsOpen new held b) (sym (base_after-append s.base entry (last ∷ []))) open_last in
           record {
             answer = ap (λ (o : Outcome). o.reply) (strokes_are none);
             after = subst (λ (o : Outcome). IsOpen new held (base_after s.base o.strokes)) (sym (strokes_are none)) is;
