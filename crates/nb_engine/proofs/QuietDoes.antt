@@ -89,7 +89,7 @@ module _ {T : Type 0} (reply : T → Reply) (old new : World) (held : Opened) wh
   passed_does s o (Err e) fault cause passed quiet is tested refused =
       subst (λ (f : Fault). Does reply (Err f) old new s.base held o) (sym passed.1) (tested_does s o fault cause quiet is tested refused)
 
--- where there is a cause
+-- where there is a cause, and where there is none
 pub unless_refused : (s : Seen) (cause : Cause) (o : Outcome) (r : Refusal) → cause ≡ Some r → unless s cause o ≡ says s (Refused r) []
 unfolding unless
 unless_refused s cause o r e = ap (λ (c : Cause). unless s c o) e

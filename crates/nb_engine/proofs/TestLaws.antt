@@ -1,6 +1,6 @@
 -- The causes of a page that is tested.
-use Rattle.std.proofs.Common.{◌≡◌, ◌≢◌, inl, inr, ℕ, ◌+◌, ◌/◌, ◌%◌, ◌<◌, ◌≤◌, List, [], ◌∷◌, ◌++◌, length, get_or, take, drop, refl, sym, ap, ◌∙◌, subst, arith}
-use Rattle.std.specs.Prelude.{Bool, true, false, not, IsTrue, ◌&&◌, ◌==◌, nat_le, nat_lt, Option, Some, None, Result, Ok, Err, IsOk, IsErr, IsErrAnd, OnOk}
+use Rattle.std.proofs.Common.{◌≡◌, ◌≢◌, inl, inr, ℕ, ◌+◌, ◌/◌, ◌%◌, ◌<◌, ◌≤◌, List, [], ◌∷◌, ◌++◌, length, get_or, take, drop, sym, ap, ◌∙◌, subst, arith}
+use Rattle.std.specs.Prelude.{Bool, true, false, not, IsTrue, ◌&&◌, ◌==◌, nat_le, nat_lt, Some, None, Result, Ok, Err, IsOk, IsErr, IsErrAnd, OnOk}
 use Rattle.std.proofs.lemmas.Bool.Decides.{leb_tells}
 use Rattle.std.proofs.lemmas.Nat.Bits.{bit_at-lt}
 use Rattle.std.proofs.lemmas.List.{length-take, take_at}
@@ -26,6 +26,7 @@ use Rattle.nb_engine.specs.Turn.{Tested}
 use Rattle.nb_engine.specs.Put.{not_taken}
 use Rattle.nb_engine.proofs.QuietDoes.{first_none, first_next, first_here, first_front, first_rest, unless_refused, unless_allowed}
 
+-- tests from facts, and facts from tests
 le_yes : (a b : ℕ) → a ≤ b → nat_le a b ≡ true
 le_yes a b h = elim (leb_tells a b) [ inl w ↦ w.0 | inr w ↦ absurd (omega (arith, w.1, h)) ]
 
@@ -50,7 +51,7 @@ pub at_ok : {T E P : Type 0} (result : Result T E) → IsOk result → OnOk resu
 at_ok (Ok value) is p = p
 at_ok (Err e) is p = absurd (not_false is)
 
--- a vector whose elements a slice of all of them was
+-- a slice of all the elements of a vector, behind which it has room
 pub vec_whole : (deref items rest : List ℕ) (n : ℕ) → deref ≡ take n (items ++ rest) → length items ≡ n → deref ≡ items
 vec_whole deref items rest n is long = is ∙ take_at items rest n long
 
@@ -139,7 +140,7 @@ module _ (image : Image) (p : ℕ) where
   abbrev system : Cause
   system = when (not (kind_of (page_at image p) == 8)) (SystemPage p)
 
-  -- page p is taken, or why not
+  -- why page p isn't taken, and where it is
   pub taken_other : (r : Refusal) → not_kind image 2 (inventory_of image p) ≡ Some r → not_taken image p ≡ Some r
   taken_other r e = first_here _ _ r e
 
@@ -153,7 +154,7 @@ module _ (image : Image) (p : ℕ) where
   unfolding not_raw
   not_raw-below low = first_next (past_end image p) _ (rests _ _ (le_no (length image) p low))
 
-  -- page p is a taken raw page, or why not
+  -- why page p is no taken raw page, and where it is one
   pub raw_past : length image ≤ p → not_raw image p ≡ Some (PageRange p (length image))
   unfolding not_raw
   raw_past far = first_here (past_end image p) _ _ (applies _ _ (le_yes (length image) p far))

@@ -141,6 +141,7 @@ impl Engine {
             return Err(Fault::Refused(Refusal::NotDatabase { page: number }));
         };
         let mut copy = ArrayVec::new();
+        // It fits: such a text has at most 200 bytes.
         let _ = copy.try_extend_from_slice(text);
         Ok(copy)
     }

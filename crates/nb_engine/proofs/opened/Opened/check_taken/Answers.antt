@@ -15,7 +15,7 @@ returns-then-not-is_used-clause-test g c b tells is =
     let there = inventory_place_is b.image _ c.args.number _ _ c.place_of-place.ensures c.covers-k.ensures.number is.page_size in
     let long : length c.take_system.new.into ≡ c.args.self.now.page_size = omega (arith, c.take_system.auto.into, c.requires.system) in
     let reads = reads_bit b.image _ c.args.number _ c.take_system.new.into _ there is.page_size long
-        (c.in_ok-take_system.ensures.test b tells is) (c.in_ok-take_system.ensures.page b tells is) c.covers-k.ensures.index c.covers-k.ensures.inside in
+    (c.in_ok-take_system.ensures.test b tells is) (c.in_ok-take_system.ensures.page b tells is) c.covers-k.ensures.index c.covers-k.ensures.inside in
     taken_free b.image c.args.number c.take_system.new.into _ reads (λ e. not_false (c.if-not-is_used.ensures.1 e))
 
 pub returns-clause-test : goal.returns-clause-test
@@ -23,5 +23,5 @@ returns-clause-test g c b tells is =
     let there = inventory_place_is b.image _ c.args.number _ _ c.place_of-place.ensures c.covers-k.ensures.number is.page_size in
     let long : length c.take_system.new.into ≡ c.args.self.now.page_size = omega (arith, c.take_system.auto.into, c.requires.system) in
     let reads = reads_bit b.image _ c.args.number _ c.take_system.new.into _ there is.page_size long
-        (c.in_ok-take_system.ensures.test b tells is) (c.in_ok-take_system.ensures.page b tells is) c.covers-k.ensures.index c.covers-k.ensures.inside in
+    (c.in_ok-take_system.ensures.test b tells is) (c.in_ok-take_system.ensures.page b tells is) c.covers-k.ensures.index c.covers-k.ensures.inside in
     taken_is b.image c.args.number c.take_system.new.into _ reads (c.if-not-is_used.ensures.0 refl)

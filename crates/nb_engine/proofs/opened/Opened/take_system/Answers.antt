@@ -1,6 +1,4 @@
-use Rattle.std.proofs.Common.{◌≡◌, ◌<◌, ◌≤◌, length, sym, ◌∙◌, arith}
-use Rattle.nb_model.specs.Image.{image_size, page_at}
-use Rattle.nb_fields.specs.Page.{kind_of}
+use Rattle.std.proofs.Common.{◌<◌, ◌≤◌, length, sym, ◌∙◌, arith}
 use Rattle.nb_engine.proofs.TestLaws.{kind_read, kind_past, kind_other, kind_is}
 use Rattle.nb_engine.proofs.opened.Opened.take_system.Goals as goal
 
