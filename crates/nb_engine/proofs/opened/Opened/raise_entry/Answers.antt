@@ -11,6 +11,20 @@ returns-in_err-must_raise-clause-after g c b tells is =
     settled_passed Bool (Unit {0}) c.from_residual.result c.in_err-must_raise.field-0.0 (entry_cause b.image c.args.number) _ c.from_residual.ensures (c.in_err-must_raise.ensures.test b tells is)
     (λ r cause. none_made _ c.args.self.now b c.args.number (raised_never b.image c.args.number r cause) (open_quiet _ _ c.args.self.now b c.in_err-must_raise.ensures.quiet is))
 
+pub returns-in_err-must_raise-clause-left : goal.returns-in_err-must_raise-clause-left
+returns-in_err-must_raise-clause-left g c b tells is = quiet_left _ _ c.args.self.now b (raise_strokes b.image c.args.number) c.in_err-must_raise.ensures.quiet is
+
+pub returns-in_err-raise-clause-left : goal.returns-in_err-raise-clause-left
+returns-in_err-raise-clause-left g c b tells is =
+    let held = c.args.self.now in
+    let p = c.args.number in
+    let asked = c.in_ok-must_raise.ensures in
+    let none = asked.test b tells is in
+    let must : must_raise b.image p ≡ true = sym (asked.value b tells is) ∙ c.if-branch.true in
+    after_quiet (g.H.Host.world c.args.host.now) (g.H.Host.world c.must_raise.new.host) (g.H.Host.world c.raise.new.host) held b (raise_strokes b.image p) asked.quiet is
+    (strokes_left _ _ held b (raise_stroke b.image p ∷ []) (raise_strokes b.image p) (sym (raised_once b.image p none must))
+    (c.raise.ensures.left b tells (open_quiet _ _ held b asked.quiet is) none must (asked.page b tells is c.if-branch.true)))
+
 pub returns-clause-left : goal.returns-clause-left
 returns-clause-left g c b tells is =
     let held = c.args.self.now in
