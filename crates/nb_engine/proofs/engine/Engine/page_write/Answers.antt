@@ -1,11 +1,9 @@
-use Rattle.std.proofs.Common.{◌≡◌, ◌<◌, length, sym, subst, ◌∙◌, arith}
+use Rattle.std.proofs.Common.{◌≡◌, sym, subst, ◌∙◌, arith}
 use Rattle.nb_model.specs.Image.{page_at}
-use Rattle.nb_model.specs.Strokes.{base_after}
 use Rattle.nb_model.specs.Pages.{write_turn}
 use Rattle.nb_engine.specs.declared.opened.Opened.{Opened}
 use Rattle.nb_engine.specs.Open.{IsOpen}
 use Rattle.nb_engine.specs.Replies.{done}
-use Rattle.nb_engine.specs.Put.{raise_strokes}
 use Rattle.nb_engine.proofs.TestLaws.{vec_whole}
 use Rattle.nb_engine.proofs.QuietDoes.{open_quiet, passed_does}
 use Rattle.nb_engine.proofs.WriteLaws.{MayWrite, header_does, write_untaken, write_checked, raise_does, failed_write, written_does}
