@@ -1,6 +1,6 @@
 -- The bytes of the pages that a write of a raw page makes, and what is held of the database after them.
-use Rattle.std.proofs.Common.{◌≡◌, ◌≢◌, ℕ, ◌+◌, ◌-◌, ◌*◌, ◌/◌, ◌%◌, ◌^◌, ◌<◌, ◌≤◌, inr, List, [], ◌∷◌, ◌++◌, length, get_or, drop, refl, sym, ap, subst, ◌∙◌, arith, length-append}
-use Rattle.std.specs.Prelude.{Bool, true, false, ◌==◌, slice_index, Some, None, Result, Ok, Err, IsErr, IsErrAnd}
+use Rattle.std.proofs.Common.{◌≡◌, ℕ, ◌+◌, ◌*◌, ◌/◌, ◌%◌, ◌^◌, ◌<◌, ◌≤◌, inr, List, [], ◌∷◌, length, drop, refl, sym, ap, subst, ◌∙◌, arith, length-append}
+use Rattle.std.specs.Prelude.{false, ◌==◌, slice_index, Some, Result, Ok, Err, IsErr, IsErrAnd}
 use Rattle.nb_fields.specs.Bytes.{bytes_of, with_part, is_zeros}
 use Rattle.nb_fields.specs.Places.{entries_in, scn_place}
 use Rattle.nb_fields.specs.Page.{head_of, page_of, with_payload, stamped, generation_of}

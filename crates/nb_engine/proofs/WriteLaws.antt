@@ -1,6 +1,6 @@
 -- What the write of a raw page does of its turn, up to each of its ends.
-use Rattle.std.proofs.Common.{◌≡◌, inl, inr, ℕ, zero, suc, ◌<◌, ◌≤◌, List, [], ◌∷◌, ◌++◌, length, refl, sym, ap, subst, ◌∙◌, arith}
-use Rattle.std.specs.Prelude.{Bool, true, false, not, ◌==◌, nat_le, IsTrue, Option, Some, None, Result, Ok, Err, IsErr, IsErrAnd}
+use Rattle.std.proofs.Common.{◌≡◌, inl, inr, ℕ, ◌<◌, List, [], ◌∷◌, ◌++◌, length, refl, sym, ap, subst, ◌∙◌, arith}
+use Rattle.std.specs.Prelude.{Bool, true, false, not, ◌==◌, nat_le, IsTrue, Some, None, Result, Ok, Err, IsErr, IsErrAnd}
 use Rattle.std.proofs.lemmas.Bool.{eqb-true}
 use Rattle.std.proofs.lemmas.Bool.Decides.{leb_tells}
 use Rattle.nb_fields.specs.Places.{is_page_size, entries_in}
@@ -13,27 +13,26 @@ use Rattle.nb_host.specs.Crash.{Leaves}
 use Rattle.nb_host.specs.declared.faults.Fault.{Fault}
 use Rattle.nb_host.specs.declared.faults.Fault.TheVariants.{Refused as RefusedFault, Device, Memory}
 use Rattle.nb_host.specs.declared.refusals.Refusal.{Refusal}
-use Rattle.nb_host.specs.declared.refusals.Refusal.TheVariants.{SystemPage, NotAllocated}
+use Rattle.nb_host.specs.declared.refusals.Refusal.TheVariants.{SystemPage}
 use Rattle.nb_page.specs.Quiet.{Quiet}
 use Rattle.nb_change.specs.Change.{Advances, Reached, after_all}
 use Rattle.nb_change.proofs.ChangeLaws.{weakened}
 use Rattle.nb_change.proofs.StrokeLaws.{reached_none, reached_front, strokes_composed}
-use Rattle.nb_model.specs.declared.reply.Reply.{Reply}
 use Rattle.nb_model.specs.declared.reply.Reply.TheVariants.{Refused, Done}
-use Rattle.nb_model.specs.Image.{Image, page_at, image_size}
+use Rattle.nb_model.specs.Image.{Page, Image, page_at, image_size}
 use Rattle.nb_model.specs.Account.{Base}
 use Rattle.nb_model.specs.Strokes.{Stroke, on_base, base_after}
 use Rattle.nb_model.specs.Owner.{delta_name}
 use Rattle.nb_model.specs.Forms.{Draft, drafted, put}
 use Rattle.nb_model.specs.Causes.{Cause, first_cause, when, past_end, read_only, not_raw, too_long, not_of_form, no_room}
-use Rattle.nb_model.specs.Outcomes.{Seen, Outcome, says, unless, changes}
+use Rattle.nb_model.specs.Outcomes.{Seen, Outcome, says}
 use Rattle.nb_model.specs.Pages.{write_turn}
 use Rattle.nb_model.proofs.HeaderLaws.{header-kind}
 use Rattle.nb_model.proofs.MainLaws.{main_facts}
 use Rattle.nb_model.proofs.StrokeLaws.{base_after-append}
 use Rattle.nb_engine.specs.declared.opened.Opened.{Opened}
 use Rattle.nb_engine.specs.Open.{Shows, IsOpen}
-use Rattle.nb_engine.specs.Turn.{Tested, Answers, WhereSettled, Does}
+use Rattle.nb_engine.specs.Turn.{Tested, WhereSettled, Does}
 use Rattle.nb_engine.specs.Put.{entry_cause, raise_strokes, raw_stroke}
 use Rattle.nb_engine.specs.Replies.{done}
 use Rattle.nb_engine.proofs.StoreLaws.{main_now}
@@ -78,11 +77,13 @@ is_raw image p none =
     is_true true e = refl
     is_true false e = absurd (true_false e)
 
--- page 0 of an open database is none
-pub first_not_raw : (w : World) (held : Opened) (b : Base) → ((name : List ℕ) → Leaves w name (w.files name)) → IsOpen w held b → not_raw b.image 0 ≡ None → ⊥
-first_not_raw w held b reads is none =
-    let header = (main_facts b.image (w.files held.name) (main_now w reads held.name b is.settled)).header in
-    absurd (omega (arith, (is_raw b.image 0 none).kind, header-kind (page_at b.image 0) header))
+-- page 0 of an open database is none, so no call goes on with it
+pub header_does : (first now : World) (held : Opened) (s : Seen) (p : ℕ) (result : Result (Unit {0}) Fault) (turn : Outcome) → ((name : List ℕ) → Leaves first name (first.files name)) → IsOpen first held s.base
+    → not_raw s.base.image p ≡ None → p ≡ 0 → Does done result first now s.base held turn
+header_does first now held s p result turn reads is none front =
+    let header = (main_facts s.base.image (first.files held.name) (main_now first reads held.name s.base is.settled)).header in
+    let kind : kind_of (page_at s.base.image 0) ≡ 8 = (is_raw s.base.image 0 (ap (λ (n : ℕ). not_raw s.base.image n) (sym front) ∙ none)).kind in
+    absurd (omega (arith, kind, header-kind (page_at s.base.image 0) header))
 
 -- the model's word for what stands after strokes is that of changes
 after_all-is : (b : Base) (ss : List Stroke) → after_all on_base b ss ≡ base_after b ss
@@ -192,18 +193,28 @@ module _ (old mid raised : World) (held : Opened) (s : Seen) (p : ℕ) (text : L
         on Device cause after_it = record { answer = tt; after = tt; left = turn_left }
         on Memory cause after_it = record { answer = tt; after = tt; left = turn_left }
 
-    -- what the raise keeps
-    pub keeps : Keeps before p (base_after s.base entry).image
-    keeps = raise_keeps s.base p (is_raw before p may.raw).kind entries
+    -- The raise was done, and the page is written next. It was read before the raise, which left it as it was.
+    module _ (new : World) (bytes : Page) (none : entry_cause before p ≡ None) (settled : IsOpen raised held (base_after s.base entry)) (read : bytes ≡ page_at before p)
+        (writes : (b : Base) → IsOpen raised held b → p < length b.image → bytes ≡ page_at b.image p
+        → Advances raised new held.name (delta_name held.name) (Reached on_base (Shows held.name) b (raw_stroke b.image p text ∷ []))) where
+      abbrev entered : Base
+      entered = base_after s.base entry
 
-    module _ (new : World) (none : entry_cause before p ≡ None)
-        (next : Advances raised new held.name (delta_name held.name) (Reached on_base (Shows held.name) (base_after s.base entry) (raw_stroke (base_after s.base entry).image p text ∷ []))) where
-      same_last : raw_stroke (base_after s.base entry).image p text ≡ last
-      same_last = raw_stroke-after before (base_after s.base entry).image p text keeps
+      keeps : Keeps before p entered.image
+      keeps = raise_keeps s.base p (is_raw before p may.raw).kind entries
+
+      low : p < length entered.image
+      low = omega (arith, (is_raw before p may.raw).low, keeps.long)
+
+      same : bytes ≡ page_at entered.image p
+      same = read ∙ sym keeps.same
+
+      same_last : raw_stroke entered.image p text ≡ last
+      same_last = raw_stroke-after before entered.image p text keeps
 
       all_left : LeftBy new turn.strokes
       all_left =
-          let then_last = strokes_left raised new held (base_after s.base entry) _ (last ∷ []) (ap (λ (x : Stroke). x ∷ []) same_last) next in
+          let then_last = strokes_left raised new held entered _ (last ∷ []) (ap (λ (x : Stroke). x ∷ []) same_last) (writes entered settled low same) in
           let from = subst (λ (b : Base). Advances raised new held.name (delta_name held.name) (Reached on_base (Shows held.name) b (last ∷ []))) (sym (after_all-is s.base entry)) then_last in
           strokes_left old new held s.base (entry ++ last ∷ []) turn.strokes (sym (ap (λ (o : Outcome). o.strokes) (strokes_are none)))
           (strokes_composed on_base (Shows held.name) held.name (delta_name held.name) old raised new s.base entry (last ∷ []) entry_left from)
@@ -214,11 +225,11 @@ module _ (old mid raised : World) (held : Opened) (s : Seen) (p : ℕ) (text : L
       failed_write (Err e) passed = subst (λ (f : Fault). Does done (Err f) old new s.base held turn) (sym passed.1) (record { answer = tt; after = tt; left = all_left })
 
       -- all is written
-      pub written_does : IsOpen new held (on_base (raw_stroke (base_after s.base entry).image p text) (base_after s.base entry)) → Does done (Ok tt) old new s.base held turn
+      pub written_does : ((b : Base) → IsOpen raised held b → p < length b.image → bytes ≡ page_at b.image p → IsOpen new held (on_base (raw_stroke b.image p text) b)) → Does done (Ok tt) old new s.base held turn
       unfolding base_after
-      written_does open_after =
-          let is : IsOpen new held (base_after s.base (entry ++ last ∷ [])) =
-          subst (λ (b : Base). IsOpen new held b) (sym (base_after-append s.base entry (last ∷ []))) (subst (λ (x : Stroke). IsOpen new held (on_base x (base_after s.base entry))) same_last open_after) in
+      written_does settles =
+          let open_last : IsOpen new held (on_base last entered) = subst (λ (x : Stroke). IsOpen new held (on_base x entered)) same_last (settles entered settled low same) in
+          let is : IsOpen new held (base_after s.base (entry ++ last ∷ [])) = subst (λ (b : Base). IsOpen new held b) (sym (base_after-append s.base entry (last ∷ []))) open_last in
           record {
             answer = ap (λ (o : Outcome). o.reply) (strokes_are none);
             after = subst (λ (o : Outcome). IsOpen new held (base_after s.base o.strokes)) (sym (strokes_are none)) is;

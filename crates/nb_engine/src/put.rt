@@ -52,12 +52,7 @@ impl Opened {
     }
 
     /// Raises the SCN entry of page `number` to the current SCN. Its SCN page is in `system`.
-    fn raise<H: Host>(
-        &self,
-        host: &mut H,
-        number: u32,
-        system: &mut [u8],
-    ) -> Result<(), HostFault>
+    fn raise<H: Host>(&self, host: &mut H, number: u32, system: &mut [u8]) -> Result<(), HostFault>
         requires size { IsTrue (is_page_size self.now.page_size) }
         requires system { length system.old ≡ self.now.page_size }
         requires number { number < 1048576 }

@@ -1,15 +1,12 @@
-use Rattle.std.proofs.Common.{◌≡◌, ◌<◌, ◌≤◌, ℕ, List, length, refl, sym, ap, subst, ◌∙◌, arith}
+use Rattle.std.proofs.Common.{◌≡◌, sym, subst, ◌∙◌, arith}
 use Rattle.nb_model.specs.Image.{page_at}
-use Rattle.nb_model.specs.Strokes.{base_after}
-use Rattle.nb_model.specs.Causes.{not_raw}
 use Rattle.nb_model.specs.Pages.{write_turn}
 use Rattle.nb_engine.specs.declared.opened.Opened.{Opened}
 use Rattle.nb_engine.specs.Open.{IsOpen}
 use Rattle.nb_engine.specs.Replies.{done}
-use Rattle.nb_engine.specs.Put.{raise_strokes}
 use Rattle.nb_engine.proofs.TestLaws.{vec_whole}
 use Rattle.nb_engine.proofs.QuietDoes.{open_quiet, passed_does}
-use Rattle.nb_engine.proofs.WriteLaws.{MayWrite, is_raw, first_not_raw, write_untaken, write_checked, raise_does, keeps, failed_write, written_does}
+use Rattle.nb_engine.proofs.WriteLaws.{MayWrite, header_does, write_untaken, write_checked, raise_does, failed_write, written_does}
 use Rattle.nb_engine.proofs.engine.Engine.page_write.Goals as goal
 
 pub returns-in_err-take_raw-clause-turn : goal.returns-in_err-take_raw-clause-turn
@@ -21,8 +18,8 @@ returns-in_err-take_raw-clause-turn g c s tells shown =
 pub returns-then-number-eq0-clause-turn : goal.returns-then-number-eq0-clause-turn
 returns-then-number-eq0-clause-turn g c s tells shown =
     let is = subst (λ (o : Opened). IsOpen (g.H.Host.world c.args.host.now) o s.base) (sym c.self.view_is) shown in
-    absurd (first_not_raw (g.H.Host.world c.args.host.now) c.self.inside.opened s.base (g.met.H.Host.reads_left c.args.host.now tells) is
-    (ap (λ (n : ℕ). not_raw s.base.image n) (sym c.if-number-eq0.true) ∙ c.in_ok-take_raw.ensures.test s.base tells is))
+    header_does (g.H.Host.world c.args.host.now) (g.H.Host.world c.take_raw.new.host) c.self.inside.opened s c.args.number _ (write_turn s c.args.number c.args.text.now) (g.met.H.Host.reads_left c.args.host.now tells) is
+    (c.in_ok-take_raw.ensures.test s.base tells is) c.if-number-eq0.true
 
 pub returns-in_err-check_write-clause-turn : goal.returns-in_err-check_write-clause-turn
 returns-in_err-check_write-clause-turn g c s tells shown =
@@ -45,44 +42,31 @@ returns-in_err-raise_entry-clause-turn g c s tells shown =
 pub returns-in_err-write_raw-clause-turn : goal.returns-in_err-write_raw-clause-turn
 returns-in_err-write_raw-clause-turn g c s tells shown =
     let held = c.self.inside.opened in
-    let p = c.args.number in
-    let text = c.args.text.now in
     let first = g.H.Host.world c.args.host.now in
-    let mid = g.H.Host.world c.take_raw.new.host in
-    let raised = g.H.Host.world c.raise_entry.new.host in
     let is = subst (λ (o : Opened). IsOpen first o s.base) (sym c.self.view_is) shown in
     let quiet = c.in_ok-take_raw.ensures.quiet in
     let still = open_quiet _ _ held s.base quiet is in
-    let raw = c.in_ok-take_raw.ensures.test s.base tells is in
-    let may : MayWrite first held s p text = record { is = is; size = c.self.invariant.0; raw = raw; free = c.in_ok-check_write.ensures.test s.base.image is.read_only } in
-    let left = c.in_ok-raise_entry.ensures.left s.base tells still in
-    let none = c.in_ok-raise_entry.ensures.test s.base tells still in
-    let after = c.in_ok-raise_entry.ensures.after s.base tells still in
-    let kept = keeps first mid raised held s p text may quiet left in
-    let low : p < length (base_after s.base (raise_strokes s.base.image p)).image = omega (arith, (is_raw s.base.image p raw).low, kept.long) in
-    let read : c.deref_mut-4.result.now ≡ page_at (base_after s.base (raise_strokes s.base.image p)).image p =
-    vec_whole _ c.take_raw.new.page _ _ c.deref_mut-4.ensures.value (omega (arith, c.take_raw.auto.page, c.deref_mut.ensures.len)) ∙ c.in_ok-take_raw.ensures.page s.base tells is ∙ sym kept.same in
-    failed_write first mid raised held s p text may quiet left (g.H.Host.world c.write_raw.new.host) none (c.write_raw.ensures.left _ tells after low read)
+    let may : MayWrite first held s c.args.number c.args.text.now =
+    record { is = is; size = c.self.invariant.0; raw = c.in_ok-take_raw.ensures.test s.base tells is; free = c.in_ok-check_write.ensures.test s.base.image is.read_only } in
+    let entry = c.in_ok-raise_entry.ensures in
+    let read : c.deref_mut-4.result.now ≡ page_at s.base.image c.args.number =
+    vec_whole _ c.take_raw.new.page _ _ c.deref_mut-4.ensures.value (omega (arith, c.take_raw.auto.page, c.deref_mut.ensures.len)) ∙ c.in_ok-take_raw.ensures.page s.base tells is in
+    failed_write first (g.H.Host.world c.take_raw.new.host) (g.H.Host.world c.raise_entry.new.host) held s c.args.number c.args.text.now may quiet (entry.left s.base tells still) (g.H.Host.world c.write_raw.new.host)
+    c.deref_mut-4.result.now (entry.test s.base tells still) (entry.after s.base tells still) read (λ b opened low same. c.write_raw.ensures.left b tells opened low same)
     c.from_residual-in_err-write_raw.result c.from_residual-in_err-write_raw.ensures
 
 pub returns-clause-turn : goal.returns-clause-turn
 returns-clause-turn g c s tells shown =
     let held = c.self.inside.opened in
-    let p = c.args.number in
-    let text = c.args.text.now in
     let first = g.H.Host.world c.args.host.now in
-    let mid = g.H.Host.world c.take_raw.new.host in
-    let raised = g.H.Host.world c.raise_entry.new.host in
     let is = subst (λ (o : Opened). IsOpen first o s.base) (sym c.self.view_is) shown in
     let quiet = c.in_ok-take_raw.ensures.quiet in
     let still = open_quiet _ _ held s.base quiet is in
-    let raw = c.in_ok-take_raw.ensures.test s.base tells is in
-    let may : MayWrite first held s p text = record { is = is; size = c.self.invariant.0; raw = raw; free = c.in_ok-check_write.ensures.test s.base.image is.read_only } in
-    let left = c.in_ok-raise_entry.ensures.left s.base tells still in
-    let none = c.in_ok-raise_entry.ensures.test s.base tells still in
-    let after = c.in_ok-raise_entry.ensures.after s.base tells still in
-    let kept = keeps first mid raised held s p text may quiet left in
-    let low : p < length (base_after s.base (raise_strokes s.base.image p)).image = omega (arith, (is_raw s.base.image p raw).low, kept.long) in
-    let read : c.deref_mut-4.result.now ≡ page_at (base_after s.base (raise_strokes s.base.image p)).image p =
-    vec_whole _ c.take_raw.new.page _ _ c.deref_mut-4.ensures.value (omega (arith, c.take_raw.auto.page, c.deref_mut.ensures.len)) ∙ c.in_ok-take_raw.ensures.page s.base tells is ∙ sym kept.same in
-    written_does first mid raised held s p text may quiet left (g.H.Host.world c.write_raw.new.host) none (c.write_raw.ensures.left _ tells after low read) (c.in_ok-write_raw.ensures.after _ tells after low read)
+    let may : MayWrite first held s c.args.number c.args.text.now =
+    record { is = is; size = c.self.invariant.0; raw = c.in_ok-take_raw.ensures.test s.base tells is; free = c.in_ok-check_write.ensures.test s.base.image is.read_only } in
+    let entry = c.in_ok-raise_entry.ensures in
+    let read : c.deref_mut-4.result.now ≡ page_at s.base.image c.args.number =
+    vec_whole _ c.take_raw.new.page _ _ c.deref_mut-4.ensures.value (omega (arith, c.take_raw.auto.page, c.deref_mut.ensures.len)) ∙ c.in_ok-take_raw.ensures.page s.base tells is in
+    written_does first (g.H.Host.world c.take_raw.new.host) (g.H.Host.world c.raise_entry.new.host) held s c.args.number c.args.text.now may quiet (entry.left s.base tells still) (g.H.Host.world c.write_raw.new.host)
+    c.deref_mut-4.result.now (entry.test s.base tells still) (entry.after s.base tells still) read (λ b opened low same. c.write_raw.ensures.left b tells opened low same)
+    (λ b opened low same. c.in_ok-write_raw.ensures.after b tells opened low same)

@@ -1,20 +1,10 @@
-use Rattle.std.proofs.Common.{rules, refl, sym, ap, subst, ◌∙◌, arith, ◌≡◌, ◌≢◌, ◌<◌, ◌≤◌, [], ◌∷◌, true, IsTrue, IfErr, IfOk, OnOk, None, length, ℕ, ◌+◌, ◌-◌, ◌*◌, ◌/◌, ◌%◌, Bool, false, nat_eq, nat_lt, List, ◌++◌, slice_index_or, slice_set, bit_and, bit_or, Fits, w8, w32, w64, Bor, MutBor}
-use Rattle.nb_fields.specs.Places.{is_page_size}
-use Rattle.nb_host.specs.Causes.{CountsFault}
-use Rattle.nb_host.specs.declared.faults.Fault.TheVariants.{Memory}
-use Rattle.nb_change.specs.Change.{Advances, Reached}
-use Rattle.nb_change.specs.Counts.{CountsDevice}
-use Rattle.nb_page.specs.Quiet.{Quiet}
-use Rattle.nb_model.specs.Account.{Base}
+use Rattle.std.proofs.Common.{sym, ap, subst, ◌∙◌, arith, ◌≡◌, length, ℕ, Bool, nat_lt}
 use Rattle.nb_model.specs.Image.{page_at}
-use Rattle.nb_model.specs.Strokes.{on_base, base_after}
-use Rattle.nb_model.specs.Forms.{scn_page_of, scn_entry}
+use Rattle.nb_model.specs.Forms.{scn_entry}
 use Rattle.nb_model.specs.Causes.{Cause, not_kind}
 use Rattle.std.specs.Prelude.{Err}
-use Rattle.nb_model.specs.Owner.{delta_name}
-use Rattle.nb_engine.specs.Open.{IsOpen, Shows}
-use Rattle.nb_engine.specs.Turn.{Tested, WhereSettled}
-use Rattle.nb_engine.specs.Put.{entry_cause, must_raise, raise_stroke, raise_strokes, raw_stroke}
+use Rattle.nb_engine.specs.Turn.{Tested}
+use Rattle.nb_engine.specs.Put.{entry_cause}
 use Rattle.nb_engine.proofs.opened.Opened.must_raise.Goals.{then-number-eq0-via-then-number-eq0, then-number-eq0-via-else-number-eq0+then-is_place}
 use Rattle.nb_engine.proofs.PutLaws.{first-without, scn_page-without, other-with, no_entry_cause, not_raised, must_raise-is, entry_cause-is}
 use Rattle.nb_engine.proofs.RaiseLaws.{scn_page-is, entry-is, refusal_passed}

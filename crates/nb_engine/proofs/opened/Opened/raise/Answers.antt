@@ -1,7 +1,6 @@
-use Rattle.std.proofs.Common.{◌≡◌, ◌<◌, ◌≤◌, ℕ, [], ◌∷◌, length, refl, sym, ap, subst, ◌∙◌, arith}
+use Rattle.std.proofs.Common.{◌≡◌, ◌<◌, ◌≤◌, ℕ, [], ◌∷◌, length, sym, ap, subst, arith}
 use Rattle.std.specs.Prelude.{OnOk, false, ◌==◌}
 use Rattle.nb_fields.specs.Bytes.{is_zeros}
-use Rattle.nb_fields.specs.Places.{entries_in, scn_place}
 use Rattle.nb_fields.proofs.PlaceLemmas.{entries-least}
 use Rattle.nb_change.specs.Change.{Advances, Reached}
 use Rattle.nb_change.proofs.ResultLaws.{on_ok_then}

@@ -1,18 +1,5 @@
-use Rattle.std.proofs.Common.{rules, refl, sym, ap, subst, ◌∙◌, arith, ◌≡◌, ◌≢◌, ◌<◌, ◌≤◌, [], ◌∷◌, true, IsTrue, IfErr, IfOk, OnOk, None, length, ℕ, ◌+◌, ◌-◌, ◌*◌, ◌/◌, ◌%◌, Bool, false, nat_eq, nat_lt, List, ◌++◌, slice_index_or, slice_set, bit_and, bit_or, Fits, w8, w32, w64, Bor, MutBor}
-use Rattle.nb_fields.specs.Places.{is_page_size}
-use Rattle.nb_host.specs.Causes.{CountsFault}
-use Rattle.nb_host.specs.declared.faults.Fault.TheVariants.{Memory}
-use Rattle.nb_change.specs.Change.{Advances, Reached}
-use Rattle.nb_change.specs.Counts.{CountsDevice}
-use Rattle.nb_page.specs.Quiet.{Quiet}
-use Rattle.nb_model.specs.Account.{Base}
-use Rattle.nb_model.specs.Image.{page_at}
-use Rattle.nb_model.specs.Strokes.{on_base, base_after}
-use Rattle.nb_model.specs.Forms.{scn_page_of}
-use Rattle.nb_model.specs.Owner.{delta_name}
-use Rattle.nb_engine.specs.Open.{IsOpen, Shows}
-use Rattle.nb_engine.specs.Turn.{Tested, WhereSettled}
-use Rattle.nb_engine.specs.Put.{entry_cause, must_raise, raise_stroke, raise_strokes, raw_stroke}
+use Rattle.std.proofs.Common.{sym, ◌∙◌, ◌≡◌, [], ◌∷◌, true, Bool}
+use Rattle.nb_engine.specs.Put.{entry_cause, must_raise, raise_stroke, raise_strokes}
 use Rattle.nb_engine.proofs.opened.Opened.raise_entry.Goals.{then-branch+in_ok-raise, else-branch}
 use Rattle.nb_engine.proofs.QuietDoes.{open_quiet, quiet_left}
 use Rattle.nb_engine.proofs.PutLaws.{raised_never, raised_not, raised_once}
@@ -23,6 +10,20 @@ pub returns-in_err-must_raise-clause-after : goal.returns-in_err-must_raise-clau
 returns-in_err-must_raise-clause-after g c b tells is =
     settled_passed Bool (Unit {0}) c.from_residual.result c.in_err-must_raise.field-0.0 (entry_cause b.image c.args.number) _ c.from_residual.ensures (c.in_err-must_raise.ensures.test b tells is)
     (λ r cause. none_made _ c.args.self.now b c.args.number (raised_never b.image c.args.number r cause) (open_quiet _ _ c.args.self.now b c.in_err-must_raise.ensures.quiet is))
+
+pub returns-in_err-must_raise-clause-left : goal.returns-in_err-must_raise-clause-left
+returns-in_err-must_raise-clause-left g c b tells is = quiet_left _ _ c.args.self.now b (raise_strokes b.image c.args.number) c.in_err-must_raise.ensures.quiet is
+
+pub returns-in_err-raise-clause-left : goal.returns-in_err-raise-clause-left
+returns-in_err-raise-clause-left g c b tells is =
+    let held = c.args.self.now in
+    let p = c.args.number in
+    let asked = c.in_ok-must_raise.ensures in
+    let none = asked.test b tells is in
+    let must : must_raise b.image p ≡ true = sym (asked.value b tells is) ∙ c.if-branch.true in
+    after_quiet (g.H.Host.world c.args.host.now) (g.H.Host.world c.must_raise.new.host) (g.H.Host.world c.raise.new.host) held b (raise_strokes b.image p) asked.quiet is
+    (strokes_left _ _ held b (raise_stroke b.image p ∷ []) (raise_strokes b.image p) (sym (raised_once b.image p none must))
+    (c.raise.ensures.left b tells (open_quiet _ _ held b asked.quiet is) none must (asked.page b tells is c.if-branch.true)))
 
 pub returns-clause-left : goal.returns-clause-left
 returns-clause-left g c b tells is =
