@@ -2,3 +2,4 @@ pub mod AskedLemmas
 pub mod StopLaws
 pub mod PlayLaws
 pub mod EventLaws
+pub mod SessionLemmas
