@@ -7,7 +7,6 @@ use Rattle.nb_host.specs.World.{World}
 use Rattle.nb_host.specs.Moments.{IsTimely}
 use Rattle.nb_model.specs.declared.statement.Statement.{Statement}
 use Rattle.nb_model.specs.declared.statement.Statement.TheVariants.{CreateDb, Write, Read}
-use Rattle.nb_model.specs.Account.{Base}
 use Rattle.nb_model.specs.Outcomes.{Turn, Begins}
 use Rattle.nb_model.specs.Run.{Event, Now, Played, base_now, take_turn, one_turn, play, rounds, all_sessions, AreFinished, begun}
 use Rattle.nb_model.proofs.RunLaws.{play-append, play_is}

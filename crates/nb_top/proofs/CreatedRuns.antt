@@ -28,7 +28,7 @@ use Rattle.nb_model.specs.Owner.{delta_name, entry_in}
 use Rattle.nb_model.specs.Run.{Event, Now, Played, Opening, base_now, opening, refused_opening, play, rounds, AreFinished, IsRun, strokes_of, replies_of}
 use Rattle.nb_model.specs.Output.{output, status_of}
 use Rattle.nb_model.proofs.FreshImageLaws.{fresh_length}
-use Rattle.nb_model.proofs.OpeningLaws.{free_entry, IsCreated, created, not_created, run_on, run_ends, ArePaged, first_paged, built_paged, created_with, IsPaged}
+use Rattle.nb_model.proofs.OpeningLaws.{free_entry, IsCreated, created, not_created, run_on, run_ends, ArePaged, first_paged, built_paged, created_with, IsPaged, IsWith}
 use Rattle.nb_model.proofs.TodoLaws.{IsSingle, built_single, finished_places}
 use Rattle.nb_script.specs.Asked.{IsFurther, IsAskable, statement_count}
 use Rattle.nb_script.specs.Fits.{FitsFirst}
@@ -161,6 +161,13 @@ module _ (account : Account) (plan : Plan) (askable : IsAskable plan) (name : Li
         (subst (λ (event : Event). IsRun account no_given plan.first_session (CreateDb name size raw cache) plan.schedule plan.sessions (event ∷ (turns n).0) (turns n).1.account) made.event
         (run_on account no_given plan.first_session (CreateDb name size raw cache) plan.schedule plan.sessions made.now (turns n).1 (turns n).0 made.goes_on (record { how_often = n; is = refl; finished = finished })))
 
+    -- the account after is that before with the database
+    last_with : (n : ℕ) → IsWith name (base_now (turns n).1) account (turns n).1.account
+    unfolding now
+    last_with n =
+        created_with account no_given plan.sessions plan.first_session name size raw cache opened made (plan.schedule ++ rounds n)
+        (first_paged made.now plan.sessions made.todo (λ i. all_paged _ (further_at plan askable i)))
+
     -- as often as there are statements
     enough : AreFinished (turns (statement_count plan.sessions)).1.todo
     enough =
@@ -224,7 +231,7 @@ module _ (account : Account) (plan : Plan) (askable : IsAskable plan) (name : Li
         stops = stops_behind n plays.plays.stops;
         finished = record {
           said = plays.plays.done.said ∙ ap (λ (l : List ℕ). l ++ output (played n).0) advances.silent.said ∙ ap (λ (l : List ℕ). old.said ++ l) (same_output n);
-          status = number ∙ sym plays.plays.done.status ∙ ap status_of (same_replies n);
+          ended = number ∙ sym plays.plays.done.status ∙ ap status_of (same_replies n);
           files = stands_with_new old.files new.files account (turns n).1.account name (base_now (turns n).1) stands base.plain (delta_alone old.files name base free_name) others here with_new;
         };
       }
@@ -244,8 +251,5 @@ module _ (account : Account) (plan : Plan) (askable : IsAskable plan) (name : Li
               (subst (λ (k : List ℕ). Rattle.nb_engine.specs.Open.Shows k (base_now (turns n).1) (new.files k) (new.files (delta_name k))) after_named
               (plays.plays.done.opened.settled.left (new.files after.name) (new.files (delta_name after.name)) (reads after.name) (reads (delta_name after.name))))
 
-          with_new : Rattle.nb_model.proofs.OpeningLaws.IsWith name (base_now (turns n).1) account (turns n).1.account
-          unfolding now
-          with_new =
-              created_with account no_given plan.sessions plan.first_session name size raw cache opened made (plan.schedule ++ rounds n)
-              (first_paged made.now plan.sessions made.todo (λ i. all_paged _ (further_at plan askable i)))
+          with_new : IsWith name (base_now (turns n).1) account (turns n).1.account
+          with_new = last_with n

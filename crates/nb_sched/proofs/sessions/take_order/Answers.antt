@@ -12,8 +12,8 @@ returns-in_err-refused-clause-plays g c now told opened left =
 
 pub loop-session-preserved : goal.loop-session-preserved
 loop-session-preserved g c = (
-    turn_more g.H.Host.tells c.args.script.now.sessions _ _ _ _ _ _ _ _ c.args.order.now c.loop-session.session-index c.loop-session-test.true _ c.loop-session.invariant.0
-    _ _ c.in_ok-refused.ensures.plays c.in_ok-refused.ensures.left,
-    c.take_turn.auto.next ∙ c.loop-session.invariant.1,
-    c.in_ok-refused.ensures.cause ∙ c.loop-session.invariant.2
+  turn_more g.H.Host.tells c.args.script.now.sessions _ _ _ _ _ _ _ _ c.args.order.now c.loop-session.session-index c.loop-session-test.true _ c.loop-session.invariant.0
+      _ _ c.in_ok-refused.ensures.plays c.in_ok-refused.ensures.left,
+  c.take_turn.auto.next ∙ c.loop-session.invariant.1,
+  c.in_ok-refused.ensures.cause ∙ c.loop-session.invariant.2,
 )

@@ -12,7 +12,7 @@ returns-in_err-refused-clause-plays g c now told opened left =
 
 pub loop-preserved : goal.loop-preserved
 loop-preserved g c = (
-    round_more g.H.Host.tells c.args.script.now.sessions _ _ _ _ _ _ _ _ c.loop.counter _ c.loop.invariant.0 _ _ c.in_ok-refused.ensures.plays c.in_ok-refused.ensures.left,
-    c.take_order.auto.next ∙ c.loop.invariant.1,
-    c.in_ok-refused.ensures.cause ∙ c.loop.invariant.2
+  round_more g.H.Host.tells c.args.script.now.sessions _ _ _ _ _ _ _ _ c.loop.counter _ c.loop.invariant.0 _ _ c.in_ok-refused.ensures.plays c.in_ok-refused.ensures.left,
+  c.take_order.auto.next ∙ c.loop.invariant.1,
+  c.in_ok-refused.ensures.cause ∙ c.loop.invariant.2,
 )
