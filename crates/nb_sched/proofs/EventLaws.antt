@@ -54,7 +54,7 @@ acked_none es =
     let same = acked_front [] es 0 (omega arith) in
     omega (arith, same, acked_most_strokes [] 0, ap length Rattle.nb_model.proofs.OutputLaws.strokes_no_event)
 
-open_still : (old new : World) (held : Opened) (b : Base) → IsStill old new → IsOpen old held b → IsOpen new held b
+pub open_still : (old new : World) (held : Opened) (b : Base) → IsStill old new → IsOpen old held b → IsOpen new held b
 open_still old new held b still opened = record {
   settled = record {
     left = λ m d lm ld. opened.settled.left m d (left_before old new _ still.left held.name m tt lm) (left_before old new _ still.left (delta_name held.name) d tt ld);
@@ -175,10 +175,10 @@ module _ (old mid new : World) (held : Opened) (now : Now) (session : ℕ) (stat
 
 -- a line is said that has no strokes
 module _ (old new : World) (held : Opened) (now : Now) (session : ℕ) (r : Reply) {S E : Type 0} (told : Result S E) (says : SaysLine told old new (line_text session r)) (opened : IsOpen old held (base_now now)) where
-  abbrev said_event : Event
+  abbrev pub said_event : Event
   said_event = record { session = session; strokes = []; reply = Some r; made = Rattle.std.specs.Prelude.None; syncs = true }
 
-  abbrev said_played : Played
+  abbrev pub said_played : Played
   said_played = (said_event ∷ [], now)
 
   no_strokes : length (strokes_of (said_event ∷ [])) ≡ 0

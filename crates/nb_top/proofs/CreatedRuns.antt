@@ -25,7 +25,7 @@ use Rattle.nb_model.specs.Image.{Image}
 use Rattle.nb_model.specs.Account.{Base, base_of, IsBase, Account}
 use Rattle.nb_model.specs.Causes.{is_free_entry}
 use Rattle.nb_model.specs.Owner.{delta_name, entry_in}
-use Rattle.nb_model.specs.Run.{Event, Now, Played, Opening, base_now, opening, refused_opening, play, rounds, AreFinished, IsRun, strokes_of, replies_of}
+use Rattle.nb_model.specs.Run.{Event, Now, Played, Opening, base_now, begun, opening, refused_opening, play, rounds, AreFinished, IsRun, strokes_of, replies_of}
 use Rattle.nb_model.specs.Output.{output, status_of}
 use Rattle.nb_model.proofs.FreshImageLaws.{fresh_length}
 use Rattle.nb_model.proofs.OpeningLaws.{free_entry, IsCreated, created, not_created, run_on, run_ends, ArePaged, first_paged, built_paged, created_with, IsPaged, IsWith}
@@ -46,9 +46,9 @@ use Rattle.nb_top.proofs.RefusedRuns.{no_given, refused_event}
 use Rattle.nb_top.proofs.StandLaws.{stands_with_new}
 
 -- a name that a database may have
-record BaseName (name : List ℕ) : Type 0 where
-  short : nat_le (length name) 94 ≡ true
-  plain : is_delta name ≡ false
+pub record BaseName (name : List ℕ) : Type 0 where
+  pub short : nat_le (length name) 94 ≡ true
+  pub plain : is_delta name ≡ false
 
 not_true : (b : Bool) → not b ≡ true → b ≡ false
 not_true true h = absurd (none h)
@@ -101,6 +101,11 @@ further_at plan askable i =
     let same : i + 1 - 1 ≡ i = omega arith in
     subst (λ (k : ℕ). AllByRecursion IsFurther (slice_index_or plan.sessions k [])) same (askable.further (i + 1))
 
+-- as often as there are statements is enough
+pub turns_finish : (plan : Plan) → IsAskable plan → (now : Now) → now.todo ≡ begun plan.sessions → AreFinished (play (plan.schedule ++ rounds (statement_count plan.sessions)) now).1.todo
+turns_finish plan askable now todo =
+    finished_places plan.schedule now plan.sessions (statement_count plan.sessions) todo (omega (arith, askable.sixteen)) (λ i. all_singles _ (further_at plan askable i)) (λ i low. counted plan.sessions i)
+
 module _ (account : Account) (plan : Plan) (askable : IsAskable plan) (name : List ℕ) (size raw cache : ℕ) (first_is : plan.first ≡ CreateDb name size raw cache) where
   abbrev image : Image
   image = fresh size raw
@@ -144,7 +149,7 @@ module _ (account : Account) (plan : Plan) (askable : IsAskable plan) (name : Li
     unfolding now
     now_base = made.base
 
-    pub now_todo : now.todo ≡ Rattle.nb_model.specs.Run.begun plan.sessions
+    pub now_todo : now.todo ≡ begun plan.sessions
     unfolding now
     now_todo = made.todo
 
@@ -168,10 +173,19 @@ module _ (account : Account) (plan : Plan) (askable : IsAskable plan) (name : Li
         created_with account no_given plan.sessions plan.first_session name size raw cache opened made (plan.schedule ++ rounds n)
         (first_paged made.now plan.sessions made.todo (λ i. all_paged _ (further_at plan askable i)))
 
-    -- as often as there are statements
     enough : AreFinished (turns (statement_count plan.sessions)).1.todo
-    enough =
-        finished_places plan.schedule now plan.sessions (statement_count plan.sessions) now_todo (omega (arith, askable.sixteen)) (λ i. all_singles _ (further_at plan askable i)) (λ i low. counted plan.sessions i)
+    enough = turns_finish plan askable now now_todo
+
+    -- nothing happened
+    pub quiet_fails : (old new : World) (e : Stop) → Quiet old new → RunsTo (Err e) old new (Ok plan) account
+    quiet_fails old new e quiet = record {
+      given = no_given;
+      events = events (statement_count plan.sessions);
+      last = (turns (statement_count plan.sessions)).1.account;
+      performed = made_performed (statement_count plan.sessions) enough;
+      stops = left_quietly old new account (database_of (Ok plan)) _ quiet;
+      finished = tt;
+    }
 
     -- the creation failed
     pub creating_fails : (old new : World) (e : Stop) → Advances old new name (delta_name name) (CreateLeft old name image) → RunsTo (Err e) old new (Ok plan) account

@@ -5,7 +5,7 @@ use Rattle.std.proofs.lemmas.Bool.{cond-true, cond-false}
 use Rattle.std.proofs.lemmas.List.{drop-drop}
 use Rattle.std.specs.List.{take-map, drop-map}
 use Rattle.std.specs.List.{position_or_len, list_any}
-use Rattle.nb_top.specs.declared.job.Job.{Job}
+use Rattle.nb_model.specs.declared.job.Job.{Job}
 use Rattle.nb_top.specs.Jobs.{job_of, job_of_some, job_of_plain, plain_words, is_dashes, is_flag}
 
 module _ {A : Type 0} (f : A → List ℕ) (p : List ℕ → Bool) where

@@ -4,3 +4,7 @@ pub mod QuietRuns
 pub mod RefusedRuns
 pub mod StandLaws
 pub mod CreatedRuns
+pub mod PagesSaid
+pub mod ScriptRuns
+pub mod ScriptRead
+pub mod JobRuns

@@ -3,8 +3,8 @@ use Rattle.std.specs.Prelude.{ℕ, Bool, ◌&&◌, ◌||◌, ◌==◌, not, nat_
 use Rattle.std.specs.List.{list_any, before_first, after_first, slice_index_or}
 use Rattle.std.specs.Cmp.Lexicographic.{pointwise}
 use Rattle.nb_host.specs.Names.{is_name, is_delta}
-use Rattle.nb_top.specs.declared.job.Job.{Job}
-use Rattle.nb_top.specs.declared.job.Job.TheVariants.{Run}
+use Rattle.nb_model.specs.declared.job.Job.{Job}
+use Rattle.nb_model.specs.declared.job.Job.TheVariants.{Run}
 
 abbrev pub is_word : List ℕ → List ℕ → Bool
 is_word text word = pointwise nat_eq word text
@@ -40,3 +40,8 @@ job_of_some (Some words) = job_of_plain words
 -- the job that the words name
 unfoldable pub job_of : List (List ℕ) → Option Job
 job_of words = job_of_some (plain_words words)
+
+-- the one job that is done today
+abbrev pub IsRun : Job → Type 0
+IsRun (Run name) = Unit {0}
+IsRun other = ⊥

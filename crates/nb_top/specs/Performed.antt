@@ -21,8 +21,8 @@ use Rattle.nb_model.specs.Output.{output, status_of}
 use Rattle.nb_model.specs.Run.{Event, Now, Played, IsRun, AreFinished, play, rounds, strokes_of, replies_of}
 use Rattle.nb_model.specs.Stands.{IsSameImage, HasNoStrayDelta}
 use Rattle.nb_script.specs.Scripts.{Plan, script_of}
-use Rattle.nb_top.specs.declared.job.Job.{Job}
-use Rattle.nb_top.specs.declared.job.Job.TheVariants.{Run}
+use Rattle.nb_model.specs.declared.job.Job.{Job}
+use Rattle.nb_model.specs.declared.job.Job.TheVariants.{Run}
 use Rattle.nb_top.specs.declared.status.Status.{Status}
 use Rattle.nb_top.specs.declared.status.Status.TheVariants.{Done, Refused as RefusedStatus, Usage as UsageStatus, Device, Memory}
 use Rattle.nb_sched.specs.declared.stop.Stop.{Stop}
@@ -39,9 +39,14 @@ abbrev pub script_in : (name : List ℕ) → File → Result Plan Refusal
 script_in name None = Err (NoFile name)
 script_in name (Some bytes) = script_of bytes
 
+-- the script of a job, of which one is done today
+abbrev pub script_of_job : Files → Job → Result Plan Refusal
+script_of_job files (Run name) = script_in name (files name)
+script_of_job files other = Err Usage
+
 -- the script that the words ask for, or why there is none
 abbrev pub script_asked : Files → (words : List (List ℕ)) → Result Plan Refusal
-script_asked files words = elim (job_of words) [ None ↦ Err Usage | Some job ↦ elim job [ Run name ↦ script_in name (files name) ] ]
+script_asked files words = elim (job_of words) [ None ↦ Err Usage | Some job ↦ script_of_job files job ]
 
 -- The run of the words on these files: that of the script that they ask for, or one refusal.
 abbrev pub IsPerformed : Result Plan Refusal → (before : Account) → Given → List Event → (after : Account) → Type 0

@@ -4,16 +4,10 @@ ghost use Rattle.std.specs.List.{slice_index_or, position_or_len, list_any};
 ghost use Rattle.std.specs.Result.{result_ok};
 ghost use Rattle.nb_host.specs.declared.faults.Fault.TheVariants.{Refused};
 ghost use Rattle.nb_host.specs.declared.refusals.Refusal.TheVariants.{Usage};
-ghost use Rattle.nb_top.specs.Jobs.{job_of, plain_words, job_of_plain, is_flag, is_dashes, is_given};
+ghost use Rattle.nb_top.specs.Jobs.{job_of, plain_words, job_of_plain, is_flag, is_dashes, is_given, IsRun};
 
 use nb_host::{Fault, Name, Refusal};
-
-/// What the program is asked to do.
-#[derive(Drop)]
-pub enum Job {
-    /// `run SCRIPT`
-    Run { script: Name },
-}
+use nb_model::Job;
 
 /// A word of two or more bytes that begins with a dash.
 fn is_flag(word: &str) -> bool
@@ -86,7 +80,8 @@ fn given_name(word: &str) -> Option<Name>
 }
 
 fn job_of_plain(before: &[String], behind: &[String]) -> Option<Job>
-    ensures { result ≡ job_of_plain (map string_bytes before.now ++ map string_bytes behind.now) }
+    ensures run { IfSome result IsRun }
+    ensures exact { result ≡ job_of_plain (map string_bytes before.now ++ map string_bytes behind.now) }
 {
     if before.len() + behind.len() != 2 || nth(before, behind, 0) != "run" {
         return None;
@@ -98,6 +93,7 @@ fn job_of_plain(before: &[String], behind: &[String]) -> Option<Job>
 /// The job that the words name, without the program's own name. Where they name none, the refusal is `Usage`.
 pub fn read_job(words: &[String]) -> Result<Job, Fault>
     ensures exact { result_ok result ≡ job_of (map string_bytes words.now) }
+    ensures run { IfOk result IsRun }
     ensures usage { IfErr result (λ fault. fault ≡ Refused Usage) }
 {
     match plain_words(words) {

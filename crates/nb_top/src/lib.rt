@@ -12,7 +12,8 @@ mod status;
 #[cfg(test)]
 mod tests;
 
-pub use job::{Job, read_job};
+pub use job::read_job;
 pub use nb_lines::render;
+pub use nb_model::Job;
 pub use program::run;
 pub use status::Status;

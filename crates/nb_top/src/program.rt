@@ -3,14 +3,15 @@ ghost use Rattle.std.specs.Prelude.{◌≡◌, ◌≢◌, ◌⊎◌, ◌↔◌, 
 ghost use Rattle.nb_host.specs.Causes.{Rose};
 ghost use Rattle.nb_model.specs.Account.{Account};
 ghost use Rattle.nb_sched.specs.Causes.{CountsStop};
-ghost use Rattle.nb_top.specs.Jobs.{job_of};
-ghost use Rattle.nb_top.specs.Performed.{Performs, RunsTo, StandsFor, script_asked, script_in};
+ghost use Rattle.nb_top.specs.Jobs.{job_of, IsRun};
+ghost use Rattle.nb_top.specs.Performed.{Performs, RunsTo, StandsFor, script_asked, script_in, script_of_job};
 
 use crate::Status;
-use crate::job::{Job, read_job};
+use crate::job::read_job;
 use crate::reading::read_script;
 use crate::script::{refuse, run_script, settled};
 use nb_host::{Host, Name, Refusal};
+use nb_model::Job;
 use nb_sched::Stop;
 use std::alloc::Global;
 
@@ -26,6 +27,19 @@ fn run_file<H: Host>(alloc: Global, host: &mut H, name: &Name) -> Result<Status,
     }
 }
 
+fn run_job<H: Host>(alloc: Global, host: &mut H, job: &Job) -> Result<Status, Stop>
+    requires { IsRun job.now }
+    ensures runs { (account : Account) → IsTrue H.tells → StandsFor (H.world host.old).files account
+        → RunsTo result (H.world host.old) (H.world host.new) (script_of_job (H.world host.old).files job.now) account }
+    ensures done { IfOk result (λ status. (status ≡ Status.Done) ⊎ (status ≡ Status.Refused)) }
+    ensures cause { CountsStop result (H.faults host.old) (H.faults host.new) }
+{
+    match job {
+        Job::Run { script } => run_file(alloc, host, script),
+        _ => unreachable!(),
+    }
+}
+
 fn do_job<H: Host>(alloc: Global, words: &[String], host: &mut H) -> Result<Status, Stop>
     ensures runs { (account : Account) → IsTrue H.tells → StandsFor (H.world host.old).files account
         → RunsTo result (H.world host.old) (H.world host.new) (script_asked (H.world host.old).files (map string_bytes words.now)) account }
@@ -34,7 +48,7 @@ fn do_job<H: Host>(alloc: Global, words: &[String], host: &mut H) -> Result<Stat
     ensures cause { CountsStop result (H.faults host.old) (H.faults host.new) }
 {
     match read_job(words) {
-        Ok(Job::Run { script }) => run_file(alloc, host, &script),
+        Ok(job) => run_job(alloc, host, &job),
         Err(_) => {
             refuse(alloc, host, 0, Refusal::Usage)?;
             Ok(Status::Usage)

@@ -1,0 +1,79 @@
+-- A script that can't be read is refused, and never as words that name no job.
+use Rattle.std.proofs.Common.{◌≡◌, ◌≢◌, ℕ, ◌+◌, ◌<◌, List, [], ◌∷◌, Bool, true, false, length, refl, sym, ap, subst, ◌∙◌}
+use Rattle.std.specs.Prelude.{Result, Ok, Err, Option, Some, None, nat_lt, if◌then◌else◌}
+use Rattle.std.specs.Option.{option_map}
+use Rattle.std.proofs.lemmas.Bool.{lt-ltb}
+use Rattle.nb_host.specs.Files.{File}
+use Rattle.nb_host.specs.declared.refusals.Refusal.{Refusal}
+use Rattle.nb_host.specs.declared.refusals.Refusal.TheVariants.{Usage, NoFile, BadScript, ScriptLong}
+use Rattle.nb_model.specs.declared.statement.Statement.{Statement}
+use Rattle.nb_script.specs.Words.{Bytes}
+use Rattle.nb_script.specs.Lines.{lines_of, left}
+use Rattle.nb_script.specs.FirstLine.{first_at}
+use Rattle.nb_script.specs.Statements.{statement_at}
+use Rattle.nb_script.specs.Scripts.{Plan, Numbered, started, with_statement, or_bad, with_lines, order_in, with_order, of_lines, script_of}
+use Rattle.nb_top.specs.Performed.{script_in}
+
+-- not for words
+abbrev pub IsForScript : Result Plan Refusal → Type 0
+IsForScript (Ok plan) = Unit {0}
+IsForScript (Err refusal) = refusal ≢ Usage
+
+bad_line : (line : ℕ) → BadScript line ≢ Usage
+bad_line line h = cc
+
+read_or_bad : (line : Numbered) (o : Option (ℕ × Statement)) (next : ℕ × Statement → Result Plan Refusal) → ((read : ℕ × Statement) → IsForScript (next read)) → IsForScript (or_bad line o next)
+read_or_bad line None next all = bad_line line.0
+read_or_bad line (Some read) next all = all read
+
+lines_read : (taken : ℕ) (plan : Plan) (lines : List Numbered) → IsForScript (with_lines taken plan lines)
+unfolding with_lines
+lines_read taken plan [] = tt
+lines_read taken plan (line ∷ lines) = read_or_bad line (if nat_lt taken 10000 then statement_at line.1 else None) _ (λ read. lines_read (taken + 1) (with_statement plan read) lines)
+
+all_read : (count : ℕ) (lines : List Numbered) → IsForScript (of_lines count lines)
+unfolding of_lines with_order
+all_read count [] = bad_line (count + 1)
+all_read count (line ∷ lines) = read_or_bad line (first_at line.1) _ (λ first. lines_read 1 (started first.0 first.1 (order_in lines).0) (order_in lines).1)
+
+script_read : (bytes : Bytes) → IsForScript (script_of bytes)
+unfolding script_of
+script_read bytes = by (nat_lt 1048576 (length bytes))
+  where
+    long : (n : ℕ) → ScriptLong n ≢ Usage
+    long n h = cc
+
+    by : (b : Bool) → IsForScript (if b then Err (ScriptLong (length bytes)) else of_lines (length (lines_of bytes)) (left 0 bytes))
+    by true = long (length bytes)
+    by false = all_read (length (lines_of bytes)) (left 0 bytes)
+
+pub file_read : (name : List ℕ) (file : File) → IsForScript (script_in name file)
+file_read name None = missing
+  where
+    missing : NoFile name ≢ Usage
+    missing h = cc
+file_read name (Some bytes) = script_read bytes
+
+pub refused_script : (name : List ℕ) (file : File) (refusal : Refusal) → script_in name file ≡ Err refusal → refusal ≢ Usage
+refused_script name file refusal is = subst IsForScript is (file_read name file)
+
+-- a file that is too long
+pub long_file : (name bytes : List ℕ) (file : File) (size : ℕ) → file ≡ Some bytes → size ≡ length bytes → 1048576 < size → script_in name file ≡ Err (ScriptLong size)
+unfolding script_of
+long_file name bytes file size there is high = ap (script_in name) there ∙ rw (lt-ltb 1048576 (length bytes) (subst (λ n. 1048576 < n) is high)) (ap (λ n. Err (ScriptLong n)) (sym is))
+
+-- a file that has a size
+pub record SomeFile (file : File) (size : ℕ) : Type 0 where
+  pub bytes : List ℕ
+  pub is : file ≡ Some bytes
+  pub long : size ≡ length bytes
+
+pub some_file : (file : File) (size : ℕ) → Some size ≡ option_map length file → SomeFile file size
+some_file None size is = absurd (some_none is)
+  where
+    some_none : Some size ≡ None → ⊥
+    some_none h = cc
+some_file (Some bytes) size is = record { bytes = bytes; is = refl; long = some_same is }
+  where
+    some_same : Some size ≡ Some (length bytes) → size ≡ length bytes
+    some_same h = cc
