@@ -5,7 +5,7 @@ use Rattle.nb_host.specs.World.{World}
 use Rattle.nb_host.specs.Crash.{Leaves, Untouched, IsDurable}
 use Rattle.nb_host.specs.Calls.{IsStill, Steps, IsSilent}
 use Rattle.nb_host.specs.Moments.{IsNow, IsTimely, Passes, AtEachMoment}
-use Rattle.nb_change.specs.Change.{Both, LeavesBoth, IsOther, BothLeft, SaysNothing, Advances}
+use Rattle.nb_change.specs.Change.{Both, LeavesBoth, IsOther, SaysNothing, Advances}
 use Rattle.nb_change.proofs.MomentLaws.{started, goes_on, joined, weaker, left_before, untouched_joined, untouched_fewer, untouched_begun}
 
 pub silent_begun : (old : World) → SaysNothing old old

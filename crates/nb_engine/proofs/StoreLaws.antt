@@ -1,23 +1,21 @@
 -- Reading and writing pages of a settled database.
-use Rattle.std.proofs.Common.{◌≡◌, ◌≢◌, ◌⊎◌, inl, inr, ⊎_elim, ℕ, zero, suc, ◌+◌, ◌*◌, ◌<◌, ◌≤◌, List, [], ◌∷◌, length, take, drop, refl, sym, ap, subst, ◌∙◌, arith, length-append}
-use Rattle.std.specs.Prelude.{Bool, true, false, Ok, Err, Result, OnOk, IsTrue, ◌++◌, ◌==◌}
+use Rattle.std.proofs.Common.{◌≡◌, ◌≢◌, inl, inr, ⊎_elim, ℕ, zero, suc, ◌+◌, ◌*◌, ◌<◌, ◌≤◌, List, [], ◌∷◌, length, take, drop, refl, sym, ap, subst, ◌∙◌, arith, length-append}
+use Rattle.std.specs.Prelude.{Bool, true, false, Ok, Err, Result, OnOk, IsTrue, ◌==◌}
 use Rattle.nb_fields.specs.Bytes.{is_zeros}
 use Rattle.nb_host.specs.Files.{File, Files, bytes_of, with_file, with_page as with_page_at}
 use Rattle.nb_host.specs.World.{World}
-use Rattle.nb_host.specs.Crash.{Leaves, Untouched, IsDurable, PageLeft}
-use Rattle.nb_host.specs.Calls.{ReadsPage, WritesPage, Syncs, IsStill, IsSilent}
+use Rattle.nb_host.specs.Crash.{Leaves, PageLeft}
+use Rattle.nb_host.specs.Calls.{ReadsPage, WritesPage, Syncs, IsSilent}
 use Rattle.nb_host.specs.Moments.{IsTimely, Passes}
-use Rattle.nb_change.specs.Change.{Advances, Reached, LeavesBoth}
-use Rattle.nb_change.proofs.ChangeLaws.{begun, stepped_main, still_more, durable_main, silent_call}
-use Rattle.nb_change.proofs.MomentLaws.{left_before}
+use Rattle.nb_change.specs.Change.{Advances, Reached}
+use Rattle.nb_change.proofs.ChangeLaws.{begun, stepped_main, durable_main, silent_call}
 use Rattle.nb_change.proofs.NameLaws.{with_file-same, whole-other}
-use Rattle.nb_change.proofs.ResultLaws.{whole_on_ok}
 use Rattle.nb_model.specs.Image.{Page, Image, page_at, image_size, image_state, with_page}
 use Rattle.nb_model.specs.Account.{Base, base_of}
 use Rattle.nb_model.specs.Strokes.{Stroke, page, on_base, merged_page}
-use Rattle.nb_model.specs.Owner.{delta_name, owner}
+use Rattle.nb_model.specs.Owner.{delta_name}
 use Rattle.nb_model.specs.Main.{HoldsMain}
-use Rattle.nb_model.proofs.MainLaws.{MainFacts, main_facts, page_read, owner_main, main_of_owner}
+use Rattle.nb_model.proofs.MainLaws.{page_read, owner_main, main_of_owner}
 use Rattle.nb_model.proofs.PutLaws.{MayPut, main_put, main_left}
 use Rattle.nb_model.proofs.StrokeLaws.{with_page_other}
 use Rattle.nb_engine.specs.Open.{Shows, IsSettled}

@@ -1,14 +1,13 @@
 -- Creating a database.
 use Rattle.std.specs.Prelude.{◌≡◌, ◌⊎◌, ℕ, true, false, List, Result, Ok, Err}
 use Rattle.nb_fields.specs.Free.{is_free_file}
-use Rattle.nb_fields.specs.Fresh.{fresh}
 use Rattle.nb_host.specs.Files.{File}
 use Rattle.nb_host.specs.World.{World}
 use Rattle.nb_host.specs.Crash.{Leaves}
 use Rattle.nb_host.specs.declared.faults.Fault.{Fault}
 use Rattle.nb_host.specs.declared.faults.Fault.TheVariants.{Refused, Device, Memory}
 use Rattle.nb_host.specs.declared.refusals.Refusal.TheVariants.{FileExists}
-use Rattle.nb_change.specs.Change.{Both, Advances}
+use Rattle.nb_change.specs.Change.{Advances}
 use Rattle.nb_model.specs.Image.{Image}
 use Rattle.nb_model.specs.Account.{base_of}
 use Rattle.nb_model.specs.Owner.{delta_name}

@@ -1,5 +1,5 @@
 -- A database that is open, in the normal state.
-use Rattle.std.specs.Prelude.{◌≡◌, ℕ, Bool, List, length, Ok}
+use Rattle.std.specs.Prelude.{◌≡◌, ℕ, List, length, Ok}
 use Rattle.nb_host.specs.World.{World}
 use Rattle.nb_change.specs.Change.{Both, LeavesBoth}
 use Rattle.nb_model.specs.Image.{image_state, image_size, image_scn, is_read_only}

@@ -1,5 +1,5 @@
 -- Words after words.
-use Rattle.std.proofs.Common.{◌≡◌, ℕ, ◌+◌, ◌<◌, length, take, get_or, map, List, [], ◌∷◌, ◌++◌, refl, sym, ◌∙◌, ap, append_assoc, slice_get, Some, Result, Ok, Err, OnOk}
+use Rattle.std.proofs.Common.{◌≡◌, ℕ, ◌+◌, ◌<◌, length, take, get_or, map, List, [], ◌∷◌, ◌++◌, refl, sym, ◌∙◌, ap, append_assoc, slice_get, Some}
 use Rattle.std.proofs.lemmas.Option.{get_or_from_slice_get}
 use Rattle.std.proofs.lemmas.List.{take_more, map-append, append-nil}
 use Rattle.nb_model.specs.Lines.{Word, number, quoted, word_text, spaced, row_words}

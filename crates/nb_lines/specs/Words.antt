@@ -1,5 +1,4 @@
 -- A word of a line, without where it lies in memory.
-use Rattle.std.specs.Prelude.{ℕ}
 use Rattle.nb_model.specs.Lines.{Word as Spelled, is, number, guid, hex, quoted}
 use Rattle.nb_lines.specs.declared.word.Word.{Word}
 use Rattle.nb_lines.specs.declared.word.Word.TheVariants.{Is, Name, Number, Guid, Digest, Quoted}

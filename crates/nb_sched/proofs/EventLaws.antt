@@ -1,11 +1,11 @@
 -- One statement and its line are one event.
-use Rattle.std.proofs.Common.{◌≡◌, ℕ, ◌+◌, ◌≤◌, List, [], ◌∷◌, ◌++◌, length, take, Bool, true, false, refl, sym, ap, subst, ◌∙◌, arith, length-take, take-append-drop}
+use Rattle.std.proofs.Common.{◌≡◌, ℕ, ◌≤◌, List, [], ◌∷◌, ◌++◌, length, take, Bool, true, false, refl, sym, ap, subst, ◌∙◌, arith}
 use Rattle.std.specs.Prelude.{Result, Ok, Err, OnOk, IfOk, Option, Some, if◌then◌else◌, max}
 use Rattle.std.specs.Result.{IsErr}
 use Rattle.std.proofs.lemmas.List.{append-nil, take_all}
-use Rattle.nb_host.specs.Files.{File, Files}
+use Rattle.nb_host.specs.Files.{Files}
 use Rattle.nb_host.specs.World.{World}
-use Rattle.nb_host.specs.Crash.{Leaves, Untouched}
+use Rattle.nb_host.specs.Crash.{Untouched}
 use Rattle.nb_host.specs.Calls.{IsStill}
 use Rattle.nb_host.specs.Moments.{AtEachMoment}
 use Rattle.nb_host.specs.declared.faults.Fault.{Fault}
@@ -20,16 +20,16 @@ use Rattle.nb_model.specs.Lines.{line_text}
 use Rattle.nb_model.specs.Owner.{delta_name}
 use Rattle.nb_model.specs.Outcomes.{Turn, Begins, Outcome}
 use Rattle.nb_model.specs.Run.{Event, Now, Played, base_now, event_of, outcome, stands_then, take_turn, strokes_of, replies_of}
-use Rattle.nb_model.specs.Output.{output, acked, text_of, status_of, status_after}
+use Rattle.nb_model.specs.Output.{output, acked, status_of, status_after}
 use Rattle.nb_model.proofs.OutputLaws.{acked_front, acked_most_strokes, strokes_one, output_one, status_one}
 use Rattle.nb_model.proofs.RunLaws.{taken_is}
 use Rattle.nb_engine.specs.declared.opened.Opened.{Opened}
 use Rattle.nb_engine.specs.Open.{Shows, IsOpen}
 use Rattle.nb_engine.specs.Turn.{Does, WhereSettled}
 use Rattle.nb_sched.specs.declared.stop.Stop.{Stop}
-use Rattle.nb_sched.specs.Replies.{as_said, HasEnded, is_refusal}
+use Rattle.nb_sched.specs.Replies.{HasEnded, is_refusal}
 use Rattle.nb_sched.specs.Says.{FrontSaid, SaysLine}
-use Rattle.nb_sched.specs.Stops.{StopLeft, PlayedOut, Plays}
+use Rattle.nb_sched.specs.Stops.{StopLeft, Plays}
 
 -- what holds where a call ended with a value or a refusal
 pub ended : {T P : Type 0} (answer : Result T Fault) → HasEnded answer → WhereSettled answer P → P

@@ -4,3 +4,4 @@ pub mod EventLaws
 pub mod SaysLaws
 pub mod DoesLaws
 pub mod TurnLaws
+pub mod SessionLemmas

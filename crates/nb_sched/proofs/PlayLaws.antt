@@ -1,6 +1,6 @@
 -- Turns behind turns.
-use Rattle.std.proofs.Common.{◌≡◌, ℕ, List, [], ◌∷◌, ◌++◌, Bool, true, false, refl, sym, ap, subst, ◌∙◌, ◌≤◌, length, arith, append_assoc}
-use Rattle.std.specs.Prelude.{Result, Ok, Err, ◌||◌, if◌then◌else◌, max}
+use Rattle.std.proofs.Common.{◌≡◌, ℕ, List, [], ◌++◌, Bool, true, false, refl, sym, ap, subst, ◌∙◌, ◌≤◌, length, arith, append_assoc}
+use Rattle.std.specs.Prelude.{Ok, Err, ◌||◌, if◌then◌else◌, max}
 use Rattle.std.proofs.lemmas.List.{append-nil}
 use Rattle.nb_host.specs.World.{World}
 use Rattle.nb_host.specs.Crash.{Untouched}
@@ -16,7 +16,7 @@ use Rattle.nb_model.proofs.OutputLaws.{output_append, status_events, acked_most_
 use Rattle.nb_engine.specs.declared.opened.Opened.{Opened}
 use Rattle.nb_engine.specs.Open.{IsOpen}
 use Rattle.nb_sched.specs.declared.stop.Stop.{Stop}
-use Rattle.nb_sched.specs.Stops.{StopLeft, PlayedOut, Plays}
+use Rattle.nb_sched.specs.Stops.{StopLeft, Plays}
 use Rattle.nb_sched.proofs.StopLaws.{stop_more, stop_then}
 
 -- what stands after turns is the database after their strokes

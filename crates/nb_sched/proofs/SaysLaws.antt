@@ -1,14 +1,14 @@
 -- Saying a line.
-use Rattle.std.proofs.Common.{◌≡◌, ⊎_elim, inl, inr, ℕ, zero, suc, ◌+◌, ◌-◌, ◌≤◌, List, [], ◌∷◌, ◌++◌, Bool, length, take, refl, sym, ap, ◌∙◌, subst, arith}
+use Rattle.std.proofs.Common.{◌≡◌, ℕ, zero, suc, ◌+◌, ◌-◌, List, [], ◌∷◌, ◌++◌, Bool, length, take, refl, sym, ap, ◌∙◌, subst, arith}
 use Rattle.std.specs.Prelude.{Result, Ok, Err, IsTrue, OnOk, min}
 use Rattle.std.specs.Result.{IsErr}
 use Rattle.std.proofs.Math.Seq.{take-append-add}
-use Rattle.std.proofs.lemmas.List.{append-nil, take_all, take-take}
+use Rattle.std.proofs.lemmas.List.{append-nil, take_all}
 use Rattle.nb_host.specs.Files.{Files}
 use Rattle.nb_host.specs.World.{World}
 use Rattle.nb_host.specs.Crash.{LeavesAll}
 use Rattle.nb_host.specs.Calls.{IsStill, Says}
-use Rattle.nb_host.specs.Moments.{IsNow, IsWhileSaying, IsTimely, PassesSaying, AtEachMoment}
+use Rattle.nb_host.specs.Moments.{IsWhileSaying, IsTimely, PassesSaying, AtEachMoment}
 use Rattle.nb_change.proofs.MomentLaws.{started, goes_on, left_before}
 use Rattle.nb_sched.specs.Says.{FrontSaid, SaysLine}
 

@@ -1,8 +1,8 @@
 -- How what a stop leaves goes on from turn to turn.
-use Rattle.std.proofs.Common.{◌≡◌, ◌⊎◌, inl, inr, ⊎_elim, ℕ, ◌+◌, ◌≤◌, List, [], ◌∷◌, ◌++◌, length, take, refl, sym, ap, subst, ◌∙◌, arith, append_assoc, length-append, length-take}
-use Rattle.nb_host.specs.Files.{File, Files}
+use Rattle.std.proofs.Common.{◌≡◌, ℕ, ◌+◌, ◌≤◌, List, ◌++◌, length, take, sym, ap, subst, ◌∙◌, arith, append_assoc, length-append, length-take}
+use Rattle.nb_host.specs.Files.{Files}
 use Rattle.nb_host.specs.World.{World}
-use Rattle.nb_host.specs.Crash.{Leaves, Untouched}
+use Rattle.nb_host.specs.Crash.{Untouched}
 use Rattle.nb_change.specs.Change.{IsOther}
 use Rattle.nb_change.proofs.MomentLaws.{left_before}
 use Rattle.nb_model.specs.Account.{Base}
@@ -14,7 +14,7 @@ use Rattle.nb_model.proofs.RunLaws.{strokes_of-append}
 use Rattle.nb_model.proofs.StrokeLaws.{base_after-append}
 use Rattle.nb_model.proofs.OutputLaws.{acked_front, acked_behind, front_more, front_behind, strokes_front, strokes_behind}
 use Rattle.nb_engine.specs.Open.{Shows}
-use Rattle.nb_sched.specs.Stops.{IsSaid, IsFront, StopLeft}
+use Rattle.nb_sched.specs.Stops.{StopLeft}
 
 part_fits : (part : List ℕ) (all : List ℕ) → part ≡ take (length part) all → length part ≤ length all
 part_fits part all is = omega (arith, ap length is, length-take (length part) all)

@@ -1,12 +1,11 @@
 -- The turns of the statements that are done today.
-use Rattle.std.proofs.Common.{◌≡◌, ◌≢◌, ℕ, List, [], ◌∷◌, true, false, Bool, refl, sym, ap, subst, ◌∙◌}
-use Rattle.std.specs.Prelude.{Some, IsTrue}
+use Rattle.std.proofs.Common.{◌≡◌, ◌≢◌, ℕ, List, refl, sym, ap}
+use Rattle.std.specs.Prelude.{Some}
 use Rattle.nb_host.specs.declared.refusals.Refusal.TheVariants.{Usage}
-use Rattle.nb_model.specs.declared.reply.Reply.{Reply}
 use Rattle.nb_model.specs.declared.reply.Reply.TheVariants.{Refused}
 use Rattle.nb_model.specs.declared.statement.Statement.{Statement}
 use Rattle.nb_model.specs.declared.statement.Statement.TheVariants.{Write, Read}
-use Rattle.nb_model.specs.Outcomes.{Seen, Outcome, Begins}
+use Rattle.nb_model.specs.Outcomes.{Seen, Begins}
 use Rattle.nb_model.specs.Pages.{write_turn, read_turn}
 use Rattle.nb_model.specs.Run.{Now, base_now, outcome}
 use Rattle.nb_model.specs.Turns.{first_turn, turn}

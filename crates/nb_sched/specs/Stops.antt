@@ -1,6 +1,5 @@
 -- What a stop leaves while turns are taken, and what they did.
-use Rattle.std.specs.Prelude.{◌≡◌, ◌⊎◌, ℕ, zero, suc, ◌≤◌, List, ◌++◌, length, take, Bool, true, false, Result, IfOk, if◌then◌else◌}
-use Rattle.nb_fields.specs.Free.{is_free_file}
+use Rattle.std.specs.Prelude.{◌≡◌, ℕ, ◌≤◌, List, ◌++◌, length, take, Bool, Result, IfOk, if◌then◌else◌}
 use Rattle.nb_host.specs.Files.{Files}
 use Rattle.nb_host.specs.World.{World}
 use Rattle.nb_host.specs.Crash.{Leaves, Untouched}

@@ -2,7 +2,7 @@
 use Rattle.std.specs.Prelude.{◌≡◌, ℕ, List, [], ◌++◌, map, drop, slice_index, Bool, Result}
 use Rattle.std.specs.List.{slice_index_or}
 use Rattle.nb_model.specs.declared.statement.Statement.{Statement}
-use Rattle.nb_model.specs.Outcomes.{Turn, Begins}
+use Rattle.nb_model.specs.Outcomes.{Begins}
 use Rattle.nb_model.specs.Run.{Now, play, rounds, AreFinished}
 use Rattle.nb_host.specs.World.{World}
 use Rattle.nb_engine.specs.declared.opened.Opened.{Opened}

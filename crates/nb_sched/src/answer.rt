@@ -21,12 +21,7 @@ use nb_model::{Reply, Statement};
 use std::alloc::Global;
 
 /// Says the line of a reply.
-pub fn say<H: Host>(
-    alloc: Global,
-    host: &mut H,
-    session: u32,
-    reply: &Reply,
-) -> Result<(), Stop>
+pub fn say<H: Host>(alloc: Global, host: &mut H, session: u32, reply: &Reply) -> Result<(), Stop>
     ensures line { IsTrue H.tells → SaysLine result (H.world host.old) (H.world host.new) (line_text session reply.now) }
     ensures cause { CountsStop result (H.faults host.old) (H.faults host.new) }
 {

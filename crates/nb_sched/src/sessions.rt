@@ -41,7 +41,7 @@ fn take_turn<H: Host>(
     ensures cause { CountsStop result (H.faults host.old) (H.faults host.new) }
 {
     let place = session.saturating_sub(1) as usize;
-    if place >= SESSIONS {
+    if place >= script.session_count() as usize {
         return Ok(false);
     }
     let statements = script.statements(place as u32 + 1);
@@ -72,8 +72,7 @@ fn take_order<H: Host>(
 {
     let mut refused = false;
     for session in order {
-        let one = take_turn(alloc, host, engine, script, *session, next)?;
-        refused = refused || one;
+        refused |= take_turn(alloc, host, engine, script, *session, next)?;
     }
     Ok(refused)
 }
@@ -95,19 +94,19 @@ fn take_rounds<H: Host>(
 {
     let mut refused = false;
     for _ in 0..count {
-        let one = take_order(alloc, host, engine, script, &ROUND, next)?;
-        refused = refused || one;
+        refused |= take_order(alloc, host, engine, script, &ROUND, next)?;
     }
     Ok(refused)
 }
 
 /// How many statements the session has that has the most of them.
 fn longest(script: &Script) -> usize
-    ensures { (session : ℕ) → 1 ≤ session → session ≤ 16 → length (statements_of script.now session) ≤ result }
+    ensures most { (session : ℕ) → 1 ≤ session → session ≤ 16 → length (statements_of script.now session) ≤ result }
+    ensures sixteen { length script.now.sessions ≡ 16 }
 {
     let mut most = 0;
-    for session in 1..=SESSIONS as u32 {
-        most = most.max(script.statements(session).len());
+    for before in 0..script.session_count() {
+        most = most.max(script.statements(before + 1).len());
     }
     most
 }
@@ -125,8 +124,9 @@ pub fn take_turns<H: Host>(
         → PlaysWhole result (H.world host.old) (H.world host.new) engine.old engine.new now script.now.schedule }
     ensures cause { CountsStop result (H.faults host.old) (H.faults host.new) }
 {
+    let count = longest(script);
     let mut next = [0; SESSIONS];
     let scheduled = take_order(alloc, host, engine, script, script.schedule(), &mut next)?;
-    let rest = take_rounds(alloc, host, engine, script, longest(script), &mut next)?;
-    Ok(scheduled || rest)
+    let rest = take_rounds(alloc, host, engine, script, count, &mut next)?;
+    Ok(scheduled | rest)
 }

@@ -1,25 +1,24 @@
 -- A script that bytes spell asks only what the program can do, and names its database in the first statement alone.
-use Rattle.std.proofs.Common.{◌≡◌, ℕ, zero, suc, ◌+◌, ◌-◌, ◌<◌, ◌≤◌, ◌==◌, Bool, true, false, not, List, [], ◌∷◌, ◌++◌, length, get_or, set, length-append, refl, sym, ◌∙◌, ap, subst, arith}
-use Rattle.std.specs.Prelude.{Option, Some, None, Result, Ok, Err, IsTrue, IfOk, if◌then◌else◌, option_map, replicate, codes, nat_lt}
+use Rattle.std.proofs.Common.{◌≡◌, ℕ, zero, suc, ◌+◌, ◌-◌, ◌<◌, ◌≤◌, Bool, true, false, not, List, [], ◌∷◌, ◌++◌, length, get_or, set, length-append, refl, ◌∙◌, subst, arith}
+use Rattle.std.specs.Prelude.{Option, Some, None, Result, Ok, Err, IsTrue, IfOk, if◌then◌else◌, replicate, codes, nat_lt}
 use Rattle.std.specs.List.{AllByRecursion}
 use Rattle.nb_host.specs.declared.faults.Fault.{Fault}
 use Rattle.std.proofs.lemmas.Bool.{ltb-true}
 use Rattle.std.proofs.lemmas.List.{length-set}
 use Rattle.nb_host.specs.declared.refusals.Refusal.{Refusal}
-use Rattle.nb_host.specs.declared.refusals.Refusal.TheVariants.{BadScript, ScriptLong}
+use Rattle.nb_host.specs.declared.refusals.Refusal.TheVariants.{ScriptLong}
 use Rattle.nb_model.specs.Built.{is_built}
 use Rattle.nb_model.specs.declared.statement.Statement.{Statement}
 use Rattle.nb_model.specs.declared.statement.Statement.TheVariants.{CreateDb, OpenDb, PageNew, Write, Read, Free, BeginBackup, EndBackup, Backup, BackupSince, CopyTo, CreateTable, DropTable, Insert, Update, Delete, Get, Scan, Forced, Access, Sync, ShowHeader, ShowPages, ShowImage, ShowCache}
-use Rattle.nb_script.specs.Words.{Bytes, ◌>>=◌, after, session_at}
+use Rattle.nb_script.specs.Words.{Bytes, after, session_at}
 use Rattle.nb_script.specs.Statements.{built, statement_at, spelled_at, session_line, command_at}
 use Rattle.nb_script.specs.FirstLine.{first_at, first_spelled, database_at}
 use Rattle.nb_script.specs.Scripts.{Plan, Numbered, started, statements_of, with_statement, or_bad, with_lines, order_in, with_order, of_lines, script_of, IsAnswer}
 use Rattle.nb_script.specs.Lines.{lines_of, left}
 use Rattle.nb_script.specs.Fits.{Fits, FitsFirst, FitsOrder, IsSession}
 use Rattle.nb_script.specs.Asked.{opens, IsFirst, IsFurther, IsAskable, statement_count}
-use Rattle.nb_script.specs.Order.{spaced_session, sessions_at, seed_at, order_spelled, order_at}
-use Rattle.nb_model.specs.Seeds.{seeded, stepped, session_of}
-use Rattle.nb_script.proofs.FitLaws.{If, nothing, just, either, tested, follows, mapped, any, within_fits, command_fits, database_fits}
+use Rattle.nb_script.specs.Order.{order_at}
+use Rattle.nb_script.proofs.FitLaws.{If, nothing, just, tested, follows, any, within_fits, command_fits, database_fits, order_fits}
 
 -- a line of a session 1 to 16 whose statement has P
 abbrev IsLine : (Statement → Type 0) → ℕ × Statement → Type 0
@@ -141,33 +140,7 @@ none_counted : (n : ℕ) → statement_count (replicate n []) ≡ 0
 none_counted zero = refl
 none_counted (suc n) = omega (arith, none_counted n)
 
--- an order that is read names sessions, few enough
-each_read : (most : ℕ) (bytes : Bytes) → If (λ (order : List ℕ). (length order ≤ most) × AllByRecursion IsSession order) (sessions_at most bytes)
-unfolding sessions_at spaced_session
-each_read zero bytes = nothing
-each_read (suc most) bytes =
-    follows _ _ (follows (after (codes " ") bytes) _ (any _) (λ rest _. within_fits 1 16 rest))
-    (λ session range. either _ _ (length session.1 == 0) (λ _. just (session.0 ∷ []) (omega arith, (range, tt)))
-    (λ _. mapped (λ others. session.0 ∷ others) (sessions_at most session.1) (each_read most session.1) (λ others is. (omega (arith, is.0), (range, is.1)))))
-
-length_seeded : (count x : ℕ) → length (seeded count x) ≡ count
-unfolding seeded
-length_seeded zero x = refl
-length_seeded (suc count) x = ap suc (length_seeded count (stepped x))
-
-each_seeded : (count x : ℕ) → AllByRecursion IsSession (seeded count x)
-unfolding seeded session_of
-each_seeded zero x = tt
-each_seeded (suc count) x = ((omega arith, omega arith), each_seeded count (stepped x))
-
-order_fits : (line : Bytes) → If FitsOrder (order_at line)
-unfolding order_at order_spelled
-order_fits line = by_word (after (codes "schedule") line)
-  where
-    by_word : (word : Option Bytes) → If FitsOrder (elim word [ Some rest ↦ sessions_at 4096 rest | None ↦ option_map (seeded 4096) (after (codes "seed ") line >>= seed_at) ])
-    by_word (Some rest) = record { holds = λ order is. let read = (each_read 4096 rest).holds order is in record { few = read.0; each = read.1 } }
-    by_word None = mapped (seeded 4096) _ (any _) (λ seed _. record { few = omega (arith, length_seeded 4096 seed); each = each_seeded 4096 seed })
-
+-- the order of turns of the lines
 order_in_fits : (lines : List Numbered) → FitsOrder (order_in lines).0
 unfolding order_in
 order_in_fits [] = record { few = omega arith; each = tt }

@@ -1,17 +1,19 @@
 -- What is read of a line is what a line can spell.
-use Rattle.std.proofs.Common.{◌≡◌, ℕ, suc, ◌+◌, ◌^◌, ◌<◌, ◌≤◌, ◌==◌, ◌&&◌, ◌||◌, not, Bool, true, false, nat_lt, nat_le, List, [], ◌∷◌, length, take, drop, slice_index, refl, sym, ◌∙◌, ap, subst, inl, inr, arith}
+use Rattle.std.proofs.Common.{◌≡◌, ℕ, zero, suc, ◌+◌, ◌^◌, ◌<◌, ◌≤◌, ◌==◌, ◌&&◌, Bool, true, false, nat_lt, nat_le, List, [], ◌∷◌, length, take, drop, slice_index, refl, ◌∙◌, ap, subst, inl, inr, arith}
 use Rattle.std.specs.Prelude.{Option, Some, None, if◌then◌else◌, option_map, codes}
-use Rattle.std.specs.List.{list_all, prefix_len}
+use Rattle.std.specs.List.{AllByRecursion, list_all, prefix_len}
 use Rattle.std.specs.Str.Parse.{digits_value}
 use Rattle.std.proofs.lemmas.Bool.{cases_Bool, and_parts, cond-true, cond-false, ltb-true, leb-true, and_from}
 use Rattle.nb_host.specs.Files.{is_page_size}
 use Rattle.nb_model.specs.declared.statement.Statement.{Statement}
-use Rattle.nb_model.specs.declared.statement.Statement.TheVariants.{CreateDb, OpenDb, PageNew, Write, Read, Free, BeginBackup, EndBackup, Backup, CopyTo, CreateTable, DropTable, Insert, Update, Delete, Get, Scan, Forced, Access, Sync, ShowHeader, ShowPages, ShowImage, ShowCache}
+use Rattle.nb_model.specs.declared.statement.Statement.TheVariants.{PageNew, Write, Read, Free, BeginBackup, EndBackup, CopyTo, CreateTable, DropTable, Insert, Update, Delete, Get, Scan, Forced, Access, Sync, ShowHeader, ShowPages, ShowImage, ShowCache}
 use Rattle.nb_model.specs.TableNames.{is_table_name, is_table_byte}
-use Rattle.nb_script.specs.Words.{Bytes, ◌>>=◌, after, digit_count, is_plain, value_of, number_at, within, session_at, page_at, is_text_byte, closed, text_at, name_len, is_given, named, name_at, table_at, alone}
+use Rattle.nb_script.specs.Words.{Bytes, ◌>>=◌, after, digit_count, is_plain, value_of, number_at, within, page_at, is_text_byte, closed, text_at, name_len, is_given, named, name_at, table_at, alone}
 use Rattle.nb_script.specs.Statements.{or_next, or_else, command_at, without_text, fixed, of_page, of_file, of_table, of_row, scan_at, backup_at, last_page, last_name, last_table, row_at, last_row, row_text, page_text}
+use Rattle.nb_model.specs.Seeds.{seeded, stepped, session_of}
+use Rattle.nb_script.specs.Order.{spaced_session, sessions_at, seed_at, order_spelled, order_at}
 use Rattle.nb_script.specs.FirstLine.{database_at, create_at, open_at, page_size_at, sizes_at, cache_at}
-use Rattle.nb_script.specs.Fits.{Fits, FitsFirst, IsText, IsFile, IsBase, IsTable}
+use Rattle.nb_script.specs.Fits.{Fits, FitsFirst, FitsOrder, IsSession, IsText, IsFile, IsTable}
 
 -- where something was read, it has P
 pub record If {A : Type 0} (P : A → Type 0) (o : Option A) : Type 0 where
@@ -225,3 +227,32 @@ open_fits bytes = follows (name_at 94 bytes) _ (name_fits 94 bytes) (λ name giv
 pub database_fits : (bytes : Bytes) → If FitsFirst (database_at bytes)
 unfolding database_at
 database_fits bytes = next_fits _ _ _ create_fits (follows (after (codes "open ") bytes) _ (any _) (λ rest _. open_fits rest))
+
+-- an order that is read names sessions, few enough
+each_read : (most : ℕ) (bytes : Bytes) → If (λ (order : List ℕ). (length order ≤ most) × AllByRecursion IsSession order) (sessions_at most bytes)
+unfolding sessions_at spaced_session
+each_read zero bytes = nothing
+each_read (suc most) bytes =
+    follows _ _ (follows (after (codes " ") bytes) _ (any _) (λ rest _. within_fits 1 16 rest))
+    (λ session range. either _ _ (length session.1 == 0) (λ _. just (session.0 ∷ []) (omega arith, (range, tt)))
+    (λ _. mapped (λ others. session.0 ∷ others) (sessions_at most session.1) (each_read most session.1) (λ others is. (omega (arith, is.0), (range, is.1)))))
+
+-- so does one that is made of a seed
+length_seeded : (count x : ℕ) → length (seeded count x) ≡ count
+unfolding seeded
+length_seeded zero x = refl
+length_seeded (suc count) x = ap suc (length_seeded count (stepped x))
+
+each_seeded : (count x : ℕ) → AllByRecursion IsSession (seeded count x)
+unfolding seeded session_of
+each_seeded zero x = tt
+each_seeded (suc count) x = ((omega arith, omega arith), each_seeded count (stepped x))
+
+-- the order of turns of a line
+pub order_fits : (line : Bytes) → If FitsOrder (order_at line)
+unfolding order_at order_spelled
+order_fits line = by_word (after (codes "schedule") line)
+  where
+    by_word : (word : Option Bytes) → If FitsOrder (elim word [ Some rest ↦ sessions_at 4096 rest | None ↦ option_map (seeded 4096) (after (codes "seed ") line >>= seed_at) ])
+    by_word (Some rest) = record { holds = λ order is. let read = (each_read 4096 rest).holds order is in record { few = read.0; each = read.1 } }
+    by_word None = mapped (seeded 4096) _ (any _) (λ seed _. record { few = omega (arith, length_seeded 4096 seed); each = each_seeded 4096 seed })

@@ -1,21 +1,20 @@
 -- The text of a script is read as that script.
-use Rattle.std.proofs.Common.{◌≡◌, ℕ, zero, suc, ◌+◌, ◌-◌, ◌^◌, ◌<◌, ◌≤◌, ◌==◌, ◌&&◌, ◌||◌, not, Bool, true, false, nat_lt, nat_eq, List, [], ◌∷◌, ◌++◌, length, take, drop, get_or, set, slice_index, refl, sym, ◌∙◌, ap, ap₂, subst, inl, inr, arith, append_assoc, length-append}
-use Rattle.std.specs.Prelude.{Option, Some, None, Result, Ok, Err, if◌then◌else◌, replicate, codes, option_map}
+use Rattle.std.proofs.Common.{◌≡◌, ℕ, zero, suc, ◌+◌, ◌-◌, ◌<◌, ◌≤◌, ◌==◌, ◌&&◌, ◌||◌, not, Bool, true, false, nat_lt, nat_eq, List, [], ◌∷◌, ◌++◌, length, take, drop, get_or, set, refl, sym, ◌∙◌, ap, ap₂, subst, arith, append_assoc, length-append}
+use Rattle.std.specs.Prelude.{Option, Some, None, Ok, if◌then◌else◌, replicate, codes, option_map}
 use Rattle.std.specs.Fmt.{decimal}
 use Rattle.std.specs.List.{list_all, AllByRecursion}
 use Rattle.std.specs.Cmp.Lexicographic.{pointwise}
-use Rattle.std.proofs.lemmas.Bool.{cases_Bool, and_parts, cond-true, cond-false, le-ltb, lt-ltb, ne_eqb, eq-eqb}
+use Rattle.std.proofs.lemmas.Bool.{and_parts, cond-true, cond-false, lt-ltb, ne_eqb, eq-eqb}
 use Rattle.std.proofs.lemmas.List.{append-nil, set_at, get_or_at}
-use Rattle.nb_host.specs.declared.refusals.Refusal.{Refusal}
 use Rattle.nb_model.specs.Built.{is_built}
 use Rattle.nb_model.specs.declared.statement.Statement.{Statement}
 use Rattle.nb_model.specs.Seeds.{seeded}
 use Rattle.nb_script.specs.Words.{Bytes, ◌>>=◌, after, is_digit, digit_count}
-use Rattle.nb_script.specs.Statements.{built, statement_at}
+use Rattle.nb_script.specs.Statements.{statement_at}
 use Rattle.nb_script.specs.FirstLine.{first_at}
 use Rattle.nb_script.specs.Order.{spaced_session, sessions_at, seed_at, order_spelled, order_at}
 use Rattle.nb_script.specs.Lines.{lines_of, onto_first, numbered, is_skipped, left}
-use Rattle.nb_script.specs.Scripts.{Plan, Numbered, started, with_statement, or_bad, with_lines, order_in, with_order, of_lines, script_of}
+use Rattle.nb_script.specs.Scripts.{Plan, Numbered, with_statement, with_lines, order_in, script_of}
 use Rattle.nb_script.specs.Spelling.{line_text, spaced_sessions, schedule_text, statements_text, sessions_text, script_text}
 use Rattle.nb_script.specs.Fits.{IsSession, FitsOrder}
 use Rattle.nb_script.specs.Asked.{IsFirst, IsFurther, IsAskable, statement_count}

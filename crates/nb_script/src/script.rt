@@ -97,8 +97,8 @@ impl Script {
         self.schedule.as_slice()
     }
 
-    /// How many sessions there are.
-    pub(crate) fn session_count(&self) -> u32
+    /// How many sessions there are: 16, and each has its statements.
+    pub fn session_count(&self) -> u32
         ensures all { result ≡ length self.now.sessions }
         ensures sixteen { result ≡ 16 }
     {

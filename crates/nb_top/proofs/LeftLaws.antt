@@ -57,16 +57,16 @@ left_before_all old mid same silent account database events files said left = re
   others = λ m unasked. left_before old mid _ same m (files m) tt (left.others m unasked);
 }
 
+none_shown : (name : List ℕ) (d : File) (b : Base) → owner name None d ≡ Ok b → ⊥
+unfolding owner
+none_shown name d b is = cc
+
 -- files that show a database are its entry
 pub shown_entry : (files : Files) (name : List ℕ) (b : Base) → Shows name b (files name) (files (delta_name name)) → entry_in files name ≡ IsBase b
 shown_entry files name b shows = by (files name) refl
   where
-    none_shown : (d : File) → owner name None d ≡ Ok b → ⊥
-    unfolding owner
-    none_shown d is = cc
-
     by : (main : File) → files name ≡ main → entry_of_files name (files name) (files (delta_name name)) ≡ IsBase b
-    by None is = absurd (none_shown (files (delta_name name)) (ap (λ (f : File). owner name f (files (delta_name name))) (sym is) ∙ shows))
+    by None is = absurd (none_shown name (files (delta_name name)) b (ap (λ (f : File). owner name f (files (delta_name name))) (sym is) ∙ shows))
     by (Some bytes) is = opened_entry name (files name) (files (delta_name name)) bytes b is shows
 
 -- the account's entry after strokes

@@ -21,7 +21,7 @@ pub stands_quietly : (old mid : World) (account : Account) → Quiet old mid →
 stands_quietly old mid account quiet stands = subst (λ (f : Files). StandsFor f account) (sym quiet.still.files) stands
 
 finished_quietly : (result : Result Status Stop) (old mid new : World) (events : List Event) (last : Account) → Quiet old mid → IfOk result (λ status. Finished status mid new events last) → IfOk result (λ status. Finished status old new events last)
-finished_quietly (Ok status) old mid new events last quiet done = record { said = done.said ∙ ap (λ (l : List ℕ). l ++ output events) quiet.said; status = done.status; files = done.files }
+finished_quietly (Ok status) old mid new events last quiet done = record { said = done.said ∙ ap (λ (l : List ℕ). l ++ output events) quiet.said; ended = done.ended; files = done.files }
 finished_quietly (Err e) old mid new events last quiet done = tt
 
 pub runs_quietly : (result : Result Status Stop) (old mid new : World) (asked : Result Plan Refusal) (account : Account) → Quiet old mid → RunsTo result mid new asked account → RunsTo result old new asked account

@@ -55,7 +55,7 @@ module _ (old new : World) (session : ℕ) (refusal : Refusal) (account : Accoun
       → IfOk result (λ status. Finished status old new (event ∷ []) account)
   refused_finished (Ok status) number said stands = record {
     said = said ∙ ap (λ (l : List ℕ). old.said ++ l) (sym (output_one event (Refused refusal) refl));
-    status = number ∙ sym (status_one event (Refused refusal) refl);
+    ended = number ∙ sym (status_one event (Refused refusal) refl);
     files = stands;
   }
   refused_finished (Err e) number said stands = tt

@@ -49,7 +49,7 @@ module _ (old new : Files) (account last : Account) (name : List ℕ) (b : Base)
     | inl e ↦ inl (b, is.entries m ∙ ap (with_entry name (IsBase b) account).entry e ∙ entry_same name (IsBase b) account)
     | inr ne ↦ elim (stands.no_stray m (subst (λ (f : File). IsTrue (is_some f)) (others (delta_name m) (delta_other m ne)) some)) [
       | inl base ↦ inl (base.0, entry_stays m ne ∙ base.1)
-      | inr standby ↦ inr (standby.0, standby_stays m ne standby.0 standby.1.0 ∙ standby.1.0, standby.1.1)
+      | inr standby ↦ inr (standby.0, standby_stays m ne standby.0 standby.1 ∙ standby.1, standby.2)
     ]
   ]
     where

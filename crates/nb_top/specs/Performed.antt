@@ -1,5 +1,6 @@
 -- What a run must do: the events of the job that the words name, and the account after.
-use Rattle.std.specs.Prelude.{◌≡◌, ◌≢◌, ◌⊎◌, ℕ, zero, suc, ◌≤◌, List, [], ◌∷◌, ◌++◌, length, take, Bool, Vec, Option, None, Some, Result, Ok, Err, IfOk, true}
+use Rattle.std.specs.Prelude.{◌≡◌, ◌≢◌, ◌⊎◌, ℕ, zero, suc, ◌≤◌, List, [], ◌∷◌, ◌++◌, length, take, Bool, Option, None, Some, Result, Ok, Err, IfOk, true}
+use Rattle.std.specs.Global.{Vec}
 use Rattle.nb_fields.specs.Free.{is_free_file}
 use Rattle.nb_host.specs.Files.{File, Files}
 use Rattle.nb_host.specs.World.{World}
@@ -92,7 +93,7 @@ number_of Memory = 4
 -- a run to its end: all lines were said, the status is theirs, and the files stand for the account after
 pub record Finished (status : Status) (old new : World) (events : List Event) (last : Account) : Type 0 where
   pub said : new.said ≡ old.said ++ output events
-  pub status : number_of status ≡ status_of (replies_of events)
+  pub ended : number_of status ≡ status_of (replies_of events)
   pub files : StandsFor new.files last
 
 -- What a run does that a script asks for, from files that stand for an account: its events are those that the script must have. At each

@@ -1,11 +1,4 @@
-use Rattle.std.proofs.Common.{◌≡◌, ℕ, ◌≤◌, length, sym, ap}
-use Rattle.nb_host.specs.World.{World}
-use Rattle.nb_model.specs.Account.{Base}
-use Rattle.nb_model.specs.Image.{image_size}
-use Rattle.nb_model.proofs.PutLaws.{MayPut}
-use Rattle.nb_change.proofs.ResultLaws.{whole_on_ok}
 use Rattle.nb_change.proofs.ChangeLaws.{still_more, silent_call}
-use Rattle.nb_engine.specs.Open.{IsSettled}
 use Rattle.nb_engine.proofs.StoreLaws.{written, synced, may_put, delta_apart}
 use Rattle.nb_engine.proofs.store.write_page.Goals as goal
 
@@ -21,7 +14,7 @@ returns-clause-left g c b tells settled size low =
     let name = c.args.name.now in
     let may = may_put c.args.number c.args.page.now b.image low c.requires.most size c.requires.some c.requires.below in
     let so_far = written name b c.args.number c.args.page.now may c.requires.below settled.whole settled.normal (g.H.Host.world c.args.host.now) (g.H.Host.world c.write_page.new.self) (delta_apart name) settled
-        g.H.Host.tells tells _ (g.met.H.Host.timely c.args.host.now) c.write_page.ensures.files c.write_page.ensures.time c.write_page.ensures.log in
+    g.H.Host.tells tells _ (g.met.H.Host.timely c.args.host.now) c.write_page.ensures.files c.write_page.ensures.time c.write_page.ensures.log in
     still_more name _ _ _ (g.H.Host.world c.sync.new.self) _ so_far c.sync.ensures.time c.sync.ensures.files.still (silent_call _ _ c.sync.ensures.log)
 
 pub returns-clause-settled : goal.returns-clause-settled

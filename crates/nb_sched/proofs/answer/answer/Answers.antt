@@ -1,7 +1,5 @@
-use Rattle.std.proofs.Common.{◌≡◌, ap, sym, ◌∙◌}
+use Rattle.std.proofs.Common.{ap, sym, ◌∙◌}
 use Rattle.std.specs.Prelude.{Some}
-use Rattle.nb_model.specs.Outcomes.{Begins}
-use Rattle.nb_model.specs.Run.{base_now, outcome, take_turn}
 use Rattle.nb_model.proofs.TodoLaws.{status_plain}
 use Rattle.nb_sched.specs.Replies.{as_said}
 use Rattle.nb_sched.proofs.DoesLaws.{does_turn}

@@ -1,4 +1,4 @@
-use Rattle.std.proofs.Common.{◌≡◌, ◌∙◌}
+use Rattle.std.proofs.Common.{◌∙◌}
 use Rattle.nb_sched.proofs.SaysLaws.{says_line, says_other, err_unsaid}
 use Rattle.nb_sched.proofs.answer.say.Goals as goal
 

@@ -1,4 +1,4 @@
-use Rattle.std.proofs.Common.{◌≡◌, refl, ap, sym, ◌∙◌}
+use Rattle.std.proofs.Common.{refl, ap, sym, ◌∙◌}
 use Rattle.nb_model.specs.declared.reply.Reply.TheVariants.{Done, Value}
 use Rattle.nb_model.specs.Pages.{write_turn}
 use Rattle.nb_engine.specs.Replies.{done, valued}
