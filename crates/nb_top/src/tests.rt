@@ -5,6 +5,11 @@ use nb_mem::MemHost;
 use std::alloc::Global;
 use std::test::Fail;
 
+// The first script, and what it is after its first statement and after its second.
+const CREATED: &str = "1: create database 'a.db' page_size 1024 raw 8\n";
+
+const WRITTEN: &str = "1: create database 'a.db' page_size 1024 raw 8\n1: write 6 'hello'\n";
+
 const FIRST_RUN: &str =
     "1: create database 'a.db' page_size 1024 raw 8\n1: write 6 'hello'\n1: read 6\n";
 
@@ -24,6 +29,69 @@ fn run_text(alloc: Global, host: &mut MemHost, text: &str) -> Result<Status, Fai
     Ok(run(alloc, &words, host))
 }
 
+/// A host after a run of this text that nothing stopped.
+fn host_after(alloc: Global, text: &str) -> Result<MemHost, Fail> {
+    let mut host = MemHost::new(alloc)?;
+    run_text(alloc, &mut host, text)?;
+    Ok(host)
+}
+
+/// The file of the database of the first script.
+fn database(host: &MemHost) -> Option<&[u8]> {
+    let name = Name::read("a.db")?;
+    host.file(&name)
+}
+
+/// Whether a creation that was stopped left this: there is no file, or its first 64 bytes are zeros.
+fn is_unfinished(file: Option<&[u8]>) -> bool {
+    match file {
+        Some(bytes) => bytes.iter().take(64).all(|byte| *byte == 0),
+        None => true,
+    }
+}
+
+/// Whether each page is as before, or as after.
+fn is_between(file: &[u8], before: &[u8], after: &[u8]) -> bool {
+    let pages = file
+        .chunks(1024)
+        .zip(before.chunks(1024).zip(after.chunks(1024)));
+    for (page, (old, new)) in pages {
+        if page != old && page != new {
+            return false;
+        }
+    }
+    file.len() == before.len() && file.len() == after.len()
+}
+
+/// The hosts after one statement of the first script, after two and after all three, and the last once more.
+fn hosts_after(alloc: Global) -> Result<[MemHost; 4], Fail> {
+    Ok([
+        host_after(alloc, CREATED)?,
+        host_after(alloc, WRITTEN)?,
+        host_after(alloc, FIRST_RUN)?,
+        host_after(alloc, FIRST_RUN)?,
+    ])
+}
+
+/// Whether the database has all that so many replies of the first script acknowledge, and each page else is as before the next
+/// statement or after it.
+fn is_kept(host: &MemHost, replies: usize, hosts: &[MemHost]) -> Option<bool> {
+    let file = database(host);
+    if is_unfinished(file) {
+        return Some(replies == 0);
+    }
+    let after = database(hosts.get(replies)?)?;
+    if replies == 0 {
+        return Some(file? == after);
+    }
+    let before = database(hosts.get(replies - 1)?)?;
+    Some(is_between(file?, before, after))
+}
+
+fn replies_of(host: &MemHost) -> usize {
+    host.output().iter().filter(|byte| **byte == b'\n').count()
+}
+
 #[test]
 fn create_write_read(rt: HostRuntime) -> Result<(), Fail> {
     let mut host = MemHost::new(rt.alloc())?;
@@ -33,8 +101,7 @@ fn create_write_read(rt: HostRuntime) -> Result<(), Fail> {
         host.output(),
         b"1: ok pages 13\n1: ok\n1: ok 'hello'\n".as_slice()
     );
-    let name = Name::read("a.db").ok_or("no name")?;
-    let file = host.file(&name).ok_or("no file")?;
+    let file = database(&host).ok_or("no file")?;
     assert_eq!(rt; file.len(), 13_312);
     assert_eq!(rt;
         file[6144..6167],
@@ -47,14 +114,237 @@ fn create_write_read(rt: HostRuntime) -> Result<(), Fail> {
 }
 
 #[test]
-fn read_past_the_end(rt: HostRuntime) -> Result<(), Fail> {
-    let mut host = MemHost::new(rt.alloc())?;
-    let text =
-        "1: create database 'a.db' page_size 1024 raw 8\n1: write 6 'hello'\n1: read 6\n1: read 13\n";
-    let status = run_text(rt.alloc(), &mut host, text)?;
-    assert_eq!(rt; status, Status::Refused);
-    let output = b"1: ok pages 13\n1: ok\n1: ok 'hello'\n1: refused 9 PageRange 13 13\n";
-    assert_eq!(rt; host.output(), output.as_slice());
+fn first_script_stopped(rt: HostRuntime) -> Result<(), Fail> {
+    let alloc = rt.alloc();
+    let hosts = hosts_after(alloc)?;
+    for stop in 1..=hosts[2].calls() {
+        let mut host = MemHost::fused(alloc, stop)?;
+        let status = run_text(alloc, &mut host, FIRST_RUN)?;
+        assert_eq!(rt; status, Status::Device, "stop {stop}");
+        assert_eq!(rt; host.calls(), stop);
+        assert!(rt; hosts[2].output().starts_with(host.output()), "stop {stop}");
+        for pick in 0..8u64 {
+            let mut left = host.left(pick)?;
+            assert_eq!(rt;
+                is_kept(&left, replies_of(&host), &hosts),
+                Some(true),
+                "stop {stop}, pick {pick}"
+            );
+            // The script again: the name is free exactly where the creation was not finished.
+            let is_free = is_unfinished(database(&left));
+            let status = run_text(alloc, &mut left, FIRST_RUN)?;
+            assert_eq!(rt; status == Status::Done, is_free, "stop {stop}, pick {pick}");
+            assert!(rt;
+                !is_free || database(&left) == database(&hosts[2]),
+                "stop {stop}, pick {pick}"
+            );
+        }
+    }
+    Ok(())
+}
+
+#[test]
+fn each_call_may_fail(rt: HostRuntime) -> Result<(), Fail> {
+    let alloc = rt.alloc();
+    let hosts = hosts_after(alloc)?;
+    for call in 1..=hosts[2].calls() {
+        let mut host = MemHost::failing(alloc, &[call])?;
+        let status = run_text(alloc, &mut host, FIRST_RUN)?;
+        assert_eq!(rt; status, Status::Device, "call {call}");
+        assert_eq!(rt; (host.calls(), host.fault_count()), (call, 1));
+        assert_eq!(rt; host.memory_count(), 0);
+        assert!(rt; hosts[2].output().starts_with(host.output()), "call {call}");
+        let replies = replies_of(&host);
+        assert_eq!(rt; is_kept(&host, replies, &hosts), Some(true), "call {call}");
+        for pick in 0..8u64 {
+            let left = host.left(pick)?;
+            assert_eq!(rt;
+                is_kept(&left, replies, &hosts),
+                Some(true),
+                "call {call}, pick {pick}"
+            );
+        }
+    }
+    let mut host = MemHost::failing(alloc, &[1])?;
+    assert_eq!(rt; run_text(alloc, &mut host, FIRST_RUN)?, Status::Device);
+    assert!(rt; host.output().is_empty() && database(&host).is_none());
+    Ok(())
+}
+
+/// So many letters.
+fn letters(alloc: Global, count: u32) -> Result<String, Fail> {
+    let mut text = String::new(alloc);
+    for _ in 0..count {
+        text.push('x')?;
+    }
+    Ok(text)
+}
+
+#[test]
+fn page_refusals(rt: HostRuntime) -> Result<(), Fail> {
+    let alloc = rt.alloc();
+    let longest = letters(alloc, 200)?;
+    let text = format!(in alloc;
+        "{CREATED}1: write 2 'x'
+1: read 2
+1: write 0 'x'
+1: read 0
+1: write 4 'x'
+1: write 6 '{longest}'
+1: write 7 '{longest}x'
+1: write 2 '{longest}x'
+1: write 13 '{longest}x'
+1: read 13
+1: write 4294967295 'x'
+1: read 4294967295
+1: read 6
+1: read 7
+"
+    )?;
+    let output = format!(in alloc;
+        "1: ok pages 13
+1: refused 11 SystemPage 2
+1: refused 11 SystemPage 2
+1: refused 11 SystemPage 0
+1: refused 11 SystemPage 0
+1: refused 11 SystemPage 4
+1: ok
+1: refused 21 TextLong 201
+1: refused 11 SystemPage 2
+1: refused 9 PageRange 13 13
+1: refused 9 PageRange 13 13
+1: refused 9 PageRange 4294967295 13
+1: refused 9 PageRange 4294967295 13
+1: ok '{longest}'
+1: ok ''
+"
+    )?;
+    let mut host = MemHost::new(alloc)?;
+    assert_eq!(rt; run_text(alloc, &mut host, &text)?, Status::Refused);
+    assert_eq!(rt; host.output(), output.as_bytes());
+    // What was refused has changed nothing.
+    let without = format!(in alloc; "{CREATED}1: write 6 '{longest}'\n")?;
+    let same = host_after(alloc, &without)?;
+    assert!(rt; database(&host).is_some() && database(&host) == database(&same));
+    Ok(())
+}
+
+#[test]
+fn sessions_by_schedule(rt: HostRuntime) -> Result<(), Fail> {
+    let cases = [
+        // Two sessions by turns, as the schedule says.
+        (
+            "1: create database 'a.db' page_size 1024 raw 8
+schedule 2 1 1 2
+1: write 5 'a'
+1: read 5
+2: write 5 'b'
+2: read 5
+",
+            Status::Done,
+            "1: ok pages 13\n2: ok\n1: ok\n1: ok 'a'\n2: ok 'a'\n",
+        ),
+        // The same statements without a schedule, one round after the other.
+        (
+            "1: create database 'a.db' page_size 1024 raw 8
+2: write 5 'b'
+2: read 5
+1: write 5 'a'
+1: read 5
+",
+            Status::Done,
+            "1: ok pages 13\n1: ok\n2: ok\n1: ok 'b'\n2: ok 'b'\n",
+        ),
+        // More numbers than statements: a session that has finished, or has no statement at all, is skipped.
+        (
+            "1: create database 'a.db' page_size 1024 raw 8
+schedule 2 2 2 3 3 1 2 1 1 16 1
+1: write 5 'a'
+1: read 5
+2: write 5 'b'
+",
+            Status::Done,
+            "1: ok pages 13\n2: ok\n1: ok\n1: ok 'a'\n",
+        ),
+        // Fewer numbers than statements: what is left goes on by rounds, behind a refusal too.
+        (
+            "16: create database 'a.db' page_size 1024 raw 8
+schedule 16 16
+3: write 7 'c'
+3: read 5
+16: write 5 'p'
+16: read 99
+16: write 6 'q'
+16: read 7
+9: read 6
+9: read 5
+",
+            Status::Refused,
+            "16: ok pages 13\n16: ok\n16: refused 9 PageRange 99 13\n3: ok\n9: ok ''\n16: ok\n3: ok 'p'\n9: ok 'p'\n16: ok 'c'\n",
+        ),
+        // The numbers of this seed are 15 16 2 2 10 4 9 5 12 7 4 4 1 1 .., and the next 15 is the 52nd.
+        (
+            "1: create database 'a.db' page_size 1024 raw 8
+seed 7
+1: write 5 'one'
+1: read 5
+2: write 5 'two'
+2: read 5
+4: write 5 'four'
+4: read 5
+15: write 5 'fifteen'
+15: read 5
+",
+            Status::Done,
+            "1: ok pages 13\n15: ok\n2: ok\n2: ok 'two'\n4: ok\n4: ok 'four'\n1: ok\n1: ok 'one'\n15: ok 'one'\n",
+        ),
+    ];
+    for (text, status, output) in cases {
+        let mut host = MemHost::new(rt.alloc())?;
+        assert_eq!(rt; run_text(rt.alloc(), &mut host, text)?, status);
+        assert_eq!(rt; host.output(), output.as_bytes());
+    }
+    Ok(())
+}
+
+#[test]
+fn all_page_sizes(rt: HostRuntime) -> Result<(), Fail> {
+    let alloc = rt.alloc();
+    // Page size and raw pages; the last raw page, all pages and their bytes.
+    let cases = [
+        (1024, 8, 12, 13, 13_312),
+        (2048, 8, 12, 13, 26_624),
+        (4096, 8, 12, 13, 53_248),
+        (8192, 8, 12, 13, 106_496),
+        (16384, 8, 12, 13, 212_992),
+        (32768, 8, 12, 13, 425_984),
+        // Pages 248 and 7936 are SCN inventory pages, page 7935 is a page inventory page.
+        (1024, 243, 247, 248, 253_952),
+        (1024, 254, 259, 260, 266_240),
+        (1024, 7899, 7934, 7935, 8_125_440),
+        (1024, 7900, 7937, 7938, 8_128_512),
+    ];
+    for (size, raw, last, pages, bytes) in cases {
+        let mut host = MemHost::new(alloc)?;
+        let text = format!(in alloc;
+            "1: create database 'a.db' page_size {size} raw {raw}
+1: write {last} 'hello'
+1: read {last}
+1: read {pages}
+"
+        )?;
+        let output = format!(in alloc;
+            "1: ok pages {pages}
+1: ok
+1: ok 'hello'
+1: refused 9 PageRange {pages} {pages}
+"
+        )?;
+        assert_eq!(rt; run_text(alloc, &mut host, &text)?, Status::Refused);
+        assert_eq!(rt; host.output(), output.as_bytes());
+        let file = database(&host).ok_or("no file")?;
+        assert_eq!(rt; file.len(), bytes);
+    }
     Ok(())
 }
 
@@ -81,25 +371,54 @@ fn faulty_words(rt: HostRuntime) -> Result<(), Fail> {
 
 #[test]
 fn faulty_scripts(rt: HostRuntime) -> Result<(), Fail> {
-    let mut host = MemHost::new(rt.alloc())?;
+    let alloc = rt.alloc();
+    let mut host = MemHost::new(alloc)?;
+    let beside = Name::read("c.db.delta").ok_or("no name")?;
+    host.put_file(&beside, b"")?;
     let cases = [
-        ("", Status::Refused),
-        ("# nothing\n\n", Status::Refused),
-        ("1: read 6\n", Status::Refused),
+        ("", "0: refused 2 BadScript 1\n"),
+        ("# nothing\n\n", "0: refused 2 BadScript 3\n"),
+        ("1: read 6\n", "0: refused 2 BadScript 1\n"),
         (
-            "1: create database 'b.db' page_size 1024 raw 201\n",
-            Status::Refused,
+            "1: create database 'b.db' page_size 1024 raw 65536\n",
+            "0: refused 2 BadScript 1\n",
         ),
-        (FIRST_RUN, Status::Done),
-        (FIRST_RUN, Status::Refused),
+        (
+            "1: create database 'b.db' page_size 1000 raw 8\n",
+            "0: refused 2 BadScript 1\n",
+        ),
+        (
+            "1: create database 'b.db' page_size 1024 raw 8\nschedule 17\n",
+            "0: refused 2 BadScript 2\n",
+        ),
+        (
+            "1: create database 'b.db' page_size 1024 raw 8\n1: write 6 'hello'\n17: read 6\n",
+            "0: refused 2 BadScript 3\n",
+        ),
+        (
+            "1: create database 'c.db' page_size 1024 raw 8\n1: read 6\n",
+            "1: refused 4 FileExists c.db\n",
+        ),
+        (FIRST_RUN, "1: ok pages 13\n1: ok\n1: ok 'hello'\n"),
+        (FIRST_RUN, "1: refused 4 FileExists a.db\n"),
+        (
+            "5: create database 'a.db' page_size 2048 raw 9\n5: write 6 'x'\n1: read 6\n",
+            "5: refused 4 FileExists a.db\n",
+        ),
     ];
-    for (text, status) in cases {
-        let ended = run_text(rt.alloc(), &mut host, text)?;
-        assert_eq!(rt; ended, status);
+    let mut output = String::new(alloc);
+    for (text, lines) in cases {
+        let wanted = if lines.contains("refused") {
+            Status::Refused
+        } else {
+            Status::Done
+        };
+        assert_eq!(rt; run_text(alloc, &mut host, text)?, wanted);
+        output.push_str(lines)?;
+        assert_eq!(rt; host.output(), output.as_bytes());
     }
-    let output =
-        b"0: refused 2 BadScript 1\n0: refused 2 BadScript 3\n0: refused 2 BadScript 1\n0: refused 2 BadScript 1\n1: ok pages 13\n1: ok\n1: ok 'hello'\n1: refused 4 FileExists a.db\n";
-    assert_eq!(rt; host.output(), output.as_slice());
+    let same = host_after(alloc, FIRST_RUN)?;
+    assert!(rt; database(&host).is_some() && database(&host) == database(&same));
     Ok(())
 }
 
@@ -116,20 +435,5 @@ fn a_long_script(rt: HostRuntime) -> Result<(), Fail> {
         host.output(),
         b"0: refused 29 ScriptLong 1048577\n".as_slice()
     );
-    Ok(())
-}
-
-#[test]
-fn each_call_may_fail(rt: HostRuntime) -> Result<(), Fail> {
-    let mut whole = MemHost::new(rt.alloc())?;
-    let status = run_text(rt.alloc(), &mut whole, FIRST_RUN)?;
-    assert_eq!(rt; status, Status::Done);
-    for call in 1..=whole.calls() {
-        let mut host = MemHost::failing(rt.alloc(), &[call])?;
-        let status = run_text(rt.alloc(), &mut host, FIRST_RUN)?;
-        assert_eq!(rt; status, Status::Device, "call {call}");
-        assert!(rt; whole.output().starts_with(host.output()), "call {call}");
-        assert_eq!(rt; host.memory_count(), 0);
-    }
     Ok(())
 }
