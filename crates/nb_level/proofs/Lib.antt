@@ -1,0 +1,3 @@
+pub mod AddingLemmas
+pub mod HeadLemmas
+pub mod ReadingLemmas
