@@ -58,7 +58,7 @@ end_run fuel h at count rest = from (first_fault ((count == 0, at) ∷ ends_befo
   from None = refl
 
 -- one step of version 101
-singles-step : (fuel : ℕ) (h : Head) (at count least : ℕ) (rest : List ℕ) → read_singles (suc fuel) h at count least rest ≡ after_single fuel h at count rest (single_step h at count least rest)
+pub singles-step : (fuel : ℕ) (h : Head) (at count least : ℕ) (rest : List ℕ) → read_singles (suc fuel) h at count least rest ≡ after_single fuel h at count rest (single_step h at count least rest)
 unfolding read_singles single_step
 singles-step fuel h at count least rest = from (nat_lt (length rest) 4) (number_in 0 4 rest == end_mark) (first_fault (
     (is_bad_number count least (number_in 0 4 rest), at)

@@ -1,5 +1,5 @@
 -- Reading a level file from front to back: where a reader stands, what the next bytes say, and what is still to come.
-use Rattle.std.specs.Prelude.{◌≡◌, ℕ, ◌+◌, ◌*◌, ◌<◌, ◌≤◌, List, [], ◌∷◌, length, take, drop, Option, Some, None, Result, Ok, Err, Bool, true, false, ◌&&◌, ◌||◌, ◌==◌, not, nat_le, nat_lt}
+use Rattle.std.specs.Prelude.{◌≡◌, ◌⊎◌, ℕ, ◌+◌, ◌*◌, ◌<◌, ◌≤◌, IsTrue, List, [], ◌∷◌, length, take, drop, Option, Some, None, Result, Ok, Err, Bool, true, false, ◌&&◌, ◌||◌, ◌==◌, not, nat_le, nat_lt}
 use Rattle.nb_fields.specs.Bytes.{number_in, part}
 use Rattle.nb_model.specs.Image.{Numbered}
 use Rattle.nb_model.specs.Levels.{Head, Contents, first_fault, ends_before, is_bad_number, is_first_page, end_mark, behind, pages_in, read_singles, read_runs, begins_level, head_in}
@@ -96,3 +96,21 @@ head_fault bytes = first_fault (
     ∷ (not (is_page_size (number_in 40 4 bytes)), 40)
     ∷ (not (nat_lt (number_in 48 4 bytes) (number_in 44 4 bytes)), 44)
     ∷ [])
+
+-- what holds of the fields of every reader
+pub record IsReader (version : ℕ) (head : LevelHead) (place : Place) (buffer : ℕ) : Type 0 where
+  pub known : (version ≡ 101) ⊎ (version ≡ 102)
+  pub size : IsTrue (is_page_size head.page_size)
+  pub room_101 : version ≡ 101 → buffer ≡ 4 + head.page_size
+  pub room_102 : version ≡ 102 → buffer ≡ 8 + head.page_size
+  pub single : version ≡ 101 → place.left ≡ 0
+  pub within : place.least + place.left ≤ 1048576
+  pub counted : place.count ≤ place.least
+  pub reached : place.at ≤ 52 + 32776 * place.least
+
+-- a reader behind the head that a file begins with
+pub record IsBegun (name first : List ℕ) (r : Reading) : Type 0 where
+  pub file : r.name ≡ name
+  pub version : r.version ≡ number_in 4 2 first
+  pub head : head_of r.head ≡ head_in first
+  pub place : r.place ≡ record { at = 52; count = 0; least = 0; barred = end_mark; left = 0 }

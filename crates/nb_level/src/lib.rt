@@ -8,9 +8,15 @@
 
 mod adding;
 mod head;
+mod item;
 mod place;
+mod reader;
+mod start;
 mod steps;
 mod writing;
 
 pub use head::LevelHead;
+pub use item::Item;
+pub use place::Place;
+pub use reader::LevelReader;
 pub use writing::{write_end, write_head, write_page_at, write_run};

@@ -1,6 +1,6 @@
-ghost use Rattle.std.specs.Prelude.{◌≡◌, ◌+◌, ◌^◌, ◌<◌, ◌≤◌, ◌==◌, ◌||◌, nat_lt, length, IsTrue};
+ghost use Rattle.std.specs.Prelude.{◌≡◌, ◌+◌, ◌^◌, ◌<◌, ◌≤◌, ◌==◌, ◌||◌, nat_lt, length, IsTrue, IfOk, IfSome};
 ghost use Rattle.nb_fields.specs.Places.{is_page_size};
-ghost use Rattle.nb_model.specs.Levels.{is_first_page, is_bad_number};
+ghost use Rattle.nb_model.specs.Levels.{is_first_page, is_bad_number, barred_after};
 ghost use Rattle.nb_level.specs.Heads.{head_of};
 ghost use Rattle.nb_level.specs.Reading.{end_step, single_step, run_step};
 
@@ -42,7 +42,8 @@ fn is_bad_number(count: u32, least: u32, number: u32) -> bool
 #[tactic(auto, unfolding(crate::specs::Reading::end_step, nb_model::specs::Levels::first_fault))]
 fn end_step(at: u64, count: u32, bytes: &[u8]) -> Result<Option<(u32, u32)>, u64>
     requires { at < 2 ^ 62 }
-    ensures { result ≡ end_step at count bytes.now }
+    ensures step { result ≡ end_step at count bytes.now }
+    ensures end { IfOk result (λ next. next ≡ None) }
 {
     if count == 0 {
         return Err(at);
@@ -71,7 +72,8 @@ pub(crate) fn single_step(
     requires size { IsTrue (is_page_size head.now.page_size) }
     requires place { at < 2 ^ 62 }
     requires window { length bytes.now ≤ 4 + head.now.page_size }
-    ensures { result ≡ single_step (head_of head.now) at count least bytes.now }
+    ensures step { result ≡ single_step (head_of head.now) at count least bytes.now }
+    ensures page { IfOk result (λ next. IfSome next (λ page. (length bytes.now ≡ 4 + head.now.page_size) × (least ≤ page.0) × (page.0 < 1048576))) }
 {
     if bytes.len() < 4 {
         return Err(at + bytes.len() as u64);
@@ -115,7 +117,8 @@ pub(crate) fn run_step(
     requires size { IsTrue (is_page_size head.now.page_size) }
     requires place { at < 2 ^ 62 }
     requires window { length bytes.now ≤ 8 + head.now.page_size }
-    ensures { result ≡ run_step (head_of head.now) at count least barred bytes.now }
+    ensures step { result ≡ run_step (head_of head.now) at count least barred bytes.now }
+    ensures run { IfOk result (λ next. IfSome next (λ run. (length bytes.now ≡ 8 + head.now.page_size) × (least ≤ run.0) × (1 ≤ run.1) × (run.1 ≤ 16) × (run.0 + run.1 ≤ 1048576))) }
 {
     if bytes.len() < 4 {
         return Err(at + bytes.len() as u64);
@@ -142,4 +145,16 @@ pub(crate) fn run_step(
         return Err(at + 8);
     }
     Ok(Some((number, pages)))
+}
+
+/// The number that may not begin the run behind one of so many pages.
+pub(crate) fn barred_after(number: u32, pages: u32) -> u32
+    requires { number + pages < 2 ^ 32 }
+    ensures { result ≡ barred_after number pages }
+{
+    if pages < 16 {
+        number + pages
+    } else {
+        END_MARK
+    }
 }
