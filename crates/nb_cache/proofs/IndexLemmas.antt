@@ -70,11 +70,11 @@ module _ (index : Index) (es : Frames) (held page : ℕ) (finds : Finds index (p
       let x : ℕ × Frame = (key, a.frame) in
       let rest : Frames = drop held es in
       let parts : es ≡ a.before ++ x ∷ (a.behind ++ rest) =
-          sym (take-append-drop held es) ∙ ap (λ (l : Frames). l ++ rest) a.parts ∙ append_assoc a.before (x ∷ a.behind) rest in
+      sym (take-append-drop held es) ∙ ap (λ (l : Frames). l ++ rest) a.parts ∙ append_assoc a.before (x ∷ a.behind) rest in
       let only : AllByRecursion (λ e. nat_eq key e.0 ≡ false) a.before = misses_before es a.before key a.frame (a.behind ++ rest) parts distinct in
       let size : length (take held es) ≡ length a.before + suc (length a.behind) = ap length a.parts ∙ length-append a.before (x ∷ a.behind) in
       let here : (y : ℕ × Frame) → Contains a.before y → Contains (take held es) y =
-          λ y c. subst (λ (l : Frames). Contains l y) (sym a.parts) (contains_left a.before (x ∷ a.behind) y c) in record {
+      λ y c. subst (λ (l : Frames). Contains l y) (sym a.parts) (contains_left a.before (x ∷ a.behind) y c) in record {
         split = record { before = a.before; frame = a.frame; behind = a.behind ++ rest; parts = parts; only = only };
         inside = omega (arith, length-take-le held es within);
         holds = a.holds;
@@ -127,8 +127,8 @@ module _ (old new : Index) (page key : ℕ) (entered : (q : ℕ) → holder new 
   Finds-entered = record {
     only = λ q k some. elim (cases_eq page q) [
       | inl same ↦
-        let one : key ≡ k = same_some key k (sym (here q same) ∙ some) in
-        subst (λ (p : ℕ × ℕ). Contains ((page, key) ∷ ps) p) (ap₂ (λ (a b : ℕ). (a, b)) same one) (Contains-head (page, key) ps)
+          let one : key ≡ k = same_some key k (sym (here q same) ∙ some) in
+          subst (λ (p : ℕ × ℕ). Contains ((page, key) ∷ ps) p) (ap₂ (λ (a b : ℕ). (a, b)) same one) (Contains-head (page, key) ps)
       | inr apart ↦ Contains-tail (page, key) ps (q, k) (finds.only q k (sym (there q apart) ∙ some))
     ];
     each = λ q k c. elim (Contains-cons (page, key) ps (q, k) c) [
@@ -143,24 +143,24 @@ module _ (old new : Index) (page key : ℕ) (entered : (q : ℕ) → holder new 
   Finds-pushed = record {
     only = λ q k some. elim (cases_eq page q) [
       | inl same ↦
-        let is : key ≡ k = same_some key k (sym (entered q ∙ ap (λ b. cond b (Some key) (holder old q)) (eq-eqb page q same)) ∙ some) in
-        subst (λ (p : ℕ × ℕ). Contains (ps ++ (page, key) ∷ []) p) (ap₂ (λ (a b : ℕ). (a, b)) same is) (Contains-middle ps (page, key) [])
+          let is : key ≡ k = same_some key k (sym (entered q ∙ ap (λ b. cond b (Some key) (holder old q)) (eq-eqb page q same)) ∙ some) in
+          subst (λ (p : ℕ × ℕ). Contains (ps ++ (page, key) ∷ []) p) (ap₂ (λ (a b : ℕ). (a, b)) same is) (Contains-middle ps (page, key) [])
       | inr apart ↦
-        Contains-with ps (page, key) [] (q, k) (subst (λ (l : List (ℕ × ℕ)). Contains l (q, k)) (sym (append-nil ps))
-            (finds.only q k (sym (entered q ∙ ap (λ b. cond b (Some key) (holder old q)) (ne_eqb page q apart)) ∙ some)))
+          Contains-with ps (page, key) [] (q, k) (subst (λ (l : List (ℕ × ℕ)). Contains l (q, k)) (sym (append-nil ps))
+          (finds.only q k (sym (entered q ∙ ap (λ b. cond b (Some key) (holder old q)) (ne_eqb page q apart)) ∙ some)))
     ];
     each = λ q k c. elim (cases_eq page q) [
       | inl same ↦
-        let is : key ≡ k = elim (Contains-without ps (page, key) [] (q, k) c) [
-          | inl e ↦ ap (λ (p : ℕ × ℕ). p.1) e
-          | inr rest ↦ sym (one k (subst (λ (l : List (ℕ × ℕ)). Contains l (page, k)) (append-nil ps) (subst (λ (n : ℕ). Contains (ps ++ []) (n, k)) (sym same) rest)))
-        ] in
-        entered q ∙ ap (λ b. cond b (Some key) (holder old q)) (eq-eqb page q same) ∙ ap (λ (n : ℕ). Some n) is
+          let is : key ≡ k = elim (Contains-without ps (page, key) [] (q, k) c) [
+            | inl e ↦ ap (λ (p : ℕ × ℕ). p.1) e
+            | inr rest ↦ sym (one k (subst (λ (l : List (ℕ × ℕ)). Contains l (page, k)) (append-nil ps) (subst (λ (n : ℕ). Contains (ps ++ []) (n, k)) (sym same) rest)))
+          ] in
+          entered q ∙ ap (λ b. cond b (Some key) (holder old q)) (eq-eqb page q same) ∙ ap (λ (n : ℕ). Some n) is
       | inr apart ↦
-        entered q ∙ ap (λ b. cond b (Some key) (holder old q)) (ne_eqb page q apart) ∙ finds.each q k (elim (Contains-without ps (page, key) [] (q, k) c) [
-          | inl e ↦ absurd (apart (ap (λ (p : ℕ × ℕ). p.0) e))
-          | inr rest ↦ subst (λ (l : List (ℕ × ℕ)). Contains l (q, k)) (append-nil ps) rest
-        ])
+          entered q ∙ ap (λ b. cond b (Some key) (holder old q)) (ne_eqb page q apart) ∙ finds.each q k (elim (Contains-without ps (page, key) [] (q, k) c) [
+            | inl e ↦ absurd (apart (ap (λ (p : ℕ × ℕ). p.0) e))
+            | inr rest ↦ subst (λ (l : List (ℕ × ℕ)). Contains l (q, k)) (append-nil ps) rest
+          ])
     ];
   }
 
@@ -177,9 +177,9 @@ module _ (old new : Index) (page key : ℕ) (left : (q : ℕ) → holder new q �
     ];
     each = λ q k c. elim (cases_eq page q) [
       | inl same ↦
-        let there : Contains (A ++ (page, key) ∷ B) (page, k) = Contains-with A (page, key) B (page, k) (subst (λ (n : ℕ). Contains (A ++ B) (n, k)) (sym same) c) in
-        let is : k ≡ key = once old (A ++ (page, key) ∷ B) finds page k key there (Contains-middle A (page, key) B) in
-        absurd (alone q (subst (λ (n : ℕ). Contains (A ++ B) (q, n)) is c))
+          let there : Contains (A ++ (page, key) ∷ B) (page, k) = Contains-with A (page, key) B (page, k) (subst (λ (n : ℕ). Contains (A ++ B) (n, k)) (sym same) c) in
+          let is : k ≡ key = once old (A ++ (page, key) ∷ B) finds page k key there (Contains-middle A (page, key) B) in
+          absurd (alone q (subst (λ (n : ℕ). Contains (A ++ B) (q, n)) is c))
       | inr apart ↦ left q ∙ ap (λ b. cond b None (holder old q)) (ne_eqb page q apart) ∙ finds.each q k (Contains-with A (page, key) B (q, k) c)
     ];
   }
@@ -222,8 +222,8 @@ seen-once es before x behind held parts inside one k c =
     let rest : List (ℕ × ℕ) = places (take (held - suc (length before)) behind) in
     let all = places-at es before x behind held parts inside in
     one x.1.page k x.0
-        (subst (λ (l : List (ℕ × ℕ)). Contains l (x.1.page, k)) (sym all) (Contains-append_left (places before) ((x.1.page, x.0) ∷ rest) (x.1.page, k) c))
-        (subst (λ (l : List (ℕ × ℕ)). Contains l (x.1.page, x.0)) (sym all) (Contains-middle (places before) (x.1.page, x.0) rest))
+    (subst (λ (l : List (ℕ × ℕ)). Contains l (x.1.page, k)) (sym all) (Contains-append_left (places before) ((x.1.page, x.0) ∷ rest) (x.1.page, k) c))
+    (subst (λ (l : List (ℕ × ℕ)). Contains l (x.1.page, x.0)) (sym all) (Contains-middle (places before) (x.1.page, x.0) rest))
 
 -- the least recently used frame, empty from now on
 pub Finds-vacated : (old new : Index) (es : Frames) (held key : ℕ) (frame : Frame) → Finds old (places (take held es)) → 0 < length es → Some (key, frame) ≡ last_entry es → IsDistinct nat_eq (keys_of es) → held ≡ length es → ((q : ℕ) → holder new q ≡ cond (nat_eq frame.page q) None (holder old q)) → Finds new (places (take (min held (length es - 1)) es))
@@ -235,11 +235,11 @@ Finds-vacated old new es held key frame finds some is distinct full left =
     let pairs : places (take held es) ≡ places cut.0 ++ (frame.page, key) ∷ [] = ap places (all ∙ cut.1) ∙ map-append (λ e. (e.1.page, e.0)) cut.0 (x ∷ []) in
     let short : min held (length es - 1) ≡ length cut.0 = omega arith in
     let front : take (min held (length es - 1)) es ≡ cut.0 =
-        ap (λ n. take n es) short ∙ ap (take (length cut.0)) cut.1 ∙ take-append-le (length cut.0) cut.0 (x ∷ []) (omega arith) ∙ take_all (length cut.0) cut.0 (omega arith) in
+    ap (λ n. take n es) short ∙ ap (take (length cut.0)) cut.1 ∙ take-append-le (length cut.0) cut.0 (x ∷ []) (omega arith) ∙ take_all (length cut.0) cut.0 (omega arith) in
     let alone : (p : ℕ) → Contains (places cut.0 ++ []) (p, key) → ⊥ =
-        λ p c. no-key key cut.0 (misses_before es cut.0 key frame [] cut.1 distinct) p (subst (λ (l : List (ℕ × ℕ)). Contains l (p, key)) (append-nil (places cut.0)) c) in
+    λ p c. no-key key cut.0 (misses_before es cut.0 key frame [] cut.1 distinct) p (subst (λ (l : List (ℕ × ℕ)). Contains l (p, key)) (append-nil (places cut.0)) c) in
     let less : Finds new (places cut.0 ++ []) =
-        Finds-left old new frame.page key left (places cut.0) [] (subst (λ (l : List (ℕ × ℕ)). Finds old l) pairs finds) alone in
+    Finds-left old new frame.page key left (places cut.0) [] (subst (λ (l : List (ℕ × ℕ)). Finds old l) pairs finds) alone in
     subst (λ (l : List (ℕ × ℕ)). Finds new l) (append-nil (places cut.0) ∙ sym (ap places front)) less
 
 -- the first `held` of frames that are not all in use

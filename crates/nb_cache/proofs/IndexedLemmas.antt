@@ -105,10 +105,10 @@ IsIndexed-put old new es held page key cap last w finds entered none same room a
     let one : min (held + 1) cap ≡ suc k = omega arith in
     let same_front : take k front ≡ take k es = sym (take-append-le k front ((key, last.split.frame) ∷ []) (omega arith)) ∙ ap (take k) (sym parts) in
     let places_now : (page, key) ∷ places (take k es) ≡ places (take (min (held + 1) cap) (y ∷ (front ++ last.split.behind))) =
-        ap (λ (p : ℕ). (p, key) ∷ places (take k es)) same
-        ∙ ap (λ l. (w.page, key) ∷ places l) (sym same_front)
-        ∙ ap (λ m. places (take m (y ∷ front))) (sym one)
-        ∙ ap (λ l. places (take (min (held + 1) cap) (y ∷ l))) (sym behind) in
+    ap (λ (p : ℕ). (p, key) ∷ places (take k es)) same
+    ∙ ap (λ l. (w.page, key) ∷ places l) (sym same_front)
+    ∙ ap (λ m. places (take m (y ∷ front))) (sym one)
+    ∙ ap (λ l. places (take (min (held + 1) cap) (y ∷ l))) (sym behind) in
     let absent : (n : ℕ) → Contains (places (take k es)) (page, n) → ⊥ = no-place page (take k es) (fewer es k held none (omega arith)) in
     subst (λ (l : Frames). IsIndexed new l (min (held + 1) cap)) (sym (set_value-promoted es key last.split w)) (record {
       finds = subst (λ (l : List (ℕ × ℕ)). Finds new l) places_now (Finds-entered old new page key entered (places (take k es)) finds absent);

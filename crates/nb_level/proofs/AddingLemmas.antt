@@ -16,8 +16,8 @@ front_of : (first second : List ℕ) (k : ℕ) → take (min k (length first)) (
 front_of first second k = elim (cases_lt k (length first)) [
   | inl below ↦ let e : min k (length first) ≡ k = omega arith in ap (λ n. take n (first ++ second)) e ∙ take-append-le k first second (omega arith)
   | inr above ↦
-    let e : min k (length first) ≡ length first = omega arith in
-    ap (λ n. take n (first ++ second)) e ∙ take_at first second (length first) refl ∙ sym (take_all k first (omega arith))
+      let e : min k (length first) ≡ length first = omega arith in
+      ap (λ n. take n (first ++ second)) e ∙ take_at first second (length first) refl ∙ sym (take_all k first (omega arith))
 ]
 
 -- how long a file is

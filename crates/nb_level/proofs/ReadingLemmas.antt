@@ -65,22 +65,34 @@ singles-step fuel h at count least rest = from (nat_lt (length rest) 4) (number_
     ∷ ends_before (4 + h.size) at rest
     ∷ (number_in 0 4 rest == 0 && not (is_first_page h (part 4 h.size rest)), at + 4)
     ∷ [])) where
-  n : ℕ
-  n = number_in 0 4 rest
+      n : ℕ
+      n = number_in 0 4 rest
 
-  from : (short ends : Bool) (o : Option ℕ) →
-      elim short [ true ↦ Err (at + length rest) | false ↦ elim ends [ true ↦ read_end at count rest | false ↦ elim o [
-        | Some place ↦ Err place
-        | None ↦ behind ((number_in 0 4 rest, part 4 h.size rest) ∷ []) (read_singles fuel h (at + 4 + h.size) (count + 1) (number_in 0 4 rest + 1) (drop (4 + h.size) rest))
-      ] ] ]
-      ≡ after_single fuel h at count rest (elim short [ true ↦ Err (at + length rest) | false ↦ elim ends [ true ↦ end_step at count rest | false ↦ elim o [
-        | Some place ↦ Err place
-        | None ↦ Ok (Some (number_in 0 4 rest, 1))
-      ] ] ])
-  from true ends o = refl
-  from false true o = end_single fuel h at count rest
-  from false false (Some place) = refl
-  from false false None = refl
+      from : (short ends : Bool) (o : Option ℕ) →
+          elim short [
+            | true ↦ Err (at + length rest)
+            | false ↦ elim ends [
+              | true ↦ read_end at count rest
+              | false ↦ elim o [
+                | Some place ↦ Err place
+                | None ↦ behind ((number_in 0 4 rest, part 4 h.size rest) ∷ []) (read_singles fuel h (at + 4 + h.size) (count + 1) (number_in 0 4 rest + 1) (drop (4 + h.size) rest))
+              ]
+            ]
+          ]
+          ≡ after_single fuel h at count rest (elim short [
+            | true ↦ Err (at + length rest)
+            | false ↦ elim ends [
+              | true ↦ end_step at count rest
+              | false ↦ elim o [
+                | Some place ↦ Err place
+                | None ↦ Ok (Some (number_in 0 4 rest, 1))
+              ]
+            ]
+          ])
+      from true ends o = refl
+      from false true o = end_single fuel h at count rest
+      from false false (Some place) = refl
+      from false false None = refl
 
 -- A step looks at some numbers of the bytes and at some tests of their length. Where the bytes are long enough for all tests, a
 -- front of them tells as much as all.
@@ -96,12 +108,12 @@ end-window at count k rest large long =
     let pr : ℕ = at + length rest in
     let mr : ℕ = number_in 4 4 rest in
     let one : by_end at count (nat_lt (length w) 8) (nat_lt 8 (length w)) pw (number_in 4 4 w) ≡ by_end at count false true pw mr =
-        ap (λ (x : Bool). by_end at count x (nat_lt 8 (length w)) pw (number_in 4 4 w)) (lt_no (length w) 8 (omega arith))
-        ∙ ap (λ (x : Bool). by_end at count false x pw (number_in 4 4 w)) (lt_yes 8 (length w) (omega arith))
-        ∙ ap (by_end at count false true pw) (number_in-take k 4 4 rest (omega arith)) in
+    ap (λ (x : Bool). by_end at count x (nat_lt 8 (length w)) pw (number_in 4 4 w)) (lt_no (length w) 8 (omega arith))
+    ∙ ap (λ (x : Bool). by_end at count false x pw (number_in 4 4 w)) (lt_yes 8 (length w) (omega arith))
+    ∙ ap (by_end at count false true pw) (number_in-take k 4 4 rest (omega arith)) in
     let two : by_end at count false true pr mr ≡ by_end at count (nat_lt (length rest) 8) (nat_lt 8 (length rest)) pr mr =
-        ap (λ (x : Bool). by_end at count false x pr mr) (sym (lt_yes 8 (length rest) (omega arith)))
-        ∙ ap (λ (x : Bool). by_end at count x (nat_lt 8 (length rest)) pr mr) (sym (lt_no (length rest) 8 (omega arith))) in
+    ap (λ (x : Bool). by_end at count false x pr mr) (sym (lt_yes 8 (length rest) (omega arith)))
+    ∙ ap (λ (x : Bool). by_end at count x (nat_lt 8 (length rest)) pr mr) (sym (lt_no (length rest) 8 (omega arith))) in
     one ∙ two
 
 abbrev by_single : (h : Head) (at count least : ℕ) (short cut : Bool) (place n : ℕ) (ends : Step) (page : List ℕ) → Step
@@ -118,25 +130,25 @@ unfolding single_step first_fault
 single-window h at count least rest large = elim (cases_lt (length rest) (4 + h.size)) [
   | inl short ↦ ap (single_step h at count least) (take_all (4 + h.size) rest (omega arith))
   | inr long ↦
-    let k : ℕ = 4 + h.size in
-    let w : List ℕ = take k rest in
-    let size : length w ≡ k = length-take-le k rest (omega arith) in
-    let pw : ℕ = at + length w in
-    let pr : ℕ = at + length rest in
-    let n : ℕ = number_in 0 4 rest in
-    let g : List ℕ = part 4 h.size rest in
-    let e : Step = end_step at count rest in
-    let B = by_single h at count least in
-    let one : B (nat_lt (length w) 4) (nat_lt (length w) k) pw (number_in 0 4 w) (end_step at count w) (part 4 h.size w) ≡ B false false pw n e g =
-        ap (λ (x : Bool). B x (nat_lt (length w) k) pw (number_in 0 4 w) (end_step at count w) (part 4 h.size w)) (lt_no (length w) 4 (omega arith))
-        ∙ ap (λ (x : Bool). B false x pw (number_in 0 4 w) (end_step at count w) (part 4 h.size w)) (lt_no (length w) k (omega arith))
-        ∙ ap (λ (x : ℕ). B false false pw x (end_step at count w) (part 4 h.size w)) (number_in-take k 0 4 rest (omega arith))
-        ∙ ap (λ (x : Step). B false false pw n x (part 4 h.size w)) (end-window at count k rest (omega arith) (omega arith))
-        ∙ ap (λ (x : List ℕ). B false false pw n e x) (part-take k 4 h.size rest (omega arith)) in
-    let two : B false false pr n e g ≡ B (nat_lt (length rest) 4) (nat_lt (length rest) k) pr n e g =
-        ap (λ (x : Bool). B false x pr n e g) (sym (lt_no (length rest) k (omega arith)))
-        ∙ ap (λ (x : Bool). B x (nat_lt (length rest) k) pr n e g) (sym (lt_no (length rest) 4 (omega arith))) in
-    one ∙ two
+      let k : ℕ = 4 + h.size in
+      let w : List ℕ = take k rest in
+      let size : length w ≡ k = length-take-le k rest (omega arith) in
+      let pw : ℕ = at + length w in
+      let pr : ℕ = at + length rest in
+      let n : ℕ = number_in 0 4 rest in
+      let g : List ℕ = part 4 h.size rest in
+      let e : Step = end_step at count rest in
+      let B = by_single h at count least in
+      let one : B (nat_lt (length w) 4) (nat_lt (length w) k) pw (number_in 0 4 w) (end_step at count w) (part 4 h.size w) ≡ B false false pw n e g =
+      ap (λ (x : Bool). B x (nat_lt (length w) k) pw (number_in 0 4 w) (end_step at count w) (part 4 h.size w)) (lt_no (length w) 4 (omega arith))
+      ∙ ap (λ (x : Bool). B false x pw (number_in 0 4 w) (end_step at count w) (part 4 h.size w)) (lt_no (length w) k (omega arith))
+      ∙ ap (λ (x : ℕ). B false false pw x (end_step at count w) (part 4 h.size w)) (number_in-take k 0 4 rest (omega arith))
+      ∙ ap (λ (x : Step). B false false pw n x (part 4 h.size w)) (end-window at count k rest (omega arith) (omega arith))
+      ∙ ap (λ (x : List ℕ). B false false pw n e x) (part-take k 4 h.size rest (omega arith)) in
+      let two : B false false pr n e g ≡ B (nat_lt (length rest) 4) (nat_lt (length rest) k) pr n e g =
+      ap (λ (x : Bool). B false x pr n e g) (sym (lt_no (length rest) k (omega arith)))
+      ∙ ap (λ (x : Bool). B x (nat_lt (length rest) k) pr n e g) (sym (lt_no (length rest) 4 (omega arith))) in
+      one ∙ two
 ]
 
 abbrev by_run : (h : Head) (at count least barred : ℕ) (short head cut : Bool) (place n m : ℕ) (ends : Step) (page : List ℕ) → Step
@@ -157,29 +169,29 @@ unfolding run_step first_fault
 run-window h at count least barred rest large = elim (cases_lt (length rest) (8 + h.size)) [
   | inl short ↦ ap (run_step h at count least barred) (take_all (8 + h.size) rest (omega arith))
   | inr long ↦
-    let k : ℕ = 8 + h.size in
-    let w : List ℕ = take k rest in
-    let size : length w ≡ k = length-take-le k rest (omega arith) in
-    let pw : ℕ = at + length w in
-    let pr : ℕ = at + length rest in
-    let n : ℕ = number_in 0 4 rest in
-    let m : ℕ = number_in 4 4 rest in
-    let g : List ℕ = part 8 h.size rest in
-    let e : Step = end_step at count rest in
-    let B = by_run h at count least barred in
-    let one : B (nat_lt (length w) 4) (nat_lt (length w) 8) (nat_lt (length w) k) pw (number_in 0 4 w) (number_in 4 4 w) (end_step at count w) (part 8 h.size w) ≡ B false false false pw n m e g =
-        ap (λ (x : Bool). B x (nat_lt (length w) 8) (nat_lt (length w) k) pw (number_in 0 4 w) (number_in 4 4 w) (end_step at count w) (part 8 h.size w)) (lt_no (length w) 4 (omega arith))
-        ∙ ap (λ (x : Bool). B false x (nat_lt (length w) k) pw (number_in 0 4 w) (number_in 4 4 w) (end_step at count w) (part 8 h.size w)) (lt_no (length w) 8 (omega arith))
-        ∙ ap (λ (x : Bool). B false false x pw (number_in 0 4 w) (number_in 4 4 w) (end_step at count w) (part 8 h.size w)) (lt_no (length w) k (omega arith))
-        ∙ ap (λ (x : ℕ). B false false false pw x (number_in 4 4 w) (end_step at count w) (part 8 h.size w)) (number_in-take k 0 4 rest (omega arith))
-        ∙ ap (λ (x : ℕ). B false false false pw n x (end_step at count w) (part 8 h.size w)) (number_in-take k 4 4 rest (omega arith))
-        ∙ ap (λ (x : Step). B false false false pw n m x (part 8 h.size w)) (end-window at count k rest (omega arith) (omega arith))
-        ∙ ap (λ (x : List ℕ). B false false false pw n m e x) (part-take k 8 h.size rest (omega arith)) in
-    let two : B false false false pr n m e g ≡ B (nat_lt (length rest) 4) (nat_lt (length rest) 8) (nat_lt (length rest) k) pr n m e g =
-        ap (λ (x : Bool). B false false x pr n m e g) (sym (lt_no (length rest) k (omega arith)))
-        ∙ ap (λ (x : Bool). B false x (nat_lt (length rest) k) pr n m e g) (sym (lt_no (length rest) 8 (omega arith)))
-        ∙ ap (λ (x : Bool). B x (nat_lt (length rest) 8) (nat_lt (length rest) k) pr n m e g) (sym (lt_no (length rest) 4 (omega arith))) in
-    one ∙ two
+      let k : ℕ = 8 + h.size in
+      let w : List ℕ = take k rest in
+      let size : length w ≡ k = length-take-le k rest (omega arith) in
+      let pw : ℕ = at + length w in
+      let pr : ℕ = at + length rest in
+      let n : ℕ = number_in 0 4 rest in
+      let m : ℕ = number_in 4 4 rest in
+      let g : List ℕ = part 8 h.size rest in
+      let e : Step = end_step at count rest in
+      let B = by_run h at count least barred in
+      let one : B (nat_lt (length w) 4) (nat_lt (length w) 8) (nat_lt (length w) k) pw (number_in 0 4 w) (number_in 4 4 w) (end_step at count w) (part 8 h.size w) ≡ B false false false pw n m e g =
+      ap (λ (x : Bool). B x (nat_lt (length w) 8) (nat_lt (length w) k) pw (number_in 0 4 w) (number_in 4 4 w) (end_step at count w) (part 8 h.size w)) (lt_no (length w) 4 (omega arith))
+      ∙ ap (λ (x : Bool). B false x (nat_lt (length w) k) pw (number_in 0 4 w) (number_in 4 4 w) (end_step at count w) (part 8 h.size w)) (lt_no (length w) 8 (omega arith))
+      ∙ ap (λ (x : Bool). B false false x pw (number_in 0 4 w) (number_in 4 4 w) (end_step at count w) (part 8 h.size w)) (lt_no (length w) k (omega arith))
+      ∙ ap (λ (x : ℕ). B false false false pw x (number_in 4 4 w) (end_step at count w) (part 8 h.size w)) (number_in-take k 0 4 rest (omega arith))
+      ∙ ap (λ (x : ℕ). B false false false pw n x (end_step at count w) (part 8 h.size w)) (number_in-take k 4 4 rest (omega arith))
+      ∙ ap (λ (x : Step). B false false false pw n m x (part 8 h.size w)) (end-window at count k rest (omega arith) (omega arith))
+      ∙ ap (λ (x : List ℕ). B false false false pw n m e x) (part-take k 8 h.size rest (omega arith)) in
+      let two : B false false false pr n m e g ≡ B (nat_lt (length rest) 4) (nat_lt (length rest) 8) (nat_lt (length rest) k) pr n m e g =
+      ap (λ (x : Bool). B false false x pr n m e g) (sym (lt_no (length rest) k (omega arith)))
+      ∙ ap (λ (x : Bool). B false x (nat_lt (length rest) k) pr n m e g) (sym (lt_no (length rest) 8 (omega arith)))
+      ∙ ap (λ (x : Bool). B x (nat_lt (length rest) 8) (nat_lt (length rest) k) pr n m e g) (sym (lt_no (length rest) 4 (omega arith))) in
+      one ∙ two
 ]
 
 -- one step of version 102
@@ -202,7 +214,7 @@ module _ (fuel : ℕ) (h : Head) (at count least barred : ℕ) (rest : List ℕ)
       → (t3 ≡ false → u4 ≡ true → (t4 ≡ true) ⊎ ((t4 ≡ false) × (t5 ≡ false) × (t6 ≡ true)))
       → (u4 ≡ false → t4 ≡ false)
       → (t2 ≡ false → ((t6 ≡ true) × (read_rest fuel m h (at + 8) count n (barred_after n m) (drop 8 rest) ≡ Err place))
-          ⊎ ((t6 ≡ false) × (read_rest fuel m h (at + 8) count n (barred_after n m) (drop 8 rest) ≡ run_there)))
+      ⊎ ((t6 ≡ false) × (read_rest fuel m h (at + 8) count n (barred_after n m) (drop 8 rest) ≡ run_there)))
       → elim (first_fault ((t1, at) ∷ (t2, place) ∷ (t3, at + 4) ∷ (t4, place) ∷ (t5, at + 8) ∷ (t6, place) ∷ [])) [ Some p ↦ Err p | None ↦ run_there ]
       ≡ after_run fuel h at count rest (elim (first_fault ((t1, at) ∷ (t2, place) ∷ (t3, at + 4) ∷ (u4, place) ∷ (t5, at + 8) ∷ [])) [ Some p ↦ Err p | None ↦ Ok (Some (n, m)) ])
   unfolding first_fault
@@ -234,7 +246,7 @@ module _ (fuel : ℕ) (h : Head) (at count least barred : ℕ) (rest : List ℕ)
         | inr long ↦ inr (
           lt_no (length rest) (8 + m * h.size) long,
           rest-by false fuel m h (at + 8) count n (barred_after n m) (drop 8 rest) (lt_no (length (drop 8 rest)) (m * h.size) (omega (arith, size, long)))
-          ∙ ap (λ l. behind (pages_in h.size m n (drop 8 rest)) (read_runs fuel h (at + 8 + m * h.size) (count + m) (n + m) (barred_after n m) l)) (drop-drop (m * h.size) 8 rest),
+              ∙ ap (λ l. behind (pages_in h.size m n (drop 8 rest)) (read_runs fuel h (at + 8 + m * h.size) (count + m) (n + m) (barred_after n m) l)) (drop-drop (m * h.size) 8 rest),
         )
       ] where
         lt_no_back : (a b : ℕ) → nat_lt a b ≡ false → b ≤ a
@@ -265,21 +277,33 @@ module _ (fuel : ℕ) (h : Head) (at count least barred : ℕ) (rest : List ℕ)
   unfolding read_runs run_step
   runs-step = from (nat_lt (length rest) 4) (n == end_mark) where
     from : (short ends : Bool) →
-        elim short [ true ↦ Err place | false ↦ elim ends [ true ↦ read_end at count rest | false ↦ elim (first_fault (
-            (is_bad_number count least n || n == barred, at)
-            ∷ ends_before 8 at rest
-            ∷ (m == 0 || (nat_lt 16 m || nat_lt 1048576 (n + m)), at + 4)
-            ∷ (n == 0 && nat_lt (length rest) (8 + h.size), place)
-            ∷ (n == 0 && not (is_first_page h (part 8 h.size rest)), at + 8)
-            ∷ ends_before (8 + m * h.size) at rest
-            ∷ [])) [ Some p ↦ Err p | None ↦ run_there ] ] ]
-        ≡ after_run fuel h at count rest (elim short [ true ↦ Err place | false ↦ elim ends [ true ↦ end_step at count rest | false ↦ elim (first_fault (
-            (is_bad_number count least n || n == barred, at)
-            ∷ ends_before 8 at rest
-            ∷ (m == 0 || (nat_lt 16 m || nat_lt 1048576 (n + m)), at + 4)
-            ∷ ends_before (8 + h.size) at rest
-            ∷ (n == 0 && not (is_first_page h (part 8 h.size rest)), at + 8)
-            ∷ [])) [ Some p ↦ Err p | None ↦ Ok (Some (n, m)) ] ] ])
+        elim short [
+          | true ↦ Err place
+          | false ↦ elim ends [
+            | true ↦ read_end at count rest
+            | false ↦ elim (first_fault (
+                (is_bad_number count least n || n == barred, at)
+                ∷ ends_before 8 at rest
+                ∷ (m == 0 || (nat_lt 16 m || nat_lt 1048576 (n + m)), at + 4)
+                ∷ (n == 0 && nat_lt (length rest) (8 + h.size), place)
+                ∷ (n == 0 && not (is_first_page h (part 8 h.size rest)), at + 8)
+                ∷ ends_before (8 + m * h.size) at rest
+                ∷ [])) [ Some p ↦ Err p | None ↦ run_there ]
+          ]
+        ]
+        ≡ after_run fuel h at count rest (elim short [
+          | true ↦ Err place
+          | false ↦ elim ends [
+            | true ↦ end_step at count rest
+            | false ↦ elim (first_fault (
+                (is_bad_number count least n || n == barred, at)
+                ∷ ends_before 8 at rest
+                ∷ (m == 0 || (nat_lt 16 m || nat_lt 1048576 (n + m)), at + 4)
+                ∷ ends_before (8 + h.size) at rest
+                ∷ (n == 0 && not (is_first_page h (part 8 h.size rest)), at + 8)
+                ∷ [])) [ Some p ↦ Err p | None ↦ Ok (Some (n, m)) ]
+          ]
+        ])
     from true ends = refl
     from false true = end_run fuel h at count rest
     from false false = by_tests (is_bad_number count least n || n == barred) (nat_lt (length rest) 8) (m == 0 || (nat_lt 16 m || nat_lt 1048576 (n + m)))
@@ -359,21 +383,21 @@ rest-more fuel left h at count least barred rest long =
     let others : List Numbered = pages_in h.size left (least + 1) (drop h.size rest) in
     elim (cases_lt (length rest) (suc left * h.size)) [
       | inl short ↦
-        let cut : nat_lt (length rest) (suc left * h.size) ≡ true = lt_yes (length rest) (suc left * h.size) short in
-        let cut' : nat_lt (length (drop h.size rest)) (left * h.size) ≡ true = lt_yes (length (drop h.size rest)) (left * h.size) (omega (arith, size, more, short, long)) in
-        rest-by true fuel (suc left) h at count least barred rest cut ∙ ap (λ (k : ℕ). Err k) (omega (arith, size, long))
-        ∙ sym (ap (behind first) (rest-by true fuel left h (at + h.size) (count + 1) (least + 1) barred (drop h.size rest) cut'))
+          let cut : nat_lt (length rest) (suc left * h.size) ≡ true = lt_yes (length rest) (suc left * h.size) short in
+          let cut' : nat_lt (length (drop h.size rest)) (left * h.size) ≡ true = lt_yes (length (drop h.size rest)) (left * h.size) (omega (arith, size, more, short, long)) in
+          rest-by true fuel (suc left) h at count least barred rest cut ∙ ap (λ (k : ℕ). Err k) (omega (arith, size, long))
+          ∙ sym (ap (behind first) (rest-by true fuel left h (at + h.size) (count + 1) (least + 1) barred (drop h.size rest) cut'))
       | inr whole ↦
-        let uncut : nat_lt (length rest) (suc left * h.size) ≡ false = lt_no (length rest) (suc left * h.size) whole in
-        let uncut' : nat_lt (length (drop h.size rest)) (left * h.size) ≡ false = lt_no (length (drop h.size rest)) (left * h.size) (omega (arith, size, more, whole)) in
-        let after : Result (List Numbered) ℕ = read_runs fuel h (at + h.size + left * h.size) (count + 1 + left) (least + 1 + left) barred (drop (left * h.size) (drop h.size rest)) in
-        rest-by false fuel (suc left) h at count least barred rest uncut
-        ∙ ap (behind ((least, take h.size rest) ∷ others))
-            (same_runs fuel h barred (at + suc left * h.size) (at + h.size + left * h.size) (count + suc left) (count + 1 + left) (least + suc left) (least + 1 + left)
-                (drop (suc left * h.size) rest) (drop (left * h.size) (drop h.size rest)) (omega (arith, more)) (omega arith) (omega arith)
-                (ap (λ k. drop k rest) (omega (arith, more)) ∙ sym (drop-drop (left * h.size) h.size rest)))
-        ∙ sym (behind-behind first others after)
-        ∙ sym (ap (behind first) (rest-by false fuel left h (at + h.size) (count + 1) (least + 1) barred (drop h.size rest) uncut'))
+          let uncut : nat_lt (length rest) (suc left * h.size) ≡ false = lt_no (length rest) (suc left * h.size) whole in
+          let uncut' : nat_lt (length (drop h.size rest)) (left * h.size) ≡ false = lt_no (length (drop h.size rest)) (left * h.size) (omega (arith, size, more, whole)) in
+          let after : Result (List Numbered) ℕ = read_runs fuel h (at + h.size + left * h.size) (count + 1 + left) (least + 1 + left) barred (drop (left * h.size) (drop h.size rest)) in
+          rest-by false fuel (suc left) h at count least barred rest uncut
+          ∙ ap (behind ((least, take h.size rest) ∷ others))
+          (same_runs fuel h barred (at + suc left * h.size) (at + h.size + left * h.size) (count + suc left) (count + 1 + left) (least + suc left) (least + 1 + left)
+          (drop (suc left * h.size) rest) (drop (left * h.size) (drop h.size rest)) (omega (arith, more)) (omega arith) (omega arith)
+          (ap (λ k. drop k rest) (omega (arith, more)) ∙ sym (drop-drop (left * h.size) h.size rest)))
+          ∙ sym (behind-behind first others after)
+          ∙ sym (ap (behind first) (rest-by false fuel left h (at + h.size) (count + 1) (least + 1) barred (drop h.size rest) uncut'))
     ]
 
 -- the file ends inside a run's page

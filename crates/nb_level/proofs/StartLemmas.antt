@@ -48,25 +48,25 @@ unfolding head_fault first_fault
 fault-window bytes = elim (cases_lt (length bytes) 52) [
   | inl short ↦ ap head_fault (take_all 52 bytes (omega arith))
   | inr long ↦
-    let w : List ℕ = take 52 bytes in
-    let size : length w ≡ 52 = length-take-le 52 bytes long in
-    let b : Bool = begins_level bytes in
-    let v : ℕ = number_in 4 2 bytes in
-    let l : ℕ = number_in 6 2 bytes in
-    let z : ℕ = number_in 40 4 bytes in
-    let p : ℕ = number_in 48 4 bytes in
-    let s : ℕ = number_in 44 4 bytes in
-    let one : by_head (begins_level w) (nat_lt (length w) 52) (0 + length w) (number_in 4 2 w) (number_in 6 2 w) (number_in 40 4 w) (number_in 48 4 w) (number_in 44 4 w) ≡ by_head b false (0 + length w) v l z p s =
-        ap (λ (x : Bool). by_head x (nat_lt (length w) 52) (0 + length w) (number_in 4 2 w) (number_in 6 2 w) (number_in 40 4 w) (number_in 48 4 w) (number_in 44 4 w)) (begins-take bytes)
-        ∙ ap (λ (x : Bool). by_head b x (0 + length w) (number_in 4 2 w) (number_in 6 2 w) (number_in 40 4 w) (number_in 48 4 w) (number_in 44 4 w)) (lt_no (length w) 52 (omega arith))
-        ∙ ap (λ (x : ℕ). by_head b false (0 + length w) x (number_in 6 2 w) (number_in 40 4 w) (number_in 48 4 w) (number_in 44 4 w)) (number_in-take 52 4 2 bytes (omega arith))
-        ∙ ap (λ (x : ℕ). by_head b false (0 + length w) v x (number_in 40 4 w) (number_in 48 4 w) (number_in 44 4 w)) (number_in-take 52 6 2 bytes (omega arith))
-        ∙ ap (λ (x : ℕ). by_head b false (0 + length w) v l x (number_in 48 4 w) (number_in 44 4 w)) (number_in-take 52 40 4 bytes (omega arith))
-        ∙ ap (λ (x : ℕ). by_head b false (0 + length w) v l z x (number_in 44 4 w)) (number_in-take 52 48 4 bytes (omega arith))
-        ∙ ap (λ (x : ℕ). by_head b false (0 + length w) v l z p x) (number_in-take 52 44 4 bytes (omega arith)) in
-    let two : by_head b false (0 + length bytes) v l z p s ≡ by_head b (nat_lt (length bytes) 52) (0 + length bytes) v l z p s =
-        ap (λ (x : Bool). by_head b x (0 + length bytes) v l z p s) (sym (lt_no (length bytes) 52 long)) in
-    one ∙ two
+      let w : List ℕ = take 52 bytes in
+      let size : length w ≡ 52 = length-take-le 52 bytes long in
+      let b : Bool = begins_level bytes in
+      let v : ℕ = number_in 4 2 bytes in
+      let l : ℕ = number_in 6 2 bytes in
+      let z : ℕ = number_in 40 4 bytes in
+      let p : ℕ = number_in 48 4 bytes in
+      let s : ℕ = number_in 44 4 bytes in
+      let one : by_head (begins_level w) (nat_lt (length w) 52) (0 + length w) (number_in 4 2 w) (number_in 6 2 w) (number_in 40 4 w) (number_in 48 4 w) (number_in 44 4 w) ≡ by_head b false (0 + length w) v l z p s =
+      ap (λ (x : Bool). by_head x (nat_lt (length w) 52) (0 + length w) (number_in 4 2 w) (number_in 6 2 w) (number_in 40 4 w) (number_in 48 4 w) (number_in 44 4 w)) (begins-take bytes)
+      ∙ ap (λ (x : Bool). by_head b x (0 + length w) (number_in 4 2 w) (number_in 6 2 w) (number_in 40 4 w) (number_in 48 4 w) (number_in 44 4 w)) (lt_no (length w) 52 (omega arith))
+      ∙ ap (λ (x : ℕ). by_head b false (0 + length w) x (number_in 6 2 w) (number_in 40 4 w) (number_in 48 4 w) (number_in 44 4 w)) (number_in-take 52 4 2 bytes (omega arith))
+      ∙ ap (λ (x : ℕ). by_head b false (0 + length w) v x (number_in 40 4 w) (number_in 48 4 w) (number_in 44 4 w)) (number_in-take 52 6 2 bytes (omega arith))
+      ∙ ap (λ (x : ℕ). by_head b false (0 + length w) v l x (number_in 48 4 w) (number_in 44 4 w)) (number_in-take 52 40 4 bytes (omega arith))
+      ∙ ap (λ (x : ℕ). by_head b false (0 + length w) v l z x (number_in 44 4 w)) (number_in-take 52 48 4 bytes (omega arith))
+      ∙ ap (λ (x : ℕ). by_head b false (0 + length w) v l z p x) (number_in-take 52 44 4 bytes (omega arith)) in
+      let two : by_head b false (0 + length bytes) v l z p s ≡ by_head b (nat_lt (length bytes) 52) (0 + length bytes) v l z p s =
+      ap (λ (x : Bool). by_head b x (0 + length bytes) v l z p s) (sym (lt_no (length bytes) 52 long)) in
+      one ∙ two
 ]
 
 abbrev made : (level : ℕ) (guid previous : List ℕ) (size scn previous_scn : ℕ) → Head

@@ -20,3 +20,6 @@ pub use item::Item;
 pub use place::Place;
 pub use reader::LevelReader;
 pub use writing::{write_end, write_head, write_page_at, write_run};
+
+#[cfg(test)]
+mod tests;

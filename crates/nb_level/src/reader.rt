@@ -144,7 +144,12 @@ impl LevelReader {
         ensures time { Passes (H.world host.old) (H.world host.new) }
         ensures cause { CountsDevice result (H.faults host.old) (H.faults host.new) }
     {
-        let Place { at, count, least, .. } = self.place;
+        let Place {
+            at,
+            count,
+            least,
+            ..
+        } = self.place;
         let Ok(got) = host.read_at(&self.name, at, &mut self.buffer) else {
             return Err(Fault::Device);
         };

@@ -93,11 +93,7 @@ impl LevelReader {
     ///
     /// The refusal is `NoFile`, where there is none, or `BadLevel`, with the first place that is broken, where that
     /// stands in the head.
-    pub fn start<H: Host>(
-        alloc: Global,
-        host: &mut H,
-        name: &Name,
-    ) -> Result<LevelReader, Fault>
+    pub fn start<H: Host>(alloc: Global, host: &mut H, name: &Name) -> Result<LevelReader, Fault>
         ensures answer { StartSays H.tells ((H.world host.old).files name.now) name.now result }
         ensures quiet { Quiet (H.world host.old) (H.world host.new) }
         ensures reads { IsTrue H.tells → (H.world host.new).reads ≤ (H.world host.old).reads + 1 }

@@ -152,9 +152,5 @@ pub(crate) fn barred_after(number: u32, pages: u32) -> u32
     requires { number + pages < 2 ^ 32 }
     ensures { result ≡ barred_after number pages }
 {
-    if pages < 16 {
-        number + pages
-    } else {
-        END_MARK
-    }
+    if pages < 16 { number + pages } else { END_MARK }
 }

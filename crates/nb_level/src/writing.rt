@@ -1,4 +1,4 @@
-ghost use Rattle.std.specs.Prelude.{◌≡◌, ◌⊎◌, ◌++◌, ◌*◌, ◌≤◌, ℕ, [], length, IsTrue};
+ghost use Rattle.std.specs.Prelude.{◌≡◌, ◌⊎◌, ◌++◌, ◌*◌, ◌/◌, ◌%◌, ◌<◌, ◌≤◌, [], length, IsTrue};
 ghost use Rattle.nb_fields.specs.Bytes.{bytes_of};
 ghost use Rattle.nb_host.specs.Calls.{AppendsBytes, IsSilent};
 ghost use Rattle.nb_host.specs.Moments.{Passes};
@@ -54,8 +54,11 @@ pub fn write_run<H: Host>(
     page_size: u32,
     pages: &[u8],
 ) -> Result<(), HostFault>
-    requires { (count : ℕ) × (1 ≤ count) × (count ≤ 16) × (length pages.now ≡ count * page_size) × (1 ≤ page_size) }
-    ensures adds { (count : ℕ) → length pages.now ≡ count * page_size → IsTrue H.tells → AddsTwo result (H.world host.old) (H.world host.new) name.now (bytes_of 4 first ++ bytes_of 4 count) pages.now }
+    requires size { 0 < page_size }
+    requires whole { length pages.now % page_size ≡ 0 }
+    requires some { page_size ≤ length pages.now }
+    requires few { length pages.now ≤ 16 * page_size }
+    ensures adds { IsTrue H.tells → AddsTwo result (H.world host.old) (H.world host.new) name.now (bytes_of 4 first ++ bytes_of 4 (length pages.now / page_size)) pages.now }
     ensures log { IsSilent (H.world host.old) (H.world host.new) }
     ensures cause { CountsFault result (H.faults host.old) (H.faults host.new) }
 {

@@ -16,4 +16,3 @@ returns c =
     (c.put-6.ensures.written ∙ ap (λ v. with_part 40 (bytes_of 4 v) c.put-5.new.page) c.from-3.ensures)
     (c.put-7.ensures.written ∙ ap (λ v. with_part 44 (bytes_of 4 v) c.put-6.new.page) c.from-4.ensures)
     (c.put-8.ensures.written ∙ ap (λ v. with_part 48 (bytes_of 4 v) c.put-7.new.page) c.from-5.ensures)
-

@@ -12,8 +12,10 @@ pub returns-in-Ok-begun-clause-answer : goal.returns-in-Ok-begun-clause-answer
 returns-in-Ok-begun-clause-answer g c =
     let bytes : List ℕ = bytes_of ((g.H.Host.world c.args.host.now).files c.args.name.now) in
     let seen : List ℕ = take c.in-Ok.got c.read_at.new.into in
-    let begun = c.in-Ok-begun.ensures in
-    (begun.file, λ told.
-        let read = (c.in-Ok.ensures.answer told).bytes in
-        let whole = front_whole c.in-Ok.got 52 c.read_at.new.into (omega arith) c.in-None.ensures.form.0 in
-        start-begun bytes seen c.read_at.new.into c.args.name.now c.in-Ok-begun.reader read (sym whole ∙ read) c.in-None.ensures.place begun)
+    let begun = c.in-Ok-begun.ensures in (
+      begun.file,
+      λ told.
+          let read = (c.in-Ok.ensures.answer told).bytes in
+          let whole = front_whole c.in-Ok.got 52 c.read_at.new.into (omega arith) c.in-None.ensures.form.0 in
+          start-begun bytes seen c.read_at.new.into c.args.name.now c.in-Ok-begun.reader read (sym whole ∙ read) c.in-None.ensures.place begun,
+    )

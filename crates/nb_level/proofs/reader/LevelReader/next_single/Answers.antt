@@ -16,9 +16,13 @@ returns-in-Err-clause-answer g c =
     let room : length c.deref_mut.result.now ≡ 4 + i.head.page_size = ap length c.deref_mut.ensures.value ∙ c.self.invariant.room_101 version in
     let window : List ℕ = take c.in-Ok.got c.deref.result.now in
     let seen : c.deref.result.now ≡ c.read_at.new.into = c.deref.ensures.value ∙ filled i.buffer.len c.read_at.new.into i.buffer.items (omega (arith, room)) in
-    rw (c.broken.ensures, ← c.self.view_is) (refl, refl, λ told.
-        let is = window_is c.in-Ok.got (4 + i.head.page_size) c.deref.result.now c.read_at.new.into c.deref_mut.result.now (drop i.place.at bytes) seen (c.in-Ok.ensures.answer told).bytes room in
-        single-broken bytes r window version (omega (arith, size.at_least)) is c.in-Err.place c.in-Err.ensures.step)
+    rw (c.broken.ensures, ← c.self.view_is) (
+      refl,
+      refl,
+      λ told.
+          let is = window_is c.in-Ok.got (4 + i.head.page_size) c.deref.result.now c.read_at.new.into c.deref_mut.result.now (drop i.place.at bytes) seen (c.in-Ok.ensures.answer told).bytes room in
+          single-broken bytes r window version (omega (arith, size.at_least)) is c.in-Err.place c.in-Err.ensures.step,
+    )
 
 pub returns-in-Ok-None-clause-answer : goal.returns-in-Ok-None-clause-answer
 returns-in-Ok-None-clause-answer g c =
@@ -31,9 +35,13 @@ returns-in-Ok-None-clause-answer g c =
     let room : length c.deref_mut.result.now ≡ 4 + i.head.page_size = ap length c.deref_mut.ensures.value ∙ c.self.invariant.room_101 version in
     let window : List ℕ = take c.in-Ok.got c.deref.result.now in
     let seen : c.deref.result.now ≡ c.read_at.new.into = c.deref.ensures.value ∙ filled i.buffer.len c.read_at.new.into i.buffer.items (omega (arith, room)) in
-    rw (← c.self.view_is) (refl, refl, λ told.
-        let is = window_is c.in-Ok.got (4 + i.head.page_size) c.deref.result.now c.read_at.new.into c.deref_mut.result.now (drop i.place.at bytes) seen (c.in-Ok.ensures.answer told).bytes room in
-        single-end bytes r window version (omega (arith, size.at_least)) is (ap (λ (o : Option (ℕ × ℕ)). Ok o) (sym c.in-Ok-None.field-0-is) ∙ c.in-Ok-None.ensures.step))
+    rw (← c.self.view_is) (
+      refl,
+      refl,
+      λ told.
+          let is = window_is c.in-Ok.got (4 + i.head.page_size) c.deref.result.now c.read_at.new.into c.deref_mut.result.now (drop i.place.at bytes) seen (c.in-Ok.ensures.answer told).bytes room in
+          single-end bytes r window version (omega (arith, size.at_least)) is (ap (λ (o : Option (ℕ × ℕ)). Ok o) (sym c.in-Ok-None.field-0-is) ∙ c.in-Ok-None.ensures.step),
+    )
 
 pub returns-in-Ok-Some-clause-answer : goal.returns-in-Ok-Some-clause-answer
 returns-in-Ok-Some-clause-answer g c =
@@ -51,7 +59,7 @@ returns-in-Ok-Some-clause-answer g c =
     let sound = subst (λ (o : Option (ℕ × ℕ)). IfSome o (λ p. (length window ≡ 4 + i.head.page_size) × (i.place.least ≤ p.0) × (p.0 < 1048576))) next c.in-Ok-Some.ensures.page in
     let step = ap (λ (o : Option (ℕ × ℕ)). Ok o) (sym next) ∙ c.in-Ok-Some.ensures.step in
     rw (← c.self.view_is) (λ told.
-        let is = window_is c.in-Ok.got (4 + i.head.page_size) c.deref.result.now c.read_at.new.into c.deref_mut.result.now rest seen (c.in-Ok.ensures.answer told).bytes room in
-        let page = page_is 4 i.head.page_size c.in-Ok.got c.deref.result.now rest (omega (arith, ap length seen, room)) (omega (arith, room, c.in-Ok.ensures.room)) is sound.0 in
-        let copied = c.copy_from_slice.ensures.after ∙ to_end 4 c.deref-in-Ok-Some.result.now ∙ ap (drop 4) (c.deref-in-Ok-Some.ensures.value ∙ sym c.deref.ensures.value) ∙ page.2 in
-        single-gives bytes r window version (omega (arith, size.at_least)) is c.in-Ok.got c.in-Ok-Some.number c.in-Ok-Some.field-0-0-1 c.copy_from_slice.new.self step page.0 copied _ _ _ refl)
+    let is = window_is c.in-Ok.got (4 + i.head.page_size) c.deref.result.now c.read_at.new.into c.deref_mut.result.now rest seen (c.in-Ok.ensures.answer told).bytes room in
+    let page = page_is 4 i.head.page_size c.in-Ok.got c.deref.result.now rest (omega (arith, ap length seen, room)) (omega (arith, room, c.in-Ok.ensures.room)) is sound.0 in
+    let copied = c.copy_from_slice.ensures.after ∙ to_end 4 c.deref-in-Ok-Some.result.now ∙ ap (drop 4) (c.deref-in-Ok-Some.ensures.value ∙ sym c.deref.ensures.value) ∙ page.2 in
+    single-gives bytes r window version (omega (arith, size.at_least)) is c.in-Ok.got c.in-Ok-Some.number c.in-Ok-Some.field-0-0-1 c.copy_from_slice.new.self step page.0 copied _ _ _ refl)
