@@ -1,16 +1,14 @@
 -- What the next read of a reader says of what was still to come.
-use Rattle.std.proofs.Common.{◌≡◌, ◌⊎◌, inl, inr, ℕ, suc, ◌+◌, ◌-◌, ◌<◌, ◌≤◌, List, [], ◌∷◌, ◌++◌, length, take, drop, refl, sym, ap, ◌∙◌, arith, length-drop, Option, Some, None, Result, Ok, Err}
+use Rattle.std.proofs.Common.{◌≡◌, inl, inr, ℕ, suc, ◌+◌, ◌-◌, ◌<◌, ◌≤◌, List, [], ◌∷◌, ◌++◌, length, take, drop, sym, ap, ◌∙◌, arith, length-drop, Some, None, Result, Ok, Err}
 use Rattle.std.specs.Prelude.{Bool, true, false, ◌==◌}
 use Rattle.std.proofs.lemmas.Bool.{cases_lt}
 use Rattle.std.proofs.lemmas.List.{drop-drop, take_all, take_at, length-take-le}
 use Rattle.nb_fields.specs.Bytes.{part}
 use Rattle.nb_fields.proofs.PartLemmas.{part-take}
 use Rattle.nb_model.specs.Image.{Numbered}
-use Rattle.nb_model.specs.Levels.{Head, behind, read_singles, read_runs, barred_after}
+use Rattle.nb_model.specs.Levels.{Head, behind, read_singles, barred_after}
 use Rattle.nb_level.specs.Heads.{head_of}
 use Rattle.nb_level.specs.Reading.{Reading, Step, single_step, run_step, read_rest, still_to_come}
-use Rattle.nb_level.specs.declared.head.LevelHead.{LevelHead}
-use Rattle.nb_level.specs.declared.place.Place.{Place}
 use Rattle.nb_level.proofs.ReadingLemmas.{after_single, after_run, singles-step, single-window, singles-fuel, runs-step, run-window, runs-fuel, rest-none, rest-more, rest-cut}
 
 -- what was read, where the file ended before

@@ -1,5 +1,5 @@
 -- A head that was read from the front of a file.
-use Rattle.std.proofs.Common.{◌≡◌, inl, inr, ℕ, ◌+◌, ◌<◌, ◌≤◌, nat_eq, List, [], ◌∷◌, ◌++◌, length, take, drop, min, refl, sym, ap, ◌∙◌, arith, Option, Some, None, Result, Ok, Err}
+use Rattle.std.proofs.Common.{◌≡◌, inl, inr, ℕ, ◌+◌, ◌<◌, ◌≤◌, nat_eq, List, [], ◌∷◌, length, take, drop, refl, sym, ap, ◌∙◌, arith, Option, Some, None, Result, Err}
 use Rattle.std.specs.Prelude.{Bool, true, false, not, ◌&&◌, ◌||◌, ◌==◌, nat_lt, nat_le}
 use Rattle.std.specs.Cmp.Lexicographic.{pointwise}
 use Rattle.std.proofs.lemmas.Bool.{cases_lt}
@@ -8,7 +8,7 @@ use Rattle.nb_fields.specs.Bytes.{part, number_in}
 use Rattle.nb_fields.specs.Places.{is_page_size}
 use Rattle.nb_fields.proofs.PartLemmas.{part-take, number_in-take}
 use Rattle.nb_model.specs.Image.{Numbered}
-use Rattle.nb_model.specs.Levels.{Head, Contents, first_fault, ends_before, read_level, read_pages, read_singles, read_runs, with_head, head_in, begins_level, level_signature, end_mark}
+use Rattle.nb_model.specs.Levels.{Head, Contents, first_fault, read_level, read_pages, read_singles, read_runs, with_head, head_in, begins_level, level_signature, end_mark}
 use Rattle.nb_model.proofs.ReadLaws.{lt_no, and_no_right}
 use Rattle.nb_level.specs.Heads.{head_of}
 use Rattle.nb_level.specs.Reading.{Reading, head_fault, read_rest, still_to_come, IsBegun}

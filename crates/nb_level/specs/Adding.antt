@@ -1,5 +1,5 @@
 -- Two pieces of bytes that are appended to a file, one after the other.
-use Rattle.std.specs.Prelude.{◌≡◌, ◌≢◌, ◌⊎◌, ℕ, ◌+◌, Bool, IsTrue, List, ◌++◌, length, take, Result, MatchResult}
+use Rattle.std.specs.Prelude.{◌≡◌, ◌≢◌, ◌⊎◌, ℕ, ◌+◌, List, ◌++◌, length, take, Result, MatchResult}
 use Rattle.nb_host.specs.Files.{File, Files, bytes_of, with_file, with_bytes}
 use Rattle.nb_host.specs.World.{World}
 use Rattle.nb_host.specs.Crash.{Leaves, AppendLeft}

@@ -5,9 +5,8 @@ use Rattle.nb_host.specs.World.{World}
 use Rattle.nb_host.specs.Causes.{Rose}
 use Rattle.nb_host.specs.declared.faults.Fault.{Fault}
 use Rattle.nb_host.specs.declared.faults.Fault.TheVariants.{Refused, Device, Memory}
-use Rattle.nb_host.specs.declared.refusals.Refusal.{Refusal}
 use Rattle.nb_host.specs.declared.refusals.Refusal.TheVariants.{BadLevel, NoFile}
-use Rattle.nb_model.specs.Levels.{Contents, with_head, behind, read_level}
+use Rattle.nb_model.specs.Levels.{with_head, behind, read_level}
 use Rattle.nb_level.specs.Heads.{head_of}
 use Rattle.nb_level.specs.Reading.{Reading, still_to_come}
 use Rattle.nb_level.specs.declared.item.Item.{Item}

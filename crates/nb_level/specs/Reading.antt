@@ -1,8 +1,8 @@
 -- Reading a level file from front to back: where a reader stands, what the next bytes say, and what is still to come.
-use Rattle.std.specs.Prelude.{◌≡◌, ◌⊎◌, ℕ, ◌+◌, ◌*◌, ◌<◌, ◌≤◌, IsTrue, List, [], ◌∷◌, length, take, drop, Option, Some, None, Result, Ok, Err, Bool, true, false, ◌&&◌, ◌||◌, ◌==◌, not, nat_le, nat_lt}
+use Rattle.std.specs.Prelude.{◌≡◌, ◌⊎◌, ℕ, ◌+◌, ◌*◌, ◌≤◌, IsTrue, List, [], ◌∷◌, length, drop, Option, Some, None, Result, Ok, Err, true, false, ◌&&◌, ◌||◌, ◌==◌, not, nat_le, nat_lt}
 use Rattle.nb_fields.specs.Bytes.{number_in, part}
 use Rattle.nb_model.specs.Image.{Numbered}
-use Rattle.nb_model.specs.Levels.{Head, Contents, first_fault, ends_before, is_bad_number, is_first_page, end_mark, behind, pages_in, read_singles, read_runs, begins_level, head_in}
+use Rattle.nb_model.specs.Levels.{Head, first_fault, ends_before, is_bad_number, is_first_page, end_mark, behind, pages_in, read_singles, read_runs, begins_level, head_in}
 use Rattle.nb_fields.specs.Places.{is_page_size}
 use Rattle.nb_level.specs.Heads.{head_of}
 use Rattle.nb_level.specs.declared.head.LevelHead.{LevelHead}

@@ -17,7 +17,6 @@ mod writing;
 
 pub use head::LevelHead;
 pub use item::Item;
-pub use place::Place;
 pub use reader::LevelReader;
 pub use writing::{write_end, write_head, write_page_at, write_run};
 

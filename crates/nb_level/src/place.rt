@@ -1,6 +1,6 @@
 /// Where a reader stands in a level file.
 #[derive(Clone, Copy, Drop)]
-pub struct Place {
+pub(crate) struct Place {
     /// The next byte that it reads.
     pub(crate) at: u64,
     /// How many pages it has given.

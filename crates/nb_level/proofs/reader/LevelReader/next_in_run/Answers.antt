@@ -1,4 +1,4 @@
-use Rattle.std.proofs.Common.{◌≡◌, ◌+◌, ◌-◌, ◌≤◌, List, ℕ, take, drop, length, refl, sym, ap, ◌∙◌, arith}
+use Rattle.std.proofs.Common.{◌≡◌, List, ℕ, take, drop, length, refl, sym, ap, ◌∙◌, arith}
 use Rattle.nb_host.specs.Files.{bytes_of}
 use Rattle.nb_level.specs.Reading.{Reading}
 use Rattle.nb_level.proofs.NextLemmas.{read_cut, read_whole, run-cut, run-more}

@@ -1,4 +1,4 @@
-use Rattle.std.proofs.Common.{◌≡◌, ◌+◌, ◌-◌, ◌≤◌, List, ℕ, ◌<◌, take, drop, length, Option, Some, Ok, IfSome, subst, refl, sym, ap, ◌∙◌, arith}
+use Rattle.std.proofs.Common.{◌≡◌, ◌+◌, ◌-◌, ◌≤◌, List, ℕ, take, drop, length, Option, Some, Ok, IfSome, subst, refl, sym, ap, ◌∙◌, arith}
 use Rattle.nb_fields.proofs.SizeLemmas.{size_facts}
 use Rattle.nb_host.specs.Files.{bytes_of}
 use Rattle.nb_level.specs.Reading.{Reading}
