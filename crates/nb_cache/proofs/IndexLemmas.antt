@@ -1,5 +1,5 @@
 -- The pages that an index finds, as frames move.
-use Rattle.std.proofs.Common.{◌≡◌, ℕ, suc, ◌+◌, ◌-◌, ◌<◌, ◌≤◌, nat_eq, true, false, inl, inr, ◌⊎◌, List, [], ◌∷◌, ◌++◌, length, take, drop, map, Option, Some, None, refl, sym, ap, ap₂, ◌∙◌, subst, arith, min, MatchOption, length-append, append_assoc, Contains, cond}
+use Rattle.std.proofs.Common.{◌≡◌, ℕ, suc, ◌+◌, ◌-◌, ◌<◌, ◌≤◌, nat_eq, false, inl, inr, List, [], ◌∷◌, ◌++◌, length, take, drop, Option, Some, None, refl, sym, ap, ap₂, ◌∙◌, subst, arith, min, MatchOption, length-append, append_assoc, Contains, cond}
 use Rattle.std.specs.List.{AllByRecursion, IsDistinct}
 use Rattle.std.specs.Map.{keys_of}
 use Rattle.std.proofs.Math.Seq.{take-append-add}
@@ -11,8 +11,8 @@ use Rattle.std.proofs.lemmas.List.Elements.{Contains-append_left}
 use Rattle.lru.proofs.Splits.{Contains-head, Contains-tail, Contains-cons, Contains-nil, Contains-middle, Contains-without, Contains-with, all_at, all_from}
 use Rattle.nb_cache.specs.declared.frames.Frame.{Frame}
 use Rattle.nb_cache.specs.declared.index.Index.{Index}
-use Rattle.nb_cache.specs.Frames.{Frames, NoneHolds, Split, FoundAt, IsLast}
-use Rattle.nb_cache.specs.Index.{holder, places, Finds, IsIndexed}
+use Rattle.nb_cache.specs.Frames.{Frames, NoneHolds, FoundAt}
+use Rattle.nb_cache.specs.Index.{holder, places, Finds}
 use Rattle.nb_cache.proofs.KeyedLemmas.{misses_before, last_parts}
 
 same_some : (k q : ℕ) → Some k ≡ Some q → k ≡ q

@@ -1,5 +1,5 @@
 -- An index stays true to the frames as they move.
-use Rattle.std.proofs.Common.{◌≡◌, ℕ, zero, suc, ◌+◌, ◌-◌, ◌*◌, ◌<◌, ◌≤◌, nat_eq, false, inl, inr, List, [], ◌∷◌, ◌++◌, length, take, map, min, Option, Some, None, refl, sym, ap, ◌∙◌, subst, arith, length-append, Contains, cond}
+use Rattle.std.proofs.Common.{◌≡◌, ℕ, zero, suc, ◌+◌, ◌-◌, ◌*◌, ◌<◌, ◌≤◌, nat_eq, false, inl, inr, List, [], ◌∷◌, ◌++◌, length, take, min, Some, None, refl, sym, ap, ◌∙◌, subst, arith, length-append, Contains, cond}
 use Rattle.std.specs.List.{AllByRecursion, IsDistinct}
 use Rattle.std.specs.Map.{keys_of, set_value}
 use Rattle.std.proofs.Math.Seq.{take-append-add}
