@@ -85,13 +85,17 @@ pub misses_before : {V : Type 0} (es before : List (ℕ × V)) (key : ℕ) (valu
 misses_before {V} es before key value behind parts distinct =
     distinct_before (key, value) behind before (subst (λ (l : List (ℕ × V)). IsDistinct nat_eq (keys_of l)) parts distinct)
 
--- the last frame, with those before it
-pub last_split : (es : Frames) (key : ℕ) (frame : Frame) → 0 < length es → Some (key, frame) ≡ last_entry es → IsDistinct nat_eq (keys_of es) → IsLast es key
-last_split es key frame some is distinct =
+-- the last frame, and those before it
+pub last_parts : (es : Frames) (key : ℕ) (frame : Frame) → 0 < length es → Some (key, frame) ≡ last_entry es → (front : Frames) × (es ≡ front ++ (key, frame) ∷ [])
+last_parts es key frame some is =
     let cut = cut_end es some in
     let last : Some cut.1 ≡ Some (key, frame) = sym (ap last_entry cut.2 ∙ (last_of_push cut.0 cut.1).0) ∙ sym is in
     let same : cut.1 ≡ (key, frame) = cc in
-    let parts : es ≡ cut.0 ++ (key, frame) ∷ [] = cut.2 ∙ ap (λ x. cut.0 ++ x ∷ []) same in record {
-      split = record { before = cut.0; frame = frame; behind = []; parts = parts; only = misses_before es cut.0 key frame [] parts distinct };
+    (cut.0, cut.2 ∙ ap (λ x. cut.0 ++ x ∷ []) same)
+
+pub last_split : (es : Frames) (key : ℕ) (frame : Frame) → 0 < length es → Some (key, frame) ≡ last_entry es → IsDistinct nat_eq (keys_of es) → IsLast es key
+last_split es key frame some is distinct =
+    let cut = last_parts es key frame some is in record {
+      split = record { before = cut.0; frame = frame; behind = []; parts = cut.1; only = misses_before es cut.0 key frame [] cut.1 distinct };
       last = refl;
     }

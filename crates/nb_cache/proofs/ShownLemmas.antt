@@ -1,5 +1,5 @@
 -- The held pages that frames show, as frames move.
-use Rattle.std.proofs.Common.{◌≡◌, ℕ, suc, ◌+◌, ◌-◌, ◌<◌, ◌≤◌, nat_eq, true, inl, inr, List, [], ◌∷◌, ◌++◌, length, take, map, min, Option, Some, None, IsSome, refl, sym, ap, ◌∙◌, subst, arith, length-append}
+use Rattle.std.proofs.Common.{◌≡◌, ℕ, suc, ◌+◌, ◌-◌, ◌<◌, ◌≤◌, nat_eq, Bool, true, false, inl, inr, List, [], ◌∷◌, ◌++◌, length, take, map, min, Option, Some, None, IsSome, refl, sym, ap, ◌∙◌, subst, arith, length-append}
 use Rattle.std.specs.List.{AllByRecursion, slice_get}
 use Rattle.std.specs.Option.{option_map_or, option_and_then, option_map}
 use Rattle.std.specs.Map.{lookup, lookup_entry, remove_entry, set_value}
@@ -59,7 +59,7 @@ module _ (es : Frames) (key : ℕ) (split : Split es key) where
   pub lookup-promoted : lookup (nat_eq key) (promoted (nat_eq key) es) ≡ Some split.frame
   lookup-promoted = ap (lookup (nat_eq key)) promoted-split ∙ lookup-at (nat_eq key) here others (eq-eqb key key refl) [] tt
 
-  length-split : length es ≡ suc (length others)
+  pub length-split : length es ≡ suc (length others)
   length-split =
       let whole : length es ≡ length split.before + suc (length split.behind) = ap length split.parts ∙ length-append split.before (here ∷ split.behind) in
       omega (arith, length-append split.before split.behind)
@@ -281,3 +281,11 @@ last-shown es n held all full =
 pub shown-before : (es before rest : Frames) (held : ℕ) → es ≡ before ++ rest → length before ≡ held → shown held es ≡ map slot_in before
 shown-before es before rest held parts size =
     ap (shown held) parts ∙ ap (map slot_in) (take-append-le held before rest (omega arith) ∙ take_all held before (omega arith))
+
+-- a page that waits no longer
+pub rank_of-cleaned : (page : ℕ) (pages : List (ℕ × Slot)) → rank_of (with_rank page None pages) page ≡ None
+rank_of-cleaned page [] = refl
+rank_of-cleaned page (e ∷ es) = from (nat_eq page e.0) refl (rank_of-cleaned page es) where
+  from : (b : Bool) → nat_eq page e.0 ≡ b → rank_of (with_rank page None es) page ≡ None → rank_of (with_rank page None (e ∷ es)) page ≡ None
+  from true is rest = rw (is, is) refl
+  from false is rest = rw (is, is) rest

@@ -5,8 +5,10 @@ ghost use Rattle.lru.specs.LruCache.{lru_cache, promoted, put_entries};
 ghost use Rattle.nb_cache.specs.Held.{slot_of, rank_of, with_rank, dropped, IsNext};
 
 use crate::frames::Frame;
+use crate::index::Index;
 use crate::next::next_waiting;
-use crate::search::{copy_out, frame_of, last_frame, mark, put_in, rank_at, waiting_last};
+use crate::places::{frame_of, make_room, vacate};
+use crate::search::{copy_out, mark, put_in, rank_at, waiting_last};
 use lru::LruCache;
 use nb_host::Fault;
 use std::alloc::Global;
@@ -17,6 +19,7 @@ use std::num::NonZeroUsize;
 #[derive(Drop)]
 pub struct Cache {
     frames: LruCache<u32, Frame>,
+    index: Index,
     cap: u32,
     held: u32,
     page_size: u32,
@@ -25,12 +28,13 @@ pub struct Cache {
 impl Model for Cache {
     ghost use Rattle.nb_cache.specs.Held.{Held};
     ghost use Rattle.nb_cache.specs.Frames.{shown, IsCache};
+    ghost use Rattle.nb_cache.specs.Index.{IsIndexed};
 
     ghost Value = { Held };
 
     ghost view = { λ c. record { pages = shown c.held c.frames.entries; cap = c.cap; page_size = c.page_size } };
 
-    ghost invariant = { λ c. IsCache c.frames.entries c.cap c.held c.page_size };
+    ghost invariant = { λ c. IsCache c.frames.entries c.cap c.held c.page_size × IsIndexed c.index c.frames.entries c.held };
 }
 
 impl Cache {
@@ -46,8 +50,10 @@ impl Cache {
         for key in 0..pages {
             frames.put(key, Frame::new(alloc, page_size)?)?;
         }
+        let index = Index::new(alloc, 2 * pages)?;
         Ok(Cache {
             frames,
+            index,
             cap: pages,
             held: 0,
             page_size,
@@ -68,7 +74,7 @@ impl Cache {
         ensures filled { MatchOption (slot_of self.old.pages page) (into.new ≡ into.old) (λ slot. into.new ≡ slot.bytes) }
         ensures moved { self.new ≡ record self.old { pages = promoted (nat_eq page) self.old.pages } }
     {
-        let Some(key) = frame_of(&self.frames, self.held, page) else {
+        let Some(key) = frame_of(&self.frames, &self.index, page) else {
             return false;
         };
         copy_out(&self.frames, key, into);
@@ -82,7 +88,7 @@ impl Cache {
         ensures found { result ≡ is_some (slot_of self.now.pages page) }
         ensures filled { MatchOption (slot_of self.now.pages page) (into.new ≡ into.old) (λ slot. into.new ≡ slot.bytes) }
     {
-        let Some(key) = frame_of(&self.frames, self.held, page) else {
+        let Some(key) = frame_of(&self.frames, &self.index, page) else {
             return false;
         };
         copy_out(&self.frames, key, into);
@@ -97,12 +103,14 @@ impl Cache {
         requires drops_none { dropped self.old page ≡ None }
         ensures { self.new ≡ record self.old { pages = put_entries nat_eq (lru_cache self.old.pages self.old.cap) page (record { bytes = bytes.now; rank = rank_of self.old.pages page }) } }
     {
-        if let Some(key) = frame_of(&self.frames, self.held, page) {
+        if let Some(key) = frame_of(&self.frames, &self.index, page) {
             let rank = rank_at(&self.frames, key);
             put_in(&mut self.frames, key, page, rank, bytes);
         } else {
-            let key = last_frame(&self.frames);
+            make_room(&mut self.index, &self.frames, self.held);
+            let key = vacate(&mut self.index, &self.frames, self.held);
             put_in(&mut self.frames, key, page, None, bytes);
+            self.index.enter(page, key);
             self.held = (self.held + 1).min(self.cap);
         }
     }
@@ -112,8 +120,11 @@ impl Cache {
         requires { rank_of self.old.pages page ≡ None }
         ensures { self.new ≡ record self.old { pages = remove_entry (nat_eq page) self.old.pages } }
     {
-        if let Some(key) = frame_of(&self.frames, self.held, page) {
+        if let Some(key) = frame_of(&self.frames, &self.index, page) {
+            // No two keys are equal.
+            let _count = self.frames.len();
             self.frames.demote(&key);
+            self.index.leave(page);
             self.held -= 1;
         }
     }
@@ -123,7 +134,7 @@ impl Cache {
         ensures found { result ≡ is_some (slot_of self.old.pages page) }
         ensures ranked { self.new ≡ record self.old { pages = with_rank page (Some rank) self.old.pages } }
     {
-        let Some(key) = frame_of(&self.frames, self.held, page) else {
+        let Some(key) = frame_of(&self.frames, &self.index, page) else {
             return false;
         };
         mark(&mut self.frames, key, Some(rank));
@@ -135,7 +146,7 @@ impl Cache {
         requires { IsSome (slot_of self.old.pages page) }
         ensures { self.new ≡ record self.old { pages = with_rank page None self.old.pages } }
     {
-        if let Some(key) = frame_of(&self.frames, self.held, page) {
+        if let Some(key) = frame_of(&self.frames, &self.index, page) {
             mark(&mut self.frames, key, None);
         }
     }
@@ -147,7 +158,7 @@ impl Cache {
         if self.held < self.cap {
             return None;
         }
-        match frame_of(&self.frames, self.held, page) {
+        match frame_of(&self.frames, &self.index, page) {
             Some(_) => None,
             None => waiting_last(&self.frames),
         }

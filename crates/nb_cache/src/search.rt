@@ -1,45 +1,14 @@
-ghost use Rattle.std.specs.Prelude.{◌≡◌, ◌<◌, ◌≤◌, ℕ, List, nat_eq, length, take, MatchOption, IsSome, IfSome};
+ghost use Rattle.std.specs.Prelude.{◌≡◌, ◌<◌, ℕ, List, nat_eq, length, IsSome, IfSome};
 ghost use Rattle.std.specs.Map.{lookup};
 ghost use Rattle.std.specs.Option.{option_and_then, option_map};
 ghost use Rattle.lru.specs.LruCache.{lru_cache, promoted, last_entry};
 ghost use Rattle.std.specs.Map.{set_value};
 ghost use Rattle.nb_cache.specs.Held.{Slot};
-ghost use Rattle.nb_cache.specs.Frames.{NoneHolds, FoundAt, IsLast, Split, slot_in};
+ghost use Rattle.nb_cache.specs.Frames.{slot_in};
 ghost use Rattle.nb_cache.specs.declared.frames.Frame.{Frame};
 
 use crate::frames::Frame;
 use lru::LruCache;
-
-/// The key of the first frame that holds a page, among the first `held`.
-pub(crate) fn frame_of(frames: &LruCache<u32, Frame>, held: u32, page: u32) -> Option<u32>
-    requires { held ≤ length frames.now.entries }
-    ensures { MatchOption result (NoneHolds page (take held frames.now.entries)) (FoundAt frames.now.entries held page) }
-{
-    // No two keys are equal.
-    let _count = frames.len();
-    let mut left = held;
-    for (key, frame) in frames.iter() {
-        if left == 0 {
-            return None;
-        }
-        if page == frame.page {
-            return Some(*key);
-        }
-        left -= 1;
-    }
-    None
-}
-
-/// The key of the least recently used frame.
-pub(crate) fn last_frame(frames: &LruCache<u32, Frame>) -> u32
-    requires { 0 < length frames.now.entries }
-    ensures { IsLast frames.now.entries result }
-{
-    // No two keys are equal.
-    let _count = frames.len();
-    let (key, _) = frames.peek_lru().unwrap();
-    *key
-}
 
 /// Puts a page into the frame of that key, which becomes the most recently used.
 pub(crate) fn put_in(

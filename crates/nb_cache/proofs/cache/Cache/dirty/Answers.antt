@@ -1,4 +1,5 @@
-use Rattle.std.proofs.Common.{length, Some, is_some, sym, ap, ◌∙◌}
+use Rattle.std.proofs.Common.{arith, length, Some, is_some, sym, ap, ◌∙◌}
+use Rattle.nb_cache.proofs.IndexedLemmas.{IsIndexed-marked}
 use Rattle.nb_cache.proofs.ShownLemmas.{some_is, same_pages, lookup-split, size_here, IsCache-set, slot_of-found, slot_of-absent, shown-marked, ranked-absent}
 use Rattle.nb_cache.proofs.cache.Cache.dirty.Goals as goal
 
@@ -9,7 +10,7 @@ returns-in_default-clause-found c =
     let cap = c.self.inside.cap in
     let size = c.self.inside.page_size in
     let page = c.args.page in
-    rw (← c.self.view_is) (sym (ap is_some (slot_of-absent es held page c.in_default.ensures)))
+    rw (← c.self.view_is) (sym (ap is_some (slot_of-absent es held page (c.in_default.ensures held c.self.invariant.1 (omega arith)))))
 
 pub returns-in_default-clause-ranked : goal.returns-in_default-clause-ranked
 returns-in_default-clause-ranked c =
@@ -18,7 +19,7 @@ returns-in_default-clause-ranked c =
     let cap = c.self.inside.cap in
     let size = c.self.inside.page_size in
     let page = c.args.page in
-    rw (← c.self.view_is) (same_pages _ _ cap size (sym (ranked-absent es held page c.in_default.ensures (Some c.args.rank))))
+    rw (← c.self.view_is) (same_pages _ _ cap size (sym (ranked-absent es held page (c.in_default.ensures held c.self.invariant.1 (omega arith)) (Some c.args.rank))))
 
 pub mark-requires : goal.mark-requires
 mark-requires c =
@@ -28,7 +29,7 @@ mark-requires c =
     let size = c.self.inside.page_size in
     let page = c.args.page in
     let key = c.in-Some.key in
-    let found = c.in-Some.ensures in
+    let found = c.in-Some.ensures held c.self.invariant.1 (omega arith) in
     some_is _ _ (lookup-split es key found.split)
 
 pub invariant_of-self : goal.invariant_of-self
@@ -39,10 +40,10 @@ invariant_of-self c =
     let size = c.self.inside.page_size in
     let page = c.args.page in
     let key = c.in-Some.key in
-    let found = c.in-Some.ensures in
+    let found = c.in-Some.ensures held c.self.invariant.1 (omega arith) in
     let marked = rw (lookup-split es key found.split) at c.mark.ensures in
-    let fits = ap (λ s. length s.1.bytes) marked.1 ∙ size_here es key found.split cap held size c.self.invariant in
-    rw marked.2 (IsCache-set es key found.split cap held size c.self.invariant marked.0 fits)
+    let fits = ap (λ s. length s.1.bytes) marked.1 ∙ size_here es key found.split cap held size c.self.invariant.0 in
+    rw marked.2 (IsCache-set es key found.split cap held size c.self.invariant.0 marked.0 fits, IsIndexed-marked c.self.inside.index es held page key found c.self.invariant.1 marked.0 (ap (λ s. s.0) marked.1))
 
 pub returns-clause-found : goal.returns-clause-found
 returns-clause-found c =
@@ -52,7 +53,7 @@ returns-clause-found c =
     let size = c.self.inside.page_size in
     let page = c.args.page in
     let key = c.in-Some.key in
-    let found = c.in-Some.ensures in
+    let found = c.in-Some.ensures held c.self.invariant.1 (omega arith) in
     rw (← c.self.view_is) (sym (ap is_some (slot_of-found es held page key found)))
 
 pub returns-clause-ranked : goal.returns-clause-ranked
@@ -63,6 +64,6 @@ returns-clause-ranked c =
     let size = c.self.inside.page_size in
     let page = c.args.page in
     let key = c.in-Some.key in
-    let found = c.in-Some.ensures in
+    let found = c.in-Some.ensures held c.self.invariant.1 (omega arith) in
     let marked = rw (lookup-split es key found.split) at c.mark.ensures in
     rw (← c.self.view_is, marked.2) (same_pages _ _ cap size (shown-marked es held page key found (Some c.args.rank) marked.0 marked.1))

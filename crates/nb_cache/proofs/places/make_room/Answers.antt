@@ -1,0 +1,7 @@
+use Rattle.std.proofs.Common.{take}
+use Rattle.nb_cache.specs.Index.{places}
+use Rattle.nb_cache.proofs.IndexLemmas.{once}
+use Rattle.nb_cache.proofs.places.make_room.Goals as goal
+
+pub refill-requires-clause-once : goal.refill-requires-clause-once
+refill-requires-clause-once c = once c.args.index.now (places (take c.args.held c.args.frames.now.entries)) c.requires.indexed.finds

@@ -1,0 +1,5 @@
+pub mod AddingLemmas
+pub mod HeadLemmas
+pub mod NextLemmas
+pub mod ReadingLemmas
+pub mod StartLemmas

@@ -1,0 +1,53 @@
+-- What an answer of a reader says of the file, of the reader and of the host.
+use Rattle.std.specs.Prelude.{◌≡◌, ℕ, ◌+◌, ◌≤◌, Bool, IsTrue, List, [], ◌∷◌, Some, None, Result, Ok, Err}
+use Rattle.nb_host.specs.Files.{File, bytes_of}
+use Rattle.nb_host.specs.World.{World}
+use Rattle.nb_host.specs.Causes.{Rose}
+use Rattle.nb_host.specs.declared.faults.Fault.{Fault}
+use Rattle.nb_host.specs.declared.faults.Fault.TheVariants.{Refused, Device, Memory}
+use Rattle.nb_host.specs.declared.refusals.Refusal.TheVariants.{BadLevel, NoFile}
+use Rattle.nb_model.specs.Levels.{with_head, behind, read_level}
+use Rattle.nb_level.specs.Heads.{head_of}
+use Rattle.nb_level.specs.Reading.{Reading, still_to_come}
+use Rattle.nb_level.specs.declared.item.Item.{Item}
+use Rattle.nb_level.specs.declared.item.Item.TheVariants.{PageAt, End}
+
+-- the next page is the first of those that were still to come; or none was, after so many; or the first broken place
+abbrev pub NextSays : (tells : Bool) (file : File) (old new : Reading) (page : List ℕ) → Result Item Fault → Type 0
+NextSays tells file old new page (Ok (PageAt number)) = IsTrue tells → still_to_come (bytes_of file) old ≡ behind ((number, page) ∷ []) (still_to_come (bytes_of file) new)
+NextSays tells file old new page (Ok (End count)) = (count ≡ old.place.count) × (new ≡ old) × (IsTrue tells → still_to_come (bytes_of file) old ≡ Ok [])
+NextSays tells file old new page (Err (Refused (BadLevel name at))) = (name ≡ old.name) × (new ≡ old) × (IsTrue tells → still_to_come (bytes_of file) old ≡ Err at)
+NextSays tells file old new page (Err (Refused refusal)) = ⊥
+NextSays tells file old new page (Err Device) = new ≡ old
+NextSays tells file old new page (Err Memory) = ⊥
+
+-- what the file holds is the head and what is still to come; or its first broken place; or there is no such file
+abbrev pub StartSays : (tells : Bool) (file : File) (name : List ℕ) → Result Reading Fault → Type 0
+StartSays tells file name (Ok reader) = (reader.name ≡ name) × (IsTrue tells → (bytes : List ℕ) × (file ≡ Some bytes) × (read_level bytes ≡ with_head reader.version (head_of reader.head) (still_to_come bytes reader)))
+StartSays tells file name (Err (Refused (BadLevel broken at))) = (broken ≡ name) × (IsTrue tells → (bytes : List ℕ) × (file ≡ Some bytes) × (read_level bytes ≡ Err at))
+StartSays tells file name (Err (Refused (NoFile missing))) = (missing ≡ name) × (IsTrue tells → file ≡ None)
+StartSays tells file name (Err (Refused refusal)) = ⊥
+StartSays tells file name (Err Device) = Unit {0}
+StartSays tells file name (Err Memory) = Unit {0}
+
+-- the same of a file that is there
+abbrev pub OpenSays : (tells : Bool) (file : File) (name : List ℕ) → Result Reading Fault → Type 0
+OpenSays tells file name (Ok reader) = (reader.name ≡ name) × (IsTrue tells → read_level (bytes_of file) ≡ with_head reader.version (head_of reader.head) (still_to_come (bytes_of file) reader))
+OpenSays tells file name (Err (Refused (BadLevel broken at))) = (broken ≡ name) × (IsTrue tells → read_level (bytes_of file) ≡ Err at)
+OpenSays tells file name (Err (Refused refusal)) = ⊥
+OpenSays tells file name (Err Device) = Unit {0}
+OpenSays tells file name (Err Memory) = Unit {0}
+
+-- Device comes only where the count of faults rose, and with every other answer it stays
+abbrev pub CountsDevice : {T : Type 0} → Result T Fault → ℕ → ℕ → Type 0
+CountsDevice (Ok value) before after = after ≡ before
+CountsDevice (Err (Refused refusal)) before after = after ≡ before
+CountsDevice (Err Device) before after = Rose before after
+CountsDevice (Err Memory) before after = after ≡ before
+
+-- at most one read, and nothing said or given
+pub record ReadsOnce (tells : Bool) (old new : World) : Type 0 where
+  pub said : new.said ≡ old.said
+  pub guids : new.guids ≡ old.guids
+  pub times : new.times ≡ old.times
+  pub reads : IsTrue tells → new.reads ≤ old.reads + 1
