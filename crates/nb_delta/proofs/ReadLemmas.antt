@@ -1,12 +1,11 @@
 -- One step of reading the entries of a difference file.
 use Rattle.std.proofs.Common.{◌≡◌, ℕ, zero, suc, ◌+◌, ◌*◌, ◌<◌, ◌≤◌, Bool, true, false, List, [], ◌∷◌, ◌++◌, length, refl, sym, ap, ◌∙◌, subst, arith}
-use Rattle.std.specs.Prelude.{nat_eq, nat_le, nat_lt, ◌||◌, ◌&&◌, ◌==◌, Result, Ok, Err, IsErr}
+use Rattle.std.specs.Prelude.{nat_eq, nat_le, nat_lt, ◌||◌, Result, Ok, Err, IsErr}
 use Rattle.std.specs.Result.{IsErrAnd}
 use Rattle.std.specs.List.{list_any}
 use Rattle.std.proofs.lemmas.Bool.{or_parts, leb-false}
 use Rattle.nb_fields.specs.Bytes.{number_in}
-use Rattle.nb_fields.specs.Places.{slots_in}
-use Rattle.nb_fields.specs.Table.{page_in, entries_from, groups_from}
+use Rattle.nb_fields.specs.Table.{page_in, entries_from}
 use Rattle.nb_host.specs.declared.faults.Fault.{Fault}
 use Rattle.nb_host.specs.declared.faults.Fault.TheVariants.{Refused, Device, Memory}
 use Rattle.nb_host.specs.declared.refusals.Refusal.TheVariants.{BadDelta}
@@ -47,30 +46,6 @@ module _ (size at i left : ℕ) (bytes found : List ℕ) where
   pub entry_read : is_unfit number found ≡ false → nat_lt (length bytes) ((at + 2 + i) * size) ≡ false → entries_from size at i (suc left) bytes found ≡ entries_from size at (i + 1) left bytes (found ++ number ∷ [])
   unfolding entries_from
   entry_read fit whole = rw (fit, whole, entries_from) refl
-
--- the allocation page is held in part, or its count is too large
-abbrev pub is_misshapen : (size at : ℕ) (bytes : List ℕ) → ℕ → Bool
-is_misshapen size at bytes count = (nat_lt (at * size) (length bytes) && nat_lt (length bytes) ((at + 1) * size)) || nat_lt (slots_in size) count
-
-module _ (most size at : ℕ) (bytes found : List ℕ) where
-  abbrev count : ℕ
-  count = number_in 0 4 (page_in size bytes at)
-
-  pub group_misshapen : is_misshapen size at bytes count ≡ true → groups_from (suc most) size at bytes found ≡ Err at
-  unfolding groups_from
-  group_misshapen is = rw (is, groups_from) refl
-
-  pub group_broken : (page : ℕ) → is_misshapen size at bytes count ≡ false → entries_from size at 0 count bytes found ≡ Err page → groups_from (suc most) size at bytes found ≡ Err page
-  unfolding groups_from
-  group_broken page fit is = rw (fit, is, groups_from) refl
-
-  pub group_full : (entries : List ℕ) → is_misshapen size at bytes count ≡ false → entries_from size at 0 count bytes found ≡ Ok entries → (count == slots_in size) ≡ true → groups_from (suc most) size at bytes found ≡ groups_from most size (at + slots_in size + 1) bytes entries
-  unfolding groups_from
-  group_full entries fit is full = rw (fit, is, full, groups_from) refl
-
-  pub group_last : (entries : List ℕ) → is_misshapen size at bytes count ≡ false → entries_from size at 0 count bytes found ≡ Ok entries → (count == slots_in size) ≡ false → groups_from (suc most) size at bytes found ≡ Ok entries
-  unfolding groups_from
-  group_last entries fit is last = rw (fit, is, last, groups_from) refl
 
 -- a number that is fit was not named before
 pub fit_named : (number : ℕ) (found : List ℕ) → is_unfit number found ≡ false → list_any (nat_eq number) found ≡ false

@@ -1,5 +1,5 @@
 -- What was read of a difference file, beside what its form says: the entries, or the page that breaks it.
-use Rattle.std.specs.Prelude.{◌≡◌, ℕ, Bool, true, false, ◌||◌, nat_eq, nat_le, List, Result, Ok, Err}
+use Rattle.std.specs.Prelude.{◌≡◌, ℕ, ◌+◌, ◌<◌, ◌≤◌, Bool, true, false, ◌||◌, nat_eq, nat_le, List, Result, Ok, Err}
 use Rattle.std.specs.List.{list_any}
 use Rattle.nb_host.specs.declared.faults.Fault.{Fault}
 use Rattle.nb_host.specs.declared.faults.Fault.TheVariants.{Refused, Device, Memory}
@@ -37,3 +37,8 @@ ReadsGroup form (Ok false) rest entries = form ≡ Ok entries
 ReadsGroup form (Err (Refused refusal)) rest entries = NamesBroken form refusal
 ReadsGroup form (Err Device) rest entries = Unit {0}
 ReadsGroup form (Err Memory) rest entries = Unit {0}
+
+-- a full group has as many entries as there is room for, and any other fewer
+abbrev pub Counts : Bool → (room before after : ℕ) → Type 0
+Counts true room before after = (after ≡ before + room) × (after ≤ 1048576)
+Counts false room before after = (before ≤ after) × (after < before + room)

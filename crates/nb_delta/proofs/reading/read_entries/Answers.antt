@@ -1,4 +1,4 @@
-use Rattle.std.proofs.Common.{ℕ, List, length, ◌≡◌, ◌+◌, ◌-◌, suc, ◌∙◌, ap, sym, subst, arith}
+use Rattle.std.proofs.Common.{ℕ, List, length, ◌≡◌, ◌+◌, ◌-◌, ◌*◌, ◌≤◌, suc, ◌∙◌, ap, sym, subst, arith}
 use Rattle.nb_fields.specs.Table.{entries_from}
 use Rattle.nb_delta.proofs.ReadLemmas.{passed_on, entries_none}
 use Rattle.nb_delta.proofs.reading.read_entries.Goals as goal
@@ -11,6 +11,8 @@ loop-i-preserved c = record {
       ∙ ap (λ (n : ℕ). entries_from (length c.args.page.now) c.args.at c.loop-i.i n bytes c.loop-i.entries) rest
       ∙ c.in_ok-read_entry.ensures.answer bytes (c.args.count - (c.loop-i.i + 1)) long page_is;
   more = omega (arith, c.in_ok-read_entry.ensures.more);
+  few = λ some. c.in_ok-read_entry.ensures.few;
+  whole = λ some. let e : c.args.at + 1 + (c.loop-i.i + 1) ≡ c.args.at + 2 + c.loop-i.i = omega arith in subst (λ (n : ℕ). n * length c.args.page.now ≤ c.args.len) (sym e) c.in_ok-read_entry.ensures.whole;
 }
 
 pub returns-in_err-read_entry-clause-answer : goal.returns-in_err-read_entry-clause-answer
