@@ -1,6 +1,6 @@
 -- Entries, one more of them, and their index.
 use Rattle.std.proofs.Common.{◌≡◌, ◌≢◌, ℕ, zero, suc, ◌+◌, ◌<◌, ◌≤◌, Bool, true, false, cond, List, [], ◌∷◌, ◌++◌, length, get_or, Option, Some, None, refl, sym, ap, ◌∙◌, subst, arith, inl, inr, ⊎_elim, length-append, BTreeMap, nat_cmp}
-use Rattle.std.specs.Prelude.{nat_eq, ◌||◌, Result, Ok, Err, OnOk, is_ok, is_some}
+use Rattle.std.specs.Prelude.{nat_eq, ◌||◌, Result, Ok, Err, OnOk, is_ok, is_some, IfSome}
 use Rattle.std.specs.List.{list_any, position_from, IsDistinct, AllByRecursion}
 use Rattle.std.specs.Ordering.{is_eq}
 use Rattle.std.specs.Cmp.{nat_cmp_is}
@@ -134,3 +134,22 @@ index_added result old new xs p n ok many index none updated =
 -- the index of no entries
 pub index_none : (places : BTreeMap ℕ ℕ) → IsEmpty places → IsIndex [] places
 index_none places empty page = rw empty
+
+-- a place is inside
+place_inside : (page i : ℕ) (xs : List ℕ) → IfSome (position_from (nat_eq page) i xs) (λ place. (i ≤ place) × (place < i + length xs))
+place_inside page i [] = tt
+place_inside page i (x ∷ xs) = elim (eqb_tells page x) [
+  | inl w ↦ subst (λ (o : Option ℕ). IfSome o (λ place. (i ≤ place) × (place < i + length (x ∷ xs)))) (sym (cond-true (nat_eq page x) _ _ w.0)) (omega arith, omega arith)
+  | inr w ↦ subst (λ (o : Option ℕ). IfSome o (λ place. (i ≤ place) × (place < i + length (x ∷ xs)))) (sym (cond-false (nat_eq page x) _ _ w.0)) (wider (position_from (nat_eq page) (i + 1) xs) (place_inside page (i + 1) xs))
+]
+  where
+    wider : (o : Option ℕ) → IfSome o (λ place. (i + 1 ≤ place) × (place < i + 1 + length xs)) → IfSome o (λ place. (i ≤ place) × (place < i + length (x ∷ xs)))
+    wider None is = tt
+    wider (Some place) is = let a = is.0 in let b = is.1 in (omega arith, omega arith)
+
+pub place_below : (page : ℕ) (xs : List ℕ) (found : Option ℕ) → found ≡ place_of xs page → IfSome found (λ place. place < length xs)
+place_below page xs found is = subst (λ (o : Option ℕ). IfSome o (λ place. place < length xs)) (sym is) (lower (place_of xs page) (place_inside page 0 xs))
+  where
+    lower : (o : Option ℕ) → IfSome o (λ place. (0 ≤ place) × (place < 0 + length xs)) → IfSome o (λ place. place < length xs)
+    lower None is = tt
+    lower (Some place) is = let b = is.1 in omega arith

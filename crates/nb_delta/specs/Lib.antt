@@ -1,3 +1,6 @@
 pub mod Entries
 pub mod Causes
 pub mod Reading
+pub mod Known
+pub mod Slots
+pub mod Attaching

@@ -1,4 +1,4 @@
-ghost use Rattle.std.specs.Prelude.{◌≡◌, ◌<◌, ◌≤◌, [], ◌∷◌, ◌++◌, length, None, OnOk, OnErr, slice_index};
+ghost use Rattle.std.specs.Prelude.{◌≡◌, ◌<◌, ◌≤◌, [], ◌∷◌, ◌++◌, length, None, IfSome, OnOk, OnErr, slice_index};
 ghost use Rattle.nb_delta.specs.Entries.{place_of};
 
 use std::alloc::{AllocError, Global};
@@ -56,7 +56,9 @@ impl Entries {
 
     /// The place of the entry that names a page.
     pub fn place_of(&self, page: u32) -> Option<u32>
-        ensures { result ≡ place_of self.now page }
+        ensures value { result ≡ place_of self.now page }
+        ensures inside { IfSome result (λ place. place < length self.now) }
+        ensures few { length self.now ≤ 1048576 }
     {
         self.places.get(&page).copied()
     }

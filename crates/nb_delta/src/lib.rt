@@ -3,6 +3,9 @@
 //! It rests on the host's pages and on the layouts of `nb_fields`.
 #![tactic(auto)]
 
+mod delta;
 mod entries;
 mod places;
 mod reading;
+
+pub use delta::Delta;
