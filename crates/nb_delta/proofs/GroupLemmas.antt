@@ -140,7 +140,8 @@ pub next_group : (size group : ℕ) → alloc_place size group + slots_in size +
 unfolding alloc_place
 next_group size group = omega arith
 
-first_group : (size group : ℕ) → group ≤ alloc_place size group
+-- a group's pages stand behind the groups before it
+pub first_group : (size group : ℕ) → group ≤ alloc_place size group
 unfolding alloc_place
 first_group size group = omega arith
 

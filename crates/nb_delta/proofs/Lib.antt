@@ -1,3 +1,5 @@
 pub mod EntryLemmas
 pub mod ReadLemmas
 pub mod GroupLemmas
+pub mod AttachLemmas
+pub mod TableLemmas
