@@ -3,3 +3,6 @@ pub mod ReadLemmas
 pub mod GroupLemmas
 pub mod AttachLemmas
 pub mod TableLemmas
+pub mod TellLemmas
+pub mod PageLemmas
+pub mod PlaceLemmas

@@ -155,7 +155,7 @@ module _ (size : ℕ) (bytes : List ℕ) where
       | inr l ↦ let e : h ≡ g = omega arith in ap (λ (n : ℕ). count_at size bytes n) e ∙ here
     ]
 
-    groups_read : (most g : ℕ) (found table : List ℕ) → Holds size bytes found → length found ≡ g * slots_in size → ((h : ℕ) → h < g → count_at size bytes h ≡ slots_in size)
+    pub groups_read : (most g : ℕ) (found table : List ℕ) → Holds size bytes found → length found ≡ g * slots_in size → ((h : ℕ) → h < g → count_at size bytes h ≡ slots_in size)
         → length bytes / size + 1 ≤ most + g → alloc_place size g * size ≤ length bytes → groups_from most size (alloc_place size g) bytes found ≡ Ok table → Spells size bytes table
     groups_read zero g found table holds many before fuel inside told =
         let pages = whole_pages (alloc_place size g) size (length bytes) large inside in
