@@ -6,3 +6,6 @@ pub mod TableLemmas
 pub mod TellLemmas
 pub mod PageLemmas
 pub mod PlaceLemmas
+pub mod SpellLemmas
+pub mod StepLemmas
+pub mod MoveLemmas

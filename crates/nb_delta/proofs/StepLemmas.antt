@@ -1,0 +1,139 @@
+-- What a page write leaves of a difference file, by its table and its slots.
+use Rattle.std.proofs.Common.{◌≡◌, ◌≢◌, ◌⊎◌, inl, inr, ⊎_elim, ℕ, ◌+◌, ◌-◌, ◌*◌, ◌/◌, ◌%◌, ◌<◌, ◌≤◌, false, List, [], ◌∷◌, ◌++◌, length, replicate, refl, sym, ap, ◌∙◌, subst, arith, IsTrue}
+use Rattle.std.specs.Prelude.{Some, None, Ok, nat_eq, slice_index}
+use Rattle.std.specs.List.{list_any}
+use Rattle.std.proofs.lemmas.List.{length-replicate}
+use Rattle.std.proofs.Math.Nat.{mul-le-mul_right}
+use Rattle.nb_host.specs.Files.{File, bytes_of, with_page, put_at}
+use Rattle.nb_host.specs.Crash.{PageLeft}
+use Rattle.nb_fields.specs.Places.{is_page_size, slots_in}
+use Rattle.nb_fields.specs.Table.{table_of, page_in, slot_place, alloc_place}
+use Rattle.nb_fields.proofs.SizeLemmas.{SizeFacts, size_facts}
+use Rattle.nb_delta.specs.Slots.{HasTable, slot_page, HasSlot, Keeps, SlotStep, SlotPut, Adds, AddStep}
+use Rattle.nb_delta.specs.Noting.{IsAllocation, HasRoom, Prepared, Notes, NoteStep}
+use Rattle.nb_delta.proofs.TableLemmas.{Spells}
+use Rattle.nb_delta.proofs.TellLemmas.{table_read, table_told}
+use Rattle.nb_delta.proofs.PlaceLemmas.{InGroup, in_group, slot_at, slot_other, alloc_other_slot}
+use Rattle.nb_delta.proofs.SpellLemmas.{WithPage, SamePages, PageStep, Put, put_step, from_put, page_step, spells_slot, spells_behind, spells_same, spells_more}
+
+pub some_slots : (size : ℕ) → IsTrue (is_page_size size) → 0 < slots_in size
+some_slots size is = let facts = size_facts size is in omega (arith, facts.at_least)
+
+pub some_bytes : (size : ℕ) → IsTrue (is_page_size size) → 8 ≤ size
+some_bytes size is = let facts = size_facts size is in omega (arith, facts.at_least)
+
+-- after a page write the file is there where it was
+there_after : (at : ℕ) (page b : List ℕ) (after : File) → PageLeft at page (Some b) after → after ≡ Some (bytes_of after)
+there_after at page b after (inl same) = same ∙ ap (λ (f : File). Some (bytes_of f)) (sym same)
+there_after at page b after (inr (inl put)) = put ∙ ap (λ (f : File). Some (bytes_of f)) (sym put)
+there_after at page b after (inr (inr (k, fits, grown))) = grown ∙ ap (λ (f : File). Some (bytes_of f)) (sym grown)
+
+module _ (size : ℕ) (is_size : IsTrue (is_page_size size)) where
+  -- what bytes spell is a file's table
+  pub has_told : (file : File) (table : List ℕ) → file ≡ Some (bytes_of file) → Spells size (bytes_of file) table → HasTable size file table
+  has_told file table there spells =
+      subst (λ (f : File). HasTable size f table) (sym there) (table_told size (bytes_of file) table (some_slots size is_size) (let large = some_bytes size is_size in omega arith) spells)
+
+  pub has_read : (file : File) (table : List ℕ) → HasTable size file table → Spells size (bytes_of file) table
+  has_read (Some bytes) table has = table_read size bytes table (some_slots size is_size) (let large = some_bytes size is_size in omega arith) has
+  has_read None table has = absurd has
+
+  pub has_there : (file : File) (table : List ℕ) → HasTable size file table → file ≡ Some (bytes_of file)
+  has_there (Some bytes) table has = refl
+  has_there None table has = absurd has
+
+  -- the table after a page write
+  after_left : (at : ℕ) (page table : List ℕ) (before after : File) → PageLeft at page before after → (Spells size (bytes_of before) table → Spells size (bytes_of after) table) → HasTable size before table → HasTable size after table
+  after_left at page table (Some b) after left goes has = has_told after table (there_after at page b after left) (goes (has_read (Some b) table has))
+  after_left at page table None after left goes has = absurd has
+
+  after_put : (table : List ℕ) (before after : File) → after ≡ Some (bytes_of after) → (Spells size (bytes_of before) table → Spells size (bytes_of after) table) → HasTable size before table → HasTable size after table
+  after_put table before after there goes has = has_told after table there (goes (has_read before table has))
+
+  -- a slot is written
+  module _ (k : ℕ) (page : List ℕ) (long : length page ≡ size) where
+    pub slot_left : (before after : File) → PageLeft (slot_place size k * size) page before after → SlotStep size k page before after
+    slot_left before after left =
+        let step = page_step size (slot_place size k) page long before after left in
+        record {
+          table = λ table has. after_left (slot_place size k * size) page table before after left (λ spells. spells_slot size (some_slots size is_size) k page (bytes_of before) (bytes_of after) table spells step) has;
+          slot = ⊎_elim (λ all. inl (all (slot_place size k))) (λ put. inr put.here) step.pages;
+          others = λ j other. ⊎_elim (λ all. all (slot_place size j)) (λ put. put.others (slot_place size j) (slot_other size (some_slots size is_size) j k other)) step.pages;
+          no_shorter = step.longer;
+        }
+
+    pub slot_put : (before after : File) → after ≡ with_page before (slot_place size k * size) page → SlotPut size k page before after
+    slot_put before after is =
+        let put = put_step size (slot_place size k) page long (bytes_of before) (bytes_of after) (ap (λ (f : File). bytes_of f) is) in
+        let there : after ≡ Some (bytes_of after) = is ∙ ap (λ (f : File). Some (bytes_of f)) (sym is) in
+        record {
+          table = λ table has. after_put table before after there (λ spells. spells_slot size (some_slots size is_size) k page (bytes_of before) (bytes_of after) table spells (from_put size (slot_place size k) page long (bytes_of before) (bytes_of after) put)) has;
+          slot = put.pages.here;
+          whole = put.whole;
+          others = λ j other. put.pages.others (slot_place size j) (slot_other size (some_slots size is_size) j k other);
+          no_shorter = put.longer;
+        }
+
+  pub slot_none : (k : ℕ) (page : List ℕ) (file : File) → SlotStep size k page file file
+  slot_none k page file = record { table = λ table has. has; slot = inl refl; others = λ j other. refl; no_shorter = omega arith }
+
+  -- what a write of slot n keeps
+  pub keeps_slot : (n : ℕ) (page : List ℕ) (before after : File) → SlotStep size n page before after → Keeps size n before after
+  keeps_slot n page before after step = record { table = λ table few has. step.table table has; slots = λ k low. step.others k (λ e. absurd (omega arith)) }
+
+  pub keeps_put : (n : ℕ) (page : List ℕ) (before after : File) → SlotPut size n page before after → Keeps size n before after
+  keeps_put n page before after put = record { table = λ table few has. put.table table has; slots = λ k low. put.others k (λ e. absurd (omega arith)) }
+
+  pub keeps_none : (n : ℕ) (file : File) → Keeps size n file file
+  keeps_none n file = record { table = λ table few has. has; slots = λ k low. refl }
+
+  pub keeps_joined : (n : ℕ) (b d c : File) → Keeps size n b d → Keeps size n d c → Keeps size n b c
+  keeps_joined n b d c first second = record { table = λ table few has. second.table table few (first.table table few has); slots = λ k low. second.slots k low ∙ first.slots k low }
+
+  -- the next allocation page is written, behind entry n
+  module _ (n h : ℕ) (low : n < h * slots_in size) (page : List ℕ) (long : length page ≡ size) where
+    pub next_left : (before after : File) → PageLeft (alloc_place size h * size) page before after → Keeps size n before after
+    next_left before after left =
+        let step = page_step size (alloc_place size h) page long before after left in
+        record {
+          table = λ table few has. after_left (alloc_place size h * size) page table before after left (λ spells. spells_behind size (some_slots size is_size) h page (bytes_of before) (bytes_of after) table spells (omega arith) step) has;
+          slots = λ k lower. ⊎_elim (λ all. all (slot_place size k)) (λ put. put.others (slot_place size k) (λ e. alloc_other_slot size (some_slots size is_size) h k (sym e))) step.pages;
+        }
+
+    -- and the slot of entry n keeps its page
+    pub next_put : (before after : File) → after ≡ with_page before (alloc_place size h * size) page → Put size (alloc_place size h) page (bytes_of before) (bytes_of after)
+    next_put before after is = put_step size (alloc_place size h) page long (bytes_of before) (bytes_of after) (ap (λ (f : File). bytes_of f) is)
+
+    pub next_slot : (k : ℕ) (before after : File) → after ≡ with_page before (alloc_place size h * size) page → slot_page size after k ≡ slot_page size before k
+    next_slot k before after is = let put = next_put before after is in put.pages.others (slot_place size k) (λ e. alloc_other_slot size (some_slots size is_size) h k (sym e))
+
+    pub next_keeps : (before after : File) → after ≡ with_page before (alloc_place size h * size) page → Keeps size n before after
+    next_keeps before after is = next_left before after (inr (inl is))
+
+  -- the allocation page with the new entry is written
+  module _ (table : List ℕ) (number g i : ℕ) (low : i < slots_in size) (many : length table ≡ g * slots_in size + i) (fresh : list_any (nat_eq number) table ≡ false) (below : number < 1048576)
+    (page : List ℕ) (long : length page ≡ size) (is : IsAllocation size page (table ++ number ∷ []) g (i + 1)) (before : File) (has : HasTable size before table) (whole : HasSlot size before (length table)) (room : HasRoom size before (length table)) where
+
+    place : slot_place size (length table) ≡ alloc_place size g + 1 + i
+    place = ap (λ (n : ℕ). slot_place size n) many ∙ slot_at size g i low
+
+    slot_whole : (alloc_place size g + 2 + i) * size ≤ length (bytes_of before)
+    slot_whole = let e : slot_place size (length table) + 1 ≡ alloc_place size g + 2 + i = omega (arith, place) in subst (λ (n : ℕ). n * size ≤ length (bytes_of before)) e whole
+
+    next_room : i + 1 ≡ slots_in size → (page_in size (bytes_of before) (alloc_place size (g + 1)) ≡ replicate size 0) × ((alloc_place size (g + 1) + 1) * size ≤ length (bytes_of before))
+    next_room full = room (g + 1) (omega (arith, full, many))
+
+    page_whole : alloc_place size g * size + size ≤ length (bytes_of before)
+    page_whole = let m : (alloc_place size g + 1) * size ≤ (alloc_place size g + 2 + i) * size = mul-le-mul_right size (omega arith) in let w = slot_whole in omega (arith, m)
+
+    noted : (after : File) → after ≡ Some (bytes_of after) → WithPage size (alloc_place size g) page (bytes_of before) (bytes_of after) → length (bytes_of before) ≤ length (bytes_of after) → Notes size table number before after
+    noted after there put longer = record {
+      table = has_told after (table ++ number ∷ []) there
+          (spells_more size (some_slots size is_size) g i number page (bytes_of before) (bytes_of after) table (has_read before table has) low many fresh below (let large = some_bytes size is_size in omega arith) slot_whole next_room is put longer);
+      slots = λ k lower. put.others (slot_place size k) (λ e. alloc_other_slot size (some_slots size is_size) g k (sym e));
+    }
+
+    pub note_put : (after : File) → after ≡ with_page before (alloc_place size g * size) page → Notes size table number before after
+    note_put after done =
+        let put = put_step size (alloc_place size g) page long (bytes_of before) (bytes_of after) (ap (λ (f : File). bytes_of f) done) in
+        noted after (done ∙ ap (λ (f : File). Some (bytes_of f)) (sym done)) put.pages put.longer
