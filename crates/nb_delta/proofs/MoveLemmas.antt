@@ -1,22 +1,22 @@
 -- How a change of the difference file goes on, from one call to the next.
-use Rattle.std.proofs.Common.{◌≡◌, ◌≢◌, ◌⊎◌, inl, inr, ⊎_elim, List, ℕ, sym, subst, ap, ◌∙◌}
+use Rattle.std.proofs.Common.{◌≡◌, ◌≢◌, ◌⊎◌, inl, inr, ⊎_elim, List, ℕ, Bool, refl, sym, subst, ap, ◌∙◌}
 use Rattle.std.specs.Prelude.{Result, IsTrue}
-use Rattle.nb_host.specs.Files.{File, Files, with_file}
+use Rattle.nb_host.specs.Files.{File, Files, with_file, with_page}
 use Rattle.nb_host.specs.World.{World}
-use Rattle.nb_host.specs.Crash.{Leaves, Untouched, IsDurable}
-use Rattle.nb_host.specs.Calls.{IsStill, Steps, IsSilent, Remakes, WholeOrNot}
+use Rattle.nb_host.specs.Crash.{Leaves, Untouched, PageLeft, IsDurable}
+use Rattle.nb_host.specs.Calls.{IsStill, Steps, IsSilent, Remakes, WritesPage, WholeOrNot}
 use Rattle.nb_host.specs.Moments.{Passes, IsTimely}
 use Rattle.nb_change.specs.Change.{Both, LeavesBoth, IsOther, Advances}
 use Rattle.nb_change.proofs.MomentLaws.{left_before, untouched_fewer}
 use Rattle.nb_change.proofs.ChangeLaws.{begun, composed, weakened, one_more, still_more, silent_call}
-use Rattle.nb_change.proofs.NameLaws.{whole-other}
+use Rattle.nb_change.proofs.NameLaws.{whole-other, with_file-same}
 use Rattle.nb_delta.specs.Slots.{StepLeft}
 
 -- one file of a database beside its difference file
 module _ (other delta : List ℕ) (apart : other ≢ delta) where
   -- before the first call, where the step may do nothing
-  pub step_begun : (old : World) (step : File → File → Type 0) → IsTimely old → ((d : File) → step d d) → Advances old old other delta (StepLeft old other delta step)
-  step_begun old step timely none = begun other delta old (StepLeft old other delta step) timely (λ o d lo ld. (lo, (d, ld, none d)))
+  pub step_begun : (old : World) (step : File → File → Type 0) → IsTimely old → ((d : File) → Leaves old delta d → step d d) → Advances old old other delta (StepLeft old other delta step)
+  step_begun old step timely none = begun other delta old (StepLeft old other delta step) timely (λ o d lo ld. (lo, (d, ld, none d ld)))
 
   -- one call more, by which the difference file goes on
   pub step_more : (old mid new : World) (step next all : File → File → Type 0) → Advances old mid other delta (StepLeft old other delta step) → Passes mid new → Steps mid new delta next
@@ -51,3 +51,33 @@ module _ (other delta : List ℕ) (apart : other ≢ delta) where
       (λ o c left.
       let is : left.1.0 ≡ file = ⊎_elim (durable.none_back left.1.0) (durable.only left.1.0) left.1.1 in
       ((before.now o file left.0 there).0, (from, here, by c (subst (λ (f : File). second f c) is left.1.2))))
+
+  -- one run of calls after another
+  pub step_joined : (old mid new : World) (first second all : File → File → Type 0) → Advances old mid other delta (StepLeft old other delta first) → Advances mid new other delta (StepLeft mid other delta second)
+      → ((b d : File) → first b d → all b d) → ((b d c : File) → first b d → second d c → all b c) → Advances old new other delta (StepLeft old other delta all)
+  step_joined old mid new first second all before behind weak by =
+      composed other delta old mid new (StepLeft old other delta first) (StepLeft mid other delta second) (StepLeft old other delta all) before behind
+      (λ o d left. (left.0, (left.1.0, left.1.1, weak left.1.0 d left.1.2)))
+      (λ o c left. let was = before.now o left.1.0 left.0 left.1.1 in (was.0, (was.1.0, was.1.1, by was.1.0 left.1.0 c was.1.2 left.1.2)))
+
+  -- a page write alone
+  pub page_moves : {T E : Type 0} (tells : Bool) (result : Result T E) (old new : World) (at : ℕ) (page : List ℕ) (all : File → File → Type 0) → IsTrue tells → IsTimely old → WritesPage tells result old new delta at page → IsSilent old new → Passes old new
+      → ((d : File) → Leaves old delta d → all d d) → ((d c : File) → Leaves old delta d → PageLeft at page d c → all d c) → Advances old new other delta (StepLeft old other delta all)
+  page_moves tells result old new at page all told timely writes silent time none by =
+      step_more old old new (λ b d. (b ≡ d) × Leaves old delta d) (PageLeft at page) all
+      (step_begun old (λ b d. (b ≡ d) × Leaves old delta d) timely (λ d left. (refl, left)))
+      time writes.left (λ n is. whole-other result old.files new.files delta _ (writes.files told) n is) silent
+      (λ b d same. subst (λ (f : File). all f d) (sym same.0) (none d same.1))
+      (λ b d c same left. subst (λ (f : File). all f c) (sym same.0) (by d c same.1 left))
+
+  -- calls that change no file, alone
+  pub still_moves : (old new : World) (all : File → File → Type 0) → IsTimely old → IsStill old new → IsSilent old new → Passes old new → ((d : File) → all d d) → Advances old new other delta (StepLeft old other delta all)
+  still_moves old new all timely still silent time none = step_still old old new all (step_begun old all timely (λ d left. none d)) time still silent
+
+-- the file after its page was written
+pub written : (old new : Files) (name page : List ℕ) (at : ℕ) → new ≡ with_file old name (with_page (old name) at page) → new name ≡ with_page (old name) at page
+written old new name page at is = ap (λ (f : Files). f name) is ∙ with_file-same old name (with_page (old name) at page)
+
+-- after a sync the file that reads is kept for good
+pub durable_now : (old new : World) (name : List ℕ) → new.files ≡ old.files → IsDurable new name (old.files name) → IsDurable new name (new.files name)
+durable_now old new name same durable = subst (λ (f : Files). IsDurable new name (f name)) (sym same) durable

@@ -15,7 +15,7 @@ pub record InGroup (room k : ℕ) : Type 0 where
 pub in_group : (room k : ℕ) → 0 < room → InGroup room k
 in_group room k some = record { g = k / room; i = k - k / room * room; low = omega arith; is = omega arith }
 
-group_is : (room k g i : ℕ) → i < room → k ≡ g * room + i → k / room ≡ g
+pub group_is : (room k g i : ℕ) → i < room → k ≡ g * room + i → k / room ≡ g
 group_is room k g i low is = elim (cases_lt (k / room) g) [
   | inl l ↦ let more : (k / room + 1) * room ≤ g * room = mul-le-mul_right room (omega arith) in absurd (omega (arith, more))
   | inr l ↦ elim (cases_lt g (k / room)) [

@@ -10,10 +10,10 @@ use Rattle.nb_fields.specs.Places.{is_page_size, slots_in}
 use Rattle.nb_fields.specs.Table.{table_of, page_in, slot_place, alloc_place}
 use Rattle.nb_fields.proofs.SizeLemmas.{SizeFacts, size_facts}
 use Rattle.nb_delta.specs.Slots.{HasTable, slot_page, HasSlot, Keeps, SlotStep, SlotPut, Adds, AddStep}
-use Rattle.nb_delta.specs.Noting.{IsAllocation, HasRoom, Prepared, Notes, NoteStep}
+use Rattle.nb_delta.specs.Noting.{IsAllocation, HasRoom, MakesRoom, Prepared, Notes, NoteStep}
 use Rattle.nb_delta.proofs.TableLemmas.{Spells}
 use Rattle.nb_delta.proofs.TellLemmas.{table_read, table_told}
-use Rattle.nb_delta.proofs.PlaceLemmas.{InGroup, in_group, slot_at, slot_other, alloc_other_slot}
+use Rattle.nb_delta.proofs.PlaceLemmas.{InGroup, in_group, group_is, slot_at, slot_other, alloc_other_slot}
 use Rattle.nb_delta.proofs.SpellLemmas.{WithPage, SamePages, PageStep, Put, put_step, from_put, page_step, spells_slot, spells_behind, spells_same, spells_more}
 
 pub some_slots : (size : ℕ) → IsTrue (is_page_size size) → 0 < slots_in size
@@ -27,6 +27,10 @@ there_after : (at : ℕ) (page b : List ℕ) (after : File) → PageLeft at page
 there_after at page b after (inl same) = same ∙ ap (λ (f : File). Some (bytes_of f)) (sym same)
 there_after at page b after (inr (inl put)) = put ∙ ap (λ (f : File). Some (bytes_of f)) (sym put)
 there_after at page b after (inr (inr (k, fits, grown))) = grown ∙ ap (λ (f : File). Some (bytes_of f)) (sym grown)
+
+left_there : (size at : ℕ) (page table : List ℕ) (before : File) → HasTable size before table → (after : File) → PageLeft at page before after → after ≡ Some (bytes_of after)
+left_there size at page table (Some b) has after left = there_after at page b after left
+left_there size at page table None has after left = absurd has
 
 module _ (size : ℕ) (is_size : IsTrue (is_page_size size)) where
   -- what bytes spell is a file's table
@@ -137,3 +141,65 @@ module _ (size : ℕ) (is_size : IsTrue (is_page_size size)) where
     note_put after done =
         let put = put_step size (alloc_place size g) page long (bytes_of before) (bytes_of after) (ap (λ (f : File). bytes_of f) done) in
         noted after (done ∙ ap (λ (f : File). Some (bytes_of f)) (sym done)) put.pages put.longer
+
+    pub note_left : (after : File) → PageLeft (alloc_place size g * size) page before after → NoteStep size table number before after
+    note_left after left =
+        let step = page_step size (alloc_place size g) page long before after left in
+        let inside = page_whole in
+        ⊎_elim
+        (λ all. inl (record {
+          table = λ entries few had. after_left (alloc_place size g * size) page entries before after left (λ spells. spells_same size (some_slots size is_size) (alloc_place size g) page (bytes_of before) (bytes_of after) entries spells all step.longer step.grows inside) had;
+          slots = λ k lower. all (slot_place size k);
+        }))
+        (λ put. inr (noted after (left_there size (alloc_place size g * size) page table before has after left) put step.longer))
+        step.pages
+
+  -- the slot is written, and there is room
+  pub prepared : (n : ℕ) (page : List ℕ) (before mid after : File) → SlotPut size n page before mid → MakesRoom size n mid after → Prepared size n page before after
+  prepared n page before mid after put room = record {
+    keeps = keeps_joined n before mid after (keeps_put n page before mid put) room.keeps;
+    slot = room.slot ∙ put.slot;
+    whole = let w = put.whole in let l = room.no_shorter in omega arith;
+    room = room.room;
+  }
+
+  -- there is room behind an entry that isn't the last of its group
+  pub room_inner : (n h : ℕ) (file : File) → (n + 1) / slots_in size ≡ h → h * slots_in size ≢ n + 1 → MakesRoom size n file file
+  room_inner n h file group inner = record {
+    keeps = keeps_none n file;
+    slot = refl;
+    no_shorter = omega arith;
+    room = λ g last. absurd (inner (let same = group_is (slots_in size) (n + 1) g 0 (some_slots size is_size) (omega arith) in let e = ap (λ (k : ℕ). k * slots_in size) (sym group ∙ same) in omega arith));
+  }
+
+  -- and behind the last of a group where the next allocation page was emptied
+  pub room_last : (n h : ℕ) (page : List ℕ) (before after : File) → n + 1 ≡ h * slots_in size → page ≡ replicate size 0 → after ≡ with_page before (alloc_place size h * size) page → MakesRoom size n before after
+  room_last n h page before after last empty is =
+      let low : n < h * slots_in size = omega arith in
+      let long : length page ≡ size = ap (λ (xs : List ℕ). length xs) empty ∙ length-replicate {A = ℕ} size 0 in
+      let put = next_put n h low page long before after is in
+      record {
+        keeps = next_keeps n h low page long before after is;
+        slot = next_slot n h low page long n before after is;
+        no_shorter = put.longer;
+        room = λ g at.
+            let same = group_is (slots_in size) (n + 1) g 0 (some_slots size is_size) (omega arith) in
+            let here = group_is (slots_in size) (n + 1) h 0 (some_slots size is_size) (omega arith) in
+            let e : g ≡ h = sym same ∙ here in
+            (ap (λ (k : ℕ). page_in size (bytes_of after) (alloc_place size k)) e ∙ put.pages.here ∙ empty, subst (λ (k : ℕ). (alloc_place size k + 1) * size ≤ length (bytes_of after)) (sym e) put.whole);
+      }
+
+  -- an entry that was prepared and then noted
+  pub added : (table : List ℕ) (number : ℕ) (page : List ℕ) (before mid after : File) → Prepared size (length table) page before mid → Notes size table number mid after → Adds size table number page before after
+  added table number page before mid after ready notes = record {
+    table = notes.table;
+    slot = notes.slots (length table) (omega arith) ∙ ready.slot;
+    others = λ k low. notes.slots k (omega arith) ∙ ready.keeps.slots k low;
+  }
+
+  pub add_step : (table : List ℕ) (number : ℕ) (page : List ℕ) (before mid after : File) → Prepared size (length table) page before mid → NoteStep size table number mid after → AddStep size table number page before after
+  add_step table number page before mid after ready (inr notes) = inr (added table number page before mid after ready notes)
+  add_step table number page before mid after ready (inl keeps) = inl (record {
+    table = λ entries few has. keeps.table entries (omega arith) (ready.keeps.table entries few has);
+    slots = λ k low. keeps.slots k (omega arith) ∙ ready.keeps.slots k low;
+  })

@@ -7,5 +7,6 @@ mod delta;
 mod entries;
 mod places;
 mod reading;
+mod writing;
 
 pub use delta::Delta;
