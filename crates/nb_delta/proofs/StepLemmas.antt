@@ -1,6 +1,6 @@
 -- What a page write leaves of a difference file, by its table and its slots.
-use Rattle.std.proofs.Common.{◌≡◌, ◌≢◌, ◌⊎◌, inl, inr, ⊎_elim, ℕ, ◌+◌, ◌-◌, ◌*◌, ◌/◌, ◌%◌, ◌<◌, ◌≤◌, false, List, [], ◌∷◌, ◌++◌, length, replicate, refl, sym, ap, ◌∙◌, subst, arith, IsTrue}
-use Rattle.std.specs.Prelude.{Some, None, Ok, nat_eq, slice_index}
+use Rattle.std.proofs.Common.{◌≡◌, ◌≢◌, ◌⊎◌, inl, inr, ⊎_elim, ℕ, ◌+◌, ◌-◌, ◌*◌, ◌/◌, ◌%◌, ◌<◌, ◌≤◌, false, List, [], ◌∷◌, ◌++◌, length, replicate, refl, sym, ap, ◌∙◌, subst, arith, IsTrue, length-append}
+use Rattle.std.specs.Prelude.{Some, None, Ok, nat_eq, min}
 use Rattle.std.specs.List.{list_any}
 use Rattle.std.proofs.lemmas.List.{length-replicate}
 use Rattle.std.proofs.Math.Nat.{mul-le-mul_right}
@@ -10,7 +10,7 @@ use Rattle.nb_fields.specs.Places.{is_page_size, slots_in}
 use Rattle.nb_fields.specs.Table.{table_of, page_in, slot_place, alloc_place}
 use Rattle.nb_fields.proofs.SizeLemmas.{SizeFacts, size_facts}
 use Rattle.nb_delta.specs.Slots.{HasTable, slot_page, HasSlot, Keeps, SlotStep, SlotPut, Adds, AddStep}
-use Rattle.nb_delta.specs.Noting.{IsAllocation, HasRoom, MakesRoom, Prepared, Notes, NoteStep}
+use Rattle.nb_delta.specs.Noting.{IsAllocation, HasRoom, MakesRoom, Prepared, IsReady, IsNewest, Notes, NoteStep}
 use Rattle.nb_delta.proofs.TableLemmas.{Spells}
 use Rattle.nb_delta.proofs.TellLemmas.{table_read, table_told}
 use Rattle.nb_delta.proofs.PlaceLemmas.{InGroup, in_group, group_is, slot_at, slot_other, alloc_other_slot}
@@ -203,3 +203,32 @@ module _ (size : ℕ) (is_size : IsTrue (is_page_size size)) where
     table = λ entries few has. keeps.table entries (omega arith) (ready.keeps.table entries few has);
     slots = λ k low. keeps.slots k (omega arith) ∙ ready.keeps.slots k low;
   })
+
+  -- the slot is written, and then room is made
+  pub slot_then_room : (n room : ℕ) (page : List ℕ) → room ≡ size → (b d c : File) → SlotStep size n page b d → Keeps room n d c → Keeps size n b c
+  slot_then_room n room page same b d c step keeps = keeps_joined n b d c (keeps_slot n page b d step) (subst (λ (m : ℕ). Keeps m n d c) same keeps)
+
+  -- a prepared entry is ready to be noted
+  pub ready : (entries before : List ℕ) (number place group : ℕ) (bytes page : List ℕ) (old file : File) → IsNewest entries before number → HasTable size old before → place ≡ length entries - 1 → group ≡ place / slots_in size
+      → Prepared size place bytes old file → IsAllocation size page entries group (min (slots_in size) (length entries - group * slots_in size)) → IsReady size before number group page file
+  ready entries before number place group bytes page old file newest has at in_group prepared fills =
+      let some = some_slots size is_size in
+      let long : length entries ≡ length before + 1 = ap (λ (xs : List ℕ). length xs) newest.is ∙ length-append before (number ∷ []) in
+      let here : place ≡ length before = omega arith in
+      let division : place / slots_in size * slots_in size ≤ place = omega arith in
+      let above : place < place / slots_in size * slots_in size + slots_in size = omega arith in
+      let product : group * slots_in size ≡ place / slots_in size * slots_in size = ap (λ (n : ℕ). n * slots_in size) in_group in
+      let index : ℕ = place - group * slots_in size in
+      let count : min (slots_in size) (length entries - group * slots_in size) ≡ place - group * slots_in size + 1 = omega arith in
+      record {
+        fresh = newest.fresh;
+        below = newest.below;
+        index = place - group * slots_in size;
+        low = omega arith;
+        many = omega arith;
+        allocation = subst (λ (n : ℕ). IsAllocation size page (before ++ number ∷ []) group n) count
+            (subst (λ (xs : List ℕ). IsAllocation size page xs group (min (slots_in size) (length entries - group * slots_in size))) newest.is fills);
+        table = prepared.keeps.table before (omega arith) has;
+        whole = subst (λ (n : ℕ). HasSlot size file n) here prepared.whole;
+        room = subst (λ (n : ℕ). HasRoom size file n) here prepared.room;
+      }

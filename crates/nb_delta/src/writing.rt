@@ -162,7 +162,7 @@ pub fn put_entry<H: Host>(
 {
     let place = entries.len() - 1;
     put_slot(host, name, place, bytes, page)?;
-    let group = place / slots_in(page.len() as u32);
+    let group = place / slots_in(bytes.len() as u32);
     fill_group(page, entries, group);
     note(host, name, group, page, forced)?;
     Ok(())
