@@ -232,3 +232,29 @@ module _ (size : ℕ) (is_size : IsTrue (is_page_size size)) where
         whole = subst (λ (n : ℕ). HasSlot size file n) here prepared.whole;
         room = subst (λ (n : ℕ). HasRoom size file n) here prepared.room;
       }
+
+  pub newest_place : (entries before : List ℕ) (number place : ℕ) → IsNewest entries before number → place ≡ length entries - 1 → place ≡ length before
+  newest_place entries before number place newest at =
+      let long : length entries ≡ length before + 1 = ap (λ (xs : List ℕ). length xs) newest.is ∙ length-append before (number ∷ []) in
+      omega arith
+
+  -- the same, where pages of that size are called by other lengths
+  module _ (first second : ℕ) (same : first ≡ size) (again : second ≡ size) (entries before : List ℕ) (number place group : ℕ) (bytes page : List ℕ) (old mid : File) (newest : IsNewest entries before number) (at : place ≡ length entries - 1) (prepared : Prepared size place bytes old mid) where
+    pub ready_again : HasTable size old before → group ≡ place / slots_in size → IsAllocation first page entries group (min (slots_in first) (length entries - group * slots_in first)) → IsReady second before number group page mid
+    ready_again has in_group fills =
+        subst (λ (n : ℕ). IsReady n before number group page mid) (sym again)
+        (ready entries before number place group bytes page old mid newest has at in_group prepared
+        (subst (λ (n : ℕ). IsAllocation n page entries group (min (slots_in n) (length entries - group * slots_in n))) same fills))
+
+    prepared_newest : Prepared size (length before) bytes old mid
+    prepared_newest = subst (λ (n : ℕ). Prepared size n bytes old mid) (newest_place entries before number place newest at) prepared
+
+    pub added_again : (new : File) → Notes second before number mid new → Adds size before number bytes old new
+    added_again new notes = added before number bytes old mid new prepared_newest (subst (λ (n : ℕ). Notes n before number mid new) again notes)
+
+    pub add_step_again : (new : File) → NoteStep second before number mid new → AddStep size before number bytes old new
+    add_step_again new step = add_step before number bytes old mid new prepared_newest (subst (λ (n : ℕ). NoteStep n before number mid new) again step)
+
+  -- while the slot is written
+  pub newest_keeps : (entries before : List ℕ) (number place : ℕ) (bytes : List ℕ) (b d : File) → IsNewest entries before number → place ≡ length entries - 1 → Keeps size place b d → AddStep size before number bytes b d
+  newest_keeps entries before number place bytes b d newest at keeps = inl (subst (λ (n : ℕ). Keeps size n b d) (newest_place entries before number place newest at) keeps)
