@@ -9,3 +9,4 @@ pub mod PlaceLemmas
 pub mod SpellLemmas
 pub mod StepLemmas
 pub mod MoveLemmas
+pub mod BlankLemmas

@@ -10,7 +10,7 @@ use Rattle.nb_change.specs.Change.{Both, LeavesBoth, IsOther, Advances}
 use Rattle.nb_change.proofs.MomentLaws.{left_before, untouched_fewer}
 use Rattle.nb_change.proofs.ChangeLaws.{begun, composed, weakened, one_more, still_more, silent_call}
 use Rattle.nb_change.proofs.NameLaws.{whole-other, with_file-same}
-use Rattle.nb_delta.specs.Slots.{StepLeft}
+use Rattle.nb_delta.specs.Slots.{StepLeft, MadeLeft}
 
 -- one file of a database beside its difference file
 module _ (other delta : List ℕ) (apart : other ≢ delta) where
@@ -81,3 +81,36 @@ written old new name page at is = ap (λ (f : Files). f name) is ∙ with_file-s
 -- after a sync the file that reads is kept for good
 pub durable_now : (old new : World) (name : List ℕ) → new.files ≡ old.files → IsDurable new name (old.files name) → IsDurable new name (new.files name)
 durable_now old new name same durable = subst (λ (f : Files). IsDurable new name (f name)) (sym same) durable
+
+-- the difference file is made, or taken away
+module _ (other delta : List ℕ) (apart : other ≢ delta) where
+  pub made_moves : {T E : Type 0} (tells : Bool) (result : Result T E) (old new : World) (file : File) (made : File → Type 0) → IsTrue tells → IsTimely old → Remakes tells result old new delta file → IsSilent old new → Passes old new → made file
+      → Advances old new other delta (MadeLeft old other delta made)
+  made_moves tells result old new file made told timely remakes silent time is =
+      one_more other delta old old new (MadeLeft old other delta made) (MadeLeft old other delta made)
+      (begun other delta old (MadeLeft old other delta made) timely (λ o d lo ld. (lo, inl ld)))
+      time (untouched_fewer old new _ _ remakes.others (λ n are. are.not_delta)) (λ n are. whole-other result old.files new.files delta file (remakes.files told) n are.not_delta) (silent_call old new silent)
+      (λ o d left. left)
+      (λ o d lo ld.
+      (left_before old new _ remakes.others other o apart lo,
+      ⊎_elim (λ b. inl (remakes.back d b)) (λ n. ⊎_elim (λ l. inl l) (λ e. inr (subst made (sym e) is)) (remakes.now d n)) ld))
+
+  -- one call more, where all that was made since is known
+  pub made_more : (old mid new : World) (next : File → File → Type 0) (first made all : File → Type 0) → Advances old mid other delta (MadeLeft old other delta first) → Passes mid new → Steps mid new delta next
+      → ((n : List ℕ) → n ≢ delta → new.files n ≡ mid.files n) → IsSilent mid new → ((d : File) → mid.now delta d → made d) → ((d : File) → first d → all d) → ((d c : File) → made d → next d c → all c)
+      → Advances old new other delta (MadeLeft old other delta all)
+  made_more old mid new next first made all so_far time steps read silent known weak by =
+      one_more other delta old mid new (MadeLeft old other delta first) (MadeLeft old other delta all) so_far time (untouched_fewer mid new _ _ steps.others (λ n is. is.not_delta)) (λ n is. read n is.not_delta) (silent_call mid new silent)
+      (λ o d left. (left.0, ⊎_elim (λ l. inl l) (λ f. inr (weak d f)) left.1))
+      (λ o c lo lc.
+      let was = left_before mid new _ steps.others other o apart lo in
+      ⊎_elim
+      (λ b. let left = so_far.now o c was (inl (steps.back c b)) in (left.0, ⊎_elim (λ l. inl l) (λ f. inr (weak c f)) left.1))
+      (λ n. let from = steps.now c n in let left = so_far.now o from.0 was (inr from.1) in (left.0, inr (by from.0 c (known from.0 from.1) from.2))) lc)
+
+  pub made_still : (old mid new : World) (made : File → Type 0) → Advances old mid other delta (MadeLeft old other delta made) → Passes mid new → IsStill mid new → IsSilent mid new → Advances old new other delta (MadeLeft old other delta made)
+  made_still old mid new made so_far time still silent = still_more other delta old mid new (MadeLeft old other delta made) so_far time still (silent_call mid new silent)
+
+  pub made_weakened : (old new : World) (first all : File → Type 0) → Advances old new other delta (MadeLeft old other delta first) → ((d : File) → first d → all d) → Advances old new other delta (MadeLeft old other delta all)
+  made_weakened old new first all is weak =
+      weakened other delta old new (MadeLeft old other delta first) (MadeLeft old other delta all) is (λ o d left. (left.0, ⊎_elim (λ l. inl l) (λ f. inr (weak d f)) left.1))

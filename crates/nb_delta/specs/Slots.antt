@@ -1,5 +1,5 @@
 -- What a difference file holds: a table of entries, and a page in the slot of each.
-use Rattle.std.specs.Prelude.{◌≡◌, ◌≢◌, ◌⊎◌, ℕ, ◌+◌, ◌*◌, ◌<◌, ◌≤◌, List, [], ◌∷◌, ◌++◌, length, None, Some, Ok}
+use Rattle.std.specs.Prelude.{◌≡◌, ◌≢◌, ◌⊎◌, ℕ, ◌+◌, ◌*◌, ◌<◌, ◌≤◌, List, [], ◌∷◌, ◌++◌, length, replicate, None, Some, Ok}
 use Rattle.nb_host.specs.Files.{File, bytes_of}
 use Rattle.nb_host.specs.World.{World}
 use Rattle.nb_host.specs.Crash.{Leaves}
@@ -53,3 +53,12 @@ pub record Adds (size : ℕ) (entries : List ℕ) (number : ℕ) (page : List �
 -- the entry is there with its page, or nothing of the table and its slots has changed
 abbrev pub AddStep : (size : ℕ) (entries : List ℕ) (number : ℕ) (page : List ℕ) (before after : File) → Type 0
 AddStep size entries number page before after = Keeps size (length entries) before after ⊎ Adds size entries number page before after
+
+-- the file is empty, or one page of zeros
+abbrev pub IsBlank : (size : ℕ) → File → Type 0
+IsBlank size file = (file ≡ Some []) ⊎ (file ≡ Some (replicate size 0))
+
+-- Of the difference file a stop leaves what it would have left before, or such a file as it was made. Of another file it
+-- leaves what it would have left before.
+abbrev pub MadeLeft : World → (other delta : List ℕ) → (File → Type 0) → Both
+MadeLeft old other delta made o d = Leaves old other o × (Leaves old delta d ⊎ made d)

@@ -1,14 +1,14 @@
 // Pages are written in an order that a stop can't harm: a slot is kept for good before the table names it.
-ghost use Rattle.std.specs.Prelude.{◌≡◌, ◌≢◌, ℕ, ◌+◌, ◌*◌, ◌-◌, ◌<◌, ◌≤◌, IsTrue, List, [], ◌∷◌, ◌++◌, length, replicate, min, None, OnOk};
+ghost use Rattle.std.specs.Prelude.{◌≡◌, ◌≢◌, ℕ, ◌+◌, ◌*◌, ◌-◌, ◌<◌, ◌≤◌, IsTrue, List, [], ◌∷◌, ◌++◌, length, replicate, min, Some, None, OnOk};
 ghost use Rattle.nb_host.specs.Crash.{IsDurable};
-ghost use Rattle.nb_host.specs.Calls.{IsStill, IsSilent};
+ghost use Rattle.nb_host.specs.Calls.{IsStill, IsSilent, CountsRead};
 ghost use Rattle.nb_host.specs.Moments.{Passes};
 ghost use Rattle.nb_host.specs.Causes.{CountsFault};
 ghost use Rattle.nb_fields.specs.Places.{is_page_size, slots_in};
 ghost use Rattle.nb_fields.specs.Table.{slot_place};
 ghost use Rattle.nb_change.specs.Change.{Advances};
 ghost use Rattle.nb_delta.specs.Entries.{place_of};
-ghost use Rattle.nb_delta.specs.Slots.{HasTable, StepLeft, Keeps, SlotStep, SlotPut, Adds, AddStep};
+ghost use Rattle.nb_delta.specs.Slots.{HasTable, StepLeft, Keeps, SlotStep, SlotPut, Adds, AddStep, IsBlank, MadeLeft};
 ghost use Rattle.nb_delta.specs.Noting.{IsAllocation, MakesRoom, Prepared, IsReady, IsNewest, Notes, NoteStep};
 
 use crate::entries::Entries;
@@ -165,5 +165,61 @@ pub fn put_entry<H: Host>(
     let group = place / slots_in(bytes.len() as u32);
     fill_group(page, entries, group);
     note(host, name, group, page, forced)?;
+    Ok(())
+}
+
+/// Writes the page of an entry into its slot, and keeps it for good where that is wanted.
+pub fn rewrite_slot<H: Host>(
+    host: &mut H,
+    name: &Name,
+    slot: u32,
+    bytes: &[u8],
+    forced: bool,
+) -> Result<(), HostFault>
+    requires { IsTrue (is_page_size (length bytes.now)) }
+    ensures put { IsTrue H.tells → (k : ℕ) → slot ≡ slot_place (length bytes.now) k
+        → OnOk result (SlotPut (length bytes.now) k bytes.now ((H.world host.old).files name.now) ((H.world host.new).files name.now)) }
+    ensures moves { IsTrue H.tells → (k : ℕ) → slot ≡ slot_place (length bytes.now) k → (other : List ℕ) → other ≢ name.now
+        → Advances (H.world host.old) (H.world host.new) other name.now (StepLeft (H.world host.old) other name.now (SlotStep (length bytes.now) k bytes.now)) }
+    ensures durable { IsTrue H.tells → IsTrue forced → OnOk result (IsDurable (H.world host.new) name.now ((H.world host.new).files name.now)) }
+    ensures log { IsSilent (H.world host.old) (H.world host.new) }
+    ensures cause { CountsFault result (H.faults host.old) (H.faults host.new) }
+{
+    write_slot(host, name, slot, bytes)?;
+    sync_if(host, name, forced)?;
+    Ok(())
+}
+
+/// Makes the file of one page of zeros, and keeps it for good.
+pub fn make_file<H: Host>(
+    host: &mut H,
+    name: &Name,
+    page: &mut [u8],
+) -> Result<(), HostFault>
+    requires { IsTrue (is_page_size (length page.old)) }
+    ensures made { IsTrue H.tells → OnOk result ((H.world host.new).files name.now ≡ Some (replicate (length page.old) 0)) }
+    ensures table { IsTrue H.tells → OnOk result (HasTable (length page.old) ((H.world host.new).files name.now) []) }
+    ensures durable { IsTrue H.tells → OnOk result (IsDurable (H.world host.new) name.now ((H.world host.new).files name.now)) }
+    ensures moves { IsTrue H.tells → (other : List ℕ) → other ≢ name.now
+        → Advances (H.world host.old) (H.world host.new) other name.now (MadeLeft (H.world host.old) other name.now (IsBlank (length page.old))) }
+    ensures log { IsSilent (H.world host.old) (H.world host.new) }
+    ensures cause { CountsFault result (H.faults host.old) (H.faults host.new) }
+{
+    host.make(name)?;
+    page.fill(0);
+    host.write_page(name, 0, page)?;
+    host.sync(name)?;
+    Ok(())
+}
+
+/// Takes the file away.
+pub fn remove_file<H: Host>(host: &mut H, name: &Name) -> Result<(), HostFault>
+    ensures gone { IsTrue H.tells → OnOk result ((H.world host.new).files name.now ≡ None) }
+    ensures moves { IsTrue H.tells → (other : List ℕ) → other ≢ name.now
+        → Advances (H.world host.old) (H.world host.new) other name.now (MadeLeft (H.world host.old) other name.now (λ file. file ≡ None)) }
+    ensures log { IsSilent (H.world host.old) (H.world host.new) }
+    ensures cause { CountsFault result (H.faults host.old) (H.faults host.new) }
+{
+    host.remove(name)?;
     Ok(())
 }
