@@ -20,7 +20,6 @@ use Rattle.nb_delta.proofs.StepLemmas.{some_slots, some_bytes, has_told}
 pub put_first : (page : List ℕ) → put_at [] 0 page ≡ page
 unfolding put_at padded
 put_first page =
-    let front : take 0 ([] ++ replicate (0 - 0) 0) ≡ [] = refl in
     let rest : drop (0 + length page) [] ≡ [] = drop_all (0 + length page) [] (omega arith) in
     ap (λ (xs : List ℕ). page ++ xs) rest ∙ append-nil page
 

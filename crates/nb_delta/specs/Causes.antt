@@ -10,3 +10,9 @@ CountsDevice (Ok value) before after = after ≡ before
 CountsDevice (Err (Refused refusal)) before after = after ≡ before
 CountsDevice (Err Device) before after = Rose before after
 CountsDevice (Err Memory) before after = after ≡ before
+
+-- no refusal, so want of memory or a fault of the device
+abbrev pub IsNoRefusal : Fault → Type 0
+IsNoRefusal (Refused refusal) = ⊥
+IsNoRefusal Device = Unit {0}
+IsNoRefusal Memory = Unit {0}
