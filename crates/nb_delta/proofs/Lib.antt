@@ -10,3 +10,4 @@ pub mod SpellLemmas
 pub mod StepLemmas
 pub mod MoveLemmas
 pub mod BlankLemmas
+pub mod KnownLemmas
