@@ -1,16 +1,18 @@
 -- What a call says of the object that it knows, by what it says of the object's parts.
-use Rattle.std.proofs.Common.{◌≡◌, ◌≢◌, ℕ, ◌<◌, List, [], ◌∷◌, ◌++◌, length, refl, sym, ap, ◌∙◌, subst, inl, IsTrue}
+use Rattle.std.proofs.Common.{◌≡◌, ◌≢◌, ℕ, ◌+◌, ◌*◌, ◌<◌, ◌≤◌, Bool, true, false, List, [], ◌∷◌, ◌++◌, length, take, drop, replicate, refl, sym, ap, ◌∙◌, subst, arith, inl, IsTrue, length-drop}
 use Rattle.std.specs.Prelude.{None}
 use Rattle.nb_host.specs.World.{World}
-use Rattle.nb_host.specs.Files.{File}
+use Rattle.std.proofs.lemmas.List.{take-append-le}
+use Rattle.nb_host.specs.Files.{File, Files, bytes_of}
+use Rattle.nb_host.specs.Calls.{ReadsPage}
 use Rattle.nb_host.specs.Crash.{Leaves}
 use Rattle.nb_host.specs.Moments.{IsTimely}
 use Rattle.nb_fields.specs.Places.{is_page_size}
-use Rattle.nb_fields.specs.Table.{slot_place}
+use Rattle.nb_fields.specs.Table.{page_in, slot_place}
 use Rattle.nb_change.specs.Change.{Advances}
 use Rattle.nb_delta.specs.Entries.{place_of}
 use Rattle.nb_delta.specs.Known.{Known}
-use Rattle.nb_delta.specs.Slots.{HasTable, StepLeft, SlotStep, AddStep, IsBlank, MadeLeft}
+use Rattle.nb_delta.specs.Slots.{HasTable, HasSlot, slot_page, StepLeft, SlotStep, AddStep, IsBlank, MadeLeft}
 use Rattle.nb_delta.specs.Noting.{IsNewest}
 use Rattle.nb_delta.proofs.MoveLemmas.{step_begun}
 use Rattle.nb_delta.proofs.StepLemmas.{keeps_none}
@@ -59,3 +61,41 @@ MakeMoves old new k = (other : List ℕ) → other ≢ k.name → Advances old n
 -- and while it is taken away
 abbrev pub ClearMoves : World → World → Known → Type 0
 ClearMoves old new k = (other : List ℕ) → other ≢ k.name → Advances old new other k.name (MadeLeft old other k.name (λ file. file ≡ None))
+
+-- the object forgot all entries before the call
+pub forgot_name : (inside forgot k : Known) → inside ≡ forgot → forgot ≡ record k { entries = []; drafted = 0 } → inside.name ≡ k.name
+forgot_name inside forgot k same is = ap (λ (x : Known). x.name) (same ∙ is)
+
+pub forgot_size : (inside forgot k : Known) → inside ≡ forgot → forgot ≡ record k { entries = []; drafted = 0 } → inside.page_size ≡ k.page_size
+forgot_size inside forgot k same is = ap (λ (x : Known). x.page_size) (same ∙ is)
+
+pub make_moves : (old new : World) (n : ℕ) (inside forgot k : Known) → inside ≡ forgot → forgot ≡ record k { entries = []; drafted = 0 } → n ≡ inside.page_size
+    → ((other : List ℕ) → other ≢ inside.name → Advances old new other inside.name (MadeLeft old other inside.name (IsBlank n))) → MakeMoves old new k
+make_moves old new n inside forgot k same is size moves =
+    subst (λ (name : List ℕ). (other : List ℕ) → other ≢ name → Advances old new other name (MadeLeft old other name (IsBlank k.page_size))) (forgot_name inside forgot k same is)
+    (subst (λ (m : ℕ). (other : List ℕ) → other ≢ inside.name → Advances old new other inside.name (MadeLeft old other inside.name (IsBlank m))) (size ∙ forgot_size inside forgot k same is) moves)
+
+pub clear_moves : (old new : World) (inside forgot k : Known) → inside ≡ forgot → forgot ≡ record k { entries = []; drafted = 0 }
+    → ((other : List ℕ) → other ≢ inside.name → Advances old new other inside.name (MadeLeft old other inside.name (λ file. file ≡ None))) → ClearMoves old new k
+clear_moves old new inside forgot k same is moves =
+    subst (λ (name : List ℕ). (other : List ℕ) → other ≢ name → Advances old new other name (MadeLeft old other name (λ file. file ≡ None))) (forgot_name inside forgot k same is) moves
+
+-- a slot that is whole is read
+read_whole : (file : File) (slot : ℕ) (before after : List ℕ) (whole : Bool) (j : ℕ) → slot ≡ slot_place (length before) j → HasSlot (length before) file j → ReadsPage file (slot * length before) before after whole → after ≡ slot_page (length before) file j
+unfolding page_in
+read_whole file slot before after true j at has read =
+    let size : ℕ = length before in
+    let there : slot * length before + length before ≤ length (bytes_of file) = omega (arith, read.0) in
+    read.1 ∙ sym (ap (λ (n : ℕ). take (length before) (drop (n * length before) (bytes_of file) ++ replicate (length before) 0)) (sym at)
+    ∙ take-append-le (length before) (drop (slot * length before) (bytes_of file)) (replicate (length before) 0) (omega (arith, there, length-drop (slot * length before) (bytes_of file))))
+read_whole file slot before after false j at has read =
+    let m : (slot + 1) * length before ≡ (slot_place (length before) j + 1) * length before = ap (λ (n : ℕ). (n + 1) * length before) at in
+    absurd (omega (arith, m, has, read.0))
+
+pub slot_read : (files : Files) (slot : ℕ) (before after : List ℕ) (whole : Bool) (inside k : Known) → inside ≡ k → length before ≡ k.page_size → ReadsPage (files inside.name) (slot * length before) before after whole
+    → (j : ℕ) → slot ≡ slot_place k.page_size j → HasSlot k.page_size (files k.name) j → after ≡ slot_page k.page_size (files k.name) j
+slot_read files slot before after whole inside k same size read =
+    let name : inside.name ≡ k.name = ap (λ (x : Known). x.name) same in
+    let here : ReadsPage (files k.name) (slot * length before) before after whole = subst (λ (n : List ℕ). ReadsPage (files n) (slot * length before) before after whole) name read in
+    subst (λ (n : ℕ). (j : ℕ) → slot ≡ slot_place n j → HasSlot n (files k.name) j → after ≡ slot_page n (files k.name) j) size
+    (λ j at has. read_whole (files k.name) slot before after whole j at has here)
