@@ -10,3 +10,6 @@ mod reading;
 mod writing;
 
 pub use delta::Delta;
+
+#[cfg(test)]
+mod tests;

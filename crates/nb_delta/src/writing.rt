@@ -94,7 +94,7 @@ fn put_slot<H: Host>(
 {
     write_slot(host, name, slot_of(bytes.len() as u32, place), bytes)?;
     make_room(host, name, place, page)?;
-    host.sync(name)?;
+    sync_if(host, name, true)?;
     Ok(())
 }
 
