@@ -102,6 +102,7 @@ impl Delta {
         page: u32,
     ) -> Result<Option<u32>, HostFault>
         ensures slot { result ≡ Ok (option_map (slot_place self.old.page_size) (place_of self.old.entries page)) }
+        ensures none { IfOk result (λ slot. slot ≡ None → place_of self.old.entries page ≡ None) }
         ensures same { self.new ≡ self.old }
         ensures no_call { _host.new ≡ _host.old }
     {

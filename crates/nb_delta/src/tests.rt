@@ -26,6 +26,16 @@ fn add(host: &mut MemHost, delta: &mut Delta, page: u32, byte: u8) -> Result<u32
     }
 }
 
+/// Drafts an entry for a page that has none.
+fn draft(host: &mut MemHost, delta: &mut Delta, page: u32) -> Result<u32, Fault>
+    requires { page < 1048576 }
+{
+    match delta.slot_of(host, page)? {
+        Some(_) => Err(Fault::Device),
+        None => delta.draft(page),
+    }
+}
+
 /// A difference file with entries for the pages from 0 on.
 fn grown(alloc: Global, host: &mut MemHost, count: u32) -> Result<Delta, Fail>
     requires few { count ≤ 1000 }
@@ -35,7 +45,7 @@ fn grown(alloc: Global, host: &mut MemHost, count: u32) -> Result<Delta, Fail>
     let mut delta = Delta::blank(alloc, &name_of(NAME)?, 1024)?;
     delta.make(host)?;
     for page in 0..count {
-        add(host, &mut delta, page, page as u8)?;
+        add(host, &mut delta, page, (page % 256) as u8)?;
     }
     Ok(delta)
 }
@@ -60,9 +70,9 @@ fn difference_file_grows(rt: HostRuntime) -> Result<(), Fail> {
     assert_eq!(rt; delta.slot_of(&mut host, 255)?, Some(257));
     assert_eq!(rt; delta.slot_of(&mut host, 256)?, None);
     assert_eq!(rt; byte_in(&mut host, &mut delta, 257)?, 255);
-    let before = host.read_count();
+    let reads = host.read_count().saturating_add(2);
     let mut again = Delta::attach(rt.alloc(), &mut host, &name_of(NAME)?, 1024)?;
-    assert_eq!(rt; (again.count(), host.read_count() - before), (256, 2));
+    assert_eq!(rt; (again.count(), host.read_count()), (256, reads));
     assert_eq!(rt; again.slot_of(&mut host, 255)?, Some(257));
     Ok(())
 }
@@ -77,9 +87,7 @@ fn slots_are_written_again(rt: HostRuntime) -> Result<(), Fail> {
     if delta.count() == 2 {
         assert_eq!(rt; delta.entry(&mut host, 1)?, 1);
     }
-    if delta.slot_of(&mut host, 7)?.is_none() {
-        assert_eq!(rt; delta.draft(7)?, 3);
-    }
+    assert_eq!(rt; draft(&mut host, &mut delta, 7)?, 3);
     assert_eq!(rt; delta.count(), 3);
     delta.clear(&mut host)?;
     assert_eq!(rt; (delta.count(), host.file(&name_of(NAME)?).is_none()), (0, true));
@@ -164,8 +172,10 @@ fn a_stop_leaves_the_old_table_or_the_new(rt: HostRuntime) -> Result<(), Fail> {
     let mut made = MemHost::new(rt.alloc())?;
     grown(rt.alloc(), &mut made, 254)?;
     // What stands behind the table would be a group of one entry.
+    let mut group = [0; 1024];
+    group[0] = 1;
     made.write_page(&name, 257, &[1; 1024])?;
-    made.write_page(&name, 256, &hostile(rt.alloc(), &[0; 1024], 0, 1, 1024)?)?;
+    made.write_page(&name, 256, &group)?;
     for stop in 1..9 {
         let mut host = MemHost::fused(rt.alloc(), stop)?;
         host.put_file(&name, made.file(&name).unwrap_or(b""))?;
