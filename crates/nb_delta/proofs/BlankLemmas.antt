@@ -1,14 +1,14 @@
 -- A difference file without entries.
-use Rattle.std.proofs.Common.{◌≡◌, ◌⊎◌, inl, inr, ℕ, zero, suc, ◌+◌, ◌-◌, ◌*◌, ◌<◌, ◌≤◌, List, [], ◌∷◌, ◌++◌, length, take, drop, replicate, refl, sym, ap, ◌∙◌, subst, arith, IsTrue}
-use Rattle.std.specs.Prelude.{Some, None, Ok}
+use Rattle.std.proofs.Common.{◌≡◌, ◌⊎◌, inl, inr, ℕ, ◌+◌, ◌*◌, ◌≤◌, List, [], ◌++◌, length, drop, replicate, refl, sym, ap, ◌∙◌, subst, arith, IsTrue}
+use Rattle.std.specs.Prelude.{Some}
 use Rattle.std.proofs.lemmas.Bool.{cases_lt}
-use Rattle.std.proofs.lemmas.List.{length-replicate, take_all, drop_all, append-nil, take-replicate}
+use Rattle.std.proofs.lemmas.List.{length-replicate, drop_all, append-nil}
 use Rattle.std.proofs.Math.Nat.{mul-le-mul_right}
 use Rattle.nb_host.specs.Files.{File, bytes_of, with_page, put_at, padded}
 use Rattle.nb_host.specs.Crash.{PageLeft}
 use Rattle.nb_fields.specs.Bytes.{number_in}
 use Rattle.nb_fields.specs.Places.{is_page_size, slots_in}
-use Rattle.nb_fields.specs.Table.{table_of, page_in, alloc_place}
+use Rattle.nb_fields.specs.Table.{page_in, alloc_place}
 use Rattle.nb_delta.specs.Slots.{HasTable, IsBlank}
 use Rattle.nb_delta.proofs.EntryLemmas.{no_entries}
 use Rattle.nb_delta.proofs.GroupLemmas.{page_past, zeros_count}

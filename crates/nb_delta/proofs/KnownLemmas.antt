@@ -1,11 +1,10 @@
 -- What a call says of the object that it knows, by what it says of the object's parts.
-use Rattle.std.proofs.Common.{◌≡◌, ◌≢◌, ℕ, ◌+◌, ◌*◌, ◌<◌, ◌≤◌, Bool, true, false, List, [], ◌∷◌, ◌++◌, length, take, drop, replicate, refl, sym, ap, ◌∙◌, subst, arith, inl, IsTrue, length-drop}
+use Rattle.std.proofs.Common.{◌≡◌, ◌≢◌, ℕ, ◌+◌, ◌*◌, ◌<◌, ◌≤◌, Bool, true, false, List, [], ◌∷◌, ◌++◌, length, take, drop, replicate, sym, ap, ◌∙◌, subst, arith, inl, IsTrue, length-drop}
 use Rattle.std.specs.Prelude.{None}
 use Rattle.nb_host.specs.World.{World}
 use Rattle.std.proofs.lemmas.List.{take-append-le}
 use Rattle.nb_host.specs.Files.{File, Files, bytes_of}
 use Rattle.nb_host.specs.Calls.{ReadsPage}
-use Rattle.nb_host.specs.Crash.{Leaves}
 use Rattle.nb_host.specs.Moments.{IsTimely}
 use Rattle.nb_fields.specs.Places.{is_page_size}
 use Rattle.nb_fields.specs.Table.{page_in, slot_place}

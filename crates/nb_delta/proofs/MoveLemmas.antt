@@ -1,12 +1,12 @@
 -- How a change of the difference file goes on, from one call to the next.
-use Rattle.std.proofs.Common.{◌≡◌, ◌≢◌, ◌⊎◌, inl, inr, ⊎_elim, List, ℕ, Bool, refl, sym, subst, ap, ◌∙◌}
+use Rattle.std.proofs.Common.{◌≡◌, ◌≢◌, inl, inr, ⊎_elim, List, ℕ, Bool, refl, sym, subst, ap, ◌∙◌}
 use Rattle.std.specs.Prelude.{Result, IsTrue}
 use Rattle.nb_host.specs.Files.{File, Files, with_file, with_page}
 use Rattle.nb_host.specs.World.{World}
-use Rattle.nb_host.specs.Crash.{Leaves, Untouched, PageLeft, IsDurable}
-use Rattle.nb_host.specs.Calls.{IsStill, Steps, IsSilent, Remakes, WritesPage, WholeOrNot}
+use Rattle.nb_host.specs.Crash.{Leaves, PageLeft, IsDurable}
+use Rattle.nb_host.specs.Calls.{IsStill, Steps, IsSilent, Remakes, WritesPage}
 use Rattle.nb_host.specs.Moments.{Passes, IsTimely}
-use Rattle.nb_change.specs.Change.{Both, LeavesBoth, IsOther, Advances}
+use Rattle.nb_change.specs.Change.{Advances}
 use Rattle.nb_change.proofs.MomentLaws.{left_before, untouched_fewer}
 use Rattle.nb_change.proofs.ChangeLaws.{begun, composed, weakened, one_more, still_more, silent_call}
 use Rattle.nb_change.proofs.NameLaws.{whole-other, with_file-same}
@@ -91,9 +91,10 @@ module _ (other delta : List ℕ) (apart : other ≢ delta) where
       (begun other delta old (MadeLeft old other delta made) timely (λ o d lo ld. (lo, inl ld)))
       time (untouched_fewer old new _ _ remakes.others (λ n are. are.not_delta)) (λ n are. whole-other result old.files new.files delta file (remakes.files told) n are.not_delta) (silent_call old new silent)
       (λ o d left. left)
-      (λ o d lo ld.
-      (left_before old new _ remakes.others other o apart lo,
-      ⊎_elim (λ b. inl (remakes.back d b)) (λ n. ⊎_elim (λ l. inl l) (λ e. inr (subst made (sym e) is)) (remakes.now d n)) ld))
+      (λ o d lo ld. (
+        left_before old new _ remakes.others other o apart lo,
+        ⊎_elim (λ b. inl (remakes.back d b)) (λ n. ⊎_elim (λ l. inl l) (λ e. inr (subst made (sym e) is)) (remakes.now d n)) ld,
+      ))
 
   -- one call more, where all that was made since is known
   pub made_more : (old mid new : World) (next : File → File → Type 0) (first made all : File → Type 0) → Advances old mid other delta (MadeLeft old other delta first) → Passes mid new → Steps mid new delta next

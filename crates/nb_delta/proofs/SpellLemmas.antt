@@ -1,11 +1,11 @@
 -- What a page write leaves of the table of a difference file.
-use Rattle.std.proofs.Common.{◌≡◌, ◌≢◌, ◌⊎◌, inl, inr, ⊎_elim, ℕ, ◌+◌, ◌-◌, ◌*◌, ◌<◌, ◌≤◌, false, List, [], ◌∷◌, ◌++◌, length, get_or, replicate, refl, sym, ap, ◌∙◌, subst, arith, length-append}
-use Rattle.std.specs.Prelude.{Some, None, nat_eq}
+use Rattle.std.proofs.Common.{◌≡◌, ◌≢◌, ◌⊎◌, inl, inr, ⊎_elim, ℕ, ◌+◌, ◌-◌, ◌*◌, ◌<◌, ◌≤◌, false, List, [], ◌∷◌, ◌++◌, length, get_or, replicate, sym, ap, ◌∙◌, arith, length-append}
+use Rattle.std.specs.Prelude.{nat_eq}
 use Rattle.std.specs.List.{list_any}
 use Rattle.std.proofs.lemmas.Bool.{cases_lt, cases_eq}
 use Rattle.std.proofs.lemmas.List.{get_or_append_left, length-replicate}
 use Rattle.std.proofs.Math.Nat.{mul-le-mul_right}
-use Rattle.nb_host.specs.Files.{File, bytes_of, put_at, with_page}
+use Rattle.nb_host.specs.Files.{File, bytes_of, put_at}
 use Rattle.nb_host.specs.Crash.{PageLeft}
 use Rattle.nb_fields.specs.Bytes.{number_in}
 use Rattle.nb_fields.specs.Places.{slots_in}
@@ -13,9 +13,9 @@ use Rattle.nb_fields.specs.Table.{page_in, slot_place, alloc_place}
 use Rattle.nb_delta.specs.Noting.{IsAllocation}
 use Rattle.nb_delta.proofs.EntryLemmas.{entries_more}
 use Rattle.nb_delta.proofs.GroupLemmas.{zeros_count}
-use Rattle.nb_delta.proofs.TableLemmas.{count_at, number_at, Holds, Spells, SamePlace, same_place}
+use Rattle.nb_delta.proofs.TableLemmas.{count_at, number_at, Spells, same_place}
 use Rattle.nb_delta.proofs.PageLemmas.{grown_page, put_here, put_other, length-put_at}
-use Rattle.nb_delta.proofs.PlaceLemmas.{InGroup, in_group, slot_at, alloc_is, alloc_rises, alloc_other, alloc_other_slot}
+use Rattle.nb_delta.proofs.PlaceLemmas.{in_group, slot_at, alloc_rises, alloc_other, alloc_other_slot}
 
 -- page i is this one, and every other as it was
 pub record WithPage (size i : ℕ) (page b c : List ℕ) : Type 0 where
@@ -150,11 +150,10 @@ module _ (size : ℕ) where
 
     -- the allocation page was written that has one entry more
     module _ (g i number : ℕ) (page b c table : List ℕ) (spells : Spells size b table) (low : i < slots_in size) (many : length table ≡ g * slots_in size + i)
-      (fresh : list_any (nat_eq number) table ≡ false) (below : number < 1048576) (large : 4 ≤ size)
-      (whole : (alloc_place size g + 2 + i) * size ≤ length b)
-      (room : i + 1 ≡ slots_in size → (page_in size b (alloc_place size (g + 1)) ≡ replicate size 0) × ((alloc_place size (g + 1) + 1) * size ≤ length b))
-      (is : IsAllocation size page (table ++ number ∷ []) g (i + 1)) (put : WithPage size (alloc_place size g) page b c) (longer : length b ≤ length c) where
-
+        (fresh : list_any (nat_eq number) table ≡ false) (below : number < 1048576) (large : 4 ≤ size)
+        (whole : (alloc_place size g + 2 + i) * size ≤ length b)
+        (room : i + 1 ≡ slots_in size → (page_in size b (alloc_place size (g + 1)) ≡ replicate size 0) × ((alloc_place size (g + 1) + 1) * size ≤ length b))
+        (is : IsAllocation size page (table ++ number ∷ []) g (i + 1)) (put : WithPage size (alloc_place size g) page b c) (longer : length b ≤ length c) where
       long : length (table ++ number ∷ []) ≡ g * slots_in size + i + 1
       long = omega (arith, length-append table (number ∷ []), many)
 
@@ -213,14 +212,16 @@ module _ (size : ℕ) where
             let next : h * slots_in size + j ≡ (g + 1) * slots_in size + 0 = omega (arith, end, long, e) in
             let same = same_place (slots_in size) (g + 1) 0 h j some lower next in
             let ne : h ≢ g = λ w. absurd (omega (arith, w, same.group)) in
-            let empty : count_at size b (g + 1) ≡ 0 = ap (λ (p : List ℕ). number_in 0 4 p) (room e).0 ∙ zeros_count size large in
-            (ap (λ (p : List ℕ). number_in 0 4 p) (other h ne) ∙ ap (λ (n : ℕ). count_at size b n) same.group ∙ empty ∙ sym same.index,
-            inr (let r = (room e).1 in let at : (alloc_place size h + 1) * size ≡ (alloc_place size (g + 1) + 1) * size = ap (λ (n : ℕ). (alloc_place size n + 1) * size) same.group in omega (arith, r, at, longer)))
+            let empty : count_at size b (g + 1) ≡ 0 = ap (λ (p : List ℕ). number_in 0 4 p) (room e).0 ∙ zeros_count size large in (
+              ap (λ (p : List ℕ). number_in 0 4 p) (other h ne) ∙ ap (λ (n : ℕ). count_at size b n) same.group ∙ empty ∙ sym same.index,
+              inr (let r = (room e).1 in let at : (alloc_place size h + 1) * size ≡ (alloc_place size (g + 1) + 1) * size = ap (λ (n : ℕ). (alloc_place size n + 1) * size) same.group in omega (arith, r, at, longer)),
+            )
         | inr ne ↦
-            let same = same_place (slots_in size) g (i + 1) h j (omega arith) lower (omega (arith, end, long)) in
-            (ap (λ (n : ℕ). number_in 0 4 (page_in size c (alloc_place size n))) same.group ∙ ap (λ (p : List ℕ). number_in 0 4 p) put.here ∙ is.count ∙ sym same.index,
-            inr (let m : (alloc_place size g + 1) * size ≤ (alloc_place size g + 2 + i) * size = mul-le-mul_right size (omega arith) in
-            let at : (alloc_place size h + 1) * size ≡ (alloc_place size g + 1) * size = ap (λ (n : ℕ). (alloc_place size n + 1) * size) same.group in omega (arith, m, at, whole, longer)))
+            let same = same_place (slots_in size) g (i + 1) h j (omega arith) lower (omega (arith, end, long)) in (
+              ap (λ (n : ℕ). number_in 0 4 (page_in size c (alloc_place size n))) same.group ∙ ap (λ (p : List ℕ). number_in 0 4 p) put.here ∙ is.count ∙ sym same.index,
+              inr (let m : (alloc_place size g + 1) * size ≤ (alloc_place size g + 2 + i) * size = mul-le-mul_right size (omega arith) in
+                  let at : (alloc_place size h + 1) * size ≡ (alloc_place size g + 1) * size = ap (λ (n : ℕ). (alloc_place size n + 1) * size) same.group in omega (arith, m, at, whole, longer)),
+            )
       ]
 
       pub spells_more : Spells size c (table ++ number ∷ [])

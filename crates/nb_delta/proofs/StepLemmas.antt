@@ -1,20 +1,20 @@
 -- What a page write leaves of a difference file, by its table and its slots.
-use Rattle.std.proofs.Common.{◌≡◌, ◌≢◌, ◌⊎◌, inl, inr, ⊎_elim, ℕ, ◌+◌, ◌-◌, ◌*◌, ◌/◌, ◌%◌, ◌<◌, ◌≤◌, false, List, [], ◌∷◌, ◌++◌, length, replicate, refl, sym, ap, ◌∙◌, subst, arith, IsTrue, length-append}
-use Rattle.std.specs.Prelude.{Some, None, Ok, nat_eq, min}
+use Rattle.std.proofs.Common.{◌≡◌, ◌≢◌, inl, inr, ⊎_elim, ℕ, ◌+◌, ◌-◌, ◌*◌, ◌/◌, ◌<◌, ◌≤◌, false, List, [], ◌∷◌, ◌++◌, length, replicate, refl, sym, ap, ◌∙◌, subst, arith, IsTrue, length-append}
+use Rattle.std.specs.Prelude.{Some, None, nat_eq, min}
 use Rattle.std.specs.List.{list_any}
 use Rattle.std.proofs.lemmas.List.{length-replicate}
 use Rattle.std.proofs.Math.Nat.{mul-le-mul_right}
-use Rattle.nb_host.specs.Files.{File, bytes_of, with_page, put_at}
+use Rattle.nb_host.specs.Files.{File, bytes_of, with_page}
 use Rattle.nb_host.specs.Crash.{PageLeft}
 use Rattle.nb_fields.specs.Places.{is_page_size, slots_in}
-use Rattle.nb_fields.specs.Table.{table_of, page_in, slot_place, alloc_place}
-use Rattle.nb_fields.proofs.SizeLemmas.{SizeFacts, size_facts}
+use Rattle.nb_fields.specs.Table.{page_in, slot_place, alloc_place}
+use Rattle.nb_fields.proofs.SizeLemmas.{size_facts}
 use Rattle.nb_delta.specs.Slots.{HasTable, slot_page, HasSlot, Keeps, SlotStep, SlotPut, Adds, AddStep}
 use Rattle.nb_delta.specs.Noting.{IsAllocation, HasRoom, MakesRoom, Prepared, IsReady, IsNewest, Notes, NoteStep}
 use Rattle.nb_delta.proofs.TableLemmas.{Spells}
 use Rattle.nb_delta.proofs.TellLemmas.{table_read, table_told}
-use Rattle.nb_delta.proofs.PlaceLemmas.{InGroup, in_group, group_is, slot_at, slot_other, alloc_other_slot}
-use Rattle.nb_delta.proofs.SpellLemmas.{WithPage, SamePages, PageStep, Put, put_step, from_put, page_step, spells_slot, spells_behind, spells_same, spells_more}
+use Rattle.nb_delta.proofs.PlaceLemmas.{in_group, group_is, slot_at, slot_other, alloc_other_slot}
+use Rattle.nb_delta.proofs.SpellLemmas.{WithPage, Put, put_step, from_put, page_step, spells_slot, spells_behind, spells_same, spells_more}
 
 pub some_slots : (size : ℕ) → IsTrue (is_page_size size) → 0 < slots_in size
 some_slots size is = let facts = size_facts size is in omega (arith, facts.at_least)
@@ -116,8 +116,7 @@ module _ (size : ℕ) (is_size : IsTrue (is_page_size size)) where
 
   -- the allocation page with the new entry is written
   module _ (table : List ℕ) (number g i : ℕ) (low : i < slots_in size) (many : length table ≡ g * slots_in size + i) (fresh : list_any (nat_eq number) table ≡ false) (below : number < 1048576)
-    (page : List ℕ) (long : length page ≡ size) (is : IsAllocation size page (table ++ number ∷ []) g (i + 1)) (before : File) (has : HasTable size before table) (whole : HasSlot size before (length table)) (room : HasRoom size before (length table)) where
-
+      (page : List ℕ) (long : length page ≡ size) (is : IsAllocation size page (table ++ number ∷ []) g (i + 1)) (before : File) (has : HasTable size before table) (whole : HasSlot size before (length table)) (room : HasRoom size before (length table)) where
     place : slot_place size (length table) ≡ alloc_place size g + 1 + i
     place = ap (λ (n : ℕ). slot_place size n) many ∙ slot_at size g i low
 

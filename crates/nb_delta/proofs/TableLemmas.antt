@@ -1,18 +1,17 @@
 -- What of a file's bytes makes its table this list, and that the two are one.
-use Rattle.std.proofs.Common.{◌≡◌, ◌≢◌, ◌⊎◌, inl, inr, ⊎_elim, ℕ, zero, suc, ◌+◌, ◌-◌, ◌*◌, ◌/◌, ◌<◌, ◌≤◌, Bool, true, false, List, [], ◌∷◌, ◌++◌, length, get_or, take, refl, sym, ap, ◌∙◌, subst, arith, length-append, length-take}
-use Rattle.std.specs.Prelude.{nat_eq, nat_lt, nat_le, ◌||◌, ◌&&◌, ◌==◌, Result, Ok, Err}
-use Rattle.std.specs.List.{list_any, IsDistinct, AllByRecursion}
-use Rattle.std.proofs.lemmas.Bool.{cases_lt, cases_eq, cases_order, cases_Bool, lt-ltb, le-ltb, lt-leb, ltb-false, eqb-true, eqb-false, eq-eqb, ne_eqb, or_from, or_parts, and_cases, and_left, and_right}
-use Rattle.std.proofs.lemmas.List.{get_or_append_left, get_or-append_right, take_all}
+use Rattle.std.proofs.Common.{◌≡◌, ◌⊎◌, inl, inr, ⊎_elim, ℕ, zero, suc, ◌+◌, ◌-◌, ◌*◌, ◌/◌, ◌<◌, ◌≤◌, false, List, [], ◌∷◌, ◌++◌, length, get_or, refl, sym, ap, ◌∙◌, subst, arith, length-append}
+use Rattle.std.specs.Prelude.{nat_lt, ◌&&◌, ◌==◌, Result, Ok, Err}
+use Rattle.std.proofs.lemmas.Bool.{cases_lt, cases_eq, cases_order, cases_Bool, ltb-false, eqb-true, eqb-false, eq-eqb, or_parts, and_cases}
+use Rattle.std.proofs.lemmas.List.{get_or_append_left, get_or-append_right}
 use Rattle.std.proofs.Math.Nat.{mul-le-mul_right}
 use Rattle.nb_fields.specs.Bytes.{number_in}
 use Rattle.nb_fields.specs.Places.{slots_in}
-use Rattle.nb_fields.specs.Table.{page_in, alloc_place, entries_from, groups_from, table_of}
+use Rattle.nb_fields.specs.Table.{page_in, alloc_place, entries_from, groups_from}
 use Rattle.nb_delta.specs.Entries.{AreEntries}
 use Rattle.nb_delta.specs.Reading.{is_unfit}
-use Rattle.nb_delta.proofs.EntryLemmas.{no_entries, entries_more, entry_below}
+use Rattle.nb_delta.proofs.EntryLemmas.{entries_more}
 use Rattle.nb_delta.proofs.ReadLemmas.{entries_none, entry_unfit, entry_cut, entry_read, fit_named, fit_below}
-use Rattle.nb_delta.proofs.GroupLemmas.{is_misshapen, group_misshapen, group_broken, group_full, group_last, next_group, first_group, whole_pages, first_inside}
+use Rattle.nb_delta.proofs.GroupLemmas.{is_misshapen, group_misshapen, group_broken, group_full, group_last, next_group, first_group, whole_pages}
 
 -- the count of a group, and the number of its entry i
 abbrev pub count_at : (size : ℕ) (bytes : List ℕ) (g : ℕ) → ℕ
@@ -104,7 +103,7 @@ module _ (size : ℕ) (bytes : List ℕ) where
       | inr whole ↦
           let more = holds_more g i found (omega arith) holds many fit (ltb-false (length bytes) ((alloc_place size g + 2 + i) * size) whole) in
           let rest = entries_read left g (i + 1) (found ++ number_at size bytes g i ∷ []) entries more (omega (arith, many, length-append found (number_at size bytes g i ∷ []))) (omega arith)
-              (sym (entry_read size (alloc_place size g) i left bytes found fit whole) ∙ told) in
+          (sym (entry_read size (alloc_place size g) i left bytes found fit whole) ∙ told) in
           record { holds = rest.holds; long = omega (arith, rest.long) }
     ]
   ]

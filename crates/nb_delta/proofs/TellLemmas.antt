@@ -1,14 +1,12 @@
 -- A file whose bytes spell a list has it as its table, and only then.
-use Rattle.std.proofs.Common.{◌≡◌, ◌≢◌, ◌⊎◌, inl, inr, ⊎_elim, ℕ, zero, suc, ◌+◌, ◌-◌, ◌*◌, ◌/◌, ◌<◌, ◌≤◌, Bool, true, false, List, [], ◌∷◌, ◌++◌, length, get_or, take, refl, sym, ap, ◌∙◌, subst, arith}
-use Rattle.std.specs.Prelude.{nat_eq, nat_lt, nat_le, ◌||◌, ◌&&◌, ◌==◌, Result, Ok, Err}
+use Rattle.std.proofs.Common.{◌≡◌, ◌⊎◌, inl, inr, ⊎_elim, ℕ, zero, suc, ◌+◌, ◌-◌, ◌*◌, ◌/◌, ◌<◌, ◌≤◌, false, List, [], ◌∷◌, ◌++◌, length, get_or, take, refl, sym, ap, ◌∙◌, subst, arith}
+use Rattle.std.specs.Prelude.{nat_eq, nat_lt, nat_le, ◌&&◌, Ok}
 use Rattle.std.specs.List.{list_any, IsDistinct, AllByRecursion}
-use Rattle.std.proofs.lemmas.Bool.{cases_lt, cases_eq, le-ltb, lt-leb, eqb-false, eq-eqb, ne_eqb, or_from, and_left, and_right}
+use Rattle.std.proofs.lemmas.Bool.{cases_lt, le-ltb, lt-leb, eqb-false, eq-eqb, ne_eqb, or_from, and_left, and_right}
 use Rattle.std.proofs.lemmas.List.{take_all}
 use Rattle.std.proofs.Math.Nat.{mul-le-mul_right}
-use Rattle.nb_fields.specs.Bytes.{number_in}
 use Rattle.nb_fields.specs.Places.{slots_in}
-use Rattle.nb_fields.specs.Table.{page_in, alloc_place, entries_from, groups_from, table_of}
-use Rattle.nb_delta.specs.Entries.{AreEntries}
+use Rattle.nb_fields.specs.Table.{alloc_place, entries_from, groups_from, table_of}
 use Rattle.nb_delta.specs.Reading.{is_unfit}
 use Rattle.nb_delta.proofs.EntryLemmas.{no_entries, entry_below}
 use Rattle.nb_delta.proofs.ReadLemmas.{entries_none, entry_read}

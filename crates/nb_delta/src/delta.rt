@@ -80,7 +80,9 @@ impl Delta {
         ensures cause { CountsDevice result (H.faults host.old) (H.faults host.new) }
     {
         let Some(len) = host.size(name)? else {
-            return Err(Fault::Refused(Refusal::NoFile { name: name.copied() }));
+            return Err(Fault::Refused(Refusal::NoFile {
+                name: name.copied(),
+            }));
         };
         let mut delta = Delta::blank(alloc, name, page_size)?;
         read_table(host, name, len, &mut delta.page, &mut delta.entries)?;
@@ -96,11 +98,7 @@ impl Delta {
     }
 
     /// The slot of the entry that names a page. It makes no call.
-    pub fn slot_of<H: Host>(
-        &mut self,
-        _host: &mut H,
-        page: u32,
-    ) -> Result<Option<u32>, HostFault>
+    pub fn slot_of<H: Host>(&mut self, _host: &mut H, page: u32) -> Result<Option<u32>, HostFault>
         ensures slot { result ≡ Ok (option_map (slot_place self.old.page_size) (place_of self.old.entries page)) }
         ensures none { IfOk result (λ slot. slot ≡ None → place_of self.old.entries page ≡ None) }
         ensures same { self.new ≡ self.old }

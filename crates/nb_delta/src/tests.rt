@@ -90,7 +90,10 @@ fn slots_are_written_again(rt: HostRuntime) -> Result<(), Fail> {
     assert_eq!(rt; draft(&mut host, &mut delta, 7)?, 3);
     assert_eq!(rt; delta.count(), 3);
     delta.clear(&mut host)?;
-    assert_eq!(rt; (delta.count(), host.file(&name_of(NAME)?).is_none()), (0, true));
+    assert_eq!(rt;
+        (delta.count(), host.file(&name_of(NAME)?).is_none()),
+        (0, true)
+    );
     Ok(())
 }
 
@@ -108,13 +111,7 @@ fn attached(alloc: Global, host: &mut MemHost, name: &Name) -> Result<(u32, Opti
 }
 
 /// The bytes with one word changed, and cut.
-fn hostile(
-    alloc: Global,
-    bytes: &[u8],
-    at: usize,
-    word: u32,
-    len: usize,
-) -> Result<Vec<u8>, Fail> {
+fn hostile(alloc: Global, bytes: &[u8], at: usize, word: u32, len: usize) -> Result<Vec<u8>, Fail> {
     let mut changed = Vec::from_slice(alloc, bytes)?;
     for (offset, byte) in word.to_le_bytes().iter().enumerate() {
         if let Some(place) = changed.get_mut(at.saturating_add(offset)) {
@@ -153,9 +150,16 @@ fn hostile_files_are_refused(rt: HostRuntime) -> Result<(), Fail> {
         let bytes = hostile(rt.alloc(), host.file(&name).unwrap_or(b""), at, word, len)?;
         let mut other = MemHost::new(rt.alloc())?;
         other.put_file(&name, &bytes)?;
-        assert_eq!(rt; attached(rt.alloc(), &mut other, &name)?, answer, "{at} {word} {len}");
+        assert_eq!(rt;
+            attached(rt.alloc(), &mut other, &name)?,
+            answer,
+            "{at} {word} {len}"
+        );
     }
-    assert_eq!(rt; attached(rt.alloc(), &mut host, &name_of("no")?)?, (0, Some(NO_FILE)));
+    assert_eq!(rt;
+        attached(rt.alloc(), &mut host, &name_of("no")?)?,
+        (0, Some(NO_FILE))
+    );
     Ok(())
 }
 
@@ -185,7 +189,10 @@ fn a_stop_leaves_the_old_table_or_the_new(rt: HostRuntime) -> Result<(), Fail> {
             let mut left = host.left(pick)?;
             let mut delta = Delta::attach(rt.alloc(), &mut left, &name, 1024)?;
             let is_new = delta.count() == 255;
-            assert!(rt; is_new || (delta.count() == 254 && !is_done), "stop {stop} pick {pick}");
+            assert!(rt;
+                is_new || (delta.count() == 254 && !is_done),
+                "stop {stop} pick {pick}"
+            );
             let slot = delta.slot_of(&mut left, 300)?;
             assert_eq!(rt; slot.is_some(), is_new);
             if slot.is_some() {

@@ -111,7 +111,12 @@ fn fill_group(page: &mut [u8], entries: &Entries, group: u32)
     page.fill(0);
     put_number(page, 0, 4, count as u64);
     for i in 0..count {
-        put_number(page, 4 + 4 * i as usize, 4, entries.page_at(first + i) as u64);
+        put_number(
+            page,
+            4 + 4 * i as usize,
+            4,
+            entries.page_at(first + i) as u64,
+        );
     }
 }
 
@@ -191,11 +196,7 @@ pub fn rewrite_slot<H: Host>(
 }
 
 /// Makes the file of one page of zeros, and keeps it for good.
-pub fn make_file<H: Host>(
-    host: &mut H,
-    name: &Name,
-    page: &mut [u8],
-) -> Result<(), HostFault>
+pub fn make_file<H: Host>(host: &mut H, name: &Name, page: &mut [u8]) -> Result<(), HostFault>
     requires { IsTrue (is_page_size (length page.old)) }
     ensures made { IsTrue H.tells → OnOk result ((H.world host.new).files name.now ≡ Some (replicate (length page.old) 0)) }
     ensures table { IsTrue H.tells → OnOk result (HasTable (length page.old) ((H.world host.new).files name.now) []) }

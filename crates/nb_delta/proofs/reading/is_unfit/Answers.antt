@@ -1,5 +1,5 @@
 use Rattle.std.proofs.Common.{ℕ, Bool, List, ap, ◌∙◌, sym}
-use Rattle.std.specs.Prelude.{◌||◌, nat_eq, nat_le, is_some, Option}
+use Rattle.std.specs.Prelude.{◌||◌, nat_eq, is_some, Option}
 use Rattle.std.specs.List.{list_any}
 use Rattle.std.proofs.lemmas.Bool.{lt-leb}
 use Rattle.nb_delta.proofs.EntryLemmas.{is_named}

@@ -1,4 +1,4 @@
-use Rattle.std.proofs.Common.{ℕ, List, length, ◌≡◌, ◌+◌, ◌-◌, ◌*◌, ◌≤◌, suc, ◌∙◌, ap, sym, subst, arith}
+use Rattle.std.proofs.Common.{ℕ, length, ◌≡◌, ◌+◌, ◌-◌, ◌*◌, ◌≤◌, suc, ◌∙◌, ap, sym, subst, arith}
 use Rattle.nb_fields.specs.Table.{entries_from}
 use Rattle.nb_delta.proofs.ReadLemmas.{passed_on, entries_none}
 use Rattle.nb_delta.proofs.reading.read_entries.Goals as goal

@@ -1,4 +1,4 @@
-use Rattle.std.proofs.Common.{◌≡◌, ◌≢◌, ℕ, suc, ◌+◌, ◌*◌, ◌<◌, ◌≤◌, IsTrue, List, [], length, Some, IfOk, IfErr, OnOk, ◌-◌}
+use Rattle.std.proofs.Common.{◌≡◌, ℕ, ◌+◌, ◌*◌, ◌<◌, ◌≤◌, List, length, ◌-◌}
 use Rattle.nb_fields.specs.Table.{page_in, entries_from}
 use Rattle.nb_delta.proofs.reading.read_entries.Given as goal
 

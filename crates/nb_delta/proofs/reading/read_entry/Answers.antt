@@ -1,6 +1,5 @@
-use Rattle.std.proofs.Common.{ℕ, Bool, List, length, ◌≡◌, ◌++◌, ◌∷◌, [], ◌+◌, ◌*◌, true, false, ◌∙◌, ap, sym, subst, arith}
-use Rattle.std.specs.Prelude.{nat_lt, nat_eq, nat_le, is_some}
-use Rattle.std.proofs.lemmas.Bool.{lt-ltb, le-ltb, or_cases}
+use Rattle.std.proofs.Common.{ℕ, List, length, ◌≡◌, ◌++◌, ◌∷◌, [], ◌+◌, ◌*◌, ◌∙◌, ap, sym, arith}
+use Rattle.std.proofs.lemmas.Bool.{lt-ltb, le-ltb}
 use Rattle.nb_fields.specs.Bytes.{number_in}
 use Rattle.nb_fields.specs.Table.{page_in, entries_from}
 use Rattle.nb_delta.specs.Reading.{is_unfit}

@@ -1,9 +1,9 @@
-use Rattle.std.proofs.Common.{ℕ, List, length, ◌≡◌, ◌≤◌, ◌+◌, ◌*◌, suc, ◌∙◌, Bool, true, false, ap, sym, subst, arith}
+use Rattle.std.proofs.Common.{ℕ, List, length, ◌≡◌, ◌≤◌, ◌+◌, ◌*◌, suc, ◌∙◌, Bool, ap, sym, subst}
 use Rattle.nb_host.specs.Calls.{ReadsPage}
 use Rattle.nb_fields.specs.Places.{slots_in}
 use Rattle.nb_fields.specs.Table.{page_in, groups_from}
 use Rattle.nb_delta.specs.Reading.{ReadsGroup}
-use Rattle.nb_delta.proofs.GroupLemmas.{IsPage, page_read, page_short}
+use Rattle.nb_delta.proofs.GroupLemmas.{IsPage, page_read}
 use Rattle.nb_delta.proofs.reading.read_group.Goals as goal
 
 pub returns-then-is_whole-clause-answer : goal.returns-then-is_whole-clause-answer

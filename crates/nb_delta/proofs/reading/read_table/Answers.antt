@@ -1,4 +1,4 @@
-use Rattle.std.proofs.Common.{ℕ, List, length, ◌≡◌, ◌≤◌, ◌<◌, ◌+◌, ◌*◌, ◌/◌, suc, ◌∙◌, Bool, true, false, ap, sym, subst, arith, refl}
+use Rattle.std.proofs.Common.{ℕ, List, length, ◌≡◌, ◌∙◌, ap, sym, subst, arith, refl}
 use Rattle.nb_host.specs.Files.{Files}
 use Rattle.nb_fields.specs.Places.{slots_in}
 use Rattle.nb_fields.proofs.SizeLemmas.{SizeFacts, size_facts}

@@ -1,10 +1,10 @@
-use Rattle.std.proofs.Common.{◌≡◌, ℕ, ◌*◌, List, [], length, replicate, inl, inr, refl, ap, ◌∙◌, sym, subst}
+use Rattle.std.proofs.Common.{◌≡◌, ℕ, ◌*◌, List, [], length, replicate, inl, inr, refl, ap, ◌∙◌}
 use Rattle.std.specs.Prelude.{Some}
-use Rattle.nb_host.specs.Files.{File, Files, with_page}
+use Rattle.nb_host.specs.Files.{Files}
 use Rattle.nb_host.specs.Crash.{PageLeft}
 use Rattle.nb_change.proofs.NameLaws.{whole-other, with_file-same}
-use Rattle.nb_delta.specs.Slots.{HasTable, IsBlank}
-use Rattle.nb_delta.proofs.MoveLemmas.{made_moves, made_more, made_still, made_weakened, written, durable_now}
+use Rattle.nb_delta.specs.Slots.{IsBlank}
+use Rattle.nb_delta.proofs.MoveLemmas.{made_moves, made_more, made_still, written, durable_now}
 use Rattle.nb_delta.proofs.BlankLemmas.{blank_left, blank_put, blank_table}
 use Rattle.nb_delta.proofs.writing.make_file.Goals as goal
 

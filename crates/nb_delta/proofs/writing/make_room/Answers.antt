@@ -1,12 +1,11 @@
-use Rattle.std.proofs.Common.{◌≡◌, ◌≢◌, ℕ, ◌+◌, ◌*◌, ◌/◌, ◌<◌, List, length, replicate, refl, ap, ◌∙◌, sym, subst, arith, IsTrue}
+use Rattle.std.proofs.Common.{◌≡◌, ℕ, ◌+◌, ◌*◌, ◌/◌, List, length, replicate, ap, ◌∙◌, sym, subst, arith}
 use Rattle.std.proofs.lemmas.List.{length-replicate}
-use Rattle.nb_host.specs.Files.{File, Files, with_page}
+use Rattle.nb_host.specs.Files.{Files, with_page}
 use Rattle.nb_host.specs.Crash.{PageLeft}
-use Rattle.nb_host.specs.World.{World}
-use Rattle.nb_fields.specs.Places.{slots_in, is_page_size}
+use Rattle.nb_fields.specs.Places.{slots_in}
 use Rattle.nb_fields.specs.Table.{alloc_place}
 use Rattle.nb_delta.specs.Slots.{Keeps}
-use Rattle.nb_delta.proofs.MoveLemmas.{page_moves, still_moves, step_begun, written}
+use Rattle.nb_delta.proofs.MoveLemmas.{page_moves, step_begun, written}
 use Rattle.nb_delta.proofs.StepLemmas.{next_left, keeps_none, room_inner, room_last}
 use Rattle.nb_delta.proofs.writing.make_room.Goals as goal
 

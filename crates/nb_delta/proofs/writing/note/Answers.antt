@@ -1,8 +1,6 @@
 use Rattle.std.proofs.Common.{◌≡◌, ℕ, ◌*◌, List, length, inl, ⊎_elim, refl, ap, ◌∙◌, sym, subst}
-use Rattle.nb_host.specs.World.{World}
 use Rattle.nb_host.specs.Files.{File, Files, with_page}
 use Rattle.nb_host.specs.Crash.{PageLeft}
-use Rattle.nb_fields.specs.Table.{alloc_place}
 use Rattle.nb_delta.specs.Noting.{Notes, NoteStep}
 use Rattle.nb_delta.proofs.EntryLemmas.{named_none}
 use Rattle.nb_delta.proofs.MoveLemmas.{page_moves, step_joined, written}

@@ -1,7 +1,5 @@
-use Rattle.std.proofs.Common.{◌≡◌, ℕ, ◌-◌, ◌*◌, ◌/◌, List, length, ap, ◌∙◌, sym, subst}
-use Rattle.nb_host.specs.World.{World}
+use Rattle.std.proofs.Common.{◌≡◌, ℕ, ◌-◌, ◌/◌, List, length, ap, ◌∙◌}
 use Rattle.nb_host.specs.Files.{File}
-use Rattle.nb_fields.specs.Places.{slots_in}
 use Rattle.nb_delta.specs.Slots.{Keeps, AddStep}
 use Rattle.nb_delta.specs.Noting.{NoteStep}
 use Rattle.nb_delta.proofs.MoveLemmas.{step_weakened, step_from}

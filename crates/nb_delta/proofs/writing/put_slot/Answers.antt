@@ -1,5 +1,4 @@
-use Rattle.std.proofs.Common.{◌≡◌, ℕ, List, length, ap, ◌∙◌, sym, subst}
-use Rattle.nb_host.specs.World.{World}
+use Rattle.std.proofs.Common.{◌≡◌, ℕ, List, length, sym, subst}
 use Rattle.nb_host.specs.Files.{File, Files}
 use Rattle.nb_delta.specs.Slots.{Keeps, SlotStep}
 use Rattle.nb_delta.specs.Noting.{MakesRoom, Prepared}

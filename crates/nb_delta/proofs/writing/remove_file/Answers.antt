@@ -1,6 +1,6 @@
 use Rattle.std.proofs.Common.{◌≡◌, ◌∙◌, refl, ap}
 use Rattle.std.specs.Prelude.{None}
-use Rattle.nb_host.specs.Files.{File, Files}
+use Rattle.nb_host.specs.Files.{Files}
 use Rattle.nb_change.proofs.NameLaws.{with_file-same}
 use Rattle.nb_delta.proofs.MoveLemmas.{made_moves}
 use Rattle.nb_delta.proofs.writing.remove_file.Goals as goal

@@ -1,5 +1,4 @@
-use Rattle.std.proofs.Common.{◌≡◌, refl, sym, subst}
-use Rattle.nb_host.specs.Files.{File}
+use Rattle.std.proofs.Common.{◌≡◌, refl}
 use Rattle.nb_delta.proofs.MoveLemmas.{still_moves, step_begun, durable_now}
 use Rattle.nb_delta.proofs.writing.sync_if.Goals as goal
 

@@ -1,7 +1,6 @@
-use Rattle.std.proofs.Common.{◌≡◌, ℕ, ◌*◌, List, length, refl, ap, ◌∙◌, sym, subst}
-use Rattle.nb_host.specs.Files.{File, Files, with_page}
+use Rattle.std.proofs.Common.{ℕ, ◌*◌, List, length, refl, ap, ◌∙◌, subst}
+use Rattle.nb_host.specs.Files.{Files, with_page}
 use Rattle.nb_host.specs.Crash.{PageLeft}
-use Rattle.nb_fields.specs.Table.{slot_place}
 use Rattle.nb_delta.specs.Slots.{SlotStep}
 use Rattle.nb_delta.proofs.MoveLemmas.{page_moves, written}
 use Rattle.nb_delta.proofs.StepLemmas.{slot_left, slot_put, slot_none}

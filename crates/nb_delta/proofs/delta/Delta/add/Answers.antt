@@ -1,4 +1,3 @@
-use Rattle.std.proofs.Common.{ℕ, List, length}
 use Rattle.nb_delta.proofs.KnownLemmas.{add_moves, add_begun}
 use Rattle.nb_delta.proofs.delta.Delta.add.Goals as goal
 

@@ -1,4 +1,4 @@
-use Rattle.std.proofs.Common.{◌≡◌, ℕ, List, length, arith}
+use Rattle.std.proofs.Common.{◌≡◌, length, arith}
 use Rattle.nb_delta.proofs.KnownLemmas.{make_moves}
 use Rattle.nb_delta.proofs.delta.Delta.make.Goals as goal
 

@@ -1,4 +1,3 @@
-use Rattle.std.proofs.Common.{ℕ, List, length}
 use Rattle.nb_delta.proofs.KnownLemmas.{slot_moves}
 use Rattle.nb_delta.proofs.delta.Delta.rewrite.Goals as goal
 
