@@ -1,0 +1,13 @@
+pub mod EntryLemmas
+pub mod ReadLemmas
+pub mod GroupLemmas
+pub mod AttachLemmas
+pub mod TableLemmas
+pub mod TellLemmas
+pub mod PageLemmas
+pub mod PlaceLemmas
+pub mod SpellLemmas
+pub mod StepLemmas
+pub mod MoveLemmas
+pub mod BlankLemmas
+pub mod KnownLemmas

@@ -1,0 +1,11 @@
+use Rattle.std.proofs.Common.{◌≡◌, ℕ, ◌+◌, ◌*◌, ◌<◌, length}
+use Rattle.std.specs.Prelude.{slice_index}
+use Rattle.nb_fields.specs.Bytes.{number_in}
+use Rattle.nb_fields.specs.Places.{slots_in}
+use Rattle.nb_delta.proofs.writing.fill_group.Given as goal
+
+abbrev pub invariant-loop-i : goal.invariant-loop-i
+invariant-loop-i l = record {
+  count : number_in 0 4 l.page ≡ l.count;
+  numbers : (j : ℕ) → j < l.i → number_in (4 + 4 * j) 4 l.page ≡ slice_index l.entries (l.group * slots_in (length l.fn.page) + j);
+}

@@ -1,0 +1,204 @@
+ghost use Rattle.std.specs.Prelude.{◌≡◌, ◌<◌, ◌≤◌, OnOk, IfOk};
+
+use crate::Delta;
+use nb_host::{Fault, Host, Name, Refusal};
+use nb_mem::MemHost;
+use std::alloc::Global;
+use std::test::Fail;
+
+const NAME: &str = "a.db.delta";
+
+fn name_of(text: &str) -> Result<Name, Fail> {
+    Ok(Name::read(text).ok_or("no name")?)
+}
+
+/// Adds an entry for a page that has none, of which each byte is the same.
+fn add(host: &mut MemHost, delta: &mut Delta, page: u32, byte: u8) -> Result<u32, Fault>
+    requires size { delta.old.page_size ≡ 1024 }
+    requires none_waits { delta.old.drafted ≡ 0 }
+    requires below { page < 1048576 }
+    ensures known { OnOk result (delta.new.page_size ≡ 1024) }
+    ensures none { OnOk result (delta.new.drafted ≡ 0) }
+{
+    match delta.slot_of(host, page)? {
+        Some(_) => Err(Fault::Device),
+        None => delta.add(host, page, &[byte; 1024], true),
+    }
+}
+
+/// Drafts an entry for a page that has none.
+fn draft(host: &mut MemHost, delta: &mut Delta, page: u32) -> Result<u32, Fault>
+    requires { page < 1048576 }
+{
+    match delta.slot_of(host, page)? {
+        Some(_) => Err(Fault::Device),
+        None => delta.draft(page),
+    }
+}
+
+/// A difference file with entries for the pages from 0 on.
+fn grown(alloc: Global, host: &mut MemHost, count: u32) -> Result<Delta, Fail>
+    requires few { count ≤ 1000 }
+    ensures size { IfOk result (λ delta. delta.page_size ≡ 1024) }
+    ensures none { IfOk result (λ delta. delta.drafted ≡ 0) }
+{
+    let mut delta = Delta::blank(alloc, &name_of(NAME)?, 1024)?;
+    delta.make(host)?;
+    for page in 0..count {
+        add(host, &mut delta, page, (page % 256) as u8)?;
+    }
+    Ok(delta)
+}
+
+/// The first byte of the page in a slot.
+fn byte_in(host: &mut MemHost, delta: &mut Delta, slot: u32) -> Result<u8, Fault>
+    requires { delta.old.page_size ≡ 1024 }
+    ensures { delta.new ≡ delta.old }
+{
+    let mut page = [0; 1024];
+    delta.read_slot(host, slot, &mut page)?;
+    Ok(page[0])
+}
+
+#[test]
+fn difference_file_grows(rt: HostRuntime) -> Result<(), Fail> {
+    let mut host = MemHost::new(rt.alloc())?;
+    let mut delta = grown(rt.alloc(), &mut host, 256)?;
+    let size = host.file(&name_of(NAME)?).map(|bytes| bytes.len());
+    assert_eq!(rt; size, Some(258 * 1024));
+    assert_eq!(rt; delta.slot_of(&mut host, 254)?, Some(255));
+    assert_eq!(rt; delta.slot_of(&mut host, 255)?, Some(257));
+    assert_eq!(rt; delta.slot_of(&mut host, 256)?, None);
+    assert_eq!(rt; byte_in(&mut host, &mut delta, 257)?, 255);
+    let reads = host.read_count().saturating_add(2);
+    let mut again = Delta::attach(rt.alloc(), &mut host, &name_of(NAME)?, 1024)?;
+    assert_eq!(rt; (again.count(), host.read_count()), (256, reads));
+    assert_eq!(rt; again.slot_of(&mut host, 255)?, Some(257));
+    Ok(())
+}
+
+#[test]
+fn slots_are_written_again(rt: HostRuntime) -> Result<(), Fail> {
+    let mut host = MemHost::new(rt.alloc())?;
+    let mut delta = grown(rt.alloc(), &mut host, 2)?;
+    delta.rewrite(&mut host, 2, &[9; 1024], false)?;
+    assert_eq!(rt; byte_in(&mut host, &mut delta, 2)?, 9);
+    assert_eq!(rt; byte_in(&mut host, &mut delta, 1)?, 0);
+    if delta.count() == 2 {
+        assert_eq!(rt; delta.entry(&mut host, 1)?, 1);
+    }
+    assert_eq!(rt; draft(&mut host, &mut delta, 7)?, 3);
+    assert_eq!(rt; delta.count(), 3);
+    delta.clear(&mut host)?;
+    assert_eq!(rt;
+        (delta.count(), host.file(&name_of(NAME)?).is_none()),
+        (0, true)
+    );
+    Ok(())
+}
+
+/// The page that stands for a file that isn't there.
+const NO_FILE: u32 = u32::MAX;
+
+/// What attaching answers: how many entries, or the page that breaks the form.
+fn attached(alloc: Global, host: &mut MemHost, name: &Name) -> Result<(u32, Option<u32>), Fail> {
+    match Delta::attach(alloc, host, name, 1024) {
+        Ok(delta) => Ok((delta.count(), None)),
+        Err(Fault::Refused(Refusal::BadDelta { page })) => Ok((0, Some(page))),
+        Err(Fault::Refused(Refusal::NoFile { name: _ })) => Ok((0, Some(NO_FILE))),
+        Err(_) => Err(Fail::from("another answer")),
+    }
+}
+
+/// The bytes with one word changed, and cut.
+fn hostile(alloc: Global, bytes: &[u8], at: usize, word: u32, len: usize) -> Result<Vec<u8>, Fail> {
+    let mut changed = Vec::from_slice(alloc, bytes)?;
+    for (offset, byte) in word.to_le_bytes().iter().enumerate() {
+        if let Some(place) = changed.get_mut(at.saturating_add(offset)) {
+            *place = *byte;
+        }
+    }
+    changed.truncate(len);
+    Ok(changed)
+}
+
+#[test]
+fn hostile_files_are_refused(rt: HostRuntime) -> Result<(), Fail> {
+    let name = name_of(NAME)?;
+    let mut host = MemHost::new(rt.alloc())?;
+    grown(rt.alloc(), &mut host, 256)?;
+    let whole = 258 * 1024;
+    let second = 256 * 1024;
+    let rows = [
+        (whole, 0, whole, (256, None)),
+        (0, 256, whole, (0, Some(0))),
+        (second, 256, whole, (0, Some(256))),
+        (8, 0, whole, (0, Some(0))),
+        (second + 4, 7, whole, (0, Some(256))),
+        (4, 1_048_576, whole, (0, Some(0))),
+        (0, 200, whole, (200, None)),
+        (whole, 0, 257 * 1024, (0, Some(257))),
+        (whole, 0, second, (255, None)),
+        (whole, 0, second + 100, (0, Some(256))),
+        (whole, 0, 255 * 1024, (0, Some(255))),
+        (whole, 0, 1024, (0, Some(1))),
+        (whole, 0, 500, (0, Some(0))),
+        (whole, 0, 0, (0, None)),
+        (0, 0, 3 * 1024, (0, None)),
+    ];
+    for (at, word, len, answer) in rows {
+        let bytes = hostile(rt.alloc(), host.file(&name).unwrap_or(b""), at, word, len)?;
+        let mut other = MemHost::new(rt.alloc())?;
+        other.put_file(&name, &bytes)?;
+        assert_eq!(rt;
+            attached(rt.alloc(), &mut other, &name)?,
+            answer,
+            "{at} {word} {len}"
+        );
+    }
+    assert_eq!(rt;
+        attached(rt.alloc(), &mut host, &name_of("no")?)?,
+        (0, Some(NO_FILE))
+    );
+    Ok(())
+}
+
+/// Adds the entry that fills the first allocation page, on a host that stops at that call.
+fn fill_up(alloc: Global, host: &mut MemHost, name: &Name) -> Result<(), Fault> {
+    let mut delta = Delta::attach(alloc, host, name, 1024)?;
+    add(host, &mut delta, 300, 77)?;
+    Ok(())
+}
+
+#[test]
+fn a_stop_leaves_the_old_table_or_the_new(rt: HostRuntime) -> Result<(), Fail> {
+    let name = name_of(NAME)?;
+    let mut made = MemHost::new(rt.alloc())?;
+    grown(rt.alloc(), &mut made, 254)?;
+    // What stands behind the table would be a group of one entry.
+    let mut group = [0; 1024];
+    group[0] = 1;
+    made.write_page(&name, 257, &[1; 1024])?;
+    made.write_page(&name, 256, &group)?;
+    for stop in 1..9 {
+        let mut host = MemHost::fused(rt.alloc(), stop)?;
+        host.put_file(&name, made.file(&name).unwrap_or(b""))?;
+        let is_done = fill_up(rt.alloc(), &mut host, &name).is_ok();
+        assert_eq!(rt; is_done, stop == 8);
+        for pick in 0..8 {
+            let mut left = host.left(pick)?;
+            let mut delta = Delta::attach(rt.alloc(), &mut left, &name, 1024)?;
+            let is_new = delta.count() == 255;
+            assert!(rt;
+                is_new || (delta.count() == 254 && !is_done),
+                "stop {stop} pick {pick}"
+            );
+            let slot = delta.slot_of(&mut left, 300)?;
+            assert_eq!(rt; slot.is_some(), is_new);
+            if slot.is_some() {
+                assert_eq!(rt; byte_in(&mut left, &mut delta, 255)?, 77);
+            }
+        }
+    }
+    Ok(())
+}
