@@ -1,18 +1,15 @@
 -- A run whose first statement creates the database.
-use Rattle.std.proofs.Common.{◌≡◌, ◌≢◌, inl, inr, ℕ, zero, suc, ◌+◌, ◌-◌, ◌<◌, ◌≤◌, List, [], ◌∷◌, ◌++◌, length, true, false, refl, sym, ap, subst, ◌∙◌, arith}
-use Rattle.std.specs.Prelude.{Bool, ◌&&◌, not, nat_le, IsTrue, is_some, Option, None, Some, Result, Ok, Err, IfOk, if◌then◌else◌}
+use Rattle.std.proofs.Common.{◌≡◌, ℕ, zero, suc, ◌+◌, ◌-◌, ◌≤◌, List, [], ◌∷◌, ◌++◌, length, true, false, refl, sym, ap, subst, ◌∙◌, arith}
+use Rattle.std.specs.Prelude.{Bool, ◌&&◌, not, nat_le, is_some, Option, None, Some, Ok, Err, if◌then◌else◌}
 use Rattle.std.specs.List.{AllByRecursion, slice_index_or}
-use Rattle.std.specs.Result.{IsErr}
 use Rattle.std.proofs.lemmas.Bool.{and_parts}
 use Rattle.nb_fields.specs.Free.{is_free_file}
 use Rattle.nb_fields.specs.Fresh.{fresh, fresh_count}
 use Rattle.nb_host.specs.Files.{File, Files}
 use Rattle.nb_host.specs.Names.{is_name, is_delta}
 use Rattle.nb_host.specs.World.{World}
-use Rattle.nb_host.specs.Crash.{Leaves, Untouched}
+use Rattle.nb_host.specs.Crash.{Leaves}
 use Rattle.nb_host.specs.Moments.{AtEachMoment}
-use Rattle.nb_host.specs.declared.faults.Fault.{Fault}
-use Rattle.nb_host.specs.declared.refusals.Refusal.{Refusal}
 use Rattle.nb_host.specs.declared.refusals.Refusal.TheVariants.{FileExists}
 use Rattle.nb_change.specs.Change.{IsOther, Advances}
 use Rattle.nb_change.proofs.MomentLaws.{joined, weaker}
@@ -25,10 +22,10 @@ use Rattle.nb_model.specs.Image.{Image}
 use Rattle.nb_model.specs.Account.{Base, base_of, IsBase, Account}
 use Rattle.nb_model.specs.Causes.{is_free_entry}
 use Rattle.nb_model.specs.Owner.{delta_name, entry_in}
-use Rattle.nb_model.specs.Run.{Event, Now, Played, Opening, base_now, begun, opening, refused_opening, play, rounds, AreFinished, IsRun, strokes_of, replies_of}
+use Rattle.nb_model.specs.Run.{Event, Now, Played, Opening, base_now, begun, opening, play, rounds, AreFinished, IsRun, replies_of}
 use Rattle.nb_model.specs.Output.{output, status_of}
 use Rattle.nb_model.proofs.FreshImageLaws.{fresh_length}
-use Rattle.nb_model.proofs.OpeningLaws.{free_entry, IsCreated, created, not_created, run_on, run_ends, ArePaged, first_paged, built_paged, created_with, IsPaged, IsWith}
+use Rattle.nb_model.proofs.OpeningLaws.{free_entry, IsCreated, created, not_created, run_on, run_ends, first_paged, built_paged, created_with, IsPaged, IsWith}
 use Rattle.nb_model.proofs.TodoLaws.{IsSingle, built_single, finished_places}
 use Rattle.nb_script.specs.Asked.{IsFurther, IsAskable, statement_count}
 use Rattle.nb_script.specs.Fits.{FitsFirst}
@@ -37,9 +34,9 @@ use Rattle.nb_engine.specs.declared.opened.Opened.{Opened}
 use Rattle.nb_engine.specs.Create.{CreateLeft}
 use Rattle.nb_engine.specs.Open.{IsOpen}
 use Rattle.nb_sched.specs.declared.stop.Stop.{Stop}
-use Rattle.nb_sched.specs.Stops.{StopLeft, Plays, PlayedOut}
+use Rattle.nb_sched.specs.Stops.{StopLeft}
 use Rattle.nb_top.specs.declared.status.Status.{Status}
-use Rattle.nb_top.specs.Performed.{RunLeft, RunsTo, Finished, StandsFor, IsPerformed, PlaysCreated, database_of, number_of, pages_said}
+use Rattle.nb_top.specs.Performed.{RunLeft, RunsTo, StandsFor, IsPerformed, PlaysCreated, database_of, number_of, pages_said}
 use Rattle.nb_top.proofs.LeftLaws.{made_event, left_creating, left_behind, shown_entry}
 use Rattle.nb_top.proofs.QuietRuns.{left_quietly}
 use Rattle.nb_top.proofs.RefusedRuns.{no_given, refused_event}

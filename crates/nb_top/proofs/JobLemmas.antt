@@ -1,12 +1,11 @@
 -- The plain words of a command line.
-use Rattle.std.proofs.Common.{◌≡◌, ℕ, ◌+◌, ◌++◌, Bool, true, false, not, ◌||◌, cond, List, [], ◌∷◌, take, drop, map, refl, sym, ◌∙◌, ap, arith}
-use Rattle.std.specs.Prelude.{Option, Some, None, Result, Ok, option_map, string_bytes, if◌then◌else◌}
+use Rattle.std.proofs.Common.{◌≡◌, ℕ, ◌+◌, ◌++◌, Bool, true, false, not, ◌||◌, cond, List, [], ◌∷◌, take, drop, map, refl, sym, ◌∙◌, ap}
+use Rattle.std.specs.Prelude.{Some, None}
 use Rattle.std.proofs.lemmas.Bool.{cond-true, cond-false}
 use Rattle.std.proofs.lemmas.List.{drop-drop}
 use Rattle.std.specs.List.{take-map, drop-map}
 use Rattle.std.specs.List.{position_or_len, list_any}
-use Rattle.nb_model.specs.declared.job.Job.{Job}
-use Rattle.nb_top.specs.Jobs.{job_of, job_of_some, job_of_plain, plain_words, is_dashes, is_flag}
+use Rattle.nb_top.specs.Jobs.{plain_words, is_dashes, is_flag}
 
 module _ {A : Type 0} (f : A → List ℕ) (p : List ℕ → Bool) where
   position-map : (xs : List A) → position_or_len p (map f xs) ≡ position_or_len (λ x. p (f x)) xs

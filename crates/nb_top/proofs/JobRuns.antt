@@ -1,6 +1,6 @@
 -- A job is done, from the words to its end.
-use Rattle.std.proofs.Common.{◌≡◌, ◌≢◌, ℕ, List, [], ◌∷◌, ◌++◌, Bool, refl, sym, ap, subst, ◌∙◌}
-use Rattle.std.specs.Prelude.{Result, Ok, Err, Option, Some, None, IfOk, OnOk, IsTrue}
+use Rattle.std.proofs.Common.{◌≡◌, ◌≢◌, ℕ, List, ◌++◌, refl, sym, ap, subst, ◌∙◌}
+use Rattle.std.specs.Prelude.{Result, Ok, Err, Option, Some, None, IfOk, OnOk}
 use Rattle.nb_host.specs.Files.{File, Files}
 use Rattle.nb_host.specs.World.{World}
 use Rattle.nb_host.specs.Crash.{Leaves}
@@ -14,17 +14,16 @@ use Rattle.nb_model.specs.Lines.{line_text}
 use Rattle.nb_model.specs.Output.{status_after}
 use Rattle.nb_model.proofs.TodoLaws.{status_refused}
 use Rattle.nb_script.specs.Asked.{IsAskable}
-use Rattle.nb_script.specs.Scripts.{Plan, script_of}
+use Rattle.nb_script.specs.Scripts.{Plan}
 use Rattle.nb_script.proofs.AskedLemmas.{answer_is_askable}
 use Rattle.nb_sched.specs.declared.stop.Stop.{Stop}
 use Rattle.nb_sched.specs.Says.{SaysLine}
 use Rattle.nb_model.specs.declared.job.Job.{Job}
-use Rattle.nb_model.specs.declared.job.Job.TheVariants.{Run}
 use Rattle.nb_top.specs.declared.status.Status.{Status}
-use Rattle.nb_top.specs.declared.status.Status.TheVariants.{Done, Refused as RefusedStatus, Device, Memory}
+use Rattle.nb_top.specs.declared.status.Status.TheVariants.{Refused as RefusedStatus, Device, Memory}
 use Rattle.nb_top.specs.Jobs.{job_of}
 use Rattle.nb_top.specs.Performed.{RunsTo, Performs, Finished, StandsFor, database_of, number_of, refused_job, script_in, script_of_job, script_asked}
-use Rattle.nb_top.proofs.QuietRuns.{runs_quietly, stands_quietly, left_quietly}
+use Rattle.nb_top.proofs.QuietRuns.{left_quietly}
 use Rattle.nb_top.proofs.RefusedRuns.{no_given, refused_runs}
 use Rattle.nb_top.proofs.ScriptRead.{refused_script}
 use Rattle.nb_top.proofs.ScriptRuns.{script_unbegun}

@@ -1,9 +1,8 @@
 -- What a stop leaves at the moments of a run.
-use Rattle.std.proofs.Common.{◌≡◌, ◌≢◌, ◌⊎◌, inl, inr, ⊎_elim, ℕ, zero, suc, ◌+◌, ◌-◌, ◌≤◌, List, [], ◌∷◌, ◌++◌, length, take, true, refl, sym, ap, subst, ◌∙◌, arith, length-append}
-use Rattle.std.specs.Prelude.{Bool, false, Option, None, Some, Ok, Err, nat_le}
+use Rattle.std.proofs.Common.{◌≡◌, inl, inr, ⊎_elim, ℕ, zero, suc, ◌+◌, ◌-◌, ◌≤◌, List, [], ◌∷◌, ◌++◌, length, take, true, refl, sym, ap, subst, ◌∙◌, arith}
+use Rattle.std.specs.Prelude.{Bool, false, Option, None, Some, Ok, nat_le}
 use Rattle.std.proofs.lemmas.List.{append-nil}
 use Rattle.nb_fields.specs.Free.{is_free_file}
-use Rattle.nb_fields.specs.Fresh.{fresh}
 use Rattle.nb_host.specs.Files.{File, Files}
 use Rattle.nb_host.specs.World.{World}
 use Rattle.nb_host.specs.Crash.{Leaves, Untouched}
@@ -12,7 +11,7 @@ use Rattle.nb_change.specs.Change.{IsOther, BothLeft}
 use Rattle.nb_change.proofs.MomentLaws.{left_before}
 use Rattle.nb_model.specs.declared.reply.Reply.TheVariants.{Pages}
 use Rattle.nb_model.specs.Image.{Image}
-use Rattle.nb_model.specs.Account.{Base, base_of, Entry, IsBase, Account}
+use Rattle.nb_model.specs.Account.{Base, base_of, IsBase, Account}
 use Rattle.nb_model.specs.Strokes.{Stroke, make, on_base, base_in, base_after, after}
 use Rattle.nb_model.specs.Lines.{line_text}
 use Rattle.nb_model.specs.Owner.{delta_name, owner, entry_of_files, entry_in}
@@ -22,7 +21,7 @@ use Rattle.nb_model.proofs.RunLaws.{entry_same}
 use Rattle.nb_model.proofs.StandsLaws.{opened_entry}
 use Rattle.nb_engine.specs.Open.{Shows}
 use Rattle.nb_engine.specs.Create.{CreateLeft}
-use Rattle.nb_sched.specs.Stops.{IsSaid, IsFront, StopLeft}
+use Rattle.nb_sched.specs.Stops.{IsSaid, StopLeft}
 use Rattle.nb_sched.proofs.EventLaws.{acked_none}
 use Rattle.nb_top.specs.Performed.{RunLeft, StandsAfter, StandsAsked, IsUnasked, pages_said}
 

@@ -1,12 +1,12 @@
 -- The length of a new database is said, and then turns are taken.
-use Rattle.std.proofs.Common.{◌≡◌, ℕ, List, [], ◌∷◌, ◌++◌, Bool, false, refl, sym, ap, ◌∙◌}
+use Rattle.std.proofs.Common.{◌≡◌, ℕ, List, ◌++◌, Bool, false, refl, sym, ap}
 use Rattle.std.specs.Prelude.{Result, Ok, Err}
 use Rattle.std.specs.Result.{IsErr}
 use Rattle.nb_host.specs.World.{World}
 use Rattle.nb_model.specs.declared.reply.Reply.TheVariants.{Pages}
 use Rattle.nb_model.specs.Strokes.{Stroke, base_after}
 use Rattle.nb_model.specs.Lines.{line_text}
-use Rattle.nb_model.specs.Run.{Event, Now, base_now, begun, play, rounds, strokes_of}
+use Rattle.nb_model.specs.Run.{Now, base_now, begun, play, rounds}
 use Rattle.nb_model.proofs.OutputLaws.{strokes_one}
 use Rattle.nb_script.specs.Asked.{IsAskable, statement_count}
 use Rattle.nb_script.specs.Scripts.{Plan}
@@ -14,7 +14,6 @@ use Rattle.nb_engine.specs.declared.opened.Opened.{Opened}
 use Rattle.nb_engine.specs.Open.{IsOpen}
 use Rattle.nb_sched.specs.declared.stop.Stop.{Stop}
 use Rattle.nb_sched.specs.Says.{SaysLine}
-use Rattle.nb_sched.specs.Stops.{Plays}
 use Rattle.nb_sched.specs.Todo.{PlaysWhole}
 use Rattle.nb_sched.proofs.EventLaws.{line_said, line_unsaid, open_still, said_played}
 use Rattle.nb_sched.proofs.PlayLaws.{IsAfter, plays_then, plays_failed, plays_cut}

@@ -1,20 +1,18 @@
 -- A run that is refused at once.
-use Rattle.std.proofs.Common.{◌≡◌, inl, ℕ, ◌≤◌, List, [], ◌∷◌, ◌++◌, length, take, refl, sym, ap, subst, ◌∙◌, arith}
+use Rattle.std.proofs.Common.{◌≡◌, inl, ℕ, List, [], ◌∷◌, ◌++◌, length, take, refl, sym, ap, subst, ◌∙◌, arith}
 use Rattle.std.specs.Prelude.{Result, Ok, Err, IfOk, OnOk, Option, None, Some, true}
 use Rattle.nb_host.specs.Files.{Files}
 use Rattle.nb_host.specs.World.{World}
 use Rattle.nb_host.specs.Crash.{Leaves}
-use Rattle.nb_host.specs.Moments.{AtEachMoment}
 use Rattle.nb_host.specs.declared.refusals.Refusal.{Refusal}
 use Rattle.nb_change.proofs.MomentLaws.{weaker}
-use Rattle.nb_model.specs.declared.reply.Reply.{Reply}
 use Rattle.nb_model.specs.declared.reply.Reply.TheVariants.{Refused}
 use Rattle.nb_model.specs.Account.{Account}
 use Rattle.nb_model.specs.Strokes.{Stroke}
 use Rattle.nb_model.specs.Lines.{line_text}
 use Rattle.nb_model.specs.Outcomes.{Given}
-use Rattle.nb_model.specs.Run.{Event, strokes_of, replies_of}
-use Rattle.nb_model.specs.Output.{output, acked, status_of, status_after}
+use Rattle.nb_model.specs.Run.{Event, strokes_of}
+use Rattle.nb_model.specs.Output.{status_after}
 use Rattle.nb_model.proofs.OutputLaws.{acked_most_strokes, strokes_one, output_one, status_one}
 use Rattle.nb_script.specs.Scripts.{Plan}
 use Rattle.nb_sched.specs.declared.stop.Stop.{Stop}

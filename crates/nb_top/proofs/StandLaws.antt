@@ -1,12 +1,12 @@
 -- The files stand for the account with a new database.
-use Rattle.std.proofs.Common.{◌≡◌, ◌≢◌, ◌⊎◌, inl, inr, ℕ, List, ◌++◌, true, false, refl, sym, ap, subst, ◌∙◌}
-use Rattle.std.specs.Prelude.{Bool, Option, None, Some, IsTrue, is_some}
+use Rattle.std.proofs.Common.{◌≡◌, ◌≢◌, ◌⊎◌, inl, inr, ℕ, List, true, false, sym, ap, subst, ◌∙◌}
+use Rattle.std.specs.Prelude.{None, Some, IsTrue, is_some}
 use Rattle.std.proofs.lemmas.List.{append_cancel_right}
 use Rattle.nb_host.specs.Files.{File, Files}
 use Rattle.nb_host.specs.Names.{is_delta, delta_suffix}
 use Rattle.nb_change.specs.Change.{IsOther}
 use Rattle.nb_change.proofs.NameLaws.{decide}
-use Rattle.nb_model.specs.Account.{Base, Entry, IsBase, Account, with_entry}
+use Rattle.nb_model.specs.Account.{Base, IsBase, Account, with_entry}
 use Rattle.nb_model.specs.Owner.{delta_name, entry_of_files, entry_in}
 use Rattle.nb_model.specs.Stands.{is_applying}
 use Rattle.nb_model.proofs.RunLaws.{entry_same}

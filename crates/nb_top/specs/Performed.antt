@@ -1,5 +1,5 @@
 -- What a run must do: the events of the job that the words name, and the account after.
-use Rattle.std.specs.Prelude.{◌≡◌, ◌≢◌, ◌⊎◌, ℕ, zero, suc, ◌≤◌, List, [], ◌∷◌, ◌++◌, length, take, Bool, Option, None, Some, Result, Ok, Err, IfOk, true}
+use Rattle.std.specs.Prelude.{◌≡◌, ◌≢◌, ◌⊎◌, ℕ, zero, suc, List, [], ◌∷◌, ◌++◌, length, take, Bool, Option, None, Some, Result, Ok, Err, IfOk, true}
 use Rattle.std.specs.Global.{Vec}
 use Rattle.nb_fields.specs.Free.{is_free_file}
 use Rattle.nb_host.specs.Files.{File, Files}
@@ -11,7 +11,6 @@ use Rattle.nb_host.specs.declared.faults.Fault.TheVariants.{Refused as RefusedFa
 use Rattle.nb_host.specs.declared.refusals.Refusal.{Refusal}
 use Rattle.nb_host.specs.declared.refusals.Refusal.TheVariants.{Usage, NoFile}
 use Rattle.nb_model.specs.declared.reply.Reply.TheVariants.{Refused, Pages}
-use Rattle.nb_model.specs.declared.statement.Statement.{Statement}
 use Rattle.nb_model.specs.declared.statement.Statement.TheVariants.{CreateDb, OpenDb}
 use Rattle.nb_model.specs.Account.{Account}
 use Rattle.nb_model.specs.Strokes.{Stroke, after}

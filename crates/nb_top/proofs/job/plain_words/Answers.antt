@@ -1,4 +1,4 @@
-use Rattle.std.proofs.Common.{sym, ◌∙◌, ap, ap₂, map, ◌++◌, List, ℕ}
+use Rattle.std.proofs.Common.{sym, ◌∙◌, ap, map, ◌++◌, List, ℕ}
 use Rattle.std.specs.Prelude.{string_bytes, Some}
 use Rattle.nb_top.proofs.JobLemmas.{with_flags, without_flags}
 use Rattle.nb_top.proofs.job.plain_words.Goals as goal

@@ -1,4 +1,4 @@
-use Rattle.std.proofs.Common.{◌≡◌, refl, sym, subst}
+use Rattle.std.proofs.Common.{refl, sym, subst}
 use Rattle.std.specs.Prelude.{Ok, Err, map, string_bytes}
 use Rattle.nb_top.specs.declared.status.Status.TheVariants.{Usage as UsageStatus}
 use Rattle.nb_top.specs.Performed.{RunsTo, script_asked}

@@ -1,4 +1,3 @@
-use Rattle.std.proofs.Common.{◌≡◌}
 use Rattle.nb_top.proofs.JobRuns.{performs_ended, performs_device, performs_memory}
 use Rattle.nb_top.proofs.program.run.Goals as goal
 

@@ -1,4 +1,4 @@
-use Rattle.std.proofs.Common.{◌≡◌, ap, sym, subst, ◌∙◌}
+use Rattle.std.proofs.Common.{◌≡◌, sym, subst}
 use Rattle.std.specs.Prelude.{Ok, Err}
 use Rattle.nb_host.specs.declared.faults.Fault.TheVariants.{Refused}
 use Rattle.nb_top.specs.Performed.{RunsTo, IsRead, script_in}

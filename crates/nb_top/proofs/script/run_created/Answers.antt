@@ -1,4 +1,4 @@
-use Rattle.std.proofs.Common.{◌≡◌, ap, sym, ◌∙◌}
+use Rattle.std.proofs.Common.{ap, ◌∙◌}
 use Rattle.nb_model.specs.declared.reply.Reply.TheVariants.{Pages}
 use Rattle.nb_model.specs.Lines.{line_text}
 use Rattle.nb_sched.proofs.SaysLaws.{says_other}
