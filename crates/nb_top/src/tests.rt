@@ -92,6 +92,31 @@ fn replies_of(host: &MemHost) -> usize {
     host.output().iter().filter(|byte| **byte == b'\n').count()
 }
 
+/// Whether the first script runs again as it should: to its end where no database was finished, and else the name isn't free.
+fn runs_again(alloc: Global, mut host: MemHost, whole: &MemHost) -> Result<bool, Fail> {
+    let is_free = is_unfinished(database(&host));
+    let status = run_text(alloc, &mut host, FIRST_RUN)?;
+    if is_free {
+        Ok(status == Status::Done && database(&host) == database(whole))
+    } else {
+        Ok(status == Status::Refused)
+    }
+}
+
+/// The first of the picks 0 to 7 by which a stop now leaves something wrong.
+fn wrong_pick(alloc: Global, host: &MemHost, hosts: &[MemHost; 4]) -> Result<Option<u64>, Fail> {
+    for pick in 0..8u64 {
+        let left = host.left(pick)?;
+        if is_kept(&left, replies_of(host), hosts) != Some(true) {
+            return Ok(Some(pick));
+        }
+        if !runs_again(alloc, left, &hosts[2])? {
+            return Ok(Some(pick));
+        }
+    }
+    Ok(None)
+}
+
 #[test]
 fn create_write_read(rt: HostRuntime) -> Result<(), Fail> {
     let mut host = MemHost::new(rt.alloc())?;
@@ -120,25 +145,9 @@ fn first_script_stopped(rt: HostRuntime) -> Result<(), Fail> {
     for stop in 1..=hosts[2].calls() {
         let mut host = MemHost::fused(alloc, stop)?;
         let status = run_text(alloc, &mut host, FIRST_RUN)?;
-        assert_eq!(rt; status, Status::Device, "stop {stop}");
-        assert_eq!(rt; host.calls(), stop);
+        assert_eq!(rt; (status, host.calls()), (Status::Device, stop));
         assert!(rt; hosts[2].output().starts_with(host.output()), "stop {stop}");
-        for pick in 0..8u64 {
-            let mut left = host.left(pick)?;
-            assert_eq!(rt;
-                is_kept(&left, replies_of(&host), &hosts),
-                Some(true),
-                "stop {stop}, pick {pick}"
-            );
-            // The script again: the name is free exactly where the creation was not finished.
-            let is_free = is_unfinished(database(&left));
-            let status = run_text(alloc, &mut left, FIRST_RUN)?;
-            assert_eq!(rt; status == Status::Done, is_free, "stop {stop}, pick {pick}");
-            assert!(rt;
-                !is_free || database(&left) == database(&hosts[2]),
-                "stop {stop}, pick {pick}"
-            );
-        }
+        assert_eq!(rt; wrong_pick(alloc, &host, &hosts)?, None, "stop {stop}");
     }
     Ok(())
 }
@@ -150,24 +159,26 @@ fn each_call_may_fail(rt: HostRuntime) -> Result<(), Fail> {
     for call in 1..=hosts[2].calls() {
         let mut host = MemHost::failing(alloc, &[call])?;
         let status = run_text(alloc, &mut host, FIRST_RUN)?;
-        assert_eq!(rt; status, Status::Device, "call {call}");
-        assert_eq!(rt; (host.calls(), host.fault_count()), (call, 1));
-        assert_eq!(rt; host.memory_count(), 0);
+        assert_eq!(rt; (status, host.calls()), (Status::Device, call));
+        assert_eq!(rt; (host.fault_count(), host.memory_count()), (1, 0));
         assert!(rt; hosts[2].output().starts_with(host.output()), "call {call}");
-        let replies = replies_of(&host);
-        assert_eq!(rt; is_kept(&host, replies, &hosts), Some(true), "call {call}");
-        for pick in 0..8u64 {
-            let left = host.left(pick)?;
-            assert_eq!(rt;
-                is_kept(&left, replies, &hosts),
-                Some(true),
-                "call {call}, pick {pick}"
-            );
-        }
+        assert_eq!(rt;
+            is_kept(&host, replies_of(&host), &hosts),
+            Some(true),
+            "call {call}"
+        );
+        assert_eq!(rt; wrong_pick(alloc, &host, &hosts)?, None, "call {call}");
     }
-    let mut host = MemHost::failing(alloc, &[1])?;
-    assert_eq!(rt; run_text(alloc, &mut host, FIRST_RUN)?, Status::Device);
-    assert!(rt; host.output().is_empty() && database(&host).is_none());
+    Ok(())
+}
+
+#[test]
+fn first_call_fails(rt: HostRuntime) -> Result<(), Fail> {
+    let mut host = MemHost::failing(rt.alloc(), &[1])?;
+    let status = run_text(rt.alloc(), &mut host, FIRST_RUN)?;
+    assert_eq!(rt; status, Status::Device);
+    assert!(rt; host.output().is_empty());
+    assert!(rt; database(&host).is_none());
     Ok(())
 }
 
