@@ -114,9 +114,9 @@ def build(folder):
     write(crate, "proofs/Lib.antt", "")
     write(crate, "proofs/found/Invariants.antt", INVARIANTS)
     built = os.path.join(crate, "out", "cache_bench")
-    subprocess.run(["rt", "run"], cwd=crate, stdout=subprocess.DEVNULL)
+    ran = subprocess.run(["rt", "run"], cwd=crate, stdout=subprocess.DEVNULL, stderr=subprocess.PIPE, text=True)
     if not os.access(built, os.X_OK):
-        sys.exit("the program was not built")
+        sys.exit(f"the program was not built:\n{ran.stderr}")
     return built
 
 
