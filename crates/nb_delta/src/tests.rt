@@ -77,23 +77,40 @@ fn difference_file_grows(rt: HostRuntime) -> Result<(), Fail> {
     Ok(())
 }
 
+/// What is read of two slots once the second is written again.
+fn written_again(alloc: Global, host: &mut MemHost) -> Result<(u8, u8), Fail> {
+    let mut delta = grown(alloc, host, 2)?;
+    delta.rewrite(host, 2, &[9; 1024], false)?;
+    let first = byte_in(host, &mut delta, 1)?;
+    let second = byte_in(host, &mut delta, 2)?;
+    Ok((first, second))
+}
+
+/// The page that the second entry names, and none where there is no such entry.
+fn second_entry(alloc: Global, host: &mut MemHost) -> Result<Option<u32>, Fail> {
+    let mut delta = grown(alloc, host, 2)?;
+    if delta.count() < 2 {
+        return Ok(None);
+    }
+    Ok(Some(delta.entry(host, 1)?))
+}
+
+/// The slot of a drafted entry, and how many entries there are before and after the file is taken away.
+fn drafted_and_cleared(alloc: Global, host: &mut MemHost) -> Result<(u32, u32, u32), Fail> {
+    let mut delta = grown(alloc, host, 2)?;
+    let slot = draft(host, &mut delta, 7)?;
+    let count = delta.count();
+    delta.clear(host)?;
+    Ok((slot, count, delta.count()))
+}
+
 #[test]
 fn slots_are_written_again(rt: HostRuntime) -> Result<(), Fail> {
     let mut host = MemHost::new(rt.alloc())?;
-    let mut delta = grown(rt.alloc(), &mut host, 2)?;
-    delta.rewrite(&mut host, 2, &[9; 1024], false)?;
-    assert_eq!(rt; byte_in(&mut host, &mut delta, 2)?, 9);
-    assert_eq!(rt; byte_in(&mut host, &mut delta, 1)?, 0);
-    if delta.count() == 2 {
-        assert_eq!(rt; delta.entry(&mut host, 1)?, 1);
-    }
-    assert_eq!(rt; draft(&mut host, &mut delta, 7)?, 3);
-    assert_eq!(rt; delta.count(), 3);
-    delta.clear(&mut host)?;
-    assert_eq!(rt;
-        (delta.count(), host.file(&name_of(NAME)?).is_none()),
-        (0, true)
-    );
+    assert_eq!(rt; written_again(rt.alloc(), &mut host)?, (0, 9));
+    assert_eq!(rt; second_entry(rt.alloc(), &mut host)?, Some(1));
+    assert_eq!(rt; drafted_and_cleared(rt.alloc(), &mut host)?, (3, 3, 0));
+    assert!(rt; host.file(&name_of(NAME)?).is_none());
     Ok(())
 }
 
@@ -170,6 +187,38 @@ fn fill_up(alloc: Global, host: &mut MemHost, name: &Name) -> Result<(), Fault> 
     Ok(())
 }
 
+/// Whether the file has the old table, or the new one with the page of its entry. The new one has to be there where it is done.
+fn is_old_or_new(
+    alloc: Global,
+    host: &mut MemHost,
+    name: &Name,
+    is_done: bool,
+) -> Result<bool, Fail> {
+    let mut delta = Delta::attach(alloc, host, name, 1024)?;
+    match delta.slot_of(host, 300)? {
+        None => Ok(delta.count() == 254 && !is_done),
+        Some(slot) => {
+            Ok(delta.count() == 255 && slot == 255 && byte_in(host, &mut delta, slot)? == 77)
+        }
+    }
+}
+
+/// The first of the picks 0 to 7 by which a stop now leaves another table.
+fn wrong_pick(
+    alloc: Global,
+    host: &MemHost,
+    name: &Name,
+    is_done: bool,
+) -> Result<Option<u64>, Fail> {
+    for pick in 0..8 {
+        let mut left = host.left(pick)?;
+        if !is_old_or_new(alloc, &mut left, name, is_done)? {
+            return Ok(Some(pick));
+        }
+    }
+    Ok(None)
+}
+
 #[test]
 fn a_stop_leaves_the_old_table_or_the_new(rt: HostRuntime) -> Result<(), Fail> {
     let name = name_of(NAME)?;
@@ -184,21 +233,11 @@ fn a_stop_leaves_the_old_table_or_the_new(rt: HostRuntime) -> Result<(), Fail> {
         let mut host = MemHost::fused(rt.alloc(), stop)?;
         host.put_file(&name, made.file(&name).unwrap_or(b""))?;
         let is_done = fill_up(rt.alloc(), &mut host, &name).is_ok();
-        assert_eq!(rt; is_done, stop == 8);
-        for pick in 0..8 {
-            let mut left = host.left(pick)?;
-            let mut delta = Delta::attach(rt.alloc(), &mut left, &name, 1024)?;
-            let is_new = delta.count() == 255;
-            assert!(rt;
-                is_new || (delta.count() == 254 && !is_done),
-                "stop {stop} pick {pick}"
-            );
-            let slot = delta.slot_of(&mut left, 300)?;
-            assert_eq!(rt; slot.is_some(), is_new);
-            if slot.is_some() {
-                assert_eq!(rt; byte_in(&mut left, &mut delta, 255)?, 77);
-            }
-        }
+        assert_eq!(rt;
+            (is_done, wrong_pick(rt.alloc(), &host, &name, is_done)?),
+            (stop == 8, None),
+            "stop {stop}"
+        );
     }
     Ok(())
 }
