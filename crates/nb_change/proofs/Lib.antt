@@ -1,5 +1,6 @@
 pub mod MomentLaws
 pub mod NameLaws
 pub mod ChangeLaws
+pub mod ApartLaws
 pub mod StrokeLaws
 pub mod ResultLaws
