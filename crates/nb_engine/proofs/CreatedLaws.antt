@@ -16,7 +16,7 @@ use Rattle.nb_page.specs.Quiet.{Quiet}
 use Rattle.nb_model.specs.Image.{Image}
 use Rattle.nb_model.specs.Account.{base_of}
 use Rattle.nb_model.specs.Owner.{delta_name}
-use Rattle.nb_model.proofs.FreshImageLaws.{fresh_length, fresh_size, fresh_scn, fresh_open}
+use Rattle.nb_model.proofs.FreshImageLaws.{fresh_length, fresh_size, fresh_scn, fresh_forced, fresh_open}
 use Rattle.nb_engine.specs.declared.opened.Opened.{Opened}
 use Rattle.nb_engine.specs.Create.{CreateLeft, Creates}
 use Rattle.nb_engine.specs.Open.{IsSettled, IsOpen}
@@ -44,12 +44,13 @@ failed result old new name image gives so_far taken =
 
 -- what is held of a new database agrees with it
 pub created : (size raw : ℕ) → IsTrue (is_page_size size) → (w : World) (name held_name : List ℕ) → held_name ≡ name → (count : ℕ) → count ≡ fresh_count size raw → IsSettled w name (base_of (fresh size raw))
-    → IsOpen w (record { name = held_name; page_size = size; count = count; scn = 1; read_only = false }) (base_of (fresh size raw))
+    → IsOpen w (record { name = held_name; page_size = size; count = count; scn = 1; forced = true; read_only = false }) (base_of (fresh size raw))
 created size raw is w name held_name same count count_is settled = record {
   settled = subst (λ (n : List ℕ). IsSettled w n (base_of (fresh size raw))) (sym same) settled;
   page_size = sym (fresh_size size raw is);
   count = count_is ∙ sym (fresh_length size raw);
   scn = sym (fresh_scn size raw);
+  forced = sym (fresh_forced size raw);
   read_only = sym (fresh_open size raw);
 }
 

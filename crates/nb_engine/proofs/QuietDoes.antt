@@ -33,6 +33,7 @@ open_quiet old new held b quiet is = record {
   page_size = is.page_size;
   count = is.count;
   scn = is.scn;
+  forced = is.forced;
   read_only = is.read_only;
 }
 

@@ -15,7 +15,7 @@ use Rattle.nb_host.specs.declared.refusals.Refusal.{Refusal}
 use Rattle.nb_page.specs.Quiet.{Quiet}
 use Rattle.nb_change.specs.Change.{Advances, Reached}
 use Rattle.nb_change.proofs.ChangeLaws.{composed}
-use Rattle.nb_model.specs.Image.{Page, Image, page_at, image_size, image_scn, is_read_only}
+use Rattle.nb_model.specs.Image.{Page, Image, page_at, image_size, image_scn, is_forced, is_read_only}
 use Rattle.nb_model.specs.Account.{Base}
 use Rattle.nb_model.specs.Strokes.{Stroke, page, on_base, base_after}
 use Rattle.nb_model.specs.Owner.{delta_name}
@@ -42,6 +42,7 @@ open_stroked old new held b p bytes is some low settled =
       page_size = is.page_size ∙ ap (λ (x : Page). Rattle.nb_fields.specs.Header.size_of x) first;
       count = is.count ∙ sym (stroke_long b p bytes low);
       scn = is.scn ∙ ap (λ (x : Page). Rattle.nb_fields.specs.Header.scn_of x) first;
+      forced = is.forced ∙ ap (λ (x : Page). is_forced (x ∷ [])) first;
       read_only = is.read_only ∙ ap (λ (x : Page). is_read_only (x ∷ [])) first;
     }
 

@@ -2,7 +2,7 @@
 use Rattle.std.specs.Prelude.{◌≡◌, ℕ, List, length, Ok}
 use Rattle.nb_host.specs.World.{World}
 use Rattle.nb_change.specs.Change.{Both, LeavesBoth}
-use Rattle.nb_model.specs.Image.{image_state, image_size, image_scn, is_read_only}
+use Rattle.nb_model.specs.Image.{image_state, image_size, image_scn, is_forced, is_read_only}
 use Rattle.nb_model.specs.Account.{Base, base_of}
 use Rattle.nb_model.specs.Owner.{delta_name, owner}
 use Rattle.nb_engine.specs.declared.opened.Opened.{Opened}
@@ -23,4 +23,5 @@ pub record IsOpen (w : World) (held : Opened) (base : Base) : Type 0 where
   pub page_size : held.page_size ≡ image_size base.image
   pub count : held.count ≡ length base.image
   pub scn : held.scn ≡ image_scn base.image
+  pub forced : held.forced ≡ is_forced base.image
   pub read_only : held.read_only ≡ is_read_only base.image

@@ -74,6 +74,7 @@ pub fn create_file<H: Host>(
         page_size,
         count,
         scn: FIRST_SCN,
+        forced: true,
         read_only: false,
     })
 }

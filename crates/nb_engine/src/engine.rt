@@ -24,9 +24,11 @@ use std::marker::Model;
 /// An open database and the buffers of its pages. Contracts see what is held of the database.
 #[derive(Drop)]
 pub struct Engine {
-    opened: Opened,
-    page: Vec<u8>,
-    system: Vec<u8>,
+    pub(crate) opened: Opened,
+    /// Room for one page each: the page that is changed, an SCN inventory page, and a page inventory page.
+    pub(crate) page: Vec<u8>,
+    pub(crate) system: Vec<u8>,
+    pub(crate) map: Vec<u8>,
 }
 
 impl Model for Engine {
@@ -38,7 +40,7 @@ impl Model for Engine {
 
     ghost view = { λ e. e.opened };
 
-    ghost invariant = { λ e. IsTrue (is_page_size e.opened.page_size) × (e.opened.count ≤ 1048576) × (vec_len e.page ≡ e.opened.page_size) × (vec_len e.system ≡ e.opened.page_size) };
+    ghost invariant = { λ e. IsTrue (is_page_size e.opened.page_size) × (e.opened.count ≤ 1048576) × (vec_len e.page ≡ e.opened.page_size) × (vec_len e.system ≡ e.opened.page_size) × (vec_len e.map ≡ e.opened.page_size) };
 }
 
 /// Tests what `write` tests of a taken raw page: that the database may be changed, and that the text fits.
@@ -76,11 +78,13 @@ impl Engine {
     {
         let mut page = vec![in alloc; 0; page_size as usize]?;
         let system = vec![in alloc; 0; page_size as usize]?;
+        let map = vec![in alloc; 0; page_size as usize]?;
         let opened = create_file(host, name, &mut page, raw)?;
         Ok(Engine {
             opened,
             page,
             system,
+            map,
         })
     }
 

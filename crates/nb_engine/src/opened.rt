@@ -10,6 +10,8 @@ pub struct Opened {
     pub(crate) count: u32,
     /// The current SCN.
     pub(crate) scn: u32,
+    /// Each page write is kept for good before the next.
+    pub(crate) forced: bool,
     /// No statement may change a page.
     pub(crate) read_only: bool,
 }

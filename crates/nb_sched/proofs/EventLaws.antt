@@ -64,6 +64,7 @@ open_still old new held b still opened = record {
   page_size = opened.page_size;
   count = opened.count;
   scn = opened.scn;
+  forced = opened.forced;
   read_only = opened.read_only;
 }
 
