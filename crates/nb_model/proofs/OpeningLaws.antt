@@ -19,7 +19,7 @@ use Rattle.nb_host.specs.declared.refusals.Refusal.TheVariants.{FileExists, Unfi
 use Rattle.nb_model.specs.declared.reply.Reply.{Reply}
 use Rattle.nb_model.specs.declared.reply.Reply.TheVariants.{Done, Pages, Refused}
 use Rattle.nb_model.specs.declared.statement.Statement.{Statement}
-use Rattle.nb_model.specs.declared.statement.Statement.TheVariants.{CreateDb, PageNew, Write, Read, Free, Forced, Access, Sync, ShowHeader}
+use Rattle.nb_model.specs.declared.statement.Statement.TheVariants.{CreateDb, OpenDb, PageNew, Write, Read, Free, Forced, Access, Sync, ShowHeader}
 use Rattle.nb_model.specs.Image.{Image}
 use Rattle.nb_model.specs.Account.{Base, base_of, Kept, Entry, Missing, Plain, IsBase, Account, with_entry}
 use Rattle.nb_model.specs.Strokes.{Stroke, make, page, begin, ends, finish, fix, merge, on_base, records_of, base_in, base_after, records_after}
@@ -288,8 +288,11 @@ not_built h = cc
 pub built_paged : (statement : Statement) → IsTrue (is_built statement) → IsPaged statement
 unfolding first_turn
 built_paged (CreateDb name size raw cache) h = λ s k. record { made = refl; pages = tt; next = refl }
+built_paged (OpenDb name cache) h = λ s k. record { made = refl; pages = tt; next = refl }
+built_paged PageNew h = new_paged
 built_paged (Write p text) h = write_paged p text
 built_paged (Read p) h = read_paged p
+built_paged (Free p) h = free_paged p
 built_paged other h = absurd (not_built h)
 
 -- what sessions have to do writes pages alone

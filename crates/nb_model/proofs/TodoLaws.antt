@@ -10,7 +10,7 @@ use Rattle.nb_host.specs.declared.refusals.Refusal.TheVariants.{Usage}
 use Rattle.nb_model.specs.declared.reply.Reply.{Reply}
 use Rattle.nb_model.specs.declared.reply.Reply.TheVariants.{Done, Refused}
 use Rattle.nb_model.specs.declared.statement.Statement.{Statement}
-use Rattle.nb_model.specs.declared.statement.Statement.TheVariants.{CreateDb, PageNew, Write, Read, Free, BeginBackup, CreateTable, DropTable, Insert, Update, Delete, Get, Scan, Forced, Access as SetAccess, Sync, ShowHeader, ShowPages, ShowImage, ShowCache}
+use Rattle.nb_model.specs.declared.statement.Statement.TheVariants.{CreateDb, OpenDb, PageNew, Write, Read, Free, BeginBackup, CreateTable, DropTable, Insert, Update, Delete, Get, Scan, Forced, Access as SetAccess, Sync, ShowHeader, ShowPages, ShowImage, ShowCache}
 use Rattle.nb_model.specs.Image.{Image}
 use Rattle.nb_model.specs.Forms.{Draft}
 use Rattle.nb_model.specs.Built.{is_built}
@@ -144,8 +144,11 @@ not_built h = cc
 pub built_single : (statement : Statement) → IsTrue (is_built statement) → IsSingle statement
 unfolding first_turn
 built_single (CreateDb name size raw cache) h = λ s k. refl
+built_single (OpenDb name cache) h = λ s k. refl
+built_single PageNew h = new_single
 built_single (Write p text) h = write_single p text
 built_single (Read p) h = read_single p
+built_single (Free p) h = free_single p
 built_single other h = absurd (not_built h)
 
 -- one number of an order: the session takes the first turn that it has to do, and where it has none it does nothing
@@ -489,6 +492,9 @@ read_never_usage s session p = guarded_other s _ _ (other_first _ (other_raw s.b
 pub built_never_usage : (statement : Statement) → IsTrue (is_built statement) → (s : Seen) (session : ℕ) → (first_turn s session statement).reply ≢ Some (Refused Usage)
 unfolding first_turn
 built_never_usage (CreateDb name size raw cache) h = λ s session e. cc
+built_never_usage (OpenDb name cache) h = λ s session e. cc
+built_never_usage PageNew h = λ s session. new_never_usage s session
+built_never_usage (Free p) h = λ s session. free_never_usage s session p
 built_never_usage (Write p text) h = λ s session. write_never_usage s session p text
 built_never_usage (Read p) h = λ s session. read_never_usage s session p
 built_never_usage other h = absurd (not_built h)

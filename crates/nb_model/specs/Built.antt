@@ -6,11 +6,11 @@ use Rattle.nb_model.specs.declared.statement.Statement.TheVariants.{CreateDb, Op
 -- this statement, of any session
 abbrev pub is_built : Statement → Bool
 is_built (CreateDb name page_size raw cache) = true
-is_built (OpenDb name cache) = false
-is_built PageNew = false
+is_built (OpenDb name cache) = true
+is_built PageNew = true
 is_built (Write page text) = true
 is_built (Read page) = true
-is_built (Free page) = false
+is_built (Free page) = true
 is_built BeginBackup = false
 is_built EndBackup = false
 is_built (Backup level name) = false

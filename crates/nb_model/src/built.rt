@@ -8,7 +8,12 @@ pub fn is_built(statement: &Statement) -> bool
     ensures { result ≡ built statement.now }
 {
     match statement {
-        Statement::CreateDb { .. } | Statement::Write { .. } | Statement::Read { .. } => true,
+        Statement::CreateDb { .. }
+        | Statement::OpenDb { .. }
+        | Statement::PageNew
+        | Statement::Write { .. }
+        | Statement::Read { .. }
+        | Statement::Free { .. } => true,
         _ => false,
     }
 }

@@ -1,11 +1,10 @@
 -- Turns behind turns.
-use Rattle.std.proofs.Common.{◌≡◌, ℕ, List, [], ◌++◌, Bool, true, false, refl, sym, ap, subst, ◌∙◌, ◌≤◌, length, arith, append_assoc}
+use Rattle.std.proofs.Common.{◌≡◌, ◌≢◌, ℕ, List, [], ◌++◌, Bool, true, false, refl, sym, ap, subst, ◌∙◌, ◌≤◌, length, arith, append_assoc}
 use Rattle.std.specs.Prelude.{Ok, Err, ◌||◌, if◌then◌else◌, max}
 use Rattle.std.proofs.lemmas.List.{append-nil}
 use Rattle.nb_host.specs.World.{World}
 use Rattle.nb_host.specs.Crash.{Untouched}
 use Rattle.nb_host.specs.Moments.{IsTimely, AtEachMoment}
-use Rattle.nb_change.specs.Change.{IsOther}
 use Rattle.nb_change.proofs.MomentLaws.{started, joined, weaker, untouched_joined, untouched_begun}
 use Rattle.nb_model.specs.Account.{Base}
 use Rattle.nb_model.specs.Strokes.{base_after}
@@ -55,7 +54,7 @@ either_refused false false = refl
 
 module _ (old mid new : World) (e0 e1 e2 : Opened) (now : Now) (p q : Played) (is_after : IsAfter now p) where
   stops_then : AtEachMoment old mid (StopLeft old e0.name (base_now now) p.0) → AtEachMoment mid new (StopLeft mid e1.name (base_now p.1) q.0) → e1.name ≡ e0.name → mid.said ≡ old.said ++ output p.0
-      → Untouched old mid (IsOther e0.name (delta_name e0.name)) → AtEachMoment old new (StopLeft old e0.name (base_now now) (p.0 ++ q.0))
+      → Untouched old mid (λ m. m ≢ e0.name) → AtEachMoment old new (StopLeft old e0.name (base_now now) (p.0 ++ q.0))
   stops_then first second same said others =
       joined old mid new _ _ _ first second
       (λ files s left. stop_more old e0.name (base_now now) p.0 q.0 files s left)
@@ -63,14 +62,14 @@ module _ (old mid new : World) (e0 e1 e2 : Opened) (now : Now) (p q : Played) (i
       (subst (λ (b : Base). StopLeft mid e0.name b q.0 files s) is_after.is (subst (λ (n : List ℕ). StopLeft mid n (base_now p.1) q.0 files s) same left)))
 
   abbrev Others : World → World → List ℕ → Type 0
-  Others a b name = Untouched a b (IsOther name (delta_name name))
+  Others a b name = Untouched a b (λ m. m ≢ name)
 
   others_then : Others old mid e0.name → Others mid new e1.name → e1.name ≡ e0.name → Others old new e0.name
   others_then first second same = untouched_joined old mid new _ first (subst (λ (n : List ℕ). Others mid new n) same second)
 
-  read_then : ((m : List ℕ) → IsOther e0.name (delta_name e0.name) m → mid.files m ≡ old.files m) → ((m : List ℕ) → IsOther e1.name (delta_name e1.name) m → new.files m ≡ mid.files m) → e1.name ≡ e0.name
-      → (m : List ℕ) → IsOther e0.name (delta_name e0.name) m → new.files m ≡ old.files m
-  read_then first second same m other = second m (subst (λ (n : List ℕ). IsOther n (delta_name n) m) (sym same) other) ∙ first m other
+  read_then : ((m : List ℕ) → m ≢ e0.name → mid.files m ≡ old.files m) → ((m : List ℕ) → m ≢ e1.name → new.files m ≡ mid.files m) → e1.name ≡ e0.name
+      → (m : List ℕ) → m ≢ e0.name → new.files m ≡ old.files m
+  read_then first second same m other = second m (λ e. other (e ∙ same)) ∙ first m other
 
   -- both to their end
   pub plays_then : (a b : Bool) → Plays (Ok a) old mid e0 e1 now p → Plays (Ok b) mid new e1 e2 p.1 q → Plays (Ok (a || b)) old new e0 e2 now (behind p q)

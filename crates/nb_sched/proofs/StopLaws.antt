@@ -1,9 +1,8 @@
 -- How what a stop leaves goes on from turn to turn.
-use Rattle.std.proofs.Common.{◌≡◌, ℕ, ◌+◌, ◌≤◌, List, ◌++◌, length, take, sym, ap, subst, ◌∙◌, arith, append_assoc, length-append, length-take}
+use Rattle.std.proofs.Common.{◌≡◌, ◌≢◌, ℕ, ◌+◌, ◌≤◌, List, ◌++◌, length, take, sym, ap, subst, ◌∙◌, arith, append_assoc, length-append, length-take}
 use Rattle.nb_host.specs.Files.{Files}
 use Rattle.nb_host.specs.World.{World}
 use Rattle.nb_host.specs.Crash.{Untouched}
-use Rattle.nb_change.specs.Change.{IsOther}
 use Rattle.nb_change.proofs.MomentLaws.{left_before}
 use Rattle.nb_model.specs.Account.{Base}
 use Rattle.nb_model.specs.Strokes.{Stroke, base_after}
@@ -34,7 +33,7 @@ stop_more old name base es fs files said left =
     }
 
 -- events behind events
-pub stop_then : (old mid : World) (name : List ℕ) (base : Base) (es fs : List Event) (files : Files) (said : List ℕ) → mid.said ≡ old.said ++ output es → Untouched old mid (IsOther name (delta_name name))
+pub stop_then : (old mid : World) (name : List ℕ) (base : Base) (es fs : List Event) (files : Files) (said : List ℕ) → mid.said ≡ old.said ++ output es → Untouched old mid (λ m. m ≢ name)
     → StopLeft mid name (base_after base (strokes_of es)) fs files said → StopLeft old name base (es ++ fs) files said
 stop_then old mid name base es fs files said silent same left =
     let part : List ℕ = output es ++ left.out.part in

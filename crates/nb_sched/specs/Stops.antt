@@ -1,10 +1,9 @@
 -- What a stop leaves while turns are taken, and what they did.
-use Rattle.std.specs.Prelude.{◌≡◌, ℕ, ◌≤◌, List, ◌++◌, length, take, Bool, Result, IfOk, if◌then◌else◌}
+use Rattle.std.specs.Prelude.{◌≡◌, ◌≢◌, ℕ, ◌≤◌, List, ◌++◌, length, take, Bool, Result, IfOk, if◌then◌else◌}
 use Rattle.nb_host.specs.Files.{Files}
 use Rattle.nb_host.specs.World.{World}
 use Rattle.nb_host.specs.Crash.{Leaves, Untouched}
 use Rattle.nb_host.specs.Moments.{AtEachMoment}
-use Rattle.nb_change.specs.Change.{IsOther}
 use Rattle.nb_model.specs.Account.{Base}
 use Rattle.nb_model.specs.Strokes.{base_after}
 use Rattle.nb_model.specs.Owner.{delta_name}
@@ -32,7 +31,7 @@ pub record StopLeft (old : World) (name : List ℕ) (base : Base) (events : List
   pub count : ℕ
   pub front : IsFront events (length out.part) count
   pub database : Shows name (base_after base (take count (strokes_of events))) (files name) (files (delta_name name))
-  pub others : (m : List ℕ) → IsOther name (delta_name name) m → Leaves old m (files m)
+  pub others : (m : List ℕ) → m ≢ name → Leaves old m (files m)
 
 -- Turns were taken to their end: the database is open as they leave it, all their lines were said, and whether one was refused.
 pub record PlayedOut (refused : Bool) (old new : World) (held : Opened) (played : Played) : Type 0 where
@@ -43,7 +42,7 @@ pub record PlayedOut (refused : Bool) (old new : World) (held : Opened) (played 
 -- Turns were taken, or some of them until a call of the host failed or memory ran out.
 pub record Plays (result : Result Bool Stop) (old new : World) (before after : Opened) (now : Now) (played : Played) : Type 0 where
   pub stops : AtEachMoment old new (StopLeft old before.name (base_now now) played.0)
-  pub others : Untouched old new (IsOther before.name (delta_name before.name))
-  pub others_read : (name : List ℕ) → IsOther before.name (delta_name before.name) name → new.files name ≡ old.files name
+  pub others : Untouched old new (λ m. m ≢ before.name)
+  pub others_read : (m : List ℕ) → m ≢ before.name → new.files m ≡ old.files m
   pub name : after.name ≡ before.name
   pub done : IfOk result (λ refused. PlayedOut refused old new after played)
