@@ -21,7 +21,7 @@ use Rattle.nb_model.proofs.PutSound.{HasHeader, Held, header_fields}
 use Rattle.nb_model.proofs.PastLaws.{no_history, page_past}
 
 -- bytes of zeros spell 0
-all_zeros : (bytes : List ℕ) → is_zeros bytes ≡ true → bytes ≡ replicate (length bytes) 0
+pub all_zeros : (bytes : List ℕ) → is_zeros bytes ≡ true → bytes ≡ replicate (length bytes) 0
 all_zeros [] h = refl
 all_zeros (b ∷ bs) h =
     let parts = and_parts (b == 0) (is_zeros bs) h in

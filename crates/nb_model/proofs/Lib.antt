@@ -32,3 +32,6 @@ pub mod StandsLaws
 pub mod OutputLaws
 pub mod TodoLaws
 pub mod OpeningLaws
+pub mod WellLaws
+pub mod PlayLaws
+pub mod EntryLaws

@@ -64,7 +64,7 @@ in_use bytes header state =
     ∙ ap (λ (t : Bool). t && state_of bytes == 3 && is_zeros (pending_of bytes)) header ∙ ap (λ (t : Bool). true && t && is_zeros (pending_of bytes)) state
 
 -- the name of a file that is opened isn't free
-opened_in_use : (name bytes : List ℕ) (delta : File) (b : Base) → owner name (Some bytes) delta ≡ Ok b → is_free_file (Some bytes) ≡ false
+pub opened_in_use : (name bytes : List ℕ) (delta : File) (b : Base) → owner name (Some bytes) delta ≡ Ok b → is_free_file (Some bytes) ≡ false
 opened_in_use name bytes delta b opens = by (not_database bytes) refl
   where
     by : (c : Cause) → not_database bytes ≡ c → is_free_file (Some bytes) ≡ false
@@ -236,7 +236,7 @@ IsPaged statement = (s : Seen) (session : ℕ) → WritesPages (first_turn s ses
 refuses_paged : (s : Seen) (r : Refusal) → WritesPages (says s (Refused r) [])
 refuses_paged s r = record { made = refl; pages = tt; next = refl }
 
-guarded_paged : (s : Seen) (c : Cause) (o : Outcome) → WritesPages o → WritesPages (unless s c o)
+pub guarded_paged : (s : Seen) (c : Cause) (o : Outcome) → WritesPages o → WritesPages (unless s c o)
 unfolding unless
 guarded_paged s None o h = h
 guarded_paged s (Some r) o h = refuses_paged s r
@@ -317,7 +317,7 @@ pub first_paged : (now : Now) (sessions : List (List Statement)) → now.todo �
 first_paged now sessions is paged i =
     subst (AllByRecursion IsPagedTurn) (sym (ap (λ (todo : List (List Turn)). get_or todo i []) is ∙ get_or-map (map Begins) sessions i [])) (begun_paged (get_or sessions i []) (paged i))
 
-paged_single : (t : Turn) → IsPagedTurn t → IsSingleTurn t
+pub paged_single : (t : Turn) → IsPagedTurn t → IsSingleTurn t
 paged_single (Begins statement) h = λ s session. (h s session).next
 paged_single Copies h = absurd h
 paged_single (ClosesBackup backing) h = absurd h

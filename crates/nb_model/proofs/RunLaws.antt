@@ -58,7 +58,7 @@ unfolding take_turn
 taken_is session [] now = sym (strokes_none (base_now now))
 taken_is session (t ∷ rest) now = turn_stands session rest (outcome session t now) now ∙ ap (base_after (base_now now)) (sym (strokes_of_one (event_of session t (outcome session t now))))
 
-one_is : (session : ℕ) (now : Now) → base_now (one_turn session now).1 ≡ base_after (base_now now) (strokes_of (one_turn session now).0)
+pub one_is : (session : ℕ) (now : Now) → base_now (one_turn session now).1 ≡ base_after (base_now now) (strokes_of (one_turn session now).0)
 unfolding one_turn
 one_is session now = taken_is session (slice_index_or now.todo (session - 1) []) now
 

@@ -23,7 +23,7 @@ use Rattle.nb_model.proofs.SoundLaws.{header_kind}
 use Rattle.nb_model.proofs.RunLaws.{same_self, entry_same}
 
 -- two names are the same or not
-names_tell : (m n : List ℕ) → (m ≡ n) ⊎ (m ≢ n)
+pub names_tell : (m n : List ℕ) → (m ≡ n) ⊎ (m ≢ n)
 names_tell m n = by_test (same_name m n) refl
   where
     by_test : (t : Bool) → t ≡ same_name m n → (m ≡ n) ⊎ (m ≢ n)
@@ -74,17 +74,17 @@ unfolding number_in number_of begins_level
 no_level_begins [] h = refl
 no_level_begins (b ∷ bs) h = let e : b ≡ 1 = omega arith in rw e refl
 
-not_level : (bytes : List ℕ) → begins_level bytes ≡ false → read_level bytes ≡ Err 0
+pub not_level : (bytes : List ℕ) → begins_level bytes ≡ false → read_level bytes ≡ Err 0
 unfolding read_level first_fault
 not_level bytes e = rw (e, read_level) refl
 
-header_no_level : (bytes : List ℕ) (c : Contents) → is_header bytes ≡ true → read_level bytes ≡ Ok c → ⊥
+pub header_no_level : (bytes : List ℕ) (c : Contents) → is_header bytes ≡ true → read_level bytes ≡ Ok c → ⊥
 header_no_level bytes c is reads = ok_err (read_level bytes) reads (not_level bytes (no_level_begins bytes (header_kind bytes is)))
   where
     ok_err : (x : Result Contents ℕ) → x ≡ Ok c → x ≡ Err 0 → ⊥
     ok_err x a b = cc
 
-applying_state : (bytes : List ℕ) → IsTrue (is_applying bytes) → state_of bytes ≡ 3
+pub applying_state : (bytes : List ℕ) → IsTrue (is_applying bytes) → state_of bytes ≡ 3
 applying_state bytes is = eqb-true (state_of bytes) 3 (and_parts (is_header bytes) (state_of bytes == 3) is).1
 
 -- the entry of a file that is opened

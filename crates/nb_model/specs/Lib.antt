@@ -23,6 +23,7 @@ pub mod Sound
 pub mod Restoring
 pub mod InPlace
 pub mod Stands
+pub mod Well
 pub mod Waiting
 pub mod Pagewise
 pub mod Words

@@ -1,0 +1,68 @@
+-- What is kept true of a database in the normal state, and of which statements.
+use Rattle.std.specs.Prelude.{◌≡◌, ℕ, ◌<◌, List, [], take, Bool, true, false}
+use Rattle.nb_fields.specs.Header.{is_header}
+use Rattle.nb_model.specs.declared.statement.Statement.{Statement}
+use Rattle.nb_model.specs.declared.statement.Statement.TheVariants.{CreateDb, OpenDb, PageNew, Write, Read, Free, BeginBackup, EndBackup, Backup, BackupSince, CopyTo, CreateTable, DropTable, Insert, Update, Delete, Get, Scan, Forced, Access, Sync, ShowHeader, ShowPages, ShowImage, ShowCache}
+use Rattle.nb_model.specs.Image.{Image, first_page, image_state, image_scn}
+use Rattle.nb_model.specs.Account.{Kept, Base, base_of}
+use Rattle.nb_model.specs.Strokes.{Stroke, base_after, records_after}
+use Rattle.nb_model.specs.Outcomes.{Turn, Begins, Copies, ClosesBackup, ClosesCopy, Ends, Merges, Finishes}
+use Rattle.nb_model.specs.Sound.{IsSoundImage}
+use Rattle.nb_model.specs.Stands.{NamesItsPast}
+
+-- The image has a header in the normal state, is sound, and names backups that are kept.
+pub record IsWell (kept : List Kept) (image : Image) : Type 0 where
+  pub header : is_header (first_page image) ≡ true
+  pub scn : image_scn image < 4294967296
+  pub state : image_state image ≡ 0
+  pub sound : IsSoundImage image
+  pub past : NamesItsPast kept image
+
+-- such an image is all of the database
+pub record IsWellBase (kept : List Kept) (b : Base) : Type 0 where
+  pub told : b ≡ base_of b.image
+  pub well : IsWell kept b.image
+
+-- After each front of the strokes the database is well, and they keep no record of a backup.
+pub record StaysWell (kept : List Kept) (b : Base) (strokes : List Stroke) : Type 0 where
+  pub well : (k : ℕ) → IsWellBase kept (base_after b (take k strokes))
+  pub records : (k : ℕ) → records_after b (take k strokes) ≡ []
+
+-- A statement on raw pages or on a byte of the header, or one that only reads. Behind the first statement of a run, creating and
+-- opening do nothing.
+abbrev pub is_on_pages : Statement → Bool
+is_on_pages (CreateDb name page_size raw cache) = true
+is_on_pages (OpenDb name cache) = true
+is_on_pages PageNew = true
+is_on_pages (Write page text) = true
+is_on_pages (Read page) = true
+is_on_pages (Free page) = true
+is_on_pages BeginBackup = false
+is_on_pages EndBackup = false
+is_on_pages (Backup level name) = false
+is_on_pages (BackupSince guid name) = false
+is_on_pages (CopyTo name) = false
+is_on_pages (CreateTable table) = false
+is_on_pages (DropTable table) = false
+is_on_pages (Insert table key text) = false
+is_on_pages (Update table key text) = false
+is_on_pages (Delete table key) = false
+is_on_pages (Get table key) = false
+is_on_pages (Scan table) = false
+is_on_pages (Forced on) = true
+is_on_pages (Access read_only) = true
+is_on_pages Sync = true
+is_on_pages ShowHeader = true
+is_on_pages ShowPages = true
+is_on_pages ShowImage = true
+is_on_pages ShowCache = true
+
+-- a turn that begins such a statement
+abbrev pub IsTurnOnPages : Turn → Type 0
+IsTurnOnPages (Begins statement) = is_on_pages statement ≡ true
+IsTurnOnPages Copies = ⊥
+IsTurnOnPages (ClosesBackup backing) = ⊥
+IsTurnOnPages (ClosesCopy name) = ⊥
+IsTurnOnPages (Ends reply) = ⊥
+IsTurnOnPages Merges = ⊥
+IsTurnOnPages (Finishes reply) = ⊥
