@@ -1,6 +1,6 @@
 -- The files go on to stand for the account where the file of one name changes.
-use Rattle.std.proofs.Common.{◌≡◌, ◌≢◌, ◌⊎◌, inl, inr, ℕ, ◌-◌, ◌≤◌, List, [], ◌∷◌, length, take, drop, replicate, refl, sym, ap, subst, ◌∙◌, arith, length-drop, length-take-le}
-use Rattle.std.specs.Prelude.{Bool, true, false, ◌&&◌, ◌==◌, Option, Some, None, Result, Ok, Err, IsTrue, is_some, Contains}
+use Rattle.std.proofs.Common.{◌≡◌, ◌≢◌, ◌⊎◌, inl, inr, ℕ, List, [], ◌∷◌, length, take, drop, replicate, refl, sym, ap, subst, ◌∙◌, arith, length-drop, length-take-le}
+use Rattle.std.specs.Prelude.{true, false, ◌&&◌, ◌==◌, Some, None, Result, Ok, Err, IsTrue, is_some, Contains}
 use Rattle.std.proofs.lemmas.Bool.{true≢false, and_parts, or_cases, eqb-true}
 use Rattle.nb_fields.specs.Bytes.{is_zeros}
 use Rattle.nb_fields.specs.Free.{is_unfinished, is_free_file}
@@ -21,7 +21,7 @@ use Rattle.nb_model.proofs.HeaderLaws.{header-long, header-other}
 use Rattle.nb_model.proofs.MainLaws.{main_of_owner}
 use Rattle.nb_model.proofs.OpeningLaws.{opened_in_use}
 use Rattle.nb_model.proofs.RunLaws.{entry_same}
-use Rattle.nb_model.proofs.StandsLaws.{names_tell, no_main, entry_other, not_level, header_no_level, applying_state, stands_with_database}
+use Rattle.nb_model.proofs.StandsLaws.{names_tell, no_main, entry_other, not_level, header_no_level, stands_with_database}
 
 -- The file becomes that of a well database, whatever stood under the name before.
 pub stands_with_well : (old new : Files) (account : Account) (name : List ℕ) (image : Image)

@@ -1,5 +1,5 @@
 -- A well database stays well at each moment of a statement on pages.
-use Rattle.std.proofs.Common.{◌≡◌, ◌≢◌, inl, inr, ℕ, zero, suc, ◌+◌, ◌<◌, ◌≤◌, List, [], ◌∷◌, length, take, refl, sym, subst, ◌∙◌, arith}
+use Rattle.std.proofs.Common.{◌≡◌, ◌≢◌, inl, inr, ℕ, zero, suc, ◌+◌, ◌<◌, ◌≤◌, List, [], length, take, refl, sym, subst, ◌∙◌, arith}
 use Rattle.std.specs.Prelude.{Bool, true, false, nat_lt, Some, None, IsTrue}
 use Rattle.std.specs.List.{flat_map}
 use Rattle.std.proofs.lemmas.Bool.{true≢false}
@@ -8,14 +8,13 @@ use Rattle.nb_fields.specs.Fresh.{fresh}
 use Rattle.nb_fields.specs.Page.{kind_of}
 use Rattle.nb_fields.specs.Payloads.{text_payload}
 use Rattle.nb_fields.specs.Places.{is_page_size}
-use Rattle.nb_model.specs.declared.reply.Reply.{Reply}
 use Rattle.nb_model.specs.declared.statement.Statement.{Statement}
 use Rattle.nb_model.specs.declared.statement.Statement.TheVariants.{CreateDb, OpenDb, PageNew, Write, Read, Free, Forced, Access, Sync, ShowHeader, ShowPages, ShowImage, ShowCache}
 use Rattle.nb_model.specs.Image.{Page, Image, image_state, with_page}
 use Rattle.nb_model.specs.Account.{Base, base_of, Kept}
 use Rattle.nb_model.specs.Strokes.{Stroke, base_after, records_after}
 use Rattle.nb_model.specs.Forms.{Draft, drafted, put, give_page, new_page}
-use Rattle.nb_model.specs.Causes.{Cause, first_cause, not_raw, too_long}
+use Rattle.nb_model.specs.Causes.{Cause, not_raw, too_long}
 use Rattle.nb_model.specs.Outcomes.{Seen, Outcome, unless, changes}
 use Rattle.nb_model.specs.Pages.{new_turn, write_turn, read_turn, free_turn, forced_turn, access_turn, header_turn, image_turn, cache_turn, byte_strokes}
 use Rattle.nb_model.specs.Backups.{pages_turn}
@@ -33,7 +32,7 @@ use Rattle.nb_model.proofs.PastLaws.{no_history, page_past}
 use Rattle.nb_model.proofs.HeadSound.{byte_holds}
 use Rattle.nb_model.proofs.BitSound.{give_holds}
 use Rattle.nb_model.proofs.NewSound.{new_raw_holds}
-use Rattle.nb_model.proofs.NormalLaws.{IsPage, HasPages, forms_have_pages, normal_throughout}
+use Rattle.nb_model.proofs.NormalLaws.{HasPages, forms_have_pages, normal_throughout}
 use Rattle.nb_model.proofs.OpeningLaws.{WritesPages, IsPaged, guarded_paged, write_paged, read_paged, new_paged, free_paged, forced_paged, access_paged, sync_paged, header_paged}
 
 -- a new database is well
