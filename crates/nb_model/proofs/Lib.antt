@@ -34,4 +34,5 @@ pub mod TodoLaws
 pub mod OpeningLaws
 pub mod WellLaws
 pub mod PlayLaws
+pub mod TakenLaws
 pub mod EntryLaws

@@ -374,7 +374,7 @@ keeps_both a b c h k = record {
   kept = k.kept ∙ h.kept;
 }
 
-stands_kept : (session : ℕ) (rest : List Turn) (o : Outcome) (now : Now) → WritesPages o → KeepsRest now (stands_then session rest o now)
+pub stands_kept : (session : ℕ) (rest : List Turn) (o : Outcome) (now : Now) → WritesPages o → KeepsRest now (stands_then session rest o now)
 unfolding stands_then
 stands_kept session rest o now h =
     let b : Base = base_in (now.account.entry now.name) in

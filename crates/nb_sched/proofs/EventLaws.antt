@@ -1,5 +1,5 @@
 -- One statement and its line are one event.
-use Rattle.std.proofs.Common.{◌≡◌, ℕ, ◌≤◌, List, [], ◌∷◌, ◌++◌, length, take, Bool, true, false, refl, sym, ap, subst, ◌∙◌, arith}
+use Rattle.std.proofs.Common.{◌≡◌, ◌≢◌, ℕ, ◌≤◌, List, [], ◌∷◌, ◌++◌, length, take, Bool, true, false, refl, sym, ap, subst, ◌∙◌, arith}
 use Rattle.std.specs.Prelude.{Result, Ok, Err, OnOk, IfOk, Option, Some, if◌then◌else◌, max}
 use Rattle.std.specs.Result.{IsErr}
 use Rattle.std.proofs.lemmas.List.{append-nil, take_all}
@@ -9,8 +9,9 @@ use Rattle.nb_host.specs.Crash.{Untouched}
 use Rattle.nb_host.specs.Calls.{IsStill}
 use Rattle.nb_host.specs.Moments.{AtEachMoment}
 use Rattle.nb_host.specs.declared.faults.Fault.{Fault}
-use Rattle.nb_change.specs.Change.{IsOther, BothLeft, Reached}
-use Rattle.nb_change.proofs.MomentLaws.{joined, weaker, left_before, untouched_joined, untouched_fewer}
+use Rattle.nb_change.specs.Change.{BothLeft, Reached}
+use Rattle.nb_change.specs.Apart.{Apart}
+use Rattle.nb_change.proofs.MomentLaws.{joined, weaker, both_hold, left_before, untouched_joined, untouched_fewer}
 use Rattle.nb_change.proofs.StrokeLaws.{reached_by}
 use Rattle.nb_model.specs.declared.reply.Reply.{Reply}
 use Rattle.nb_model.specs.declared.statement.Statement.{Statement}
@@ -29,7 +30,8 @@ use Rattle.nb_engine.specs.Turn.{Does, WhereSettled}
 use Rattle.nb_sched.specs.declared.stop.Stop.{Stop}
 use Rattle.nb_sched.specs.Replies.{HasEnded, is_refusal}
 use Rattle.nb_sched.specs.Says.{FrontSaid, SaysLine}
-use Rattle.nb_sched.specs.Stops.{StopLeft, Plays}
+use Rattle.nb_model.specs.Well.{IsWellBase}
+use Rattle.nb_sched.specs.Stops.{StopLeft, IsReady, Plays}
 
 -- what holds where a call ended with a value or a refusal
 pub ended : {T P : Type 0} (answer : Result T Fault) → HasEnded answer → WhereSettled answer P → P
@@ -91,10 +93,10 @@ module _ (old mid new : World) (held : Opened) (now : Now) (session : ℕ) (stat
   abbrev Left : Files → List ℕ → Type 0
   Left = StopLeft old held.name (base_now now) (event ∷ [])
 
-  module _ {T : Type 0} (result : Result T Fault) (reply : T → Reply) (does : Does reply result old mid (base_now now) held here) where
+  module _ {T : Type 0} (result : Result T Fault) (reply : T → Reply) (does : Does reply result old mid (base_now now) held here) (apart : Apart old mid held.name) where
     -- while the statement is done
     during : AtEachMoment old mid Left
-    during = weaker old mid _ _ does.left.moments (λ files said left.
+    during = both_hold old mid _ _ _ does.left.moments apart.moments (λ files said left alone.
         let by = reached_by on_base (Shows held.name) (base_now now) here.strokes (files held.name) (files (delta_name held.name)) left.both in
         record {
           out = record { part = []; is = left.output ∙ sym (append-nil old.said); front = refl };
@@ -102,7 +104,7 @@ module _ (old mid new : World) (held : Opened) (now : Now) (session : ℕ) (stat
           front = record { most = omega (arith, by.most, ap length strokes_are); acknowledged = omega (arith, acked_none (event ∷ [])) };
           database = subst (λ (ss : List Stroke). Shows held.name (base_after (base_now now) (take by.count ss)) (files held.name) (files (delta_name held.name))) (sym strokes_are)
               (subst (λ (b : Base). Shows held.name b (files held.name) (files (delta_name held.name))) (after_is (base_now now) (take by.count here.strokes)) by.is);
-          others = left.others;
+          others = alone.others;
         })
 
     to_played : AtEachMoment old mid Left → AtEachMoment old mid (StopLeft old held.name (base_now now) played.0)
@@ -112,8 +114,8 @@ module _ (old mid new : World) (held : Opened) (now : Now) (session : ℕ) (stat
     pub event_failed : (e : Stop) → Plays (Err e) old mid held held now played
     event_failed e = record {
       stops = to_played during;
-      others = does.left.others;
-      others_read = does.left.others_read;
+      others = apart.now;
+      others_read = apart.reads;
       name = refl;
       done = tt;
     }
@@ -143,39 +145,39 @@ module _ (old mid new : World) (held : Opened) (now : Now) (session : ℕ) (stat
             database = subst (λ (ss : List Stroke). Shows held.name (base_after (base_now now) ss) (files held.name) (files (delta_name held.name)))
                 (sym (ap (take (length here.strokes)) strokes_are ∙ take_all (length here.strokes) here.strokes (omega arith)))
                 (opened_mid.settled.left (files held.name) (files (delta_name held.name)) (front.left held.name) (front.left (delta_name held.name)));
-            others = λ m other. left_before old mid _ does.left.others m (files m) other (front.left m);
+            others = λ m other. left_before old mid _ apart.now m (files m) other (front.left m);
           }
 
       whole : AtEachMoment old new (StopLeft old held.name (base_now now) played.0)
       whole = subst (λ (es : List Event). AtEachMoment old new (StopLeft old held.name (base_now now) es)) (sym (ap (λ (p : Played). p.0) played_is))
           (joined old mid new _ _ _ during says.moments (λ files said is. is) saying)
 
-      others_whole : Untouched old new (IsOther held.name (delta_name held.name))
-      others_whole = untouched_joined old mid new _ does.left.others (untouched_fewer mid new _ _ says.still.left (λ m other. tt))
+      others_whole : Untouched old new (λ m. m ≢ held.name)
+      others_whole = untouched_joined old mid new _ apart.now (untouched_fewer mid new _ _ says.still.left (λ m other. tt))
 
-      read_whole : (m : List ℕ) → IsOther held.name (delta_name held.name) m → new.files m ≡ old.files m
-      read_whole m other = ap (λ (f : Files). f m) says.still.files ∙ does.left.others_read m other
+      read_whole : (m : List ℕ) → m ≢ held.name → new.files m ≡ old.files m
+      read_whole m other = ap (λ (f : Files). f m) says.still.files ∙ apart.reads m other
 
       -- its line wasn't said whole
       pub event_unsaid : (e : Stop) → Plays (Err e) old new held held now played
       event_unsaid e = record { stops = whole; others = others_whole; others_read = read_whole; name = refl; done = tt }
 
       -- it was
-      pub event_said : new.said ≡ mid.said ++ line → status_after r ≡ (if is_refusal r then 1 else 0) → Plays (Ok (is_refusal r)) old new held held now played
-      event_said said status = record {
+      pub event_said : IsWellBase played.1.account.kept (base_now played.1) → new.said ≡ mid.said ++ line → status_after r ≡ (if is_refusal r then 1 else 0) → Plays (Ok (is_refusal r)) old new held held now played
+      event_said well said status = record {
         stops = whole;
         others = others_whole;
         others_read = read_whole;
         name = refl;
         done = record {
-          opened = subst (IsOpen new held) (sym base_is) (open_still mid new held _ says.still opened_mid);
+          ready = record { opened = subst (IsOpen new held) (sym base_is) (open_still mid new held _ says.still opened_mid); well = well };
           said = said ∙ ap (λ (l : List ℕ). l ++ line) does.left.silent.said ∙ ap (λ (l : List ℕ). old.said ++ l) (sym (output_is) ∙ ap output (sym (ap (λ (p : Played). p.0) played_is)));
           status = ap (λ (es : List Event). status_of (replies_of es)) (ap (λ (p : Played). p.0) played_is) ∙ status_one event r is_said ∙ status;
         };
       }
 
 -- a line is said that has no strokes
-module _ (old new : World) (held : Opened) (now : Now) (session : ℕ) (r : Reply) {S E : Type 0} (told : Result S E) (says : SaysLine told old new (line_text session r)) (opened : IsOpen old held (base_now now)) where
+module _ (old new : World) (held : Opened) (now : Now) (session : ℕ) (r : Reply) {S E : Type 0} (told : Result S E) (says : SaysLine told old new (line_text session r)) (ready : IsReady old held now) where
   abbrev pub said_event : Event
   said_event = record { session = session; strokes = []; reply = Some r; made = Rattle.std.specs.Prelude.None; syncs = true }
 
@@ -193,7 +195,7 @@ module _ (old new : World) (held : Opened) (now : Now) (session : ℕ) (r : Repl
         out = record { part = part; is = front.is; front = take_self front.count (line_text session r) ∙ ap (take (length part)) (sym (output_one said_event r refl)) };
         count = 0;
         front = record { most = omega arith; acknowledged = omega (arith, acked_most_strokes (said_event ∷ []) (length part), no_strokes) };
-        database = opened.settled.left (files held.name) (files (delta_name held.name)) (front.left held.name) (front.left (delta_name held.name));
+        database = ready.opened.settled.left (files held.name) (files (delta_name held.name)) (front.left held.name) (front.left (delta_name held.name));
         others = λ m other. front.left m;
       }
 
@@ -210,7 +212,7 @@ module _ (old new : World) (held : Opened) (now : Now) (session : ℕ) (r : Repl
     others_read = λ m other. ap (λ (f : Files). f m) says.still.files;
     name = refl;
     done = record {
-      opened = open_still old new held (base_now now) says.still opened;
+      ready = record { opened = open_still old new held (base_now now) says.still ready.opened; well = ready.well };
       said = said ∙ ap (λ (l : List ℕ). old.said ++ l) (sym (output_one said_event r refl));
       status = status_one said_event r refl ∙ status;
     };
@@ -224,9 +226,15 @@ plays_err (Ok x) old new before after now p is plays = absurd (no_err is)
     no_err h = cc
 plays_err (Err e) old new before after now p is plays = plays e
 
--- what is held was held before
-pub plays_from : (result : Result Bool Stop) (old new : World) (before after : Opened) (now : Now) (p : Played) → after ≡ before → Plays result old new after after now p → Plays result old new before after now p
-plays_from result old new before after now p same plays = subst (λ (x : Opened). Plays result old new x after now p) same plays
+-- what was held before has the same name
+pub plays_from : (result : Result Bool Stop) (old new : World) (before after : Opened) (now : Now) (p : Played) → after.name ≡ before.name → Plays result old new after after now p → Plays result old new before after now p
+plays_from result old new before after now p same plays = record {
+  stops = subst (λ (n : List ℕ). AtEachMoment old new (StopLeft old n (base_now now) p.0)) same plays.stops;
+  others = subst (λ (n : List ℕ). Untouched old new (λ m. m ≢ n)) same plays.others;
+  others_read = subst (λ (n : List ℕ). (m : List ℕ) → m ≢ n → new.files m ≡ old.files m) same plays.others_read;
+  name = same;
+  done = plays.done;
+}
 
 pub plays_same : (a b : Bool) (old new : World) (before after : Opened) (now : Now) (p : Played) → a ≡ b → Plays (Ok a) old new before after now p → Plays (Ok b) old new before after now p
 plays_same a b old new before after now p same plays = subst (λ (x : Bool). Plays (Ok x) old new before after now p) same plays

@@ -13,9 +13,8 @@ use Rattle.nb_model.specs.Run.{Event, Now, Played, base_now, strokes_of, replies
 use Rattle.nb_model.specs.Output.{output, acked, status_of}
 use Rattle.nb_model.proofs.OutputLaws.{output_append, status_events, acked_most_strokes, output_no_event, status_no_event, strokes_no_event}
 use Rattle.nb_engine.specs.declared.opened.Opened.{Opened}
-use Rattle.nb_engine.specs.Open.{IsOpen}
 use Rattle.nb_sched.specs.declared.stop.Stop.{Stop}
-use Rattle.nb_sched.specs.Stops.{StopLeft, Plays}
+use Rattle.nb_sched.specs.Stops.{StopLeft, IsReady, Plays}
 use Rattle.nb_sched.proofs.StopLaws.{stop_more, stop_then}
 
 -- what stands after turns is the database after their strokes
@@ -27,20 +26,20 @@ abbrev pub behind : Played → Played → Played
 behind p q = (p.0 ++ q.0, q.1)
 
 -- no turn yet
-pub plays_none : (old : World) (held : Opened) (now : Now) → IsTimely old → IsOpen old held (base_now now) → Plays (Ok false) old old held held now ([], now)
+pub plays_none : (old : World) (held : Opened) (now : Now) → IsTimely old → IsReady old held now → Plays (Ok false) old old held held now ([], now)
 unfolding base_after strokes_of
-plays_none old held now timely opened = record {
+plays_none old held now timely ready = record {
   stops = started old _ timely (λ files said is. record {
     out = record { part = []; is = is.output ∙ sym (append-nil old.said); front = refl };
     count = 0;
     front = record { most = omega arith; acknowledged = nothing };
-    database = opened.settled.left _ _ (is.left held.name) (is.left (delta_name held.name));
+    database = ready.opened.settled.left _ _ (is.left held.name) (is.left (delta_name held.name));
     others = λ m other. is.left m;
   });
   others = untouched_begun old _;
   others_read = λ m other. refl;
   name = refl;
-  done = record { opened = opened; said = sym (append-nil old.said) ∙ ap (λ (l : List ℕ). old.said ++ l) (sym output_no_event); status = status_no_event };
+  done = record { ready = ready; said = sym (append-nil old.said) ∙ ap (λ (l : List ℕ). old.said ++ l) (sym output_no_event); status = status_no_event };
 }
   where
     nothing : acked [] 0 ≤ 0
@@ -79,7 +78,7 @@ module _ (old mid new : World) (e0 e1 e2 : Opened) (now : Now) (p q : Played) (i
     others_read = read_then first.others_read second.others_read first.name;
     name = second.name ∙ first.name;
     done = record {
-      opened = second.done.opened;
+      ready = second.done.ready;
       said = second.done.said ∙ ap (λ (l : List ℕ). l ++ output q.0) first.done.said ∙ append_assoc old.said (output p.0) (output q.0) ∙ ap (λ (l : List ℕ). old.said ++ l) (sym (output_append p.0 q.0));
       status = status_events p.0 q.0 ∙ ap (λ (x : ℕ). max x (status_of (replies_of q.0))) first.done.status
           ∙ ap (λ (x : ℕ). max (if a then 1 else 0) x) second.done.status ∙ either_refused a b;

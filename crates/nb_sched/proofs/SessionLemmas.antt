@@ -6,17 +6,15 @@ use Rattle.std.proofs.lemmas.List.{append-nil, take_more, drop_more, get_or_past
 use Rattle.nb_host.specs.World.{World}
 use Rattle.nb_host.specs.Moments.{IsTimely}
 use Rattle.nb_model.specs.declared.statement.Statement.{Statement}
-use Rattle.nb_model.specs.declared.statement.Statement.TheVariants.{CreateDb, Write, Read}
 use Rattle.nb_model.specs.Outcomes.{Turn, Begins}
 use Rattle.nb_model.specs.Run.{Event, Now, Played, base_now, take_turn, one_turn, play, rounds, all_sessions, AreFinished, begun}
 use Rattle.nb_model.proofs.RunLaws.{play-append, play_is}
-use Rattle.nb_model.proofs.TodoLaws.{IsSingle, write_single, read_single, turn_is, left_then, left_none, rounds_more, finished_places}
+use Rattle.nb_model.proofs.TodoLaws.{IsSingle, built_single, turn_is, left_then, left_none, rounds_more, finished_places}
 use Rattle.nb_engine.specs.declared.opened.Opened.{Opened}
-use Rattle.nb_engine.specs.Open.{IsOpen}
 use Rattle.nb_script.specs.Scripts.{Plan, statements_of}
 use Rattle.nb_sched.specs.declared.stop.Stop.{Stop}
 use Rattle.nb_script.specs.Asked.{IsFurther, IsAskable}
-use Rattle.nb_sched.specs.Stops.{Plays}
+use Rattle.nb_sched.specs.Stops.{IsReady, Plays}
 use Rattle.nb_sched.specs.Todo.{IsLeft, PlaysWhole}
 use Rattle.nb_sched.proofs.PlayLaws.{IsAfter, plays_none, plays_then, plays_failed, plays_cut}
 
@@ -37,10 +35,7 @@ as_error (Err f) is e old new before after now played plays = record { stops = p
 
 -- What a session can ask today is done in one turn.
 pub further_single : (statement : Statement) → IsFurther statement → IsSingle statement
-further_single (Write page text) is = write_single page text
-further_single (Read page) is = read_single page
-further_single (CreateDb name page_size raw cache) is = refuted is.opens_none
-further_single other is = refuted is.is_built
+further_single statement is = built_single statement is.is_built
 
 pub all_single : (statements : List Statement) → AllByRecursion IsFurther statements → AllByRecursion IsSingle statements
 all_single [] all = tt
@@ -93,7 +88,7 @@ order_split : (order : List ℕ) (i : ℕ) → i < length order → order ≡ ta
 order_split order i within = sym (take-append-drop i order) ∙ ap (λ (xs : List ℕ). take i order ++ xs) (drop_more order i 0 within)
 
 -- A session that has finished does nothing in its turn,
-pub idle_plays : (world : World) (held : Opened) (now : Now) (session : ℕ) → IsTimely world → IsOpen world held (base_now now) → one_turn session now ≡ ([], now) → Plays (Ok false) world world held held now (one_turn session now)
+pub idle_plays : (world : World) (held : Opened) (now : Now) (session : ℕ) → IsTimely world → IsReady world held now → one_turn session now ≡ ([], now) → Plays (Ok false) world world held held now (one_turn session now)
 idle_plays world held now session timely opened idle = subst (Plays (Ok false) world world held held now) (sym idle) (plays_none world held now timely opened)
 
 -- and leaves as much to do.
@@ -138,8 +133,8 @@ module _ (sessions : List (List Statement)) (next : List ℕ) (session place : �
 
 -- The turns of an order were taken to their end, where sessions had so much left to do.
 pub record Took (tells : Bool) (sessions : List (List Statement)) (order : List ℕ) (refused : Bool) (old new : World) (before after : Opened) (first next : List ℕ) : Type 0 where
-  pub plays : (now : Now) → IsTrue tells → IsOpen old before (base_now now) → IsLeft now sessions first → Plays (Ok refused) old new before after now (play order now)
-  pub left : (now : Now) → IsTrue tells → IsOpen old before (base_now now) → IsLeft now sessions first → IsLeft (play order now).1 sessions next
+  pub plays : (now : Now) → IsTrue tells → IsReady old before now → IsLeft now sessions first → Plays (Ok refused) old new before after now (play order now)
+  pub left : (now : Now) → IsTrue tells → IsReady old before now → IsLeft now sessions first → IsLeft (play order now).1 sessions next
 
 module _ (tells : Bool) (sessions : List (List Statement)) where
   -- no turn yet
@@ -153,16 +148,16 @@ module _ (tells : Bool) (sessions : List (List Statement)) where
     stands_after : (now : Now) → IsAfter now (play order now)
     stands_after now = record { is = play_is order now }
 
-    opened_then : (now : Now) → IsTrue tells → IsOpen old before (base_now now) → IsLeft now sessions first → IsOpen mid between (base_now (play order now).1)
-    opened_then now told opened left = (so_far.plays now told opened left).done.opened
+    opened_then : (now : Now) → IsTrue tells → IsReady old before now → IsLeft now sessions first → IsReady mid between (play order now).1
+    opened_then now told opened left = (so_far.plays now told opened left).done.ready
 
     module _ (new : World) (after : Opened) (more : List ℕ) where
       -- what further turns do then, and what is left after them
       abbrev PlayMore : Result Bool Stop → Type 0
-      PlayMore result = (now : Now) → IsTrue tells → IsOpen mid between (base_now now) → IsLeft now sessions next → Plays result mid new between after now (play more now)
+      PlayMore result = (now : Now) → IsTrue tells → IsReady mid between now → IsLeft now sessions next → Plays result mid new between after now (play more now)
 
       abbrev LeaveMore : List ℕ → Type 0
-      LeaveMore last = (now : Now) → IsTrue tells → IsOpen mid between (base_now now) → IsLeft now sessions next → IsLeft (play more now).1 sessions last
+      LeaveMore last = (now : Now) → IsTrue tells → IsReady mid between now → IsLeft now sessions next → IsLeft (play more now).1 sessions last
 
       -- They are taken to their end too,
       pub took_more : (one : Bool) (last : List ℕ) → PlayMore (Ok one) → LeaveMore last → Took tells sessions (order ++ more) (refused || one) old new before after first last
@@ -177,7 +172,7 @@ module _ (tells : Bool) (sessions : List (List Statement)) where
       }
 
       -- or end early, and those that would have come are cut off.
-      took_failed : (result : Result Bool Stop) → IsErr result → (e : Stop) (rest : List ℕ) → PlayMore (Err e) → (now : Now) → IsTrue tells → IsOpen old before (base_now now) → IsLeft now sessions first
+      took_failed : (result : Result Bool Stop) → IsErr result → (e : Stop) (rest : List ℕ) → PlayMore (Err e) → (now : Now) → IsTrue tells → IsReady old before now → IsLeft now sessions first
           → Plays result old new before after now (play (order ++ (more ++ rest)) now)
       took_failed result failed e rest plays now told opened left =
           let here : Played = play order now in
@@ -192,12 +187,12 @@ module _ (tells : Bool) (sessions : List (List Statement)) where
   module _ (old mid new : World) (before between after : Opened) (first next : List ℕ) (order : List ℕ) (i : ℕ) (within : i < length order) (refused : Bool)
       (so_far : Took tells sessions (take i order) refused old mid before between first next) where
     abbrev TurnPlays : Result Bool Stop → Type 0
-    TurnPlays result = (now : Now) → IsTrue tells → IsOpen mid between (base_now now) → IsLeft now sessions next → Plays result mid new between after now (one_turn (get_or order i 0) now)
+    TurnPlays result = (now : Now) → IsTrue tells → IsReady mid between now → IsLeft now sessions next → Plays result mid new between after now (one_turn (get_or order i 0) now)
 
     abbrev TurnLeaves : List ℕ → Type 0
-    TurnLeaves last = (now : Now) → IsTrue tells → IsOpen mid between (base_now now) → IsLeft now sessions next → IsLeft (one_turn (get_or order i 0) now).1 sessions last
+    TurnLeaves last = (now : Now) → IsTrue tells → IsReady mid between now → IsLeft now sessions next → IsLeft (one_turn (get_or order i 0) now).1 sessions last
 
-    turn_plays : (result : Result Bool Stop) → TurnPlays result → (now : Now) → IsTrue tells → IsOpen mid between (base_now now) → IsLeft now sessions next → Plays result mid new between after now (play (get_or order i 0 ∷ []) now)
+    turn_plays : (result : Result Bool Stop) → TurnPlays result → (now : Now) → IsTrue tells → IsReady mid between now → IsLeft now sessions next → Plays result mid new between after now (play (get_or order i 0 ∷ []) now)
     turn_plays result plays now told opened left = subst (Plays result mid new between after now) (sym (play_one (get_or order i 0) now)) (plays now told opened left)
 
     pub turn_more : (one : Bool) (last : List ℕ) → TurnPlays (Ok one) → TurnLeaves last → Took tells sessions (take (i + 1) order) (refused || one) old new before after first last
@@ -206,7 +201,7 @@ module _ (tells : Bool) (sessions : List (List Statement)) where
         (took_more old mid before between first next (take i order) refused so_far new after (get_or order i 0 ∷ []) one last (turn_plays (Ok one) plays)
         (λ now told opened left. subst (λ (p : Played). IsLeft p.1 sessions last) (sym (play_one (get_or order i 0) now)) (leaves now told opened left)))
 
-    pub turn_failed : (result : Result Bool Stop) → IsErr result → (e : Stop) → TurnPlays (Err e) → (now : Now) → IsTrue tells → IsOpen old before (base_now now) → IsLeft now sessions first
+    pub turn_failed : (result : Result Bool Stop) → IsErr result → (e : Stop) → TurnPlays (Err e) → (now : Now) → IsTrue tells → IsReady old before now → IsLeft now sessions first
         → Plays result old new before after now (play order now)
     turn_failed result failed e plays now told opened left =
         subst (λ (xs : List ℕ). Plays result old new before after now (play xs now)) (sym (order_split order i within))
@@ -218,17 +213,17 @@ module _ (tells : Bool) (sessions : List (List Statement)) where
 
   module _ (old mid new : World) (before between after : Opened) (first next : List ℕ) (i : ℕ) (refused : Bool) (so_far : Took tells sessions (rounds i) refused old mid before between first next) where
     abbrev RoundPlays : Result Bool Stop → Type 0
-    RoundPlays result = (now : Now) → IsTrue tells → IsOpen mid between (base_now now) → IsLeft now sessions next → Plays result mid new between after now (play all_sessions now)
+    RoundPlays result = (now : Now) → IsTrue tells → IsReady mid between now → IsLeft now sessions next → Plays result mid new between after now (play all_sessions now)
 
     abbrev RoundLeaves : List ℕ → Type 0
-    RoundLeaves last = (now : Now) → IsTrue tells → IsOpen mid between (base_now now) → IsLeft now sessions next → IsLeft (play all_sessions now).1 sessions last
+    RoundLeaves last = (now : Now) → IsTrue tells → IsReady mid between now → IsLeft now sessions next → IsLeft (play all_sessions now).1 sessions last
 
     pub round_more : (one : Bool) (last : List ℕ) → RoundPlays (Ok one) → RoundLeaves last → Took tells sessions (rounds (i + 1)) (refused || one) old new before after first last
     round_more one last plays leaves =
         subst (λ (xs : List ℕ). Took tells sessions xs (refused || one) old new before after first last) (sym (rounds_more i))
         (took_more old mid before between first next (rounds i) refused so_far new after all_sessions one last plays leaves)
 
-    pub round_failed : (count : ℕ) → i < count → (result : Result Bool Stop) → IsErr result → (e : Stop) → RoundPlays (Err e) → (now : Now) → IsTrue tells → IsOpen old before (base_now now) → IsLeft now sessions first
+    pub round_failed : (count : ℕ) → i < count → (result : Result Bool Stop) → IsErr result → (e : Stop) → RoundPlays (Err e) → (now : Now) → IsTrue tells → IsReady old before now → IsLeft now sessions first
         → Plays result old new before after now (play (rounds count) now)
     round_failed count within result failed e plays now told opened left =
         let parts : i + (1 + (count - i - 1)) ≡ count = omega (arith, within) in

@@ -4,9 +4,9 @@ use Rattle.std.specs.Prelude.{Some}
 use Rattle.nb_host.specs.declared.refusals.Refusal.TheVariants.{Usage}
 use Rattle.nb_model.specs.declared.reply.Reply.TheVariants.{Refused}
 use Rattle.nb_model.specs.declared.statement.Statement.{Statement}
-use Rattle.nb_model.specs.declared.statement.Statement.TheVariants.{Write, Read}
+use Rattle.nb_model.specs.declared.statement.Statement.TheVariants.{PageNew, Write, Read, Free}
 use Rattle.nb_model.specs.Outcomes.{Seen, Begins}
-use Rattle.nb_model.specs.Pages.{write_turn, read_turn}
+use Rattle.nb_model.specs.Pages.{new_turn, write_turn, read_turn, free_turn}
 use Rattle.nb_model.specs.Run.{Now, base_now, outcome}
 use Rattle.nb_model.specs.Turns.{first_turn, turn}
 use Rattle.nb_model.proofs.TodoLaws.{built_never_usage}
@@ -19,6 +19,14 @@ write_is s session statement p text is = ap (first_turn s session) (sym is)
 pub read_is : (s : Seen) (session : ℕ) (statement : Statement) (p : ℕ) → statement ≡ Read p → read_turn s p ≡ first_turn s session statement
 unfolding first_turn
 read_is s session statement p is = ap (first_turn s session) (sym is)
+
+pub new_is : (s : Seen) (session : ℕ) (statement : Statement) → statement ≡ PageNew → new_turn s ≡ first_turn s session statement
+unfolding first_turn
+new_is s session statement is = ap (first_turn s session) (sym is)
+
+pub free_is : (s : Seen) (session : ℕ) (statement : Statement) (p : ℕ) → statement ≡ Free p → free_turn s p ≡ first_turn s session statement
+unfolding first_turn
+free_is s session statement p is = ap (first_turn s session) (sym is)
 
 -- what a turn sees
 abbrev pub seen_now : Now → Seen

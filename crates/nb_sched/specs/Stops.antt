@@ -7,6 +7,7 @@ use Rattle.nb_host.specs.Moments.{AtEachMoment}
 use Rattle.nb_model.specs.Account.{Base}
 use Rattle.nb_model.specs.Strokes.{base_after}
 use Rattle.nb_model.specs.Owner.{delta_name}
+use Rattle.nb_model.specs.Well.{IsWellBase}
 use Rattle.nb_model.specs.Run.{Event, Now, Played, base_now, strokes_of, replies_of}
 use Rattle.nb_model.specs.Output.{output, acked, status_of}
 use Rattle.nb_engine.specs.declared.opened.Opened.{Opened}
@@ -33,9 +34,14 @@ pub record StopLeft (old : World) (name : List ℕ) (base : Base) (events : List
   pub database : Shows name (base_after base (take count (strokes_of events))) (files name) (files (delta_name name))
   pub others : (m : List ℕ) → m ≢ name → Leaves old m (files m)
 
+-- The database is open as it stands between two turns, and it is well.
+pub record IsReady (w : World) (held : Opened) (now : Now) : Type 0 where
+  pub opened : IsOpen w held (base_now now)
+  pub well : IsWellBase now.account.kept (base_now now)
+
 -- Turns were taken to their end: the database is open as they leave it, all their lines were said, and whether one was refused.
 pub record PlayedOut (refused : Bool) (old new : World) (held : Opened) (played : Played) : Type 0 where
-  pub opened : IsOpen new held (base_now played.1)
+  pub ready : IsReady new held played.1
   pub said : new.said ≡ old.said ++ output played.0
   pub status : status_of (replies_of played.0) ≡ (if refused then 1 else 0)
 

@@ -4,13 +4,12 @@ ghost use Rattle.nb_host.specs.Calls.{Says, IsStill};
 ghost use Rattle.nb_host.specs.Moments.{PassesSaying, Passes};
 ghost use Rattle.nb_model.specs.Lines.{line_text};
 ghost use Rattle.nb_model.specs.Outcomes.{Turn, Begins};
-ghost use Rattle.nb_model.specs.Run.{Now, base_now, take_turn};
-ghost use Rattle.nb_engine.specs.Open.{IsOpen};
+ghost use Rattle.nb_model.specs.Run.{Now, take_turn};
 ghost use Rattle.nb_script.specs.Asked.{IsFurther};
 ghost use Rattle.nb_sched.specs.Causes.{CountsStop};
 ghost use Rattle.nb_sched.specs.Replies.{is_refusal};
 ghost use Rattle.nb_sched.specs.Says.{SaysLine};
-ghost use Rattle.nb_sched.specs.Stops.{Plays};
+ghost use Rattle.nb_sched.specs.Stops.{IsReady, Plays};
 
 use crate::Stop;
 use crate::statement::{do_statement, reply_to};
@@ -51,7 +50,7 @@ pub fn answer<H: Host>(
     statement: &Statement,
 ) -> Result<bool, Stop>
     requires { IsFurther statement.now }
-    ensures plays { (now : Now) (rest : List Turn) → IsTrue H.tells → IsOpen (H.world host.old) engine.old (base_now now)
+    ensures plays { (now : Now) (rest : List Turn) → IsTrue H.tells → IsReady (H.world host.old) engine.old now
         → Plays result (H.world host.old) (H.world host.new) engine.old engine.new now (take_turn session (Begins statement.now ∷ rest) now) }
     ensures cause { CountsStop result (H.faults host.old) (H.faults host.new) }
 {

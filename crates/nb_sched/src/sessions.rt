@@ -2,12 +2,11 @@
 ghost use Rattle.std.specs.Prelude.{◌≡◌, ◌≤◌, ◌++◌, ℕ, IsTrue, OnOk, List, length, replicate, true, false};
 ghost use Rattle.std.specs.List.{AllByRecursion, slice_index_or};
 ghost use Rattle.nb_model.specs.declared.statement.Statement.{Statement};
-ghost use Rattle.nb_model.specs.Run.{Now, base_now, begun, one_turn, play, rounds};
+ghost use Rattle.nb_model.specs.Run.{Now, begun, one_turn, play, rounds};
 ghost use Rattle.nb_script.specs.Scripts.{statements_of};
-ghost use Rattle.nb_engine.specs.Open.{IsOpen};
 ghost use Rattle.nb_script.specs.Asked.{IsFurther, IsAskable};
 ghost use Rattle.nb_sched.specs.Causes.{CountsStop};
-ghost use Rattle.nb_sched.specs.Stops.{Plays};
+ghost use Rattle.nb_sched.specs.Stops.{IsReady, Plays};
 ghost use Rattle.nb_sched.specs.Todo.{IsLeft, PlaysWhole};
 
 use crate::Stop;
@@ -34,9 +33,9 @@ fn take_turn<H: Host>(
 ) -> Result<bool, Stop>
     requires askable { IsAskable script.now }
     requires sessions { length next.old ≡ 16 }
-    ensures plays { (now : Now) → IsTrue H.tells → IsOpen (H.world host.old) engine.old (base_now now) → IsLeft now script.now.sessions next.old
+    ensures plays { (now : Now) → IsTrue H.tells → IsReady (H.world host.old) engine.old now → IsLeft now script.now.sessions next.old
         → Plays result (H.world host.old) (H.world host.new) engine.old engine.new now (one_turn session now) }
-    ensures left { (now : Now) → IsTrue H.tells → IsOpen (H.world host.old) engine.old (base_now now) → IsLeft now script.now.sessions next.old
+    ensures left { (now : Now) → IsTrue H.tells → IsReady (H.world host.old) engine.old now → IsLeft now script.now.sessions next.old
         → OnOk result (IsLeft (one_turn session now).1 script.now.sessions next.new) }
     ensures cause { CountsStop result (H.faults host.old) (H.faults host.new) }
 {
@@ -64,9 +63,9 @@ fn take_order<H: Host>(
 ) -> Result<bool, Stop>
     requires askable { IsAskable script.now }
     requires sessions { length next.old ≡ 16 }
-    ensures plays { (now : Now) → IsTrue H.tells → IsOpen (H.world host.old) engine.old (base_now now) → IsLeft now script.now.sessions next.old
+    ensures plays { (now : Now) → IsTrue H.tells → IsReady (H.world host.old) engine.old now → IsLeft now script.now.sessions next.old
         → Plays result (H.world host.old) (H.world host.new) engine.old engine.new now (play order.now now) }
-    ensures left { (now : Now) → IsTrue H.tells → IsOpen (H.world host.old) engine.old (base_now now) → IsLeft now script.now.sessions next.old
+    ensures left { (now : Now) → IsTrue H.tells → IsReady (H.world host.old) engine.old now → IsLeft now script.now.sessions next.old
         → OnOk result (IsLeft (play order.now now).1 script.now.sessions next.new) }
     ensures cause { CountsStop result (H.faults host.old) (H.faults host.new) }
 {
@@ -88,7 +87,7 @@ fn take_rounds<H: Host>(
 ) -> Result<bool, Stop>
     requires askable { IsAskable script.now }
     requires sessions { length next.old ≡ 16 }
-    ensures plays { (now : Now) → IsTrue H.tells → IsOpen (H.world host.old) engine.old (base_now now) → IsLeft now script.now.sessions next.old
+    ensures plays { (now : Now) → IsTrue H.tells → IsReady (H.world host.old) engine.old now → IsLeft now script.now.sessions next.old
         → Plays result (H.world host.old) (H.world host.new) engine.old engine.new now (play (rounds count) now) }
     ensures cause { CountsStop result (H.faults host.old) (H.faults host.new) }
 {
@@ -120,7 +119,7 @@ pub fn take_turns<H: Host>(
     script: &Script,
 ) -> Result<bool, Stop>
     requires { IsAskable script.now }
-    ensures plays { (now : Now) → IsTrue H.tells → IsOpen (H.world host.old) engine.old (base_now now) → now.todo ≡ begun script.now.sessions
+    ensures plays { (now : Now) → IsTrue H.tells → IsReady (H.world host.old) engine.old now → now.todo ≡ begun script.now.sessions
         → PlaysWhole result (H.world host.old) (H.world host.new) engine.old engine.new now script.now.schedule }
     ensures cause { CountsStop result (H.faults host.old) (H.faults host.new) }
 {

@@ -1,8 +1,10 @@
 // One statement of a session.
 ghost use Rattle.std.specs.Prelude.{◌≡◌, ℕ, IsTrue, OnOk, IfOk, Option, Some};
+ghost use Rattle.nb_change.specs.Apart.{Apart};
 ghost use Rattle.nb_change.specs.Counts.{CountsDevice};
 ghost use Rattle.nb_model.specs.declared.reply.Reply.{Reply};
 ghost use Rattle.nb_model.specs.Outcomes.{Seen};
+ghost use Rattle.nb_model.specs.Sound.{IsSoundImage};
 ghost use Rattle.nb_model.specs.Turns.{first_turn};
 ghost use Rattle.nb_engine.specs.Open.{IsOpen};
 ghost use Rattle.nb_engine.specs.Turn.{Does, Answers};
@@ -24,9 +26,10 @@ pub fn do_statement<H: Host>(
     statement: &Statement,
 ) -> Result<Reply, Fault>
     requires { IsFurther statement.now }
-    ensures turn { (s : Seen) (session : ℕ) → IsTrue H.tells → IsOpen (H.world host.old) engine.old s.base
+    ensures turn { (s : Seen) (session : ℕ) → IsTrue H.tells → IsOpen (H.world host.old) engine.old s.base → IsSoundImage s.base.image
         → Does as_said result (H.world host.old) (H.world host.new) s.base engine.new (first_turn s session statement.now) }
-    ensures same { engine.new ≡ engine.old }
+    ensures name { engine.new.name ≡ engine.old.name }
+    ensures apart { IsTrue H.tells → Apart (H.world host.old) (H.world host.new) engine.old.name }
     ensures cause { CountsDevice result (H.faults host.old) (H.faults host.new) }
 {
     match statement {
@@ -39,6 +42,14 @@ pub fn do_statement<H: Host>(
             Ok(Reply::Value {
                 text: Text::new(alloc, text.as_slice())?,
             })
+        }
+        Statement::PageNew => {
+            let page = engine.page_new(host)?;
+            Ok(Reply::PageMade { page })
+        }
+        Statement::Free { page } => {
+            engine.page_free(host, *page)?;
+            Ok(Reply::Done)
         }
         _ => unreachable!(),
     }

@@ -15,7 +15,7 @@ returns-in_err-rest-clause-plays g c now told opened begins =
     let count = c.longest-count.ensures in
     let left = left_first now c.args.script.now.sessions 16 begins in
     let first = c.in_ok-scheduled.ensures.plays now told opened left in
-    let rest = c.in_err-rest.ensures.plays (play c.schedule.result.now now).1 told first.done.opened (c.in_ok-scheduled.ensures.left now told opened left) in
+    let rest = c.in_err-rest.ensures.plays (play c.schedule.result.now now).1 told first.done.ready (c.in_ok-scheduled.ensures.left now told opened left) in
     rounds_failed c.args.script.now c.requires _ count.most count.sixteen now begins _ c.schedule.ensures _ _ _ _ _ _ _ first
     c.from_residual-in_err-rest.result c.from_residual-in_err-rest.ensures.0 _ rest
 
@@ -24,5 +24,5 @@ returns-clause-plays g c now told opened begins =
     let count = c.longest-count.ensures in
     let left = left_first now c.args.script.now.sessions 16 begins in
     let first = c.in_ok-scheduled.ensures.plays now told opened left in
-    let rest = c.in_ok-rest.ensures.plays (play c.schedule.result.now now).1 told first.done.opened (c.in_ok-scheduled.ensures.left now told opened left) in
+    let rest = c.in_ok-rest.ensures.plays (play c.schedule.result.now now).1 told first.done.ready (c.in_ok-scheduled.ensures.left now told opened left) in
     all_played c.args.script.now c.requires _ count.most count.sixteen now begins _ c.schedule.ensures _ _ _ _ _ _ _ first _ rest
