@@ -1,6 +1,7 @@
 -- What is acknowledged never falls as more is said, and is never more than all strokes.
 use Rattle.std.proofs.Common.{◌≡◌, inl, inr, ℕ, ◌+◌, ◌-◌, ◌≤◌, List, [], ◌∷◌, length, refl, sym, ◌∙◌, arith}
 use Rattle.std.specs.Prelude.{Bool, Option, Some, None, true, false, nat_le, option_map}
+use Rattle.std.proofs.lemmas.Bool.{true≢false}
 use Rattle.std.proofs.lemmas.Bool.Decides.{leb_tells}
 use Rattle.nb_model.specs.declared.reply.Reply.{Reply}
 use Rattle.nb_model.specs.Lines.{line_text}
@@ -44,20 +45,14 @@ step_most line k a b x y h later = by_test (nat_le line a) (nat_le line b) (reac
   where
     by_test : (s t : Bool) → (s ≡ true → t ≡ true) → AtMost (elim s as (λ z. Option ℕ) [ false ↦ None | true ↦ after_said k x ]) (elim t as (λ z. Option ℕ) [ false ↦ None | true ↦ after_said k y ])
     by_test false t e = tt
-    by_test true false e = absurd (false_true (e refl))
-      where
-        false_true : false ≡ true → ⊥
-        false_true h = cc
+    by_test true false e = absurd (true≢false (sym (e refl)))
     by_test true true e = said_most k x y later
 
     reaches : (line a b : ℕ) → a ≤ b → nat_le line a ≡ true → nat_le line b ≡ true
     reaches line a b h e = elim (leb_tells line b) [
       | inl v ↦ v.0
-      | inr v ↦ elim (leb_tells line a) [ inl w ↦ absurd (omega (arith, w.1, v.1)) | inr w ↦ absurd (true_false (sym e ∙ w.0)) ]
+      | inr v ↦ elim (leb_tells line a) [ inl w ↦ absurd (omega (arith, w.1, v.1)) | inr w ↦ absurd (true≢false (sym e ∙ w.0)) ]
     ]
-      where
-        true_false : true ≡ false → ⊥
-        true_false h = cc
 
 -- by what the event says
 reply_most : (e : Event) (es : List Event) (a b : ℕ) (reply : Option Reply) → a ≤ b → ((c d : ℕ) → c ≤ d → AtMost (acked_in es c) (acked_in es d)) → AtMost

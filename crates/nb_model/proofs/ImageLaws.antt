@@ -10,9 +10,6 @@ use Rattle.nb_model.specs.Image.{Page, Image, page_at, cut, trimmed}
 use Rattle.nb_model.specs.Levels.{joined}
 use Rattle.nb_model.specs.Sound.{HasNoZeros, IsOfSize}
 
-true_false : true ≡ false → ⊥
-true_false h = cc
-
 -- each page is all zeros
 abbrev pub AreZeros : List Page → Type 0
 AreZeros = AllByRecursion (λ page. is_zeros page ≡ true)

@@ -170,7 +170,7 @@ page_read image file h p low =
     )
 
 -- the database by the state
-owner-formed : (name bytes : List ℕ) (delta : File) → not_database bytes ≡ None → owner name (Some bytes) delta ≡ owner_in (state_of bytes) name bytes delta
+pub owner-formed : (name bytes : List ℕ) (delta : File) → not_database bytes ≡ None → owner name (Some bytes) delta ≡ owner_in (state_of bytes) name bytes delta
 unfolding owner
 owner-formed name bytes delta none = rw (none, owner) refl
 
@@ -219,7 +219,7 @@ owner-none : (name : List ℕ) (delta : File) → owner name None delta ≡ Err 
 unfolding owner
 owner-none name delta = refl
 
-owner-refused : (name bytes : List ℕ) (delta : File) (r : Refusal) → not_database bytes ≡ Some r → owner name (Some bytes) delta ≡ Err r
+pub owner-refused : (name bytes : List ℕ) (delta : File) (r : Refusal) → not_database bytes ≡ Some r → owner name (Some bytes) delta ≡ Err r
 unfolding owner
 owner-refused name bytes delta r e = rw (e, owner) refl
 
