@@ -38,11 +38,6 @@ module _ (P : Page → Type 0) where
   all-replicate zero x h = tt
   all-replicate (suc n) x h = (h, all-replicate n x h)
 
-  pub all-at : (n : ℕ) (xs : List Page) → AllByRecursion P xs → n < length xs → P (page_at xs n)
-  all-at n [] h k = absurd (omega arith)
-  all-at zero (x ∷ xs) h k = h.0
-  all-at (suc n) (x ∷ xs) h k = all-at n xs h.1 (omega arith)
-
 -- pages joined, which is std's word for it too
 pub joined-flat_map : (ps : List Page) → joined ps ≡ flat_map (λ p. p) ps
 joined-flat_map [] = refl

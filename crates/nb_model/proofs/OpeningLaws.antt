@@ -3,6 +3,7 @@ use Rattle.std.proofs.Common.{◌≡◌, ◌≢◌, inl, inr, ℕ, ◌+◌, leng
 use Rattle.std.specs.Prelude.{IsTrue, Bool, true, false, not, ◌&&◌, ◌||◌, ◌==◌, Option, Some, None, Result, Ok, Err, is_some, is_none}
 use Rattle.std.specs.List.{AllByRecursion, slice_index_or}
 use Rattle.std.specs.Cmp.Lexicographic.{told_text}
+use Rattle.std.proofs.lemmas.Bool.{true≢false}
 use Rattle.std.proofs.lemmas.Bool.Decides.{eqb_tells}
 use Rattle.std.proofs.lemmas.List.{append-nil}
 use Rattle.std.proofs.Math.ListN.{get_or-map}
@@ -272,17 +273,13 @@ pub header_paged : IsPaged ShowHeader
 unfolding first_turn header_turn
 header_paged s session = record { made = refl; pages = tt; next = refl }
 
--- other statements aren't done yet
-not_built : false ≡ true → ⊥
-not_built h = cc
-
 -- So does each statement that the program does today.
 pub built_paged : (statement : Statement) → IsTrue (is_built statement) → IsPaged statement
 unfolding first_turn
 built_paged (CreateDb name size raw cache) h = λ s k. record { made = refl; pages = tt; next = refl }
 built_paged (Write p text) h = write_paged p text
 built_paged (Read p) h = read_paged p
-built_paged other h = absurd (not_built h)
+built_paged other h = absurd (true≢false (sym h))
 
 -- what sessions have to do writes pages alone
 abbrev pub IsPagedTurn : Turn → Type 0

@@ -1,12 +1,12 @@
 -- What `put` keeps: after each front of its strokes the image is sound.
 use Rattle.std.proofs.Common.{◌≡◌, ◌≢◌, inl, inr, ℕ, zero, suc, ◌+◌, ◌-◌, ◌*◌, ◌/◌, ◌%◌, ◌^◌, ◌<◌, ◌≤◌, List, [], ◌∷◌, ◌++◌, length, take, drop, refl, sym, ap, subst, ◌∙◌, arith, length-drop}
-use Rattle.std.specs.Prelude.{Bool, true, false, not, ◌==◌, nat_le, Some, None, IsTrue}
-use Rattle.std.proofs.lemmas.Bool.{true≢false, and_parts, cases_lt}
+use Rattle.std.specs.Prelude.{Bool, true, false, not, ◌==◌, nat_le, Some, None}
+use Rattle.std.proofs.lemmas.Bool.{true≢false, cases_lt}
 use Rattle.std.proofs.lemmas.Bool.Decides.{eqb_tells, leb_tells}
 use Rattle.std.proofs.lemmas.List.{length-replicate, take_all, drop-drop}
 use Rattle.nb_fields.specs.Bytes.{number_of, bytes_of, number_in, part, with_part, is_zeros, padded}
-use Rattle.nb_fields.specs.Header.{is_marked, is_header, size_of}
-use Rattle.nb_fields.specs.Places.{is_page_size, entries_in, bits_in, is_inventory_place, is_scn_place}
+use Rattle.nb_fields.specs.Header.{is_header}
+use Rattle.nb_fields.specs.Places.{entries_in, bits_in, is_inventory_place, is_scn_place}
 use Rattle.nb_fields.specs.Page.{head_of, page_of, kind_of, stamp_of, generation_of, stamped}
 use Rattle.nb_fields.specs.Payloads.{entry_of, text_payload}
 use Rattle.nb_fields.proofs.NumberLemmas.{length-bytes_of}
@@ -22,6 +22,7 @@ use Rattle.nb_model.specs.Forms.{Draft, drafted, old_page, wrote, written, needs
 use Rattle.nb_model.specs.Causes.{Cause, first_cause, when, not_raw}
 use Rattle.nb_model.specs.Sound.{IsSoundImage}
 use Rattle.nb_model.proofs.DraftLaws.{either, IsOf, drafted_is, drafts_are, one_more}
+use Rattle.nb_model.proofs.HeaderLaws.{header-size}
 use Rattle.nb_model.proofs.SoundLaws.{all_at, page_no_zeros, inventory_there, scn_page_there, scn_place_some, scn_place_before, with_page_length, HasFields, FitsAt, scn_no_entry, size_stays, scn_stays, fields_stay, entry_here, header_kind, written_other, page_sound}
 
 -- page p may be written: it isn't page 0, and stands below the length or at it
@@ -360,20 +361,13 @@ module _ (Q : Image → Type 0) (K : Page → Type 0) (scn_pages : (bytes : Page
           } in
           (plain_fits x p kind payload h.fields h.sound some room_x plain_x raises.current, of_kind _ (now_kind x p kind payload h.fields h.sound some room_x))
 
--- a header names a page size
-header_size : (first : Page) → is_header first ≡ true → IsTrue (is_page_size (size_of first))
-unfolding is_header
-header_size first is =
-    let sound = (and_parts (is_marked first) _ (and_parts (nat_le 64 (length first)) _ is).1).1 in
-    (and_parts _ _ (and_parts _ _ (and_parts _ _ sound).0).0).1
-
 -- page 0 is a header, and its SCN has four bytes
 pub record HasHeader (image : Image) : Type 0 where
   pub header : is_header (first_page image) ≡ true
   pub scn : image_scn image < 4294967296
 
 pub header_fields : (image : Image) → HasHeader image → HasFields image
-header_fields image h = record { size = header_size (first_page image) h.header; scn = h.scn }
+header_fields image h = record { size = header-size (first_page image) h.header; scn = h.scn }
 
 -- no cause is there
 pub no_first : (c : Cause) (cs : List Cause) → first_cause (c ∷ cs) ≡ None → (c ≡ None) × (first_cause cs ≡ None)
