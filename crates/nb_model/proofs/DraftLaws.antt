@@ -1,8 +1,8 @@
 -- What one write of the short forms keeps, every form keeps, and it holds after each of their strokes.
-use Rattle.std.proofs.Common.{◌≡◌, inl, inr, ℕ, zero, suc, ◌+◌, ◌≤◌, List, [], ◌∷◌, ◌++◌, length, take, refl, sym, ap, subst, ◌∙◌, arith, length-append}
+use Rattle.std.proofs.Common.{◌≡◌, inl, inr, ℕ, zero, suc, ◌+◌, List, [], ◌∷◌, ◌++◌, length, take, refl, sym, ap, subst, ◌∙◌, arith, length-append}
 use Rattle.std.specs.Prelude.{Bool, true, false, ◌==◌, nat_lt}
 use Rattle.std.proofs.lemmas.Bool.Decides.{leb_tells}
-use Rattle.std.proofs.lemmas.List.{take-append-le}
+use Rattle.std.proofs.lemmas.List.{take-append-le, take_all}
 use Rattle.nb_fields.specs.Places.{is_system_place}
 use Rattle.nb_model.specs.Image.{Page, Image, image_size, image_scn, with_page}
 use Rattle.nb_model.specs.Account.{Base}
@@ -16,7 +16,8 @@ pub record IsKept (P : Draft → Type 0) : Type 0 where
   pub reads : (broken : List ℕ) (d : Draft) → P d → P (record d { broken = broken })
   pub fills : (d : Draft) → P d → P (no_page d)
 
-either : (P : Draft → Type 0) (t : Bool) (x y : Draft) → P x → P y → P (elim t as (λ z. Draft) [ true ↦ x | false ↦ y ])
+-- what two drafts have, the one that a test picks has
+pub either : (P : Draft → Type 0) (t : Bool) (x y : Draft) → P x → P y → P (elim t as (λ z. Draft) [ true ↦ x | false ↦ y ])
 either P true x y px py = px
 either P false x y px py = py
 
@@ -105,13 +106,8 @@ pub record Stays (P : Draft → Type 0) (Q : Image → Type 0) (b : Base) (d : D
   pub now : P d
   pub each : (k : ℕ) → Q (base_after b (take k d.strokes)).image
 
-take_all : (k : ℕ) (xs : List Stroke) → length xs ≤ k → take k xs ≡ xs
-take_all zero [] h = refl
-take_all (suc k) [] h = refl
-take_all zero (x ∷ xs) h = absurd (omega arith)
-take_all (suc k) (x ∷ xs) h = ap (λ (ys : List Stroke). x ∷ ys) (take_all k xs (omega arith))
-
-one_more : (Q : Image → Type 0) (b : Base) (ss : List Stroke) (s : Stroke) → ((k : ℕ) → Q (base_after b (take k ss)).image) → Q (base_after b (ss ++ s ∷ [])).image
+-- what held after each front of strokes, and holds after one more, holds after each front with it
+pub one_more : (Q : Image → Type 0) (b : Base) (ss : List Stroke) (s : Stroke) → ((k : ℕ) → Q (base_after b (take k ss)).image) → Q (base_after b (ss ++ s ∷ [])).image
     → (k : ℕ) → Q (base_after b (take k (ss ++ s ∷ []))).image
 one_more Q b ss s each whole k = elim (leb_tells k (length ss)) [
   | inl w ↦ subst (λ (ys : List Stroke). Q (base_after b ys).image) (sym (take-append-le k ss (s ∷ []) w.1)) (each k)

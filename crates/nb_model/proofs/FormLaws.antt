@@ -1,7 +1,7 @@
 -- The form of a database: what it says of a file's bytes.
 use Rattle.std.proofs.Common.{◌≡◌, inl, inr, ℕ, suc, ◌*◌, ◌/◌, ◌%◌, ◌<◌, ◌≤◌, List, [], ◌∷◌, length, refl, sym, ap, ◌∙◌, arith, div-add-mod', mul-div_cancel}
 use Rattle.std.specs.Prelude.{Bool, true, false, IsTrue, not, ◌||◌, ◌==◌, nat_lt, Some, None, min}
-use Rattle.std.proofs.lemmas.Bool.{or_parts, or_from}
+use Rattle.std.proofs.lemmas.Bool.{true≢false, or_parts, or_from}
 use Rattle.std.proofs.lemmas.Bool.Decides.{leb_tells, eqb_tells}
 use Rattle.std.proofs.Math.Nat.{mul-mod_left}
 use Rattle.nb_fields.specs.Header.{is_header, size_of}
@@ -52,19 +52,16 @@ unfolding not_database
 not_database-is bytes = refl
 
 -- what the tests of the length say
-true_false : true ≡ false → ⊥
-true_false h = cc
-
 at_most : (m n : ℕ) → nat_lt n m ≡ false → m ≤ n
-at_most m n h = elim (leb_tells (suc n) m) [ inl w ↦ absurd (true_false (sym w.0 ∙ h)) | inr w ↦ omega (arith, w.1) ]
+at_most m n h = elim (leb_tells (suc n) m) [ inl w ↦ absurd (true≢false (sym w.0 ∙ h)) | inr w ↦ omega (arith, w.1) ]
 
 whole_pages : (left count : ℕ) → (not (left == 0) || nat_lt count 5) ≡ false → (left ≡ 0) × (5 ≤ count)
 whole_pages left count h =
     let parts = or_parts (not (left == 0)) (nat_lt count 5) h in
-    (elim (eqb_tells left 0) [ inl w ↦ w.1 | inr w ↦ absurd (true_false (sym (ap not w.0) ∙ parts.0)) ], least parts.1)
+    (elim (eqb_tells left 0) [ inl w ↦ w.1 | inr w ↦ absurd (true≢false (sym (ap not w.0) ∙ parts.0)) ], least parts.1)
   where
     least : nat_lt count 5 ≡ false → 5 ≤ count
-    least e = elim (leb_tells (suc count) 5) [ inl w ↦ absurd (true_false (sym w.0 ∙ e)) | inr w ↦ omega (arith, w.1) ]
+    least e = elim (leb_tells (suc count) 5) [ inl w ↦ absurd (true≢false (sym w.0 ∙ e)) | inr w ↦ omega (arith, w.1) ]
 
 pub formed : (bytes : List ℕ) → not_database bytes ≡ None → Formed bytes
 formed bytes none = by (is_header bytes) refl (sym (not_database-is bytes) ∙ none)

@@ -24,10 +24,10 @@ use Rattle.nb_model.specs.Image.{Page, Image, page_at, first_page, image_size, i
 use Rattle.nb_model.specs.Levels.{joined}
 use Rattle.nb_model.specs.Sound.{HasNoZeros, IsOfSize}
 use Rattle.nb_model.specs.Main.{HoldsMain}
-use Rattle.nb_model.proofs.HeaderLaws.{first-other}
 use Rattle.nb_model.proofs.ImageLaws.{joined-flat_map, trimmed-no_zeros}
 use Rattle.nb_model.proofs.MainLaws.{IsLaid, main_laid}
 use Rattle.nb_model.proofs.PutLaws.{put-first}
+use Rattle.nb_model.proofs.SoundLaws.{page_no_zeros}
 
 -- how many pages there are
 next_plain-least : (size p : ℕ) → p ≤ next_plain size p
@@ -55,7 +55,7 @@ unfolding fresh
 fresh_page_at size raw p low = get_or-map-range_with_len (fresh_page size raw) 0 (fresh_count size raw) p p [] low (omega arith)
 
 -- the payloads fit
-length-same_entries : (scn n : ℕ) → length (same_entries scn n) ≡ 4 * n
+pub length-same_entries : (scn n : ℕ) → length (same_entries scn n) ≡ 4 * n
 unfolding same_entries bytes_of
 length-same_entries scn zero = omega arith
 length-same_entries scn (suc n) = let rest = length-same_entries scn n in omega arith
@@ -82,13 +82,9 @@ code-other Data = refl
 code-other Raw = refl
 code-other ScnInventory = refl
 
-page_of-other : (size kind generation scn number : ℕ) (payload : List ℕ) → (kind == 0) ≡ false → is_zeros (page_of size kind generation scn number payload) ≡ false
-unfolding page_of head_of
-page_of-other size kind generation scn number payload other = first-other kind (drop 1 (page_of size kind generation scn number payload)) other
-
 pub fresh_page-other : (size raw p : ℕ) → is_zeros (fresh_page size raw p) ≡ false
 unfolding fresh_page
-fresh_page-other size raw p = page_of-other size (code_of (fresh_kind size p)) 1 1 p (fresh_payload size raw p (fresh_kind size p)) (code-other (fresh_kind size p))
+fresh_page-other size raw p = page_no_zeros size (code_of (fresh_kind size p)) 1 1 p (fresh_payload size raw p (fresh_kind size p)) (code-other (fresh_kind size p))
 
 -- what holds of each page
 each : (P : Page → Type 0) (f : ℕ → Page) (from n : ℕ) → ((p : ℕ) → P (f p)) → AllByRecursion P (map f (range_with_len from n))

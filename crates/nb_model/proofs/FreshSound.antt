@@ -2,49 +2,28 @@
 use Rattle.std.proofs.Common.{◌≡◌, inl, inr, ℕ, zero, suc, ◌+◌, ◌-◌, ◌*◌, ◌/◌, ◌%◌, ◌<◌, ◌≤◌, List, [], length, take, drop, replicate, refl, sym, ap, subst, ◌∙◌, arith}
 use Rattle.std.specs.Prelude.{true, false, ◌==◌, IsTrue, if◌then◌else◌, slice_index}
 use Rattle.std.specs.List.{AllByRecursion}
-use Rattle.std.proofs.lemmas.Bool.{true≢false, cond-true, cond-false, cond_both, ne_eqb, eq-eqb, eqb-true, and_parts, cases_lt}
+use Rattle.std.proofs.lemmas.Bool.{true≢false, cond-true, cond-false, ne_eqb, eq-eqb, eqb-true, and_parts, cases_lt}
 use Rattle.std.proofs.lemmas.List.{drop-drop, drop-replicate}
-use Rattle.std.proofs.lemmas.List.FromFn.{length-map-range_with_len, get_or-map-range_with_len}
 use Rattle.nb_fields.specs.declared.kinds.PageKind.{PageKind}
 use Rattle.nb_fields.specs.declared.kinds.PageKind.TheVariants.{Header, Inventory, Data, Raw, ScnInventory}
-use Rattle.nb_fields.specs.Bytes.{bytes_of, number_of, number_in, padded, part, is_zeros}
-use Rattle.nb_fields.specs.Header.{size_of, scn_of, guid_of}
+use Rattle.nb_fields.specs.Bytes.{bytes_of, padded, part}
+use Rattle.nb_fields.specs.Header.{guid_of}
 use Rattle.nb_fields.specs.Kinds.{code_of}
-use Rattle.nb_fields.specs.Places.{is_page_size, entries_in, bits_in, inventory_place, scn_place, is_inventory_place, is_scn_place, is_system_place}
+use Rattle.nb_fields.specs.Places.{is_page_size, entries_in, bits_in, inventory_place, scn_place, is_inventory_place, is_scn_place}
 use Rattle.nb_fields.specs.Page.{head_of, page_of, kind_of}
-use Rattle.nb_fields.specs.Payloads.{control_block, header_payload, inventory_payload, same_entries, scn_payload, data_payload, text_payload, bit_of, entry_of}
-use Rattle.nb_fields.specs.Fresh.{next_plain, length_after, fresh_count, fresh_kind, fresh_payload, fresh_page, fresh, ShowsFresh}
-use Rattle.nb_fields.proofs.NumberLemmas.{number_of-bytes_of}
-use Rattle.nb_fields.proofs.PageLemmas.{length-page_of}
-use Rattle.nb_fields.proofs.SizeLemmas.{size_facts}
+use Rattle.nb_fields.specs.Payloads.{control_block, header_payload, inventory_payload, scn_payload, data_payload, bit_of, entry_of}
+use Rattle.nb_fields.specs.Fresh.{fresh_count, fresh_kind, fresh_payload, fresh_page, fresh, ShowsFresh}
 use Rattle.nb_fields.proofs.FreshLemmas.{fresh_count-most}
 use Rattle.nb_fields.proofs.FreshLaws.{fresh_shows, length-taken_bits}
 use Rattle.nb_fields.proofs.PlaceLemmas.{fresh_kind-scn}
-use Rattle.nb_model.specs.Image.{Page, page_at, image_size, image_scn, image_guid}
+use Rattle.nb_model.specs.Image.{Page, page_at, image_size, image_guid}
 use Rattle.nb_model.specs.Account.{Kept}
 use Rattle.nb_model.specs.Chains.{Slot, is_used, slots_from, slots_in}
 use Rattle.nb_model.specs.Stands.{IsRemembered, NamesItsPast, is_history_page}
 use Rattle.nb_model.specs.Forms.{scn_page_of, scn_entry, is_free_page}
-use Rattle.nb_model.specs.Sound.{HasNoZeros, IsOfSize, HasSystemPages, HasBitsBelow, HasEntries, HasStamps, IsSoundImage}
-use Rattle.nb_model.proofs.SoundLaws.{all_from, page_no_zeros, inventory_behind, scn_place_of, scn_place_before}
-
--- a new database has five pages at least
-next_least : (size p : ℕ) → p ≤ next_plain size p
-unfolding next_plain
-next_least size p =
-    cond_both (is_system_place size p) _ p (λ n. p ≤ n) (λ here. cond_both (is_system_place size (p + 1)) (p + 2) (p + 1) (λ n. p ≤ n) (λ next. omega arith) (λ plain. omega arith)) (λ plain. omega arith)
-
-after_least : (size raw p : ℕ) → p ≤ length_after size raw p
-unfolding length_after
-after_least size zero p = omega arith
-after_least size (suc raw) p =
-    let next = next_least size p in
-    let rest = after_least size raw (next_plain size p + 1) in
-    omega arith
-
-count_least : (size raw : ℕ) → 5 ≤ fresh_count size raw
-unfolding fresh_count
-count_least size raw = after_least size raw 5
+use Rattle.nb_model.specs.Sound.{IsOfSize, HasSystemPages, HasBitsBelow, HasEntries, HasStamps, IsSoundImage}
+use Rattle.nb_model.proofs.FreshImageLaws.{length-same_entries, fresh_count-least, fresh_length, fresh_page_at, fresh_first, fresh_size, fresh_scn, fresh_no_zeros, fresh_sizes}
+use Rattle.nb_model.proofs.SoundLaws.{inventory_behind, scn_place_of, scn_place_before}
 
 -- what stands at the system places
 pub kind_inventory : (size p : ℕ) → IsTrue (is_page_size size) → is_inventory_place size p ≡ true → fresh_kind size p ≡ Inventory
@@ -54,67 +33,16 @@ kind_inventory size p is at = cond-false (p == 0) _ _ (ne_eqb p 0 (inventory_beh
 pub kind_scn : (size p : ℕ) → IsTrue (is_page_size size) → is_scn_place size p ≡ true → fresh_kind size p ≡ ScnInventory
 kind_scn size p is at = fresh_kind-scn size (p / entries_in size) p is (scn_place_of size p is at)
 
--- a payload fits into its page
-entries_length : (scn n : ℕ) → length (same_entries scn n) ≡ 4 * n
-unfolding same_entries bytes_of
-entries_length scn zero = refl
-entries_length scn (suc n) = let h = entries_length scn n in omega arith
-
+-- how long the payload of a system page is
 pub inventory_length : (size k taken : ℕ) → length (inventory_payload size k taken) ≡ 16 + (size - 32)
 unfolding inventory_payload bytes_of
 inventory_length size k taken = let h = length-taken_bits (size - 32) taken in omega arith
 
 pub scn_length : (size k scn : ℕ) → length (scn_payload size k scn) ≡ 16 + 4 * entries_in size
 unfolding scn_payload bytes_of
-scn_length size k scn = let h = entries_length scn (entries_in size) in omega arith
+scn_length size k scn = let h = length-same_entries scn (entries_in size) in omega arith
 
-header_length : (size state scn : ℕ) → length (header_payload size state scn (replicate 16 0) (replicate 16 0)) ≡ 64
-unfolding header_payload control_block bytes_of
-header_length size state scn = refl
-
-data_length : (next owner : ℕ) → length (data_payload next owner []) ≡ 16
-unfolding data_payload bytes_of
-data_length next owner = refl
-
-text_length : length (text_payload []) ≡ 2
-unfolding text_payload bytes_of
-text_length = refl
-
-payload_fits : (size raw p : ℕ) (kind : PageKind) → IsTrue (is_page_size size) → 16 + length (fresh_payload size raw p kind) ≤ size
-unfolding fresh_payload
-payload_fits size raw p Header is = let facts = size_facts size is in omega (arith, header_length size 0 1)
-payload_fits size raw p Inventory is =
-    let facts = size_facts size is in
-    let k : ℕ = (p + 1) / bits_in size in
-    omega (arith, inventory_length size k (fresh_count size raw - k * bits_in size))
-payload_fits size raw p ScnInventory is = let facts = size_facts size is in omega (arith, scn_length size (p / entries_in size) 1)
-payload_fits size raw p Data is = let facts = size_facts size is in omega (arith, data_length 0 (if p == 4 then 1 else 0))
-payload_fits size raw p Raw is = let facts = size_facts size is in omega (arith, text_length)
-
-page_length : (size raw p : ℕ) → IsTrue (is_page_size size) → length (fresh_page size raw p) ≡ size
-unfolding fresh_page
-page_length size raw p is = length-page_of size (code_of (fresh_kind size p)) 1 1 p (fresh_payload size raw p (fresh_kind size p)) (payload_fits size raw p (fresh_kind size p) is)
-
-code_some : (kind : PageKind) → (code_of kind == 0) ≡ false
-code_some Header = refl
-code_some Inventory = refl
-code_some Data = refl
-code_some Raw = refl
-code_some ScnInventory = refl
-
-fresh_no_zeros : (size raw p : ℕ) → is_zeros (fresh_page size raw p) ≡ false
-unfolding fresh_page
-fresh_no_zeros size raw p = page_no_zeros size (code_of (fresh_kind size p)) 1 1 p (fresh_payload size raw p (fresh_kind size p)) (code_some (fresh_kind size p))
-
--- the fields of the header
-header_size : (size raw : ℕ) → size < 4294967296 → size_of (fresh_page size raw 0) ≡ size
-unfolding fresh_page fresh_kind fresh_payload page_of head_of padded header_payload control_block bytes_of number_in
-header_size size raw small = number_of-bytes_of 4 size small
-
-header_scn : (size raw : ℕ) → scn_of (fresh_page size raw 0) ≡ 1
-unfolding fresh_page fresh_kind fresh_payload page_of head_of padded header_payload control_block bytes_of number_in number_of
-header_scn size raw = refl
-
+-- no backup is named
 header_guid : (size raw : ℕ) → guid_of (fresh_page size raw 0) ≡ replicate 16 0
 unfolding fresh_page fresh_kind fresh_payload page_of head_of padded header_payload control_block bytes_of
 header_guid size raw = refl
@@ -157,42 +85,26 @@ unfolding is_history_page
 history_kind page is = eqb-true (kind_of page) 5 (and_parts (kind_of page == 5) _ is).0
 
 module _ (size raw : ℕ) (is : IsTrue (is_page_size size)) (few : raw ≤ 65535) where
-  fresh_length : length (fresh size raw) ≡ fresh_count size raw
-  unfolding fresh
-  fresh_length = length-map-range_with_len (fresh_page size raw) 0 (fresh_count size raw)
+  size_is : image_size (fresh size raw) ≡ size
+  size_is = fresh_size size raw is
 
-  fresh_at : (p : ℕ) → p < fresh_count size raw → page_at (fresh size raw) p ≡ fresh_page size raw p
-  unfolding fresh
-  fresh_at p h = get_or-map-range_with_len (fresh_page size raw) 0 (fresh_count size raw) p p [] h (omega arith)
-
-  first_at : page_at (fresh size raw) 0 ≡ fresh_page size raw 0
-  first_at = fresh_at 0 (let least = count_least size raw in omega arith)
-
-  fresh_size : image_size (fresh size raw) ≡ size
-  fresh_size = ap size_of first_at ∙ header_size size raw (let facts = size_facts size is in omega (arith, facts.at_most))
-
-  fresh_scn : image_scn (fresh size raw) ≡ 1
-  fresh_scn = ap scn_of first_at ∙ header_scn size raw
+  fresh_at : (p : ℕ) → p < length (fresh size raw) → page_at (fresh size raw) p ≡ fresh_page size raw p
+  fresh_at p low = fresh_page_at size raw p (omega (arith, fresh_length size raw))
 
   fresh_guid : image_guid (fresh size raw) ≡ replicate 16 0
-  fresh_guid = ap guid_of first_at ∙ header_guid size raw
+  fresh_guid = ap guid_of (fresh_first size raw) ∙ header_guid size raw
 
   -- what each page shows
   shows : (p : ℕ) → p < length (fresh size raw) → ShowsFresh size raw p (page_at (fresh size raw) p)
-  shows p low =
-      let inside : p < fresh_count size raw = omega (arith, fresh_length) in
-      subst (ShowsFresh size raw p) (sym (fresh_at p inside)) (fresh_shows size raw p is few inside)
-
-  no_zeros : HasNoZeros (fresh size raw)
-  no_zeros = all_from (λ page. is_zeros page ≡ false) (fresh size raw) (λ p low. ap is_zeros (fresh_at p (omega (arith, fresh_length))) ∙ fresh_no_zeros size raw p)
+  shows p low = subst (ShowsFresh size raw p) (sym (fresh_at p low)) (fresh_shows size raw p is few (omega (arith, fresh_length size raw)))
 
   of_size : IsOfSize (image_size (fresh size raw)) (fresh size raw)
-  of_size = all_from (λ page. length page ≡ image_size (fresh size raw)) (fresh size raw) (λ p low. ap length (fresh_at p (omega (arith, fresh_length))) ∙ page_length size raw p is ∙ sym fresh_size)
+  of_size = subst (λ (s : ℕ). IsOfSize s (fresh size raw)) (sym size_is) (fresh_sizes size raw is)
 
   system : HasSystemPages (fresh size raw)
   system = record {
-    inventories = λ p low at. (shows p low).kind ∙ ap code_of (kind_inventory size p is (subst (λ (s : ℕ). is_inventory_place s p ≡ true) fresh_size at));
-    scn_pages = λ p low at. (shows p low).kind ∙ ap code_of (kind_scn size p is (subst (λ (s : ℕ). is_scn_place s p ≡ true) fresh_size at));
+    inventories = λ p low at. (shows p low).kind ∙ ap code_of (kind_inventory size p is (subst (λ (s : ℕ). is_inventory_place s p ≡ true) size_is at));
+    scn_pages = λ p low at. (shows p low).kind ∙ ap code_of (kind_scn size p is (subst (λ (s : ℕ). is_scn_place s p ≡ true) size_is at));
   }
 
   -- the facts on bits and entries, for a page size
@@ -201,7 +113,7 @@ module _ (size raw : ℕ) (is : IsTrue (is_page_size size)) (few : raw ≤ 65535
 
   taken_below : BitsBelow size
   taken_below p low taken = elim (cases_lt p (fresh_count size raw)) [
-    | inl below ↦ omega (arith, fresh_length)
+    | inl below ↦ omega (arith, fresh_length size raw)
     | inr past ↦
         let free = (shows (inventory_place size (p / bits_in size)) low).free p refl past in
         absurd (true≢false (sym (eq-eqb _ 1 free) ∙ taken))
@@ -209,15 +121,15 @@ module _ (size raw : ℕ) (is : IsTrue (is_page_size size)) (few : raw ≤ 65535
 
   bits : HasBitsBelow (fresh size raw)
   unfolding is_free_page
-  bits = subst BitsBelow (sym fresh_size) taken_below
+  bits = subst BitsBelow (sym size_is) taken_below
 
   abbrev EntryThere : ℕ → Type 0
   EntryThere s = (p : ℕ) → p < length (fresh size raw) → scn_place s (p / entries_in s) < length (fresh size raw)
 
   entry_there : EntryThere size
   entry_there p low =
-      let least = count_least size raw in
-      elim (scn_place_before size p is) [ inl second ↦ omega (arith, fresh_length) | inr before ↦ omega arith ]
+      let least = fresh_count-least size raw in
+      elim (scn_place_before size p is) [ inl second ↦ omega (arith, fresh_length size raw) | inr before ↦ omega arith ]
 
   abbrev EntryIs : ℕ → Type 0
   EntryIs s = (p : ℕ) → scn_place s (p / entries_in s) < length (fresh size raw) → entry_of (page_at (fresh size raw) (scn_place s (p / entries_in s))) (p % entries_in s) ≡ 1
@@ -227,33 +139,33 @@ module _ (size raw : ℕ) (is : IsTrue (is_page_size size)) (few : raw ≤ 65535
 
   entry_one : (p : ℕ) → scn_page_of (fresh size raw) p < length (fresh size raw) → scn_entry (fresh size raw) p ≡ 1
   unfolding scn_entry
-  entry_one = subst EntryIs (sym fresh_size) entry_is
+  entry_one = subst EntryIs (sym size_is) entry_is
 
   page_there : (p : ℕ) → p < length (fresh size raw) → scn_page_of (fresh size raw) p < length (fresh size raw)
-  page_there = subst EntryThere (sym fresh_size) entry_there
+  page_there = subst EntryThere (sym size_is) entry_there
 
   entries : HasEntries (fresh size raw)
   entries = record {
     there = λ p low has. page_there p low;
     no_lower = λ p low has. omega (arith, (shows p low).stamp, entry_one p (page_there p low));
-    no_later = λ p low has. omega (arith, entry_one p low, fresh_scn);
+    no_later = λ p low has. omega (arith, entry_one p low, fresh_scn size raw);
   }
 
   stamps : HasStamps (fresh size raw)
   stamps = record {
-    no_later = λ p low. omega (arith, (shows p low).stamp, fresh_scn);
-    head = (shows 0 (let least = count_least size raw in omega (arith, fresh_length))).stamp ∙ sym fresh_scn;
+    no_later = λ p low. omega (arith, (shows p low).stamp, fresh_scn size raw);
+    head = (shows 0 (let least = fresh_count-least size raw in omega (arith, fresh_length size raw))).stamp ∙ sym (fresh_scn size raw);
   }
 
   -- a new database is sound
   pub fresh_sound : IsSoundImage (fresh size raw)
   fresh_sound =
-      let least = count_least size raw in
+      let least = fresh_count-least size raw in
       let most = fresh_count-most size raw in
       record {
-        sound = record { no_zeros = no_zeros; system = system; bits = bits; entries = entries; stamps = stamps };
-        least = omega (arith, fresh_length);
-        most = omega (arith, fresh_length);
+        sound = record { no_zeros = fresh_no_zeros size raw; system = system; bits = bits; entries = entries; stamps = stamps };
+        least = omega (arith, fresh_length size raw);
+        most = omega (arith, fresh_length size raw);
         sizes = of_size;
       }
 
@@ -264,7 +176,7 @@ module _ (size raw : ℕ) (is : IsTrue (is_page_size size)) (few : raw ≤ 65535
     rows = λ p low history.
         let page : Page = page_at (fresh size raw) p in
         let kind : code_of (fresh_kind size p) ≡ 5 = sym (shows p low).kind ∙ history_kind page history in
-        let rest : drop 32 page ≡ replicate (size - 16 - 16) 0 = ap (drop 32) (fresh_at p (omega (arith, fresh_length))) ∙ fresh_rest size raw p kind in
+        let rest : drop 32 page ≡ replicate (size - 16 - 16) 0 = ap (drop 32) (fresh_at p low) ∙ fresh_rest size raw p kind in
         all_free (IsRemembered kept (fresh size raw)) page (size - 16 - 16) ((length page - 32) / 256) 32 rest (omega arith);
     last = λ some. absurd (some fresh_guid);
   }

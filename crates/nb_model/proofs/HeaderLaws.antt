@@ -1,7 +1,7 @@
 -- What the form of a header says of the bytes, and that the first 64 bytes decide it.
 use Rattle.std.proofs.Common.{◌≡◌, inl, inr, ℕ, suc, ◌+◌, ◌≤◌, List, [], ◌∷◌, length, take, refl, sym, ap, ◌∙◌, arith}
 use Rattle.std.specs.Prelude.{Bool, true, false, IsTrue, ◌&&◌, ◌==◌}
-use Rattle.std.proofs.lemmas.Bool.{and_parts}
+use Rattle.std.proofs.lemmas.Bool.{true≢false, and_parts}
 use Rattle.std.proofs.lemmas.Bool.Decides.{leb_tells, eqb_tells}
 use Rattle.nb_fields.specs.Bytes.{number_of, number_in, is_zeros}
 use Rattle.nb_fields.specs.Header.{is_header, is_marked, is_sound, state_of, size_of, scn_of}
@@ -9,9 +9,6 @@ use Rattle.nb_fields.specs.Places.{is_page_size}
 use Rattle.nb_fields.proofs.HeaderLemmas.{is_header-short, is_header-long, is_header-take}
 use Rattle.nb_fields.proofs.PartLemmas.{number_in-take}
 use Rattle.nb_model.specs.Image.{Page}
-
-true_false : true ≡ false → ⊥
-true_false h = cc
 
 not_marked : (p : Page) → (number_in 0 1 p == 1) ≡ false → is_marked p ≡ false
 unfolding is_marked
@@ -25,7 +22,7 @@ first_byte b bs = omega arith
 -- the bytes of a header
 module _ (p : Page) (h : is_header p ≡ true) where
   pub header-long : 64 ≤ length p
-  header-long = elim (leb_tells (suc (length p)) 64) [ inl w ↦ absurd (true_false (sym h ∙ is_header-short p w.1)) | inr w ↦ omega (arith, w.1) ]
+  header-long = elim (leb_tells (suc (length p)) 64) [ inl w ↦ absurd (true≢false (sym h ∙ is_header-short p w.1)) | inr w ↦ omega (arith, w.1) ]
 
   form : (is_marked p && is_sound (state_of p) (size_of p) (scn_of p)) ≡ true
   form = sym (is_header-long p header-long) ∙ h
@@ -36,14 +33,14 @@ module _ (p : Page) (h : is_header p ≡ true) where
     where
       second : (a b c d : Bool) → (a && b && c && d) ≡ true → b ≡ true
       second true true c d k = refl
-      second true false c d k = absurd (true_false (sym k))
-      second false b c d k = absurd (true_false (sym k))
+      second true false c d k = absurd (true≢false (sym k))
+      second false b c d k = absurd (true≢false (sym k))
 
   -- the first byte is the kind
   pub header-kind : number_in 0 1 p ≡ 1
   header-kind = elim (eqb_tells (number_in 0 1 p) 1) [
     | inl w ↦ w.1
-    | inr w ↦ absurd (true_false (sym (and_parts (is_marked p) _ form).0 ∙ not_marked p w.0))
+    | inr w ↦ absurd (true≢false (sym (and_parts (is_marked p) _ form).0 ∙ not_marked p w.0))
   ]
 
 -- a page whose first byte isn't 0 isn't all zeros

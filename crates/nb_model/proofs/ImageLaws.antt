@@ -10,9 +10,6 @@ use Rattle.nb_model.specs.Image.{Page, Image, page_at, cut, trimmed}
 use Rattle.nb_model.specs.Levels.{joined}
 use Rattle.nb_model.specs.Sound.{HasNoZeros, IsOfSize}
 
-true_false : true ≡ false → ⊥
-true_false h = cc
-
 -- each page is all zeros
 abbrev pub AreZeros : List Page → Type 0
 AreZeros = AllByRecursion (λ page. is_zeros page ≡ true)
@@ -40,11 +37,6 @@ module _ (P : Page → Type 0) where
   pub all-replicate : (n : ℕ) (x : Page) → P x → AllByRecursion P (replicate n x)
   all-replicate zero x h = tt
   all-replicate (suc n) x h = (h, all-replicate n x h)
-
-  pub all-at : (n : ℕ) (xs : List Page) → AllByRecursion P xs → n < length xs → P (page_at xs n)
-  all-at n [] h k = absurd (omega arith)
-  all-at zero (x ∷ xs) h k = h.0
-  all-at (suc n) (x ∷ xs) h k = all-at n xs h.1 (omega arith)
 
 -- pages joined, which is std's word for it too
 pub joined-flat_map : (ps : List Page) → joined ps ≡ flat_map (λ p. p) ps

@@ -1,7 +1,7 @@
 -- Reading a level file gives what was written, in both versions. So bytes spell one level file at most.
 use Rattle.std.proofs.Common.{◌≡◌, inl, inr, ℕ, zero, suc, ◌+◌, ◌<◌, ◌≤◌, ◌⊎◌, List, [], ◌∷◌, ◌++◌, length, take, drop, refl, sym, ap, subst, ◌∙◌, arith, length-append, append_assoc}
 use Rattle.std.specs.Prelude.{Bool, true, false, not, ◌&&◌, ◌||◌, ◌==◌, nat_lt, nat_le, None, Result, Ok, Err}
-use Rattle.std.proofs.lemmas.Bool.{eqb-true, or_cases}
+use Rattle.std.proofs.lemmas.Bool.{true≢false, eqb-true, or_cases}
 use Rattle.std.proofs.lemmas.Bool.Decides.{leb_tells}
 use Rattle.std.proofs.lemmas.List.{take_at, drop_at, drop-drop}
 use Rattle.nb_fields.specs.Bytes.{number_of, bytes_of, number_in, part}
@@ -168,16 +168,10 @@ body_102 h r rs left few body =
 
 both_second : (a b : Bool) → (a && b) ≡ true → b ≡ true
 both_second true b e = e
-both_second false b e = absurd (false_true e)
-  where
-    false_true : false ≡ true → ⊥
-    false_true h = cc
+both_second false b e = absurd (true≢false (sym e))
 
 le_is : (a b : ℕ) → nat_le a b ≡ true → a ≤ b
-le_is a b e = elim (leb_tells a b) [ inl w ↦ w.1 | inr w ↦ absurd (true_false (sym e ∙ w.0)) ]
-  where
-    true_false : true ≡ false → ⊥
-    true_false h = cc
+le_is a b e = elim (leb_tells a b) [ inl w ↦ w.1 | inr w ↦ absurd (true≢false (sym e ∙ w.0)) ]
 
 fits : (h : Head) → IsHead h → Fits h
 fits h is =

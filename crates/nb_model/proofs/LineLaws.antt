@@ -1,8 +1,10 @@
 -- The files of a line of backups give the image of its last.
 use Rattle.std.proofs.Common.{◌≡◌, ℕ, zero, suc, ◌+◌, ◌-◌, ◌<◌, ◌≤◌, List, [], ◌∷◌, ◌++◌, length, drop, refl, sym, ap, ◌∙◌, arith, length-append, append_assoc}
 use Rattle.std.proofs.lemmas.List.{append-nil, get_or_append_left}
+use Rattle.std.specs.Prelude.{true}
+use Rattle.nb_fields.specs.Bytes.{is_zeros}
 use Rattle.nb_fields.specs.Page.{stamp_of}
-use Rattle.nb_model.specs.Image.{Page, Image, page_at, image_size, trimmed, written_at, overwritten}
+use Rattle.nb_model.specs.Image.{Image, page_at, image_size, trimmed, written_at, overwritten}
 use Rattle.nb_model.specs.Account.{Kept}
 use Rattle.nb_model.specs.Levels.{taken, numbered_from}
 use Rattle.nb_model.specs.Restoring.{all_over, applied}
@@ -10,27 +12,11 @@ use Rattle.nb_model.specs.Follows.{Follows}
 use Rattle.nb_model.specs.Sound.{HasNoZeros}
 use Rattle.nb_model.specs.Line.{IsLine, last_in, AreZeroPages, first_file, next_files}
 use Rattle.nb_model.proofs.FollowsLaws.{meets, overwrites, written_end}
+use Rattle.nb_model.proofs.ImageLaws.{all-drop, trimmed-no_zeros, trimmed-append_zeros}
 
 -- pages of zeros at the end go
-trimmed_zeros : (zs : Image) → AreZeroPages zs → trimmed zs ≡ []
-unfolding trimmed
-trimmed_zeros [] h = refl
-trimmed_zeros (z ∷ zs) h = rw (trimmed_zeros zs h.1, trimmed) (rw h.0 refl)
-
-trimmed_step : (p : Page) (ps : Image) (q : Page) (qs : Image) → trimmed ps ≡ q ∷ qs → trimmed (p ∷ ps) ≡ p ∷ q ∷ qs
-unfolding trimmed
-trimmed_step p ps q qs e = rw (e, trimmed) refl
-
 pub trimmed_all : (ps zs : Image) → HasNoZeros ps → AreZeroPages zs → trimmed (ps ++ zs) ≡ ps
-unfolding trimmed
-trimmed_all [] zs h z = trimmed_zeros zs z
-trimmed_all (p ∷ []) zs h z = rw (trimmed_zeros zs z, trimmed) (rw h.0 refl)
-trimmed_all (p ∷ q ∷ qs) zs h z = trimmed_step p (q ∷ (qs ++ zs)) q qs (trimmed_all (q ∷ qs) zs h.1 z)
-
-drop_zeros : (k : ℕ) (zs : Image) → AreZeroPages zs → AreZeroPages (drop k zs)
-drop_zeros zero zs h = h
-drop_zeros (suc k) [] h = tt
-drop_zeros (suc k) (z ∷ zs) h = drop_zeros k zs h.1
+trimmed_all ps zs h z = trimmed-append_zeros ps zs z ∙ trimmed-no_zeros ps h
 
 -- all pages written give the image
 writes_all : (size n : ℕ) (front a : Image) → length front ≡ n → overwritten size (numbered_from n a) front ≡ front ++ a
@@ -56,7 +42,7 @@ one_level : (size s : ℕ) (a b zs : Image) → Follows a s b → AreZeroPages z
 one_level size s a b zs f z =
     let k : ℕ = length b - length a in
     let split : drop (length b) (a ++ zs) ≡ drop k zs = drop_behind (length b) a zs f.no_shorter in
-    (drop k zs, drop_zeros k zs z, overwrites size s 0 [] (a ++ zs) b refl (meets s (a ++ zs) b (meets_behind zs f)) ∙ ap (λ (x : Image). b ++ x) split)
+    (drop k zs, all-drop (λ page. is_zeros page ≡ true) k zs z, overwrites size s 0 [] (a ++ zs) b refl (meets s (a ++ zs) b (meets_behind zs f)) ∙ ap (λ (x : Image). b ++ x) split)
 
 -- all levels of a line
 line_over : (r : Kept) (qs : List Kept) (zs : Image) → IsLine r qs → AreZeroPages zs → (left : Image) × AreZeroPages left × (all_over (next_files r qs) (r.image ++ zs) ≡ (last_in r qs).image ++ left)

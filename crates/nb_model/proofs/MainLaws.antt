@@ -20,7 +20,8 @@ use Rattle.nb_model.specs.Owner.{delta_name, entry_for, behind_entries, slot_pag
 use Rattle.nb_model.specs.Main.{HoldsMain}
 use Rattle.nb_model.proofs.FormLaws.{Formed, formed, no_cause}
 use Rattle.nb_model.proofs.HeaderLaws.{header-long, header-other, same-header, same-number}
-use Rattle.nb_model.proofs.ImageLaws.{AreZeros, IsTrimmed, Pages, pages_of, cut-joined, page-joined, length-joined, trimming, trimmed-other, trimmed-append_zeros, all-at, all-left}
+use Rattle.nb_model.proofs.ImageLaws.{AreZeros, IsTrimmed, Pages, pages_of, cut-joined, page-joined, length-joined, trimming, trimmed-other, trimmed-append_zeros, all-left}
+use Rattle.nb_model.proofs.SoundLaws.{all_at}
 
 -- A file is an image and pages of zeros behind it. The image has a header, and its last page isn't zeros.
 pub record IsLaid (image : Image) (bytes : List ℕ) : Type 0 where
@@ -150,7 +151,7 @@ main_facts image file h =
       state = main_state image file h;
       some = some_page image l.header;
       whole = (length pages, ap length l.is ∙ length-joined (image_size image) pages l.sizes, l.most, omega (arith, length-append image l.rest));
-      sizes = λ p low. all-at (λ page. length page ≡ image_size image) p image (all-left (λ page. length page ≡ image_size image) image l.rest l.sizes) low;
+      sizes = λ p low. all_at (λ page. length page ≡ image_size image) image (all-left (λ page. length page ≡ image_size image) image l.rest l.sizes) p low;
       header = l.header;
       front = front;
     }
@@ -170,7 +171,7 @@ page_read image file h p low =
     )
 
 -- the database by the state
-owner-formed : (name bytes : List ℕ) (delta : File) → not_database bytes ≡ None → owner name (Some bytes) delta ≡ owner_in (state_of bytes) name bytes delta
+pub owner-formed : (name bytes : List ℕ) (delta : File) → not_database bytes ≡ None → owner name (Some bytes) delta ≡ owner_in (state_of bytes) name bytes delta
 unfolding owner
 owner-formed name bytes delta none = rw (none, owner) refl
 
@@ -219,7 +220,7 @@ owner-none : (name : List ℕ) (delta : File) → owner name None delta ≡ Err 
 unfolding owner
 owner-none name delta = refl
 
-owner-refused : (name bytes : List ℕ) (delta : File) (r : Refusal) → not_database bytes ≡ Some r → owner name (Some bytes) delta ≡ Err r
+pub owner-refused : (name bytes : List ℕ) (delta : File) (r : Refusal) → not_database bytes ≡ Some r → owner name (Some bytes) delta ≡ Err r
 unfolding owner
 owner-refused name bytes delta r e = rw (e, owner) refl
 

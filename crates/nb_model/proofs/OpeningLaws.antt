@@ -3,6 +3,7 @@ use Rattle.std.proofs.Common.{◌≡◌, ◌≢◌, inl, inr, ℕ, ◌+◌, leng
 use Rattle.std.specs.Prelude.{IsTrue, Bool, true, false, not, ◌&&◌, ◌||◌, ◌==◌, Option, Some, None, Result, Ok, Err, is_some, is_none}
 use Rattle.std.specs.List.{AllByRecursion, slice_index_or}
 use Rattle.std.specs.Cmp.Lexicographic.{told_text}
+use Rattle.std.proofs.lemmas.Bool.{true≢false}
 use Rattle.std.proofs.lemmas.Bool.Decides.{eqb_tells}
 use Rattle.std.proofs.lemmas.List.{append-nil}
 use Rattle.std.proofs.Math.ListN.{get_or-map}
@@ -34,19 +35,11 @@ use Rattle.nb_model.specs.Run.{Now, Event, base_now, with_made, account_after, o
 use Rattle.nb_model.specs.Stands.{Stands, IsSameImage, HasNoStrayDelta}
 use Rattle.nb_model.proofs.DraftLaws.{put_keeps, set_bit_keeps, new_keeps}
 use Rattle.nb_model.proofs.HeaderLaws.{header-other}
+use Rattle.nb_model.proofs.MainLaws.{owner-formed, owner-refused}
 use Rattle.nb_model.proofs.NormalLaws.{IsPage, HasPages, forms_have_pages}
 use Rattle.nb_model.proofs.RunLaws.{entry_same, base_in_base}
 use Rattle.nb_model.proofs.StandsLaws.{entry_other, formed_header, stands_same}
 use Rattle.nb_model.proofs.TodoLaws.{IsSingleTurn, turns_at, all_left, one_left}
-
--- the database of a file of the form is told by its state
-owner_formed : (name bytes : List ℕ) (delta : File) → not_database bytes ≡ None → owner name (Some bytes) delta ≡ owner_in (state_of bytes) name bytes delta
-unfolding owner
-owner_formed name bytes delta none = rw (none, owner) refl
-
-owner_refused : (name bytes : List ℕ) (delta : File) (r : Refusal) → not_database bytes ≡ Some r → owner name (Some bytes) delta ≡ Err r
-unfolding owner
-owner_refused name bytes delta r some = rw (some, owner) refl
 
 -- in the applying state it isn't opened
 owner_applying : (name bytes : List ℕ) (delta : File) → owner_in 3 name bytes delta ≡ Err Unfinished
@@ -68,9 +61,9 @@ pub opened_in_use : (name bytes : List ℕ) (delta : File) (b : Base) → owner 
 opened_in_use name bytes delta b opens = by (not_database bytes) refl
   where
     by : (c : Cause) → not_database bytes ≡ c → is_free_file (Some bytes) ≡ false
-    by (Some r) is = absurd (err_ok (owner name (Some bytes) delta) r b (owner_refused name bytes delta r is) opens)
+    by (Some r) is = absurd (err_ok (owner name (Some bytes) delta) r b (owner-refused name bytes delta r is) opens)
     by None is = elim (eqb_tells (state_of bytes) 3) [
-      | inl w ↦ absurd (err_ok (owner name (Some bytes) delta) Unfinished b (owner_formed name bytes delta is ∙ ap (λ n. owner_in n name bytes delta) w.1 ∙ owner_applying name bytes delta) opens)
+      | inl w ↦ absurd (err_ok (owner name (Some bytes) delta) Unfinished b (owner-formed name bytes delta is ∙ ap (λ n. owner_in n name bytes delta) w.1 ∙ owner_applying name bytes delta) opens)
       | inr w ↦ in_use bytes (formed_header bytes is) w.0
     ]
 
@@ -280,10 +273,6 @@ pub header_paged : IsPaged ShowHeader
 unfolding first_turn header_turn
 header_paged s session = record { made = refl; pages = tt; next = refl }
 
--- other statements aren't done yet
-not_built : false ≡ true → ⊥
-not_built h = cc
-
 -- So does each statement that the program does today.
 pub built_paged : (statement : Statement) → IsTrue (is_built statement) → IsPaged statement
 unfolding first_turn
@@ -293,7 +282,7 @@ built_paged PageNew h = new_paged
 built_paged (Write p text) h = write_paged p text
 built_paged (Read p) h = read_paged p
 built_paged (Free p) h = free_paged p
-built_paged other h = absurd (not_built h)
+built_paged other h = absurd (true≢false (sym h))
 
 -- what sessions have to do writes pages alone
 abbrev pub IsPagedTurn : Turn → Type 0

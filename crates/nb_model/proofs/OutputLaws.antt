@@ -1,6 +1,6 @@
 -- What runs say and what of it is acknowledged, where one run goes on from another.
 use Rattle.std.proofs.Common.{◌≡◌, ℕ, ◌+◌, ◌-◌, ◌<◌, ◌≤◌, List, [], ◌∷◌, ◌++◌, length, take, decimal, max, refl, sym, ap, ◌∙◌, arith, length-append, append_assoc}
-use Rattle.std.specs.Prelude.{Bool, Option, Some, None, option_map, true, false, nat_le}
+use Rattle.std.specs.Prelude.{Bool, Option, Some, None, true, false, nat_le}
 use Rattle.std.proofs.lemmas.Bool.{lt-leb}
 use Rattle.std.proofs.lemmas.List.{take-append-le, append-nil}
 use Rattle.std.proofs.Math.Seq.{take-append-add}
@@ -8,6 +8,7 @@ use Rattle.nb_model.specs.declared.reply.Reply.{Reply}
 use Rattle.nb_model.specs.Lines.{line_text, spaced, reply_words}
 use Rattle.nb_model.specs.Run.{Event, strokes_of, replies_of}
 use Rattle.nb_model.specs.Output.{text_of, output, status_after, status_of, acked_in, acked}
+use Rattle.nb_model.proofs.AckedLaws.{number, quiet, whole, lined, acked-number}
 use Rattle.nb_model.proofs.RunLaws.{strokes_of-append}
 
 -- the reply of an event, if it has one, before other replies
@@ -60,31 +61,7 @@ output-line : (e : Event) (es : List Event) (r : Reply) → e.reply ≡ Some r �
 unfolding replies_of
 output-line e es r some = ap (λ (x : Option Reply). text_of (with_reply e.session x (replies_of es))) some ∙ text_of-cons e.session r (replies_of es)
 
--- what is acknowledged, as a number
-abbrev number : Option ℕ → ℕ
-number None = 0
-number (Some n) = n
-
-acked-number : (es : List Event) (said : ℕ) → acked es said ≡ number (acked_in es said)
-unfolding acked
-acked-number es said = by (acked_in es said)
-  where
-    by : (x : Option ℕ) → elim x as (λ z. ℕ) [ None ↦ 0 | Some n ↦ n ] ≡ number x
-    by None = refl
-    by (Some n) = refl
-
--- an event of so many strokes that says nothing
-abbrev quiet : ℕ → Option ℕ → Option ℕ
-quiet k x = option_map (λ n. k + n) x
-
--- one whose line stands whole
-abbrev whole : ℕ → Option ℕ → Option ℕ
-whole k x = elim x [ None ↦ Some k | Some n ↦ Some (k + n) ]
-
--- one whose line is among so many bytes, or not
-abbrev lined : (line k said : ℕ) → Option ℕ → Option ℕ
-lined line k said later = elim (nat_le line said) [ false ↦ None | true ↦ whole k later ]
-
+-- an event adds no more than its strokes
 quiet-most : (k : ℕ) (x : Option ℕ) → number (quiet k x) ≤ k + number x
 quiet-most k None = omega arith
 quiet-most k (Some n) = omega arith

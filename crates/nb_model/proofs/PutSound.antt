@@ -1,12 +1,12 @@
 -- What `put` keeps: after each front of its strokes the image is sound.
-use Rattle.std.proofs.Common.{◌≡◌, ◌≢◌, inl, inr, ℕ, zero, suc, ◌+◌, ◌-◌, ◌*◌, ◌/◌, ◌%◌, ◌^◌, ◌<◌, ◌≤◌, List, [], ◌∷◌, ◌++◌, length, take, drop, refl, sym, ap, subst, ◌∙◌, arith, length-append, length-drop}
-use Rattle.std.specs.Prelude.{Bool, true, false, not, ◌==◌, nat_le, Some, None, IsTrue}
-use Rattle.std.proofs.lemmas.Bool.{true≢false, and_parts, cases_lt}
+use Rattle.std.proofs.Common.{◌≡◌, ◌≢◌, inl, inr, ℕ, zero, suc, ◌+◌, ◌-◌, ◌*◌, ◌/◌, ◌%◌, ◌^◌, ◌<◌, ◌≤◌, List, [], ◌∷◌, ◌++◌, length, take, drop, refl, sym, ap, subst, ◌∙◌, arith, length-drop}
+use Rattle.std.specs.Prelude.{Bool, true, false, not, ◌==◌, nat_le, Some, None}
+use Rattle.std.proofs.lemmas.Bool.{true≢false, cases_lt}
 use Rattle.std.proofs.lemmas.Bool.Decides.{eqb_tells, leb_tells}
-use Rattle.std.proofs.lemmas.List.{length-replicate, take-append-le, take_all, drop-drop}
+use Rattle.std.proofs.lemmas.List.{length-replicate, take_all, drop-drop}
 use Rattle.nb_fields.specs.Bytes.{number_of, bytes_of, number_in, part, with_part, is_zeros, padded}
-use Rattle.nb_fields.specs.Header.{is_marked, is_header, size_of}
-use Rattle.nb_fields.specs.Places.{is_page_size, entries_in, bits_in, is_inventory_place, is_scn_place}
+use Rattle.nb_fields.specs.Header.{is_header}
+use Rattle.nb_fields.specs.Places.{entries_in, bits_in, is_inventory_place, is_scn_place}
 use Rattle.nb_fields.specs.Page.{head_of, page_of, kind_of, stamp_of, generation_of, stamped}
 use Rattle.nb_fields.specs.Payloads.{entry_of, text_payload}
 use Rattle.nb_fields.proofs.NumberLemmas.{length-bytes_of}
@@ -21,7 +21,8 @@ use Rattle.nb_model.specs.Strokes.{Stroke, base_after, merged_page}
 use Rattle.nb_model.specs.Forms.{Draft, drafted, old_page, wrote, written, needs, is_kind, inventory_of, scn_page_of, entry_number, scn_entry, has_entry, entry_written, entry_raised, raised, put}
 use Rattle.nb_model.specs.Causes.{Cause, first_cause, when, not_raw}
 use Rattle.nb_model.specs.Sound.{IsSoundImage}
-use Rattle.nb_model.proofs.DraftLaws.{IsOf, drafted_is, drafts_are}
+use Rattle.nb_model.proofs.DraftLaws.{either, IsOf, drafted_is, drafts_are, one_more}
+use Rattle.nb_model.proofs.HeaderLaws.{header-size}
 use Rattle.nb_model.proofs.SoundLaws.{all_at, page_no_zeros, inventory_there, scn_page_there, scn_place_some, scn_place_before, with_page_length, HasFields, FitsAt, scn_no_entry, size_stays, scn_stays, fields_stay, entry_here, header_kind, written_other, page_sound}
 
 -- page p may be written: it isn't page 0, and stands below the length or at it
@@ -216,13 +217,6 @@ at_first Q b h = record { is = drafted_is b; each = none }
 pub holds_now : (Q : Image → Type 0) (b : Base) (d : Draft) → Throughout Q b d → Q d.image
 holds_now Q b d h = subst Q h.is.is (subst (λ (ss : List Stroke). Q (base_after b ss).image) (take_all (length d.strokes) d.strokes (omega arith)) (h.each (length d.strokes)))
 
-one_more : (Q : Image → Type 0) (b : Base) (ss : List Stroke) (s : Stroke) → ((k : ℕ) → Q (base_after b (take k ss)).image) → Q (base_after b (ss ++ s ∷ [])).image
-    → (k : ℕ) → Q (base_after b (take k (ss ++ s ∷ []))).image
-one_more Q b ss s each whole k = elim (leb_tells k (length ss)) [
-  | inl w ↦ subst (λ (ys : List Stroke). Q (base_after b ys).image) (sym (take-append-le k ss (s ∷ []) w.1)) (each k)
-  | inr w ↦ subst (λ (ys : List Stroke). Q (base_after b ys).image) (sym (take_all k (ss ++ s ∷ []) (omega (arith, w.1, length-append ss (s ∷ []))))) whole
-]
-
 -- one write more
 pub holds_after : (Q : Image → Type 0) (b : Base) (p kind : ℕ) (payload : List ℕ) (d : Draft) → Throughout Q b d → Q (written p kind payload d).image → Throughout Q b (written p kind payload d)
 unfolding written wrote
@@ -230,18 +224,14 @@ holds_after Q b p kind payload d h whole =
     let is : IsOf b (written p kind payload d) = (drafts_are b).writes p kind payload d h.is in
     record { is = is; each = one_more Q b d.strokes _ h.each (subst Q (sym is.is) whole) }
 
-chosen : (P : Draft → Type 0) (t : Bool) (x y : Draft) → P x → P y → P (elim t as (λ z. Draft) [ true ↦ x | false ↦ y ])
-chosen P true x y px py = px
-chosen P false x y px py = py
-
 -- reading an inventory page changes no image
 pub needs_image : (kind p : ℕ) (d : Draft) → (needs kind p d).image ≡ d.image
 unfolding needs
-needs_image kind p d = chosen (λ (x : Draft). x.image ≡ d.image) (is_kind d.image kind p) _ _ refl refl
+needs_image kind p d = either (λ (x : Draft). x.image ≡ d.image) (is_kind d.image kind p) _ _ refl refl
 
 pub needs_holds : (Q : Image → Type 0) (b : Base) (kind p : ℕ) (d : Draft) → Throughout Q b d → Throughout Q b (needs kind p d)
 unfolding needs
-needs_holds Q b kind p d h = chosen (Throughout Q b) (is_kind d.image kind p) _ _ h (record { is = (drafts_are b).reads _ d h.is; each = h.each })
+needs_holds Q b kind p d h = either (Throughout Q b) (is_kind d.image kind p) _ _ h (record { is = (drafts_are b).reads _ d h.is; each = h.each })
 
 -- a page that isn't page 0 is written whole
 whole_page : (p : ℕ) (bytes : Page) (image : Image) → 1 ≤ p → merged_page p bytes image ≡ bytes
@@ -371,20 +361,13 @@ module _ (Q : Image → Type 0) (K : Page → Type 0) (scn_pages : (bytes : Page
           } in
           (plain_fits x p kind payload h.fields h.sound some room_x plain_x raises.current, of_kind _ (now_kind x p kind payload h.fields h.sound some room_x))
 
--- a header names a page size
-header_size : (first : Page) → is_header first ≡ true → IsTrue (is_page_size (size_of first))
-unfolding is_header
-header_size first is =
-    let sound = (and_parts (is_marked first) _ (and_parts (nat_le 64 (length first)) _ is).1).1 in
-    (and_parts _ _ (and_parts _ _ (and_parts _ _ sound).0).0).1
-
 -- page 0 is a header, and its SCN has four bytes
 pub record HasHeader (image : Image) : Type 0 where
   pub header : is_header (first_page image) ≡ true
   pub scn : image_scn image < 4294967296
 
 pub header_fields : (image : Image) → HasHeader image → HasFields image
-header_fields image h = record { size = header_size (first_page image) h.header; scn = h.scn }
+header_fields image h = record { size = header-size (first_page image) h.header; scn = h.scn }
 
 -- no cause is there
 pub no_first : (c : Cause) (cs : List Cause) → first_cause (c ∷ cs) ≡ None → (c ≡ None) × (first_cause cs ≡ None)

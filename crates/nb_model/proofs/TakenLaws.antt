@@ -1,5 +1,5 @@
 -- A statement that is done today keeps a database well.
-use Rattle.std.proofs.Common.{◌≡◌, ℕ, List, [], ◌∷◌, Bool, true, false, refl, sym, ap, subst}
+use Rattle.std.proofs.Common.{◌≡◌, ℕ, List, [], ◌∷◌, Bool, true, false, refl, sym, ap, subst, true≢false}
 use Rattle.std.specs.Prelude.{IsTrue}
 use Rattle.std.proofs.lemmas.List.{append-nil}
 use Rattle.nb_model.specs.declared.statement.Statement.{Statement}
@@ -15,12 +15,6 @@ use Rattle.nb_model.proofs.OpeningLaws.{KeepsRest, stands_kept}
 use Rattle.nb_model.proofs.WellLaws.{pages_keep, pages_paged}
 use Rattle.nb_model.proofs.PlayLaws.{well_after}
 
-not_built : {X : Type 0} → false ≡ true → X
-not_built e = absurd (no e)
-  where
-    no : false ≡ true → ⊥
-    no h = cc
-
 -- all that is done today is on pages
 pub built_on_pages : (statement : Statement) → IsTrue (is_built statement) → is_on_pages statement ≡ true
 built_on_pages (CreateDb name size raw cache) h = refl
@@ -29,7 +23,7 @@ built_on_pages PageNew h = refl
 built_on_pages (Write p text) h = refl
 built_on_pages (Read p) h = refl
 built_on_pages (Free p) h = refl
-built_on_pages other h = not_built h
+built_on_pages other h = absurd (true≢false (sym h))
 
 module _ (session : ℕ) (statement : Statement) (rest : List Turn) (now : Now) (on : is_on_pages statement ≡ true) where
   taken_stays : IsWellBase now.account.kept (base_now now) → StaysWell now.account.kept (base_now now) (strokes_of (take_turn session (Begins statement ∷ rest) now).0)

@@ -2,6 +2,7 @@
 use Rattle.std.proofs.Common.{◌≡◌, ◌≢◌, inl, inr, ℕ, zero, suc, ◌+◌, ◌-◌, ◌<◌, ◌≤◌, List, [], ◌∷◌, ◌++◌, length, map, drop, replicate, get_or, set, max, refl, sym, ap, subst, ◌∙◌, arith, get_or-set_other, get_or-set_same, append_assoc, drop_of_length-le, ◌⊎◌}
 use Rattle.std.specs.Prelude.{Bool, Option, Some, None, true, false, nat_eq, ◌||◌, if◌then◌else◌, slice_index, slice_set, IsTrue}
 use Rattle.std.specs.List.{AllByRecursion, slice_index_or}
+use Rattle.std.proofs.lemmas.Bool.{true≢false}
 use Rattle.std.proofs.lemmas.Bool.Decides.{eqb_tells, leb_tells}
 use Rattle.std.proofs.lemmas.List.{get_or_past, drop-drop, drop_more, length-map}
 use Rattle.std.proofs.Math.ListN.{get_or-map}
@@ -136,10 +137,6 @@ pub cache_single : IsSingle ShowCache
 unfolding first_turn cache_turn
 cache_single s session = refl
 
--- other statements aren't done yet
-not_built : false ≡ true → ⊥
-not_built h = cc
-
 -- So is each statement that the program does today.
 pub built_single : (statement : Statement) → IsTrue (is_built statement) → IsSingle statement
 unfolding first_turn
@@ -149,7 +146,7 @@ built_single PageNew h = new_single
 built_single (Write p text) h = write_single p text
 built_single (Read p) h = read_single p
 built_single (Free p) h = free_single p
-built_single other h = absurd (not_built h)
+built_single other h = absurd (true≢false (sym h))
 
 -- one number of an order: the session takes the first turn that it has to do, and where it has none it does nothing
 pub one_turn_is : (session : ℕ) (now : Now) (statement : Statement) (rest : List Turn) → slice_index_or now.todo (session - 1) [] ≡ Begins statement ∷ rest
@@ -497,7 +494,7 @@ built_never_usage PageNew h = λ s session. new_never_usage s session
 built_never_usage (Free p) h = λ s session. free_never_usage s session p
 built_never_usage (Write p text) h = λ s session. write_never_usage s session p text
 built_never_usage (Read p) h = λ s session. read_never_usage s session p
-built_never_usage other h = absurd (not_built h)
+built_never_usage other h = absurd (true≢false (sym h))
 
 -- the reply is a refusal
 abbrev pub is_refusal : Reply → Bool

@@ -1,6 +1,7 @@
 -- A refused statement changes nothing and leaves nothing to do.
 use Rattle.std.proofs.Common.{◌≡◌, ℕ, zero, suc, List, [], refl, sym, ap, ◌∙◌}
 use Rattle.std.specs.Prelude.{Bool, true, false, Option, Some, None}
+use Rattle.std.proofs.lemmas.Bool.{true≢false}
 use Rattle.nb_host.specs.declared.refusals.Refusal.{Refusal}
 use Rattle.nb_model.specs.declared.reply.Reply.{Reply}
 use Rattle.nb_model.specs.declared.reply.Reply.TheVariants.{Refused}
@@ -30,12 +31,9 @@ is_refusal other = false
 refused_is : (r : Option Reply) (q : Refusal) → r ≡ Some (Refused q) → is_refusal r ≡ true
 refused_is r q e = ap is_refusal e
 
-false_true : false ≡ true → ⊥
-false_true h = cc
-
 -- it says something else, or nothing
 answers : (s : Seen) (o : Outcome) → is_refusal o.reply ≡ false → IsQuiet s o
-answers s o e = record { quiet = λ r is. absurd (false_true (sym e ∙ refused_is o.reply r is)) }
+answers s o e = record { quiet = λ r is. absurd (true≢false (sym (refused_is o.reply r is) ∙ e)) }
 
 guarded : (s : Seen) (c : Cause) (o : Outcome) → IsQuiet s o → IsQuiet s (unless s c o)
 unfolding unless

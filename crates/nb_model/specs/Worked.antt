@@ -37,6 +37,10 @@ opened_with raw from sessions = opening nowhere (given_from from) sessions 1 (Cr
 unfoldable pub events : (raw from : ℕ) → List (List Statement) → (order : List ℕ) → List Event
 events raw from sessions order = elim (opened_with raw from sessions).now [ None ↦ [] | Some now ↦ (play order now).0 ]
 
+-- the whole run: what creating the database did, and then the turns
+unfoldable pub run_of : (raw : ℕ) → List (List Statement) → (order : List ℕ) → List Event
+run_of raw sessions order = (opened_with raw 1 sessions).event ∷ events raw 1 sessions order
+
 -- what they say
 unfoldable pub replies : (raw : ℕ) → List (List Statement) → (order : List ℕ) → List (ℕ × Reply)
 replies raw sessions order = replies_of (events raw 1 sessions order)

@@ -3,15 +3,32 @@
 ghost use Rattle.nb_fields.specs.Bytes.{with_part};
 ghost use Rattle.nb_host.specs.declared.refusals.Refusal.TheVariants.{NotAllocated, SystemPage, TextLong, WrongState, BackupRunning, ChainLevel, ChainGuid, NoFile, PageRange, NoGuid, NoHistory, NotDatabase, BadDelta, NoTable, TableExists, KeyExists, NoKey, Usage, Access as NoAccess, DeltaPresent, Unfinished};
 ghost use Rattle.nb_model.specs.Generated.{lines_from};
+ghost use Rattle.nb_model.specs.Image.{page_at};
+ghost use Rattle.nb_model.specs.Levels.{joined};
 ghost use Rattle.nb_model.specs.Lines.{line_text};
-ghost use Rattle.nb_model.specs.Run.{rounds};
+ghost use Rattle.nb_model.specs.Output.{output, status_of};
+ghost use Rattle.nb_model.specs.Run.{replies_of, rounds, strokes_of};
 ghost use Rattle.nb_model.specs.Seeds.{seeded};
 ghost use Rattle.nb_model.specs.Words.{job_of};
-ghost use Rattle.nb_model.specs.Worked.{g, says, replies, strokes, base_then, pages_held, refused, chain_files, level_1_file, broken_place, not_open, main_file, stalled_file, delta_file, standby, merged_standby, apply_reply, restore_reply, restored_text, fixup_reply};
+ghost use Rattle.nb_model.specs.Worked.{g, run_of, says, replies, marks, strokes, base_then, pages_held, refused, chain_files, level_1_file, broken_place, not_open, main_file, stalled_file, delta_file, standby, merged_standby, apply_reply, restore_reply, restored_text, fixup_reply};
 ghost use Rattle.nb_model.specs.declared.job.Job.TheVariants.{Run, Restore, LockWithSize, Backup as JobBackup, BackupSince as JobBackupSince};
 ghost use Rattle.nb_model.specs.declared.reply.Reply.TheVariants.{Done, Opened, Value, Scn, ScnPages, Level, Rows, HeaderShown, PagesShown, PageMade, ImageShown, CacheShown, Refused, Pages};
 ghost use Rattle.nb_model.specs.declared.statement.Statement.TheVariants.{Write, Read, Free, PageNew, BeginBackup, EndBackup, Backup, BackupSince, CreateTable, DropTable, Insert, Update, Delete, Get, Scan, Access, ShowHeader, ShowPages, ShowCache};
-ghost use Rattle.std.specs.Prelude.{[], ◌++◌, ◌∷◌, ◌≡◌, None, Some, codes, length, replicate, take, true, false};
+ghost use Rattle.std.specs.Prelude.{[], ◌++◌, ◌∷◌, ◌≡◌, None, Some, codes, drop, length, replicate, take, true, false};
+
+/// A first session: a database is made, and a page is written and read. The entry of the page is current, so that the write is one
+/// stroke.
+pub fn create_write_read()
+    ensures replies { replies_of (run_of 8 ((Write 6 (codes "hello") ∷ Read 6 ∷ []) ∷ []) (1 ∷ 1 ∷ [])) ≡ (1, Pages 13) ∷ (1, Done) ∷ (1, Value (codes "hello")) ∷ [] }
+    ensures output { output (run_of 8 ((Write 6 (codes "hello") ∷ Read 6 ∷ []) ∷ []) (1 ∷ 1 ∷ []))
+        ≡ codes "1: ok pages 13" ++ (10 ∷ (codes "1: ok" ++ (10 ∷ (codes "1: ok 'hello'" ++ 10 ∷ [])))) }
+    ensures status { status_of (replies_of (run_of 8 ((Write 6 (codes "hello") ∷ Read 6 ∷ []) ∷ []) (1 ∷ 1 ∷ []))) ≡ 0 }
+    ensures strokes { marks (strokes_of (run_of 8 ((Write 6 (codes "hello") ∷ Read 6 ∷ []) ∷ []) (1 ∷ 1 ∷ []))) ≡ 2000000 ∷ 6 ∷ [] }
+    ensures page { page_at (base_then 8 ((Write 6 (codes "hello") ∷ Read 6 ∷ []) ∷ []) (1 ∷ 1 ∷ [])).image 6
+        ≡ 8 ∷ 0 ∷ 0 ∷ 0 ∷ 2 ∷ 0 ∷ 0 ∷ 0 ∷ 1 ∷ 0 ∷ 0 ∷ 0 ∷ 6 ∷ 0 ∷ 0 ∷ 0 ∷ 5 ∷ 0 ∷ 104 ∷ 101 ∷ 108 ∷ 108 ∷ 111 ∷ replicate 1001 0 }
+    ensures inventory { drop 32 (page_at (base_then 8 ((Write 6 (codes "hello") ∷ Read 6 ∷ []) ∷ []) (1 ∷ 1 ∷ [])).image 1) ≡ 0 ∷ 224 ∷ replicate 990 255 }
+    ensures length { length (joined (base_then 8 ((Write 6 (codes "hello") ∷ Read 6 ∷ []) ∷ []) (1 ∷ 1 ∷ [])).image) ≡ 13312 }
+{}
 
 /// Reading, writing and freeing raw pages.
 pub fn page_refusals()
