@@ -228,3 +228,14 @@ pub stands_free : (old new : Files) (account : Account) (name : List ℕ)
     → Stands new (with_entry name (entry_in new name) account)
 stands_free old new account name stands plain others free alone =
     stands_with_entry old new account name (entry_in new name) stands plain others (free_under new account.kept name stands.kept_records.not_nil free alone)
+
+-- Files that are the same stand for the same.
+pub stands_files : (old new : Files) (account : Account) → Stands old account → ((m : List ℕ) → new m ≡ old m) → Stands new account
+stands_files old new account stands same = let all : new ≡ old = λ i. λ m. same m i in subst (λ (files : Files). Stands files account) (sym all) stands
+
+-- Files of other names that are the same, where the difference file of this one is told apart.
+pub others_same : (old new : Files) (name : List ℕ) → ((m : List ℕ) → m ≢ name → m ≢ delta_name name → new m ≡ old m) → new (delta_name name) ≡ old (delta_name name) → (m : List ℕ) → m ≢ name → new m ≡ old m
+others_same old new name others delta m other = elim (names_tell m (delta_name name)) [
+  | inl w ↦ ap new w ∙ delta ∙ ap old (sym w)
+  | inr w ↦ others m other w
+]

@@ -35,3 +35,4 @@ pub mod OpeningLaws
 pub mod WellLaws
 pub mod PlayLaws
 pub mod EntryLaws
+pub mod FrontLaws

@@ -275,13 +275,13 @@ module _ (files : Files) (a b : Account) (entries : (n : List ℕ) → a.entry n
       HaveParents rs = (r : Kept) (ask : Ask) → Contains rs r → r.ask ≡ Some ask → ask.previous ≢ nil → GoesOnFrom rs r ask
 
 -- strokes that keep no record change one entry
-after_entry : (name : List ℕ) (account : Account) (ss : List Stroke) (b : Base) → 1 ≤ length ss → base_after (base_in (account.entry name)) ss ≡ b
+pub after_entry : (name : List ℕ) (account : Account) (ss : List Stroke) (b : Base) → 1 ≤ length ss → base_after (base_in (account.entry name)) ss ≡ b
     → (n : List ℕ) → (with_entry name (IsBase b) account).entry n ≡ (after name account ss).entry n
 unfolding after
 after_entry name account [] b some is n = absurd (omega arith)
 after_entry name account (s ∷ ss) b some is n = ap (λ (c : Base). (with_entry name (IsBase c) account).entry n) (sym is)
 
-after_kept : (name : List ℕ) (account : Account) (ss : List Stroke) (b : Base) → records_after (base_in (account.entry name)) ss ≡ [] → (with_entry name (IsBase b) account).kept ≡ (after name account ss).kept
+pub after_kept : (name : List ℕ) (account : Account) (ss : List Stroke) (b : Base) → records_after (base_in (account.entry name)) ss ≡ [] → (with_entry name (IsBase b) account).kept ≡ (after name account ss).kept
 unfolding after with_entry
 after_kept name account [] b none = refl
 after_kept name account (s ∷ ss) b none = sym (ap (λ (rs : List Kept). account.kept ++ rs) none ∙ append-nil account.kept)
