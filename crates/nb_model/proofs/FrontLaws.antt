@@ -1,5 +1,5 @@
 -- At each moment of a run on pages the files stand for the account after a front of its strokes.
-use Rattle.std.proofs.Common.{◌≡◌, ◌≢◌, inl, inr, ℕ, suc, ◌<◌, ◌≤◌, List, [], ◌∷◌, ◌++◌, length, take, refl, sym, ap, subst, ◌∙◌, arith}
+use Rattle.std.proofs.Common.{◌≡◌, ◌≢◌, inl, inr, ℕ, suc, ◌<◌, ◌≤◌, List, [], ◌∷◌, take, refl, sym, ap, subst, ◌∙◌, arith}
 use Rattle.std.specs.Prelude.{false, Result, Ok, Err, Some, None, IsTrue}
 use Rattle.nb_fields.specs.Fresh.{fresh}
 use Rattle.nb_fields.specs.Places.{is_page_size}
@@ -8,7 +8,7 @@ use Rattle.nb_host.specs.Names.{is_delta}
 use Rattle.nb_host.specs.declared.refusals.Refusal.{Refusal}
 use Rattle.nb_model.specs.declared.statement.Statement.{Statement}
 use Rattle.nb_model.specs.Image.{Image, image_state, image_scn}
-use Rattle.nb_model.specs.Account.{Base, base_of, Kept, Entry, Missing, Plain, IsBase, Account, with_entry}
+use Rattle.nb_model.specs.Account.{Base, base_of, Entry, Missing, Plain, IsBase, Account, with_entry}
 use Rattle.nb_model.specs.Strokes.{Stroke, make, on_base, records_of, base_in, base_after, records_after, after}
 use Rattle.nb_model.specs.Outcomes.{Given}
 use Rattle.nb_model.specs.Owner.{delta_name, owner, entry_of_files, entry_in}
@@ -22,7 +22,7 @@ use Rattle.nb_model.proofs.StandsLaws.{names_tell, entry_other, after_entry, aft
 use Rattle.nb_model.proofs.OpeningLaws.{IsCreated, IsWith, with_kept, stands_with, created_with}
 use Rattle.nb_model.proofs.WellLaws.{fresh_well_base}
 use Rattle.nb_model.proofs.PlayLaws.{AreOnPages, are_paged, play_well}
-use Rattle.nb_model.proofs.EntryLaws.{stands_with_well}
+use Rattle.nb_model.proofs.FreeLaws.{stands_with_well}
 
 -- the database of an entry is that of the files
 pub owner_of_entry : (name : List ℕ) (main delta : File) (b : Base) → entry_of_files name main delta ≡ IsBase b → owner name main delta ≡ Ok b

@@ -34,5 +34,5 @@ pub mod TodoLaws
 pub mod OpeningLaws
 pub mod WellLaws
 pub mod PlayLaws
-pub mod EntryLaws
+pub mod FreeLaws
 pub mod FrontLaws
