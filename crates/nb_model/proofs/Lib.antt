@@ -35,4 +35,5 @@ pub mod OpeningLaws
 pub mod WellLaws
 pub mod PlayLaws
 pub mod TakenLaws
-pub mod EntryLaws
+pub mod FreeLaws
+pub mod FrontLaws

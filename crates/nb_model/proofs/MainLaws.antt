@@ -268,25 +268,32 @@ in-image k name bytes delta base = by (k == 2)
     by false e = with-image name bytes delta base e
 
 -- a database whose image is in the normal state is that of a main file in the normal state
-pub main_of_owner : (name : List ℕ) (image : Image) (m d : File) → owner name m d ≡ Ok (base_of image) → image_state image ≡ 0 → HoldsMain image m
-main_of_owner name image None d e normal = absurd (err_ok (sym (owner-none name d) ∙ e))
+pub main_of_base : (name : List ℕ) (base : Base) (m d : File) → owner name m d ≡ Ok base → image_state base.image ≡ 0 → HoldsMain base.image m
+main_of_base name base None d e normal = absurd (err_ok (sym (owner-none name d) ∙ e))
   where
-    err_ok : Err (NoFile name) ≡ Ok (base_of image) → ⊥
+    err_ok : Err (NoFile name) ≡ Ok base → ⊥
     err_ok h = cc
-main_of_owner name image (Some bytes) d e normal = by_cause (not_database bytes) refl
+main_of_base name base (Some bytes) d e normal = by_cause (not_database bytes) refl
   where
-    by_state : not_database bytes ≡ None → (state : ℕ) → state_of bytes ≡ state → owner_in state name bytes d ≡ Ok (base_of image) → HoldsMain image (Some bytes)
-    by_state none zero is h = record { bytes = bytes; there = refl; formed = none; normal = is; is = ap (λ (b : Base). b.image) (ok_same (base_of (image_in bytes)) (base_of image) (owner_in 0 name bytes d) (owner_in-normal name bytes d) h) }
+    by_state : not_database bytes ≡ None → (state : ℕ) → state_of bytes ≡ state → owner_in state name bytes d ≡ Ok base → HoldsMain base.image (Some bytes)
+    by_state none zero is h = record { bytes = bytes; there = refl; formed = none; normal = is; is = ap (λ (b : Base). b.image) (ok_same (base_of (image_in bytes)) base (owner_in 0 name bytes d) (owner_in-normal name bytes d) h) }
     by_state none (suc k) is h =
-        let diverts : Diverts bytes image = in-image k name bytes d (base_of image) h in
+        let diverts : Diverts bytes base.image = in-image k name bytes d base h in
         absurd (other (sym is ∙ sym (owned-state bytes diverts.delta diverts.table none) ∙ ap image_state diverts.is ∙ normal))
       where
         other : suc k ≡ 0 → ⊥
         other h = omega arith
 
-    by_cause : (cause : Cause) → not_database bytes ≡ cause → HoldsMain image (Some bytes)
+    by_cause : (cause : Cause) → not_database bytes ≡ cause → HoldsMain base.image (Some bytes)
     by_cause (Some r) none = absurd (err_ok (sym (owner-refused name bytes d r none) ∙ e))
       where
-        err_ok : Err r ≡ Ok (base_of image) → ⊥
+        err_ok : Err r ≡ Ok base → ⊥
         err_ok h = cc
     by_cause None none = by_state none (state_of bytes) refl (sym (owner-formed name bytes d none) ∙ e)
+
+pub main_of_owner : (name : List ℕ) (image : Image) (m d : File) → owner name m d ≡ Ok (base_of image) → image_state image ≡ 0 → HoldsMain image m
+main_of_owner name image m d e normal = main_of_base name (base_of image) m d e normal
+
+-- so its image tells it whole
+pub base_told : (name : List ℕ) (base : Base) (m d : File) → owner name m d ≡ Ok base → image_state base.image ≡ 0 → base ≡ base_of base.image
+base_told name base m d e normal = ok_same base (base_of base.image) (owner name m d) e (owner_main name base.image m d (main_of_base name base m d e normal))

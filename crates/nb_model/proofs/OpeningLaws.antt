@@ -67,7 +67,7 @@ opened_in_use name bytes delta b opens = by (not_database bytes) refl
       | inr w ↦ in_use bytes (formed_header bytes is) w.0
     ]
 
-missing_free : is_free_file None ≡ true
+pub missing_free : is_free_file None ≡ true
 unfolding is_free_file
 missing_free = refl
 
@@ -414,7 +414,7 @@ pub record IsWith (name : List ℕ) (b : Base) (old new : Account) : Type 0 wher
   pub entries : (n : List ℕ) → new.entry n ≡ (with_entry name (IsBase b) old).entry n
   pub kept : new.kept ≡ old.kept
 
-with_kept : (name : List ℕ) (entry : Entry) (account : Account) → (with_entry name entry account).kept ≡ account.kept
+pub with_kept : (name : List ℕ) (entry : Entry) (account : Account) → (with_entry name entry account).kept ≡ account.kept
 unfolding with_entry
 with_kept name entry account = refl
 

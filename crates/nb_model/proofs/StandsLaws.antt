@@ -1,11 +1,11 @@
--- The files go on to stand for the account where one of them becomes a database in the normal state.
+-- The files go on to stand for the account where that of one name changes, as where it becomes a database in the normal state.
 use Rattle.std.proofs.Common.{◌≡◌, ◌≢◌, ◌⊎◌, inl, inr, ℕ, ◌-◌, ◌≤◌, List, [], ◌∷◌, ◌++◌, length, drop, refl, sym, ap, subst, ◌∙◌, arith, length-append}
 use Rattle.std.specs.Prelude.{Bool, true, false, ◌==◌, Option, Some, None, Result, Ok, Err, IsTrue, is_some, Contains, nat_eq}
 use Rattle.std.specs.Cmp.Lexicographic.{told_text, pointwise}
 use Rattle.std.proofs.lemmas.Bool.{true≢false, and_parts, eqb-true}
 use Rattle.std.proofs.lemmas.List.{drop_at, append-nil}
 use Rattle.nb_fields.specs.Bytes.{number_of, number_in}
-use Rattle.nb_fields.specs.Header.{is_header, state_of}
+use Rattle.nb_fields.specs.Header.{is_header, state_of, pending_of}
 use Rattle.nb_host.specs.Files.{File, Files}
 use Rattle.nb_host.specs.Names.{same_name, is_delta, delta_suffix}
 use Rattle.nb_host.specs.declared.refusals.Refusal.{Refusal}
@@ -18,7 +18,7 @@ use Rattle.nb_model.specs.Levels.{Contents, first_fault, begins_level, read_leve
 use Rattle.nb_model.specs.Owner.{delta_name, owner, entry_of_files, entry_in}
 use Rattle.nb_model.specs.Main.{HoldsMain}
 use Rattle.nb_model.specs.Sound.{IsSoundImage}
-use Rattle.nb_model.specs.Stands.{nil, IsKeptAs, GoesOnFrom, Belongs, to_base, to_record, IsSameImage, IsFrozenMain, HasSoundImages, HoldsItsRecord, KeepsRecords, NamesItsPast, FollowsHistory, is_applying, HasNoStrayDelta, HasApplyingStandbys, Stands}
+use Rattle.nb_model.specs.Stands.{nil, IsKeptAs, GoesOnFrom, Belongs, to_base, to_record, IsRaised, IsSameImage, IsFrozenMain, HasSoundImages, HoldsItsRecord, KeepsRecords, NamesItsPast, FollowsHistory, is_applying, HasNoStrayDelta, IsStopped, HasApplyingStandbys, Stands}
 use Rattle.nb_model.proofs.SoundLaws.{header_kind}
 use Rattle.nb_model.proofs.RunLaws.{same_self, entry_same}
 
@@ -95,58 +95,50 @@ opened_entry name main delta bytes b there opens = ap (λ (f : File). entry_of_f
     by_owner : owner name (Some bytes) delta ≡ Ok b → entry_of_files name (Some bytes) delta ≡ IsBase b
     by_owner e = rw (e, entry_of_files) refl
 
-module _ (old new : Files) (account : Account) (name : List ℕ) (image : Image)
-    (stands : Stands old account) (plain : is_delta name ≡ false) (others : (m : List ℕ) → m ≢ name → new m ≡ old m)
-    (holds : HoldsMain image (new name)) (opens : owner name (new name) (new (delta_name name)) ≡ Ok (base_of image))
-    (normal : image_state image ≡ 0) (sound : IsSoundImage image) (past : NamesItsPast account.kept image) where
+-- What is asked of the files of one name, and of the entry that they give.
+pub record StandsUnder (files : Files) (kept : List Kept) (name : List ℕ) (entry : Entry) : Type 0 where
+  pub same : entry ≡ entry_in files name
+  pub frozen : (b : Base) → entry ≡ IsBase b → image_state b.image ≡ 1 → IsRaised b.image b.diverted
+  pub sound : (b : Base) → entry ≡ IsBase b → IsSoundImage b.image
+  pub stalled : (b : Base) → entry ≡ IsBase b → image_state b.image ≡ 1 → (r : Kept) × IsKeptAs kept (image_guid b.image) r
+  pub past : (b : Base) → entry ≡ IsBase b → NamesItsPast kept b.image
+  pub holds : (bytes : List ℕ) → files name ≡ Some bytes → HoldsItsRecord kept bytes
+  pub no_stray : IsTrue (is_some (files (delta_name name))) → ((b : Base) × (entry ≡ IsBase b)) ⊎ ((bytes : List ℕ) × (files name ≡ Some bytes) × IsTrue (is_applying bytes))
+  pub standby : (bytes : List ℕ) (r : Kept) → files name ≡ Some bytes → IsTrue (is_applying bytes) → IsKeptAs kept (pending_of bytes) r → IsStopped kept bytes r
+
+module _ (old new : Files) (account : Account) (name : List ℕ) (entry : Entry)
+    (stands : Stands old account) (plain : is_delta name ≡ false) (others : (m : List ℕ) → m ≢ name → new m ≡ old m) (under : StandsUnder new account.kept name entry) where
   abbrev next : Account
-  next = with_entry name (IsBase (base_of image)) account
+  next = with_entry name entry account
 
   same_kept : next.kept ≡ account.kept
   unfolding with_entry
   same_kept = refl
 
-  here : next.entry name ≡ IsBase (base_of image)
-  here = entry_same name (IsBase (base_of image)) account
+  here : (n : List ℕ) → n ≡ name → next.entry n ≡ entry
+  here n e = ap (λ (m : List ℕ). next.entry m) e ∙ entry_same name entry account
 
   elsewhere : (n : List ℕ) → n ≢ name → next.entry n ≡ account.entry n
-  elsewhere n other = entry_other name n (IsBase (base_of image)) account other
+  elsewhere n other = entry_other name n entry account other
 
-  -- a database of the account is this one, or was one before
-  whose : (n : List ℕ) (b : Base) → next.entry n ≡ IsBase b → (b ≡ base_of image) ⊎ (account.entry n ≡ IsBase b)
-  whose n b e = elim (names_tell n name) [
-    | inl w ↦ inl (base_same b (base_of image) (sym e ∙ ap (λ (m : List ℕ). next.entry m) w ∙ here))
-    | inr w ↦ inr (sym (elsewhere n w) ∙ e)
+  -- a database of the account is that of the name, or was one before
+  whose : (n : List ℕ) (b : Base) → next.entry n ≡ IsBase b → (entry ≡ IsBase b) ⊎ (account.entry n ≡ IsBase b)
+  whose n b e = elim (names_tell n name) [ inl w ↦ inl (sym (here n w) ∙ e) | inr w ↦ inr (sym (elsewhere n w) ∙ e) ]
+
+  -- what holds of the image of each database of the name, and of all that belonged before, holds of all that belongs
+  belonging : (P : Image → Type 0) → ((b : Base) → entry ≡ IsBase b → P b.image) → ((x : Image) → Belongs account x → P x) → (x : Image) → Belongs next x → P x
+  belonging P now before x (to_base n b e is) = elim (whose n b e) [
+    | inl w ↦ subst P is (now b w)
+    | inr w ↦ before x (to_base n b w is)
   ]
-
-  belonged : (x : Image) → Belongs next x → (x ≡ image) ⊎ Belongs account x
-  belonged x (to_base n b e is) = elim (whose n b e) [
-    | inl w ↦ inl (sym is ∙ ap (λ (c : Base). c.image) w)
-    | inr w ↦ inr (to_base n b w is)
-  ]
-  belonged x (to_record r there is) = inr (to_record r (subst (λ (rs : List Kept). Contains rs r) same_kept there) is)
-
-  not_stalled : (b : Base) → b ≡ base_of image → image_state b.image ≡ 1 → ⊥
-  not_stalled b e stalled =
-      let is : image_state b.image ≡ 0 = ap (λ (c : Base). image_state c.image) e ∙ normal in
-      absurd (omega arith)
+  belonging P now before x (to_record r there is) = before x (to_record r (subst (λ (rs : List Kept). Contains rs r) same_kept there) is)
 
   delta_kept : (n : List ℕ) → new (delta_name n) ≡ old (delta_name n)
   delta_kept n = others (delta_name n) (no_main n name plain)
 
-  -- what the file of the name is
-  bytes_here : (n bytes : List ℕ) → n ≡ name → new n ≡ Some bytes → bytes ≡ holds.bytes
-  bytes_here n bytes e there = some_same (sym there ∙ ap new e ∙ holds.there)
-    where
-      some_same : Some bytes ≡ Some holds.bytes → bytes ≡ holds.bytes
-      some_same h = cc
-
   same_image : IsSameImage new next
   same_image n plain_n = elim (names_tell n name) [
-    | inl w ↦
-        ap (λ (m : List ℕ). next.entry m) w ∙ here
-        ∙ sym (opened_entry name (new name) (new (delta_name name)) holds.bytes (base_of image) holds.there opens)
-        ∙ ap (λ (m : List ℕ). entry_in new m) (sym w)
+    | inl w ↦ here n w ∙ under.same ∙ ap (λ (m : List ℕ). entry_in new m) (sym w)
     | inr w ↦
         elsewhere n w ∙ stands.same_image n plain_n
         ∙ ap (λ (f : File). entry_of_files n f (old (delta_name n))) (sym (others n w))
@@ -154,25 +146,12 @@ module _ (old new : Files) (account : Account) (name : List ℕ) (image : Image)
   ]
 
   frozen_main : IsFrozenMain next
-  frozen_main n b e stalled = elim (whose n b e) [
-    | inl w ↦ absurd (not_stalled b w stalled)
-    | inr w ↦ stands.frozen_main n b w stalled
-  ]
+  frozen_main n b e stalled = elim (whose n b e) [ inl w ↦ under.frozen b w stalled | inr w ↦ stands.frozen_main n b w stalled ]
 
   sound_images : HasSoundImages next
   sound_images = record {
-    images = λ x b. elim (belonged x b) [
-      | inl w ↦ subst IsSoundImage (sym w) sound
-      | inr w ↦ stands.sound_images.images x w
-    ];
+    images = belonging IsSoundImage under.sound stands.sound_images.images;
     records = λ r there. stands.sound_images.records r (subst (λ (rs : List Kept). Contains rs r) same_kept there);
-  }
-
-  -- a database in the normal state is no file of a backup
-  holds_here : HoldsItsRecord account.kept holds.bytes
-  holds_here = record {
-    level = λ c r reads kept. absurd (header_no_level holds.bytes c (formed_header holds.bytes holds.formed) reads);
-    copy = λ r header stalled whole kept. let is = holds.normal in absurd (omega arith);
   }
 
   kept_records : KeepsRecords new next
@@ -180,29 +159,23 @@ module _ (old new : Files) (account : Account) (name : List ℕ) (image : Image)
   kept_records = record {
     distinct = stands.kept_records.distinct;
     not_nil = stands.kept_records.not_nil;
-    stalled = λ n b e is. elim (whose n b e) [
-      | inl w ↦ absurd (not_stalled b w is)
-      | inr w ↦ stands.kept_records.stalled n b w is
-    ];
+    stalled = λ n b e is. elim (whose n b e) [ inl w ↦ under.stalled b w is | inr w ↦ stands.kept_records.stalled n b w is ];
     levels = λ n bytes there. elim (names_tell n name) [
-      | inl w ↦ subst (HoldsItsRecord account.kept) (sym (bytes_here n bytes w there)) holds_here
+      | inl w ↦ under.holds bytes (ap new (sym w) ∙ there)
       | inr w ↦ stands.kept_records.levels n bytes (sym (others n w) ∙ there)
     ];
   }
 
   history : FollowsHistory next
   unfolding with_entry
-  history = record {
-    images = λ x b. elim (belonged x b) [
-      | inl w ↦ subst (NamesItsPast account.kept) (sym w) past
-      | inr w ↦ stands.history.images x w
-    ];
-    records = stands.history.records;
-  }
+  history = record { images = belonging (NamesItsPast account.kept) under.past stands.history.images; records = stands.history.records }
 
   no_stray : HasNoStrayDelta new next
   no_stray n beside = elim (names_tell n name) [
-    | inl w ↦ inl (base_of image, ap (λ (m : List ℕ). next.entry m) w ∙ here)
+    | inl w ↦ elim (under.no_stray (subst (λ (m : List ℕ). IsTrue (is_some (new (delta_name m)))) w beside)) [
+      | inl base ↦ inl (base.0, here n w ∙ base.1)
+      | inr standby ↦ inr (standby.0, ap new w ∙ standby.1, standby.2)
+    ]
     | inr w ↦ elim (stands.no_stray n (subst (λ (f : File). IsTrue (is_some f)) (delta_kept n) beside)) [
       | inl base ↦ inl (base.0, elsewhere n w ∙ base.1)
       | inr standby ↦ inr (standby.0, others n w ∙ standby.1, standby.2)
@@ -212,16 +185,13 @@ module _ (old new : Files) (account : Account) (name : List ℕ) (image : Image)
   standbys : HasApplyingStandbys new next.kept
   unfolding with_entry
   standbys n bytes r there applying kept = elim (names_tell n name) [
-    | inl w ↦
-        let state : state_of bytes ≡ 3 = applying_state bytes applying in
-        let is : state_of bytes ≡ 0 = ap state_of (bytes_here n bytes w there) ∙ holds.normal in
-        absurd (omega arith)
+    | inl w ↦ under.standby bytes r (ap new (sym w) ∙ there) applying kept
     | inr w ↦ stands.standbys n bytes r (sym (others n w) ∙ there) applying kept
   ]
 
-  -- The files stand for the account with that database, whatever stood under the name before.
-  pub stands_with_database : Stands new (with_entry name (IsBase (base_of image)) account)
-  stands_with_database = record {
+  -- So the files stand for the account with that entry.
+  pub stands_with_entry : Stands new (with_entry name entry account)
+  stands_with_entry = record {
     same_image = same_image;
     frozen_main = frozen_main;
     sound_images = sound_images;
@@ -230,6 +200,53 @@ module _ (old new : Files) (account : Account) (name : List ℕ) (image : Image)
     no_stray = no_stray;
     standbys = standbys;
   }
+
+-- A database in the normal state, as its two files give it.
+module _ (files : Files) (kept : List Kept) (name : List ℕ) (image : Image) (holds : HoldsMain image (files name)) (opens : owner name (files name) (files (delta_name name)) ≡ Ok (base_of image))
+    (normal : image_state image ≡ 0) (sound : IsSoundImage image) (past : NamesItsPast kept image) where
+  is_image : (b : Base) → IsBase (base_of image) ≡ IsBase b → image ≡ b.image
+  is_image b e = ap (λ (c : Base). c.image) (base_same (base_of image) b e)
+
+  not_stalled : (b : Base) → IsBase (base_of image) ≡ IsBase b → image_state b.image ≡ 1 → ⊥
+  not_stalled b e stalled = absurd (let is : image_state b.image ≡ 0 = ap image_state (sym (is_image b e)) ∙ normal in omega arith)
+
+  -- what the file is
+  its_bytes : (bytes : List ℕ) → files name ≡ Some bytes → holds.bytes ≡ bytes
+  its_bytes bytes there = some_same (sym holds.there ∙ there)
+    where
+      some_same : Some holds.bytes ≡ Some bytes → holds.bytes ≡ bytes
+      some_same h = cc
+
+  -- a database in the normal state is no file of a backup
+  holds_none : HoldsItsRecord kept holds.bytes
+  holds_none = record {
+    level = λ c r reads named. absurd (header_no_level holds.bytes c (formed_header holds.bytes holds.formed) reads);
+    copy = λ r header stalled whole named. let is = holds.normal in absurd (omega arith);
+  }
+
+  database_under : StandsUnder files kept name (IsBase (base_of image))
+  database_under = record {
+    same = sym (opened_entry name (files name) (files (delta_name name)) holds.bytes (base_of image) holds.there opens);
+    frozen = λ b e stalled. absurd (not_stalled b e stalled);
+    sound = λ b e. subst IsSoundImage (is_image b e) sound;
+    stalled = λ b e stalled. absurd (not_stalled b e stalled);
+    past = λ b e. subst (NamesItsPast kept) (is_image b e) past;
+    holds = λ bytes there. subst (HoldsItsRecord kept) (its_bytes bytes there) holds_none;
+    no_stray = λ beside. inl (base_of image, refl);
+    standby = λ bytes r there applying named.
+        let state : state_of bytes ≡ 3 = applying_state bytes applying in
+        let is : state_of bytes ≡ 0 = ap state_of (sym (its_bytes bytes there)) ∙ holds.normal in
+        absurd (omega arith);
+  }
+
+-- The files stand for the account with that database, whatever stood under the name before.
+pub stands_with_database : (old new : Files) (account : Account) (name : List ℕ) (image : Image)
+    → Stands old account → is_delta name ≡ false → ((m : List ℕ) → m ≢ name → new m ≡ old m)
+    → HoldsMain image (new name) → owner name (new name) (new (delta_name name)) ≡ Ok (base_of image)
+    → image_state image ≡ 0 → IsSoundImage image → NamesItsPast account.kept image
+    → Stands new (with_entry name (IsBase (base_of image)) account)
+stands_with_database old new account name image stands plain others holds opens normal sound past =
+    stands_with_entry old new account name (IsBase (base_of image)) stands plain others (database_under new account.kept name image holds opens normal sound past)
 
 -- Accounts of the same entries and the same records stand for the same.
 module _ (files : Files) (a b : Account) (entries : (n : List ℕ) → a.entry n ≡ b.entry n) (kept : a.kept ≡ b.kept) (stands : Stands files a) where
@@ -275,13 +292,13 @@ module _ (files : Files) (a b : Account) (entries : (n : List ℕ) → a.entry n
       HaveParents rs = (r : Kept) (ask : Ask) → Contains rs r → r.ask ≡ Some ask → ask.previous ≢ nil → GoesOnFrom rs r ask
 
 -- strokes that keep no record change one entry
-after_entry : (name : List ℕ) (account : Account) (ss : List Stroke) (b : Base) → 1 ≤ length ss → base_after (base_in (account.entry name)) ss ≡ b
+pub after_entry : (name : List ℕ) (account : Account) (ss : List Stroke) (b : Base) → 1 ≤ length ss → base_after (base_in (account.entry name)) ss ≡ b
     → (n : List ℕ) → (with_entry name (IsBase b) account).entry n ≡ (after name account ss).entry n
 unfolding after
 after_entry name account [] b some is n = absurd (omega arith)
 after_entry name account (s ∷ ss) b some is n = ap (λ (c : Base). (with_entry name (IsBase c) account).entry n) (sym is)
 
-after_kept : (name : List ℕ) (account : Account) (ss : List Stroke) (b : Base) → records_after (base_in (account.entry name)) ss ≡ [] → (with_entry name (IsBase b) account).kept ≡ (after name account ss).kept
+pub after_kept : (name : List ℕ) (account : Account) (ss : List Stroke) (b : Base) → records_after (base_in (account.entry name)) ss ≡ [] → (with_entry name (IsBase b) account).kept ≡ (after name account ss).kept
 unfolding after with_entry
 after_kept name account [] b none = refl
 after_kept name account (s ∷ ss) b none = sym (ap (λ (rs : List Kept). account.kept ++ rs) none ∙ append-nil account.kept)
