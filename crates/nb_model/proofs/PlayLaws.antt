@@ -7,7 +7,7 @@ use Rattle.std.proofs.lemmas.List.{append-nil, take-append-le, take_all}
 use Rattle.std.proofs.Math.ListN.{get_or-map}
 use Rattle.std.proofs.Math.Seq.{take-append-add}
 use Rattle.nb_model.specs.declared.statement.Statement.{Statement}
-use Rattle.nb_model.specs.declared.statement.Statement.TheVariants.{CreateDb, Write, Read}
+use Rattle.nb_model.specs.declared.statement.Statement.TheVariants.{CreateDb, OpenDb, PageNew, Write, Read, Free}
 use Rattle.nb_model.specs.Account.{Base, Kept}
 use Rattle.nb_model.specs.Strokes.{Stroke, base_after, records_after}
 use Rattle.nb_model.specs.Outcomes.{Turn, Begins, Copies, ClosesBackup, ClosesCopy, Ends, Merges, Finishes}
@@ -137,6 +137,9 @@ not_built h = cc
 
 pub built_on_pages : (statement : Statement) → IsTrue (is_built statement) → is_on_pages statement ≡ true
 built_on_pages (CreateDb name size raw cache) h = refl
+built_on_pages (OpenDb name cache) h = refl
+built_on_pages PageNew h = refl
 built_on_pages (Write p text) h = refl
 built_on_pages (Read p) h = refl
+built_on_pages (Free p) h = refl
 built_on_pages other h = absurd (not_built h)

@@ -1,12 +1,8 @@
 -- A statement that is done today keeps a database well.
-use Rattle.std.proofs.Common.{◌≡◌, ℕ, List, [], ◌∷◌, Bool, true, false, refl, sym, ap, subst}
-use Rattle.std.proofs.lemmas.Bool.{true≢false}
-use Rattle.std.specs.Prelude.{IsTrue}
+use Rattle.std.proofs.Common.{◌≡◌, ℕ, List, ◌∷◌, true, sym, subst}
 use Rattle.std.proofs.lemmas.List.{append-nil}
 use Rattle.nb_model.specs.declared.statement.Statement.{Statement}
-use Rattle.nb_model.specs.declared.statement.Statement.TheVariants.{CreateDb, OpenDb, PageNew, Write, Read, Free}
 use Rattle.nb_model.specs.Account.{Kept}
-use Rattle.nb_model.specs.Built.{is_built}
 use Rattle.nb_model.specs.Outcomes.{Turn, Begins}
 use Rattle.nb_model.specs.Turns.{turn}
 use Rattle.nb_model.specs.Run.{Now, base_now, outcome, take_turn, strokes_of}
@@ -15,16 +11,6 @@ use Rattle.nb_model.proofs.RunLaws.{taken_is}
 use Rattle.nb_model.proofs.OpeningLaws.{KeepsRest, stands_kept}
 use Rattle.nb_model.proofs.WellLaws.{pages_keep, pages_paged}
 use Rattle.nb_model.proofs.PlayLaws.{well_after}
-
--- all that is done today is on pages
-pub built_on_pages : (statement : Statement) → IsTrue (is_built statement) → is_on_pages statement ≡ true
-built_on_pages (CreateDb name size raw cache) h = refl
-built_on_pages (OpenDb name cache) h = refl
-built_on_pages PageNew h = refl
-built_on_pages (Write p text) h = refl
-built_on_pages (Read p) h = refl
-built_on_pages (Free p) h = refl
-built_on_pages other h = absurd (true≢false (sym h))
 
 module _ (session : ℕ) (statement : Statement) (rest : List Turn) (now : Now) (on : is_on_pages statement ≡ true) where
   taken_stays : IsWellBase now.account.kept (base_now now) → StaysWell now.account.kept (base_now now) (strokes_of (take_turn session (Begins statement ∷ rest) now).0)
