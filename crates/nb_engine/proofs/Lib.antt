@@ -7,3 +7,4 @@ pub mod TestLaws
 pub mod PutLaws
 pub mod RaiseLaws
 pub mod WriteLaws
+pub mod AttachLaws

@@ -6,6 +6,7 @@
 //! has answered a value or a refusal. The proofs above name no file of the database.
 #![tactic(auto)]
 
+mod attach;
 mod create;
 mod engine;
 mod opened;
