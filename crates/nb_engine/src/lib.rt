@@ -8,6 +8,8 @@
 
 mod create;
 mod engine;
+mod free;
+mod mark;
 mod opened;
 mod put;
 mod reads;
