@@ -9,6 +9,8 @@
 mod attach;
 mod create;
 mod engine;
+mod free;
+mod mark;
 mod opened;
 mod put;
 mod reads;
