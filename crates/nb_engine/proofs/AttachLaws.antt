@@ -24,7 +24,8 @@ use Rattle.nb_model.specs.Causes.{not_database}
 use Rattle.nb_model.specs.Owner.{delta_name}
 use Rattle.nb_model.specs.Main.{HoldsMain}
 use Rattle.nb_model.proofs.HeaderLaws.{header-size, same-number}
-use Rattle.nb_model.proofs.ImageLaws.{IsTrimmed, all-at, page-joined, length-joined, trimmed-drop, trimmed-zeros}
+use Rattle.nb_model.proofs.SoundLaws.{all_at}
+use Rattle.nb_model.proofs.ImageLaws.{IsTrimmed, page-joined, length-joined, trimmed-drop, trimmed-zeros}
 use Rattle.nb_model.proofs.MainLaws.{IsLaid, MainFacts, laid, laid-front, laid-wide, some_page, main_facts, owner_main, page_read}
 use Rattle.nb_model.proofs.ReadLaws.{lt_no, lt_yes, eq_no, eq_yes}
 use Rattle.nb_engine.specs.declared.opened.Opened.{Opened}
@@ -178,7 +179,7 @@ module _ (bytes : List ℕ) (none : not_database bytes ≡ None) (size : ℕ) (s
         let past : length image ≤ n = omega (arith, w.1) in
         let at : page_at (image ++ is_laid.rest) n ≡ page_at is_laid.rest (n - length image) = get_or-append_right image is_laid.rest (length image) n [] refl past in
         let low : n - length image < length is_laid.rest = omega (arith, past, below, length-append image is_laid.rest) in
-        absurd (true_false (sym (all-at (λ page. is_zeros page ≡ true) (n - length image) is_laid.rest is_laid.zeros low) ∙ sym (ap is_zeros (page_is ∙ at)) ∙ other))
+        absurd (true_false (sym (all_at (λ page. is_zeros page ≡ true) is_laid.rest is_laid.zeros (n - length image) low) ∙ sym (ap is_zeros (page_is ∙ at)) ∙ other))
   ]
 
 -- pages that are left to look at

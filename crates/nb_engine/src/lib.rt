@@ -15,6 +15,7 @@ mod opened;
 mod put;
 mod reads;
 mod store;
+mod stub;
 
 pub use engine::Engine;
 pub use opened::Opened;
