@@ -1,7 +1,8 @@
 -- A well database stays well at each moment of a run of statements on pages.
 use Rattle.std.proofs.Common.{◌≡◌, inl, inr, ℕ, ◌+◌, ◌-◌, List, [], ◌∷◌, ◌++◌, length, map, take, get_or, refl, sym, ap, subst, ◌∙◌, arith}
-use Rattle.std.specs.Prelude.{true, false, IsTrue}
+use Rattle.std.specs.Prelude.{true, IsTrue}
 use Rattle.std.specs.List.{AllByRecursion, slice_index_or}
+use Rattle.std.proofs.lemmas.Bool.{true≢false}
 use Rattle.std.proofs.lemmas.Bool.Decides.{leb_tells}
 use Rattle.std.proofs.lemmas.List.{append-nil, take-append-le, take_all}
 use Rattle.std.proofs.Math.ListN.{get_or-map}
@@ -132,9 +133,6 @@ first_on_pages now sessions is on i =
     subst (AllByRecursion IsTurnOnPages) (sym (ap (λ (todo : List (List Turn)). get_or todo i []) is ∙ get_or-map (map Begins) sessions i [])) (begun_on_pages (get_or sessions i []) (on i))
 
 -- and all that the program does today are such statements.
-not_built : false ≡ true → ⊥
-not_built h = cc
-
 pub built_on_pages : (statement : Statement) → IsTrue (is_built statement) → is_on_pages statement ≡ true
 built_on_pages (CreateDb name size raw cache) h = refl
 built_on_pages (OpenDb name cache) h = refl
@@ -142,4 +140,4 @@ built_on_pages PageNew h = refl
 built_on_pages (Write p text) h = refl
 built_on_pages (Read p) h = refl
 built_on_pages (Free p) h = refl
-built_on_pages other h = absurd (not_built h)
+built_on_pages other h = absurd (true≢false (sym h))

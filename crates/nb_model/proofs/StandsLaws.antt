@@ -1,4 +1,4 @@
--- The files go on to stand for the account where that of one name changes, as where it becomes a database in the normal state.
+-- The files go on to stand for the account where the file of one name changes, as where it becomes a database in the normal state.
 use Rattle.std.proofs.Common.{◌≡◌, ◌≢◌, ◌⊎◌, inl, inr, ℕ, ◌-◌, ◌≤◌, List, [], ◌∷◌, ◌++◌, length, drop, refl, sym, ap, subst, ◌∙◌, arith, length-append}
 use Rattle.std.specs.Prelude.{Bool, true, false, ◌==◌, Option, Some, None, Result, Ok, Err, IsTrue, is_some, Contains, nat_eq}
 use Rattle.std.specs.Cmp.Lexicographic.{told_text, pointwise}

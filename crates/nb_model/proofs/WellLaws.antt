@@ -165,9 +165,6 @@ access_keeps : (kept : List Kept) (closed : Bool) → KeepsWell kept (Access clo
 unfolding first_turn access_turn
 access_keeps kept closed s session w = guarded_stays kept s _ _ w (λ none. at_base kept s.base _ w (byte_stays kept s.base.image w.well 65 _ (omega arith)))
 
-false_true : false ≡ true → ⊥
-false_true h = cc
-
 -- So each statement on pages does,
 pub pages_keep : (kept : List Kept) (statement : Statement) → is_on_pages statement ≡ true → KeepsWell kept statement
 unfolding first_turn header_turn pages_turn image_turn cache_turn
@@ -184,7 +181,7 @@ pages_keep kept ShowHeader h = λ s session w. none_stays kept s.base w
 pages_keep kept ShowPages h = λ s session w. guarded_stays kept s _ _ w (λ none. none_stays kept s.base w)
 pages_keep kept ShowImage h = λ s session w. none_stays kept s.base w
 pages_keep kept ShowCache h = λ s session w. none_stays kept s.base w
-pages_keep kept other h = absurd (false_true h)
+pages_keep kept other h = absurd (true≢false (sym h))
 
 -- and it writes pages alone.
 pub pages_paged : (statement : Statement) → is_on_pages statement ≡ true → IsPaged statement
@@ -202,7 +199,7 @@ pages_paged ShowHeader h = header_paged
 pages_paged ShowPages h = λ s session. guarded_paged s _ _ (record { made = refl; pages = tt; next = refl })
 pages_paged ShowImage h = λ s session. record { made = refl; pages = tt; next = refl }
 pages_paged ShowCache h = λ s session. record { made = refl; pages = tt; next = refl }
-pages_paged other h = absurd (false_true h)
+pages_paged other h = absurd (true≢false (sym h))
 
 -- A turn that keeps the database well, makes no file, and leaves nothing to do.
 pub record TurnsWell (kept : List Kept) (b : Base) (o : Outcome) : Type 0 where

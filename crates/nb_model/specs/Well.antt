@@ -1,4 +1,4 @@
--- What is kept true of a database in the normal state, and of which statements.
+-- What is kept true of a database in the normal state, and the statements that keep it.
 use Rattle.std.specs.Prelude.{◌≡◌, ℕ, ◌<◌, List, [], take, Bool, true, false}
 use Rattle.nb_fields.specs.Header.{is_header}
 use Rattle.nb_model.specs.declared.statement.Statement.{Statement}
@@ -18,7 +18,7 @@ pub record IsWell (kept : List Kept) (image : Image) : Type 0 where
   pub sound : IsSoundImage image
   pub past : NamesItsPast kept image
 
--- such an image is all of the database
+-- a database that such an image tells whole
 pub record IsWellBase (kept : List Kept) (b : Base) : Type 0 where
   pub told : b ≡ base_of b.image
   pub well : IsWell kept b.image
@@ -28,8 +28,8 @@ pub record StaysWell (kept : List Kept) (b : Base) (strokes : List Stroke) : Typ
   pub well : (k : ℕ) → IsWellBase kept (base_after b (take k strokes))
   pub records : (k : ℕ) → records_after b (take k strokes) ≡ []
 
--- A statement on raw pages or on a byte of the header, or one that only reads. Behind the first statement of a run, creating and
--- opening do nothing.
+-- A statement on raw pages or on a byte of the header, or one that shows what stands, or waits for it to be durable. Behind the first
+-- statement of a run, creating and opening do nothing.
 abbrev pub is_on_pages : Statement → Bool
 is_on_pages (CreateDb name page_size raw cache) = true
 is_on_pages (OpenDb name cache) = true
