@@ -4,6 +4,7 @@ ghost use Rattle.nb_fields.specs.Fresh.{fresh};
 ghost use Rattle.nb_host.specs.declared.faults.Fault.TheVariants.{Memory};
 ghost use Rattle.nb_change.specs.Apart.{Apart};
 ghost use Rattle.nb_change.specs.Counts.{CountsDevice};
+ghost use Rattle.nb_page.specs.Quiet.{Quiet};
 ghost use Rattle.nb_model.specs.Causes.{first_cause, read_only, too_long};
 ghost use Rattle.nb_model.specs.Image.{Image, is_read_only};
 ghost use Rattle.nb_model.specs.Outcomes.{Seen};
@@ -138,6 +139,7 @@ impl Engine {
     ) -> Result<ArrayVec<u8, 200>, Fault>
         ensures turn { (s : Seen) → IsTrue H.tells → IsOpen (H.world host.old) self.old s.base
             → Does valued result (H.world host.old) (H.world host.new) s.base self.new (read_turn s number) }
+        ensures quiet { Quiet (H.world host.old) (H.world host.new) }
         ensures same { self.new ≡ self.old }
         ensures cause { CountsDevice result (H.faults host.old) (H.faults host.new) }
         ensures takes_none { IfErr result (λ fault. fault ≢ Memory) }

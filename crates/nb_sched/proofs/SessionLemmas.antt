@@ -2,7 +2,7 @@
 use Rattle.std.proofs.Common.{◌≡◌, ℕ, zero, suc, ◌+◌, ◌-◌, ◌<◌, ◌≤◌, Bool, true, false, List, [], ◌∷◌, ◌++◌, length, take, drop, map, get_or, refl, sym, ap, subst, ◌∙◌, arith, append_assoc, take-append-drop}
 use Rattle.std.specs.Prelude.{slice_index, slice_set, Result, Ok, Err, IsErr, OnOk, IsTrue, ◌||◌}
 use Rattle.std.specs.List.{AllByRecursion, slice_index_or}
-use Rattle.std.proofs.lemmas.List.{append-nil, take_more, drop_more, get_or_past}
+use Rattle.std.proofs.lemmas.List.{append-nil, take_all, take_more, drop_more, get_or_past}
 use Rattle.nb_host.specs.World.{World}
 use Rattle.nb_host.specs.Moments.{IsTimely}
 use Rattle.nb_model.specs.declared.statement.Statement.{Statement}
@@ -143,6 +143,11 @@ module _ (tells : Bool) (sessions : List (List Statement)) where
     plays = λ now told opened left. subst (Plays (Ok false) world world held held now) (sym (play_nothing now)) (plays_none world held now timely opened);
     left = λ now told opened left. subst (λ (p : Played). IsLeft p.1 sessions next) (sym (play_nothing now)) left;
   }
+
+  -- all of an order
+  pub took_whole : (old new : World) (before after : Opened) (first next : List ℕ) (order : List ℕ) (i : ℕ) (refused : Bool) → length order ≤ i
+      → Took tells sessions (take i order) refused old new before after first next → Took tells sessions order refused old new before after first next
+  took_whole old new before after first next order i refused all is = subst (λ (xs : List ℕ). Took tells sessions xs refused old new before after first next) (take_all i order all) is
 
   module _ (old mid : World) (before between : Opened) (first next : List ℕ) (order : List ℕ) (refused : Bool) (so_far : Took tells sessions order refused old mid before between first next) where
     stands_after : (now : Now) → IsAfter now (play order now)

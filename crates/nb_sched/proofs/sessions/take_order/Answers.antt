@@ -1,5 +1,5 @@
-use Rattle.std.proofs.Common.{refl, ◌∙◌}
-use Rattle.nb_sched.proofs.SessionLemmas.{took_none, turn_more, turn_failed}
+use Rattle.std.proofs.Common.{refl, ◌∙◌, arith}
+use Rattle.nb_sched.proofs.SessionLemmas.{took_none, took_whole, turn_more, turn_failed}
 use Rattle.nb_sched.proofs.sessions.take_order.Goals as goal
 
 pub loop-session-init : goal.loop-session-init
@@ -17,3 +17,11 @@ loop-session-preserved g c = (
   c.take_turn.auto.next ∙ c.loop-session.invariant.1,
   c.in_ok-refused.ensures.cause ∙ c.loop-session.invariant.2,
 )
+
+pub returns-clause-plays : goal.returns-clause-plays
+returns-clause-plays g c now told ready left =
+    (took_whole g.H.Host.tells c.args.script.now.sessions _ _ _ _ _ _ c.args.order.now c.loop-session.session-index _ (omega (arith, c.loop-session-test.false)) c.loop-session.invariant.0).plays now told ready left
+
+pub returns-clause-left : goal.returns-clause-left
+returns-clause-left g c now told ready left =
+    (took_whole g.H.Host.tells c.args.script.now.sessions _ _ _ _ _ _ c.args.order.now c.loop-session.session-index _ (omega (arith, c.loop-session-test.false)) c.loop-session.invariant.0).left now told ready left

@@ -1,4 +1,7 @@
-use Rattle.std.proofs.Common.{refl, ◌∙◌}
+use Rattle.std.proofs.Common.{refl, ◌∙◌, ◌≡◌, arith, subst}
+use Rattle.std.specs.Prelude.{Ok}
+use Rattle.nb_model.specs.Run.{play, rounds}
+use Rattle.nb_sched.specs.Stops.{Plays}
 use Rattle.nb_sched.proofs.SessionLemmas.{rounds_none, round_more, round_failed}
 use Rattle.nb_sched.proofs.sessions.take_rounds.Goals as goal
 
@@ -16,3 +19,9 @@ loop-preserved g c = (
   c.take_order.auto.next ∙ c.loop.invariant.1,
   c.in_ok-refused.ensures.cause ∙ c.loop.invariant.2,
 )
+
+pub returns-clause-plays : goal.returns-clause-plays
+returns-clause-plays g c now told ready left =
+    let all : c.loop.counter ≡ c.args.count = omega (arith, c.loop-test.false, c.loop.auto.counter-end) in
+    subst (λ n. Plays (Ok c.loop.refused) (g.H.Host.world c.args.host.now) (g.H.Host.world c.loop.host) c.args.engine.now c.loop.engine now (play (rounds n) now)) all
+    (c.loop.invariant.0.plays now told ready left)
