@@ -32,6 +32,7 @@ pub mod StandsLaws
 pub mod OutputLaws
 pub mod TodoLaws
 pub mod OpeningLaws
+pub mod ReopenLaws
 pub mod WellLaws
 pub mod PlayLaws
 pub mod TakenLaws

@@ -429,28 +429,34 @@ played_with order now paged database =
     let keeps : KeepsRest now (play order now).1 = last_account order now paged in
     record { entries = last_entry now (play order now).1 keeps database; kept = keeps.kept }
 
--- also behind a creation.
+-- also behind a first statement that leaves the database of that name,
+module _ (account : Account) (o : Opening) (first : Now) (name : List ℕ) (b : Base) (name_is : first.name ≡ name) (account_is : first.account ≡ o.account) (base : base_now first ≡ b)
+    (here : o.account.entry name ≡ IsBase b) (rest : (n : List ℕ) → n ≢ name → o.account.entry n ≡ account.entry n) (same : o.account.kept ≡ account.kept) where
+  pub begun_with : (order : List ℕ) → ArePaged first → IsWith name (base_now (play order first).1) account (play order first).1.account
+  begun_with order paged = record { entries = λ n. by n (same_name n name) refl; kept = keeps.kept ∙ ap (λ (a : Account). a.kept) account_is ∙ same }
+    where
+      last : Now
+      last = (play order first).1
+
+      keeps : KeepsRest first last
+      keeps = last_account order first paged
+
+      database : first.account.entry first.name ≡ IsBase (base_now first)
+      database = ap (λ (n : List ℕ). first.account.entry n) name_is ∙ ap (λ (a : Account). a.entry name) account_is ∙ here ∙ ap IsBase (sym base)
+
+      by : (n : List ℕ) (t : Bool) → t ≡ same_name n name → last.account.entry n ≡ (with_entry name (IsBase (base_now last)) account).entry n
+      by n true is =
+          let equal : n ≡ name = told_text n name true is in
+          ap (λ (m : List ℕ). last.account.entry m) (equal ∙ sym name_is ∙ sym keeps.name) ∙ keeps.database database
+          ∙ sym (entry_same name (IsBase (base_now last)) account) ∙ ap (λ (m : List ℕ). (with_entry name (IsBase (base_now last)) account).entry m) (sym equal)
+      by n false is =
+          let other : n ≢ name = told_text n name false is in
+          keeps.others n (λ e. other (e ∙ name_is)) ∙ ap (λ (a : Account). a.entry n) account_is ∙ rest n other
+          ∙ sym (entry_other name n (IsBase (base_now last)) account other)
+
+-- such as a creation.
 pub created_with : (account : Account) (given : Given) (sessions : List (List Statement)) (session : ℕ) (name : List ℕ) (size raw cache : ℕ) (o : Opening)
     (c : IsCreated account given sessions session name size raw cache o) (order : List ℕ)
     → ArePaged c.now → IsWith name (base_now (play order c.now).1) account (play order c.now).1.account
 created_with account given sessions session name size raw cache o c order paged =
-    record { entries = λ n. by n (same_name n name) refl; kept = keeps.kept ∙ ap (λ (a : Account). a.kept) c.account_is ∙ c.kept }
-  where
-    last : Now
-    last = (play order c.now).1
-
-    keeps : KeepsRest c.now last
-    keeps = last_account order c.now paged
-
-    database : c.now.account.entry c.now.name ≡ IsBase (base_now c.now)
-    database = ap (λ (n : List ℕ). c.now.account.entry n) c.name_is ∙ ap (λ (a : Account). a.entry name) c.account_is ∙ c.here ∙ ap IsBase (sym c.base)
-
-    by : (n : List ℕ) (t : Bool) → t ≡ same_name n name → last.account.entry n ≡ (with_entry name (IsBase (base_now last)) account).entry n
-    by n true is =
-        let same : n ≡ name = told_text n name true is in
-        ap (λ (m : List ℕ). last.account.entry m) (same ∙ sym c.name_is ∙ sym keeps.name) ∙ keeps.database database
-        ∙ sym (entry_same name (IsBase (base_now last)) account) ∙ ap (λ (m : List ℕ). (with_entry name (IsBase (base_now last)) account).entry m) (sym same)
-    by n false is =
-        let other : n ≢ name = told_text n name false is in
-        keeps.others n (λ e. other (e ∙ c.name_is)) ∙ ap (λ (a : Account). a.entry n) c.account_is ∙ c.others n other
-        ∙ sym (entry_other name n (IsBase (base_now last)) account other)
+    begun_with account o c.now name (base_of (fresh size raw)) c.name_is c.account_is c.base c.here c.others c.kept order paged

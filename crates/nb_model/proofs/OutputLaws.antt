@@ -81,7 +81,7 @@ acked_in-quiet : (e : Event) (es : List Event) (said : ℕ) → e.reply ≡ None
 unfolding acked_in
 acked_in-quiet e es said none = rw (none, acked_in) refl
 
-acked_in-line : (e : Event) (es : List Event) (said : ℕ) (r : Reply) → e.reply ≡ Some r
+pub acked_in-line : (e : Event) (es : List Event) (said : ℕ) (r : Reply) → e.reply ≡ Some r
     → acked_in (e ∷ es) said ≡ lined (length (line_text e.session r)) (length e.strokes) said (acked_in es (said - length (line_text e.session r)))
 unfolding acked_in
 acked_in-line e es said r some = rw (some, acked_in) refl
@@ -117,7 +117,7 @@ pub acked_most_strokes : (es : List Event) (said : ℕ) → acked es said ≤ le
 acked_most_strokes es said = omega (arith, acked_in-most es said, acked-number es said)
 
 -- nothing is acknowledged before anything is said, as no line is empty
-acked_in-none : (es : List Event) → acked_in es 0 ≡ None
+pub acked_in-none : (es : List Event) → acked_in es 0 ≡ None
 acked_in-none [] = acked_in-empty 0
 acked_in-none (e ∷ es) = by (acked_in-none es) e.reply refl
   where

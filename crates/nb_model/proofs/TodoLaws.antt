@@ -1,13 +1,14 @@
 -- What sessions have still to do, when they have finished, and what page statements answer.
 use Rattle.std.proofs.Common.{◌≡◌, ◌≢◌, inl, inr, ℕ, zero, suc, ◌+◌, ◌-◌, ◌<◌, ◌≤◌, List, [], ◌∷◌, ◌++◌, length, map, drop, replicate, get_or, set, max, refl, sym, ap, subst, ◌∙◌, arith, get_or-set_other, get_or-set_same, append_assoc, drop_of_length-le, ◌⊎◌}
-use Rattle.std.specs.Prelude.{Bool, Option, Some, None, true, false, nat_eq, ◌||◌, if◌then◌else◌, slice_index, slice_set, IsTrue}
+use Rattle.nb_fields.specs.Header.{is_header, size_of}
+use Rattle.std.specs.Prelude.{Bool, Option, Some, None, true, false, nat_eq, nat_lt, not, min, ◌/◌, ◌%◌, ◌==◌, ◌||◌, if◌then◌else◌, slice_index, slice_set, IsTrue}
 use Rattle.std.specs.List.{AllByRecursion, slice_index_or}
 use Rattle.std.proofs.lemmas.Bool.{true≢false}
 use Rattle.std.proofs.lemmas.Bool.Decides.{eqb_tells, leb_tells}
 use Rattle.std.proofs.lemmas.List.{get_or_past, drop-drop, drop_more, length-map}
 use Rattle.std.proofs.Math.ListN.{get_or-map}
 use Rattle.nb_host.specs.declared.refusals.Refusal.{Refusal}
-use Rattle.nb_host.specs.declared.refusals.Refusal.TheVariants.{Usage}
+use Rattle.nb_host.specs.declared.refusals.Refusal.TheVariants.{Usage, NotDatabase}
 use Rattle.nb_model.specs.declared.reply.Reply.{Reply}
 use Rattle.nb_model.specs.declared.reply.Reply.TheVariants.{Done, Refused}
 use Rattle.nb_model.specs.declared.statement.Statement.{Statement}
@@ -15,7 +16,7 @@ use Rattle.nb_model.specs.declared.statement.Statement.TheVariants.{CreateDb, Op
 use Rattle.nb_model.specs.Image.{Image}
 use Rattle.nb_model.specs.Forms.{Draft}
 use Rattle.nb_model.specs.Built.{is_built}
-use Rattle.nb_model.specs.Causes.{Cause, first_cause, when, read_only, not_raw, lowest_broken, not_of_form, no_room}
+use Rattle.nb_model.specs.Causes.{Cause, first_cause, when, read_only, not_raw, not_database, lowest_broken, not_of_form, no_room}
 use Rattle.nb_model.specs.Chains.{Chain, Slot, Spot}
 use Rattle.nb_model.specs.Outcomes.{Turn, Begins, Copies, ClosesBackup, ClosesCopy, Ends, Merges, Finishes, Seen, Outcome, unless, changes}
 use Rattle.nb_model.specs.Pages.{new_turn, write_turn, read_turn, free_turn, begin_turn, forced_turn, access_turn, header_turn, image_turn, cache_turn}
@@ -407,24 +408,39 @@ finished_after schedule now sessions n is sixteen single short = finished_places
     single_at (ss ∷ all) h (suc i) = single_at all h.1 i
 
 -- The refusal of a call that isn't one: no cause of these statements.
-abbrev IsOther : Cause → Type 0
+abbrev pub IsOther : Cause → Type 0
 IsOther c = c ≢ Some Usage
 
 none_other : IsOther None
 none_other e = cc
 
-other_first : (cs : List Cause) → AllByRecursion IsOther cs → IsOther (first_cause cs)
+pub other_first : (cs : List Cause) → AllByRecursion IsOther cs → IsOther (first_cause cs)
 unfolding first_cause
 other_first [] h = none_other
 other_first (None ∷ cs) h = other_first cs h.1
 other_first (Some r ∷ cs) h = h.0
 
-other_when : (test : Bool) (r : Refusal) → r ≢ Usage → IsOther (when test r)
+pub other_when : (test : Bool) (r : Refusal) → r ≢ Usage → IsOther (when test r)
 other_when true r h e = h (same e)
   where
     same : Some r ≡ Some Usage → r ≡ Usage
     same k = cc
 other_when false r h e = none_other e
+
+-- nor is a file that can't be a database
+pub other_database : (bytes : List ℕ) → IsOther (not_database bytes)
+unfolding not_database
+other_database bytes = by (is_header bytes)
+  where
+    pages : ℕ
+    pages = length bytes / size_of bytes
+
+    by : (t : Bool) → IsOther (elim t as (λ z. Cause) [
+      | false ↦ Some (NotDatabase 0)
+      | true ↦ first_cause (when (not (length bytes % size_of bytes == 0) || nat_lt pages 5) (NotDatabase (min pages 1048576)) ∷ when (nat_lt 1048576 pages) (NotDatabase 1048576) ∷ [])
+    ])
+    by false = λ e. cc
+    by true = other_first _ (other_when _ _ (λ e. cc), (other_when _ _ (λ e. cc), tt))
 
 other_broken : (ps : List ℕ) → IsOther (lowest_broken ps)
 unfolding lowest_broken

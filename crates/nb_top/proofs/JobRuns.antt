@@ -37,25 +37,25 @@ askable_in name None plan is = absurd (err_ok is)
 askable_in name (Some bytes) plan is = answer_is_askable bytes (Ok plan) is
 
 -- its file wasn't read
-pub unread_runs : (old new : World) (name : List ℕ) (file : File) (account : Account) (e : Stop) → StandsFor old.files account → Quiet old new → RunsTo (Err e) old new (script_in name file) account
-unread_runs old new name file account e stands quiet = by (script_in name file) refl
+pub unread_runs : (old new : World) (name : List ℕ) (file : File) (account : Account) (e : Stop) → StandsFor old account → ((m : List ℕ) → Leaves old m (old.files m)) → Quiet old new → RunsTo (Err e) old new (script_in name file) account
+unread_runs old new name file account e stands reads quiet = by (script_in name file) refl
   where
     by : (asked : Result Plan Refusal) → script_in name file ≡ asked → RunsTo (Err e) old new asked account
-    by (Ok plan) is = script_unbegun old account plan (askable_in name file plan is) stands new e quiet
+    by (Ok plan) is = script_unbegun old account stands reads plan (askable_in name file plan is) new e quiet
     by (Err refusal) is = record {
       given = no_given;
       events = refused_job refusal;
       last = account;
       performed = (refl, refl);
-      stops = left_quietly old new account (database_of (Err refusal)) (refused_job refusal) quiet;
+      stops = left_quietly old new account stands (database_of (Err refusal) (refused_job refusal)) (refused_job refusal) quiet;
       finished = tt;
     }
 
 -- a refusal to session 0
-pub job_refused : {S E : Type 0} (told : Result S E) (result : Result Status Stop) (old new : World) (asked : Result Plan Refusal) (refusal : Refusal) (account : Account) → asked ≡ Err refusal → StandsFor old.files account
+pub job_refused : {S E : Type 0} (told : Result S E) (result : Result Status Stop) (old new : World) (asked : Result Plan Refusal) (refusal : Refusal) (account : Account) → asked ≡ Err refusal → StandsFor old account
     → SaysLine told old new (line_text 0 (RefusedReply refusal)) → IfOk result (λ status. number_of status ≡ status_after (RefusedReply refusal)) → OnOk result (new.said ≡ old.said ++ line_text 0 (RefusedReply refusal)) → RunsTo result old new asked account
 job_refused told result old new asked refusal account is stands says number said =
-    subst (λ (a : Result Plan Refusal). RunsTo result old new a account) (sym is) (refused_runs old new 0 refusal account (Err refusal) told result (refl, refl) stands says number said)
+    subst (λ (a : Result Plan Refusal). RunsTo result old new a account) (sym is) (refused_runs old new 0 refusal account (Err refusal) stands told result (refl, refl) says number said)
 
 -- of a script
 pub script_number : (name : List ℕ) (file : File) (refusal : Refusal) → script_in name file ≡ Err refusal → (result : Result Status Stop) → IfOk result (λ status. status ≡ RefusedStatus) → IfOk result (λ status. number_of status ≡ status_after (RefusedReply refusal))

@@ -1,38 +1,28 @@
--- A script is run, from the creation of its database.
-use Rattle.std.proofs.Common.{◌≡◌, ℕ, List, [], ◌∷◌, ◌++◌, Bool, true, false, refl, sym, ap, subst, ◌∙◌}
-use Rattle.std.specs.Prelude.{Result, Ok, Err, IfOk, IfErr, OnOk, if◌then◌else◌}
+-- A script is run, from its first statement on.
+use Rattle.std.proofs.Common.{◌≡◌, ℕ, List, Bool, true, false, refl, sym, ap, subst, ◌∙◌}
+use Rattle.std.specs.Prelude.{◌<◌, Some, Result, Ok, Err, IfOk, IfErr}
 use Rattle.std.specs.Result.{IsErr}
 use Rattle.nb_fields.specs.Fresh.{fresh}
 use Rattle.nb_host.specs.World.{World}
 use Rattle.nb_host.specs.Crash.{Leaves}
 use Rattle.nb_host.specs.declared.faults.Fault.{Fault}
-use Rattle.nb_host.specs.declared.faults.Fault.TheVariants.{Refused}
 use Rattle.nb_host.specs.declared.refusals.Refusal.{Refusal}
-use Rattle.nb_host.specs.declared.refusals.Refusal.TheVariants.{FileExists}
-use Rattle.nb_page.specs.Free.{is_free_name}
+use Rattle.nb_change.specs.Apart.{Apart}
 use Rattle.nb_page.specs.Quiet.{Quiet}
-use Rattle.nb_model.specs.declared.reply.Reply.TheVariants.{Refused as RefusedReply}
 use Rattle.nb_model.specs.declared.statement.Statement.{Statement}
-use Rattle.nb_model.specs.declared.statement.Statement.TheVariants.{CreateDb, Write, Read}
+use Rattle.nb_model.specs.declared.statement.Statement.TheVariants.{CreateDb, OpenDb}
 use Rattle.nb_model.specs.Account.{Account}
-use Rattle.nb_model.specs.Causes.{is_free_entry}
-use Rattle.nb_model.specs.Lines.{line_text}
-use Rattle.nb_model.specs.Output.{status_after}
-use Rattle.nb_model.specs.Run.{Now, base_now, begun}
 use Rattle.nb_script.specs.Asked.{IsFirst, IsAskable}
-use Rattle.nb_script.specs.Fits.{FitsFirst}
 use Rattle.nb_script.specs.Scripts.{Plan}
 use Rattle.nb_engine.specs.declared.opened.Opened.{Opened}
-use Rattle.nb_engine.specs.Create.{Creates, CreateAnswers}
-use Rattle.nb_engine.specs.Open.{IsOpen}
+use Rattle.nb_engine.specs.Attach.{Attaches}
+use Rattle.nb_engine.specs.Create.{Creates}
 use Rattle.nb_sched.specs.declared.stop.Stop.{Stop}
-use Rattle.nb_sched.specs.Says.{SaysLine}
 use Rattle.nb_top.specs.declared.status.Status.{Status}
-use Rattle.nb_top.specs.declared.status.Status.TheVariants.{Refused as RefusedStatus}
-use Rattle.nb_top.specs.Performed.{RunsTo, StandsFor, IsPerformed, PlaysCreated, number_of}
-use Rattle.nb_top.proofs.QuietRuns.{runs_quietly, stands_quietly}
-use Rattle.nb_top.proofs.RefusedRuns.{no_given, refused_event, refused_runs}
-use Rattle.nb_top.proofs.CreatedRuns.{BaseName, base_name, name_free, taken_performed, taken_fails, now, now_base, now_todo, quiet_fails, creating_fails, created_fails, created_runs}
+use Rattle.nb_top.specs.Performed.{RunsTo, StandsFor, database_named}
+use Rattle.nb_top.proofs.Beginnings.{Beginning}
+use Rattle.nb_top.proofs.CreatingRuns.{creates_begins, creating_unbegun}
+use Rattle.nb_top.proofs.ReopeningRuns.{attaches_begins, open_fails}
 
 -- a result that is a failure
 pub runs_err : (result : Result Status Stop) → IsErr result → (P : Result Status Stop → Type 0) → ((e : Stop) → P (Err e)) → P result
@@ -49,103 +39,40 @@ settled_value {T} s v P is holds = subst (λ (x : Result T Refusal). IfOk x P) i
 pub settled_refusal : {T : Type 0} (s : Result T Refusal) (r : Refusal) (P : Refusal → Type 0) → s ≡ Err r → IfErr s P → P r
 settled_refusal {T} s r P is holds = subst (λ (x : Result T Refusal). IfErr x P) is holds
 
--- a first statement that can be asked today creates a database
-pub record Creating (statement : Statement) : Type 0 where
-  pub name : List ℕ
-  pub size : ℕ
-  pub raw : ℕ
-  pub cache : ℕ
-  pub is : statement ≡ CreateDb name size raw cache
-
 false_true : false ≡ true → ⊥
 false_true h = cc
 
-pub first_creates : (statement : Statement) → IsFirst statement → Creating statement
-first_creates (CreateDb name size raw cache) first = record { name = name; size = size; raw = raw; cache = cache; is = refl }
-first_creates (Write page text) first = absurd (false_true first.opens)
-first_creates (Read page) first = absurd (false_true first.opens)
-first_creates other first = absurd (false_true first.is_built)
+-- A first statement that can be asked today creates a database or opens one.
+pub data Opens (statement : Statement) : Type 0 where
+  creates : (name : List ℕ) (size raw cache : ℕ) → statement ≡ CreateDb name size raw cache → Opens statement
+  opens : (name : List ℕ) (cache : ℕ) → statement ≡ OpenDb name cache → Opens statement
 
-module _ (old : World) (account : Account) (plan : Plan) (askable : IsAskable plan) (stands : StandsFor old.files account) where
-  pub first : Creating plan.first
-  first = first_creates plan.first askable.first
+first_opens : (statement : Statement) → IsFirst statement → Opens statement
+first_opens (CreateDb name size raw cache) first = creates name size raw cache refl
+first_opens (OpenDb name cache) first = opens name cache refl
+first_opens other first = absurd (false_true first.opens)
 
-  pub base : BaseName first.name
-  base = base_name first.name first.size first.raw first.cache (subst FitsFirst first.is askable.first.fits)
-
-  free_is : is_free_name old.files first.name ≡ is_free_entry (account.entry first.name)
-  free_is = name_free old.files account first.name base stands
-
+module _ (old : World) (account : Account) (stands : StandsFor old account) (reads : (m : List ℕ) → Leaves old m (old.files m)) (plan : Plan) (askable : IsAskable plan) where
   -- nothing happened
   pub script_unbegun : (new : World) (e : Stop) → Quiet old new → RunsTo (Err e) old new (Ok plan) account
-  script_unbegun new e quiet = by (is_free_entry (account.entry first.name)) refl
+  script_unbegun new e quiet = by (first_opens plan.first askable.first)
     where
-      by : (free : Bool) → is_free_entry (account.entry first.name) ≡ free → RunsTo (Err e) old new (Ok plan) account
-      by true is = quiet_fails account plan askable first.name first.size first.raw first.cache first.is is old new e quiet
-      by false is = taken_fails account plan askable first.name first.size first.raw first.cache first.is old new e is quiet
+      by : Opens plan.first → RunsTo (Err e) old new (Ok plan) account
+      by (creates name size raw cache is) = creating_unbegun old account stands reads plan askable name size raw cache is new e quiet
+      by (opens name cache is) = open_fails old account stands plan askable name cache is new e quiet
 
-  module _ (mid : World) (result : Result Opened Fault) (creates : Creates result old mid first.name (fresh first.size first.raw)) where
-    -- the creation failed
-    pub script_fails : (e : Stop) → RunsTo (Err e) old mid (Ok plan) account
-    script_fails e = by (is_free_entry (account.entry first.name)) refl
-      where
-        by : (free : Bool) → is_free_entry (account.entry first.name) ≡ free → RunsTo (Err e) old mid (Ok plan) account
-        by true is = creating_fails account plan askable first.name first.size first.raw first.cache first.is is old mid e creates.left
-        by false is = taken_fails account plan askable first.name first.size first.raw first.cache first.is old mid e is (creates.taken (free_is ∙ is))
+  -- the call of the first statement
+  pub script_begins : (mid : World) (result : Result Opened Fault)
+      → ((name : List ℕ) (size raw cache : ℕ) → plan.first ≡ CreateDb name size raw cache → Creates result old mid name (fresh size raw))
+      → ((name : List ℕ) (cache : ℕ) → plan.first ≡ OpenDb name cache → Attaches result old mid name)
+      → ((name : List ℕ) → database_named plan.first ≡ Some name → Apart old mid name)
+      → IfOk result (λ held. held.scn < 4294967296)
+      → Beginning old account stands plan askable mid result
+  script_begins mid result creating attaching apart scn = by (first_opens plan.first askable.first)
+    where
+      low : (held : Opened) → result ≡ Ok held → held.scn < 4294967296
+      low held is = subst (λ (r : Result Opened Fault). IfOk r (λ x. x.scn < 4294967296)) is scn
 
-    -- it was refused
-    module _ (refusal : Refusal) (is : result ≡ Err (Refused refusal)) where
-      answer : CreateAnswers (Err (Refused refusal)) old mid first.name (fresh first.size first.raw)
-      answer = subst (λ (r : Result Opened Fault). CreateAnswers r old mid first.name (fresh first.size first.raw)) is creates.answer
-
-      pub refusal_is : refusal ≡ FileExists first.name
-      refusal_is = answer.1
-
-      pub script_refused : (new : World) {S E : Type 0} (told : Result S E) (status : Result Status Stop) → SaysLine told mid new (line_text plan.first_session (RefusedReply refusal)) → IfOk status (λ s. s ≡ RefusedStatus)
-          → OnOk status (new.said ≡ mid.said ++ line_text plan.first_session (RefusedReply refusal)) → RunsTo status old new (Ok plan) account
-      script_refused new told status says ended said =
-          let quiet : Quiet old mid = creates.taken answer.0 in
-          runs_quietly status old mid new (Ok plan) account quiet
-          (refused_runs mid new plan.first_session refusal account (Ok plan) told status
-          (subst (λ (r : Refusal). IsPerformed (Ok plan) account no_given (refused_event plan.first_session r ∷ []) account) (sym refusal_is)
-          (taken_performed account plan askable first.name first.size first.raw first.cache first.is (sym free_is ∙ answer.0)))
-          (stands_quietly old mid account quiet stands) says (numbered status ended) said)
-        where
-          numbered : (s : Result Status Stop) → IfOk s (λ x. x ≡ RefusedStatus) → IfOk s (λ x. number_of x ≡ status_after (RefusedReply refusal))
-          numbered (Ok x) e = ap number_of e ∙ ap (λ (r : Refusal). status_after (RefusedReply r)) (sym refusal_is)
-          numbered (Err x) e = tt
-
-    -- it was done
-    module _ (held : Opened) (is : result ≡ Ok held) where
-      made : CreateAnswers (Ok held) old mid first.name (fresh first.size first.raw)
-      made = subst (λ (r : Result Opened Fault). CreateAnswers r old mid first.name (fresh first.size first.raw)) is creates.answer
-
-      free : is_free_entry (account.entry first.name) ≡ true
-      free = sym free_is ∙ made.0
-
-      pub script_now : Now
-      script_now = now account plan askable first.name first.size first.raw first.cache first.is free
-
-      pub script_todo : script_now.todo ≡ begun plan.sessions
-      unfolding script_now
-      script_todo = now_todo account plan askable first.name first.size first.raw first.cache first.is free
-
-      pub script_opened : IsOpen mid held (base_now script_now)
-      unfolding script_now
-      script_opened = subst (λ b. IsOpen mid held b) (sym (now_base account plan askable first.name first.size first.raw first.cache first.is free)) made.2
-
-      pub script_ends_early : (new : World) (after : Opened) (e f : Stop) → PlaysCreated (Err e) mid new held after script_now plan → RunsTo (Err f) old new (Ok plan) account
-      unfolding script_now
-      script_ends_early new after e f plays =
-          created_fails account plan askable first.name first.size first.raw first.cache first.is free old mid new creates.left held after made.1 made.2 f
-          (record {
-            how_often = plays.how_often;
-            plays = record { stops = plays.plays.stops; others = plays.plays.others; others_read = plays.plays.others_read; name = plays.plays.name; done = tt };
-            finished = plays.finished;
-          })
-
-      pub script_ends : (new : World) (after : Opened) (refused : Bool) (status : Status) → number_of status ≡ (if refused then 1 else 0) → ((m : List ℕ) → Leaves new m (new.files m)) → PlaysCreated (Ok refused) mid new held after script_now plan
-          → RunsTo (Ok status) old new (Ok plan) account
-      unfolding script_now
-      script_ends new after refused status number reads plays =
-          created_runs account plan askable first.name first.size first.raw first.cache first.is free old mid new creates.left held after made.1 made.2 refused status number reads stands base made.0 plays
+      by : Opens plan.first → Beginning old account stands plan askable mid result
+      by (creates name size raw cache is) = creates_begins old account stands reads plan askable name size raw cache is mid result (creating name size raw cache is) (apart name (ap database_named is))
+      by (opens name cache is) = attaches_begins old account stands plan askable name cache is mid result (attaching name cache is) (apart name (ap database_named is)) low

@@ -2,6 +2,7 @@
 use Rattle.std.specs.Prelude.{◌≡◌, ◌≢◌, ◌⊎◌, ℕ, List, [], ◌∷◌, ◌++◌, length, take, Bool, true, false, not, ◌==◌, Option, None, Some, Result, Ok, Err, IfOk}
 use Rattle.std.specs.Global.{Vec}
 use Rattle.nb_fields.specs.Free.{is_free_file}
+use Rattle.nb_fields.specs.Header.{state_of}
 use Rattle.nb_host.specs.Files.{File, Files}
 use Rattle.nb_host.specs.World.{World}
 use Rattle.nb_host.specs.Crash.{Leaves, LeavesAll}
@@ -11,13 +12,14 @@ use Rattle.nb_host.specs.declared.faults.Fault.TheVariants.{Refused as RefusedFa
 use Rattle.nb_host.specs.declared.refusals.Refusal.{Refusal}
 use Rattle.nb_host.specs.declared.refusals.Refusal.TheVariants.{Usage, NoFile, Unfinished}
 use Rattle.nb_model.specs.declared.reply.Reply.{Reply}
-use Rattle.nb_model.specs.declared.reply.Reply.TheVariants.{Refused}
+use Rattle.nb_model.specs.declared.reply.Reply.TheVariants.{Refused, Pages, Opened as OpenedReply}
 use Rattle.nb_model.specs.declared.statement.Statement.{Statement}
 use Rattle.nb_model.specs.declared.statement.Statement.TheVariants.{CreateDb, OpenDb}
 use Rattle.nb_model.specs.Image.{image_state}
-use Rattle.nb_model.specs.Account.{Kept, IsBase, Account}
+use Rattle.nb_model.specs.Account.{Kept, Entry, Missing, Plain, IsBase, Account}
+use Rattle.nb_model.specs.Causes.{not_database}
 use Rattle.nb_model.specs.Strokes.{after}
-use Rattle.nb_model.specs.Owner.{entry_in}
+use Rattle.nb_model.specs.Owner.{delta_name, entry_in}
 use Rattle.nb_model.specs.Outcomes.{Given}
 use Rattle.nb_model.specs.Output.{output, acked_in, status_of}
 use Rattle.nb_model.specs.Run.{Event, Now, Played, IsRun, AreFinished, play, rounds, strokes_of, replies_of}
@@ -28,6 +30,7 @@ use Rattle.nb_model.specs.declared.job.Job.TheVariants.{Run}
 use Rattle.nb_top.specs.declared.status.Status.{Status}
 use Rattle.nb_top.specs.declared.status.Status.TheVariants.{Done, Refused as RefusedStatus, Usage as UsageStatus, Device, Memory}
 use Rattle.nb_sched.specs.declared.stop.Stop.{Stop}
+use Rattle.nb_page.specs.Free.{is_free_name}
 use Rattle.nb_sched.specs.Replies.{is_refusal}
 use Rattle.nb_sched.specs.Stops.{IsSaid, IsFront, Plays}
 use Rattle.nb_engine.specs.declared.opened.Opened.{Opened}
@@ -55,14 +58,20 @@ script_of_job files other = Err Usage
 abbrev pub script_asked : Files → (words : List (List ℕ)) → Result Plan Refusal
 script_asked files words = elim (job_of words) [ None ↦ Err Usage | Some job ↦ script_of_job files job ]
 
--- A script opens a database whose backup or merge isn't ended: today that is refused.
-abbrev pub is_unended : Plan → Account → Bool
-is_unended plan account = elim plan.first [ OpenDb name cache ↦ elim (account.entry name) [ IsBase b ↦ not (image_state b.image == 0) | _ ↦ false ] | _ ↦ false ]
+-- what stands under a name is a database's file, in another state than the normal one
+abbrev pub is_unended : Entry → Bool
+is_unended Missing = false
+is_unended (Plain bytes delta) = elim (not_database bytes) [ None ↦ not (state_of bytes == 0) | Some refusal ↦ false ]
+is_unended (IsBase b) = not (image_state b.image == 0)
+
+-- the script opens such a file, which is refused today whatever the state
+abbrev pub opens_unended : Plan → Account → Bool
+opens_unended plan account = elim plan.first [ OpenDb name cache ↦ is_unended (account.entry name) | _ ↦ false ]
 
 -- The run of the words on these files: that of the script that they ask for, or one refusal.
 abbrev pub IsPerformed : Result Plan Refusal → (before : Account) → Given → List Event → (after : Account) → Type 0
 IsPerformed (Err refusal) before given events last = (events ≡ refused_job refusal) × (last ≡ before)
-IsPerformed (Ok plan) before given events last = elim (is_unended plan before) as (λ z. Type 0) [
+IsPerformed (Ok plan) before given events last = elim (opens_unended plan before) as (λ z. Type 0) [
   | true ↦ (events ≡ refused_at plan.first_session Unfinished) × (last ≡ before)
   | false ↦ IsRun before given plan.first_session plan.first plan.schedule plan.sessions events last
 ]
@@ -87,10 +96,12 @@ pub record HoldsKept (files : Files) (kept : List Kept) : Type 0 where
   pub stands : Stands files account
   pub same : account.kept ≡ kept
 
--- The files stand for the account, and whatever a stop now leaves stands for an account with the same records.
+-- The files stand for the account, and whatever a stop now leaves stands for an account with the same records. Beside a free name a
+-- stop brings no difference file back.
 pub record StandsFor (w : World) (account : Account) : Type 0 where
   pub now : Stands w.files account
   pub left : (files : Files) → LeavesAll w files → HoldsKept files account.kept
+  pub free : (name : List ℕ) → is_free_name w.files name ≡ true → (d : File) → Leaves w (delta_name name) d → d ≡ None
 
 -- the name isn't that of the database
 abbrev pub IsUnasked : (database : Option (List ℕ)) → List ℕ → Type 0
@@ -165,6 +176,10 @@ IsRead (Err MemoryFault) meant = Unit
 -- a reply that is said of a database that is open
 abbrev pub reply_said : (session : ℕ) → Reply → Event
 reply_said session reply = record { session = session; strokes = []; reply = Some reply; made = None; syncs = true }
+
+-- what is said of a database of so many pages that a first statement has created or opened
+abbrev pub opened_reply : (first : Statement) (pages : ℕ) → Reply
+opened_reply first pages = elim first [ OpenDb name cache ↦ OpenedReply pages 0 | _ ↦ Pages pages ]
 
 -- the first reply and then all turns
 abbrev pub played_behind : Event → Played → Played

@@ -16,7 +16,7 @@ use nb_sched::Stop;
 use std::alloc::Global;
 
 fn run_file<H: Host>(alloc: Global, host: &mut H, name: &Name) -> Result<Status, Stop>
-    ensures runs { (account : Account) → IsTrue H.tells → StandsFor (H.world host.old).files account
+    ensures runs { (account : Account) → IsTrue H.tells → StandsFor (H.world host.old) account
         → RunsTo result (H.world host.old) (H.world host.new) (script_in name.now ((H.world host.old).files name.now)) account }
     ensures done { IfOk result (λ status. (status ≡ Status.Done) ⊎ (status ≡ Status.Refused)) }
     ensures cause { CountsStop result (H.faults host.old) (H.faults host.new) }
@@ -29,7 +29,7 @@ fn run_file<H: Host>(alloc: Global, host: &mut H, name: &Name) -> Result<Status,
 
 fn run_job<H: Host>(alloc: Global, host: &mut H, job: &Job) -> Result<Status, Stop>
     requires { IsRun job.now }
-    ensures runs { (account : Account) → IsTrue H.tells → StandsFor (H.world host.old).files account
+    ensures runs { (account : Account) → IsTrue H.tells → StandsFor (H.world host.old) account
         → RunsTo result (H.world host.old) (H.world host.new) (script_of_job (H.world host.old).files job.now) account }
     ensures done { IfOk result (λ status. (status ≡ Status.Done) ⊎ (status ≡ Status.Refused)) }
     ensures cause { CountsStop result (H.faults host.old) (H.faults host.new) }
@@ -41,7 +41,7 @@ fn run_job<H: Host>(alloc: Global, host: &mut H, job: &Job) -> Result<Status, St
 }
 
 fn do_job<H: Host>(alloc: Global, words: &[String], host: &mut H) -> Result<Status, Stop>
-    ensures runs { (account : Account) → IsTrue H.tells → StandsFor (H.world host.old).files account
+    ensures runs { (account : Account) → IsTrue H.tells → StandsFor (H.world host.old) account
         → RunsTo result (H.world host.old) (H.world host.new) (script_asked (H.world host.old).files (map string_bytes words.now)) account }
     ensures usage { IfOk result (λ status. (status ≡ Status.Usage) ↔ (job_of (map string_bytes words.now) ≡ None)) }
     ensures done { IfOk result (λ status. (status ≡ Status.Usage) ⊎ ((status ≡ Status.Done) ⊎ (status ≡ Status.Refused))) }
@@ -69,10 +69,10 @@ pub fn run<H: Host>(alloc: Global, words: &[String], host: &mut H) -> Status
     ensures usage { result ≡ Status.Usage → job_of (map string_bytes words.now) ≡ None }
     ensures no_job { job_of (map string_bytes words.now) ≡ None → result ≢ Status.Done × result ≢ Status.Refused }
 
-    // Where the files stand for an account as the call begins: the output is that of the run which the words ask for, the files
-    // then stand for the account after, and at each moment a stop leaves the account after a front of the strokes that
-    // holds every acknowledged one. So do the files as they read where the run ended early.
-    ensures performs { (account : Account) → IsTrue H.tells → StandsFor (H.world host.old).files account
+    // Where the files stand for an account as the call begins, and what a stop then leaves: the output is that of the run which the
+    // words ask for, the files then stand for the account after, and at each moment a stop leaves the account after a front of
+    // the strokes that holds every acknowledged one. So do the files as they read where the run ended early.
+    ensures performs { (account : Account) → IsTrue H.tells → StandsFor (H.world host.old) account
         → Performs result (H.world host.old) (H.world host.new) (script_asked (H.world host.old).files (map string_bytes words.now)) account }
 {
     match do_job(alloc, words, host) {

@@ -1,19 +1,21 @@
-// A script is run: its database is created, and its sessions take their turns.
-ghost use Rattle.std.specs.Prelude.{◌≡◌, ◌⊎◌, ℕ, List, Ok, Err, IsTrue, IfOk, IfErr, if◌then◌else◌};
+// A script is run: its database is created or opened, and its sessions take their turns.
+ghost use Rattle.std.specs.Prelude.{◌≡◌, ◌⊎◌, ◌<◌, ℕ, List, Some, Ok, Err, IsTrue, IfOk, IfErr, if◌then◌else◌};
 ghost use Rattle.nb_fields.specs.Fresh.{fresh};
 ghost use Rattle.nb_host.specs.declared.faults.Fault.TheVariants.{Refused};
+ghost use Rattle.nb_change.specs.Apart.{Apart};
 ghost use Rattle.nb_change.specs.Counts.{CountsDevice};
 ghost use Rattle.nb_model.specs.Account.{Account};
 ghost use Rattle.nb_model.specs.Lines.{line_text};
-ghost use Rattle.nb_model.specs.Run.{Now, base_now, begun};
+ghost use Rattle.nb_model.specs.Run.{Now, begun};
 ghost use Rattle.nb_model.specs.declared.reply.Reply.TheVariants.{Refused as RefusedReply};
-ghost use Rattle.nb_model.specs.declared.statement.Statement.TheVariants.{CreateDb};
+ghost use Rattle.nb_model.specs.declared.statement.Statement.TheVariants.{CreateDb, OpenDb};
 ghost use Rattle.nb_engine.specs.Create.{Creates};
-ghost use Rattle.nb_engine.specs.Open.{IsOpen};
+ghost use Rattle.nb_engine.specs.Attach.{Attaches};
 ghost use Rattle.nb_script.specs.Asked.{IsFirst, IsAskable};
 ghost use Rattle.nb_sched.specs.Causes.{CountsStop};
 ghost use Rattle.nb_sched.specs.Says.{SaysLine};
-ghost use Rattle.nb_top.specs.Performed.{RunsTo, StandsFor, PlaysCreated, number_of};
+ghost use Rattle.nb_sched.specs.Stops.{IsReady};
+ghost use Rattle.nb_top.specs.Performed.{RunsTo, StandsFor, PlaysOpened, database_named, opened_reply, number_of};
 
 use crate::Status;
 use nb_engine::Engine;
@@ -52,11 +54,14 @@ pub fn refuse<H: Host>(
     Ok(Status::Refused)
 }
 
-/// Creates the database of the first statement.
-fn create<H: Host>(alloc: Global, host: &mut H, first: &Statement) -> Result<Engine, Fault>
+/// Creates or opens the database of the first statement.
+fn open<H: Host>(alloc: Global, host: &mut H, first: &Statement) -> Result<Engine, Fault>
     requires { IsFirst first.now }
     ensures creates { (name : List ℕ) (size raw cache : ℕ) → IsTrue H.tells → first.now ≡ CreateDb name size raw cache
         → Creates result (H.world host.old) (H.world host.new) name (fresh size raw) }
+    ensures attaches { (name : List ℕ) (cache : ℕ) → IsTrue H.tells → first.now ≡ OpenDb name cache → Attaches result (H.world host.old) (H.world host.new) name }
+    ensures apart { (name : List ℕ) → IsTrue H.tells → database_named first.now ≡ Some name → Apart (H.world host.old) (H.world host.new) name }
+    ensures scn { IfOk result (λ engine. engine.scn < 4294967296) }
     ensures cause { CountsDevice result (H.faults host.old) (H.faults host.new) }
 {
     match first {
@@ -66,24 +71,35 @@ fn create<H: Host>(alloc: Global, host: &mut H, first: &Statement) -> Result<Eng
             raw,
             ..
         } => Engine::create(alloc, host, name, *page_size, *raw),
+        Statement::OpenDb { name, .. } => Engine::attach(alloc, host, name),
         _ => unreachable!(),
     }
 }
 
-/// Says how many pages the new database has, and then the sessions take their turns. Answers whether a statement was refused.
-fn run_created<H: Host>(
+/// What the first statement says of the database that it has opened, with so many pages.
+fn first_reply(first: &Statement, pages: u32) -> Reply
+    ensures { result ≡ opened_reply first.now pages }
+{
+    match first {
+        Statement::OpenDb { .. } => Reply::Opened { pages, state: 0 },
+        _ => Reply::Pages { pages },
+    }
+}
+
+/// Says the reply of the first statement, and then the sessions take their turns. Answers whether a statement was refused.
+fn run_opened<H: Host>(
     alloc: Global,
     host: &mut H,
     engine: &mut Engine,
     script: &Script,
 ) -> Result<bool, Stop>
     requires { IsAskable script.now }
-    ensures plays { (now : Now) → IsTrue H.tells → IsOpen (H.world host.old) engine.old (base_now now) → now.todo ≡ begun script.now.sessions
-        → PlaysCreated result (H.world host.old) (H.world host.new) engine.old engine.new now script.now }
+    ensures plays { (now : Now) → IsTrue H.tells → IsReady (H.world host.old) engine.old now → now.todo ≡ begun script.now.sessions
+        → PlaysOpened result (H.world host.old) (H.world host.new) engine.old engine.new now script.now (opened_reply script.now.first engine.old.count) }
     ensures cause { CountsStop result (H.faults host.old) (H.faults host.new) }
 {
-    let pages = engine.count();
-    say(alloc, host, script.first_session(), &Reply::Pages { pages })?;
+    let reply = first_reply(script.first(), engine.count());
+    say(alloc, host, script.first_session(), &reply)?;
     take_turns(alloc, host, engine, script)
 }
 
@@ -102,14 +118,14 @@ fn ended(refused: bool) -> Status
 /// Runs a script: its first statement, and then the turns of its sessions to their end. A first statement that is refused ends it.
 pub fn run_script<H: Host>(alloc: Global, host: &mut H, script: &Script) -> Result<Status, Stop>
     requires { IsAskable script.now }
-    ensures runs { (account : Account) → IsTrue H.tells → StandsFor (H.world host.old).files account
+    ensures runs { (account : Account) → IsTrue H.tells → StandsFor (H.world host.old) account
         → RunsTo result (H.world host.old) (H.world host.new) (Ok script.now) account }
     ensures done { IfOk result (λ status. (status ≡ Status.Done) ⊎ (status ≡ Status.Refused)) }
     ensures cause { CountsStop result (H.faults host.old) (H.faults host.new) }
 {
-    match settled(create(alloc, host, script.first()))? {
+    match settled(open(alloc, host, script.first()))? {
         Ok(mut engine) => {
-            let refused = run_created(alloc, host, &mut engine, script)?;
+            let refused = run_opened(alloc, host, &mut engine, script)?;
             Ok(ended(refused))
         }
         Err(refusal) => refuse(alloc, host, script.first_session(), refusal),

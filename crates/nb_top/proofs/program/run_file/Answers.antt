@@ -13,7 +13,7 @@ returns-in_err-script-clause-runs g c account tells stands =
     let new = g.H.Host.world c.read_script.new.host in
     let name = c.args.name.now in
     runs_err c.from_residual.result c.from_residual.ensures.0 (λ r. RunsTo r old new (script_in name (old.files name)) account)
-    (λ e. unread_runs old new name (old.files name) account e stands c.read_script.ensures.quiet)
+    (λ e. unread_runs old new name (old.files name) account e stands (g.met.H.Host.reads_left c.args.host.now tells) c.read_script.ensures.quiet)
 
 pub returns-in-Ok-clause-runs : goal.returns-in-Ok-clause-runs
 returns-in-Ok-clause-runs g c account tells stands =
@@ -25,7 +25,7 @@ returns-in-Ok-clause-runs g c account tells stands =
     let quiet = c.read_script.ensures.quiet in
     let is = settled_value c.in_ok-script.field-0 c.in-Ok.script (λ value. c.read_script.result ≡ Ok value) c.in-Ok.is c.in_ok-script.ensures.value in
     let read : script_in name file ≡ Ok c.in-Ok.script = subst (λ r. IsRead r (script_in name file)) is (c.read_script.ensures.read tells) in
-    runs_quietly c.run_script.result old mid new (script_in name file) account quiet
+    runs_quietly c.run_script.result old mid new (script_in name file) account stands quiet
     (subst (λ asked. RunsTo c.run_script.result mid new asked account) (sym read) (c.run_script.ensures.runs account tells (stands_quietly old mid account quiet stands)))
 
 pub returns-in-Err-clause-runs : goal.returns-in-Err-clause-runs
@@ -40,5 +40,5 @@ returns-in-Err-clause-runs g c account tells stands =
     let is = settled_refusal c.in_ok-script.field-0 refusal (λ r. c.read_script.result ≡ Err (Refused r)) c.in-Err.is c.in_ok-script.ensures.refusal in
     let read : script_in name file ≡ Err refusal = subst (λ r. IsRead r (script_in name file)) is (c.read_script.ensures.read tells) in
     let says = c.refuse.ensures.line tells in
-    runs_quietly c.refuse.result old mid new (script_in name file) account quiet
+    runs_quietly c.refuse.result old mid new (script_in name file) account stands quiet
     (job_refused c.refuse.result c.refuse.result mid new (script_in name file) refusal account read (stands_quietly old mid account quiet stands) says (script_number name file refusal read c.refuse.result c.refuse.ensures.ok) says.said)
