@@ -16,3 +16,6 @@ mod store;
 
 pub use engine::Engine;
 pub use opened::Opened;
+
+#[cfg(test)]
+mod tests;
