@@ -197,12 +197,14 @@ fn open_file<H: Host>(
 }
 
 impl Engine {
-    /// Opens the database of a file, and takes room for its pages. The file is kept for good before it answers, so that no later stop
-    /// takes back what it has read. It changes nothing.
+    /// Opens the database of a file, in the normal state, and takes room for three of its pages. It changes nothing. The file is kept
+    /// for good before it answers, so that no later stop takes back what was read of it.
     ///
-    /// The refusals are `NoFile`; `NotDatabase`, which names page 0 where the first 64 bytes have no header's form, and otherwise the
-    /// first page that there isn't whole or is too much; and `Unfinished`, where a backup, a merge or a restore isn't ended. They
-    /// come in this order.
+    /// It reads the first bytes, and pages from the file's end on until one isn't all zeros: those behind it aren't counted.
+    ///
+    /// The refusals are `NoFile`, `NotDatabase` and `Unfinished`, in this order. `NotDatabase` names page 0 where the first 64 bytes have
+    /// not the form of a header; otherwise the page at which the file ends, where it has a part of a page or fewer than 5 pages; and
+    /// page 1,048,576 at most, where it has more pages than that. `Unfinished` comes where the backup state isn't 0.
     pub fn attach<H: Host>(alloc: Global, host: &mut H, name: &Name) -> Result<Engine, Fault>
         ensures attaches { IsTrue H.tells → Attaches result (H.world host.old) (H.world host.new) name.now }
         ensures apart { IsTrue H.tells → Apart (H.world host.old) (H.world host.new) name.now }
@@ -244,7 +246,7 @@ impl Engine {
 
     /// Keeps the file for good. It changes nothing.
     pub fn sync<H: Host>(&mut self, host: &mut H) -> Result<(), HostFault>
-        ensures open { (b : Base) → IsTrue H.tells → IsOpen (H.world host.old) self.old b → IsOpen (H.world host.new) self.new b }
+        ensures stays_open { (b : Base) → IsTrue H.tells → IsOpen (H.world host.old) self.old b → IsOpen (H.world host.new) self.new b }
         ensures durable { IsTrue H.tells → OnOk result (IsDurable (H.world host.new) self.old.name ((H.world host.old).files self.old.name)) }
         ensures same { self.new ≡ self.old }
         ensures quiet { Quiet (H.world host.old) (H.world host.new) }
