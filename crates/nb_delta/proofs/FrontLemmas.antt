@@ -307,12 +307,12 @@ module _ (size : ℕ) (is_size : IsTrue (is_page_size size)) (entries table wait
   find (suc left) g at order named = ⊎_elim
       (λ same. elim (cases_eq g first) [
         | inl e ↦ record {
-            front = [];
-            rest = waiting;
-            split = refl;
-            has = subst (λ (xs : List ℕ). HasTable size new xs) (sym (append-nil table))
-                (has_told size is_size new table there (none_named (subst (λ (n : ℕ). page_in size (bytes_of new) (alloc_place size n) ≡ page_in size (bytes_of ready) (alloc_place size n)) e same)));
-          }
+          front = [];
+          rest = waiting;
+          split = refl;
+          has = subst (λ (xs : List ℕ). HasTable size new xs) (sym (append-nil table))
+              (has_told size is_size new table there (none_named (subst (λ (n : ℕ). page_in size (bytes_of new) (alloc_place size n) ≡ page_in size (bytes_of ready) (alloc_place size n)) e same)));
+        }
         | inr ne ↦ stopped g (omega arith) (omega arith) named same
       ])
       (λ new_one. find left (g + 1) (omega arith) (omega arith) (λ h low high. elim (cases_lt h g) [

@@ -112,14 +112,14 @@ pub wait_moves : (old new : World) (size : ℕ) (inside k : Known) → inside �
 wait_moves old new size inside k same is moves =
     subst (λ (x : Known). WaitMoves old new x) same
     (subst (λ (n : ℕ). (table waiting : List ℕ) → Waits n inside.entries inside.drafted table waiting (old.files inside.name) → (other : List ℕ) → other ≢ inside.name
-        → Advances old new other inside.name (StepLeft old other inside.name (FrontStep n table waiting))) is moves)
+    → Advances old new other inside.name (StepLeft old other inside.name (FrontStep n table waiting))) is moves)
 
 -- before the first call
 pub wait_begun : (old : World) (inside k : Known) → inside ≡ k → IsTimely old → WaitMoves old old k
 wait_begun old inside k same timely =
     subst (λ (x : Known). WaitMoves old old x) same
     (λ table waiting waits other apart. step_begun other inside.name apart old (FrontStep inside.page_size table waiting) timely
-        (λ d ld. record { tables = inl (λ entries few has. has); slots = λ j. refl; no_shorter = omega arith }))
+    (λ d ld. record { tables = inl (λ entries few has. has); slots = λ j. refl; no_shorter = omega arith }))
 
 -- what a file holds after them
 abbrev pub WaitWrites : (before after : Files) → Known → Type 0
@@ -140,5 +140,5 @@ pub none_waits : (files : Files) (inside k : Known) → inside ≡ k → inside.
 none_waits files inside k same none =
     subst (λ (x : Known). WaitWrites files files x) same
     (λ table waiting waits.
-        let all : inside.entries ≡ table = waits.all ∙ ap (λ (xs : List ℕ). table ++ xs) (none_left waiting (waits.many ∙ none)) ∙ append-nil table in
-        record { has = subst (λ (xs : List ℕ). HasTable inside.page_size (files inside.name) xs) (sym all) waits.has; slots = λ j. refl; no_shorter = omega arith })
+    let all : inside.entries ≡ table = waits.all ∙ ap (λ (xs : List ℕ). table ++ xs) (none_left waiting (waits.many ∙ none)) ∙ append-nil table in
+    record { has = subst (λ (xs : List ℕ). HasTable inside.page_size (files inside.name) xs) (sym all) waits.has; slots = λ j. refl; no_shorter = omega arith })

@@ -283,12 +283,7 @@ fn held(host: &mut MemHost, delta: &mut Delta, page: u32) -> Result<u8, Fault>
 
 /// Whether the file has the old table or some of the three entries too, the first ones, each with its page. It has to have
 /// all where it is done.
-fn has_front(
-    alloc: Global,
-    host: &mut MemHost,
-    name: &Name,
-    is_done: bool,
-) -> Result<bool, Fail> {
+fn has_front(alloc: Global, host: &mut MemHost, name: &Name, is_done: bool) -> Result<bool, Fail> {
     let mut delta = Delta::attach(alloc, host, name, 1024)?;
     let count = delta.count();
     let first = held(host, &mut delta, 300)?;

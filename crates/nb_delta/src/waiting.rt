@@ -16,12 +16,7 @@ use crate::writing::{fill_group, sync_if};
 use nb_host::{Host, HostFault, Name};
 
 /// Writes the allocation page of a group.
-fn write_group<H: Host>(
-    host: &mut H,
-    name: &Name,
-    group: u32,
-    page: &[u8],
-) -> Result<(), HostFault>
+fn write_group<H: Host>(host: &mut H, name: &Name, group: u32, page: &[u8]) -> Result<(), HostFault>
     requires size { IsTrue (is_page_size (length page.now)) }
     requires group { group ≤ 4113 }
     ensures put { IsTrue H.tells → OnOk result (GroupPut (length page.now) group page.now ((H.world host.old).files name.now) ((H.world host.new).files name.now)) }

@@ -23,7 +23,7 @@ pub returns-in_err-empty_groups-clause-moves : goal.returns-in_err-empty_groups-
 returns-in_err-empty_groups-clause-moves g c tells =
     let long : length c.fill.new.self ≡ length c.args.page.now = ap (λ (xs : List ℕ). length xs) (c.fill.ensures.after (λ y e. e)) ∙ length-replicate {A = ℕ} (length c.args.page.now) 0 in
     subst (λ (m : ℕ). (n : ℕ) → n < (c.args.first + 1) * slots_in m → (other : List ℕ) → other ≢ c.args.name.now
-        → Advances (g.H.Host.world c.args.host.now) (g.H.Host.world c.empty_groups.new.host) other c.args.name.now (StepLeft (g.H.Host.world c.args.host.now) other c.args.name.now (Stays m n)))
+    → Advances (g.H.Host.world c.args.host.now) (g.H.Host.world c.empty_groups.new.host) other c.args.name.now (StepLeft (g.H.Host.world c.args.host.now) other c.args.name.now (Stays m n)))
     long (c.empty_groups.ensures.moves tells)
 
 pub returns-in_err-sync_if-clause-moves : goal.returns-in_err-sync_if-clause-moves
@@ -31,7 +31,7 @@ returns-in_err-sync_if-clause-moves g c tells n low other apart =
     let long : length c.fill.new.self ≡ length c.args.page.now = ap (λ (xs : List ℕ). length xs) (c.fill.ensures.after (λ y e. e)) ∙ length-replicate {A = ℕ} (length c.args.page.now) 0 in
     step_joined other c.args.name.now apart (g.H.Host.world c.args.host.now) (g.H.Host.world c.empty_groups.new.host) (g.H.Host.world c.sync_if.new.host) (Stays (length c.args.page.now) n) (λ before after. after ≡ before) (Stays (length c.args.page.now) n)
     (subst (λ (m : ℕ). (k : ℕ) → k < (c.args.first + 1) * slots_in m
-        → Advances (g.H.Host.world c.args.host.now) (g.H.Host.world c.empty_groups.new.host) other c.args.name.now (StepLeft (g.H.Host.world c.args.host.now) other c.args.name.now (Stays m k)))
+    → Advances (g.H.Host.world c.args.host.now) (g.H.Host.world c.empty_groups.new.host) other c.args.name.now (StepLeft (g.H.Host.world c.args.host.now) other c.args.name.now (Stays m k)))
     long (λ k less. c.empty_groups.ensures.moves tells k less other apart) n low)
     (c.sync_if.ensures.moves other apart) (λ b d stays. stays) (λ b d x stays same. subst (λ (f : File). Stays (length c.args.page.now) n b f) (sym same) stays)
 
@@ -40,7 +40,7 @@ returns-clause-moves g c tells n low other apart =
     let long : length c.fill.new.self ≡ length c.args.page.now = ap (λ (xs : List ℕ). length xs) (c.fill.ensures.after (λ y e. e)) ∙ length-replicate {A = ℕ} (length c.args.page.now) 0 in
     step_joined other c.args.name.now apart (g.H.Host.world c.args.host.now) (g.H.Host.world c.empty_groups.new.host) (g.H.Host.world c.sync_if.new.host) (Stays (length c.args.page.now) n) (λ before after. after ≡ before) (Stays (length c.args.page.now) n)
     (subst (λ (m : ℕ). (k : ℕ) → k < (c.args.first + 1) * slots_in m
-        → Advances (g.H.Host.world c.args.host.now) (g.H.Host.world c.empty_groups.new.host) other c.args.name.now (StepLeft (g.H.Host.world c.args.host.now) other c.args.name.now (Stays m k)))
+    → Advances (g.H.Host.world c.args.host.now) (g.H.Host.world c.empty_groups.new.host) other c.args.name.now (StepLeft (g.H.Host.world c.args.host.now) other c.args.name.now (Stays m k)))
     long (λ k less. c.empty_groups.ensures.moves tells k less other apart) n low)
     (c.sync_if.ensures.moves other apart) (λ b d stays. stays) (λ b d x stays same. subst (λ (f : File). Stays (length c.args.page.now) n b f) (sym same) stays)
 

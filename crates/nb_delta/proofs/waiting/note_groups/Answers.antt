@@ -46,7 +46,7 @@ returns-in_err-note_group-clause-moves g c tells other apart =
     (c.loop-group.invariant.moves tells other apart) (c.note_group.ensures.moves tells other apart)
     (λ b d some. some_wider size c.requires.size entries first group c.args.end b d (omega arith) some)
     (λ b d x some next. some_wider size c.requires.size entries first (group + 1) c.args.end b x (omega arith)
-        (some_more size c.requires.size entries first group (omega arith) b d x some (subst (λ (n : ℕ). NotesSome n entries group (group + 1) d x) same next)))
+    (some_more size c.requires.size entries first group (omega arith) b d x some (subst (λ (n : ℕ). NotesSome n entries group (group + 1) d x) same next)))
 
 pub returns-in_err-note_group-clause-log : goal.returns-in_err-note_group-clause-log
 returns-in_err-note_group-clause-log g c = silence_joined _ _ _ c.loop-group.invariant.log c.note_group.ensures.log
