@@ -1,5 +1,5 @@
 -- What a write of an allocation page leaves, and what stands once all behind a group are empty.
-use Rattle.std.proofs.Common.{◌≡◌, ◌≢◌, ◌⊎◌, inl, inr, ⊎_elim, ℕ, ◌+◌, ◌*◌, ◌<◌, ◌≤◌, List, length, replicate, refl, sym, ap, ◌∙◌, subst, arith, IsTrue}
+use Rattle.std.proofs.Common.{◌≡◌, ◌≢◌, inl, inr, ⊎_elim, ℕ, ◌+◌, ◌*◌, ◌<◌, ◌≤◌, List, length, replicate, refl, sym, ap, ◌∙◌, subst, arith, IsTrue}
 use Rattle.std.specs.Prelude.{Some}
 use Rattle.std.proofs.lemmas.Bool.{cases_eq}
 use Rattle.std.proofs.Math.Nat.{mul-le-mul_right}
@@ -7,7 +7,7 @@ use Rattle.nb_host.specs.Files.{File, bytes_of, with_page}
 use Rattle.nb_host.specs.Crash.{PageLeft}
 use Rattle.nb_fields.specs.Places.{is_page_size, slots_in}
 use Rattle.nb_fields.specs.Table.{page_in, slot_place, alloc_place}
-use Rattle.nb_delta.specs.Slots.{HasTable, slot_page}
+use Rattle.nb_delta.specs.Slots.{slot_page}
 use Rattle.nb_delta.specs.Groups.{GroupStep, GroupPut, Stays, Empties}
 use Rattle.nb_delta.proofs.PlaceLemmas.{alloc_other, alloc_other_slot}
 use Rattle.nb_delta.proofs.SpellLemmas.{put_step, page_step, spells_behind}

@@ -1,6 +1,6 @@
 -- Where the allocation pages of some groups are written, the table has a front of the entries.
-use Rattle.std.proofs.Common.{◌≡◌, ◌≢◌, ◌⊎◌, inl, inr, ⊎_elim, ℕ, zero, suc, ◌+◌, ◌-◌, ◌*◌, ◌/◌, ◌<◌, ◌≤◌, List, [], ◌∷◌, ◌++◌, length, get_or, take, drop, replicate, refl, sym, ap, ◌∙◌, subst, arith, IsTrue, length-append, length-take-le, take-append-drop}
-use Rattle.std.specs.Prelude.{Some, min, nat_eq, true, slice_index}
+use Rattle.std.proofs.Common.{◌≡◌, inl, inr, ⊎_elim, ℕ, zero, suc, ◌+◌, ◌-◌, ◌*◌, ◌/◌, ◌<◌, ◌≤◌, List, [], ◌∷◌, ◌++◌, length, get_or, take, drop, refl, sym, ap, ◌∙◌, subst, arith, IsTrue, length-append, length-take-le, take-append-drop}
+use Rattle.std.specs.Prelude.{Some, min, nat_eq}
 use Rattle.std.specs.List.{list_any, IsDistinct, AllByRecursion}
 use Rattle.std.proofs.lemmas.Bool.{cases_eq, cases_lt, or_left}
 use Rattle.std.proofs.lemmas.List.{get_or_append_left, append_assoc, append-nil}
@@ -11,8 +11,7 @@ use Rattle.nb_fields.specs.Bytes.{number_in}
 use Rattle.nb_fields.specs.Places.{is_page_size, slots_in}
 use Rattle.nb_fields.specs.Table.{page_in, slot_place, alloc_place}
 use Rattle.nb_delta.specs.Entries.{AreEntries}
-use Rattle.nb_delta.specs.Slots.{HasTable, HasSlot}
-use Rattle.nb_delta.specs.Noting.{IsAllocation}
+use Rattle.nb_delta.specs.Slots.{HasTable}
 use Rattle.nb_delta.specs.Waiting.{Waits, HasFront, FrontStep, HasAll}
 use Rattle.nb_delta.specs.Groups.{Stays, Empties, IsOfGroup, NotesSome, NotesAll}
 use Rattle.nb_delta.proofs.GroupLemmas.{zeros_count}

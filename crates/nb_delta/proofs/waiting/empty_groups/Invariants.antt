@@ -1,4 +1,4 @@
-use Rattle.std.proofs.Common.{◌≡◌, ◌≢◌, ℕ, ◌+◌, ◌*◌, ◌<◌, ◌≤◌, IsTrue, List, length}
+use Rattle.std.proofs.Common.{◌≡◌, ◌≢◌, ℕ, ◌+◌, ◌*◌, ◌<◌, IsTrue, List, length}
 use Rattle.nb_host.specs.Calls.{IsSilent}
 use Rattle.nb_fields.specs.Places.{slots_in}
 use Rattle.nb_change.specs.Change.{Advances}

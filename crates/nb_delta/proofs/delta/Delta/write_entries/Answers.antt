@@ -1,4 +1,4 @@
-use Rattle.std.proofs.Common.{◌≡◌, length, refl, arith}
+use Rattle.std.proofs.Common.{◌≡◌, length, arith}
 use Rattle.nb_delta.proofs.KnownLemmas.{wait_moves, wait_begun, wait_writes, none_waits}
 use Rattle.nb_delta.proofs.delta.Delta.write_entries.Goals as goal
 
