@@ -1,8 +1,8 @@
 -- What a call says of the object that it knows, by what it says of the object's parts.
-use Rattle.std.proofs.Common.{◌≡◌, ◌≢◌, ℕ, ◌+◌, ◌*◌, ◌<◌, ◌≤◌, Bool, true, false, List, [], ◌∷◌, ◌++◌, length, take, drop, replicate, sym, ap, ◌∙◌, subst, arith, inl, IsTrue, length-drop}
+use Rattle.std.proofs.Common.{◌≡◌, ◌≢◌, ℕ, ◌+◌, ◌*◌, ◌<◌, ◌≤◌, Bool, true, false, List, [], ◌∷◌, ◌++◌, length, take, drop, replicate, refl, sym, ap, ◌∙◌, subst, arith, inl, IsTrue, length-drop}
 use Rattle.std.specs.Prelude.{None}
 use Rattle.nb_host.specs.World.{World}
-use Rattle.std.proofs.lemmas.List.{take-append-le}
+use Rattle.std.proofs.lemmas.List.{take-append-le, append-nil}
 use Rattle.nb_host.specs.Files.{File, Files, bytes_of}
 use Rattle.nb_host.specs.Calls.{ReadsPage}
 use Rattle.nb_host.specs.Moments.{IsTimely}
@@ -13,6 +13,7 @@ use Rattle.nb_delta.specs.Entries.{place_of}
 use Rattle.nb_delta.specs.Known.{Known}
 use Rattle.nb_delta.specs.Slots.{HasTable, HasSlot, slot_page, StepLeft, SlotStep, AddStep, IsBlank, MadeLeft}
 use Rattle.nb_delta.specs.Noting.{IsNewest}
+use Rattle.nb_delta.specs.Waiting.{Waits, FrontStep, HasAll}
 use Rattle.nb_delta.proofs.MoveLemmas.{step_begun}
 use Rattle.nb_delta.proofs.StepLemmas.{keeps_none}
 
@@ -98,3 +99,46 @@ slot_read files slot before after whole inside k same size read =
     let here : ReadsPage (files k.name) (slot * length before) before after whole = subst (λ (n : List ℕ). ReadsPage (files n) (slot * length before) before after whole) name read in
     subst (λ (n : ℕ). (j : ℕ) → slot ≡ slot_place n j → HasSlot n (files k.name) j → after ≡ slot_page n (files k.name) j) size
     (λ j at has. read_whole (files k.name) slot before after whole j at has here)
+
+-- while the entries that wait are written
+abbrev pub WaitMoves : World → World → Known → Type 0
+WaitMoves old new k =
+    (table waiting : List ℕ) → Waits k.page_size k.entries k.drafted table waiting (old.files k.name) → (other : List ℕ) → other ≢ k.name → Advances old new other k.name (StepLeft old other k.name (FrontStep k.page_size table waiting))
+
+pub wait_moves : (old new : World) (size : ℕ) (inside k : Known) → inside ≡ k → size ≡ inside.page_size
+    → ((table waiting : List ℕ) → Waits size inside.entries inside.drafted table waiting (old.files inside.name) → (other : List ℕ) → other ≢ inside.name
+    → Advances old new other inside.name (StepLeft old other inside.name (FrontStep size table waiting)))
+    → WaitMoves old new k
+wait_moves old new size inside k same is moves =
+    subst (λ (x : Known). WaitMoves old new x) same
+    (subst (λ (n : ℕ). (table waiting : List ℕ) → Waits n inside.entries inside.drafted table waiting (old.files inside.name) → (other : List ℕ) → other ≢ inside.name
+    → Advances old new other inside.name (StepLeft old other inside.name (FrontStep n table waiting))) is moves)
+
+-- before the first call
+pub wait_begun : (old : World) (inside k : Known) → inside ≡ k → IsTimely old → WaitMoves old old k
+wait_begun old inside k same timely =
+    subst (λ (x : Known). WaitMoves old old x) same
+    (λ table waiting waits other apart. step_begun other inside.name apart old (FrontStep inside.page_size table waiting) timely
+    (λ d ld. record { tables = inl (λ entries few has. has); slots = λ j. refl; no_shorter = omega arith }))
+
+-- what a file holds after them
+abbrev pub WaitWrites : (before after : Files) → Known → Type 0
+WaitWrites before after k = (table waiting : List ℕ) → Waits k.page_size k.entries k.drafted table waiting (before k.name) → HasAll k.page_size k.entries (before k.name) (after k.name)
+
+pub wait_writes : (before after : Files) (size : ℕ) (inside k : Known) → inside ≡ k → size ≡ inside.page_size
+    → ((table waiting : List ℕ) → Waits size inside.entries inside.drafted table waiting (before inside.name) → HasAll size inside.entries (before inside.name) (after inside.name)) → WaitWrites before after k
+wait_writes before after size inside k same is writes =
+    subst (λ (x : Known). WaitWrites before after x) same
+    (subst (λ (n : ℕ). (table waiting : List ℕ) → Waits n inside.entries inside.drafted table waiting (before inside.name) → HasAll n inside.entries (before inside.name) (after inside.name)) is writes)
+
+-- where none waits, the file has all entries already
+none_left : (waiting : List ℕ) → length waiting ≡ 0 → waiting ≡ []
+none_left [] none = refl
+none_left (x ∷ xs) none = absurd (omega arith)
+
+pub none_waits : (files : Files) (inside k : Known) → inside ≡ k → inside.drafted ≡ 0 → WaitWrites files files k
+none_waits files inside k same none =
+    subst (λ (x : Known). WaitWrites files files x) same
+    (λ table waiting waits.
+    let all : inside.entries ≡ table = waits.all ∙ ap (λ (xs : List ℕ). table ++ xs) (none_left waiting (waits.many ∙ none)) ∙ append-nil table in
+    record { has = subst (λ (xs : List ℕ). HasTable inside.page_size (files inside.name) xs) (sym all) waits.has; slots = λ j. refl; no_shorter = omega arith })

@@ -11,3 +11,6 @@ pub mod StepLemmas
 pub mod MoveLemmas
 pub mod BlankLemmas
 pub mod KnownLemmas
+pub mod EmptyLemmas
+pub mod NotingLemmas
+pub mod FrontLemmas

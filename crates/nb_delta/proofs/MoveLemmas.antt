@@ -1,6 +1,6 @@
 -- How a change of the difference file goes on, from one call to the next.
 use Rattle.std.proofs.Common.{◌≡◌, ◌≢◌, inl, inr, ⊎_elim, List, ℕ, Bool, refl, sym, subst, ap, ◌∙◌}
-use Rattle.std.specs.Prelude.{Result, IsTrue}
+use Rattle.std.specs.Prelude.{Result, Ok, Err, OnOk, IsTrue}
 use Rattle.nb_host.specs.Files.{File, Files, with_file, with_page}
 use Rattle.nb_host.specs.World.{World}
 use Rattle.nb_host.specs.Crash.{Leaves, PageLeft, IsDurable}
@@ -73,6 +73,23 @@ module _ (other delta : List ℕ) (apart : other ≢ delta) where
   -- calls that change no file, alone
   pub still_moves : (old new : World) (all : File → File → Type 0) → IsTimely old → IsStill old new → IsSilent old new → Passes old new → ((d : File) → all d d) → Advances old new other delta (StepLeft old other delta all)
   still_moves old new all timely still silent time none = step_still old old new all (step_begun old all timely (λ d left. none d)) time still silent
+
+-- nothing was said by one run of calls after another
+pub silence_none : (w : World) → IsSilent w w
+silence_none w = record { said = refl; reads = refl; guids = refl; times = refl }
+
+pub silence_joined : (old mid new : World) → IsSilent old mid → IsSilent mid new → IsSilent old new
+silence_joined old mid new first second = record {
+  said = second.said ∙ first.said;
+  reads = second.reads ∙ first.reads;
+  guids = second.guids ∙ first.guids;
+  times = second.times ∙ first.times;
+}
+
+-- what holds whatever the answer is
+pub on_any : {T E P : Type 0} (result : Result T E) → P → OnOk result P
+on_any (Ok x) p = p
+on_any (Err e) p = tt
 
 -- the file after its page was written
 pub written : (old new : Files) (name page : List ℕ) (at : ℕ) → new ≡ with_file old name (with_page (old name) at page) → new name ≡ with_page (old name) at page

@@ -10,37 +10,13 @@ use Rattle.nb_host.specs.Crash.{PageLeft}
 use Rattle.nb_fields.specs.Bytes.{number_in}
 use Rattle.nb_fields.specs.Places.{slots_in}
 use Rattle.nb_fields.specs.Table.{page_in, slot_place, alloc_place}
+use Rattle.nb_delta.specs.Pages.{WithPage, SamePages, Grows, PageStep, Put}
 use Rattle.nb_delta.specs.Noting.{IsAllocation}
 use Rattle.nb_delta.proofs.EntryLemmas.{entries_more}
 use Rattle.nb_delta.proofs.GroupLemmas.{zeros_count}
 use Rattle.nb_delta.proofs.TableLemmas.{count_at, number_at, Spells, same_place}
 use Rattle.nb_delta.proofs.PageLemmas.{grown_page, put_here, put_other, length-put_at}
 use Rattle.nb_delta.proofs.PlaceLemmas.{in_group, slot_at, alloc_rises, alloc_other, alloc_other_slot}
-
--- page i is this one, and every other as it was
-pub record WithPage (size i : ℕ) (page b c : List ℕ) : Type 0 where
-  pub here : page_in size c i ≡ page
-  pub others : (j : ℕ) → j ≢ i → page_in size c j ≡ page_in size b j
-
-abbrev pub SamePages : ℕ → List ℕ → List ℕ → Type 0
-SamePages size b c = (j : ℕ) → page_in size c j ≡ page_in size b j
-
--- How long the file is after a write of page i: as long as it was, or longer by a page, or it ends with that page.
-abbrev pub Grows : ℕ → ℕ → (before after : ℕ) → Type 0
-Grows size i before after = (after ≡ before) ⊎ (before + size ≤ after) ⊎ (after ≡ i * size + size)
-
--- what a write of page i leaves: every page as it was, or that one new
-pub record PageStep (size i : ℕ) (page b c : List ℕ) : Type 0 where
-  pub pages : SamePages size b c ⊎ WithPage size i page b c
-  pub longer : length b ≤ length c
-  pub grows : Grows size i (length b) (length c)
-
--- a page that was written whole
-pub record Put (size i : ℕ) (page b c : List ℕ) : Type 0 where
-  pub pages : WithPage size i page b c
-  pub longer : length b ≤ length c
-  pub whole : (i + 1) * size ≤ length c
-  pub grows : Grows size i (length b) (length c)
 
 module _ (size i : ℕ) (page : List ℕ) (long : length page ≡ size) where
   pub put_step : (b c : List ℕ) → c ≡ put_at b (i * size) page → Put size i page b c

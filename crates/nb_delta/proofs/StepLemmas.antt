@@ -14,7 +14,8 @@ use Rattle.nb_delta.specs.Noting.{IsAllocation, HasRoom, MakesRoom, Prepared, Is
 use Rattle.nb_delta.proofs.TableLemmas.{Spells}
 use Rattle.nb_delta.proofs.TellLemmas.{table_read, table_told}
 use Rattle.nb_delta.proofs.PlaceLemmas.{in_group, group_is, slot_at, slot_other, alloc_other_slot}
-use Rattle.nb_delta.proofs.SpellLemmas.{WithPage, Put, put_step, from_put, page_step, spells_slot, spells_behind, spells_same, spells_more}
+use Rattle.nb_delta.specs.Pages.{WithPage, Put}
+use Rattle.nb_delta.proofs.SpellLemmas.{put_step, from_put, page_step, spells_slot, spells_behind, spells_same, spells_more}
 
 pub some_slots : (size : ℕ) → IsTrue (is_page_size size) → 0 < slots_in size
 some_slots size is = let facts = size_facts size is in omega (arith, facts.at_least)
@@ -23,7 +24,7 @@ pub some_bytes : (size : ℕ) → IsTrue (is_page_size size) → 8 ≤ size
 some_bytes size is = let facts = size_facts size is in omega (arith, facts.at_least)
 
 -- after a page write the file is there where it was
-there_after : (at : ℕ) (page b : List ℕ) (after : File) → PageLeft at page (Some b) after → after ≡ Some (bytes_of after)
+pub there_after : (at : ℕ) (page b : List ℕ) (after : File) → PageLeft at page (Some b) after → after ≡ Some (bytes_of after)
 there_after at page b after (inl same) = same ∙ ap (λ (f : File). Some (bytes_of f)) (sym same)
 there_after at page b after (inr (inl put)) = put ∙ ap (λ (f : File). Some (bytes_of f)) (sym put)
 there_after at page b after (inr (inr (k, fits, grown))) = grown ∙ ap (λ (f : File). Some (bytes_of f)) (sym grown)

@@ -3,5 +3,8 @@ pub mod Causes
 pub mod Reading
 pub mod Known
 pub mod Slots
+pub mod Pages
 pub mod Noting
+pub mod Waiting
+pub mod Groups
 pub mod Attaching

@@ -1,4 +1,4 @@
-ghost use Rattle.std.specs.Prelude.{◌≡◌, ◌≢◌, ℕ, ◌+◌, ◌/◌, ◌<◌, ◌≤◌, IsTrue, List, [], ◌∷◌, ◌++◌, length, replicate, Some, None, Ok, Err, OnOk, IfOk, IfErr, slice_index, option_map};
+ghost use Rattle.std.specs.Prelude.{◌≡◌, ◌≢◌, ℕ, ◌+◌, ◌/◌, ◌<◌, ◌≤◌, IsTrue, List, [], ◌∷◌, ◌++◌, length, replicate, Some, None, Ok, Err, OnOk, OnErr, IfOk, IfErr, IsOk, slice_index, option_map};
 ghost use Rattle.nb_host.specs.declared.faults.Fault.TheVariants.{Memory};
 ghost use Rattle.nb_host.specs.Crash.{IsDurable};
 ghost use Rattle.nb_host.specs.Calls.{IsSilent};
@@ -8,13 +8,16 @@ ghost use Rattle.nb_fields.specs.Table.{slot_place};
 ghost use Rattle.nb_page.specs.Quiet.{Quiet};
 ghost use Rattle.nb_delta.specs.Entries.{place_of};
 ghost use Rattle.nb_change.specs.Change.{Advances};
-ghost use Rattle.nb_delta.specs.Causes.{CountsDevice, IsNoRefusal};
+ghost use Rattle.nb_change.specs.Counts.{CountsDevice};
+ghost use Rattle.nb_delta.specs.Causes.{IsNoRefusal};
 ghost use Rattle.nb_delta.specs.Slots.{HasTable, HasSlot, slot_page, StepLeft, SlotStep, SlotPut, Adds, AddStep, IsBlank, MadeLeft};
+ghost use Rattle.nb_delta.specs.Waiting.{Waits, FrontStep, HasAll};
 ghost use Rattle.nb_delta.specs.Attaching.{IsFor, Attaches};
 
 use crate::entries::Entries;
 use crate::places::slot_of;
 use crate::reading::read_table;
+use crate::waiting::put_waiting;
 use crate::writing::{make_file, put_entry, remove_file, rewrite_slot};
 use nb_host::{Fault, Host, HostFault, Name, Refusal};
 use std::alloc::Global;
@@ -255,5 +258,36 @@ impl Delta {
         self.entries.add(page)?;
         self.drafted += 1;
         Ok(slot_of(self.page_size, place))
+    }
+
+    /// Brings the drafted entries into the file's table and keeps the file for good, with its slots. The slot of each
+    /// drafted entry was written by `rewrite` since it was drafted. Where no entry is drafted it makes no call. At a fault
+    /// they are drafted still, and a stop leaves the table with some of them, the first ones, or with none.
+    pub fn write_entries<H: Host>(&mut self, host: &mut H) -> Result<(), HostFault>
+        ensures done { OnOk result (self.new ≡ record self.old { drafted = 0 }) }
+        ensures not_done { OnErr result (self.new ≡ self.old) }
+        ensures none { self.old.drafted ≡ 0 → IsOk result × (host.new ≡ host.old) }
+        ensures written { IsTrue H.tells → (table : List ℕ) → (waiting : List ℕ) → Waits self.old.page_size self.old.entries self.old.drafted table waiting ((H.world host.old).files self.old.name)
+            → OnOk result (HasAll self.old.page_size self.old.entries ((H.world host.old).files self.old.name) ((H.world host.new).files self.old.name)) }
+
+        // At each moment a stop leaves the old table or one with the first of the drafted entries too, and every slot as it was.
+        ensures moves { IsTrue H.tells → (table : List ℕ) → (waiting : List ℕ) → Waits self.old.page_size self.old.entries self.old.drafted table waiting ((H.world host.old).files self.old.name) → (other : List ℕ) → other ≢ self.old.name
+            → Advances (H.world host.old) (H.world host.new) other self.old.name (StepLeft (H.world host.old) other self.old.name (FrontStep self.old.page_size table waiting)) }
+        ensures durable { IsTrue H.tells → 0 < self.old.drafted → OnOk result (IsDurable (H.world host.new) self.old.name ((H.world host.new).files self.old.name)) }
+        ensures log { IsSilent (H.world host.old) (H.world host.new) }
+        ensures cause { CountsFault result (H.faults host.old) (H.faults host.new) }
+    {
+        if self.drafted == 0 {
+            return Ok(());
+        }
+        put_waiting(
+            host,
+            &self.name,
+            &self.entries,
+            self.drafted,
+            &mut self.page,
+        )?;
+        self.drafted = 0;
+        Ok(())
     }
 }

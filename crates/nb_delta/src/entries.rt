@@ -1,5 +1,5 @@
 ghost use Rattle.std.specs.Prelude.{◌≡◌, ◌<◌, ◌≤◌, [], ◌∷◌, ◌++◌, length, None, IfSome, OnOk, OnErr, slice_index};
-ghost use Rattle.nb_delta.specs.Entries.{place_of};
+ghost use Rattle.nb_delta.specs.Entries.{place_of, AreEntries};
 
 use std::alloc::{AllocError, Global};
 use std::collections::BTreeMap;
@@ -41,6 +41,7 @@ impl Entries {
     pub fn len(&self) -> u32
         ensures value { result ≡ length self.now }
         ensures most { result ≤ 1048576 }
+        ensures apart { AreEntries self.now }
     {
         self.pages.len() as u32
     }

@@ -10,6 +10,7 @@ mod delta;
 mod entries;
 mod places;
 mod reading;
+mod waiting;
 mod writing;
 
 pub use delta::Delta;

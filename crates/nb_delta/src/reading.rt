@@ -5,7 +5,7 @@ ghost use Rattle.nb_host.specs.Causes.{CountsFault};
 ghost use Rattle.nb_fields.specs.Places.{is_page_size, slots_in};
 ghost use Rattle.nb_fields.specs.Table.{page_in, alloc_place, entries_from, groups_from, table_of};
 ghost use Rattle.nb_page.specs.Quiet.{Quiet};
-ghost use Rattle.nb_delta.specs.Causes.{CountsDevice};
+ghost use Rattle.nb_change.specs.Counts.{CountsDevice};
 ghost use Rattle.nb_delta.specs.Reading.{is_unfit, Counts, Reads, ReadsOn, ReadsGroup};
 
 use crate::entries::{Entries, MOST_PAGES};

@@ -29,6 +29,7 @@ fn add(host: &mut MemHost, delta: &mut Delta, page: u32, byte: u8) -> Result<u32
 /// Drafts an entry for a page that has none.
 fn draft(host: &mut MemHost, delta: &mut Delta, page: u32) -> Result<u32, Fault>
     requires { page < 1048576 }
+    ensures { OnOk result (delta.new.page_size ≡ delta.old.page_size) }
 {
     match delta.slot_of(host, page)? {
         Some(_) => Err(Fault::Device),
@@ -180,6 +181,17 @@ fn hostile_files_are_refused(rt: HostRuntime) -> Result<(), Fail> {
     Ok(())
 }
 
+/// Makes a file with all but one of the entries of the first allocation page. What stands behind its table would be a group
+/// of one entry.
+fn make_nearly_full(alloc: Global, host: &mut MemHost, name: &Name) -> Result<(), Fail> {
+    grown(alloc, host, 254)?;
+    let mut group = [0; 1024];
+    group[0] = 1;
+    host.write_page(name, 257, &[1; 1024])?;
+    host.write_page(name, 256, &group)?;
+    Ok(())
+}
+
 /// Adds the entry that fills the first allocation page, on a host that stops at that call.
 fn fill_up(alloc: Global, host: &mut MemHost, name: &Name) -> Result<(), Fault> {
     let mut delta = Delta::attach(alloc, host, name, 1024)?;
@@ -223,12 +235,7 @@ fn wrong_pick(
 fn a_stop_leaves_the_old_table_or_the_new(rt: HostRuntime) -> Result<(), Fail> {
     let name = name_of(NAME)?;
     let mut made = MemHost::new(rt.alloc())?;
-    grown(rt.alloc(), &mut made, 254)?;
-    // What stands behind the table would be a group of one entry.
-    let mut group = [0; 1024];
-    group[0] = 1;
-    made.write_page(&name, 257, &[1; 1024])?;
-    made.write_page(&name, 256, &group)?;
+    make_nearly_full(rt.alloc(), &mut made, &name)?;
     for stop in 1..9 {
         let mut host = MemHost::fused(rt.alloc(), stop)?;
         host.put_file(&name, made.file(&name).unwrap_or(b""))?;
@@ -236,6 +243,87 @@ fn a_stop_leaves_the_old_table_or_the_new(rt: HostRuntime) -> Result<(), Fail> {
         assert_eq!(rt;
             (is_done, wrong_pick(rt.alloc(), &host, &name, is_done)?),
             (stop == 8, None),
+            "stop {stop}"
+        );
+    }
+    Ok(())
+}
+
+/// Drafts an entry for a page that has none, and writes its slot with bytes that are all the same.
+fn draft_written(host: &mut MemHost, delta: &mut Delta, page: u32, byte: u8) -> Result<(), Fault>
+    requires size { delta.old.page_size ≡ 1024 }
+    requires below { page < 1048576 }
+    ensures { OnOk result (delta.new.page_size ≡ 1024) }
+{
+    let slot = draft(host, delta, page)?;
+    delta.rewrite(host, slot, &[byte; 1024], false)?;
+    Ok(())
+}
+
+/// Brings three drafted entries into the table, of which the first fills its group. A host may stop at one of the calls.
+fn fill_over(alloc: Global, host: &mut MemHost, name: &Name) -> Result<(), Fault> {
+    let mut delta = Delta::attach(alloc, host, name, 1024)?;
+    draft_written(host, &mut delta, 300, 77)?;
+    draft_written(host, &mut delta, 301, 78)?;
+    draft_written(host, &mut delta, 302, 79)?;
+    delta.write_entries(host)?;
+    Ok(())
+}
+
+/// The first byte of what the file holds of a page, and 0 where no entry names it.
+fn held(host: &mut MemHost, delta: &mut Delta, page: u32) -> Result<u8, Fault>
+    requires { delta.old.page_size ≡ 1024 }
+    ensures { OnOk result (delta.new ≡ delta.old) }
+{
+    match delta.slot_of(host, page)? {
+        None => Ok(0),
+        Some(slot) => byte_in(host, delta, slot),
+    }
+}
+
+/// Whether the file has the old table or some of the three entries too, the first ones, each with its page. It has to have
+/// all where it is done.
+fn has_front(alloc: Global, host: &mut MemHost, name: &Name, is_done: bool) -> Result<bool, Fail> {
+    let mut delta = Delta::attach(alloc, host, name, 1024)?;
+    let count = delta.count();
+    let first = held(host, &mut delta, 300)?;
+    let second = held(host, &mut delta, 301)?;
+    let third = held(host, &mut delta, 302)?;
+    match (count, first, second, third) {
+        (257, 77, 78, 79) => Ok(true),
+        (254, 0, 0, 0) | (255, 77, 0, 0) => Ok(!is_done),
+        _ => Ok(false),
+    }
+}
+
+/// The first of the picks 0 to 7 by which a stop now leaves no front of the entries.
+fn wrong_front(
+    alloc: Global,
+    host: &MemHost,
+    name: &Name,
+    is_done: bool,
+) -> Result<Option<u64>, Fail> {
+    for pick in 0..8 {
+        let mut left = host.left(pick)?;
+        if !has_front(alloc, &mut left, name, is_done)? {
+            return Ok(Some(pick));
+        }
+    }
+    Ok(None)
+}
+
+#[test]
+fn a_stop_leaves_the_first_of_the_drafted_entries(rt: HostRuntime) -> Result<(), Fail> {
+    let name = name_of(NAME)?;
+    let mut made = MemHost::new(rt.alloc())?;
+    make_nearly_full(rt.alloc(), &mut made, &name)?;
+    for stop in 1..12 {
+        let mut host = MemHost::fused(rt.alloc(), stop)?;
+        host.put_file(&name, made.file(&name).unwrap_or(b""))?;
+        let is_done = fill_over(rt.alloc(), &mut host, &name).is_ok();
+        assert_eq!(rt;
+            (is_done, wrong_front(rt.alloc(), &host, &name, is_done)?),
+            (stop == 11, None),
             "stop {stop}"
         );
     }

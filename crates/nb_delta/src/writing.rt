@@ -99,7 +99,7 @@ fn put_slot<H: Host>(
 }
 
 /// Fills in the allocation page of a group.
-fn fill_group(page: &mut [u8], entries: &Entries, group: u32)
+pub fn fill_group(page: &mut [u8], entries: &Entries, group: u32)
     requires size { IsTrue (is_page_size (length page.old)) }
     requires group { group * slots_in (length page.old) < length entries.now }
     ensures { IsAllocation (length page.old) page.new entries.now group (min (slots_in (length page.old)) (length entries.now - group * slots_in (length page.old))) }
