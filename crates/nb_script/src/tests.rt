@@ -17,7 +17,7 @@ fn refused_line(alloc: Global, bytes: &[u8]) -> Option<u32> {
 
 #[test]
 fn first_lines(rt: HostRuntime) {
-    let cases: [(&[u8], u32); 20] = [
+    let cases: [(&[u8], u32); 22] = [
         (b"", 1),
         (b"\n# only a comment\n", 3),
         (b"\n\n#", 4),
@@ -42,7 +42,9 @@ fn first_lines(rt: HostRuntime) {
         (b"1: create database '' page_size 1024 raw 8", 1),
         (b"# a\n\n1:  create database 'a.db' page_size 1024 raw 8", 3),
         (b"1: read 6\n", 1),
-        (b"1: open 'a.db'", 1),
+        (b"1: open 'a.db'", 0),
+        (b"1: open 'a.db' cache 64", 0),
+        (b"1: open a.db", 1),
         (
             b"schedule 1\n1: create database 'a.db' page_size 1024 raw 8",
             1,
@@ -55,7 +57,7 @@ fn first_lines(rt: HostRuntime) {
 
 #[test]
 fn further_lines(rt: HostRuntime) -> Result<(), Fail> {
-    let cases: [(&[u8], u32); 26] = [
+    let cases: [(&[u8], u32); 30] = [
         (b"1: read 6\n1: write 6 'hello'\n1: write 7 ''", 0),
         (b"1: read 0\n2: read 4294967295\n16: write 4 ' !~'", 0),
         (b"1: read 4294967296", 2),
@@ -71,7 +73,11 @@ fn further_lines(rt: HostRuntime) -> Result<(), Fail> {
         (b"1: write 6 hello", 2),
         (b"\n# a comment\n1: read 6\n1: read", 5),
         (b"1: create database 'b.db' page_size 1024 raw 8", 2),
-        (b"1: page new", 2),
+        (b"1: page new\n2: free 7", 0),
+        (b"1: page  new", 2),
+        (b"1: free", 2),
+        (b"1: open 'b.db'", 2),
+        (b"1: alter database begin backup", 2),
         (b"schedule 2 1 16\n2: read 6\n", 0),
         (b"# a comment\nschedule 1\n", 0),
         (b"schedule 17\n", 2),

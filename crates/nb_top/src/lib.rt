@@ -5,6 +5,8 @@
 #![tactic(auto)]
 
 mod job;
+#[cfg(test)]
+mod page_tests;
 mod program;
 mod reading;
 mod script;

@@ -6,14 +6,14 @@ use std::alloc::Global;
 use std::test::Fail;
 
 // The first script, and what it is after its first statement and after its second.
-const CREATED: &str = "1: create database 'a.db' page_size 1024 raw 8\n";
+pub(crate) const CREATED: &str = "1: create database 'a.db' page_size 1024 raw 8\n";
 
 const WRITTEN: &str = "1: create database 'a.db' page_size 1024 raw 8\n1: write 6 'hello'\n";
 
-const FIRST_RUN: &str =
+pub(crate) const FIRST_RUN: &str =
     "1: create database 'a.db' page_size 1024 raw 8\n1: write 6 'hello'\n1: read 6\n";
 
-fn words_of(alloc: Global, texts: &[&str]) -> Result<Vec<String>, Fail> {
+pub(crate) fn words_of(alloc: Global, texts: &[&str]) -> Result<Vec<String>, Fail> {
     let mut words = Vec::new(alloc);
     for text in texts {
         words.push(String::from_str(alloc, text)?)?;
@@ -22,7 +22,7 @@ fn words_of(alloc: Global, texts: &[&str]) -> Result<Vec<String>, Fail> {
 }
 
 /// Runs the script `s` with this text.
-fn run_text(alloc: Global, host: &mut MemHost, text: &str) -> Result<Status, Fail> {
+pub(crate) fn run_text(alloc: Global, host: &mut MemHost, text: &str) -> Result<Status, Fail> {
     let name = Name::read("s").ok_or("no name")?;
     host.put_file(&name, text.as_bytes())?;
     let words = words_of(alloc, &["run", "s"])?;
@@ -30,14 +30,14 @@ fn run_text(alloc: Global, host: &mut MemHost, text: &str) -> Result<Status, Fai
 }
 
 /// A host after a run of this text that nothing stopped.
-fn host_after(alloc: Global, text: &str) -> Result<MemHost, Fail> {
+pub(crate) fn host_after(alloc: Global, text: &str) -> Result<MemHost, Fail> {
     let mut host = MemHost::new(alloc)?;
     run_text(alloc, &mut host, text)?;
     Ok(host)
 }
 
 /// The file of the database of the first script.
-fn database(host: &MemHost) -> Option<&[u8]> {
+pub(crate) fn database(host: &MemHost) -> Option<&[u8]> {
     let name = Name::read("a.db")?;
     host.file(&name)
 }
@@ -88,7 +88,7 @@ fn is_kept(host: &MemHost, replies: usize, hosts: &[MemHost]) -> Option<bool> {
     Some(is_between(file?, before, after))
 }
 
-fn replies_of(host: &MemHost) -> usize {
+pub(crate) fn replies_of(host: &MemHost) -> usize {
     host.output().iter().filter(|byte| **byte == b'\n').count()
 }
 

@@ -1,0 +1,151 @@
+// Databases that are opened again, and pages that are new or given back.
+use crate::Status;
+use crate::tests::{FIRST_RUN, database, host_after, replies_of, run_text};
+use nb_host::Name;
+use nb_mem::MemHost;
+use std::alloc::Global;
+use std::test::Fail;
+
+/// Runs one script after another on a host, and tells the first whose lines aren't these.
+fn wrong_case(
+    alloc: Global,
+    host: &mut MemHost,
+    cases: &[(&str, &str)],
+) -> Result<Option<usize>, Fail> {
+    for (number, (text, lines)) in cases.iter().enumerate() {
+        let said = host.output().len();
+        run_text(alloc, host, text)?;
+        if host.output().get(said..) != Some(lines.as_bytes()) {
+            return Ok(Some(number));
+        }
+    }
+    Ok(None)
+}
+
+#[test]
+fn open_again(rt: HostRuntime) -> Result<(), Fail> {
+    let cases = [
+        (FIRST_RUN, "1: ok pages 13\n1: ok\n1: ok 'hello'\n"),
+        (
+            "1: open 'a.db'\n1: read 13\n",
+            "1: ok pages 13 state 0\n1: refused 9 PageRange 13 13\n",
+        ),
+        (
+            "3: open 'a.db'\n3: write 2 'x'\n3: free 7\n3: write 7 'x'\n3: free 7\n3: free 13\n3: free 0\n4: read 6\n",
+            "3: ok pages 13 state 0\n3: refused 11 SystemPage 2\n4: ok 'hello'\n3: ok\n3: refused 10 NotAllocated 7\n3: refused 10 NotAllocated 7\n3: refused 9 PageRange 13 13\n3: refused 11 SystemPage 0\n",
+        ),
+        (
+            "1: open 'a.db'\n1: page new\n1: page new\n1: page new\n1: read 7\n1: write 14 'z'\n1: read 14\n",
+            "1: ok pages 13 state 0\n1: ok page 7\n1: ok page 13\n1: ok page 14\n1: ok ''\n1: ok\n1: ok 'z'\n",
+        ),
+        (
+            "1: open 'a.db'\n1: read 14\n",
+            "1: ok pages 15 state 0\n1: ok 'z'\n",
+        ),
+        ("1: open 'nope.db'\n", "1: refused 3 NoFile nope.db\n"),
+        ("1: open 's'\n1: read 6\n", "1: refused 5 NotDatabase 0\n"),
+        (
+            "2: open 'a.db'\n2: open 'a.db'\n",
+            "0: refused 2 BadScript 2\n",
+        ),
+    ];
+    let mut host = MemHost::new(rt.alloc())?;
+    assert_eq!(rt; wrong_case(rt.alloc(), &mut host, &cases)?, None);
+    Ok(())
+}
+
+#[test]
+fn system_places_on_growth(rt: HostRuntime) -> Result<(), Fail> {
+    let cases = [
+        (
+            "1: create database 'a.db' page_size 1024 raw 242\n1: page new\n1: page new\n",
+            "1: ok pages 247\n1: ok page 247\n1: ok page 249\n",
+        ),
+        (
+            "1: create database 'b.db' page_size 1024 raw 7899\n1: page new\n1: page new\n",
+            "1: ok pages 7935\n1: ok page 7937\n1: ok page 7938\n",
+        ),
+        (
+            "1: open 'b.db'\n1: read 7935\n1: read 7936\n1: write 7937 'x'\n",
+            "1: ok pages 7939 state 0\n1: refused 11 SystemPage 7935\n1: refused 11 SystemPage 7936\n1: ok\n",
+        ),
+    ];
+    let mut host = MemHost::new(rt.alloc())?;
+    assert_eq!(rt; wrong_case(rt.alloc(), &mut host, &cases)?, None);
+    Ok(())
+}
+
+/// A database whose header says that its backup isn't ended.
+#[test]
+fn unended_is_not_opened(rt: HostRuntime) -> Result<(), Fail> {
+    let name = Name::read("a.db").ok_or("no name")?;
+    let cases = [("1: open 'a.db'\n", "1: refused 8 Unfinished\n")];
+    for state in [1, 2, 3] {
+        let mut host = host_after(rt.alloc(), FIRST_RUN)?;
+        let mut bytes = database(&host).ok_or("no file")?.to_vec(rt.alloc())?;
+        bytes[22] = state;
+        host.put_file(&name, &bytes)?;
+        assert_eq!(rt; wrong_case(rt.alloc(), &mut host, &cases)?, None);
+        assert!(rt; database(&host) == Some(&bytes[..]));
+    }
+    Ok(())
+}
+
+// Pages come, are written, and go.
+const PAGES: &str = "1: create database 'a.db' page_size 1024 raw 8\n1: page new\n1: write 13 'a'\n1: free 7\n1: page new\n";
+
+const LOOK: &str = "1: open 'a.db'\n1: read 13\n1: read 7\n";
+
+/// What the second script says after each front of the strokes of the first.
+const SEEN: [&str; 6] = [
+    "1: ok pages 13 state 0\n1: refused 9 PageRange 13 13\n1: ok ''\n",
+    "1: ok pages 14 state 0\n1: refused 10 NotAllocated 13\n1: ok ''\n",
+    "1: ok pages 14 state 0\n1: ok ''\n1: ok ''\n",
+    "1: ok pages 14 state 0\n1: ok 'a'\n1: ok ''\n",
+    "1: ok pages 14 state 0\n1: ok 'a'\n1: refused 10 NotAllocated 7\n",
+    "1: ok pages 14 state 0\n1: ok 'a'\n1: ok ''\n",
+];
+
+/// After so many replies, the first and the last of these that may be seen.
+const FRONTS: [(usize, usize); 6] = [(0, 0), (0, 2), (2, 3), (3, 4), (4, 5), (5, 5)];
+
+/// Whether a database that is opened again is as it was after a front of the strokes that holds all that so many replies acknowledge.
+fn is_front(seen: &[u8], replies: usize) -> bool {
+    if replies == 0 && seen.starts_with(b"1: refused") {
+        return true;
+    }
+    let Some((first, last)) = FRONTS.get(replies) else {
+        return false;
+    };
+    SEEN.iter()
+        .take(last + 1)
+        .skip(*first)
+        .any(|lines| seen == lines.as_bytes())
+}
+
+/// The first of the picks 0 to 7 by which a stop now leaves something wrong.
+fn wrong_pick(alloc: Global, host: &MemHost) -> Result<Option<u64>, Fail> {
+    for pick in 0..8u64 {
+        let mut left = host.left(pick)?;
+        let said = left.output().len();
+        run_text(alloc, &mut left, LOOK)?;
+        let seen = left.output().get(said..).ok_or("less was said")?;
+        if !is_front(seen, replies_of(host)) {
+            return Ok(Some(pick));
+        }
+    }
+    Ok(None)
+}
+
+#[test]
+fn pages_stopped(rt: HostRuntime) -> Result<(), Fail> {
+    let alloc = rt.alloc();
+    let whole = host_after(alloc, PAGES)?;
+    for stop in 1..=whole.calls() {
+        let mut host = MemHost::fused(alloc, stop)?;
+        let status = run_text(alloc, &mut host, PAGES)?;
+        assert_eq!(rt; (status, host.calls()), (Status::Device, stop));
+        assert_eq!(rt; wrong_pick(alloc, &host)?, None, "stop {stop}");
+    }
+    Ok(())
+}
