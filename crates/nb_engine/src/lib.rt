@@ -16,7 +16,6 @@ mod opened;
 mod put;
 mod reads;
 mod store;
-mod stub;
 
 pub use engine::Engine;
 pub use opened::Opened;
