@@ -2,4 +2,5 @@ pub mod Open
 pub mod Create
 pub mod Turn
 pub mod Put
+pub mod Make
 pub mod Replies

@@ -8,6 +8,7 @@
 
 mod create;
 mod engine;
+mod make;
 mod opened;
 mod put;
 mod reads;
