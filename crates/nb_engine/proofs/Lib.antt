@@ -1,3 +1,4 @@
+pub mod ApartLaws
 pub mod StoreLaws
 pub mod CreateLaws
 pub mod MakingLaws
@@ -6,4 +7,7 @@ pub mod QuietDoes
 pub mod TestLaws
 pub mod PutLaws
 pub mod RaiseLaws
+pub mod EntryLaws
 pub mod WriteLaws
+pub mod MarkLaws
+pub mod FreeLaws

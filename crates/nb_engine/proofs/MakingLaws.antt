@@ -23,6 +23,7 @@ use Rattle.nb_model.specs.Owner.{delta_name}
 use Rattle.nb_model.proofs.FreshImageLaws.{fresh_state}
 use Rattle.nb_engine.specs.Create.{CreateLeft}
 use Rattle.nb_engine.specs.Open.{Shows, IsSettled}
+use Rattle.nb_engine.proofs.ApartLaws.{OnOneFile}
 use Rattle.nb_engine.proofs.CreateLaws.{HasRest, delta_apart, named, whole_shows}
 
 -- the bytes where a header would stand are zeros, or there are fewer
@@ -139,6 +140,7 @@ module _ (name : List ℕ) (image : Image) where
 pub record MakesFile {H : Type 0} (tells : Bool) (world : H → World) (faults : H → ℕ) (start here : H) (name : List ℕ) (size raw number : ℕ) : Type 0 where
   pub making : IsTrue tells → Making (world start) (world here) name (fresh size raw)
   pub pages : IsTrue tells → HasRest size raw number ((world here).files name)
+  pub alone : IsTrue tells → OnOneFile (world start) (world here) name
   pub cause : faults here ≡ faults start
 
 -- The pages from 1 on are kept for good, and page 0 makes the file whole.

@@ -1,4 +1,4 @@
--- A write of a raw page is its SCN entry first, where that is raised, and then the page.
+-- A write of a page is its SCN entry first, where that is raised, and then the page.
 use Rattle.std.proofs.Common.{◌≡◌, ◌≢◌, inl, inr, ℕ, zero, suc, ◌+◌, ◌*◌, ◌/◌, ◌<◌, ◌≤◌, List, [], ◌∷◌, ◌++◌, length, drop, refl, sym, ap, subst, ◌∙◌, arith}
 use Rattle.std.specs.Prelude.{Bool, true, false, ◌&&◌, ◌||◌, ◌==◌, not, nat_lt, Some, None}
 use Rattle.std.proofs.lemmas.Bool.{and_parts, and_left, or_left, or_right, or_from, ltb-true, lt-ltb, eqb-true, eq-eqb, ne_eqb}
@@ -7,7 +7,6 @@ use Rattle.std.proofs.lemmas.List.{length-set}
 use Rattle.nb_fields.specs.Bytes.{bytes_of, with_part}
 use Rattle.nb_fields.specs.Places.{entries_in, scn_place, is_scn_place}
 use Rattle.nb_fields.specs.Page.{kind_of, stamped}
-use Rattle.nb_fields.specs.Payloads.{text_payload}
 use Rattle.nb_host.specs.declared.refusals.Refusal.{Refusal}
 use Rattle.nb_host.specs.declared.refusals.Refusal.TheVariants.{NotDatabase, Full}
 use Rattle.nb_model.specs.Image.{Page, Image, page_at, image_size, image_scn, with_page}
@@ -16,7 +15,7 @@ use Rattle.nb_model.specs.Strokes.{Stroke, page, on_base, base_after, merged_pag
 use Rattle.nb_model.specs.Forms.{Draft, drafted, old_page, wrote, written, is_kind, needs, scn_page_of, entry_number, scn_entry, has_entry, entry_written, entry_raised, raised, put}
 use Rattle.nb_model.specs.Causes.{Cause, when, not_kind, lowest_broken, not_of_form, no_room}
 use Rattle.nb_model.proofs.StrokeLaws.{stroke_page, stroke_other}
-use Rattle.nb_engine.specs.Put.{entry_cause, must_raise, raise_stroke, raise_strokes, raw_stroke}
+use Rattle.nb_engine.specs.Put.{entry_cause, must_raise, raise_stroke, raise_strokes, put_stroke}
 
 -- a page stroke below the length keeps the length
 pub length-with_page : (p : ℕ) (bytes : Page) (image : Image) → p < length image → length (with_page p bytes image) ≡ length image
@@ -41,7 +40,7 @@ pub scn_place-some : (size k : ℕ) → 0 < entries_in size → 0 < scn_place si
 scn_place-some size zero some = omega arith
 scn_place-some size (suc k) some = omega (arith, some)
 
-none_of : (t : Bool) (r : Refusal) → when (not t) r ≡ None → t ≡ true
+pub none_of : (t : Bool) (r : Refusal) → when (not t) r ≡ None → t ≡ true
 none_of true r e = refl
 none_of false r e = cc
 
@@ -85,27 +84,27 @@ raised_not image p must = ap (λ (t : Bool). raises (entry_cause image p) t (rai
 pub raised_never : (image : Image) (p : ℕ) (r : Refusal) → entry_cause image p ≡ Some r → raise_strokes image p ≡ []
 raised_never image p r e = ap (λ (c : Cause). raises c (must_raise image p) (raise_stroke image p)) e
 
--- what the raise keeps: the length, page 0 and the page itself
+-- what the raise keeps, where the page is no SCN page: the length, page 0 and the page itself
 pub record Keeps (image : Image) (p : ℕ) (after : Image) : Type 0 where
   pub long : length after ≡ length image
   pub first : page_at after 0 ≡ page_at image 0
   pub same : page_at after p ≡ page_at image p
 
-pub one_raise_keeps : (b : Base) (p : ℕ) → kind_of (page_at b.image p) ≡ 8 → 0 < entries_in (image_size b.image) → MayRaise b.image p → Keeps b.image p (on_base (raise_stroke b.image p) b).image
-one_raise_keeps b p raw some may =
+pub one_raise_keeps : (b : Base) (p : ℕ) → kind_of (page_at b.image p) ≢ 10 → 0 < entries_in (image_size b.image) → MayRaise b.image p → Keeps b.image p (on_base (raise_stroke b.image p) b).image
+one_raise_keeps b p plain some may =
     let q : ℕ = scn_page_of b.image p in
     let low : q ≤ length b.image = omega (arith, may.low) in
     let front : 0 < q = scn_place-some (image_size b.image) (p / entries_in (image_size b.image)) some in
-    let other : p ≢ q = λ e. absurd (omega (arith, raw, may.kind, ap (λ n. kind_of (page_at b.image n)) e)) in
+    let other : p ≢ q = λ e. plain (ap (λ n. kind_of (page_at b.image n)) e ∙ may.kind) in
     record {
       long = stroke_long b q _ may.low;
       first = stroke_other b q 0 _ low (λ (e : 0 ≡ q). absurd (omega (arith, e, front)));
       same = stroke_other b q p _ low other;
     }
 
-pub raise_keeps : (b : Base) (p : ℕ) → kind_of (page_at b.image p) ≡ 8 → 0 < entries_in (image_size b.image) → Keeps b.image p (base_after b (raise_strokes b.image p)).image
+pub raise_keeps : (b : Base) (p : ℕ) → kind_of (page_at b.image p) ≢ 10 → 0 < entries_in (image_size b.image) → Keeps b.image p (base_after b (raise_strokes b.image p)).image
 unfolding base_after
-raise_keeps b p raw some = by (entry_cause b.image p) (must_raise b.image p) refl refl
+raise_keeps b p plain some = by (entry_cause b.image p) (must_raise b.image p) refl refl
   where
     after : List Stroke → Type 0
     after ss = Keeps b.image p (base_after b ss).image
@@ -116,13 +115,13 @@ raise_keeps b p raw some = by (entry_cause b.image p) (must_raise b.image p) ref
     by : (c : Cause) (t : Bool) → entry_cause b.image p ≡ c → must_raise b.image p ≡ t → after (raise_strokes b.image p)
     by (Some r) t none must = subst after (sym (raised_never b.image p r none)) as_it_was
     by None false none must = subst after (sym (raised_not b.image p must)) as_it_was
-    by None true none must = subst after (sym (raised_once b.image p none must)) (one_raise_keeps b p raw some (may_raise b.image p none must))
+    by None true none must = subst after (sym (raised_once b.image p none must)) (one_raise_keeps b p plain some (may_raise b.image p none must))
 
 -- so the page is written after the raise as it would be before
-pub raw_stroke-after : (image after : Image) (p : ℕ) (text : List ℕ) → Keeps image p after → raw_stroke after p text ≡ raw_stroke image p text
-raw_stroke-after image after p text keeps =
-    ap (λ (old : Page). page p (stamped old 8 (text_payload text) (image_scn after) p)) keeps.same
-    ∙ ap (λ (first : Page). page p (stamped (page_at image p) 8 (text_payload text) (Rattle.nb_fields.specs.Header.scn_of first) p)) keeps.first
+pub put_stroke-after : (image after : Image) (p kind : ℕ) (payload : List ℕ) → Keeps image p after → put_stroke after p kind payload ≡ put_stroke image p kind payload
+put_stroke-after image after p kind payload keeps =
+    ap (λ (old : Page). page p (stamped old kind payload (image_scn after) p)) keeps.same
+    ∙ ap (λ (first : Page). page p (stamped (page_at image p) kind payload (Rattle.nb_fields.specs.Header.scn_of first) p)) keeps.first
 
 -- the page's bytes before a stroke, where it is below the length
 old_page-is : (p : ℕ) (image : Image) → p < length image → old_page p image ≡ page_at image p
@@ -164,6 +163,12 @@ record Raises (b : Base) (p : ℕ) (d : Draft) : Type 0 where
   full : d.full ≡ false
   image : d.image ≡ (base_after b (raise_strokes b.image p)).image
 
+-- an inventory page that is of the form is found so
+pub needs-found : (image : Image) (kind p : ℕ) → is_kind image kind p ≡ true → needs kind p (drafted image) ≡ drafted image
+unfolding needs
+needs-found image kind p e =
+    ap (λ (t : Bool). elim t as (λ z. Draft) [ true ↦ drafted image | false ↦ record { image = image; strokes = []; broken = p ∷ []; full = false } ]) e
+
 -- the forms, by the tests that they make
 module _ (image : Image) (p : ℕ) where
   abbrev q : ℕ
@@ -183,9 +188,6 @@ module _ (image : Image) (p : ℕ) where
   unfolding raised
   raised-one e = ap (λ (t : Bool). elim t as (λ z. Draft) [ true ↦ entry_raised p (needs 10 q before) | false ↦ before ]) e
 
-  needs-found : is_kind image 10 q ≡ true → needs 10 q before ≡ before
-  unfolding needs
-  needs-found e = ap (λ (t : Bool). elim t as (λ z. Draft) [ true ↦ before | false ↦ refused ]) e
 
   needs-broken : is_kind image 10 q ≡ false → needs 10 q before ≡ refused
   unfolding needs
@@ -247,10 +249,10 @@ draft_raised b p none = by (has_entry b.image p) (nat_lt (scn_entry b.image p) (
     by : (has low : Bool) → has_entry b.image p ≡ has → nat_lt (scn_entry b.image p) (image_scn b.image) ≡ low → Raises b p (raised p (drafted b.image))
     by false low e f = subst (Raises b p) (sym (raised-none b.image p e)) (kept_draft b p (not_raised b.image p e))
     by true false e f =
-        subst (Raises b p) (sym (raised-one b.image p e ∙ ap (entry_raised p) (needs-found b.image p (is e)) ∙ entry_raised-not b.image p f))
+        subst (Raises b p) (sym (raised-one b.image p e ∙ ap (entry_raised p) (needs-found b.image 10 (scn_page_of b.image p) (is e)) ∙ entry_raised-not b.image p f))
         (kept_draft b p (must_raise-is b.image p e ∙ f))
     by true true e f =
-        subst (Raises b p) (sym (raised-one b.image p e ∙ ap (entry_raised p) (needs-found b.image p (is e)) ∙ entry_raised-done b.image p f))
+        subst (Raises b p) (sym (raised-one b.image p e ∙ ap (entry_raised p) (needs-found b.image 10 (scn_page_of b.image p) (is e)) ∙ entry_raised-done b.image p f))
         (written_draft b p none (must_raise-is b.image p e ∙ f))
 
 none_broken : lowest_broken [] ≡ None
@@ -261,16 +263,16 @@ one_broken : (q : ℕ) → lowest_broken (q ∷ []) ≡ Some (NotDatabase q)
 unfolding lowest_broken
 one_broken q = refl
 
--- what the short form of a raw page finds and does
-module _ (b : Base) (p : ℕ) (text : List ℕ) where
+-- what the short form of a page finds and does
+module _ (b : Base) (p kind : ℕ) (payload : List ℕ) where
   abbrev made : Draft
-  made = put p 8 (text_payload text) (drafted b.image)
+  made = put p kind payload (drafted b.image)
 
   abbrev so_far : Draft
   so_far = raised p (drafted b.image)
 
   abbrev last : Stroke
-  last = page p (stamped (old_page p so_far.image) 8 (text_payload text) (image_scn so_far.image) p)
+  last = page p (stamped (old_page p so_far.image) kind payload (image_scn so_far.image) p)
 
   made_strokes : made.strokes ≡ so_far.strokes ++ last ∷ []
   unfolding put written wrote
@@ -285,15 +287,15 @@ module _ (b : Base) (p : ℕ) (text : List ℕ) where
   made_full = refl
 
   -- its strokes
-  pub put_strokes : p < length b.image → kind_of (page_at b.image p) ≡ 8 → 0 < entries_in (image_size b.image) → entry_cause b.image p ≡ None
-      → made.strokes ≡ raise_strokes b.image p ++ raw_stroke b.image p text ∷ []
-  put_strokes low raw some none =
+  pub put_strokes : p < length b.image → kind_of (page_at b.image p) ≢ 10 → 0 < entries_in (image_size b.image) → entry_cause b.image p ≡ None
+      → made.strokes ≡ raise_strokes b.image p ++ put_stroke b.image p kind payload ∷ []
+  put_strokes low plain some none =
       let d = draft_raised b p none in
-      let keeps : Keeps b.image p so_far.image = subst (Keeps b.image p) (sym d.image) (raise_keeps b p raw some) in
+      let keeps : Keeps b.image p so_far.image = subst (Keeps b.image p) (sym d.image) (raise_keeps b p plain some) in
       let old : old_page p so_far.image ≡ page_at so_far.image p = old_page-is p so_far.image (omega (arith, low, keeps.long)) in
       made_strokes ∙ ap (λ (ss : List Stroke). ss ++ last ∷ []) d.strokes
-      ∙ ap (λ (x : Page). raise_strokes b.image p ++ page p (stamped x 8 (text_payload text) (image_scn so_far.image) p) ∷ []) old
-      ∙ ap (λ (s : Stroke). raise_strokes b.image p ++ s ∷ []) (raw_stroke-after b.image so_far.image p text keeps)
+      ∙ ap (λ (x : Page). raise_strokes b.image p ++ page p (stamped x kind payload (image_scn so_far.image) p) ∷ []) old
+      ∙ ap (λ (s : Stroke). raise_strokes b.image p ++ s ∷ []) (put_stroke-after b.image so_far.image p kind payload keeps)
 
   -- it finds nothing broken, and asks for no page
   pub put_form : entry_cause b.image p ≡ None → not_of_form made ≡ None

@@ -1,5 +1,5 @@
 -- What the write of a raw page does of its turn, up to each of its ends.
-use Rattle.std.proofs.Common.{◌≡◌, inl, inr, ℕ, ◌<◌, List, [], ◌∷◌, ◌++◌, length, refl, sym, ap, subst, ◌∙◌, arith}
+use Rattle.std.proofs.Common.{◌≡◌, ◌≢◌, inl, inr, ℕ, ◌<◌, List, [], ◌∷◌, ◌++◌, length, refl, sym, ap, subst, ◌∙◌, arith}
 use Rattle.std.specs.Prelude.{Bool, true, false, not, ◌==◌, nat_le, IsTrue, Some, None, Result, Ok, Err, IsErr, IsErrAnd}
 use Rattle.std.proofs.lemmas.Bool.{eqb-true}
 use Rattle.std.proofs.lemmas.Bool.Decides.{leb_tells}
@@ -15,21 +15,20 @@ use Rattle.nb_host.specs.declared.faults.Fault.TheVariants.{Refused as RefusedFa
 use Rattle.nb_host.specs.declared.refusals.Refusal.{Refusal}
 use Rattle.nb_host.specs.declared.refusals.Refusal.TheVariants.{SystemPage}
 use Rattle.nb_page.specs.Quiet.{Quiet}
-use Rattle.nb_change.specs.Change.{Advances, Reached, after_all}
+use Rattle.nb_change.specs.Change.{Advances, Reached}
 use Rattle.nb_change.proofs.ChangeLaws.{weakened}
-use Rattle.nb_change.proofs.StrokeLaws.{reached_none, reached_front, strokes_composed}
+use Rattle.nb_change.proofs.StrokeLaws.{reached_none, reached_front}
 use Rattle.nb_model.specs.declared.reply.Reply.TheVariants.{Refused, Done}
 use Rattle.nb_model.specs.Image.{Page, Image, page_at, image_size}
 use Rattle.nb_model.specs.Account.{Base}
 use Rattle.nb_model.specs.Strokes.{Stroke, on_base, base_after}
 use Rattle.nb_model.specs.Owner.{delta_name}
-use Rattle.nb_model.specs.Forms.{Draft, drafted, put}
-use Rattle.nb_model.specs.Causes.{Cause, first_cause, when, past_end, read_only, not_raw, too_long, not_of_form, no_room}
+use Rattle.nb_model.specs.Forms.{Draft, drafted, put, inventory_of}
+use Rattle.nb_model.specs.Causes.{Cause, first_cause, when, past_end, read_only, not_kind, not_raw, too_long, not_of_form, no_room}
 use Rattle.nb_model.specs.Outcomes.{Seen, Outcome, says}
 use Rattle.nb_model.specs.Pages.{write_turn}
 use Rattle.nb_model.proofs.HeaderLaws.{header-kind}
 use Rattle.nb_model.proofs.MainLaws.{main_facts}
-use Rattle.nb_model.proofs.StrokeLaws.{base_after-append}
 use Rattle.nb_engine.specs.declared.opened.Opened.{Opened}
 use Rattle.nb_engine.specs.Open.{Shows, IsOpen}
 use Rattle.nb_engine.specs.Turn.{Tested, WhereSettled, Does}
@@ -37,8 +36,9 @@ use Rattle.nb_engine.specs.Put.{entry_cause, raise_strokes, raw_stroke}
 use Rattle.nb_engine.specs.Replies.{done}
 use Rattle.nb_engine.proofs.StoreLaws.{main_now}
 use Rattle.nb_engine.proofs.QuietDoes.{unless_refused, first_next, first_here, refused_by, judged_by, allowed}
-use Rattle.nb_engine.proofs.PutLaws.{Keeps, raise_keeps, raised_never, raw_stroke-after, put_strokes, put_form, put_room, put_refused}
+use Rattle.nb_engine.proofs.PutLaws.{Keeps, raise_keeps, raised_never, put_strokes, put_form, put_room, put_refused}
 use Rattle.nb_engine.proofs.RaiseLaws.{strokes_left, after_quiet}
+use Rattle.nb_engine.proofs.EntryLaws.{entry_then_page, open_with_page}
 
 -- no cause of a list applies
 no_causes : (c : Cause) (cs : List Cause) → first_cause (c ∷ cs) ≡ None → (c ≡ None) × (first_cause cs ≡ None)
@@ -53,7 +53,9 @@ not_when true r e = cc
 -- what a taken raw page is
 pub record IsRaw (image : Image) (p : ℕ) : Type 0 where
   pub low : p < length image
+  pub form : not_kind image 2 (inventory_of image p) ≡ None
   pub kind : kind_of (page_at image p) ≡ 8
+  pub plain : kind_of (page_at image p) ≢ 10
 
 pub is_raw : (image : Image) (p : ℕ) → not_raw image p ≡ None → IsRaw image p
 unfolding not_raw
@@ -64,7 +66,9 @@ is_raw image p none =
     let fourth = no_causes (when (not (kind_of (page_at image p) == 8)) (SystemPage p)) [] third.1 in
     record {
       low = below (not_when (nat_le (length image) p) _ first.0);
-      kind = eqb-true (kind_of (page_at image p)) 8 (is_true (kind_of (page_at image p) == 8) (not_when _ (SystemPage p) fourth.0));
+      form = second.0;
+      kind = is_eight fourth.0;
+      plain = λ e. absurd (omega (arith, e, is_eight fourth.0));
     }
   where
     true_false : true ≡ false → ⊥
@@ -77,6 +81,9 @@ is_raw image p none =
     is_true true e = refl
     is_true false e = absurd (true_false e)
 
+    is_eight : when (not (kind_of (page_at image p) == 8)) (SystemPage p) ≡ None → kind_of (page_at image p) ≡ 8
+    is_eight none = eqb-true (kind_of (page_at image p)) 8 (is_true (kind_of (page_at image p) == 8) (not_when _ (SystemPage p) none))
+
 -- page 0 of an open database is none, so no call goes on with it
 pub header_does : (first now : World) (held : Opened) (s : Seen) (p : ℕ) (result : Result (Unit {0}) Fault) (turn : Outcome) → ((name : List ℕ) → Leaves first name (first.files name)) → IsOpen first held s.base
     → not_raw s.base.image p ≡ None → p ≡ 0 → Does done result first now s.base held turn
@@ -84,12 +91,6 @@ header_does first now held s p result turn reads is none front =
     let header = (main_facts s.base.image (first.files held.name) (main_now first reads held.name s.base is.settled)).header in
     let kind : kind_of (page_at s.base.image 0) ≡ 8 = (is_raw s.base.image 0 (ap (λ (n : ℕ). not_raw s.base.image n) (sym front) ∙ none)).kind in
     absurd (omega (arith, kind, header-kind (page_at s.base.image 0) header))
-
--- the model's word for what stands after strokes is that of changes
-after_all-is : (b : Base) (ss : List Stroke) → after_all on_base b ss ≡ base_after b ss
-unfolding base_after
-after_all-is b [] = refl
-after_all-is b (s ∷ ss) = after_all-is (on_base s b) ss
 
 -- the turn, by its causes
 module _ (s : Seen) (p : ℕ) (text : List ℕ) where
@@ -114,15 +115,15 @@ module _ (s : Seen) (p : ℕ) (text : List ℕ) where
   unfolding write_turn
   write_unraised raw free r e =
       judged_by s (not_raw image p ∷ own) draft Done (first_next (not_raw image p) own raw ∙ free)
-      ∙ unless_refused s (first_cause (not_of_form draft ∷ no_room draft ∷ [])) (says s Done draft.strokes) r (first_here (not_of_form draft) (no_room draft ∷ []) r (put_refused s.base p text r e))
+      ∙ unless_refused s (first_cause (not_of_form draft ∷ no_room draft ∷ [])) (says s Done draft.strokes) r (first_here (not_of_form draft) (no_room draft ∷ []) r (put_refused s.base p 8 (text_payload text) r e))
 
   pub write_strokes : not_raw image p ≡ None → first_cause own ≡ None → 0 < entries_in (image_size image) → entry_cause image p ≡ None
       → write_turn s p text ≡ says s Done (raise_strokes image p ++ raw_stroke image p text ∷ [])
   unfolding write_turn
   write_strokes raw free some e =
       let is = is_raw image p raw in
-      allowed s (not_raw image p ∷ own) draft Done (first_next (not_raw image p) own raw ∙ free) (put_form s.base p text e) (put_room s.base p text e)
-      ∙ ap (λ (ss : List Stroke). says s Done ss) (put_strokes s.base p text is.low is.kind some e)
+      allowed s (not_raw image p ∷ own) draft Done (first_next (not_raw image p) own raw ∙ free) (put_form s.base p 8 (text_payload text) e) (put_room s.base p 8 (text_payload text) e)
+      ∙ ap (λ (ss : List Stroke). says s Done ss) (put_strokes s.base p 8 (text_payload text) is.low is.plain some e)
 
 -- before the raise the database was open and the page is a taken raw page that may be written
 pub record MayWrite (w : World) (held : Opened) (s : Seen) (p : ℕ) (text : List ℕ) : Type 0 where
@@ -201,7 +202,7 @@ module _ (old mid raised : World) (held : Opened) (s : Seen) (p : ℕ) (text : L
       entered = base_after s.base entry
 
       keeps : Keeps before p entered.image
-      keeps = raise_keeps s.base p (is_raw before p may.raw).kind entries
+      keeps = raise_keeps s.base p (is_raw before p may.raw).plain entries
 
       low : p < length entered.image
       low = omega (arith, (is_raw before p may.raw).low, keeps.long)
@@ -209,15 +210,10 @@ module _ (old mid raised : World) (held : Opened) (s : Seen) (p : ℕ) (text : L
       same : bytes ≡ page_at entered.image p
       same = read ∙ sym keeps.same
 
-      same_last : raw_stroke entered.image p text ≡ last
-      same_last = raw_stroke-after before entered.image p text keeps
-
       all_left : LeftBy new turn.strokes
       all_left =
-          let then_last = strokes_left raised new held entered _ (last ∷ []) (ap (λ (x : Stroke). x ∷ []) same_last) (writes entered settled low same) in
-          let from = subst (λ (b : Base). Advances raised new held.name (delta_name held.name) (Reached on_base (Shows held.name) b (last ∷ []))) (sym (after_all-is s.base entry)) then_last in
           strokes_left old new held s.base (entry ++ last ∷ []) turn.strokes (sym (ap (λ (o : Outcome). o.strokes) (strokes_are none)))
-          (strokes_composed on_base (Shows held.name) held.name (delta_name held.name) old raised new s.base entry (last ∷ []) entry_left from)
+          (entry_then_page held s.base p 8 (text_payload text) keeps old raised new entry_left (writes entered settled low same))
 
       -- the write of the page failed
       pub failed_write : (result : Result (Unit {0}) Fault) → IsErr result × IsErrAnd result (λ f. f ≡ Device) → Does done result old new s.base held turn
@@ -226,10 +222,8 @@ module _ (old mid raised : World) (held : Opened) (s : Seen) (p : ℕ) (text : L
 
       -- all is written
       pub written_does : ((b : Base) → IsOpen raised held b → p < length b.image → bytes ≡ page_at b.image p → IsOpen new held (on_base (raw_stroke b.image p text) b)) → Does done (Ok tt) old new s.base held turn
-      unfolding base_after
       written_does settles =
-          let open_last : IsOpen new held (on_base last entered) = subst (λ (x : Stroke). IsOpen new held (on_base x entered)) same_last (settles entered settled low same) in
-          let is : IsOpen new held (base_after s.base (entry ++ last ∷ [])) = subst (λ (b : Base). IsOpen new held b) (sym (base_after-append s.base entry (last ∷ []))) open_last in
+          let is = open_with_page held s.base p 8 (text_payload text) keeps new (settles entered settled low same) in
           record {
             answer = ap (λ (o : Outcome). o.reply) (strokes_are none);
             after = subst (λ (o : Outcome). IsOpen new held (base_after s.base o.strokes)) (sym (strokes_are none)) is;

@@ -1,4 +1,4 @@
--- The strokes of writing a raw page, one by one, and why they are refused.
+-- The strokes of writing a page, its SCN entry first, one by one, and why they are refused.
 use Rattle.std.specs.Prelude.{ℕ, ◌+◌, ◌*◌, List, [], ◌∷◌, drop, None, Some, Bool, true, false, ◌&&◌, nat_lt}
 use Rattle.nb_fields.specs.Bytes.{bytes_of, with_part}
 use Rattle.nb_fields.specs.Page.{stamped}
@@ -34,6 +34,10 @@ raise_strokes image p = elim (entry_cause image p) [
   | None ↦ elim (must_raise image p) [ true ↦ raise_stroke image p ∷ [] | false ↦ [] ]
 ]
 
+-- page p gets that kind and that payload
+abbrev pub put_stroke : Image → (p kind : ℕ) → (payload : List ℕ) → Stroke
+put_stroke image p kind payload = page p (stamped (page_at image p) kind payload (image_scn image) p)
+
 -- page p gets a text
 abbrev pub raw_stroke : Image → ℕ → (text : List ℕ) → Stroke
-raw_stroke image p text = page p (stamped (page_at image p) 8 (text_payload text) (image_scn image) p)
+raw_stroke image p text = put_stroke image p 8 (text_payload text)

@@ -4,6 +4,7 @@ ghost use Rattle.nb_fields.specs.Places.{is_page_size};
 ghost use Rattle.nb_fields.specs.Fresh.{fresh, fresh_count};
 ghost use Rattle.nb_host.specs.Causes.{CountsFault};
 ghost use Rattle.nb_host.specs.declared.faults.Fault.TheVariants.{Memory};
+ghost use Rattle.nb_change.specs.Apart.{Apart};
 ghost use Rattle.nb_change.specs.Change.{Advances};
 ghost use Rattle.nb_change.specs.Counts.{CountsDevice};
 ghost use Rattle.nb_model.specs.Account.{base_of};
@@ -32,6 +33,7 @@ fn make_file<H: Host>(
     requires count { count ≡ fresh_count (length page.old) raw }
     ensures left { IsTrue H.tells → Advances (H.world host.old) (H.world host.new) name.now (delta_name name.now) (CreateLeft (H.world host.old) name.now (fresh (length page.old) raw)) }
     ensures made { IsTrue H.tells → OnOk result (IsSettled (H.world host.new) name.now (base_of (fresh (length page.old) raw))) }
+    ensures apart { IsTrue H.tells → Apart (H.world host.old) (H.world host.new) name.now }
     ensures cause { CountsFault result (H.faults host.old) (H.faults host.new) }
 {
     host.make(name)?;
@@ -58,6 +60,7 @@ pub fn create_file<H: Host>(
     ensures creates { IsTrue H.tells → Creates result (H.world host.old) (H.world host.new) name.now (fresh (length page.old) raw) }
     ensures page_size { IfOk result (λ opened. opened.page_size ≡ length page.old) }
     ensures count { IfOk result (λ opened. opened.count ≤ 1048576) }
+    ensures apart { IsTrue H.tells → Apart (H.world host.old) (H.world host.new) name.now }
     ensures cause { CountsDevice result (H.faults host.old) (H.faults host.new) }
     ensures takes_none { IfErr result (λ fault. fault ≢ Memory) }
 {

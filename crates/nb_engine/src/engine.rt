@@ -2,6 +2,7 @@ ghost use Rattle.std.specs.Prelude.{◌≡◌, ◌≢◌, ◌≤◌, [], ◌∷�
 ghost use Rattle.nb_fields.specs.Places.{is_page_size};
 ghost use Rattle.nb_fields.specs.Fresh.{fresh};
 ghost use Rattle.nb_host.specs.declared.faults.Fault.TheVariants.{Memory};
+ghost use Rattle.nb_change.specs.Apart.{Apart};
 ghost use Rattle.nb_change.specs.Counts.{CountsDevice};
 ghost use Rattle.nb_model.specs.Causes.{first_cause, read_only, too_long};
 ghost use Rattle.nb_model.specs.Image.{Image, is_read_only};
@@ -74,6 +75,7 @@ impl Engine {
         requires raw { raw ≤ 65535 }
         requires name { length name.now ≤ 94 }
         ensures creates { IsTrue H.tells → Creates result (H.world host.old) (H.world host.new) name.now (fresh page_size raw) }
+        ensures apart { IsTrue H.tells → Apart (H.world host.old) (H.world host.new) name.now }
         ensures cause { CountsDevice result (H.faults host.old) (H.faults host.new) }
     {
         let mut page = vec![in alloc; 0; page_size as usize]?;
@@ -109,6 +111,7 @@ impl Engine {
         ensures turn { (s : Seen) → IsTrue H.tells → IsOpen (H.world host.old) self.old s.base
             → Does done result (H.world host.old) (H.world host.new) s.base self.new (write_turn s number text.now) }
         ensures same { self.new ≡ self.old }
+        ensures apart { IsTrue H.tells → Apart (H.world host.old) (H.world host.new) self.old.name }
         ensures cause { CountsDevice result (H.faults host.old) (H.faults host.new) }
         ensures takes_none { IfErr result (λ fault. fault ≢ Memory) }
     {

@@ -8,7 +8,9 @@
 
 mod create;
 mod engine;
+mod free;
 mod make;
+mod mark;
 mod opened;
 mod put;
 mod reads;

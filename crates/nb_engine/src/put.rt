@@ -3,6 +3,7 @@ ghost use Rattle.std.specs.Prelude.{◌≡◌, ◌≢◌, ◌<◌, ◌≤◌, []
 ghost use Rattle.nb_fields.specs.Places.{is_page_size};
 ghost use Rattle.nb_host.specs.Causes.{CountsFault};
 ghost use Rattle.nb_host.specs.declared.faults.Fault.TheVariants.{Memory};
+ghost use Rattle.nb_change.specs.Apart.{Apart};
 ghost use Rattle.nb_change.specs.Change.{Advances, Reached};
 ghost use Rattle.nb_change.specs.Counts.{CountsDevice};
 ghost use Rattle.nb_page.specs.Quiet.{Quiet};
@@ -62,6 +63,7 @@ impl Opened {
         ensures after { (b : Base) → IsTrue H.tells → IsOpen (H.world host.old) self.now b → entry_cause b.image number ≡ None → must_raise b.image number ≡ true
             → system.old ≡ page_at b.image (scn_page_of b.image number)
             → OnOk result (IsOpen (H.world host.new) self.now (on_base (raise_stroke b.image number) b)) }
+        ensures apart { IsTrue H.tells → Apart (H.world host.old) (H.world host.new) self.now.name }
         ensures cause { CountsFault result (H.faults host.old) (H.faults host.new) }
     {
         let (k, index) = nb_scn::covers(self.page_size, number);
@@ -86,6 +88,7 @@ impl Opened {
             → Advances (H.world host.old) (H.world host.new) self.now.name (delta_name self.now.name) (Reached on_base (Shows self.now.name) b (raise_strokes b.image number)) }
         ensures after { (b : Base) → IsTrue H.tells → IsOpen (H.world host.old) self.now b
             → WhereSettled result (IsOpen (H.world host.new) self.now (base_after b (raise_strokes b.image number))) }
+        ensures apart { IsTrue H.tells → Apart (H.world host.old) (H.world host.new) self.now.name }
         ensures cause { CountsDevice result (H.faults host.old) (H.faults host.new) }
         ensures takes_none { IfErr result (λ fault. fault ≢ Memory) }
     {
@@ -112,6 +115,7 @@ impl Opened {
             → Advances (H.world host.old) (H.world host.new) self.now.name (delta_name self.now.name) (Reached on_base (Shows self.now.name) b (raw_stroke b.image number text.now ∷ [])) }
         ensures after { (b : Base) → IsTrue H.tells → IsOpen (H.world host.old) self.now b → number < length b.image → page.old ≡ page_at b.image number
             → OnOk result (IsOpen (H.world host.new) self.now (on_base (raw_stroke b.image number text.now) b)) }
+        ensures apart { IsTrue H.tells → Apart (H.world host.old) (H.world host.new) self.now.name }
         ensures cause { CountsFault result (H.faults host.old) (H.faults host.new) }
     {
         put_text(page, text);

@@ -8,6 +8,7 @@ ghost use Rattle.nb_model.specs.Image.{page_at, image_size};
 ghost use Rattle.nb_model.specs.Strokes.{page as page_stroke, on_base};
 ghost use Rattle.nb_model.specs.Owner.{delta_name};
 ghost use Rattle.nb_page.specs.Quiet.{Quiet};
+ghost use Rattle.nb_change.specs.Apart.{Apart};
 ghost use Rattle.nb_change.specs.Change.{Advances, Reached};
 ghost use Rattle.nb_engine.specs.Open.{IsSettled, Shows};
 
@@ -47,6 +48,7 @@ pub fn write_page<H: Host>(
         → Advances (H.world host.old) (H.world host.new) name.now (delta_name name.now) (Reached on_base (Shows name.now) b (page_stroke number page.now ∷ [])) }
     ensures settled { (b : Base) → IsTrue H.tells → IsSettled (H.world host.old) name.now b → image_size b.image ≡ length page.now → number ≤ length b.image
         → OnOk result (IsSettled (H.world host.new) name.now (on_base (page_stroke number page.now) b)) }
+    ensures apart { IsTrue H.tells → Apart (H.world host.old) (H.world host.new) name.now }
     ensures cause { CountsFault result (H.faults host.old) (H.faults host.new) }
 {
     host.write_page(name, number, page)?;

@@ -1,6 +1,6 @@
 ghost use Rattle.std.specs.Prelude.{◌≡◌, ◌↔◌, ℕ, ◌<◌, ◌≤◌, length, slice_index, slice_set, IsTrue, MatchOption};
 ghost use Rattle.nb_fields.specs.Places.{is_page_size, bits_in};
-ghost use Rattle.nb_pip.specs.Bits.{bits, byte_of, KeepsOtherBytes, AreUsed, IsLowestFree};
+ghost use Rattle.nb_pip.specs.Bits.{bits, byte_of, with_bit, KeepsOtherBytes, AreUsed, IsLowestFree};
 ghost use Rattle.nb_pip.specs.Ones.{AreZeros, IsLowestOne};
 
 use nb_fields::layouts::inventory::BITS_AT;
@@ -27,6 +27,7 @@ pub fn take(map: &mut [u8], bit: u32)
     requires bit { bit < bits_in (length map.old) }
     ensures bits { bits map.new ≡ slice_set (bits map.old) bit 0 }
     ensures bytes { KeepsOtherBytes map.old map.new bit }
+    ensures page { map.new ≡ with_bit bit 0 map.old }
 {
     map[byte_of(bit)] &= !(1 << (bit % 8));
 }
@@ -37,6 +38,7 @@ pub fn give(map: &mut [u8], bit: u32)
     requires bit { bit < bits_in (length map.old) }
     ensures bits { bits map.new ≡ slice_set (bits map.old) bit 1 }
     ensures bytes { KeepsOtherBytes map.old map.new bit }
+    ensures page { map.new ≡ with_bit bit 1 map.old }
 {
     map[byte_of(bit)] |= 1 << (bit % 8);
 }

@@ -7,6 +7,8 @@ use Rattle.nb_engine.specs.Replies.{done}
 use Rattle.nb_engine.proofs.TestLaws.{vec_whole}
 use Rattle.nb_engine.proofs.QuietDoes.{open_quiet, passed_does}
 use Rattle.nb_engine.proofs.WriteLaws.{MayWrite, header_does, write_untaken, write_checked, raise_does, failed_write, written_does}
+use Rattle.nb_change.specs.Apart.{Apart}
+use Rattle.nb_engine.proofs.ApartLaws.{quiet_apart, quiet_then_apart, apart_then}
 use Rattle.nb_engine.proofs.engine.Engine.page_write.Goals as goal
 
 pub returns-in_err-take_raw-clause-turn : goal.returns-in_err-take_raw-clause-turn
@@ -70,3 +72,29 @@ returns-clause-turn g c s tells shown =
     written_does first (g.H.Host.world c.take_raw.new.host) (g.H.Host.world c.raise_entry.new.host) held s c.args.number c.args.text.now may quiet (entry.left s.base tells still) (g.H.Host.world c.write_raw.new.host)
     c.deref_mut-4.result.now (entry.test s.base tells still) (entry.after s.base tells still) read (λ b opened low same. c.write_raw.ensures.left b tells opened low same)
     (λ b opened low same. c.in_ok-write_raw.ensures.after b tells opened low same)
+
+pub returns-in_err-take_raw-clause-apart : goal.returns-in_err-take_raw-clause-apart
+returns-in_err-take_raw-clause-apart g c tells = subst (λ (o : Opened). Apart (g.H.Host.world c.args.host.now) (g.H.Host.world c.take_raw.new.host) o.name) c.self.view_is (quiet_apart _ _ _ c.in_err-take_raw.ensures.quiet)
+
+pub returns-then-number-eq0-clause-apart : goal.returns-then-number-eq0-clause-apart
+returns-then-number-eq0-clause-apart g c tells = subst (λ (o : Opened). Apart (g.H.Host.world c.args.host.now) (g.H.Host.world c.take_raw.new.host) o.name) c.self.view_is (quiet_apart _ _ _ c.in_ok-take_raw.ensures.quiet)
+
+pub returns-in_err-check_write-clause-apart : goal.returns-in_err-check_write-clause-apart
+returns-in_err-check_write-clause-apart g c tells = subst (λ (o : Opened). Apart (g.H.Host.world c.args.host.now) (g.H.Host.world c.take_raw.new.host) o.name) c.self.view_is (quiet_apart _ _ _ c.in_ok-take_raw.ensures.quiet)
+
+pub returns-in_err-raise_entry-clause-apart : goal.returns-in_err-raise_entry-clause-apart
+returns-in_err-raise_entry-clause-apart g c tells =
+    subst (λ (o : Opened). Apart (g.H.Host.world c.args.host.now) (g.H.Host.world c.raise_entry.new.host) o.name) c.self.view_is
+    (quiet_then_apart _ _ _ _ c.in_ok-take_raw.ensures.quiet (c.raise_entry.ensures.apart tells))
+
+pub returns-in_err-write_raw-clause-apart : goal.returns-in_err-write_raw-clause-apart
+returns-in_err-write_raw-clause-apart g c tells =
+    subst (λ (o : Opened). Apart (g.H.Host.world c.args.host.now) (g.H.Host.world c.write_raw.new.host) o.name) c.self.view_is
+    (apart_then _ _ _ _ (g.met.H.Host.timely c.raise_entry.new.host) (g.met.H.Host.reads_left c.raise_entry.new.host tells)
+    (quiet_then_apart _ _ _ _ c.in_ok-take_raw.ensures.quiet (c.raise_entry.ensures.apart tells)) (c.write_raw.ensures.apart tells))
+
+pub returns-clause-apart : goal.returns-clause-apart
+returns-clause-apart g c tells =
+    subst (λ (o : Opened). Apart (g.H.Host.world c.args.host.now) (g.H.Host.world c.write_raw.new.host) o.name) c.self.view_is
+    (apart_then _ _ _ _ (g.met.H.Host.timely c.raise_entry.new.host) (g.met.H.Host.reads_left c.raise_entry.new.host tells)
+    (quiet_then_apart _ _ _ _ c.in_ok-take_raw.ensures.quiet (c.raise_entry.ensures.apart tells)) (c.write_raw.ensures.apart tells))

@@ -4,6 +4,7 @@ use Rattle.nb_engine.proofs.opened.Opened.raise_entry.Goals.{then-branch+in_ok-r
 use Rattle.nb_engine.proofs.QuietDoes.{open_quiet, quiet_left}
 use Rattle.nb_engine.proofs.PutLaws.{raised_never, raised_not, raised_once}
 use Rattle.nb_engine.proofs.RaiseLaws.{settled_passed, none_made, one_made, strokes_left, after_quiet}
+use Rattle.nb_engine.proofs.ApartLaws.{quiet_apart, quiet_then_apart}
 use Rattle.nb_engine.proofs.opened.Opened.raise_entry.Goals as goal
 
 pub returns-in_err-must_raise-clause-after : goal.returns-in_err-must_raise-clause-after
@@ -57,4 +58,21 @@ returns-clause-after g c b tells is =
           (one_made _ held b p (raised_once b.image p none must)
           (w.in_ok-raise.ensures.after b tells (open_quiet _ _ held b quiet is) none must (c.in_ok-must_raise.ensures.page b tells is w.if-branch.true)))
       | else-branch w ↦ rw w.host-is (none_made _ held b p (raised_not b.image p (sym found ∙ w.if-branch.false)) (open_quiet _ _ held b quiet is))
+    ]
+
+pub returns-in_err-must_raise-clause-apart : goal.returns-in_err-must_raise-clause-apart
+returns-in_err-must_raise-clause-apart g c tells = quiet_apart _ _ c.args.self.now.name c.in_err-must_raise.ensures.quiet
+
+pub returns-in_err-raise-clause-apart : goal.returns-in_err-raise-clause-apart
+returns-in_err-raise-clause-apart g c tells =
+    quiet_then_apart (g.H.Host.world c.args.host.now) (g.H.Host.world c.must_raise.new.host) (g.H.Host.world c.raise.new.host) c.args.self.now.name c.in_ok-must_raise.ensures.quiet (c.raise.ensures.apart tells)
+
+pub returns-clause-apart : goal.returns-clause-apart
+returns-clause-apart g c tells =
+    let name = c.args.self.now.name in
+    let before = g.H.Host.world c.args.host.now in
+    let quiet = c.in_ok-must_raise.ensures.quiet in
+    elim c.if-branch.branch [
+      | then-branch+in_ok-raise w ↦ rw w.host-is (quiet_then_apart before (g.H.Host.world c.must_raise.new.host) (g.H.Host.world w.raise.new.host) name quiet (w.raise.ensures.apart tells))
+      | else-branch w ↦ rw w.host-is (quiet_apart before (g.H.Host.world c.must_raise.new.host) name quiet)
     ]
