@@ -9,5 +9,6 @@ pub mod PutLaws
 pub mod RaiseLaws
 pub mod EntryLaws
 pub mod WriteLaws
+pub mod MakeLaws
 pub mod MarkLaws
 pub mod FreeLaws

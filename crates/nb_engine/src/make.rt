@@ -6,6 +6,7 @@ ghost use Rattle.nb_fields.specs.Payloads.{text_payload};
 ghost use Rattle.nb_fields.specs.Places.{is_page_size, is_system_place};
 ghost use Rattle.nb_host.specs.Causes.{CountsFault};
 ghost use Rattle.nb_host.specs.declared.faults.Fault.TheVariants.{Memory};
+ghost use Rattle.nb_change.specs.Apart.{Apart};
 ghost use Rattle.nb_change.specs.Counts.{CountsDevice};
 ghost use Rattle.nb_page.specs.Quiet.{Quiet};
 ghost use Rattle.nb_model.specs.Account.{Base};
@@ -107,6 +108,7 @@ impl Opened {
         ensures makes { (b : Base) → (payload : List ℕ) → IsTrue H.tells → IsOpen (H.world host.old) self.old b → IsWell b.image → number ≤ length b.image
             → 16 + length payload ≤ length page.old → page.old ≡ with_payload (old_page number b.image) payload
             → Makes result (H.world host.old) (H.world host.new) b self.new (put number (code_of kind) payload (drafted b.image)).strokes }
+        ensures apart { IsTrue H.tells → Apart (H.world host.old) (H.world host.new) self.old.name }
         ensures name { self.new.name ≡ self.old.name }
         ensures page_size { self.new.page_size ≡ self.old.page_size }
         ensures few { self.old.count ≤ 1048576 → self.new.count ≤ 1048576 }
@@ -135,6 +137,7 @@ impl Opened {
         requires high { place < 1048576 }
         ensures makes { (b : Base) → IsTrue H.tells → IsOpen (H.world host.old) self.old b → IsWell b.image → place ≤ length b.image
             → Makes result (H.world host.old) (H.world host.new) b self.new (system_page place (drafted b.image)).strokes }
+        ensures apart { IsTrue H.tells → Apart (H.world host.old) (H.world host.new) self.old.name }
         ensures name { self.new.name ≡ self.old.name }
         ensures page_size { self.new.page_size ≡ self.old.page_size }
         ensures few { self.old.count ≤ 1048576 → self.new.count ≤ 1048576 }
@@ -165,6 +168,7 @@ impl Opened {
         requires high { number < 1048576 }
         ensures makes { (b : Base) → IsTrue H.tells → IsOpen (H.world host.old) self.old b → IsWell b.image → number ≤ length b.image
             → Makes result (H.world host.old) (H.world host.new) b self.new (put number 8 (text_payload []) (drafted b.image)).strokes }
+        ensures apart { IsTrue H.tells → Apart (H.world host.old) (H.world host.new) self.old.name }
         ensures name { self.new.name ≡ self.old.name }
         ensures page_size { self.new.page_size ≡ self.old.page_size }
         ensures few { self.old.count ≤ 1048576 → self.new.count ≤ 1048576 }

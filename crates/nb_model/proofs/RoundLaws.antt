@@ -54,7 +54,7 @@ module _ (image : Image) (h : Well image) (p : ℕ) (at : IsPlace image p) where
   abbrev before : Draft
   before = raised p (drafted image)
 
-  raises : Raises image before.image p
+  pub raises : Raises image before.image p
   raises = (is_raised Any AnyPage (λ bytes e. tt) (λ x q bytes fields sound fits k also. tt) (base_of image) p (drafted image) (started image h) at).raises
 
   -- the SCN page of its entry is there
