@@ -7,3 +7,5 @@ pub mod TestLaws
 pub mod PutLaws
 pub mod RaiseLaws
 pub mod WriteLaws
+pub mod FindLaws
+pub mod PlaceTests

@@ -3,3 +3,4 @@ pub mod Create
 pub mod Turn
 pub mod Put
 pub mod Replies
+pub mod Find

@@ -8,6 +8,7 @@
 
 mod create;
 mod engine;
+mod find;
 mod opened;
 mod put;
 mod reads;
