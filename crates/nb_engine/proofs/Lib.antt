@@ -9,3 +9,5 @@ pub mod RaiseLaws
 pub mod WriteLaws
 pub mod FindLaws
 pub mod PlaceTests
+pub mod RoundLaws
+pub mod FullLaws

@@ -9,8 +9,8 @@ use Rattle.nb_host.specs.declared.faults.Fault.TheVariants.{Refused, Device, Mem
 use Rattle.nb_host.specs.declared.refusals.Refusal.{Refusal}
 use Rattle.nb_host.specs.declared.refusals.Refusal.TheVariants.{Full}
 use Rattle.nb_model.specs.Image.{Image, image_size}
-use Rattle.nb_model.specs.Forms.{is_free_page, free_from, lowest_free}
-use Rattle.nb_model.specs.Causes.{Cause}
+use Rattle.nb_model.specs.Forms.{Draft, is_free_page, free_from}
+use Rattle.nb_model.specs.Causes.{Cause, when, no_room}
 use Rattle.nb_engine.specs.Turn.{Tested}
 use Rattle.nb_engine.specs.Find.{IsRoom, HasNoRoom, IsNextPlace, FindsRoom}
 use Rattle.nb_engine.proofs.FindLaws.{Finds, finds}
@@ -67,6 +67,24 @@ room_passed S T (Err e) fault image is found = subst (λ (f : Fault). FindsRoom 
   where
     on : (f : Fault) → FindsRoom {T = S} (Err f) image → FindsRoom {T = T} (Err f) image
     on (Refused r) t = t
+    on Device t = tt
+    on Memory t = tt
+
+-- a draft for which no page is left, and one for which one is
+pub room_found : (d : Draft) → d.full ≡ false → no_room d ≡ None
+room_found d e = ap (λ (t : Bool). when t (Full 1048576)) e
+
+none_found : (d : Draft) → d.full ≡ true → no_room d ≡ Some (Full 1048576)
+none_found d e = ap (λ (t : Bool). when t (Full 1048576)) e
+
+-- so the search is refused as the draft is
+pub room_tested : (S T : Type 0) (result : Result T Fault) (fault : Fault) (image : Image) (d : Draft) → IsErr result × IsErrAnd result (λ f. f ≡ fault) → FindsRoom {T = S} (Err fault) image
+    → (HasNoRoom image → d.full ≡ true) → Tested result (no_room d)
+room_tested S T (Ok value) fault image d is found full = absurd is.1
+room_tested S T (Err e) fault image d is found full = subst (λ (f : Fault). Tested {T = T} (Err f) (no_room d)) (sym is.1) (on fault found)
+  where
+    on : (f : Fault) → FindsRoom {T = S} (Err f) image → Tested {T = T} (Err f) (no_room d)
+    on (Refused r) t = none_found d (full t.1) ∙ ap Some (sym t.0)
     on Device t = tt
     on Memory t = tt
 

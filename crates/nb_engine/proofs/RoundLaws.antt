@@ -23,7 +23,6 @@ use Rattle.nb_model.proofs.SoundLaws.{all_at, inventory_there, scn_page_there, s
 use Rattle.nb_model.proofs.FreshSound.{kind_inventory, kind_scn}
 use Rattle.nb_model.proofs.PutSound.{IsPut, needs_image}
 use Rattle.nb_model.proofs.BitLaws.{bit_else, with_bit_length, bit_behind, one_bit}
-use Rattle.nb_engine.proofs.PutLaws.{old_page-is}
 use Rattle.nb_engine.proofs.FindLaws.{inventory_low}
 
 -- no page is of both kinds of inventory
@@ -165,6 +164,11 @@ bit_cleared k map inside =
     let none : byte - bit_at byte (k % 8) * 2 ^ (k % 8) + 0 * 2 ^ (k % 8) ≡ byte - bit_at byte (k % 8) * 2 ^ (k % 8) = omega arith in
     ap (λ (n : ℕ). bit_at n (k % 8)) (get_or-set_same map (32 + k / 8) (byte - bit_at byte (k % 8) * 2 ^ (k % 8) + 0 * 2 ^ (k % 8)) 0 inside ∙ none) ∙ cleared byte (k % 8)
 
+-- the bytes before a write below the length are those of the page
+old_below : (p : ℕ) (x : Image) → p < length x → old_page p x ≡ page_at x p
+unfolding old_page
+old_below p x low = rw (lt-ltb p (length x) low, old_page) refl
+
 -- Page p is taken, and no other bit has changed.
 pub record Takes (x y : Image) (p : ℕ) : Type 0 where
   pub size : image_size y ≡ image_size x
@@ -208,7 +212,7 @@ module _ (Q : Image → Type 0) (b : Base) (x : Image) (p : ℕ) (d : Draft) (fi
   now_long = ap length h.is ∙ with_page_length i bytes h.between there ∙ omega (arith, low, h.raises.long)
 
   old_is : old_page i h.between ≡ page_at x i
-  old_is = old_page-is i h.between (omega (arith, low, h.raises.long)) ∙ h.raises.others i (map_apart x i i fields.size (map_there p))
+  old_is = old_below i h.between (omega (arith, low, h.raises.long)) ∙ h.raises.others i (map_apart x i i fields.size (map_there p))
 
   old_long : length (page_at x i) ≡ image_size x
   old_long = all_at (λ page. length page ≡ image_size x) x is.sizes i low

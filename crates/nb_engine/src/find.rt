@@ -1,6 +1,5 @@
 // The search for a free page, and the tests before a new page. Nothing changes.
 ghost use Rattle.std.specs.Prelude.{◌≡◌, ◌≢◌, ◌+◌, ◌-◌, ◌*◌, ◌/◌, ◌<◌, ◌≤◌, [], true, false, IsTrue, IfErr, IfOk, OnOk, IfSome, MatchOption, None, length};
-ghost use Rattle.nb_fields.specs.Header.{is_header};
 ghost use Rattle.nb_fields.specs.Kinds.{code_of};
 ghost use Rattle.nb_fields.specs.Page.{kind_of};
 ghost use Rattle.nb_fields.specs.Payloads.{text_payload};
@@ -9,10 +8,11 @@ ghost use Rattle.nb_host.specs.declared.faults.Fault.TheVariants.{Memory};
 ghost use Rattle.nb_change.specs.Counts.{CountsDevice};
 ghost use Rattle.nb_page.specs.Quiet.{Quiet};
 ghost use Rattle.nb_model.specs.Account.{Base};
-ghost use Rattle.nb_model.specs.Image.{page_at, first_page};
+ghost use Rattle.nb_model.specs.Image.{page_at};
 ghost use Rattle.nb_model.specs.Causes.{not_kind, no_room};
 ghost use Rattle.nb_model.specs.Forms.{inventory_of, free_from, lowest_free, drafted, new_page};
 ghost use Rattle.nb_model.specs.Sound.{IsSoundImage};
+ghost use Rattle.nb_model.proofs.PutSound.{HasHeader};
 ghost use Rattle.nb_engine.specs.Open.{IsOpen};
 ghost use Rattle.nb_engine.specs.Turn.{Tested};
 ghost use Rattle.nb_engine.specs.Find.{AreTaken, IsFreeNear, IsNextPlace, FindsRoom};
@@ -295,7 +295,7 @@ impl Opened {
         requires few { self.now.count ≤ 1048576 }
         requires map { length map.old ≡ self.now.page_size }
         requires system { length system.old ≡ self.now.page_size }
-        ensures test { (b : Base) → IsTrue H.tells → IsOpen (H.world host.old) self.now b → is_header (first_page b.image) ≡ true → IsSoundImage b.image
+        ensures test { (b : Base) → IsTrue H.tells → IsOpen (H.world host.old) self.now b → HasHeader b.image → IsSoundImage b.image
             → Tested result (no_room (new_page 8 (λ p. text_payload []) (drafted b.image)).0) }
         ensures value { (b : Base) → IsTrue H.tells → IsOpen (H.world host.old) self.now b → IfOk result (λ page. page ≡ lowest_free b.image) }
         ensures map { (b : Base) → IsTrue H.tells → IsOpen (H.world host.old) self.now b → IfOk result (λ page. page < length b.image → map.new ≡ page_at b.image (inventory_of b.image page)) }
