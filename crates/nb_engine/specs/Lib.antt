@@ -5,3 +5,4 @@ pub mod Put
 pub mod Mark
 pub mod Make
 pub mod Replies
+pub mod Find

@@ -8,6 +8,7 @@
 
 mod create;
 mod engine;
+mod find;
 mod free;
 mod make;
 mod mark;

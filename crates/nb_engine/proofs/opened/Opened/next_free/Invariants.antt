@@ -1,0 +1,17 @@
+use Rattle.std.proofs.Common.{◌≡◌, ℕ, ◌-◌, ◌≤◌, IsTrue}
+use Rattle.nb_page.specs.Quiet.{Quiet}
+use Rattle.nb_model.specs.Account.{Base}
+use Rattle.nb_engine.specs.Open.{IsOpen}
+use Rattle.nb_engine.specs.Find.{AreTaken}
+use Rattle.nb_engine.proofs.opened.Opened.next_free.Given as goal
+
+abbrev pub invariant-loop-page : goal.invariant-loop-page
+invariant-loop-page g l = record {
+  behind : l.fn.from ≤ l.page;
+  taken : (b : Base) → IsTrue g.H.Host.tells → IsOpen (g.H.Host.world l.fn.host) l.self b → AreTaken b.image l.fn.from l.page;
+  quiet : Quiet (g.H.Host.world l.fn.host) (g.H.Host.world l.host);
+  cause : g.H.Host.faults l.host ≡ g.H.Host.faults l.fn.host;
+}
+
+abbrev pub decreases-loop-page : goal.decreases-loop-page
+decreases-loop-page g l = l.self.count - l.page
