@@ -12,6 +12,7 @@ pub mod WriteLaws
 pub mod MakeLaws
 pub mod MarkLaws
 pub mod FreeLaws
+pub mod NewLaws
 pub mod FindLaws
 pub mod PlaceTests
 pub mod RoundLaws

@@ -54,7 +54,7 @@ well image is = rounds.well image (record { size = is.size; scn = is.scn }) is.s
 pub from_well : (image : Image) → rounds.Well image → IsWell image
 from_well image h = record { sound = h.sound; size = h.fields.size; scn = h.fields.scn }
 
-abbrev Left : (old new : World) (name : List ℕ) (b : Base) (strokes : List Stroke) → Type 0
+abbrev pub Left : (old new : World) (name : List ℕ) (b : Base) (strokes : List Stroke) → Type 0
 Left old new name b strokes = Advances old new name (delta_name name) (Reached on_base (Shows name) b strokes)
 
 renamed : (old new : World) (name other : List ℕ) (b : Base) (strokes : List Stroke) → name ≡ other → Left old new name b strokes → Left old new other b strokes

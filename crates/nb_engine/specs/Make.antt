@@ -1,5 +1,5 @@
 -- What a run of calls makes of an open database whose inventories agree with its pages.
-use Rattle.std.specs.Prelude.{◌≡◌, ◌<◌, ℕ, List, [], None, Result, Ok, Err, OnOk, IsTrue}
+use Rattle.std.specs.Prelude.{◌≡◌, ◌<◌, ℕ, ◌+◌, ◌-◌, List, [], length, None, Result, Ok, Err, OnOk, IsTrue}
 use Rattle.nb_fields.specs.Places.{is_page_size}
 use Rattle.nb_fields.specs.Payloads.{text_payload}
 use Rattle.nb_host.specs.World.{World}
@@ -9,7 +9,7 @@ use Rattle.nb_model.specs.Image.{Image, image_size, image_scn}
 use Rattle.nb_model.specs.Account.{Base}
 use Rattle.nb_model.specs.Strokes.{Stroke, on_base, base_after}
 use Rattle.nb_model.specs.Owner.{delta_name}
-use Rattle.nb_model.specs.Forms.{Draft, drafted, new_page}
+use Rattle.nb_model.specs.Forms.{Draft, drafted, take_page, system_page, free_from, new_page}
 use Rattle.nb_model.specs.Sound.{IsSoundImage}
 use Rattle.nb_engine.specs.declared.opened.Opened.{Opened}
 use Rattle.nb_engine.specs.Open.{Shows, IsOpen}
@@ -31,3 +31,11 @@ pub record Makes {T : Type 0} (result : Result T Fault) (old new : World) (base 
 -- a new raw page with the empty text, and its number
 abbrev pub new_raw : Image → Draft × ℕ
 new_raw image = new_page 8 (λ p. text_payload []) (drafted image)
+
+-- a round of the search for it at a system place: the system page is there, and is taken
+abbrev pub round : Image → (place : ℕ) → Draft
+round image place = take_page place (system_page place (drafted image))
+
+-- the lowest free page behind that place then, or the length
+abbrev pub behind : Image → (place : ℕ) → ℕ
+behind image place = let after : Image = (round image place).image in free_from (length after - (place + 1)) (place + 1) after

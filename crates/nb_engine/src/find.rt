@@ -26,7 +26,7 @@ use nb_pip::{covers, lowest_free, place_of};
 const FIRST_TO_GIVE: u32 = 5;
 
 /// As many pages as a database may have.
-const MOST_PAGES: u32 = 1048576;
+pub(crate) const MOST_PAGES: u32 = 1048576;
 
 /// The first page behind those that have their bits in one inventory page with page `number`.
 fn behind_bits(size: u32, number: u32) -> u32
@@ -39,7 +39,7 @@ fn behind_bits(size: u32, number: u32) -> u32
 }
 
 /// Whether a system page stands at page `number`.
-fn is_system_place(size: u32, number: u32) -> bool
+pub(crate) fn is_system_place(size: u32, number: u32) -> bool
     requires size { IsTrue (is_page_size size) }
     requires number { number < 1048576 }
     ensures { result ≡ is_system_place size number }

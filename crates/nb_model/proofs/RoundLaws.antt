@@ -127,6 +127,9 @@ module _ (image : Image) (h : Well image) (p : ℕ) (at : IsPlace image p) where
     below_end : p ≤ length before.image
     below_end = let low = at.there in omega (arith, raises.long)
 
+    pub put_long : p < length image → length (put p kind payload (drafted image)).image ≡ length image
+    put_long low = ap length put_image ∙ with_page_length p bytes before.image below_end ∙ omega (arith, raises.long, low)
+
     pub put_here : page_at (put p kind payload (drafted image)).image p ≡ bytes
     put_here = ap (λ (x : Image). page_at x p) put_image ∙ with_page_same p bytes before.image below_end
 
@@ -193,6 +196,16 @@ module _ (image : Image) (h : Well image) (p : ℕ) (two : 2 ≤ p) (low : p < l
 
   take_size : image_size (take_page p (drafted image)).image ≡ image_size image
   take_size = ap (λ (d : Draft). image_size d.image) take_is ∙ put_size image h i i_place 2 (drop 16 row)
+
+  -- the image is no shorter
+  pub take_long : p < length (take_page p (drafted image)).image
+  take_long = (taken_there).1
+    where
+      taken_there : (length (take_page p (drafted image)).image ≡ length image) × (p < length (take_page p (drafted image)).image)
+      taken_there =
+          let long : length (put i 2 (drop 16 row) (drafted image)).image ≡ length image = put_long image h i i_place 2 (drop 16 row) i_low in
+          let same : length (take_page p (drafted image)).image ≡ length image = ap (λ (d : Draft). length d.image) take_is ∙ long in
+          (same, omega (arith, same, low))
 
   i_long : length (page_at image i) ≡ image_size image
   i_long = all_at (λ x. length x ≡ image_size image) image h.sound.sizes i i_low
