@@ -175,3 +175,7 @@ pub inventory_sound : (image : Image) (p : ℕ) → IsTrue (is_page_size (image_
 inventory_sound image p is sound low =
     let there : inventory_of image p < length image = inventory_low image p is sound.least low in
     kind_is image 2 (inventory_of image p) there (sound.sound.system.inventories (inventory_of image p) there (inventory_there (image_size image) (p / bits_in (image_size image)) is))
+
+-- How many inventory pages there are from that of page `from` on up to that of the last page before one, and up to that behind the end.
+abbrev pub maps_before : (w from page count : ℕ) → ℕ
+maps_before w from page count = min (page / w) (count / w + 1) - from / w

@@ -21,7 +21,7 @@ use nb_fields::PageKind;
 use nb_host::{Fault, Host, Refusal};
 use nb_pip::{covers, lowest_free, place_of};
 
-/// The pages before it hold the header, the first inventories, the catalogue and the history: none of them is ever free.
+/// The pages before it hold the header, the first inventories, the catalogue and the history: none of them is given out.
 const FIRST_TO_GIVE: u32 = 5;
 
 /// As many pages as a database may have.
@@ -66,6 +66,7 @@ impl Opened {
         ensures not_before { IfOk result (λ found. IfSome found (λ page. from ≤ page)) }
         ensures below { IfOk result (λ found. IfSome found (λ page. page < self.now.count)) }
         ensures quiet { Quiet (H.world host.old) (H.world host.new) }
+        ensures reads { IsTrue H.tells → (H.world host.new).reads ≤ (H.world host.old).reads + 1 }
         ensures cause { CountsDevice result (H.faults host.old) (H.faults host.new) }
         ensures takes_none { IfErr result (λ fault. fault ≢ Memory) }
     {
@@ -83,7 +84,7 @@ impl Opened {
     /// The lowest free page from `from` on that is below the length, or the first page from `from` on that isn't below it. Of a page
     /// below the length, its inventory page is then in `map`.
     ///
-    /// The refusal is `NotDatabase` of an inventory page that it had to read. Each is read once.
+    /// The refusal is `NotDatabase` of an inventory page that it had to read. It reads each at most once, and none before that of `from`.
     pub(crate) fn next_free<H: Host>(
         &self,
         host: &mut H,
@@ -101,6 +102,7 @@ impl Opened {
         ensures not_before { IfOk result (λ page. from ≤ page) }
         ensures most { IfOk result (λ page. page ≤ 1048576) }
         ensures quiet { Quiet (H.world host.old) (H.world host.new) }
+        ensures reads { IsTrue H.tells → (H.world host.new).reads ≤ (H.world host.old).reads + (self.now.count / bits_in self.now.page_size + 1 - from / bits_in self.now.page_size) }
         ensures cause { CountsDevice result (H.faults host.old) (H.faults host.new) }
         ensures takes_none { IfErr result (λ fault. fault ≢ Memory) }
     {

@@ -43,3 +43,8 @@ returns-then-not-is_system_place-clause-tested g c b tells is next read =
     ap (λ (s : ℕ). is_system_place s c.loop-place.place) (sym is.page_size) ∙ sym c.is_system_place.ensures ∙ c.if-not-is_system_place.true in
     way_ends b.image c.args.first c.loop-place.place (c.loop-place.invariant.ready b tells is read) (c.in_ok-check_place.ensures.test b tells still (c.loop-place.invariant.read b tells is read))
     (room_at b.image c.loop-place.place (c.loop-place.invariant.next b tells is next) c.loop-place-test.true plain)
+
+pub returns-in_err-place-clause-full : goal.returns-in_err-place-clause-full
+returns-in_err-place-clause-full g c b tells is next read sound =
+    let still = open_quiet _ _ c.args.self.now b (quiet_joined _ _ _ c.loop-place.invariant.quiet c.in_ok-check_place.ensures.quiet) is in
+    not_asked ℕ (Unit {0}) _ _ b.image c.from_residual-in_err-place.ensures (c.in_err-place.ensures.sound b tells still sound)
