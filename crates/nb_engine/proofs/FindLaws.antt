@@ -1,5 +1,5 @@
 -- The search for a free page: what it finds, and what one inventory page says of it.
-use Rattle.std.proofs.Common.{◌≡◌, ◌⊎◌, inl, inr, ℕ, zero, suc, ◌+◌, ◌-◌, ◌*◌, ◌/◌, ◌%◌, ◌<◌, ◌≤◌, List, length, get_or, refl, sym, ap, subst, ◌∙◌, arith}
+use Rattle.std.proofs.Common.{◌≡◌, inl, inr, ℕ, zero, suc, ◌+◌, ◌-◌, ◌*◌, ◌/◌, ◌%◌, ◌<◌, ◌≤◌, length, get_or, refl, sym, ap, subst, ◌∙◌, arith}
 use Rattle.std.specs.Prelude.{Bool, true, false, ◌==◌, IsTrue, Option, Some, None, MatchOption, min, max}
 use Rattle.std.proofs.Math.Nat.{mul-add-mod_self_right, mod-eq_of_lt}
 use Rattle.std.proofs.lemmas.Nat.{div-mul-add}
@@ -175,3 +175,7 @@ pub inventory_sound : (image : Image) (p : ℕ) → IsTrue (is_page_size (image_
 inventory_sound image p is sound low =
     let there : inventory_of image p < length image = inventory_low image p is sound.least low in
     kind_is image 2 (inventory_of image p) there (sound.sound.system.inventories (inventory_of image p) there (inventory_there (image_size image) (p / bits_in (image_size image)) is))
+
+-- How many inventory pages there are from that of page `from` on up to that of the last page before one, and up to that behind the end.
+abbrev pub maps_before : (w from page count : ℕ) → ℕ
+maps_before w from page count = min (page / w) (count / w + 1) - from / w

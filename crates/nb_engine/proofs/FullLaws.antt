@@ -1,20 +1,20 @@
 -- The rounds of the search for a new page, and when no page is left.
 use Rattle.std.proofs.Common.{◌≡◌, ◌≢◌, inl, inr, ℕ, zero, suc, ◌+◌, ◌-◌, ◌*◌, ◌/◌, ◌%◌, ◌<◌, ◌≤◌, List, [], ◌∷◌, ◌++◌, length, take, refl, sym, ap, subst, ◌∙◌, arith, append_assoc, mul-le-mul_right}
-use Rattle.std.specs.Prelude.{Bool, true, false, ◌==◌, ◌&&◌, ◌||◌, nat_lt, IsTrue, max}
-use Rattle.std.proofs.lemmas.Bool.{true≢false, and_parts, or_cases, eqb-true, eqb-false, ltb-true}
+use Rattle.std.specs.Prelude.{Bool, true, false, ◌==◌, ◌&&◌, ◌||◌, nat_lt, IsTrue}
+use Rattle.std.proofs.lemmas.Bool.{true≢false, and_parts, or_cases, eqb-true, eqb-false}
 use Rattle.std.proofs.lemmas.Bool.Decides.{eqb_tells, leb_tells}
-use Rattle.std.proofs.lemmas.List.{append-nil, take-append-le, take_all}
+use Rattle.std.proofs.lemmas.List.{append-nil, take-append-le}
 use Rattle.nb_fields.specs.Places.{is_page_size, entries_in, bits_in, inventory_place, is_inventory_place, is_scn_place, is_system_place}
 use Rattle.nb_fields.specs.Payloads.{text_payload}
 use Rattle.nb_fields.proofs.PlaceLemmas.{entries-least}
-use Rattle.nb_model.specs.Image.{Page, Image, page_at, image_size, image_scn}
+use Rattle.nb_model.specs.Image.{Page, Image, image_size, image_scn}
 use Rattle.nb_model.specs.Account.{Base, base_of}
 use Rattle.nb_model.specs.Strokes.{Stroke, page, base_after}
-use Rattle.nb_model.specs.Forms.{Draft, drafted, wrote, written, needs, is_kind, inventory_of, scn_page_of, scn_entry, is_free_page, has_entry, entry_written, entry_raised, raised, put, set_bit, take_page, free_from, lowest_free, needs_inventories, searched, system_kind, system_payload, system_page, no_page, new_within, new_page}
+use Rattle.nb_model.specs.Forms.{Draft, drafted, wrote, written, needs, is_kind, inventory_of, scn_page_of, scn_entry, is_free_page, has_entry, entry_written, entry_raised, raised, put, set_bit, take_page, lowest_free, needs_inventories, searched, system_kind, system_page, no_page, new_within, new_page}
 use Rattle.nb_model.specs.Sound.{IsSoundImage}
 use Rattle.nb_model.proofs.DraftLaws.{IsKept, IsOf, drafted_is, drafts_are, needs_keeps, put_keeps, set_bit_keeps, new_keeps}
 use Rattle.nb_model.proofs.SoundLaws.{HasFields}
-use Rattle.nb_model.proofs.PutSound.{Held, Throughout, HasHeader, IsPut, needs_image, holds_now}
+use Rattle.nb_model.proofs.PutSound.{Held, Throughout, HasHeader, needs_image, holds_now}
 use Rattle.nb_model.proofs.BitSound.{bit_holds}
 use Rattle.nb_model.proofs.NewSound.{new_raw_holds}
 use Rattle.nb_engine.specs.Find.{IsRoom, HasNoRoom, IsNextPlace}

@@ -1,5 +1,5 @@
 -- One round of the search for a new page: a system page is made where none is yet, and is taken. What it leaves of the bits.
-use Rattle.std.proofs.Common.{◌≡◌, ◌≢◌, inl, inr, ℕ, zero, suc, ◌+◌, ◌-◌, ◌*◌, ◌/◌, ◌%◌, ◌^◌, ◌<◌, ◌≤◌, List, length, get_or, set, drop, refl, sym, ap, subst, ◌∙◌, arith, get_or-set_same}
+use Rattle.std.proofs.Common.{◌≡◌, ◌≢◌, inl, inr, ℕ, zero, suc, ◌+◌, ◌-◌, ◌*◌, ◌/◌, ◌%◌, ◌^◌, ◌<◌, ◌≤◌, List, length, drop, refl, sym, ap, subst, ◌∙◌, arith, get_or-set_same}
 use Rattle.std.specs.Prelude.{Bool, true, false, ◌==◌, nat_lt, IsTrue, max, slice_index}
 use Rattle.std.specs.Int.{bit_at}
 use Rattle.std.proofs.Math.Nat.{pow-suc}
@@ -14,7 +14,7 @@ use Rattle.nb_fields.specs.Page.{kind_of, stamped}
 use Rattle.nb_fields.specs.Payloads.{bit_of}
 use Rattle.nb_fields.proofs.SizeLemmas.{SizeFacts, size_facts}
 use Rattle.nb_fields.proofs.PlaceLemmas.{bits-least}
-use Rattle.nb_model.specs.Image.{Page, Image, page_at, image_size, image_scn, with_page}
+use Rattle.nb_model.specs.Image.{Page, Image, page_at, image_size, image_scn}
 use Rattle.nb_model.specs.Account.{Base}
 use Rattle.nb_model.specs.Forms.{Draft, old_page, wrote, written, needs, is_kind, inventory_of, scn_page_of, bit_number, scn_entry, is_free_page, has_entry, entry_written, entry_raised, raised, put, with_bit, system_kind, system_page}
 use Rattle.nb_model.specs.Sound.{IsSoundImage}

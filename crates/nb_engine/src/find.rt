@@ -1,7 +1,6 @@
 // The search for a free page, and the tests before a new page. Nothing changes.
 ghost use Rattle.std.specs.Prelude.{◌≡◌, ◌≢◌, ◌+◌, ◌-◌, ◌*◌, ◌/◌, ◌<◌, ◌≤◌, [], true, false, IsTrue, IfErr, IfOk, OnOk, IfSome, MatchOption, None, length};
 ghost use Rattle.nb_fields.specs.Kinds.{code_of};
-ghost use Rattle.nb_fields.specs.Page.{kind_of};
 ghost use Rattle.nb_fields.specs.Payloads.{text_payload};
 ghost use Rattle.nb_fields.specs.Places.{is_page_size, bits_in, is_system_place};
 ghost use Rattle.nb_host.specs.declared.faults.Fault.TheVariants.{Memory};
@@ -15,14 +14,14 @@ ghost use Rattle.nb_model.specs.Sound.{IsSoundImage};
 ghost use Rattle.nb_model.proofs.PutSound.{HasHeader};
 ghost use Rattle.nb_engine.specs.Open.{IsOpen};
 ghost use Rattle.nb_engine.specs.Turn.{Tested};
-ghost use Rattle.nb_engine.specs.Find.{AreTaken, IsFreeNear, IsNextPlace, FindsRoom};
+ghost use Rattle.nb_engine.specs.Find.{AreTaken, IsFreeNear, IsNextPlace, IsMapRead, RefusesFull, IsWayReady, not_there, no_entry_page, not_ready};
 
 use crate::Opened;
 use nb_fields::PageKind;
 use nb_host::{Fault, Host, Refusal};
 use nb_pip::{covers, lowest_free, place_of};
 
-/// The pages before it hold the header, the first inventories, the catalogue and the history: none of them is ever free.
+/// The pages before it hold the header, the first inventories, the catalogue and the history: none of them is given out.
 const FIRST_TO_GIVE: u32 = 5;
 
 /// As many pages as a database may have.
@@ -67,6 +66,7 @@ impl Opened {
         ensures not_before { IfOk result (λ found. IfSome found (λ page. from ≤ page)) }
         ensures below { IfOk result (λ found. IfSome found (λ page. page < self.now.count)) }
         ensures quiet { Quiet (H.world host.old) (H.world host.new) }
+        ensures reads { IsTrue H.tells → (H.world host.new).reads ≤ (H.world host.old).reads + 1 }
         ensures cause { CountsDevice result (H.faults host.old) (H.faults host.new) }
         ensures takes_none { IfErr result (λ fault. fault ≢ Memory) }
     {
@@ -84,7 +84,7 @@ impl Opened {
     /// The lowest free page from `from` on that is below the length, or the first page from `from` on that isn't below it. Of a page
     /// below the length, its inventory page is then in `map`.
     ///
-    /// The refusal is `NotDatabase` of an inventory page that it had to read. Each is read once.
+    /// The refusal is `NotDatabase` of an inventory page that it had to read. It reads each at most once, and none before that of `from`.
     pub(crate) fn next_free<H: Host>(
         &self,
         host: &mut H,
@@ -97,10 +97,12 @@ impl Opened {
         requires from { from ≤ 1048576 }
         ensures value { (b : Base) → IsTrue H.tells → IsOpen (H.world host.old) self.now b → IfOk result (λ page. page ≡ free_from (length b.image - from) from b.image) }
         ensures map { (b : Base) → IsTrue H.tells → IsOpen (H.world host.old) self.now b → IfOk result (λ page. page < length b.image → map.new ≡ page_at b.image (inventory_of b.image page)) }
+        ensures read { (b : Base) → IsTrue H.tells → IsOpen (H.world host.old) self.now b → IfOk result (IsMapRead b.image) }
         ensures sound { (b : Base) → IsTrue H.tells → IsOpen (H.world host.old) self.now b → IsSoundImage b.image → Tested result None }
         ensures not_before { IfOk result (λ page. from ≤ page) }
         ensures most { IfOk result (λ page. page ≤ 1048576) }
         ensures quiet { Quiet (H.world host.old) (H.world host.new) }
+        ensures reads { IsTrue H.tells → (H.world host.new).reads ≤ (H.world host.old).reads + (self.now.count / bits_in self.now.page_size + 1 - from / bits_in self.now.page_size) }
         ensures cause { CountsDevice result (H.faults host.old) (H.faults host.new) }
         ensures takes_none { IfErr result (λ fault. fault ≢ Memory) }
     {
@@ -124,15 +126,15 @@ impl Opened {
     ) -> Result<(), Fault>
         requires size { IsTrue (is_page_size self.now.page_size) }
         requires system { length system.old ≡ self.now.page_size }
-        ensures sound { (b : Base) → IsTrue H.tells → IsOpen (H.world host.old) self.now b → (place < length b.image → kind_of (page_at b.image place) ≡ code_of kind) → Tested result None }
+        ensures test { (b : Base) → IsTrue H.tells → IsOpen (H.world host.old) self.now b → Tested result (not_there b.image (code_of kind) place) }
         ensures quiet { Quiet (H.world host.old) (H.world host.new) }
         ensures cause { CountsDevice result (H.faults host.old) (H.faults host.new) }
         ensures takes_none { IfErr result (λ fault. fault ≢ Memory) }
     {
-        if place < self.count {
-            self.take_system(host, place, kind, system)?;
+        if place >= self.count {
+            return Ok(());
         }
-        Ok(())
+        self.take_system(host, place, kind, system)
     }
 
     /// Tests the SCN page that has the entry of page `number`. The refusal is `NotDatabase` of it.
@@ -145,7 +147,7 @@ impl Opened {
         requires size { IsTrue (is_page_size self.now.page_size) }
         requires system { length system.old ≡ self.now.page_size }
         requires number { number < 1048576 }
-        ensures sound { (b : Base) → IsTrue H.tells → IsOpen (H.world host.old) self.now b → IsSoundImage b.image → Tested result None }
+        ensures test { (b : Base) → IsTrue H.tells → IsOpen (H.world host.old) self.now b → Tested result (no_entry_page b.image number) }
         ensures quiet { Quiet (H.world host.old) (H.world host.new) }
         ensures cause { CountsDevice result (H.faults host.old) (H.faults host.new) }
         ensures takes_none { IfErr result (λ fault. fault ≢ Memory) }
@@ -158,49 +160,44 @@ impl Opened {
         self.check_there(host, place, PageKind::ScnInventory, system)
     }
 
-    /// Tests what taking page `number` changes: its inventory page, and the SCN page that has the entry of that. The refusal is
-    /// `NotDatabase` of the first of them that isn't of its kind.
-    fn check_bit<H: Host>(
-        &self,
-        host: &mut H,
-        number: u32,
-        system: &mut [u8],
-    ) -> Result<(), Fault>
+    /// Tests the inventory page of page `number`. The search has tested that of a page below the length. The refusal is `NotDatabase`
+    /// of it.
+    fn check_map<H: Host>(&self, host: &mut H, number: u32, system: &mut [u8]) -> Result<(), Fault>
         requires size { IsTrue (is_page_size self.now.page_size) }
         requires system { length system.old ≡ self.now.page_size }
         requires number { number < 1048576 }
-        ensures sound { (b : Base) → IsTrue H.tells → IsOpen (H.world host.old) self.now b → IsSoundImage b.image → Tested result None }
+        ensures test { (b : Base) → IsTrue H.tells → IsOpen (H.world host.old) self.now b → IsMapRead b.image number → Tested result (not_there b.image 2 (inventory_of b.image number)) }
         ensures quiet { Quiet (H.world host.old) (H.world host.new) }
         ensures cause { CountsDevice result (H.faults host.old) (H.faults host.new) }
         ensures takes_none { IfErr result (λ fault. fault ≢ Memory) }
     {
+        if number < self.count {
+            return Ok(());
+        }
         let (k, _) = covers(self.page_size, number);
         let place = place_of(self.page_size, k);
-        self.check_there(host, place, PageKind::Inventory, system)?;
-        self.check_entry(host, place, system)
+        self.check_there(host, place, PageKind::Inventory, system)
     }
 
-    /// Tests all that a page made and taken at `place` changes. The refusal is `NotDatabase` of a page that isn't of its kind.
-    fn check_place<H: Host>(
-        &self,
-        host: &mut H,
-        place: u32,
-        system: &mut [u8],
-    ) -> Result<(), Fault>
+    /// Tests the system pages that a page made and taken at `place` changes: the SCN page with its entry, its inventory page, and the
+    /// SCN page with the entry of that. The refusal is `NotDatabase` of the first of them that isn't of its kind.
+    fn check_place<H: Host>(&self, host: &mut H, place: u32, system: &mut [u8]) -> Result<(), Fault>
         requires size { IsTrue (is_page_size self.now.page_size) }
         requires system { length system.old ≡ self.now.page_size }
         requires place { place < 1048576 }
-        ensures sound { (b : Base) → IsTrue H.tells → IsOpen (H.world host.old) self.now b → IsSoundImage b.image → Tested result None }
+        ensures test { (b : Base) → IsTrue H.tells → IsOpen (H.world host.old) self.now b → IsMapRead b.image place → Tested result (not_ready b.image place) }
         ensures quiet { Quiet (H.world host.old) (H.world host.new) }
         ensures cause { CountsDevice result (H.faults host.old) (H.faults host.new) }
         ensures takes_none { IfErr result (λ fault. fault ≢ Memory) }
     {
         self.check_entry(host, place, system)?;
-        self.check_bit(host, place, system)
+        self.check_map(host, place, system)?;
+        let (k, _) = covers(self.page_size, place);
+        self.check_entry(host, place_of(self.page_size, k), system)
     }
 
-    /// Tests each place that the search for a new page comes to, from `first` on up to one where no system page stands: the system
-    /// pages before it are taken on the way.
+    /// Tests each place that the search for a new page comes to, from `first` on up to one where no system page stands: a system page
+    /// before it is taken on the way.
     ///
     /// The refusals are `NotDatabase` of a page that isn't of its kind, and `Full`, where there is no such place.
     fn check_places<H: Host>(
@@ -214,7 +211,8 @@ impl Opened {
         requires few { self.now.count ≤ 1048576 }
         requires map { length map.old ≡ self.now.page_size }
         requires system { length system.old ≡ self.now.page_size }
-        ensures room { (b : Base) → IsTrue H.tells → IsOpen (H.world host.old) self.now b → IsSoundImage b.image → IsNextPlace b.image first → FindsRoom result b.image }
+        ensures full { (b : Base) → IsTrue H.tells → IsOpen (H.world host.old) self.now b → IsNextPlace b.image first → IsMapRead b.image first → IsSoundImage b.image → RefusesFull result b.image }
+        ensures tested { (b : Base) → IsTrue H.tells → IsOpen (H.world host.old) self.now b → IsNextPlace b.image first → IsMapRead b.image first → OnOk result (IsWayReady b.image first) }
         ensures below { OnOk result (first < 1048576) }
         ensures quiet { Quiet (H.world host.old) (H.world host.new) }
         ensures cause { CountsDevice result (H.faults host.old) (H.faults host.new) }
@@ -265,7 +263,8 @@ impl Opened {
         requires few { self.now.count ≤ 1048576 }
         requires map { length map.old ≡ self.now.page_size }
         requires system { length system.old ≡ self.now.page_size }
-        ensures room { (b : Base) → IsTrue H.tells → IsOpen (H.world host.old) self.now b → IsSoundImage b.image → IsNextPlace b.image first → FindsRoom result b.image }
+        ensures full { (b : Base) → IsTrue H.tells → IsOpen (H.world host.old) self.now b → IsNextPlace b.image first → IsMapRead b.image first → IsSoundImage b.image → RefusesFull result b.image }
+        ensures tested { (b : Base) → IsTrue H.tells → IsOpen (H.world host.old) self.now b → IsNextPlace b.image first → IsMapRead b.image first → OnOk result (IsWayReady b.image first) }
         ensures below { OnOk result (first < 1048576) }
         ensures map { (b : Base) → IsTrue H.tells → IsOpen (H.world host.old) self.now b → (first < length b.image → map.old ≡ page_at b.image (inventory_of b.image first))
             → OnOk result (first < length b.image → map.new ≡ page_at b.image (inventory_of b.image first)) }
@@ -297,6 +296,7 @@ impl Opened {
         requires system { length system.old ≡ self.now.page_size }
         ensures test { (b : Base) → IsTrue H.tells → IsOpen (H.world host.old) self.now b → HasHeader b.image → IsSoundImage b.image
             → Tested result (no_room (new_page 8 (λ p. text_payload []) (drafted b.image)).0) }
+        ensures tested { (b : Base) → IsTrue H.tells → IsOpen (H.world host.old) self.now b → OnOk result (IsWayReady b.image 5) }
         ensures value { (b : Base) → IsTrue H.tells → IsOpen (H.world host.old) self.now b → IfOk result (λ page. page ≡ lowest_free b.image) }
         ensures map { (b : Base) → IsTrue H.tells → IsOpen (H.world host.old) self.now b → IfOk result (λ page. page < length b.image → map.new ≡ page_at b.image (inventory_of b.image page)) }
         ensures most { IfOk result (λ page. page < 1048576) }

@@ -1,8 +1,7 @@
-use Rattle.std.proofs.Common.{◌≡◌, ◌<◌, ℕ, length, sym, ap, ◌∙◌, arith}
+use Rattle.std.proofs.Common.{◌≡◌, ◌<◌, length, ap, ◌∙◌, arith}
 use Rattle.nb_fields.specs.Places.{bits_in}
 use Rattle.nb_fields.proofs.PlaceLemmas.{bits-least}
 use Rattle.nb_model.specs.Image.{page_at}
-use Rattle.nb_model.specs.Forms.{inventory_of}
 use Rattle.nb_engine.proofs.TestLaws.{inventory_place_is}
 use Rattle.nb_engine.proofs.FindLaws.{none_near, one_near}
 use Rattle.nb_engine.proofs.opened.Opened.free_near.Goals as goal
