@@ -1,6 +1,6 @@
 -- Writing the bit of a page: the inventory page's bytes, the strokes, and why they are refused.
-use Rattle.std.proofs.Common.{◌≡◌, ◌≢◌, ℕ, ◌+◌, ◌/◌, ◌<◌, inl, inr, List, [], ◌∷◌, ◌++◌, length, drop, refl, sym, ap, subst, ◌∙◌, arith}
-use Rattle.std.specs.Prelude.{Bool, true, IsTrue, Some, None, Result, Ok, Err, IsErr, IsErrAnd, slice_index}
+use Rattle.std.proofs.Common.{◌≡◌, ◌≢◌, ℕ, ◌+◌, ◌/◌, ◌<◌, List, [], ◌∷◌, ◌++◌, length, drop, refl, sym, ap, subst, ◌∙◌, arith}
+use Rattle.std.specs.Prelude.{Bool, true, IsTrue, Some, None, Result, Ok, Err, IsErr, IsErrAnd}
 use Rattle.std.proofs.lemmas.List.{take-set-le}
 use Rattle.nb_fields.specs.Bytes.{number_in}
 use Rattle.nb_fields.specs.Places.{is_page_size, entries_in}
@@ -20,7 +20,7 @@ use Rattle.nb_change.proofs.StrokeLaws.{reached_none, reached_front}
 use Rattle.nb_model.specs.Image.{Page, Image, page_at, image_size, image_scn}
 use Rattle.nb_model.specs.Account.{Base}
 use Rattle.nb_model.specs.Strokes.{Stroke, page, on_base, base_after}
-use Rattle.nb_model.specs.Forms.{Draft, drafted, needs, put, set_bit, with_bit, is_kind, inventory_of, bit_number}
+use Rattle.nb_model.specs.Forms.{Draft, drafted, put, set_bit, with_bit, is_kind, inventory_of, bit_number}
 use Rattle.nb_model.specs.Owner.{delta_name}
 use Rattle.nb_model.specs.Causes.{Cause, first_cause, not_kind, not_of_form, no_room}
 use Rattle.nb_model.proofs.BitLaws.{with_bit_length}
@@ -29,7 +29,7 @@ use Rattle.nb_engine.specs.Open.{Shows, IsOpen}
 use Rattle.nb_engine.specs.Turn.{Tested, WhereSettled}
 use Rattle.nb_engine.specs.Put.{entry_cause, raise_strokes, put_stroke}
 use Rattle.nb_engine.specs.Mark.{bit_for, mark_cause, bit_stroke, mark_stroke, marked}
-use Rattle.nb_engine.proofs.QuietDoes.{first_none, first_next, first_here}
+use Rattle.nb_engine.proofs.QuietDoes.{first_next, first_here}
 use Rattle.nb_engine.proofs.PutLaws.{Keeps, raise_keeps, raised_never, is_kind-parts, none_of, needs-found, put_strokes, put_form, put_room, put_refused}
 use Rattle.nb_engine.proofs.RaiseLaws.{stamped-over, strokes_left}
 use Rattle.nb_engine.proofs.EntryLaws.{entry_then_page, open_with_page}

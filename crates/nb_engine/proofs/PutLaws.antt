@@ -188,7 +188,6 @@ module _ (image : Image) (p : ℕ) where
   unfolding raised
   raised-one e = ap (λ (t : Bool). elim t as (λ z. Draft) [ true ↦ entry_raised p (needs 10 q before) | false ↦ before ]) e
 
-
   needs-broken : is_kind image 10 q ≡ false → needs 10 q before ≡ refused
   unfolding needs
   needs-broken e = ap (λ (t : Bool). elim t as (λ z. Draft) [ true ↦ before | false ↦ refused ]) e

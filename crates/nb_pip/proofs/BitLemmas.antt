@@ -87,13 +87,13 @@ exchanged zero old new bit v low high inside here others = absurd (omega (arith,
 exchanged (suc w) old new zero v low high inside here others =
     let double = pow-suc 2 w in
     let rest : new / 2 ≡ old / 2 = same_from_bits_below w (new / 2) (old / 2) (omega (arith, double, high)) (omega (arith, double, low))
-        (λ i h. sym (bit_at-suc new i) ∙ others (suc i) (omega (arith, h)) (λ e. absurd (omega (arith, e))) ∙ bit_at-suc old i) in
+    (λ i h. sym (bit_at-suc new i) ∙ others (suc i) (omega (arith, h)) (λ e. absurd (omega (arith, e))) ∙ bit_at-suc old i) in
     let now : new % 2 ≡ v = sym (bit_at_lowest new) ∙ here in
     omega (arith, rest, now, bit_at_lowest old)
 exchanged (suc w) old new (suc m) v low high inside here others =
     let double = pow-suc 2 w in
     let rest = exchanged w (old / 2) (new / 2) m v (omega (arith, double, low)) (omega (arith, double, high)) (omega (arith, inside)) (sym (bit_at-suc new m) ∙ here)
-        (λ i h ne. sym (bit_at-suc new i) ∙ others (suc i) (omega (arith, h)) (λ e. ne (omega (arith, e))) ∙ bit_at-suc old i) in
+    (λ i h ne. sym (bit_at-suc new i) ∙ others (suc i) (omega (arith, h)) (λ e. ne (omega (arith, e))) ∙ bit_at-suc old i) in
     let lowest : new % 2 ≡ old % 2 = sym (bit_at_lowest new) ∙ others 0 (omega arith) (λ e. absurd (omega (arith, e))) ∙ bit_at_lowest old in
     let was : bit_at old (suc m) * 2 ^ suc m ≡ 2 * (bit_at (old / 2) m * 2 ^ m) = ap (λ (t : ℕ). t * 2 ^ suc m) (bit_at-suc old m) ∙ ap (λ (x : ℕ). bit_at (old / 2) m * x) (pow-suc 2 m) ∙ omega arith in
     let is : v * 2 ^ suc m ≡ 2 * (v * 2 ^ m) = ap (λ (x : ℕ). v * x) (pow-suc 2 m) ∙ omega arith in

@@ -1,4 +1,4 @@
-use Rattle.std.proofs.Common.{◌≡◌, ℕ, ◌<◌, ◌%◌, sym, ap, ◌∙◌, subst, arith}
+use Rattle.std.proofs.Common.{ℕ, ◌%◌, sym, ap, ◌∙◌, arith}
 use Rattle.nb_fields.specs.Places.{bits_in}
 use Rattle.nb_model.proofs.SoundLaws.{inventory_place_some}
 use Rattle.nb_engine.specs.Put.{entry_cause}

@@ -1,4 +1,4 @@
-use Rattle.std.proofs.Common.{◌≡◌, ◌≤◌, [], ◌∷◌, length, sym, ap, subst, arith}
+use Rattle.std.proofs.Common.{◌≡◌, [], ◌∷◌, length, sym, ap, subst, arith}
 use Rattle.std.specs.Prelude.{OnOk, false, ◌==◌}
 use Rattle.nb_fields.specs.Bytes.{is_zeros}
 use Rattle.nb_change.specs.Change.{Advances, Reached}
