@@ -13,6 +13,7 @@ pub mod MakeLaws
 pub mod MarkLaws
 pub mod FreeLaws
 pub mod NewLaws
+pub mod NewTurn
 pub mod FindLaws
 pub mod PlaceTests
 pub mod RoundLaws

@@ -299,6 +299,7 @@ impl Opened {
         ensures tested { (b : Base) → IsTrue H.tells → IsOpen (H.world host.old) self.now b → OnOk result (IsWayReady b.image 5) }
         ensures value { (b : Base) → IsTrue H.tells → IsOpen (H.world host.old) self.now b → IfOk result (λ page. page ≡ lowest_free b.image) }
         ensures map { (b : Base) → IsTrue H.tells → IsOpen (H.world host.old) self.now b → IfOk result (λ page. page < length b.image → map.new ≡ page_at b.image (inventory_of b.image page)) }
+        ensures least { IfOk result (λ page. 5 ≤ page) }
         ensures most { IfOk result (λ page. page < 1048576) }
         ensures quiet { Quiet (H.world host.old) (H.world host.new) }
         ensures cause { CountsDevice result (H.faults host.old) (H.faults host.new) }

@@ -12,6 +12,7 @@ mod find;
 mod free;
 mod make;
 mod mark;
+mod new_page;
 mod opened;
 mod put;
 mod reads;
