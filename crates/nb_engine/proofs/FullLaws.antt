@@ -23,17 +23,17 @@ use Rattle.nb_engine.proofs.PlaceTests.{first_place, room_at}
 use Rattle.nb_engine.proofs.RoundLaws.{HasSystem, system_only, Takes, takes, Round, round}
 
 -- the place of a new page and what is before it
-lowest_place : (image : Image) → IsNextPlace image (lowest_free image)
+pub lowest_place : (image : Image) → IsNextPlace image (lowest_free image)
 lowest_place image = first_place image (lowest_free image) (sym (lowest_is image))
 
-lowest_finds : (image : Image) → Finds image (length image - 5) 5 (lowest_free image)
+pub lowest_finds : (image : Image) → Finds image (length image - 5) 5 (lowest_free image)
 lowest_finds image = subst (Finds image (length image - 5) 5) (lowest_is image) (finds (length image - 5) 5 image)
 
-lowest_most : (image : Image) → 5 ≤ length image → lowest_free image ≤ length image
+pub lowest_most : (image : Image) → 5 ≤ length image → lowest_free image ≤ length image
 lowest_most image least = let high = (lowest_finds image).high in omega arith
 
 -- behind a round the search is further on
-further : (x y : Image) → 5 ≤ length x → Round x y (lowest_free x) → lowest_free x < lowest_free y
+pub further : (x y : Image) → 5 ≤ length x → Round x y (lowest_free x) → lowest_free x < lowest_free y
 further x y least round =
     let p : ℕ = lowest_free x in
     let q : ℕ = lowest_free y in
@@ -140,7 +140,7 @@ chosen : (P : Draft → Type 0) (t : Bool) (x y : Draft) → P x → P y → P (
 chosen P true x y px py = px
 chosen P false x y px py = py
 
-needs_full : (kind p : ℕ) (d : Draft) → (needs kind p d).full ≡ d.full
+pub needs_full : (kind p : ℕ) (d : Draft) → (needs kind p d).full ≡ d.full
 unfolding needs
 needs_full kind p d = chosen (λ (e : Draft). e.full ≡ d.full) (is_kind d.image kind p) _ _ refl refl
 
@@ -152,11 +152,11 @@ raised_full : (p : ℕ) (d : Draft) → (raised p d).full ≡ d.full
 unfolding raised
 raised_full p d = chosen (λ (e : Draft). e.full ≡ d.full) (has_entry d.image p) _ _ (entry_full p _ ∙ needs_full 10 (scn_page_of d.image p) d) refl
 
-put_full : (p kind : ℕ) (payload : List ℕ) (d : Draft) → (put p kind payload d).full ≡ d.full
+pub put_full : (p kind : ℕ) (payload : List ℕ) (d : Draft) → (put p kind payload d).full ≡ d.full
 unfolding put written wrote
 put_full p kind payload d = raised_full p d
 
-take_full : (p : ℕ) (d : Draft) → (take_page p d).full ≡ d.full
+pub take_full : (p : ℕ) (d : Draft) → (take_page p d).full ≡ d.full
 unfolding set_bit
 take_full p d = put_full _ 2 _ _ ∙ needs_full 2 (inventory_of d.image p) d
 
@@ -165,11 +165,11 @@ unfolding needs_inventories
 inventories_full zero k d = refl
 inventories_full (suc count) k d = inventories_full count (k + 1) _ ∙ needs_full 2 (inventory_place (image_size d.image) k) d
 
-searched_full : (p : ℕ) (d : Draft) → (searched p d).full ≡ d.full
+pub searched_full : (p : ℕ) (d : Draft) → (searched p d).full ≡ d.full
 unfolding searched
 searched_full p d = inventories_full _ 0 d
 
-system_full : (p : ℕ) (d : Draft) → (system_page p d).full ≡ d.full
+pub system_full : (p : ℕ) (d : Draft) → (system_page p d).full ≡ d.full
 unfolding system_page
 system_full p d = chosen (λ (e : Draft). e.full ≡ d.full) (is_kind d.image (system_kind d.image p) p) _ _ refl (put_full p _ _ d)
 
@@ -179,31 +179,31 @@ unfolding needs_inventories
 inventories_image zero k d = refl
 inventories_image (suc count) k d = inventories_image count (k + 1) _ ∙ needs_image 2 (inventory_place (image_size d.image) k) d
 
-searched_image : (p : ℕ) (d : Draft) → (searched p d).image ≡ d.image
+pub searched_image : (p : ℕ) (d : Draft) → (searched p d).image ≡ d.image
 unfolding searched
 searched_image p d = inventories_image _ 0 d
 
 -- what is kept by each write, these forms keep
 module _ (P : Draft → Type 0) (kept : IsKept P) where
-  inventories_keep : (count k : ℕ) (d : Draft) → P d → P (needs_inventories count k d)
+  pub inventories_keep : (count k : ℕ) (d : Draft) → P d → P (needs_inventories count k d)
   unfolding needs_inventories
   inventories_keep zero k d h = h
   inventories_keep (suc count) k d h = inventories_keep count (k + 1) _ (needs_keeps P kept 2 _ d h)
 
-  searched_keeps : (p : ℕ) (d : Draft) → P d → P (searched p d)
+  pub searched_keeps : (p : ℕ) (d : Draft) → P d → P (searched p d)
   unfolding searched
   searched_keeps p d h = inventories_keep _ 0 d h
 
-  system_keeps : (p : ℕ) (d : Draft) → P d → P (system_page p d)
+  pub system_keeps : (p : ℕ) (d : Draft) → P d → P (system_page p d)
   unfolding system_page
   system_keeps p d h = chosen P (is_kind d.image (system_kind d.image p) p) _ _ h (put_keeps P kept p _ _ d h)
 
 -- the draft begins with these strokes
-record IsBehind (front : List Stroke) (d : Draft) : Type 0 where
-  rest : List Stroke
-  is : d.strokes ≡ front ++ rest
+pub record IsBehind (front : List Stroke) (d : Draft) : Type 0 where
+  pub rest : List Stroke
+  pub is : d.strokes ≡ front ++ rest
 
-behind_first : (d : Draft) → IsBehind d.strokes d
+pub behind_first : (d : Draft) → IsBehind d.strokes d
 behind_first d = record { rest = []; is = sym (append-nil d.strokes) }
 
 behind_wrote : (front : List Stroke) (p : ℕ) (bytes : Page) (d : Draft) → IsBehind front d → IsBehind front (wrote p bytes d)
@@ -214,7 +214,7 @@ behind_written : (front : List Stroke) (p kind : ℕ) (payload : List ℕ) (d : 
 unfolding written
 behind_written front p kind payload d h = behind_wrote front p _ d h
 
-behind_kept : (front : List Stroke) → IsKept (IsBehind front)
+pub behind_kept : (front : List Stroke) → IsKept (IsBehind front)
 behind_kept front = record {
   writes = behind_written front;
   reads = λ broken d h. record { rest = h.rest; is = h.is };
@@ -227,11 +227,11 @@ take_more (suc k) [] h = refl
 take_more zero (x ∷ xs) h = absurd (omega arith)
 take_more (suc k) (x ∷ xs) h = ap (λ (ys : List Stroke). x ∷ ys) (take_more k xs (omega arith))
 
-abbrev empty : ℕ → List ℕ
+abbrev pub empty : ℕ → List ℕ
 empty p = text_payload []
 
 -- one try by its two tests
-try_is : (tries : ℕ) (d : Draft) (t u : Bool) → (lowest_free d.image == 1048576) ≡ t → is_system_place (image_size d.image) (lowest_free d.image) ≡ u
+pub try_is : (tries : ℕ) (d : Draft) (t u : Bool) → (lowest_free d.image == 1048576) ≡ t → is_system_place (image_size d.image) (lowest_free d.image) ≡ u
     → new_within (suc tries) 8 empty d
     ≡ elim t as (λ z. Draft × ℕ) [
       | true ↦ (no_page (searched (lowest_free d.image) d), lowest_free d.image)
@@ -259,19 +259,19 @@ last_is d = refl
 
 -- A new raw page in a sound image. Each draft that its search comes to is a front of the whole, and so its image is sound.
 module _ (image : Image) (header : HasHeader image) (sound : IsSoundImage image) where
-  abbrev b : Base
+  abbrev pub b : Base
   b = base_of image
 
-  abbrev Any : Image → Type 0
+  abbrev pub Any : Image → Type 0
   Any x = Unit {0}
 
-  abbrev whole : Draft
+  abbrev pub whole : Draft
   whole = (new_page 8 empty (drafted image)).0
 
-  whole_holds : Throughout (Held Any) b whole
+  pub whole_holds : Throughout (Held Any) b whole
   whole_holds = new_raw_holds Any (λ bytes. Unit {0}) (record { inventories = λ bytes e. tt; scn_pages = λ bytes e. tt }) (λ bytes e. tt) (λ x q bytes fields is fits any also. tt) image header sound tt
 
-  front_holds : (d : Draft) → IsOf b d → IsBehind d.strokes whole → Throughout (Held Any) b d
+  pub front_holds : (d : Draft) → IsOf b d → IsBehind d.strokes whole → Throughout (Held Any) b d
   front_holds d is behind = record { is = is; each = each }
     where
       each : (k : ℕ) → Held Any (base_after b (take k d.strokes)).image
@@ -294,24 +294,25 @@ module _ (image : Image) (header : HasHeader image) (sound : IsSoundImage image)
   pub comes_first : ComesTo (length image + 4) (drafted image)
   comes_first = record { is = drafted_is b; ends = refl }
 
-  behind_whole : (tries : ℕ) (d : Draft) (front : List Stroke) → ComesTo tries d → IsBehind front d → IsBehind front whole
+  pub behind_whole : (tries : ℕ) (d : Draft) (front : List Stroke) → ComesTo tries d → IsBehind front d → IsBehind front whole
   behind_whole tries d front comes behind = subst (IsBehind front) comes.ends (new_keeps (IsBehind front) (behind_kept front) tries 8 empty d behind)
 
   pub comes_sound : (tries : ℕ) (d : Draft) → ComesTo tries d → Held Any d.image
   comes_sound tries d comes = holds_now (Held Any) b d (front_holds d comes.is (behind_whole tries d d.strokes comes (behind_first d)))
 
   -- the draft behind a system page
-  abbrev mid : Draft → Draft
+  abbrev pub mid : Draft → Draft
   mid d = system_page (lowest_free d.image) (searched (lowest_free d.image) d)
 
-  abbrev next : Draft → Draft
+  abbrev pub next : Draft → Draft
   next d = take_page (lowest_free d.image) (mid d)
 
-  record Goes (tries : ℕ) (d : Draft) : Type 0 where
-    comes : ComesTo tries (next d)
-    round : Round d.image (next d).image (lowest_free d.image)
+  -- what is known behind a round: the search comes to the next draft, and no bit has changed but that of the place
+  pub record Goes (tries : ℕ) (d : Draft) : Type 0 where
+    pub comes : ComesTo tries (next d)
+    pub round : Round d.image (next d).image (lowest_free d.image)
 
-  comes_next : (tries : ℕ) (d : Draft) → ComesTo (suc tries) d → (lowest_free d.image == 1048576) ≡ false → is_system_place (image_size d.image) (lowest_free d.image) ≡ true → ComesTo tries (next d)
+  pub comes_next : (tries : ℕ) (d : Draft) → ComesTo (suc tries) d → (lowest_free d.image == 1048576) ≡ false → is_system_place (image_size d.image) (lowest_free d.image) ≡ true → ComesTo tries (next d)
   comes_next tries d comes below system = record {
     is = set_bit_keeps (IsOf b) (drafts_are b) 0 (lowest_free d.image) (mid d)
         (system_keeps (IsOf b) (drafts_are b) (lowest_free d.image) _ (searched_keeps (IsOf b) (drafts_are b) (lowest_free d.image) d comes.is));
@@ -319,13 +320,13 @@ module _ (image : Image) (header : HasHeader image) (sound : IsSoundImage image)
   }
 
   -- the draft with the system page, before it is taken
-  mid_holds : (tries : ℕ) (d : Draft) → ComesTo (suc tries) d → ComesTo tries (next d) → Throughout (Held Any) b (mid d)
+  pub mid_holds : (tries : ℕ) (d : Draft) → ComesTo (suc tries) d → ComesTo tries (next d) → Throughout (Held Any) b (mid d)
   mid_holds tries d comes then =
       let p : ℕ = lowest_free d.image in
       front_holds (mid d) (system_keeps (IsOf b) (drafts_are b) p _ (searched_keeps (IsOf b) (drafts_are b) p d comes.is))
       (behind_whole tries (next d) (mid d).strokes then (set_bit_keeps (IsBehind (mid d).strokes) (behind_kept (mid d).strokes) 0 p (mid d) (behind_first (mid d))))
 
-  mid_system : (d : Draft) → HasFields d.image → IsSoundImage d.image → is_system_place (image_size d.image) (lowest_free d.image) ≡ true → HasSystem d.image (mid d).image (lowest_free d.image)
+  pub mid_system : (d : Draft) → HasFields d.image → IsSoundImage d.image → is_system_place (image_size d.image) (lowest_free d.image) ≡ true → HasSystem d.image (mid d).image (lowest_free d.image)
   mid_system d fields is system =
       let p : ℕ = lowest_free d.image in
       let same : (searched p d).image ≡ d.image = searched_image p d in
@@ -334,7 +335,7 @@ module _ (image : Image) (header : HasHeader image) (sound : IsSoundImage image)
       (system_only p (searched p d) (subst HasFields (sym same) fields) (subst IsSoundImage (sym same) is) least
       (subst (λ (x : Image). p ≤ length x) (sym same) (lowest_most d.image is.least)) (subst (λ (x : Image). is_system_place (image_size x) p ≡ true) (sym same) system))
 
-  goes : (tries : ℕ) (d : Draft) → ComesTo (suc tries) d → (lowest_free d.image == 1048576) ≡ false → is_system_place (image_size d.image) (lowest_free d.image) ≡ true → Goes tries d
+  pub goes : (tries : ℕ) (d : Draft) → ComesTo (suc tries) d → (lowest_free d.image == 1048576) ≡ false → is_system_place (image_size d.image) (lowest_free d.image) ≡ true → Goes tries d
   goes tries d comes below system =
       let p : ℕ = lowest_free d.image in
       let held : Held Any d.image = comes_sound (suc tries) d comes in

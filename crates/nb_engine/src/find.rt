@@ -18,6 +18,7 @@ ghost use Rattle.nb_engine.specs.Find.{AreTaken, IsFreeNear, IsNextPlace, IsMapR
 
 use crate::Opened;
 use nb_fields::PageKind;
+use nb_fields::layouts::inventory::BITS_AT;
 use nb_host::{Fault, Host, Refusal};
 use nb_pip::{covers, lowest_free, place_of};
 
@@ -34,7 +35,8 @@ fn behind_bits(size: u32, number: u32) -> u32
     ensures { result ≡ (number / bits_in size + 1) * bits_in size }
 {
     let (_, bit) = covers(size, number);
-    number - bit + 8 * (size - 32)
+    // Each byte behind the place of the bits has eight of them.
+    number - bit + 8 * (size - BITS_AT as u32)
 }
 
 /// Whether a system page stands at page `number`.
