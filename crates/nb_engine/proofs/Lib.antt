@@ -10,5 +10,12 @@ pub mod RaiseLaws
 pub mod EntryLaws
 pub mod WriteLaws
 pub mod AttachLaws
+pub mod MakeLaws
 pub mod MarkLaws
 pub mod FreeLaws
+pub mod NewLaws
+pub mod NewTurn
+pub mod FindLaws
+pub mod PlaceTests
+pub mod RoundLaws
+pub mod FullLaws

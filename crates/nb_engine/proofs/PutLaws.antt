@@ -157,11 +157,11 @@ pub must_raise-is : (image : Image) (p : ℕ) → has_entry image p ≡ true →
 must_raise-is image p e = ap (λ (t : Bool). t && nat_lt (scn_entry image p) (image_scn image)) e
 
 -- The draft after the raise is that of the database after it.
-record Raises (b : Base) (p : ℕ) (d : Draft) : Type 0 where
-  strokes : d.strokes ≡ raise_strokes b.image p
-  broken : d.broken ≡ []
-  full : d.full ≡ false
-  image : d.image ≡ (base_after b (raise_strokes b.image p)).image
+pub record Raises (b : Base) (p : ℕ) (d : Draft) : Type 0 where
+  pub strokes : d.strokes ≡ raise_strokes b.image p
+  pub broken : d.broken ≡ []
+  pub full : d.full ≡ false
+  pub image : d.image ≡ (base_after b (raise_strokes b.image p)).image
 
 -- an inventory page that is of the form is found so
 pub needs-found : (image : Image) (kind p : ℕ) → is_kind image kind p ≡ true → needs kind p (drafted image) ≡ drafted image
@@ -239,7 +239,7 @@ written_draft b p none must =
           ∙ sym (one_stroke b q (stamped (page_at b.image q) 10 payload (image_scn b.image) q)) ∙ ap (λ (ss : List Stroke). (base_after b ss).image) (sym one);
     }
 
-draft_raised : (b : Base) (p : ℕ) → entry_cause b.image p ≡ None → Raises b p (raised p (drafted b.image))
+pub draft_raised : (b : Base) (p : ℕ) → entry_cause b.image p ≡ None → Raises b p (raised p (drafted b.image))
 draft_raised b p none = by (has_entry b.image p) (nat_lt (scn_entry b.image p) (image_scn b.image)) refl refl
   where
     is : (has_entry b.image p ≡ true) → is_kind b.image 10 (scn_page_of b.image p) ≡ true

@@ -3,5 +3,7 @@ pub mod Create
 pub mod Turn
 pub mod Put
 pub mod Mark
+pub mod Make
 pub mod Replies
 pub mod Attach
+pub mod Find

@@ -2,7 +2,7 @@
 use Rattle.std.specs.Prelude.{ℕ}
 use Rattle.arrayvec.specs.ArrayVec.{ArrayVec}
 use Rattle.nb_model.specs.declared.reply.Reply.{Reply}
-use Rattle.nb_model.specs.declared.reply.Reply.TheVariants.{Done, Value}
+use Rattle.nb_model.specs.declared.reply.Reply.TheVariants.{Done, PageMade, Value}
 
 -- `ok`
 abbrev pub done : Unit {0} → Reply
@@ -11,3 +11,7 @@ done value = Done
 -- the text
 abbrev pub valued : ArrayVec ℕ → Reply
 valued text = Value text.items
+
+-- the number of a new page
+abbrev pub page_made : ℕ → Reply
+page_made number = PageMade number

@@ -10,8 +10,11 @@
 mod attach;
 mod create;
 mod engine;
+mod find;
 mod free;
+mod make;
 mod mark;
+mod new_page;
 mod opened;
 mod put;
 mod reads;

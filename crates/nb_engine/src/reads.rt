@@ -1,5 +1,5 @@
 // Pages of an open database are read, and tested as far as a statement needs it. Nothing changes.
-ghost use Rattle.std.specs.Prelude.{◌≡◌, ◌≢◌, ◌<◌, ◌≤◌, IsTrue, IfErr, OnOk, length};
+ghost use Rattle.std.specs.Prelude.{◌≡◌, ◌≢◌, ◌+◌, ◌<◌, ◌≤◌, IsTrue, IfErr, OnOk, length};
 ghost use Rattle.nb_fields.specs.Kinds.{code_of};
 ghost use Rattle.nb_fields.specs.Places.{is_page_size};
 ghost use Rattle.nb_host.specs.declared.faults.Fault.TheVariants.{Memory};
@@ -33,6 +33,7 @@ impl Opened {
         ensures test { (b : Base) → IsTrue H.tells → IsOpen (H.world host.old) self.now b → Tested result (not_kind b.image (code_of kind) place) }
         ensures page { (b : Base) → IsTrue H.tells → IsOpen (H.world host.old) self.now b → OnOk result (into.new ≡ page_at b.image place) }
         ensures quiet { Quiet (H.world host.old) (H.world host.new) }
+        ensures reads { IsTrue H.tells → (H.world host.new).reads ≤ (H.world host.old).reads + 1 }
         ensures cause { CountsDevice result (H.faults host.old) (H.faults host.new) }
         ensures takes_none { IfErr result (λ fault. fault ≢ Memory) }
     {

@@ -1,5 +1,5 @@
 // The file of a database in the normal state, page by page.
-ghost use Rattle.std.specs.Prelude.{◌≡◌, ◌<◌, ◌≤◌, [], ◌∷◌, IsTrue, false, length, OnOk};
+ghost use Rattle.std.specs.Prelude.{◌≡◌, ◌+◌, ◌<◌, ◌≤◌, [], ◌∷◌, IsTrue, false, length, OnOk};
 ghost use Rattle.nb_fields.specs.Bytes.{is_zeros};
 ghost use Rattle.nb_fields.specs.Places.{is_page_size};
 ghost use Rattle.nb_host.specs.Causes.{CountsFault};
@@ -25,6 +25,7 @@ pub fn read_page<H: Host>(
     ensures page { (b : Base) → IsTrue H.tells → IsSettled (H.world host.old) name.now b → image_size b.image ≡ length into.old → number < length b.image
         → OnOk result (into.new ≡ page_at b.image number) }
     ensures quiet { Quiet (H.world host.old) (H.world host.new) }
+    ensures reads { IsTrue H.tells → (H.world host.new).reads ≤ (H.world host.old).reads + 1 }
     ensures cause { CountsFault result (H.faults host.old) (H.faults host.new) }
 {
     if !host.read_page(name, number, into)? {

@@ -49,6 +49,20 @@ other_bit n (suc m) (suc i) b small other =
     let rest : with_number_bit n (suc m) b / 2 ≡ with_number_bit (n / 2) m b = omega arith in
     bit_at-suc (with_number_bit n (suc m) b) i ∙ ap (λ (x : ℕ). bit_at x i) rest ∙ other_bit (n / 2) m i b small (λ same. other (ap suc same)) ∙ sym (bit_at-suc n i)
 
+-- the bit itself
+this_bit : (n m b : ℕ) → b ≤ 1 → bit_at (with_number_bit n m b) m ≡ b
+this_bit n zero b small = bit_at_lowest (with_number_bit n 0 b) ∙ omega (arith, bit_at_lowest n)
+this_bit n (suc m) b small =
+    let e = half n m b in
+    let rest : with_number_bit n (suc m) b / 2 ≡ with_number_bit (n / 2) m b = omega arith in
+    bit_at-suc (with_number_bit n (suc m) b) m ∙ ap (λ (x : ℕ). bit_at x m) rest ∙ this_bit (n / 2) m b small
+
+pub bit_here : (k bit : ℕ) (inventory : Page) → bit ≤ 1 → 32 + k / 8 < length inventory → bit_of (with_bit k bit inventory) k ≡ bit
+unfolding with_bit
+bit_here k bit inventory small inside =
+    let byte : ℕ = slice_index inventory (32 + k / 8) in
+    ap (λ (n : ℕ). bit_at n (k % 8)) (get_or-set_same inventory (32 + k / 8) (with_number_bit byte (k % 8) bit) 0 inside) ∙ this_bit byte (k % 8) bit small
+
 -- the other bits of a page with one bit written
 pub bit_else : (k j bit : ℕ) (inventory : Page) → bit ≤ 1 → 32 + k / 8 < length inventory → j ≢ k → bit_of (with_bit k bit inventory) j ≡ bit_of inventory j
 unfolding with_bit

@@ -55,7 +55,7 @@ module _ (P : Draft → Type 0) (kept : IsKept P) where
   unfolding searched
   searched_keeps p d h = inventories_keep _ 0 d h
 
-  system_keeps : (p : ℕ) (d : Draft) → P d → P (system_page p d)
+  pub system_keeps : (p : ℕ) (d : Draft) → P d → P (system_page p d)
   unfolding system_page
   system_keeps p d h = either P (is_kind d.image (system_kind d.image p) p) _ _ h (put_keeps p _ _ d h)
 

@@ -26,7 +26,9 @@ pub mod PastLaws
 pub mod HeadSound
 pub mod BitLaws
 pub mod BitSound
+pub mod DraftJoin
 pub mod NewSound
+pub mod RoundLaws
 pub mod NormalLaws
 pub mod StandsLaws
 pub mod OutputLaws

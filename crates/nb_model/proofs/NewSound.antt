@@ -27,13 +27,13 @@ use Rattle.nb_model.proofs.PastLaws.{no_history, page_past}
 use Rattle.nb_model.proofs.BitSound.{bit_holds}
 
 -- no page is of both kinds of inventory
-places_apart : (size p : ℕ) → IsTrue (is_page_size size) → is_inventory_place size p ≡ true → is_scn_place size p ≡ true → ⊥
+pub places_apart : (size p : ℕ) → IsTrue (is_page_size size) → is_inventory_place size p ≡ true → is_scn_place size p ≡ true → ⊥
 places_apart size p is inventory scn =
     let e : code_of Inventory ≡ code_of ScnInventory = ap code_of (sym (kind_inventory size p is inventory) ∙ kind_scn size p is scn) in
     absurd (omega arith)
 
 -- the inventory page of a page stands before it
-inventory_before : (size p : ℕ) → IsTrue (is_page_size size) → 2 ≤ p → inventory_place size (p / bits_in size) < p
+pub inventory_before : (size p : ℕ) → IsTrue (is_page_size size) → 2 ≤ p → inventory_place size (p / bits_in size) < p
 inventory_before size p is behind =
     let least = bits-least size is in
     let low : p / bits_in size * bits_in size ≤ p = omega arith in
@@ -57,7 +57,7 @@ free_between (suc left) p image = let rest = free_between left (p + 1) image in 
     by_test low high true = (omega arith, omega arith)
     by_test low high false = (omega arith, omega arith)
 
-lowest_between : (image : Image) → 5 ≤ length image → (5 ≤ lowest_free image) × (lowest_free image ≤ length image)
+pub lowest_between : (image : Image) → 5 ≤ length image → (5 ≤ lowest_free image) × (lowest_free image ≤ length image)
 unfolding lowest_free
 lowest_between image least = let found = free_between (length image - 5) 5 image in (found.0, omega (arith, found.1))
 
@@ -67,7 +67,7 @@ unfolding needs_inventories
 inventories_image zero k d = refl
 inventories_image (suc count) k d = inventories_image count (k + 1) _ ∙ needs_image 2 (inventory_place (image_size d.image) k) d
 
-searched_image : (p : ℕ) (d : Draft) → (searched p d).image ≡ d.image
+pub searched_image : (p : ℕ) (d : Draft) → (searched p d).image ≡ d.image
 unfolding searched
 searched_image p d = inventories_image _ 0 d
 
@@ -162,16 +162,16 @@ module _ (x : Image) (p : ℕ) (fields : HasFields x) (is : IsSoundImage x) (at 
           omega (arith, all_current (entry_number x q) inside);
     }
 
-stamped_kind : (old : Page) (kind : ℕ) (payload : List ℕ) (scn number : ℕ) → kind_of (stamped old kind payload scn number) ≡ kind
+pub stamped_kind : (old : Page) (kind : ℕ) (payload : List ℕ) (scn number : ℕ) → kind_of (stamped old kind payload scn number) ≡ kind
 unfolding stamped
 stamped_kind old kind payload scn number = kind_of-page_of (length old) kind _ scn number payload
 
-plain_place : (size p : ℕ) → is_system_place size p ≡ false → (is_inventory_place size p ≡ false) × (is_scn_place size p ≡ false)
+pub plain_place : (size p : ℕ) → is_system_place size p ≡ false → (is_inventory_place size p ≡ false) × (is_scn_place size p ≡ false)
 unfolding is_system_place
 plain_place size p none = or_parts (is_inventory_place size p) (is_scn_place size p) none
 
 -- a system page by its kind and its payload
-system_is : (p kind : ℕ) (payload : List ℕ) (d : Draft) → system_kind d.image p ≡ kind → system_payload d.image p ≡ payload → system_page p d ≡ elim (is_kind d.image kind p) as (λ z. Draft) [ true ↦ d | false ↦ put p kind payload d ]
+pub system_is : (p kind : ℕ) (payload : List ℕ) (d : Draft) → system_kind d.image p ≡ kind → system_payload d.image p ≡ payload → system_page p d ≡ elim (is_kind d.image kind p) as (λ z. Draft) [ true ↦ d | false ↦ put p kind payload d ]
 unfolding system_page
 system_is p kind payload d e f =
     ap (λ (k : ℕ). elim (is_kind d.image k p) as (λ z. Draft) [ true ↦ d | false ↦ put p k (system_payload d.image p) d ]) e
@@ -185,11 +185,11 @@ pub record HoldsOfKinds (K : Page → Type 0) : Type 0 where
 module _ (Q : Image → Type 0) (K : Page → Type 0) (kinds : HoldsOfKinds K)
     (step : (image : Image) (p : ℕ) (bytes : Page) → HasFields image → IsSoundImage image → FitsAt image p bytes → K bytes → Q image → Q (with_page p bytes image)) (b : Base) where
   -- a draft in which page p is there
-  record IsThere (p : ℕ) (d : Draft) : Type 0 where
-    through : Throughout (Held Q) b d
-    below : p < length d.image
+  pub record IsThere (p : ℕ) (d : Draft) : Type 0 where
+    pub through : Throughout (Held Q) b d
+    pub below : p < length d.image
 
-  put_there : (image : Image) (p kind : ℕ) (payload : List ℕ) (d : Draft) → IsPlace image p → IsPut Q b image p kind payload d → IsThere p d
+  pub put_there : (image : Image) (p kind : ℕ) (payload : List ℕ) (d : Draft) → IsPlace image p → IsPut Q b image p kind payload d → IsThere p d
   put_there image p kind payload d at h = record {
     through = h.through;
     below =
@@ -199,7 +199,7 @@ module _ (Q : Image → Type 0) (K : Page → Type 0) (kinds : HoldsOfKinds K)
   }
 
   -- a page that is there is taken
-  taken_holds : (p : ℕ) (d : Draft) → 2 ≤ p → IsThere p d → Throughout (Held Q) b (take_page p d)
+  pub taken_holds : (p : ℕ) (d : Draft) → 2 ≤ p → IsThere p d → Throughout (Held Q) b (take_page p d)
   taken_holds p d behind h =
       let held : Held Q d.image = holds_now (Held Q) b d h.through in
       let low = h.below in
@@ -246,7 +246,7 @@ module _ (Q : Image → Type 0) (K : Page → Type 0) (kinds : HoldsOfKinds K)
       ))
 
   -- so a system page is there
-  system_there : (p : ℕ) (d : Draft) → is_system_place (image_size d.image) p ≡ true → IsPlace d.image p → Throughout (Held Q) b d → IsThere p (system_page p d)
+  pub system_there : (p : ℕ) (d : Draft) → is_system_place (image_size d.image) p ≡ true → IsPlace d.image p → Throughout (Held Q) b d → IsThere p (system_page p d)
   unfolding system_payload is_system_place
   system_there p d place at through = by_kind (is_inventory_place (image_size d.image) p) refl
     where
@@ -329,7 +329,7 @@ module _ (Q : Image → Type 0) (K : Page → Type 0) (kinds : HoldsOfKinds K)
       by_end again true none = full_holds (Held Q) b read read_holds
       by_end again false below = by_place again (at_place below) (is_system_place (image_size d.image) p) refl
 
-empty_text : (p : ℕ) → length (text_payload []) ≤ 1008
+pub empty_text : (p : ℕ) → length (text_payload []) ≤ 1008
 unfolding text_payload bytes_of
 empty_text p = omega arith
 

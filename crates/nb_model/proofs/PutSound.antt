@@ -93,7 +93,7 @@ module _ (image : Image) (p kind : ℕ) (payload : List ℕ) (fields : HasFields
           true≢false (sym there ∙ plain.no_scn_page)
 
 -- the SCN page of a page with an entry is there
-scn_page_below : (image : Image) (p : ℕ) → HasFields image → 5 ≤ length image → IsPlace image p → has_entry image p ≡ true → scn_page_of image p < length image
+pub scn_page_below : (image : Image) (p : ℕ) → HasFields image → 5 ≤ length image → IsPlace image p → has_entry image p ≡ true → scn_page_of image p < length image
 scn_page_below image p fields least at has =
     let place : is_scn_place (image_size image) (scn_page_of image p) ≡ true = scn_page_there (image_size image) (p / entries_in (image_size image)) fields.size in
     let other : scn_page_of image p ≢ p = λ e. true≢false (sym has ∙ scn_no_entry image p (ap (is_scn_place (image_size image)) (sym e) ∙ place)) in
@@ -239,7 +239,7 @@ unfolding merged_page
 whole_page zero bytes image h = absurd (omega arith)
 whole_page (suc p) bytes image h = refl
 
-written_image : (p kind : ℕ) (payload : List ℕ) (d : Draft) → 1 ≤ p → (written p kind payload d).image ≡ with_page p (stamped (old_page p d.image) kind payload (image_scn d.image) p) d.image
+pub written_image : (p kind : ℕ) (payload : List ℕ) (d : Draft) → 1 ≤ p → (written p kind payload d).image ≡ with_page p (stamped (old_page p d.image) kind payload (image_scn d.image) p) d.image
 unfolding written wrote
 written_image p kind payload d h = ap (λ (bytes : Page). with_page p bytes d.image) (whole_page p (stamped (old_page p d.image) kind payload (image_scn d.image) p) d.image h)
 
@@ -258,9 +258,9 @@ pub record Raises (image x : Image) (p : ℕ) : Type 0 where
   pub current : has_entry x p ≡ true → scn_entry x p ≡ image_scn x
 
 -- a draft whose image is the image with that entry raised
-record IsRaised (Q : Image → Type 0) (b : Base) (image : Image) (p : ℕ) (d : Draft) : Type 0 where
-  through : Throughout (Held Q) b d
-  raises : Raises image d.image p
+pub record IsRaised (Q : Image → Type 0) (b : Base) (image : Image) (p : ℕ) (d : Draft) : Type 0 where
+  pub through : Throughout (Held Q) b d
+  pub raises : Raises image d.image p
 
 -- What `put` leaves: the image with the entry of page p raised, and then with that page.
 pub record IsPut (Q : Image → Type 0) (b : Base) (image : Image) (p kind : ℕ) (payload : List ℕ) (d : Draft) : Type 0 where
@@ -310,7 +310,7 @@ module _ (Q : Image → Type 0) (K : Page → Type 0) (scn_pages : (bytes : Page
         rw (w.0, entry_raised) (record { through = through; raises = record { size = refl; scn = refl; long = refl; others = λ q other. refl; current = λ also. omega (arith, w.1) } })
   ]
 
-  is_raised : (b : Base) (p : ℕ) (d : Draft) → Throughout (Held Q) b d → IsPlace d.image p → IsRaised Q b d.image p (raised p d)
+  pub is_raised : (b : Base) (p : ℕ) (d : Draft) → Throughout (Held Q) b d → IsPlace d.image p → IsRaised Q b d.image p (raised p d)
   unfolding raised
   is_raised b p d through at = by_test (has_entry d.image p) refl
     where

@@ -1,3 +1,4 @@
 pub mod BitLemmas
+pub mod FillLemmas
 pub mod LowestLemmas
 pub mod PlaceLemmas

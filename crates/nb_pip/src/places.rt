@@ -1,4 +1,4 @@
-ghost use Rattle.std.specs.Prelude.{◌≡◌, ◌↔◌, ℕ, ◌/◌, ◌%◌, ◌^◌, ◌<◌, IsTrue};
+ghost use Rattle.std.specs.Prelude.{◌≡◌, ◌↔◌, ℕ, ◌+◌, ◌/◌, ◌%◌, ◌^◌, ◌<◌, IsTrue};
 ghost use Rattle.nb_fields.specs.Places.{is_page_size, bits_in, inventory_place, is_inventory_place};
 
 // How many bits an inventory page of that size has.
@@ -42,4 +42,13 @@ pub fn covers(size: u32, page: u32) -> (u32, u32)
 {
     let bits = bits_in(size);
     (page / bits, page % bits)
+}
+
+/// The number of the inventory page that stands at that page.
+pub fn index_of(size: u32, page: u32) -> u32
+    requires size { IsTrue (is_page_size size) }
+    requires page { page < 2 ^ 20 }
+    ensures { result ≡ (page + 1) / bits_in size }
+{
+    (page + 1) / bits_in(size)
 }

@@ -1,0 +1,20 @@
+use Rattle.std.proofs.Common.{◌≡◌, ◌-◌, ◌≤◌, IsTrue}
+use Rattle.nb_page.specs.Quiet.{Quiet}
+use Rattle.nb_model.specs.Account.{Base}
+use Rattle.nb_engine.specs.Open.{IsOpen}
+use Rattle.nb_engine.specs.Find.{IsNextPlace, IsMapRead}
+use Rattle.nb_engine.proofs.PlaceTests.{AreReady}
+use Rattle.nb_engine.proofs.opened.Opened.check_places.Given as goal
+
+abbrev pub invariant-loop-place : goal.invariant-loop-place
+invariant-loop-place g l = record {
+  behind : l.fn.first ≤ l.place;
+  next : (b : Base) → IsTrue g.H.Host.tells → IsOpen (g.H.Host.world l.fn.host) l.self b → IsNextPlace b.image l.fn.first → IsNextPlace b.image l.place;
+  read : (b : Base) → IsTrue g.H.Host.tells → IsOpen (g.H.Host.world l.fn.host) l.self b → IsMapRead b.image l.fn.first → IsMapRead b.image l.place;
+  ready : (b : Base) → IsTrue g.H.Host.tells → IsOpen (g.H.Host.world l.fn.host) l.self b → IsMapRead b.image l.fn.first → AreReady b.image l.fn.first l.place;
+  quiet : Quiet (g.H.Host.world l.fn.host) (g.H.Host.world l.host);
+  cause : g.H.Host.faults l.host ≡ g.H.Host.faults l.fn.host;
+}
+
+abbrev pub decreases-loop-place : goal.decreases-loop-place
+decreases-loop-place g l = 1048576 - l.place

@@ -1,0 +1,502 @@
+-- A round of the search for a new page in a sound image: what it finds, what it leaves, and where the search goes on.
+use Rattle.std.proofs.Common.{◌≡◌, ◌≢◌, inl, inr, ℕ, zero, suc, ◌+◌, ◌-◌, ◌*◌, ◌/◌, ◌%◌, ◌<◌, ◌≤◌, List, [], ◌∷◌, ◌++◌, length, drop, replicate, refl, sym, ap, subst, ◌∙◌, arith, length-drop, mul-le-mul_right, div-add-mod'}
+use Rattle.std.specs.Prelude.{Bool, true, false, ◌||◌, ◌==◌, nat_lt, IsTrue}
+use Rattle.std.proofs.lemmas.Bool.{true≢false, and_from, or_parts, or_cases, ltb-true, lt-ltb, eq-eqb, eqb-false}
+use Rattle.std.proofs.lemmas.Bool.Decides.{leb_tells, eqb_tells}
+use Rattle.nb_fields.specs.Places.{is_page_size, entries_in, bits_in, inventory_place, is_inventory_place, is_scn_place, is_system_place}
+use Rattle.nb_fields.specs.Page.{kind_of, stamped}
+use Rattle.nb_fields.specs.Payloads.{bit_of, text_payload}
+use Rattle.nb_fields.proofs.SizeLemmas.{SizeFacts, size_facts}
+use Rattle.nb_fields.proofs.PlaceLemmas.{bits-least}
+use Rattle.nb_model.specs.Image.{Page, Image, page_at, image_size, image_scn, with_page}
+use Rattle.nb_model.specs.Account.{Base, base_of}
+use Rattle.nb_model.specs.Strokes.{Stroke, page}
+use Rattle.nb_model.specs.Forms.{Draft, drafted, old_page, wrote, written, needs, is_kind, inventory_of, scn_page_of, bit_number, has_entry, scn_entry, is_free_page, entry_written, entry_raised, raised, put, with_bit, set_bit, take_page, free_from, lowest_free, needs_inventories, searched, system_kind, system_payload, system_page, no_page, new_within}
+use Rattle.nb_model.specs.Sound.{IsSoundImage}
+use Rattle.nb_model.proofs.StrokeLaws.{with_page_same, with_page_other}
+use Rattle.nb_model.proofs.SoundLaws.{all_at, inventory_there, inventory_place_some, scn_page_there, scn_place_some, HasFields, scn_no_entry, with_page_length}
+use Rattle.nb_model.proofs.PutSound.{IsPlace, IsPlain, Raises, IsRaised, is_raised, Held, Throughout, at_first, holds_now, scn_page_below, written_image, plain_holds}
+use Rattle.nb_model.proofs.BitLaws.{bit_else, bit_here, with_bit_length, bit_behind, one_bit}
+use Rattle.nb_model.proofs.NewSound.{HoldsOfKinds, IsThere, places_apart, inventory_before, lowest_between, plain_place, put_there, taken_holds, system_there}
+use Rattle.nb_model.proofs.ReadLaws.{eq_no}
+use Rattle.nb_model.proofs.DraftJoin.{joined, joined_new, join_set_bit, join_new}
+
+abbrev Any : Image → Type 0
+Any image = Unit {0}
+
+abbrev AnyPage : Page → Type 0
+AnyPage bytes = Unit {0}
+
+-- a sound image with the fields of a header
+abbrev pub Well : Image → Type 0
+Well = Held Any
+
+pub well : (image : Image) → HasFields image → IsSoundImage image → Well image
+well image fields sound = record { fields = fields; sound = sound; also = tt }
+
+any_kinds : HoldsOfKinds AnyPage
+any_kinds = record { inventories = λ bytes e. tt; scn_pages = λ bytes e. tt }
+
+started : (image : Image) → Well image → Throughout Well (base_of image) (drafted image)
+started image h = at_first Well (base_of image) h
+
+-- a page of that kind is found
+pub kind_found : (image : Image) (kind p : ℕ) → p < length image → kind_of (page_at image p) ≡ kind → is_kind image kind p ≡ true
+unfolding is_kind
+kind_found image kind p low same = and_from (nat_lt p (length image)) (kind_of (page_at image p) == kind) (lt-ltb p (length image) low) (eq-eqb (kind_of (page_at image p)) kind same)
+
+needs_found : (image : Image) (kind p : ℕ) → is_kind image kind p ≡ true → needs kind p (drafted image) ≡ drafted image
+unfolding needs
+needs_found image kind p is = rw (is, needs) refl
+
+-- What is written at a place of a sound image.
+module _ (image : Image) (h : Well image) (p : ℕ) (at : IsPlace image p) where
+  abbrev before : Draft
+  before = raised p (drafted image)
+
+  pub raises : Raises image before.image p
+  raises = (is_raised Any AnyPage (λ bytes e. tt) (λ x q bytes fields sound fits k also. tt) (base_of image) p (drafted image) (started image h) at).raises
+
+  -- the SCN page of its entry is there
+  pub scn_page_found : has_entry image p ≡ true → is_kind image 10 (scn_page_of image p) ≡ true
+  scn_page_found has =
+      let low = scn_page_below image p h.fields h.sound.least at has in
+      kind_found image 10 (scn_page_of image p) low (h.sound.sound.system.scn_pages (scn_page_of image p) low (scn_page_there (image_size image) (p / entries_in (image_size image)) h.fields.size))
+
+  raised_none : has_entry image p ≡ false → before ≡ drafted image
+  unfolding raised
+  raised_none none = ap (λ (t : Bool). elim t as (λ z. Draft) [ true ↦ entry_raised p (needs 10 (scn_page_of image p) (drafted image)) | false ↦ drafted image ]) none
+
+  raised_one : has_entry image p ≡ true → before ≡ entry_raised p (drafted image)
+  unfolding raised
+  raised_one has =
+      ap (λ (t : Bool). elim t as (λ z. Draft) [ true ↦ entry_raised p (needs 10 (scn_page_of image p) (drafted image)) | false ↦ drafted image ]) has
+      ∙ ap (entry_raised p) (needs_found image 10 (scn_page_of image p) (scn_page_found has))
+
+  entry_unbroken : (entry_raised p (drafted image)).broken ≡ []
+  unfolding entry_raised entry_written written wrote
+  entry_unbroken = by (nat_lt (scn_entry image p) (image_scn image))
+    where
+      by : (t : Bool) → (elim t as (λ z. Draft) [ true ↦ entry_written p (drafted image) | false ↦ drafted image ]).broken ≡ []
+      by true = refl
+      by false = refl
+
+  raised_unbroken : before.broken ≡ []
+  raised_unbroken = by (has_entry image p) refl
+    where
+      by : (t : Bool) → has_entry image p ≡ t → before.broken ≡ []
+      by true e = ap (λ (d : Draft). d.broken) (raised_one e) ∙ entry_unbroken
+      by false e = ap (λ (d : Draft). d.broken) (raised_none e)
+
+  -- the page itself is as it was when its entry was raised
+  raised_same : page_at before.image p ≡ page_at image p
+  raised_same = by (has_entry image p) refl
+    where
+      by : (t : Bool) → has_entry image p ≡ t → page_at before.image p ≡ page_at image p
+      by true e = raises.others p (λ same. true≢false (sym e ∙ scn_no_entry image p (subst (λ (n : ℕ). is_scn_place (image_size image) n ≡ true) (sym same) (scn_page_there (image_size image) (p / entries_in (image_size image)) h.fields.size))))
+      by false e = ap (λ (d : Draft). page_at d.image p) (raised_none e)
+
+  raised_old : old_page p before.image ≡ old_page p image
+  unfolding old_page
+  raised_old =
+      ap (λ (n : ℕ). elim (nat_lt p n) as (λ z. Page) [ true ↦ page_at before.image p | false ↦ replicate (image_size before.image) 0 ]) raises.long
+      ∙ ap (λ (x : Page). elim (nat_lt p (length image)) as (λ z. Page) [ true ↦ x | false ↦ replicate (image_size before.image) 0 ]) raised_same
+      ∙ ap (λ (n : ℕ). elim (nat_lt p (length image)) as (λ z. Page) [ true ↦ page_at image p | false ↦ replicate n 0 ]) raises.size
+
+  module _ (kind : ℕ) (payload : List ℕ) where
+    abbrev bytes : Page
+    bytes = stamped (old_page p image) kind payload (image_scn image) p
+
+    same_bytes : stamped (old_page p before.image) kind payload (image_scn before.image) p ≡ bytes
+    same_bytes = ap (λ (x : Page). stamped x kind payload (image_scn before.image) p) raised_old ∙ ap (λ (n : ℕ). stamped (old_page p image) kind payload n p) raises.scn
+
+    -- nothing that it needs is broken
+    pub put_unbroken : (put p kind payload (drafted image)).broken ≡ []
+    unfolding put written wrote
+    put_unbroken = raised_unbroken
+
+    -- its strokes are those of the entry, and then the page as it stood before
+    pub put_strokes : (put p kind payload (drafted image)).strokes ≡ before.strokes ++ page p bytes ∷ []
+    unfolding put written wrote
+    put_strokes = ap (λ (x : Page). before.strokes ++ page p x ∷ []) same_bytes
+
+    put_image : (put p kind payload (drafted image)).image ≡ with_page p bytes before.image
+    unfolding put
+    put_image = written_image p kind payload before at.behind ∙ ap (λ (x : Page). with_page p x before.image) same_bytes
+
+    below_end : p ≤ length before.image
+    below_end = let low = at.there in omega (arith, raises.long)
+
+    pub put_long : p < length image → length (put p kind payload (drafted image)).image ≡ length image
+    put_long low = ap length put_image ∙ with_page_length p bytes before.image below_end ∙ omega (arith, raises.long, low)
+
+    pub put_here : page_at (put p kind payload (drafted image)).image p ≡ bytes
+    put_here = ap (λ (x : Image). page_at x p) put_image ∙ with_page_same p bytes before.image below_end
+
+    -- no page changes but that and the page of its entry
+    pub put_other : (r : ℕ) → r ≢ p → r ≢ scn_page_of image p → page_at (put p kind payload (drafted image)).image r ≡ page_at image r
+    put_other r ne entry = ap (λ (x : Image). page_at x r) put_image ∙ with_page_other p r bytes before.image below_end ne ∙ raises.others r entry
+
+    pub put_size : image_size (put p kind payload (drafted image)).image ≡ image_size image
+    put_size =
+        ap (λ (x : Page). Rattle.nb_fields.specs.Header.size_of x)
+        (put_other 0 (λ e. absurd (let some = at.behind in omega (arith, e))) (λ e. absurd (let two = scn_place_some (image_size image) (p / entries_in (image_size image)) h.fields.size in omega (arith, e))))
+
+    -- nor does a page inventory page, where that is none
+    pub put_inventory : (k : ℕ) → inventory_place (image_size image) k ≢ p → page_at (put p kind payload (drafted image)).image (inventory_place (image_size image) k) ≡ page_at image (inventory_place (image_size image) k)
+    put_inventory k ne =
+        let r : ℕ = inventory_place (image_size image) k in
+        let place : is_inventory_place (image_size image) r ≡ true = inventory_there (image_size image) k h.fields.size in
+        put_other r ne (λ e. places_apart (image_size image) r h.fields.size place (subst (λ (n : ℕ). is_scn_place (image_size image) n ≡ true) (sym e) (scn_page_there (image_size image) (p / entries_in (image_size image)) h.fields.size)))
+
+-- the bit of a page by its inventory page
+bit_by : (image after : Image) (q : ℕ) → image_size after ≡ image_size image → page_at after (inventory_of image q) ≡ page_at image (inventory_of image q) → is_free_page after q ≡ is_free_page image q
+unfolding is_free_page
+bit_by image after q size same =
+    ap (λ (s : ℕ). bit_of (page_at after (inventory_place s (q / bits_in s))) (q % bits_in s) == 1) size ∙ ap (λ (x : Page). bit_of x (bit_number image q) == 1) same
+
+-- a page that is written keeps the bits of the pages up to it
+pub put_bits : (image : Image) → Well image → (p kind : ℕ) (payload : List ℕ) → IsPlace image p → (q : ℕ) → 2 ≤ q → q ≤ p → is_free_page (put p kind payload (drafted image)).image q ≡ is_free_page image q
+put_bits image h p kind payload at q two le =
+    let before = inventory_before (image_size image) q h.fields.size two in
+    bit_by image _ q (put_size image h p at kind payload) (put_inventory image h p at kind payload (q / bits_in (image_size image)) (λ e. absurd (omega (arith, e, before, le))))
+
+-- A page that is taken.
+module _ (image : Image) (h : Well image) (p : ℕ) (two : 2 ≤ p) (low : p < length image) where
+  abbrev i : ℕ
+  i = inventory_of image p
+
+  abbrev row : Page
+  row = with_bit (bit_number image p) 0 (page_at image i)
+
+  abbrev taken : Draft
+  taken = put i 2 (drop 16 row) (drafted image)
+
+  i_before : i < p
+  i_before = inventory_before (image_size image) p h.fields.size two
+
+  i_low : i < length image
+  i_low = omega (arith, i_before, low)
+
+  i_place : IsPlace image i
+  i_place = record { behind = inventory_place_some (image_size image) (p / bits_in (image_size image)) h.fields.size; there = omega (arith, i_low); most = let most = h.sound.most in omega (arith, i_low) }
+
+  i_found : is_kind image 2 i ≡ true
+  i_found = kind_found image 2 i i_low (h.sound.sound.system.inventories i i_low (inventory_there (image_size image) (p / bits_in (image_size image)) h.fields.size))
+
+  pub take_is : take_page p (drafted image) ≡ taken
+  unfolding set_bit
+  take_is = ap (put i 2 (drop 16 row)) (needs_found image 2 i i_found)
+
+  pub take_unbroken : (take_page p (drafted image)).broken ≡ []
+  take_unbroken = ap (λ (d : Draft). d.broken) take_is ∙ put_unbroken image h i i_place 2 (drop 16 row)
+
+  pub take_well : Well (take_page p (drafted image)).image
+  take_well = holds_now Well (base_of image) _ (taken_holds Any AnyPage any_kinds (λ x q bytes fields sound fits k also. tt) (base_of image) p (drafted image) two (record { through = started image h; below = low }))
+
+  take_size : image_size (take_page p (drafted image)).image ≡ image_size image
+  take_size = ap (λ (d : Draft). image_size d.image) take_is ∙ put_size image h i i_place 2 (drop 16 row)
+
+  -- the image is no shorter
+  pub take_long : p < length (take_page p (drafted image)).image
+  take_long = (taken_there).1
+    where
+      taken_there : (length (take_page p (drafted image)).image ≡ length image) × (p < length (take_page p (drafted image)).image)
+      taken_there =
+          let long : length (put i 2 (drop 16 row) (drafted image)).image ≡ length image = put_long image h i i_place 2 (drop 16 row) i_low in
+          let same : length (take_page p (drafted image)).image ≡ length image = ap (λ (d : Draft). length d.image) take_is ∙ long in
+          (same, omega (arith, same, low))
+
+  i_long : length (page_at image i) ≡ image_size image
+  i_long = all_at (λ x. length x ≡ image_size image) image h.sound.sizes i i_low
+
+  old_is : old_page i image ≡ page_at image i
+  unfolding old_page
+  old_is = rw (lt-ltb i (length image) i_low, old_page) refl
+
+  -- a bit of that inventory page
+  row_bit : (j : ℕ) → bit_of (page_at taken.image i) j ≡ bit_of row j
+  row_bit j =
+      let facts : SizeFacts (image_size image) = size_facts (image_size image) h.fields.size in
+      ap (λ (x : Page). bit_of x j) (put_here image h i i_place 2 (drop 16 row))
+      ∙ bit_behind (old_page i image) 2 (image_scn image) i j row (with_bit_length (bit_number image p) 0 (page_at image i) ∙ ap length (sym old_is)) (omega (arith, facts.at_least, i_long, ap length old_is))
+
+  inside : 32 + bit_number image p / 8 < length (page_at image i)
+  inside =
+      let facts : SizeFacts (image_size image) = size_facts (image_size image) h.fields.size in
+      let least = bits-least (image_size image) h.fields.size in
+      let below : bit_number image p < bits_in (image_size image) = omega arith in
+      omega (arith, facts.at_least, i_long)
+
+  -- its bit says taken
+  pub take_here : is_free_page (take_page p (drafted image)).image p ≡ false
+  unfolding is_free_page
+  take_here =
+      let bit : bit_of (page_at taken.image i) (bit_number image p) ≡ 0 = row_bit (bit_number image p) ∙ bit_here (bit_number image p) 0 (page_at image i) (omega arith) inside in
+      ap (λ (s : ℕ). bit_of (page_at (take_page p (drafted image)).image (inventory_place s (p / bits_in s))) (p % bits_in s) == 1) take_size
+      ∙ ap (λ (d : Draft). bit_of (page_at d.image i) (bit_number image p) == 1) take_is ∙ ap (λ (n : ℕ). n == 1) bit
+
+  -- and the other bits are as they were
+  pub take_other : (q : ℕ) → q ≢ p → is_free_page (take_page p (drafted image)).image q ≡ is_free_page image q
+  unfolding is_free_page
+  take_other q other =
+      ap (λ (s : ℕ). bit_of (page_at (take_page p (drafted image)).image (inventory_place s (q / bits_in s))) (q % bits_in s) == 1) take_size
+      ∙ ap (λ (d : Draft). bit_of (page_at d.image (inventory_of image q)) (bit_number image q) == 1) take_is ∙ ap (λ (n : ℕ). n == 1) by
+    where
+      by : bit_of (page_at taken.image (inventory_of image q)) (bit_number image q) ≡ bit_of (page_at image (inventory_of image q)) (bit_number image q)
+      by = elim (eqb_tells (inventory_of image q) i) [
+        | inl w ↦
+            ap (λ (n : ℕ). bit_of (page_at taken.image n) (bit_number image q)) w.1 ∙ row_bit (bit_number image q)
+            ∙ bit_else (bit_number image p) (bit_number image q) 0 (page_at image i) (omega arith) inside (λ e. other (one_bit (image_size image) p q h.fields.size w.1 e))
+            ∙ ap (λ (n : ℕ). bit_of (page_at image n) (bit_number image q)) (sym w.1)
+        | inr w ↦ ap (λ (x : Page). bit_of x (bit_number image q)) (put_inventory image h i i_place 2 (drop 16 row) (q / bits_in (image_size image)) w.1)
+      ]
+
+-- the inventory pages that a search reads are there
+inventories_found : (image : Image) → Well image → (p count k : ℕ) → p ≤ length image → 2 ≤ p → k + count ≤ p / bits_in (image_size image) + 1 → needs_inventories count k (drafted image) ≡ drafted image
+unfolding needs_inventories
+inventories_found image h p zero k low two few = refl
+inventories_found image h p (suc count) k low two few =
+    let size : ℕ = image_size image in
+    let inside : k * bits_in size ≤ p = below_multiple k p (bits_in size) (omega (arith, few)) in
+    let r : ℕ = inventory_place size k in
+    let there : r < length image = omega (arith, before_page size p k h.fields.size two inside, low) in
+    ap (needs_inventories count (k + 1)) (needs_found image 2 r (kind_found image 2 r there (h.sound.sound.system.inventories r there (inventory_there size k h.fields.size))))
+    ∙ inventories_found image h p count (k + 1) low two (omega (arith, few))
+  where
+    below_multiple : (k p n : ℕ) → k ≤ p / n → k * n ≤ p
+    below_multiple k p n le = omega (arith, mul-le-mul_right n le, div-add-mod' p n)
+
+    before_page : (size p k : ℕ) → IsTrue (is_page_size size) → 2 ≤ p → k * bits_in size ≤ p → inventory_place size k < p
+    before_page size p zero is two le = omega (arith, two)
+    before_page size p (suc k) is two le = let least = bits-least size is in let more : bits_in size ≤ suc k * bits_in size = omega arith in omega (arith, le, more, least)
+
+pub searched_found : (image : Image) → Well image → (p : ℕ) → p ≤ length image → 2 ≤ p → searched p (drafted image) ≡ drafted image
+unfolding searched
+searched_found image h p low two = inventories_found image h p (p / bits_in (image_size image) + 1) 0 low two (omega arith)
+
+-- A round at a system place: its system page is there, and it is taken.
+abbrev pub round : ℕ → Image → Draft
+round p image = take_page p (system_page p (drafted image))
+
+module _ (image : Image) (h : Well image) (p : ℕ) (at : IsPlace image p) (place : is_system_place (image_size image) p ≡ true) where
+  abbrev made : Draft
+  made = system_page p (drafted image)
+
+  system_either : (P : Draft → Type 0) → P (drafted image) → P (put p (system_kind image p) (system_payload image p) (drafted image)) → P made
+  unfolding system_page
+  system_either P here written = by (is_kind image (system_kind image p) p)
+    where
+      by : (t : Bool) → P (elim t as (λ z. Draft) [ true ↦ drafted image | false ↦ put p (system_kind image p) (system_payload image p) (drafted image) ])
+      by true = here
+      by false = written
+
+  there : IsThere Any AnyPage any_kinds (λ x q bytes fields sound fits k also. tt) (base_of image) p made
+  there = system_there Any AnyPage any_kinds (λ x q bytes fields sound fits k also. tt) (base_of image) p (drafted image) place at (started image h)
+
+  pub system_well : Well made.image
+  system_well = holds_now Well (base_of image) made there.through
+
+  pub system_low : p < length made.image
+  system_low = there.below
+
+  pub system_unbroken : made.broken ≡ []
+  system_unbroken = system_either (λ d. d.broken ≡ []) refl (put_unbroken image h p at (system_kind image p) (system_payload image p))
+
+  pub system_bits : (q : ℕ) → 2 ≤ q → q ≤ p → is_free_page made.image q ≡ is_free_page image q
+  system_bits q two le = system_either (λ d. is_free_page d.image q ≡ is_free_page image q) refl (put_bits image h p (system_kind image p) (system_payload image p) at q two le)
+
+  module _ (two : 2 ≤ p) where
+    abbrev last : Draft
+    last = take_page p (drafted made.image)
+
+    round_is : round p image ≡ joined made last
+    round_is = join_set_bit 0 p made
+
+    -- its strokes in order
+    pub round_strokes : (round p image).strokes ≡ made.strokes ++ last.strokes
+    round_strokes = ap (λ (d : Draft). d.strokes) round_is
+
+    pub round_image : (round p image).image ≡ last.image
+    round_image = ap (λ (d : Draft). d.image) round_is
+
+    pub round_unbroken : (round p image).broken ≡ []
+    round_unbroken = ap (λ (d : Draft). d.broken) round_is ∙ ap (λ (ps : List ℕ). ps ++ made.broken) (take_unbroken made.image system_well p two system_low) ∙ system_unbroken
+
+    pub round_well : Well (round p image).image
+    round_well = subst Well (sym round_image) (take_well made.image system_well p two system_low)
+
+    -- the place is taken then, and the pages before it are as they were
+    pub round_here : is_free_page (round p image).image p ≡ false
+    round_here = ap (λ (x : Image). is_free_page x p) round_image ∙ take_here made.image system_well p two system_low
+
+    pub round_before : (q : ℕ) → 2 ≤ q → q < p → is_free_page (round p image).image q ≡ is_free_page image q
+    round_before q second before =
+        ap (λ (x : Image). is_free_page x q) round_image ∙ take_other made.image system_well p two system_low q (λ e. absurd (omega (arith, e, before))) ∙ system_bits q second (omega (arith, before))
+
+-- A page that is no system page is made at its place, and taken.
+module _ (image : Image) (h : Well image) (p kind : ℕ) (payload : List ℕ) (at : IsPlace image p) (plain : is_system_place (image_size image) p ≡ false) (some : (kind == 0) ≡ false) (room : length payload ≤ 1008) where
+  abbrev put_at : Draft
+  put_at = put p kind payload (drafted image)
+
+  is_there : IsThere Any AnyPage any_kinds (λ x q bytes fields sound fits k also. tt) (base_of image) p put_at
+  is_there =
+      let places = plain_place (image_size image) p plain in
+      let size : SizeFacts (image_size image) = size_facts (image_size image) h.fields.size in
+      put_there Any AnyPage any_kinds (λ x q bytes fields sound fits k also. tt) (base_of image) image p kind payload put_at at
+      (plain_holds Any AnyPage (λ bytes e. tt) (λ x q bytes fields sound fits k also. tt) (base_of image) p kind payload (drafted image) (started image h)
+      (record { place = at; no_inventory = places.0; no_scn_page = places.1 }) some (omega (arith, size.at_least, room)) (λ bytes e. tt))
+
+  pub plain_well : Well put_at.image
+  plain_well = holds_now Well (base_of image) put_at is_there.through
+
+  pub plain_low : p < length put_at.image
+  plain_low = is_there.below
+
+  -- its strokes in order
+  pub last_strokes : (take_page p put_at).strokes ≡ put_at.strokes ++ (take_page p (drafted put_at.image)).strokes
+  last_strokes = ap (λ (d : Draft). d.strokes) (join_set_bit 0 p put_at)
+
+  pub last_unbroken : 2 ≤ p → (take_page p put_at).broken ≡ []
+  last_unbroken two =
+      ap (λ (d : Draft). d.broken) (join_set_bit 0 p put_at) ∙ ap (λ (ps : List ℕ). ps ++ put_at.broken) (take_unbroken put_at.image plain_well p two plain_low) ∙ put_unbroken image h p at kind payload
+
+-- no page before the one that is found is free
+free_before : (left p : ℕ) (image : Image) (q : ℕ) → p ≤ q → q < free_from left p image → is_free_page image q ≡ false
+unfolding free_from
+free_before zero p image q from low = absurd (omega (arith, from, low))
+free_before (suc left) p image q from low = by (λ more rest. free_before left (p + 1) image q more rest) (is_free_page image p) refl low
+  where
+    by : (p + 1 ≤ q → q < free_from left (p + 1) image → is_free_page image q ≡ false) → (t : Bool) → is_free_page image p ≡ t → q < (elim t as (λ z. ℕ) [ true ↦ p | false ↦ free_from left (p + 1) image ]) → is_free_page image q ≡ false
+    by rest true is less = absurd (omega (arith, from, less))
+    by rest false is less = elim (eqb_tells q p) [
+      | inl w ↦ ap (is_free_page image) w.1 ∙ is
+      | inr w ↦ rest (omega (arith, from, w.1)) less
+    ]
+
+pub lowest_before : (image : Image) (q : ℕ) → 5 ≤ q → q < lowest_free image → is_free_page image q ≡ false
+unfolding lowest_free
+lowest_before image q from low = free_before (length image - 5) 5 image q from low
+
+free_next : (left p : ℕ) (image : Image) → is_free_page image p ≡ false → free_from (suc left) p image ≡ free_from left (p + 1) image
+unfolding free_from
+free_next left p image used = ap (λ (t : Bool). elim t as (λ z. ℕ) [ true ↦ p | false ↦ free_from left (p + 1) image ]) used
+
+-- taken pages are passed over
+free_behind : (n left p : ℕ) (image : Image) → ((q : ℕ) → p ≤ q → q < p + n → is_free_page image q ≡ false) → free_from (n + left) p image ≡ free_from left (p + n) image
+free_behind zero left p image used = ap (λ (m : ℕ). free_from m p image) (let e : 0 + left ≡ left = omega arith in e) ∙ ap (λ (m : ℕ). free_from left m image) (let e : p ≡ p + 0 = omega arith in e)
+free_behind (suc n) left p image used =
+    ap (λ (m : ℕ). free_from m p image) (let e : suc n + left ≡ suc (n + left) = omega arith in e)
+    ∙ free_next (n + left) p image (used p (omega arith) (omega arith))
+    ∙ free_behind n left (p + 1) image (λ q from low. used q (omega (arith, from)) (omega (arith, low)))
+    ∙ ap (λ (m : ℕ). free_from left m image) (let e : p + 1 + n ≡ p + suc n = omega arith in e)
+
+-- so the search goes on behind a page up to which all are taken
+pub lowest_behind : (image : Image) (p : ℕ) → 5 ≤ p → p < length image → ((q : ℕ) → 5 ≤ q → q ≤ p → is_free_page image q ≡ false) → lowest_free image ≡ free_from (length image - (p + 1)) (p + 1) image
+unfolding lowest_free
+lowest_behind image p five low used =
+    ap (λ (m : ℕ). free_from m 5 image) (let e : length image - 5 ≡ (p - 4) + (length image - (p + 1)) = omega (arith, five, low) in e)
+    ∙ free_behind (p - 4) (length image - (p + 1)) 5 image (λ q from less. used q from (omega (arith, less, five)))
+    ∙ ap (λ (m : ℕ). free_from (length image - (p + 1)) m image) (let e : 5 + (p - 4) ≡ p + 1 = omega (arith, five) in e)
+
+-- what holds at the lowest free page, where a page is left
+pub record IsFound (image : Image) (tries p : ℕ) : Type 0 where
+  pub left : ℕ
+  pub tries_is : tries ≡ suc left
+  pub five : 5 ≤ p
+  pub at : IsPlace image p
+
+module _ (image : Image) (h : Well image) (kind : ℕ) (payload : ℕ → List ℕ) where
+  abbrev p : ℕ
+  p = lowest_free image
+
+  abbrev new : ℕ → Draft × ℕ
+  new tries = new_within tries kind payload (drafted image)
+
+  between : (5 ≤ p) × (p ≤ length image)
+  between = lowest_between image h.sound.least
+
+  read : searched p (drafted image) ≡ drafted image
+  read = searched_found image h p between.1 (omega (arith, between.0))
+
+  -- the choice of a round by its tests
+  abbrev by_place : ℕ → Draft → Bool → Draft × ℕ
+  by_place left d t = elim t as (λ z. Draft × ℕ) [
+    | true ↦ new_within left kind payload (take_page p (system_page p d))
+    | false ↦ (take_page p (put p kind (payload p) d), p)
+  ]
+
+  abbrev by_end : ℕ → Draft → Bool → Bool → Draft × ℕ
+  by_end left d t u = elim t as (λ z. Draft × ℕ) [ true ↦ (no_page d, p) | false ↦ by_place left d u ]
+
+  new_is : (left : ℕ) → new (suc left) ≡ by_end left (searched p (drafted image)) (p == 1048576) (is_system_place (image_size image) p)
+  unfolding new_within
+  new_is left = refl
+
+  new_by : (left : ℕ) (t u : Bool) → (p == 1048576) ≡ t → is_system_place (image_size image) p ≡ u → new (suc left) ≡ by_end left (drafted image) t u
+  new_by left t u e f =
+      new_is left ∙ ap (λ (d : Draft). by_end left d (p == 1048576) (is_system_place (image_size image) p)) read
+      ∙ ap (λ (x : Bool). by_end left (drafted image) x (is_system_place (image_size image) p)) e ∙ ap (λ (x : Bool). by_end left (drafted image) t x) f
+
+  none_full : (new zero).0.full ≡ true
+  unfolding new_within
+  none_full = refl
+
+  end_full : (left : ℕ) → (p == 1048576) ≡ true → (new (suc left)).0.full ≡ true
+  end_full left e = ap (λ (x : Draft × ℕ). x.0.full) (new_by left true (is_system_place (image_size image) p) e refl)
+
+  pub found : (tries : ℕ) → (new tries).0.full ≡ false → IsFound image tries p
+  found zero room = absurd (true≢false (sym none_full ∙ room))
+  found (suc left) room = by (p == 1048576) refl
+    where
+      by : (t : Bool) → (p == 1048576) ≡ t → IsFound image (suc left) p
+      by true e = absurd (true≢false (sym (end_full left e) ∙ room))
+      by false e =
+          let most = h.sound.most in
+          record { left = left; tries_is = refl; five = between.0; at = record { behind = omega (arith, between.0); there = between.1; most = omega (arith, between.1, most, eqb-false p 1048576 e) } }
+
+  -- a system place, and then on
+  pub new_more : (left : ℕ) → p < 1048576 → is_system_place (image_size image) p ≡ true → new (suc left) ≡ joined_new (round p image) (new_within left kind payload (drafted (round p image).image))
+  new_more left below place = new_by left false true (eq_no p 1048576 (λ e. absurd (omega (arith, e, below)))) place ∙ join_new left kind payload (round p image)
+
+  -- or the new page
+  pub new_last : (left : ℕ) → p < 1048576 → is_system_place (image_size image) p ≡ false → new (suc left) ≡ (take_page p (put p kind (payload p) (drafted image)), p)
+  new_last left below place = new_by left false false (eq_no p 1048576 (λ e. absurd (omega (arith, e, below)))) place
+
+  -- where the search goes on
+  pub new_next : is_system_place (image_size image) p ≡ true → p < 1048576 → (q : ℕ) → 5 ≤ q → q ≤ p → is_free_page (round p image).image q ≡ false
+  new_next place below q five le =
+      let at : IsPlace image p = record { behind = omega (arith, between.0); there = between.1; most = below } in
+      elim (eqb_tells q p) [
+        | inl w ↦ ap (is_free_page (round p image).image) w.1 ∙ round_here image h p at place (omega (arith, between.0))
+        | inr w ↦ round_before image h p at place (omega (arith, between.0)) q (omega (arith, five)) (omega (arith, le, w.1)) ∙ lowest_before image q five (omega (arith, le, w.1))
+      ]
+
+-- a new page needs no inventory page that isn't of the form
+pub new_unbroken : (tries kind : ℕ) (payload : ℕ → List ℕ) (image : Image) → Well image → (kind == 0) ≡ false → ((p : ℕ) → length (payload p) ≤ 1008) → (new_within tries kind payload (drafted image)).0.broken ≡ []
+unfolding new_within
+new_unbroken zero kind payload image h some room = refl
+new_unbroken (suc left) kind payload image h some room = by_full (λ x well_x. new_unbroken left kind payload x well_x some room) (p == 1048576) refl
+  where
+    p : ℕ
+    p = lowest_free image
+
+    bounds : (5 ≤ p) × (p ≤ length image)
+    bounds = lowest_between image h.sound.least
+
+    at : (p == 1048576) ≡ false → IsPlace image p
+    at e = let most = h.sound.most in record { behind = omega (arith, bounds.0); there = bounds.1; most = omega (arith, bounds.1, most, eqb-false p 1048576 e) }
+
+    two : 2 ≤ p
+    two = omega (arith, bounds.0)
+
+    by_system : ((x : Image) → Well x → (new_within left kind payload (drafted x)).0.broken ≡ []) → (below : (p == 1048576) ≡ false) → (u : Bool) → is_system_place (image_size image) p ≡ u
+        → (new_within (suc left) kind payload (drafted image)).0.broken ≡ []
+    by_system rest below true f =
+        ap (λ (x : Draft × ℕ). x.0.broken) (new_more image h kind payload left (at below).most f)
+        ∙ ap (λ (ps : List ℕ). ps ++ (round p image).broken) (rest (round p image).image (round_well image h p (at below) f two)) ∙ round_unbroken image h p (at below) f two
+    by_system rest below false f = ap (λ (x : Draft × ℕ). x.0.broken) (new_last image h kind payload left (at below).most f) ∙ last_unbroken image h p kind (payload p) (at below) f some (room p) two
+
+    by_full : ((x : Image) → Well x → (new_within left kind payload (drafted x)).0.broken ≡ []) → (t : Bool) → (p == 1048576) ≡ t → (new_within (suc left) kind payload (drafted image)).0.broken ≡ []
+    by_full rest true e = ap (λ (x : Draft × ℕ). x.0.broken) (new_by image h kind payload left true (is_system_place (image_size image) p) e refl)
+    by_full rest false e = by_system rest e (is_system_place (image_size image) p) refl
