@@ -1,12 +1,12 @@
 -- How a run of calls on one file goes on.
-use Rattle.std.proofs.Common.{◌≡◌, ◌≢◌, ℕ, List, refl, sym, ◌∙◌, ap}
-use Rattle.nb_host.specs.Files.{File, Files}
+use Rattle.std.proofs.Common.{◌≡◌, ◌≢◌, ℕ, List, refl, ◌∙◌, ap}
+use Rattle.nb_host.specs.Files.{Files}
 use Rattle.nb_host.specs.World.{World}
-use Rattle.nb_host.specs.Crash.{Leaves, Untouched}
+use Rattle.nb_host.specs.Crash.{Untouched}
 use Rattle.nb_host.specs.Calls.{IsStill}
 use Rattle.nb_host.specs.Moments.{IsNow, IsTimely, Passes, AtEachMoment}
 use Rattle.nb_change.specs.Change.{SaysNothing}
-use Rattle.nb_change.specs.Apart.{ApartLeft, Apart}
+use Rattle.nb_change.specs.Apart.{Apart}
 use Rattle.nb_change.proofs.MomentLaws.{started, goes_on, joined, weaker, left_before, untouched_joined, untouched_fewer, untouched_begun}
 
 module _ (name : List ℕ) where

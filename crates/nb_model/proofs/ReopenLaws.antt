@@ -7,12 +7,12 @@ use Rattle.nb_model.specs.declared.reply.Reply.TheVariants.{Opened, Refused}
 use Rattle.nb_model.specs.declared.statement.Statement.{Statement}
 use Rattle.nb_model.specs.declared.statement.Statement.TheVariants.{OpenDb}
 use Rattle.nb_model.specs.Image.{image_state}
-use Rattle.nb_model.specs.Account.{Kept, Base, Entry, IsBase, Account}
+use Rattle.nb_model.specs.Account.{Kept, Base, IsBase, Account}
 use Rattle.nb_model.specs.Strokes.{base_in, base_after, records_after}
 use Rattle.nb_model.specs.Causes.{Cause}
 use Rattle.nb_model.specs.Owner.{not_opened}
 use Rattle.nb_model.specs.Outcomes.{Given}
-use Rattle.nb_model.specs.Run.{Event, Now, Opening, account_after, base_now, begun, done_opening, opening, opening_unless, refused_opening}
+use Rattle.nb_model.specs.Run.{Now, Opening, account_after, base_now, begun, done_opening, opening, opening_unless, refused_opening}
 use Rattle.nb_model.proofs.RunLaws.{base_in_base}
 use Rattle.nb_model.proofs.OpeningLaws.{after_here, after_others, after_kept}
 
