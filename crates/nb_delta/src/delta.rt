@@ -261,8 +261,8 @@ impl Delta {
     }
 
     /// Brings the drafted entries into the file's table and keeps the file for good, with its slots. The slot of each
-    /// drafted entry was written by `rewrite` since it was drafted. Where no entry is drafted it makes no call. At a fault
-    /// they are drafted still, and a stop leaves the table with some of them, the first ones, or with none.
+    /// drafted entry was written by `rewrite` since it was drafted. Where no entry is drafted it makes no call. After a
+    /// fault they are drafted still, and the table has none of them, all, or the first ones.
     pub fn write_entries<H: Host>(&mut self, host: &mut H) -> Result<(), HostFault>
         ensures done { OnOk result (self.new ≡ record self.old { drafted = 0 }) }
         ensures not_done { OnErr result (self.new ≡ self.old) }

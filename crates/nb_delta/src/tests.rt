@@ -312,20 +312,24 @@ fn wrong_front(
     Ok(None)
 }
 
+/// The first call at which a stop leaves no front of the entries, or the work is done too early or too late.
+fn wrong_stop(alloc: Global, made: &MemHost, name: &Name) -> Result<Option<u64>, Fail> {
+    for stop in 1..12 {
+        let mut host = MemHost::fused(alloc, stop)?;
+        host.put_file(name, made.file(name).unwrap_or(b""))?;
+        let is_done = fill_over(alloc, &mut host, name).is_ok();
+        if is_done != (stop == 11) || wrong_front(alloc, &host, name, is_done)?.is_some() {
+            return Ok(Some(stop));
+        }
+    }
+    Ok(None)
+}
+
 #[test]
 fn a_stop_leaves_the_first_of_the_drafted_entries(rt: HostRuntime) -> Result<(), Fail> {
     let name = name_of(NAME)?;
     let mut made = MemHost::new(rt.alloc())?;
     make_nearly_full(rt.alloc(), &mut made, &name)?;
-    for stop in 1..12 {
-        let mut host = MemHost::fused(rt.alloc(), stop)?;
-        host.put_file(&name, made.file(&name).unwrap_or(b""))?;
-        let is_done = fill_over(rt.alloc(), &mut host, &name).is_ok();
-        assert_eq!(rt;
-            (is_done, wrong_front(rt.alloc(), &host, &name, is_done)?),
-            (stop == 11, None),
-            "stop {stop}"
-        );
-    }
+    assert_eq!(rt; wrong_stop(rt.alloc(), &made, &name)?, None);
     Ok(())
 }
