@@ -1,21 +1,21 @@
 -- A round of the search for a new page in a sound image: what it finds, what it leaves, and where the search goes on.
-use Rattle.std.proofs.Common.{◌≡◌, ◌≢◌, inl, inr, ℕ, zero, suc, ◌+◌, ◌-◌, ◌*◌, ◌/◌, ◌%◌, ◌<◌, ◌≤◌, List, [], ◌∷◌, ◌++◌, length, drop, replicate, refl, sym, ap, subst, ◌∙◌, arith, length-drop, mul-le-mul_right, div-add-mod'}
-use Rattle.std.specs.Prelude.{Bool, true, false, ◌||◌, ◌==◌, nat_lt, IsTrue}
-use Rattle.std.proofs.lemmas.Bool.{true≢false, and_from, or_parts, or_cases, ltb-true, lt-ltb, eq-eqb, eqb-false}
-use Rattle.std.proofs.lemmas.Bool.Decides.{leb_tells, eqb_tells}
+use Rattle.std.proofs.Common.{◌≡◌, ◌≢◌, inl, inr, ℕ, zero, suc, ◌+◌, ◌-◌, ◌*◌, ◌/◌, ◌%◌, ◌<◌, ◌≤◌, List, [], ◌∷◌, ◌++◌, length, drop, replicate, refl, sym, ap, subst, ◌∙◌, arith, mul-le-mul_right, div-add-mod'}
+use Rattle.std.specs.Prelude.{Bool, true, false, ◌==◌, nat_lt, IsTrue}
+use Rattle.std.proofs.lemmas.Bool.{true≢false, and_from, lt-ltb, eq-eqb, eqb-false}
+use Rattle.std.proofs.lemmas.Bool.Decides.{eqb_tells}
 use Rattle.nb_fields.specs.Places.{is_page_size, entries_in, bits_in, inventory_place, is_inventory_place, is_scn_place, is_system_place}
 use Rattle.nb_fields.specs.Page.{kind_of, stamped}
-use Rattle.nb_fields.specs.Payloads.{bit_of, text_payload}
+use Rattle.nb_fields.specs.Payloads.{bit_of}
 use Rattle.nb_fields.proofs.SizeLemmas.{SizeFacts, size_facts}
 use Rattle.nb_fields.proofs.PlaceLemmas.{bits-least}
 use Rattle.nb_model.specs.Image.{Page, Image, page_at, image_size, image_scn, with_page}
-use Rattle.nb_model.specs.Account.{Base, base_of}
-use Rattle.nb_model.specs.Strokes.{Stroke, page}
+use Rattle.nb_model.specs.Account.{base_of}
+use Rattle.nb_model.specs.Strokes.{page}
 use Rattle.nb_model.specs.Forms.{Draft, drafted, old_page, wrote, written, needs, is_kind, inventory_of, scn_page_of, bit_number, has_entry, scn_entry, is_free_page, entry_written, entry_raised, raised, put, with_bit, set_bit, take_page, free_from, lowest_free, needs_inventories, searched, system_kind, system_payload, system_page, no_page, new_within}
 use Rattle.nb_model.specs.Sound.{IsSoundImage}
 use Rattle.nb_model.proofs.StrokeLaws.{with_page_same, with_page_other}
 use Rattle.nb_model.proofs.SoundLaws.{all_at, inventory_there, inventory_place_some, scn_page_there, scn_place_some, HasFields, scn_no_entry, with_page_length}
-use Rattle.nb_model.proofs.PutSound.{IsPlace, IsPlain, Raises, IsRaised, is_raised, Held, Throughout, at_first, holds_now, scn_page_below, written_image, plain_holds}
+use Rattle.nb_model.proofs.PutSound.{IsPlace, Raises, is_raised, Held, Throughout, at_first, holds_now, scn_page_below, written_image, plain_holds}
 use Rattle.nb_model.proofs.BitLaws.{bit_else, bit_here, with_bit_length, bit_behind, one_bit}
 use Rattle.nb_model.proofs.NewSound.{HoldsOfKinds, IsThere, places_apart, inventory_before, lowest_between, plain_place, put_there, taken_holds, system_there}
 use Rattle.nb_model.proofs.ReadLaws.{eq_no}

@@ -1,12 +1,12 @@
-use Rattle.std.proofs.Common.{◌≡◌, ◌<◌, ℕ, sym, ap, subst, ◌∙◌, arith}
-use Rattle.std.specs.Prelude.{true, false, Ok, Err}
+use Rattle.std.proofs.Common.{◌≡◌, ◌<◌, ℕ, sym, subst, ◌∙◌, arith}
+use Rattle.std.specs.Prelude.{true, false, Ok}
 use Rattle.nb_model.specs.Causes.{no_room}
 use Rattle.nb_model.specs.Image.{image_scn, is_read_only}
 use Rattle.nb_model.specs.Pages.{new_turn}
 use Rattle.nb_page.proofs.QuietLemmas.{quiet_begun}
 use Rattle.nb_engine.specs.declared.opened.Opened.{Opened}
 use Rattle.nb_engine.specs.Open.{IsOpen}
-use Rattle.nb_engine.specs.Make.{IsWell, Makes, new_raw}
+use Rattle.nb_engine.specs.Make.{new_raw}
 use Rattle.nb_engine.specs.Replies.{page_made}
 use Rattle.nb_engine.proofs.QuietDoes.{open_quiet, refused_does, passed_does}
 use Rattle.nb_engine.proofs.MakeLaws.{makes_after_quiet, makes_passed}
