@@ -1,4 +1,5 @@
-//! Statements on the pages of one database in the normal state: creating it, and writing, reading and giving back raw pages.
+//! Statements on the pages of one database in the normal state: creating it, and writing, reading, making and giving back
+//! raw pages.
 //!
 //! It rests on `nb_page` and the inventories for the bytes of pages, on `nb_change` for what a change of files is, and on the
 //! table of turns of `nb_model`. A layer above may rely on this: each call answers what its turn says and makes the turn's
