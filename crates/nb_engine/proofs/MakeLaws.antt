@@ -1,35 +1,32 @@
 -- How runs of calls that make strokes go on, and what a page that is written at its place makes.
-use Rattle.std.proofs.Common.{◌≡◌, ◌≢◌, inl, inr, ℕ, ◌+◌, ◌-◌, ◌/◌, ◌<◌, ◌≤◌, List, [], ◌∷◌, ◌++◌, length, take, drop, replicate, refl, sym, ap, subst, ◌∙◌, arith}
-use Rattle.std.specs.Prelude.{Bool, true, false, not, ◌&&◌, ◌==◌, IsTrue, Some, None, Result, Ok, Err, IsOk, IsErr, IsErrAnd, OnOk, max}
-use Rattle.nb_fields.specs.Bytes.{is_zeros}
+use Rattle.std.proofs.Common.{◌≡◌, ℕ, ◌+◌, ◌-◌, ◌/◌, ◌<◌, ◌≤◌, List, [], ◌∷◌, ◌++◌, length, take, drop, replicate, refl, sym, ap, subst, ◌∙◌, arith}
+use Rattle.std.specs.Prelude.{Bool, true, false, not, ◌&&◌, ◌==◌, IsTrue, None, Result, Ok, Err, IsErr, IsErrAnd, OnOk, max}
 use Rattle.nb_fields.specs.Kinds.{code_of}
 use Rattle.nb_fields.specs.declared.kinds.PageKind.{PageKind}
 use Rattle.nb_fields.specs.declared.kinds.PageKind.TheVariants.{Header, Inventory, Data, Raw, ScnInventory}
-use Rattle.nb_fields.specs.Places.{is_page_size, bits_in, entries_in, inventory_place, is_inventory_place}
+use Rattle.nb_fields.specs.Places.{is_page_size, bits_in, entries_in, is_inventory_place}
 use Rattle.nb_fields.specs.Payloads.{inventory_payload, scn_payload}
 use Rattle.nb_fields.proofs.SizeLemmas.{SizeFacts, size_facts}
 use Rattle.nb_fields.proofs.PageLemmas.{padded_whole}
 use Rattle.nb_fields.specs.Page.{kind_of, stamped, with_payload}
-use Rattle.nb_host.specs.Files.{File}
 use Rattle.nb_host.specs.World.{World}
 use Rattle.nb_host.specs.declared.faults.Fault.{Fault}
 use Rattle.nb_host.specs.declared.faults.Fault.TheVariants.{Refused, Device, Memory}
-use Rattle.nb_host.specs.declared.refusals.Refusal.{Refusal}
 use Rattle.nb_host.specs.declared.refusals.Refusal.TheVariants.{NotDatabase}
 use Rattle.nb_page.specs.Quiet.{Quiet}
 use Rattle.nb_page.proofs.StampLemmas.{stamped-with_payload}
 use Rattle.nb_change.specs.Change.{Advances, Reached}
 use Rattle.nb_change.proofs.ChangeLaws.{weakened}
 use Rattle.nb_change.proofs.StrokeLaws.{reached_front, strokes_composed}
-use Rattle.nb_model.specs.Image.{Page, Image, page_at, image_size, image_scn, is_forced, is_read_only, with_page}
+use Rattle.nb_model.specs.Image.{Page, Image, page_at, image_size, image_scn, is_forced, is_read_only}
 use Rattle.nb_model.specs.Account.{Base}
 use Rattle.nb_model.specs.Strokes.{Stroke, page, on_base, base_after, merged_page}
 use Rattle.nb_model.specs.Owner.{delta_name}
 use Rattle.nb_model.specs.Forms.{Draft, drafted, old_page, raised, put, take_page, inventory_of, has_entry, scn_page_of, is_kind, system_kind, system_payload, system_page}
 use Rattle.nb_model.specs.Causes.{Cause, when, not_kind}
 use Rattle.nb_model.proofs.StrokeLaws.{base_after-append, stroke_page, stroke_other}
-use Rattle.nb_model.proofs.SoundLaws.{HasFields, with_page_length, inventory_there, inventory_place_some}
-use Rattle.nb_model.proofs.PutSound.{IsPlace, old_length}
+use Rattle.nb_model.proofs.SoundLaws.{with_page_length, inventory_there, inventory_place_some}
+use Rattle.nb_model.proofs.PutSound.{IsPlace}
 use Rattle.nb_model.proofs.NewSound.{inventory_before}
 use Rattle.nb_model.proofs.ReadLaws.{lt_no, lt_yes}
 use Rattle.nb_model.proofs.FreshSound.{inventory_length, scn_length}

@@ -1,6 +1,6 @@
 -- A new page: its rounds, each on the database that the round before left.
-use Rattle.std.proofs.Common.{◌≡◌, ◌≢◌, inl, inr, ℕ, suc, ◌+◌, ◌-◌, ◌<◌, ◌≤◌, List, [], ◌∷◌, ◌++◌, length, refl, sym, ap, subst, ◌∙◌, arith, append_assoc}
-use Rattle.std.specs.Prelude.{Bool, true, false, ◌||◌, IsTrue, Some, None, Result, Ok, Err, IsErr, IsErrAnd, OnOk}
+use Rattle.std.proofs.Common.{◌≡◌, ℕ, ◌+◌, ◌<◌, ◌≤◌, List, [], ◌++◌, length, refl, sym, ap, subst, ◌∙◌, arith, append_assoc}
+use Rattle.std.specs.Prelude.{Bool, true, false, None, Result, Ok, IsErr}
 use Rattle.std.proofs.lemmas.Bool.{or_parts}
 use Rattle.std.proofs.lemmas.List.{append-nil}
 use Rattle.nb_fields.specs.Places.{is_system_place}
@@ -15,14 +15,13 @@ use Rattle.nb_change.proofs.ChangeLaws.{begun}
 use Rattle.nb_change.proofs.ResultLaws.{on_ok}
 use Rattle.nb_model.specs.Image.{Image, image_size}
 use Rattle.nb_model.specs.Account.{Base}
-use Rattle.nb_model.specs.Strokes.{Stroke, on_base, base_after}
+use Rattle.nb_model.specs.Strokes.{Stroke, base_after}
 use Rattle.nb_model.specs.Owner.{delta_name}
-use Rattle.nb_model.specs.Forms.{Draft, drafted, put, take_page, system_page, lowest_free, free_from, new_within}
-use Rattle.nb_model.specs.Causes.{Cause, when, no_room}
+use Rattle.nb_model.specs.Forms.{Draft, drafted, put, take_page, system_page, lowest_free, new_within}
+use Rattle.nb_model.specs.Causes.{when, no_room}
 use Rattle.nb_model.proofs.StrokeLaws.{base_after-append}
 use Rattle.nb_model.proofs.DraftLaws.{IsOf, drafts_are, drafted_is, put_keeps, set_bit_keeps, system_keeps}
 use Rattle.nb_model.proofs.DraftJoin.{joined_new, join_set_bit}
-use Rattle.nb_model.proofs.PutSound.{IsPlace}
 use Rattle.nb_model.proofs.RoundLaws as rounds
 use Rattle.nb_model.proofs.RoundLaws.{IsFound, found, new_more, new_last, new_next, lowest_behind}
 use Rattle.nb_engine.specs.declared.opened.Opened.{Opened}
@@ -31,7 +30,7 @@ use Rattle.nb_engine.specs.Turn.{Tested, WhereSettled}
 use Rattle.nb_engine.specs.Mark.{mark_cause, marked}
 use Rattle.nb_engine.specs.Make.{IsWell, Makes, new_raw, round, behind}
 use Rattle.nb_engine.proofs.QuietDoes.{open_quiet, quiet_left}
-use Rattle.nb_engine.proofs.MakeLaws.{well, from_well, Left, makes_then, makes_same, makes_front, makes_passed, makes_taken}
+use Rattle.nb_engine.proofs.MakeLaws.{well, from_well, Left, makes_then, makes_same, makes_front, makes_taken}
 
 -- nothing was made yet
 pub makes_begun : (w : World) (b : Base) (held : Opened) → IsTimely w → IsOpen w held b → Makes {T = Unit {0}} (Ok tt) w w b held []

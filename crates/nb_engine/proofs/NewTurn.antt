@@ -1,6 +1,6 @@
 -- What making a new page does of its turn.
 use Rattle.std.proofs.Common.{◌≡◌, ◌<◌, ◌+◌, ℕ, List, [], ◌∷◌, length, refl, sym, ap, subst, ◌∙◌}
-use Rattle.std.specs.Prelude.{Bool, true, false, IsTrue, Some, None, Result, Ok, Err, IsErr, IsErrAnd, IfOk}
+use Rattle.std.specs.Prelude.{true, false, IsTrue, Some, None, Result, Ok, Err, IsErr, IsErrAnd, IfOk}
 use Rattle.nb_fields.specs.Places.{is_page_size}
 use Rattle.nb_fields.specs.Payloads.{text_payload}
 use Rattle.nb_host.specs.World.{World}
@@ -11,7 +11,7 @@ use Rattle.nb_host.specs.declared.refusals.Refusal.{Refusal}
 use Rattle.nb_host.specs.declared.refusals.Refusal.TheVariants.{Access}
 use Rattle.nb_model.specs.declared.reply.Reply.{Reply}
 use Rattle.nb_model.specs.declared.reply.Reply.TheVariants.{Refused, PageMade}
-use Rattle.nb_model.specs.Image.{Image, image_size, image_scn, is_read_only}
+use Rattle.nb_model.specs.Image.{Image, image_scn, is_read_only}
 use Rattle.nb_model.specs.Account.{Base}
 use Rattle.nb_model.specs.Strokes.{Stroke}
 use Rattle.nb_model.specs.Forms.{Draft}

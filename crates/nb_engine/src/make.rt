@@ -54,12 +54,7 @@ fn fill_system(page: &mut [u8], place: u32, scn: u32)
 
 impl Opened {
     /// Reads page `number`, or zeros where it is about to be added.
-    fn take_old<H: Host>(
-        &self,
-        host: &mut H,
-        number: u32,
-        into: &mut [u8],
-    ) -> Result<(), HostFault>
+    fn take_old<H: Host>(&self, host: &mut H, number: u32, into: &mut [u8]) -> Result<(), HostFault>
         requires size { IsTrue (is_page_size self.now.page_size) }
         requires into { length into.old ≡ self.now.page_size }
         ensures page { (b : Base) → IsTrue H.tells → IsOpen (H.world host.old) self.now b → OnOk result (into.new ≡ old_page number b.image) }

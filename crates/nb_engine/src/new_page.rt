@@ -35,6 +35,12 @@ impl Engine {
         let first = self
             .opened
             .check_new(host, &mut self.map, &mut self.system)?;
+        // A file that ends before the first page that may be given is no database.
+        if first > self.opened.count {
+            return Err(Fault::Refused(Refusal::NotDatabase {
+                page: self.opened.count,
+            }));
+        }
         let number = self.opened.make_new(
             host,
             first,

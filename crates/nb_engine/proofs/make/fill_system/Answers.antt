@@ -2,7 +2,7 @@ use Rattle.std.proofs.Common.{◌≡◌, ℕ, ◌+◌, ◌-◌, ◌/◌, List, �
 use Rattle.std.specs.Prelude.{IsTrue, true, false}
 use Rattle.nb_fields.specs.Places.{is_page_size, bits_in, entries_in, is_inventory_place}
 use Rattle.nb_fields.specs.Payloads.{inventory_payload, scn_payload}
-use Rattle.nb_model.specs.Image.{image_size, image_scn}
+use Rattle.nb_model.specs.Image.{image_size}
 use Rattle.nb_model.specs.Forms.{system_payload}
 use Rattle.nb_engine.proofs.MakeLaws.{filled_page, payload_of_place, payload_whole}
 use Rattle.nb_engine.proofs.make.fill_system.Goals as goal

@@ -1,12 +1,13 @@
-use Rattle.std.proofs.Common.{◌≡◌, ◌<◌, ℕ, sym, ap, subst, ◌∙◌, arith}
-use Rattle.std.specs.Prelude.{true, false, Ok, Err}
+use Rattle.std.proofs.Common.{◌≡◌, ◌<◌, ℕ, sym, subst, ◌∙◌, arith}
+use Rattle.std.specs.Prelude.{true, false, Ok}
 use Rattle.nb_model.specs.Causes.{no_room}
 use Rattle.nb_model.specs.Image.{image_scn, is_read_only}
 use Rattle.nb_model.specs.Pages.{new_turn}
+use Rattle.nb_model.proofs.NewSound.{lowest_between}
 use Rattle.nb_page.proofs.QuietLemmas.{quiet_begun}
 use Rattle.nb_engine.specs.declared.opened.Opened.{Opened}
 use Rattle.nb_engine.specs.Open.{IsOpen}
-use Rattle.nb_engine.specs.Make.{IsWell, Makes, new_raw}
+use Rattle.nb_engine.specs.Make.{new_raw}
 use Rattle.nb_engine.specs.Replies.{page_made}
 use Rattle.nb_engine.proofs.QuietDoes.{open_quiet, refused_does, passed_does}
 use Rattle.nb_engine.proofs.MakeLaws.{makes_after_quiet, makes_passed}
@@ -65,3 +66,11 @@ returns-clause-turn g c s tells shown sound =
     let made = c.in_ok-number.ensures.makes s.base tells still is_well at room in
     made_does _ _ s c.make_new.new.self (new_turn s) (new_raw s.base.image).1 (new_raw s.base.image).0.strokes (Ok c.in_ok-number.number) (new_says s free is_well room) (c.in_ok-number.ensures.value s.base tells still is_well at room)
     (makes_after_quiet _ _ _ _ s.base held c.make_new.new.self _ quiet is c.make_new.ensures.name made)
+
+pub returns-then-first-self-clause-turn : goal.returns-then-first-self-clause-turn
+returns-then-first-self-clause-turn g c s tells shown sound =
+    let first = g.H.Host.world c.args.host.now in
+    let is = subst (λ (o : Opened). IsOpen first o s.base) (sym c.self.view_is) shown in
+    let at = c.in_ok-first.ensures.value s.base tells is in
+    let low = lowest_between s.base.image sound.least in
+    absurd (omega (arith, c.if-first-self.true, at, low.1, is.count))

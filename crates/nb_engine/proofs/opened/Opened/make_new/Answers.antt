@@ -1,17 +1,17 @@
-use Rattle.std.proofs.Common.{◌≡◌, ◌≤◌, ◌<◌, ◌+◌, ◌-◌, ℕ, List, length, refl, sym, ap, subst, ◌∙◌, arith}
-use Rattle.std.specs.Prelude.{true, false, None, Ok, Err, IsTrue}
+use Rattle.std.proofs.Common.{◌≡◌, ℕ, List, refl, sym, ap, subst, ◌∙◌, arith}
+use Rattle.std.specs.Prelude.{true, false, Ok}
 use Rattle.nb_fields.specs.Places.{is_system_place}
 use Rattle.nb_host.specs.World.{World}
 use Rattle.nb_change.specs.Apart.{Apart}
 use Rattle.nb_change.proofs.ApartLaws.{apart_begun}
-use Rattle.nb_model.specs.Image.{Image, image_size}
+use Rattle.nb_model.specs.Image.{image_size}
 use Rattle.nb_model.specs.Account.{Base}
 use Rattle.nb_model.specs.Strokes.{Stroke, base_after}
 use Rattle.nb_engine.specs.Open.{IsOpen}
-use Rattle.nb_engine.specs.Make.{Makes, new_raw, round, behind}
+use Rattle.nb_engine.specs.Make.{new_raw, round}
 use Rattle.nb_engine.proofs.ApartLaws.{apart_then}
 use Rattle.nb_engine.proofs.MakeLaws.{makes_passed}
-use Rattle.nb_engine.proofs.NewLaws.{SoFar, so_far_begun, here, next_below, round_failed, round_done, last_number, last_round}
+use Rattle.nb_engine.proofs.NewLaws.{so_far_begun, here, next_below, round_failed, round_done, last_number, last_round}
 use Rattle.nb_engine.proofs.opened.Opened.make_new.Goals as goal
 
 pub loop-self-init : goal.loop-self-init

@@ -1,12 +1,10 @@
-use Rattle.std.proofs.Common.{◌≡◌, ◌≤◌, ◌<◌, ◌+◌, ℕ, List, length, refl, sym, ap, subst, ◌∙◌, arith, [], ◌∷◌}
+use Rattle.std.proofs.Common.{◌≡◌, ◌≤◌, ◌+◌, ℕ, List, length, sym, ap, ◌∙◌, arith, []}
 use Rattle.std.specs.Prelude.{true, false}
 use Rattle.nb_fields.specs.Kinds.{code_of}
 use Rattle.nb_fields.specs.Page.{with_payload}
-use Rattle.nb_fields.specs.Payloads.{text_payload}
 use Rattle.nb_fields.proofs.SizeLemmas.{size_facts}
 use Rattle.nb_model.specs.Image.{Page, image_size}
 use Rattle.nb_model.specs.Forms.{drafted, old_page, put, is_kind, system_kind, system_payload, system_page}
-use Rattle.nb_model.proofs.NewSound.{empty_text}
 use Rattle.nb_engine.proofs.ApartLaws.{quiet_apart, quiet_then_apart}
 use Rattle.nb_engine.proofs.QuietDoes.{open_quiet}
 use Rattle.nb_engine.proofs.MakeLaws.{makes_same, makes_passed, makes_failed, makes_none, makes_after_quiet, payload_whole, system_there, system_put}

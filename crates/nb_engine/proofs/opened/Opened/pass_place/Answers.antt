@@ -1,15 +1,13 @@
-use Rattle.std.proofs.Common.{◌≡◌, ◌≤◌, ◌<◌, ◌+◌, ◌-◌, ℕ, List, length, refl, sym, ap, subst, ◌∙◌, arith}
-use Rattle.std.specs.Prelude.{true, false, None, Ok, Err}
-use Rattle.nb_model.specs.Image.{Image, image_size}
+use Rattle.std.proofs.Common.{◌≡◌, ◌+◌, ◌-◌, ℕ, length, refl, sym, ap, subst, ◌∙◌, arith}
+use Rattle.std.specs.Prelude.{Ok, Err}
+use Rattle.nb_model.specs.Image.{Image}
 use Rattle.nb_model.specs.Account.{Base}
 use Rattle.nb_model.specs.Strokes.{base_after}
 use Rattle.nb_model.specs.Forms.{free_from}
 use Rattle.nb_model.specs.Sound.{IsSoundImage}
 use Rattle.nb_model.proofs.PutSound.{IsPlace}
 use Rattle.nb_model.proofs.RoundLaws.{round_well}
-use Rattle.nb_change.specs.Apart.{Apart}
 use Rattle.nb_engine.specs.Make.{round, behind}
-use Rattle.nb_engine.proofs.ApartLaws.{apart_then, quiet_apart}
 use Rattle.nb_engine.proofs.MakeLaws.{well, makes_passed}
 use Rattle.nb_engine.proofs.NewLaws.{makes_then_quiet, round_of}
 use Rattle.nb_engine.proofs.opened.Opened.pass_place.Goals as goal

@@ -1,18 +1,14 @@
-use Rattle.std.proofs.Common.{◌≡◌, ◌≤◌, ◌<◌, ◌+◌, ◌-◌, ℕ, List, length, refl, sym, ap, subst, ◌∙◌, arith, [], ◌∷◌}
-use Rattle.std.specs.Prelude.{true, false, None, Ok, Err}
+use Rattle.std.proofs.Common.{◌≤◌, ℕ, List, refl, subst, arith, []}
+use Rattle.std.specs.Prelude.{Ok, Err}
 use Rattle.nb_fields.specs.Payloads.{text_payload}
 use Rattle.nb_change.specs.Apart.{Apart}
-use Rattle.nb_model.specs.Image.{Image, image_size}
-use Rattle.nb_model.specs.Account.{Base}
-use Rattle.nb_model.specs.Strokes.{base_after}
-use Rattle.nb_model.specs.Forms.{Draft, drafted, put, system_page}
-use Rattle.nb_model.specs.Sound.{IsSoundImage}
+use Rattle.nb_model.specs.Forms.{Draft, drafted, put}
 use Rattle.nb_model.proofs.PutSound.{IsPlace}
 use Rattle.nb_model.proofs.NewSound.{empty_text}
-use Rattle.nb_model.proofs.RoundLaws.{system_well, system_low, plain_well, plain_low, round_well}
-use Rattle.nb_engine.proofs.ApartLaws.{apart_then, quiet_apart}
+use Rattle.nb_model.proofs.RoundLaws.{plain_well, plain_low}
+use Rattle.nb_engine.proofs.ApartLaws.{apart_then}
 use Rattle.nb_engine.proofs.MakeLaws.{well, makes_passed}
-use Rattle.nb_engine.proofs.NewLaws.{take_not, take_after, system_of, put_of}
+use Rattle.nb_engine.proofs.NewLaws.{take_not, take_after, put_of}
 use Rattle.nb_engine.proofs.opened.Opened.take_new.Goals as goal
 
 pub returns-in_err-make_raw-clause-makes : goal.returns-in_err-make_raw-clause-makes
