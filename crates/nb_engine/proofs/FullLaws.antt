@@ -11,10 +11,10 @@ use Rattle.nb_model.specs.Image.{Page, Image, image_size, image_scn}
 use Rattle.nb_model.specs.Account.{Base, base_of}
 use Rattle.nb_model.specs.Strokes.{Stroke, page, base_after}
 use Rattle.nb_model.specs.Forms.{Draft, drafted, wrote, written, needs, is_kind, inventory_of, scn_page_of, scn_entry, is_free_page, has_entry, entry_written, entry_raised, raised, put, set_bit, take_page, lowest_free, needs_inventories, searched, system_kind, system_page, no_page, new_within, new_page}
-use Rattle.nb_model.specs.Sound.{IsSoundImage}
+use Rattle.nb_model.specs.Sound.{IsSoundImage, HasHeader}
 use Rattle.nb_model.proofs.DraftLaws.{IsKept, IsOf, drafted_is, drafts_are, needs_keeps, put_keeps, set_bit_keeps, new_keeps}
 use Rattle.nb_model.proofs.SoundLaws.{HasFields}
-use Rattle.nb_model.proofs.PutSound.{Held, Throughout, HasHeader, needs_image, holds_now}
+use Rattle.nb_model.proofs.PutSound.{Held, Throughout, needs_image, holds_now}
 use Rattle.nb_model.proofs.BitSound.{bit_holds}
 use Rattle.nb_model.proofs.NewSound.{new_raw_holds}
 use Rattle.nb_engine.specs.Find.{IsRoom, HasNoRoom, IsNextPlace}

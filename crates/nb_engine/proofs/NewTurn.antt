@@ -18,8 +18,7 @@ use Rattle.nb_model.specs.Forms.{Draft}
 use Rattle.nb_model.specs.Causes.{Cause, first_cause, read_only, lowest_broken, not_of_form, no_room}
 use Rattle.nb_model.specs.Outcomes.{Seen, Outcome, says}
 use Rattle.nb_model.specs.Pages.{new_turn}
-use Rattle.nb_model.specs.Sound.{IsSoundImage}
-use Rattle.nb_model.proofs.PutSound.{HasHeader}
+use Rattle.nb_model.specs.Sound.{IsSoundImage, HasHeader}
 use Rattle.nb_model.proofs.NewSound.{empty_text}
 use Rattle.nb_model.proofs.RoundLaws.{new_unbroken}
 use Rattle.nb_model.proofs.MainLaws.{main_facts}

@@ -13,10 +13,10 @@ use Rattle.nb_model.specs.Account.{Base, base_of, Kept}
 use Rattle.nb_model.specs.Strokes.{base_after}
 use Rattle.nb_model.specs.Forms.{Draft, drafted, old_page, needs, is_kind, inventory_of, scn_page_of, bit_number, is_free_page, with_bit, set_bit, give_page}
 use Rattle.nb_model.specs.Causes.{not_raw, not_kind}
-use Rattle.nb_model.specs.Sound.{IsSoundImage}
+use Rattle.nb_model.specs.Sound.{IsSoundImage, HasHeader}
 use Rattle.nb_model.specs.Stands.{NamesItsPast, is_history_page}
 use Rattle.nb_model.proofs.SoundLaws.{all_at, inventory_there, inventory_place_some, scn_page_there, HasFields, FitsAt, page_sound}
-use Rattle.nb_model.proofs.PutSound.{IsPlace, Raises, IsPut, Held, Throughout, HasHeader, header_fields, at_first, needs_image, needs_holds, holds_now, old_length, now_length, now_some, now_stamp, now_kind, put_holds, raw_facts, no_first, not_when}
+use Rattle.nb_model.proofs.PutSound.{IsPlace, Raises, IsPut, Held, Throughout, header_fields, at_first, needs_image, needs_holds, holds_now, old_length, now_length, now_some, now_stamp, now_kind, put_holds, raw_facts, no_first, not_when}
 use Rattle.nb_model.proofs.PastLaws.{no_history, page_past}
 use Rattle.nb_model.proofs.BitLaws.{bit_else, with_bit_length, bit_behind, one_bit}
 

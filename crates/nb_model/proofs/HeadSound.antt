@@ -14,10 +14,10 @@ use Rattle.nb_model.specs.Account.{base_of, Kept}
 use Rattle.nb_model.specs.Strokes.{on_base, base_after, merged_page}
 use Rattle.nb_model.specs.Forms.{has_entry}
 use Rattle.nb_model.specs.Pages.{byte_strokes}
-use Rattle.nb_model.specs.Sound.{IsSoundImage}
+use Rattle.nb_model.specs.Sound.{IsSoundImage, HasHeader}
 use Rattle.nb_model.specs.Stands.{NamesItsPast, is_history_page}
 use Rattle.nb_model.proofs.SoundLaws.{all_at, inventory_behind, inventory_place_some, scn_page_behind, scn_place_some, HasFields, FitsAt, header_kind, fields_stay, page_sound}
-use Rattle.nb_model.proofs.PutSound.{HasHeader, Held, header_fields}
+use Rattle.nb_model.proofs.PutSound.{Held, header_fields}
 use Rattle.nb_model.proofs.PastLaws.{no_history, page_past}
 
 -- bytes of zeros spell 0

@@ -17,12 +17,12 @@ use Rattle.nb_model.specs.Image.{Page, Image, page_at, image_size, image_scn, wi
 use Rattle.nb_model.specs.Account.{Base, base_of, Kept}
 use Rattle.nb_model.specs.Strokes.{base_after}
 use Rattle.nb_model.specs.Forms.{Draft, drafted, old_page, is_kind, put, scn_page_of, bit_number, entry_number, scn_entry, has_entry, is_free_page, take_page, free_from, lowest_free, needs_inventories, searched, system_kind, system_payload, system_page, no_page, new_within, new_page}
-use Rattle.nb_model.specs.Sound.{IsSoundImage}
+use Rattle.nb_model.specs.Sound.{IsSoundImage, HasHeader}
 use Rattle.nb_model.specs.Stands.{NamesItsPast, is_history_page}
 use Rattle.nb_model.proofs.DraftLaws.{drafts_are}
 use Rattle.nb_model.proofs.SoundLaws.{inventory_there, scn_page_there, HasFields, FitsAt, scn_no_entry, with_page_length, page_sound}
 use Rattle.nb_model.proofs.FreshSound.{kind_inventory, kind_scn, inventory_length, scn_length}
-use Rattle.nb_model.proofs.PutSound.{IsPlace, Raises, IsPut, Held, Throughout, HasHeader, header_fields, at_first, needs_image, needs_holds, holds_now, old_length, now_length, now_some, now_stamp, now_kind, put_holds, plain_holds}
+use Rattle.nb_model.proofs.PutSound.{IsPlace, Raises, IsPut, Held, Throughout, header_fields, at_first, needs_image, needs_holds, holds_now, old_length, now_length, now_some, now_stamp, now_kind, put_holds, plain_holds}
 use Rattle.nb_model.proofs.PastLaws.{no_history, page_past}
 use Rattle.nb_model.proofs.BitSound.{bit_holds}
 

@@ -12,9 +12,9 @@ use Rattle.nb_model.specs.Forms.{Draft, drafted, wrote, written, put, give_page,
 use Rattle.nb_model.proofs.DraftLaws.{IsKept, put_keeps, set_bit_keeps, new_keeps}
 use Rattle.nb_model.specs.Causes.{not_raw}
 use Rattle.nb_model.specs.Pages.{byte_strokes}
-use Rattle.nb_model.specs.Sound.{IsSoundImage}
+use Rattle.nb_model.specs.Sound.{IsSoundImage, HasHeader}
 use Rattle.nb_model.proofs.SoundLaws.{HasFields, FitsAt, state_stays}
-use Rattle.nb_model.proofs.PutSound.{Throughout, Held, HasHeader, text_holds}
+use Rattle.nb_model.proofs.PutSound.{Throughout, Held, text_holds}
 use Rattle.nb_model.proofs.HeadSound.{byte_holds}
 use Rattle.nb_model.proofs.BitSound.{give_holds}
 use Rattle.nb_model.proofs.NewSound.{new_raw_holds}

@@ -11,14 +11,14 @@ use Rattle.nb_model.specs.Account.{base_of, Kept}
 use Rattle.nb_model.specs.Strokes.{base_after}
 use Rattle.nb_model.specs.Forms.{drafted, put}
 use Rattle.nb_model.specs.Causes.{not_raw}
-use Rattle.nb_model.specs.Sound.{IsSoundImage}
+use Rattle.nb_model.specs.Sound.{IsSoundImage, HasHeader}
 use Rattle.nb_model.specs.Chains.{Slot, is_used, slots_in}
 use Rattle.nb_model.specs.Follows.{Follows}
 use Rattle.nb_model.specs.Stands.{IsKeptAs, is_history_page, GoesOn, IsRemembered, NamesItsPast}
 use Rattle.nb_model.proofs.StrokeLaws.{with_page_same}
 use Rattle.nb_model.proofs.FollowsLaws.{follows_set, follows_add}
 use Rattle.nb_model.proofs.SoundLaws.{written_other, with_page_length, HasFields, FitsAt, size_stays, scn_stays, guid_stays}
-use Rattle.nb_model.proofs.PutSound.{HasHeader, Held, Throughout, text_holds}
+use Rattle.nb_model.proofs.PutSound.{Held, Throughout, text_holds}
 
 -- what holds of each row
 all_rows : (P R : Slot → Type 0) (rows : List Slot) → ((row : Slot) → P row → R row) → AllByRecursion P rows → AllByRecursion R rows

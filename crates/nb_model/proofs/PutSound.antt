@@ -5,7 +5,6 @@ use Rattle.std.proofs.lemmas.Bool.{true≢false, cases_lt}
 use Rattle.std.proofs.lemmas.Bool.Decides.{eqb_tells, leb_tells}
 use Rattle.std.proofs.lemmas.List.{length-replicate, take_all, drop-drop}
 use Rattle.nb_fields.specs.Bytes.{number_of, bytes_of, number_in, part, with_part, is_zeros, padded}
-use Rattle.nb_fields.specs.Header.{is_header}
 use Rattle.nb_fields.specs.Places.{entries_in, bits_in, is_inventory_place, is_scn_place}
 use Rattle.nb_fields.specs.Page.{head_of, page_of, kind_of, stamp_of, generation_of, stamped}
 use Rattle.nb_fields.specs.Payloads.{entry_of, text_payload}
@@ -20,7 +19,7 @@ use Rattle.nb_model.specs.Account.{Base, base_of}
 use Rattle.nb_model.specs.Strokes.{Stroke, base_after, merged_page}
 use Rattle.nb_model.specs.Forms.{Draft, drafted, old_page, wrote, written, needs, is_kind, inventory_of, scn_page_of, entry_number, scn_entry, has_entry, entry_written, entry_raised, raised, put}
 use Rattle.nb_model.specs.Causes.{Cause, first_cause, when, not_raw}
-use Rattle.nb_model.specs.Sound.{IsSoundImage}
+use Rattle.nb_model.specs.Sound.{IsSoundImage, HasHeader}
 use Rattle.nb_model.proofs.DraftLaws.{either, IsOf, drafted_is, drafts_are, one_more}
 use Rattle.nb_model.proofs.HeaderLaws.{header-size}
 use Rattle.nb_model.proofs.SoundLaws.{all_at, page_no_zeros, inventory_there, scn_page_there, scn_place_some, scn_place_before, with_page_length, HasFields, FitsAt, scn_no_entry, size_stays, scn_stays, fields_stay, entry_here, header_kind, written_other, page_sound}
@@ -360,11 +359,6 @@ module _ (Q : Image → Type 0) (K : Page → Type 0) (scn_pages : (bytes : Page
             no_scn_page = ap (λ (s : ℕ). is_scn_place s p) raises.size ∙ plain.no_scn_page;
           } in
           (plain_fits x p kind payload h.fields h.sound some room_x plain_x raises.current, of_kind _ (now_kind x p kind payload h.fields h.sound some room_x))
-
--- page 0 is a header, and its SCN has four bytes
-pub record HasHeader (image : Image) : Type 0 where
-  pub header : is_header (first_page image) ≡ true
-  pub scn : image_scn image < 4294967296
 
 pub header_fields : (image : Image) → HasHeader image → HasFields image
 header_fields image h = record { size = header-size (first_page image) h.header; scn = h.scn }

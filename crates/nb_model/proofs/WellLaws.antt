@@ -19,7 +19,7 @@ use Rattle.nb_model.specs.Outcomes.{Seen, Outcome, unless, changes}
 use Rattle.nb_model.specs.Pages.{new_turn, write_turn, read_turn, free_turn, forced_turn, access_turn, header_turn, image_turn, cache_turn, byte_strokes}
 use Rattle.nb_model.specs.Backups.{pages_turn}
 use Rattle.nb_model.specs.Turns.{first_turn}
-use Rattle.nb_model.specs.Sound.{IsSoundImage}
+use Rattle.nb_model.specs.Sound.{IsSoundImage, HasHeader}
 use Rattle.nb_model.specs.Stands.{is_history_page}
 use Rattle.nb_model.specs.Well.{IsWell, IsWellBase, StaysWell, is_on_pages}
 use Rattle.nb_model.proofs.DraftLaws.{put_keeps, set_bit_keeps, new_keeps}
@@ -27,7 +27,7 @@ use Rattle.nb_model.proofs.MainLaws.{main_facts}
 use Rattle.nb_model.proofs.FreshImageLaws.{fresh_state, fresh_scn, fresh_main}
 use Rattle.nb_model.proofs.FreshSound.{fresh_sound, fresh_past}
 use Rattle.nb_model.proofs.SoundLaws.{HasFields, FitsAt, header_stays, state_stays, fields_stay, page_sound}
-use Rattle.nb_model.proofs.PutSound.{HasHeader, Held, Throughout, no_first, not_when, text_holds}
+use Rattle.nb_model.proofs.PutSound.{Held, Throughout, no_first, not_when, text_holds}
 use Rattle.nb_model.proofs.PastLaws.{no_history, page_past}
 use Rattle.nb_model.proofs.HeadSound.{byte_holds}
 use Rattle.nb_model.proofs.BitSound.{give_holds}

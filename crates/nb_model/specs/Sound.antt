@@ -3,9 +3,15 @@ use Rattle.std.specs.Prelude.{◌≡◌, ℕ, ◌<◌, ◌≤◌, length, true, 
 use Rattle.std.specs.List.{AllByRecursion}
 use Rattle.nb_fields.specs.Bytes.{is_zeros}
 use Rattle.nb_fields.specs.Places.{is_inventory_place, is_scn_place}
+use Rattle.nb_fields.specs.Header.{is_header}
 use Rattle.nb_fields.specs.Page.{kind_of, stamp_of}
 use Rattle.nb_model.specs.Image.{Image, page_at, first_page, image_size, image_scn}
 use Rattle.nb_model.specs.Forms.{inventory_of, scn_page_of, scn_entry, has_entry, is_free_page}
+
+-- page 0 is a header, and its SCN has four bytes
+pub record HasHeader (image : Image) : Type 0 where
+  pub header : is_header (first_page image) ≡ true
+  pub scn : image_scn image < 4294967296
 
 -- no page is all zeros
 abbrev pub HasNoZeros : Image → Type 0
