@@ -15,7 +15,7 @@ use Rattle.nb_model.specs.Forms.{inventory_of, is_free_page, free_from, lowest_f
 use Rattle.nb_model.specs.Causes.{not_kind}
 use Rattle.nb_model.specs.Sound.{IsSoundImage}
 use Rattle.nb_model.proofs.SoundLaws.{inventory_there}
-use Rattle.nb_engine.specs.Find.{AreTaken, IsFreeNear}
+use Rattle.nb_engine.specs.Find.{AreTaken, IsFreeNear, IsMap, IsEnd, EndsAt}
 use Rattle.nb_engine.proofs.TestLaws.{kind_is}
 
 -- what the search from page p on finds, of which `left` pages are left to look at
@@ -159,6 +159,65 @@ pub found_none : (image : Image) (from page : ℕ) → AreTaken image from page 
 found_none image from page before end =
     finds_one image (length image - from) from (max from (length image)) (free_from (length image - from) from image)
     (record { low = omega arith; high = omega arith; before = λ r l h. before r l (omega arith) (omega arith); free = λ h. absurd (omega arith) }) (finds (length image - from) from image)
+
+-- pages with their bits in one group have one inventory page
+same_map : (image : Image) (size p q : ℕ) → size ≡ image_size image → p / bits_in size ≡ q / bits_in size → inventory_of image p ≡ inventory_of image q
+same_map image size p q same e = ap (λ (s : ℕ). inventory_place s (p / bits_in s)) (sym same) ∙ ap (inventory_place size) e ∙ ap (λ (s : ℕ). inventory_place s (q / bits_in s)) same
+
+map_of : (image : Image) (p q : ℕ) (map : Page) → inventory_of image q ≡ inventory_of image p → not_kind image 2 (inventory_of image p) ≡ None → map ≡ page_at image (inventory_of image p) → IsMap image q map
+map_of image p q map there kind page = record { kind = ap (λ (r : ℕ). not_kind image 2 r) there ∙ kind; page = page ∙ ap (page_at image) (sym there) }
+
+-- the inventory page that was read for page `page` is that of the page found near
+pub map_near : (image : Image) (page free : ℕ) (map : Page) → IsFreeNear image page free → not_kind image 2 (inventory_of image page) ≡ None → map ≡ page_at image (inventory_of image page) → IsEnd image free map
+map_near image page free map near kind read =
+    let low = near.below in
+    let last : free ≡ min free (length image - 1) = omega arith in
+    record { most = omega arith; last = subst (λ (q : ℕ). IsMap image q map) last (map_of image page free map near.same kind read) }
+
+-- and that of the last page below the length before the group behind
+pub map_behind : (image : Image) (size page next : ℕ) (map : Page) → size ≡ image_size image → 0 < bits_in size → page < length image → next ≡ (page / bits_in size + 1) * bits_in size
+    → not_kind image 2 (inventory_of image page) ≡ None → map ≡ page_at image (inventory_of image page) → IsMap image (min next (length image) - 1) map
+map_behind image size page next map same least low behind kind read =
+    let w : ℕ = bits_in size in
+    let k : ℕ = page / w in
+    let q : ℕ = min next (length image) - 1 in
+    let front : k * w ≤ page = omega arith in
+    let back : page < k * w + w = omega (arith, least) in
+    let more : (k + 1) * w ≡ k * w + w = omega arith in
+    let start : k * w ≤ q = omega (arith, front, back, more, behind, low) in
+    let end : q < k * w + w = omega (arith, front, back, more, behind, low) in
+    map_of image page q map (same_map image size q page same (in_group w k q start end).0) kind read
+
+-- at the length it is that of the last page
+pub map_last : (image : Image) (from page p : ℕ) (map : Page) → length image ≤ page → p ≡ max from (length image) → (from < page → IsMap image (min page (length image) - 1) map) → EndsAt image from p map
+map_last image from page p map end is looked inside =
+    let last : min page (length image) - 1 ≡ min p (length image - 1) = omega arith in
+    record { most = omega arith; last = subst (λ (q : ℕ). IsMap image q map) last (looked (omega arith)) }
+
+-- a search that ended at a page below the length has read its inventory page, and so has one that ended at the length, where the
+-- page before has its bit there too
+module _ (image : Image) (size from p count : ℕ) (map : Page) (same : size ≡ image_size image) (counted : count ≡ length image) (ends : EndsAt image from p map) (inside : from < count) where
+  ended : IsEnd image p map
+  ended = ends (omega (arith, inside, counted))
+
+  pub read_below : p < count → IsMap image p map
+  read_below low =
+      let last : min p (length image - 1) ≡ p = omega (arith, low, counted) in
+      subst (λ (q : ℕ). IsMap image q map) last ended.last
+
+  pub read_beside : 0 < bits_in size → 0 < p % bits_in size → IsMap image p map
+  read_beside least some = elim (leb_tells (suc p) count) [
+    | inl low ↦ read_below low.1
+    | inr end ↦
+        let w : ℕ = bits_in size in
+        let k : ℕ = p / w in
+        let most = ended.most in
+        let last : min p (length image - 1) ≡ p - 1 = omega (arith, end.1, counted, most) in
+        let start : k * w ≤ p - 1 = omega (arith, some) in
+        let back : p - 1 < k * w + w = omega (arith, least, some) in
+        let before : IsMap image (p - 1) map = subst (λ (q : ℕ). IsMap image q map) last ended.last in
+        map_of image (p - 1) p map (sym (same_map image size (p - 1) p same (in_group w k (p - 1) start back).0)) before.kind before.page
+  ]
 
 -- in a sound image the inventory page of a page below the length is there
 pub inventory_low : (image : Image) (p : ℕ) → IsTrue (is_page_size (image_size image)) → 5 ≤ length image → p < length image → inventory_of image p < length image

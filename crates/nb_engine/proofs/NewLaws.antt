@@ -13,7 +13,7 @@ use Rattle.nb_host.specs.declared.refusals.Refusal.TheVariants.{Full}
 use Rattle.nb_page.specs.Quiet.{Quiet}
 use Rattle.nb_change.proofs.ChangeLaws.{begun}
 use Rattle.nb_change.proofs.ResultLaws.{on_ok}
-use Rattle.nb_model.specs.Image.{Image, image_size}
+use Rattle.nb_model.specs.Image.{Page, Image, image_size}
 use Rattle.nb_model.specs.Account.{Base}
 use Rattle.nb_model.specs.Strokes.{Stroke, base_after}
 use Rattle.nb_model.specs.Owner.{delta_name}
@@ -28,7 +28,10 @@ use Rattle.nb_engine.specs.declared.opened.Opened.{Opened}
 use Rattle.nb_engine.specs.Open.{Shows, IsOpen}
 use Rattle.nb_engine.specs.Turn.{Tested, WhereSettled}
 use Rattle.nb_engine.specs.Mark.{mark_cause, marked}
+use Rattle.nb_engine.specs.Find.{IsMap, HoldsMap}
 use Rattle.nb_engine.specs.Make.{IsWell, Makes, new_raw, round, behind}
+use Rattle.nb_engine.proofs.FindLaws.{inventory_sound}
+use Rattle.nb_engine.proofs.RoundLaws.{put_keeps_map}
 use Rattle.nb_engine.proofs.QuietDoes.{open_quiet, quiet_left}
 use Rattle.nb_engine.proofs.MakeLaws.{well, from_well, Left, makes_then, makes_same, makes_front, makes_taken}
 
@@ -60,21 +63,35 @@ module _ (b : Base) (p : ℕ) (e : Draft) (of : IsOf b e) (h : rounds.Well e.ima
 
   -- its bit is written
   pub take_after : {S T : Type 0} (value : S) (result : Result T Fault) (old mid new : World) (held : Opened) → Makes (Ok value) old mid b held e.strokes
-      → ((x : Base) → IsOpen mid held x → Tested result (mark_cause x.image p)) → ((x : Base) → IsOpen mid held x → Left mid new held.name x (marked x.image p 0))
-      → ((x : Base) → IsOpen mid held x → WhereSettled result (IsOpen new held (base_after x (marked x.image p 0)))) → Makes result old new b held (take_page p e).strokes
+      → ((x : Base) → IsOpen mid held x → x ≡ base_after b e.strokes → Tested result (mark_cause x.image p))
+      → ((x : Base) → IsOpen mid held x → x ≡ base_after b e.strokes → Left mid new held.name x (marked x.image p 0))
+      → ((x : Base) → IsOpen mid held x → x ≡ base_after b e.strokes → WhereSettled result (IsOpen new held (base_after x (marked x.image p 0)))) → Makes result old new b held (take_page p e).strokes
   take_after value result old mid new held makes tested left after =
       let x : Base = base_after b e.strokes in
       let opened : IsOpen mid held x = makes.after in
       let well_x : IsWell x.image = from_well x.image (subst rounds.Well (sym of.is) h) in
       let low_x : p < length x.image = omega (arith, low, ap length of.is) in
       makes_same result old new b held _ _ strokes_are
-      (makes_then value result old mid new b held held e.strokes (take_page p (drafted x.image)).strokes refl makes (makes_taken result mid new x held p well_x two low_x (tested x opened) (left x opened) (after x opened)))
+      (makes_then value result old mid new b held held e.strokes (take_page p (drafted x.image)).strokes refl makes
+      (makes_taken result mid new x held p well_x two low_x (tested x opened refl) (left x opened refl) (after x opened refl)))
 
 pub system_of : (b : Base) (p : ℕ) → IsOf b (system_page p (drafted b.image))
 system_of b p = system_keeps (IsOf b) (drafts_are b) p (drafted b.image) (drafted_is b)
 
 pub put_of : (b : Base) (p kind : ℕ) (payload : List ℕ) → IsOf b (put p kind payload (drafted b.image))
 put_of b p kind payload = put_keeps (IsOf b) (drafts_are b) p kind payload (drafted b.image) (drafted_is b)
+
+-- The inventory page of a new page, which was read before, stays as it is where that is made.
+pub still_map : (b x : Base) (p : ℕ) (map : Page) → IsWell b.image → 5 ≤ p → p ≤ length b.image → is_system_place (image_size b.image) p ≡ false
+    → rounds.Well (put p 8 (text_payload []) (drafted b.image)).image → p < length (put p 8 (text_payload []) (drafted b.image)).image → HoldsMap b.image p map
+    → x ≡ base_after b (put p 8 (text_payload []) (drafted b.image)).strokes → IsMap x.image p map
+still_map b x p map is five there plain well_made low_made holds same = subst (λ (y : Image). IsMap y p map) (sym (ap (λ (y : Base). y.image) same ∙ (put_of b p 8 (text_payload [])).is)) here
+  where
+    here : IsMap (put p 8 (text_payload []) (drafted b.image)).image p map
+    here = record {
+      kind = inventory_sound (put p 8 (text_payload []) (drafted b.image)).image p well_made.fields.size well_made.sound low_made;
+      page = put_keeps_map p 8 (text_payload []) (drafted b.image) map (well b.image is).fields is.sound five there plain holds;
+    }
 
 pub round_of : (b : Base) (p : ℕ) → (base_after b (round b.image p).strokes).image ≡ (round b.image p).image
 round_of b p = (set_bit_keeps (IsOf b) (drafts_are b) 0 p (system_page p (drafted b.image)) (system_of b p)).is
@@ -158,25 +175,27 @@ at_last image place strokes number rest plain = subst (λ (n : ℕ). AtLast imag
         record { strokes_are = sym rest.strokes_are ∙ ap (λ (x : Draft × ℕ). x.0.strokes) last; number_is = sym (ap (λ (x : Draft × ℕ). x.1) last) ∙ rest.number_is }
 
 -- What was made of a new page so far, and what is left.
-pub record SoFar (old now : World) (b : Base) (held : Opened) (place : ℕ) (strokes : List Stroke) (number : ℕ) : Type 0 where
+pub record SoFar (old now : World) (b : Base) (held : Opened) (place : ℕ) (strokes : List Stroke) (number : ℕ) (map : Page) : Type 0 where
   pub done : List Stroke
   pub rest_strokes : List Stroke
   pub strokes_are : strokes ≡ done ++ rest_strokes
   pub makes : Makes {T = Unit {0}} (Ok tt) old now b held done
   pub rest : Rest (base_after b done).image place rest_strokes number
+  pub holds : HoldsMap (base_after b done).image place map
 
-pub so_far_begun : (w : World) (b : Base) (held : Opened) (place : ℕ) → IsTimely w → IsOpen w held b → IsWell b.image → place ≡ lowest_free b.image → no_room (new_raw b.image).0 ≡ None
-    → SoFar w w b held place (new_raw b.image).0.strokes (new_raw b.image).1
+pub so_far_begun : (w : World) (b : Base) (held : Opened) (place : ℕ) (map : Page) → IsTimely w → IsOpen w held b → IsWell b.image → place ≡ lowest_free b.image → no_room (new_raw b.image).0 ≡ None
+    → HoldsMap b.image place map → SoFar w w b held place (new_raw b.image).0.strokes (new_raw b.image).1 map
 unfolding base_after
-so_far_begun w b held place timely is is_well at room = record {
+so_far_begun w b held place map timely is is_well at room holds = record {
   done = [];
   rest_strokes = (new_raw b.image).0.strokes;
   strokes_are = refl;
   makes = makes_begun w b held timely is;
   rest = all_left b.image place is_well at room;
+  holds = holds;
 }
 
-module _ (old mid new : World) (b : Base) (first held : Opened) (place : ℕ) (strokes : List Stroke) (number : ℕ) (so_far : SoFar old mid b first place strokes number) (same : held.name ≡ first.name) where
+module _ (old mid new : World) (b : Base) (first held : Opened) (place : ℕ) (strokes : List Stroke) (number : ℕ) (map : Page) (so_far : SoFar old mid b first place strokes number map) (same : held.name ≡ first.name) where
   abbrev x : Base
   x = base_after b so_far.done
 
@@ -200,8 +219,9 @@ module _ (old mid new : World) (b : Base) (first held : Opened) (place : ℕ) (s
         (makes_then tt result old mid new b first held so_far.done _ same so_far.makes (makes_front result mid new x held (round x.image place).strokes on.rest_strokes failed makes))
 
     -- or the search goes on
-    pub round_done : (next : ℕ) → Makes (Ok next) mid new x held (round x.image place).strokes → next ≡ behind x.image place → SoFar old new b held next strokes number
-    round_done next makes at =
+    pub round_done : (next : ℕ) (then : Page) → Makes (Ok next) mid new x held (round x.image place).strokes → next ≡ behind x.image place → HoldsMap (round x.image place).image next then
+        → SoFar old new b held next strokes number then
+    round_done next then makes at holds =
         let done : List Stroke = so_far.done ++ (round x.image place).strokes in
         let image : (base_after b done).image ≡ (round x.image place).image = ap (λ (y : Base). y.image) (base_after-append b so_far.done (round x.image place).strokes) ∙ round_of x place in
         record {
@@ -210,6 +230,7 @@ module _ (old mid new : World) (b : Base) (first held : Opened) (place : ℕ) (s
           strokes_are = grouped ∙ sym (append_assoc so_far.done (round x.image place).strokes on.rest_strokes);
           makes = makes_then tt (Ok tt) old mid new b first held so_far.done (round x.image place).strokes same so_far.makes (record { test = refl; after = makes.after; left = makes.left });
           rest = subst (λ (n : ℕ). Rest (base_after b done).image n on.rest_strokes number) (sym at) (subst (λ (y : Image). Rest y (behind x.image place) on.rest_strokes number) (sym image) on.rest);
+          holds = subst (λ (y : Image). HoldsMap y next then) (sym image) holds;
         }
 
   module _ (plain : is_system_place (image_size x.image) place ≡ false) where

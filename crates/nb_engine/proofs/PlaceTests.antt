@@ -203,6 +203,10 @@ module _ (image : Image) (p : ℕ) where
   ready_third none next = first_next _ _ none ∙ first_next _ _ next ∙ last_cause (no_entry_page image (inventory_of image p))
 
 -- in a sound image each is
+pub map_sound : (image : Image) (p : ℕ) → IsTrue (is_page_size (image_size image)) → IsSoundImage image → not_there image 2 (inventory_of image p) ≡ None
+map_sound image p size is =
+    there_sound image 2 (inventory_of image p) (λ low. is.sound.system.inventories (inventory_of image p) low (inventory_there (image_size image) (p / bits_in (image_size image)) size))
+
 entry_sound : (image : Image) (p : ℕ) → IsTrue (is_page_size (image_size image)) → IsSoundImage image → no_entry_page image p ≡ None
 entry_sound image p size is = by (has_entry image p) refl
   where
@@ -216,7 +220,7 @@ entry_sound image p size is = by (has_entry image p) refl
 pub ready_sound : (image : Image) (p : ℕ) → IsTrue (is_page_size (image_size image)) → IsSoundImage image → not_ready image p ≡ None
 ready_sound image p size is =
     ready_third image p (entry_sound image p size is)
-    (there_sound image 2 (inventory_of image p) (λ low. is.sound.system.inventories (inventory_of image p) low (inventory_there (image_size image) (p / bits_in (image_size image)) size)))
+    (map_sound image p size is)
     ∙ entry_sound image (inventory_of image p) size is
 
 -- The way of the search, from its first place on: the places before one are ready.

@@ -22,7 +22,10 @@ use Rattle.nb_model.proofs.StrokeLaws.{with_page_same, with_page_other}
 use Rattle.nb_model.proofs.SoundLaws.{all_at, inventory_there, scn_page_there, scn_place_some, inventory_place_some, scn_place_before, with_page_length, scn_no_entry, HasFields}
 use Rattle.nb_model.proofs.FreshSound.{kind_inventory, kind_scn}
 use Rattle.nb_model.proofs.PutSound.{IsPut, needs_image}
+use Rattle.nb_model.proofs.NewSound.{inventory_before}
+use Rattle.nb_model.proofs.NewSound.{plain_place}
 use Rattle.nb_model.proofs.BitLaws.{bit_else, with_bit_length, bit_behind, one_bit}
+use Rattle.nb_engine.specs.Find.{HoldsMap}
 use Rattle.nb_engine.proofs.FindLaws.{inventory_low}
 
 -- no page is of both kinds of inventory
@@ -92,6 +95,21 @@ put_only p kind payload d there low =
     let first : RaisesOnly d.image (raised p d).image p = raised_only p d low in
     let then : Wrote (raised p d).image (written p kind payload (raised p d)).image p = written_wrote p kind payload (raised p d) (omega (arith, first.long)) in
     record { long = omega (arith, first.long, then.long); others = λ q other apart. then.others q other ∙ first.others q apart }
+
+-- The inventory page of page p stays as it is where page p, at which no system page stands, is put.
+pub put_keeps_map : (p kind : ℕ) (payload : List ℕ) (d : Draft) (map : Page) → HasFields d.image → IsSoundImage d.image → 5 ≤ p → p ≤ length d.image → is_system_place (image_size d.image) p ≡ false
+    → HoldsMap d.image p map → map ≡ page_at (put p kind payload d).image (inventory_of (put p kind payload d).image p)
+put_keeps_map p kind payload d map fields is five there plain holds =
+    let x : Image = d.image in
+    let y : Image = (put p kind payload d).image in
+    let q : ℕ = inventory_of x p in
+    let puts : PutsOnly x y p = put_only p kind payload d there (scn_low x p fields is.least there) in
+    let second = scn_place_some (image_size x) (p / entries_in (image_size x)) fields.size in
+    let size : image_size y ≡ image_size x = ap size_of (puts.others 0 (λ e. absurd (omega (arith, e, five))) (λ e. absurd (omega (arith, e, second)))) in
+    let place : is_inventory_place (image_size x) q ≡ true = inventory_there (image_size x) (p / bits_in (image_size x)) fields.size in
+    let other : q ≢ p = λ e. true≢false (sym place ∙ ap (is_inventory_place (image_size x)) e ∙ (plain_place (image_size x) p plain).0) in
+    let low : q < length x = omega (arith, inventory_before (image_size x) p fields.size (omega (arith, five)), there) in
+    holds plain low ∙ sym (puts.others q other (map_apart x p q fields.size place)) ∙ ap (λ (s : ℕ). page_at y (inventory_place s (p / bits_in s))) (sym size)
 
 -- The system page of that place is there, and no inventory page has changed.
 pub record HasSystem (x y : Image) (p : ℕ) : Type 0 where

@@ -1,10 +1,10 @@
 -- The search for a free page, and for the place of a new page.
-use Rattle.std.specs.Prelude.{◌≡◌, ℕ, ◌<◌, ◌≤◌, [], ◌∷◌, length, nat_lt, true, false, None, Result, Ok, Err}
+use Rattle.std.specs.Prelude.{◌≡◌, ℕ, ◌-◌, ◌<◌, ◌≤◌, [], ◌∷◌, length, nat_lt, min, true, false, None, Result, Ok, Err}
 use Rattle.nb_fields.specs.Places.{is_system_place}
 use Rattle.nb_host.specs.declared.faults.Fault.{Fault}
 use Rattle.nb_host.specs.declared.faults.Fault.TheVariants.{Refused, Device, Memory}
 use Rattle.nb_host.specs.declared.refusals.Refusal.TheVariants.{Full}
-use Rattle.nb_model.specs.Image.{Image, image_size}
+use Rattle.nb_model.specs.Image.{Page, Image, page_at, image_size}
 use Rattle.nb_model.specs.Forms.{inventory_of, scn_page_of, has_entry, is_free_page}
 use Rattle.nb_model.specs.Causes.{Cause, first_cause, not_kind}
 
@@ -37,9 +37,23 @@ pub record IsNextPlace (image : Image) (p : ℕ) : Type 0 where
   pub free : p < length image → is_free_page image p ≡ true
   pub before : (q : ℕ) → IsRoom image q → p ≤ q
 
--- the inventory page of page p, if p is below the length, is one
-abbrev pub IsMapRead : Image → ℕ → Type 0
-IsMapRead image p = p < length image → not_kind image 2 (inventory_of image p) ≡ None
+-- the inventory page of page p is of its kind, and is that map
+pub record IsMap (image : Image) (p : ℕ) (map : Page) : Type 0 where
+  pub kind : not_kind image 2 (inventory_of image p) ≡ None
+  pub page : map ≡ page_at image (inventory_of image p)
+
+-- A search ended at page p: that map is the inventory page of page p, or of the last page, if p is the length.
+pub record IsEnd (image : Image) (p : ℕ) (map : Page) : Type 0 where
+  pub most : p ≤ length image
+  pub last : IsMap image (min p (length image - 1)) map
+
+-- a search from one page on ended at page p, with that map, if it read one
+abbrev pub EndsAt : Image → (from p : ℕ) → (map : Page) → Type 0
+EndsAt image from p map = from < length image → IsEnd image p map
+
+-- that map is the inventory page of page p, unless a system page stands at p or the inventory page is past the end
+abbrev pub HoldsMap : Image → (p : ℕ) → (map : Page) → Type 0
+HoldsMap image p map = is_system_place (image_size image) p ≡ false → inventory_of image p < length image → map ≡ page_at image (inventory_of image p)
 
 -- the page is below the length and isn't of that kind; a page past the end is about to be made
 abbrev pub not_there : Image → (kind p : ℕ) → Cause

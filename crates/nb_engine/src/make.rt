@@ -14,6 +14,7 @@ ghost use Rattle.nb_model.specs.Image.{Image, image_size, image_scn};
 ghost use Rattle.nb_model.specs.Forms.{drafted, old_page, put, is_kind, system_kind, system_payload, system_page, take_page, lowest_free};
 ghost use Rattle.nb_model.specs.Causes.{no_room};
 ghost use Rattle.nb_engine.specs.Open.{IsOpen};
+ghost use Rattle.nb_engine.specs.Find.{HoldsMap};
 ghost use Rattle.nb_engine.specs.Make.{IsWell, Makes, new_raw, round, behind};
 
 use crate::Opened;
@@ -207,7 +208,7 @@ impl Opened {
         Ok(())
     }
 
-    /// Makes page `number` a raw page with the empty text, and takes it.
+    /// Makes page `number` a raw page with the empty text, and takes it. Its inventory page is in `map`.
     fn take_new<H: Host>(
         &mut self,
         host: &mut H,
@@ -223,7 +224,7 @@ impl Opened {
         requires low { 0 < number }
         requires high { number < 1048576 }
         ensures makes { (b : Base) → IsTrue H.tells → IsOpen (H.world host.old) self.old b → IsWell b.image → 5 ≤ number → number ≤ length b.image
-            → is_system_place (image_size b.image) number ≡ false
+            → is_system_place (image_size b.image) number ≡ false → HoldsMap b.image number map.old
             → Makes result (H.world host.old) (H.world host.new) b self.new (take_page number (put number 8 (text_payload []) (drafted b.image))).strokes }
         ensures apart { IsTrue H.tells → Apart (H.world host.old) (H.world host.new) self.old.name }
         ensures name { self.new.name ≡ self.old.name }
@@ -233,12 +234,12 @@ impl Opened {
         ensures takes_none { IfErr result (λ fault. fault ≢ Memory) }
     {
         self.make_raw(host, number, page, system)?;
-        self.mark(host, number, false, map, system)?;
+        self.put_map(host, number, false, map, system)?;
         Ok(())
     }
 
-    /// Makes the system page of that place, takes it, and answers where the search for a free page goes on. The refusal is `Full`, where
-    /// that is nowhere.
+    /// Makes the system page of that place, takes it, and answers where the search for a free page goes on. The inventory page of that is
+    /// then in `map`. The refusal is `Full`, where that is nowhere.
     fn pass_place<H: Host>(
         &mut self,
         host: &mut H,
@@ -259,6 +260,8 @@ impl Opened {
             → Makes result (H.world host.old) (H.world host.new) b self.new (round b.image place).strokes }
         ensures value { (b : Base) → IsTrue H.tells → IsOpen (H.world host.old) self.old b → IsWell b.image → 5 ≤ place → place ≤ length b.image
             → is_system_place (image_size b.image) place ≡ true → IfOk result (λ next. next ≡ behind b.image place) }
+        ensures map { (b : Base) → IsTrue H.tells → IsOpen (H.world host.old) self.old b → IsWell b.image → 5 ≤ place → place ≤ length b.image
+            → is_system_place (image_size b.image) place ≡ true → IfOk result (λ next. HoldsMap (round b.image place).image next map.new) }
         ensures later { IfOk result (λ next. place < next) }
         ensures most { IfOk result (λ next. next < 1048576) }
         ensures apart { IsTrue H.tells → Apart (H.world host.old) (H.world host.new) self.old.name }
@@ -273,11 +276,13 @@ impl Opened {
         if next >= MOST_PAGES {
             return Err(Fault::Refused(Refusal::Full { count: MOST_PAGES }));
         }
+        self.hold_map(host, place + 1, next, map)?;
         Ok(next)
     }
 
     /// Makes a new raw page with the empty text and answers its number. The search for its place comes to `first` at first, and the
-    /// system places on its way get their pages and are taken.
+    /// system places on its way get their pages and are taken. Where no system page stands at `first`, its inventory page is in `map`,
+    /// and isn't read again.
     pub(crate) fn make_new<H: Host>(
         &mut self,
         host: &mut H,
@@ -293,9 +298,9 @@ impl Opened {
         requires system { length system.old ≡ self.old.page_size }
         requires low { 0 < first }
         requires high { first < 1048576 }
-        ensures makes { (b : Base) → IsTrue H.tells → IsOpen (H.world host.old) self.old b → IsWell b.image → first ≡ lowest_free b.image → no_room (new_raw b.image).0 ≡ None
+        ensures makes { (b : Base) → IsTrue H.tells → IsOpen (H.world host.old) self.old b → IsWell b.image → first ≡ lowest_free b.image → no_room (new_raw b.image).0 ≡ None → HoldsMap b.image first map.old
             → Makes result (H.world host.old) (H.world host.new) b self.new (new_raw b.image).0.strokes }
-        ensures value { (b : Base) → IsTrue H.tells → IsOpen (H.world host.old) self.old b → IsWell b.image → first ≡ lowest_free b.image → no_room (new_raw b.image).0 ≡ None
+        ensures value { (b : Base) → IsTrue H.tells → IsOpen (H.world host.old) self.old b → IsWell b.image → first ≡ lowest_free b.image → no_room (new_raw b.image).0 ≡ None → HoldsMap b.image first map.old
             → IfOk result (λ number. number ≡ (new_raw b.image).1) }
         ensures apart { IsTrue H.tells → Apart (H.world host.old) (H.world host.new) self.old.name }
         ensures name { self.new.name ≡ self.old.name }

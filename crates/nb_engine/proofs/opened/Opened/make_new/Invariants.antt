@@ -4,6 +4,7 @@ use Rattle.nb_model.specs.Account.{Base}
 use Rattle.nb_model.specs.Forms.{lowest_free}
 use Rattle.nb_model.specs.Causes.{no_room}
 use Rattle.nb_engine.specs.Open.{IsOpen}
+use Rattle.nb_engine.specs.Find.{HoldsMap}
 use Rattle.nb_engine.specs.Make.{IsWell, new_raw}
 use Rattle.nb_engine.proofs.NewLaws.{SoFar}
 use Rattle.nb_engine.proofs.opened.Opened.make_new.Given as goal
@@ -11,7 +12,7 @@ use Rattle.nb_engine.proofs.opened.Opened.make_new.Given as goal
 abbrev pub invariant-loop-self : goal.invariant-loop-self
 invariant-loop-self g l = record {
   so_far : (b : Base) → IsTrue g.H.Host.tells → IsOpen (g.H.Host.world l.fn.host) l.fn.self b → IsWell b.image → l.fn.first ≡ lowest_free b.image → no_room (new_raw b.image).0 ≡ None
-      → SoFar (g.H.Host.world l.fn.host) (g.H.Host.world l.host) b l.self l.place (new_raw b.image).0.strokes (new_raw b.image).1;
+      → HoldsMap b.image l.fn.first l.fn.map → SoFar (g.H.Host.world l.fn.host) (g.H.Host.world l.host) b l.self l.place (new_raw b.image).0.strokes (new_raw b.image).1 l.map;
   apart : IsTrue g.H.Host.tells → Apart (g.H.Host.world l.fn.host) (g.H.Host.world l.host) l.fn.self.name;
   name : l.self.name ≡ l.fn.self.name;
   page_size : l.self.page_size ≡ l.fn.self.page_size;

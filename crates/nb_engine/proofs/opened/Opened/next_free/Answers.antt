@@ -1,11 +1,13 @@
-use Rattle.std.proofs.Common.{◌<◌, ◌≤◌, ℕ, length, ap, subst, ◌∙◌, arith}
+use Rattle.std.proofs.Common.{rules, ◌<◌, ◌≤◌, ℕ, length, ap, subst, ◌∙◌, arith}
 use Rattle.std.specs.Prelude.{Option, Err, IsTrue, max}
-use Rattle.nb_fields.specs.Places.{is_page_size}
+use Rattle.nb_fields.specs.Places.{is_page_size, bits_in}
+use Rattle.nb_fields.proofs.PlaceLemmas.{bits-least}
+use Rattle.nb_page.proofs.QuietLemmas.{quiet_joined}
 use Rattle.nb_model.specs.Image.{image_size}
 use Rattle.nb_model.specs.Causes.{Cause}
 use Rattle.nb_engine.specs.Turn.{Tested}
 use Rattle.nb_engine.proofs.QuietDoes.{open_quiet}
-use Rattle.nb_engine.proofs.FindLaws.{some_near, found_near, found_none, inventory_sound}
+use Rattle.nb_engine.proofs.FindLaws.{some_near, found_near, found_none, map_near, map_behind, map_last, inventory_sound}
 use Rattle.nb_engine.proofs.PlaceTests.{never_refused}
 use Rattle.nb_engine.proofs.opened.Opened.next_free.Goals as goal
 
@@ -27,3 +29,28 @@ pub returns-clause-value : goal.returns-clause-value
 returns-clause-value g c b tells is =
     let end : length b.image ≤ c.loop-page.page = omega (arith, is.count, c.loop-page-test.false) in
     c.max.ensures ∙ ap (λ (n : ℕ). max c.args.from n) is.count ∙ found_none b.image c.args.from c.loop-page.page (c.loop-page.invariant.taken b tells is) end
+
+pub returns-in-Some-clause-map : goal.returns-in-Some-clause-map
+returns-in-Some-clause-map g c b tells is inside =
+    let still = open_quiet _ _ c.args.self.now b c.loop-page.invariant.quiet is in
+    map_near b.image c.loop-page.page c.in-Some.free _ (some_near b.image c.loop-page.page _ c.in-Some.free _ c.in-Some.is (c.in_ok-free.ensures.found b tells still))
+    (c.in_ok-free.ensures.test b tells still) (c.in_ok-free.ensures.map b tells still)
+
+pub returns-clause-map : goal.returns-clause-map
+returns-clause-map g c b tells is =
+    let end : length b.image ≤ c.loop-page.page = omega (arith, is.count, c.loop-page-test.false) in
+    map_last b.image c.args.from c.loop-page.page _ _ end (c.max.ensures ∙ ap (λ (n : ℕ). max c.args.from n) is.count) (c.loop-page.invariant.looked b tells is)
+
+pub loop-page-preserved : goal.loop-page-preserved
+loop-page-preserved g c = record {
+  behind = search rules;
+  taken = search rules;
+  looked = λ b tells is inside.
+      let still = open_quiet _ _ c.args.self.now b c.loop-page.invariant.quiet is in
+      let low : c.loop-page.page < length b.image = omega (arith, is.count, c.loop-page-test.true) in
+      let least : 0 < bits_in c.args.self.now.page_size = omega (arith, bits-least c.args.self.now.page_size c.requires.size) in
+      map_behind b.image c.args.self.now.page_size c.loop-page.page _ _ is.page_size least low c.behind_bits-page.ensures (c.in_ok-free.ensures.test b tells still) (c.in_ok-free.ensures.map b tells still);
+  quiet = quiet_joined _ _ _ c.loop-page.invariant.quiet c.in_ok-free.ensures.quiet;
+  reads = search rules;
+  cause = c.in_ok-free.ensures.cause ∙ c.loop-page.invariant.cause;
+}

@@ -33,7 +33,7 @@ returns-in_err-mark-clause-makes g c b tells is is_well five low place =
     makes_passed {S = Unit {0}} c.from_residual-in_err-mark.result c.in_err-mark.field-0.0 _ _ b c.make_system.new.self _ c.from_residual-in_err-mark.ensures
     (take_after b p made (system_of b p) well_made two low_made tt (Err c.in_err-mark.field-0.0) (g.H.Host.world c.args.host.now) (g.H.Host.world c.make_system.new.host) (g.H.Host.world c.mark.new.host) c.make_system.new.self
     (c.in_ok-make_system.ensures.makes b tells is is_well low)
-    (λ x opened. c.in_err-mark.ensures.test x tells opened) (λ x opened. c.mark.ensures.left x tells opened) (λ x opened. c.in_err-mark.ensures.after x tells opened))
+    (λ x opened same. c.in_err-mark.ensures.test x tells opened) (λ x opened same. c.mark.ensures.left x tells opened) (λ x opened same. c.in_err-mark.ensures.after x tells opened))
 
 pub returns-clause-makes : goal.returns-clause-makes
 returns-clause-makes g c b tells is is_well five low place =
@@ -46,7 +46,7 @@ returns-clause-makes g c b tells is is_well five low place =
     let low_made = system_low b.image h p at place in
     take_after b p made (system_of b p) well_made two low_made tt (Ok tt) (g.H.Host.world c.args.host.now) (g.H.Host.world c.make_system.new.host) (g.H.Host.world c.mark.new.host) c.make_system.new.self
     (c.in_ok-make_system.ensures.makes b tells is is_well low)
-    (λ x opened. c.in_ok-mark.ensures.test x tells opened) (λ x opened. c.mark.ensures.left x tells opened) (λ x opened. c.in_ok-mark.ensures.after x tells opened)
+    (λ x opened same. c.in_ok-mark.ensures.test x tells opened) (λ x opened same. c.mark.ensures.left x tells opened) (λ x opened same. c.in_ok-mark.ensures.after x tells opened)
 
 pub returns-in_err-mark-clause-apart : goal.returns-in_err-mark-clause-apart
 returns-in_err-mark-clause-apart g c tells =
