@@ -7,7 +7,7 @@ use Rattle.nb_host.specs.World.{World}
 use Rattle.nb_host.specs.Moments.{IsTimely}
 use Rattle.nb_model.specs.declared.statement.Statement.{Statement}
 use Rattle.nb_model.specs.Outcomes.{Turn, Begins}
-use Rattle.nb_model.specs.Run.{Event, Now, Played, base_now, take_turn, one_turn, play, rounds, all_sessions, AreFinished, begun}
+use Rattle.nb_model.specs.Run.{Event, Now, Played, take_turn, one_turn, play, rounds, all_sessions, AreFinished, begun}
 use Rattle.nb_model.proofs.RunLaws.{play-append, play_is}
 use Rattle.nb_model.proofs.TodoLaws.{IsSingle, built_single, turn_is, left_then, left_none, rounds_more, finished_places}
 use Rattle.nb_engine.specs.declared.opened.Opened.{Opened}

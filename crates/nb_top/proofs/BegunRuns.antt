@@ -1,10 +1,9 @@
 -- A run behind its first statement.
-use Rattle.std.proofs.Common.{◌≡◌, ◌≢◌, inl, inr, ⊎_elim, ℕ, suc, ◌+◌, ◌-◌, ◌≤◌, List, [], ◌∷◌, ◌++◌, length, take, true, false, refl, sym, ap, subst, ◌∙◌, arith, length-append}
+use Rattle.std.proofs.Common.{◌≡◌, ◌≢◌, inl, inr, ℕ, ◌+◌, ◌-◌, ◌≤◌, List, ◌∷◌, ◌++◌, length, take, true, false, refl, sym, ap, subst, ◌∙◌, arith, length-append}
 use Rattle.std.specs.Prelude.{Bool, ◌&&◌, not, nat_le, is_some, Option, None, Some, Ok, Err, if◌then◌else◌}
 use Rattle.std.proofs.lemmas.Bool.{and_parts, true≢false}
 use Rattle.nb_fields.specs.Free.{is_free_file}
 use Rattle.nb_host.specs.Files.{File, Files}
-use Rattle.nb_host.specs.Names.{is_delta}
 use Rattle.nb_host.specs.World.{World}
 use Rattle.nb_host.specs.Crash.{Leaves, LeavesAll, Untouched}
 use Rattle.nb_host.specs.Moments.{IsTimely, AtEachMoment}
@@ -12,14 +11,14 @@ use Rattle.nb_change.proofs.MomentLaws.{joined, left_before}
 use Rattle.nb_change.proofs.NameLaws.{decide}
 use Rattle.nb_page.specs.Free.{is_free_name, has_delta}
 use Rattle.nb_model.specs.declared.reply.Reply.{Reply}
-use Rattle.nb_model.specs.Account.{Kept, Base, IsBase, Account}
+use Rattle.nb_model.specs.Account.{Base, IsBase, Account}
 use Rattle.nb_model.specs.Strokes.{Stroke, base_after}
 use Rattle.nb_model.specs.Lines.{line_text}
 use Rattle.nb_model.specs.Owner.{delta_name, owner, entry_of_files, entry_in}
-use Rattle.nb_model.specs.Run.{Event, base_now, play, rounds, AreFinished, strokes_of, replies_of}
+use Rattle.nb_model.specs.Run.{Event, base_now, rounds, AreFinished, strokes_of, replies_of}
 use Rattle.nb_model.specs.Output.{output, acked, acked_in, status_of}
 use Rattle.nb_model.specs.Stands.{Stands}
-use Rattle.nb_model.specs.Well.{IsWellBase, StaysWell}
+use Rattle.nb_model.specs.Well.{IsWellBase}
 use Rattle.nb_model.proofs.StandsLaws.{opened_entry, no_main}
 use Rattle.nb_model.proofs.OpeningLaws.{opened_in_use}
 use Rattle.nb_model.proofs.PlayLaws.{PlaysWell, play_well}
@@ -30,9 +29,9 @@ use Rattle.nb_engine.specs.declared.opened.Opened.{Opened}
 use Rattle.nb_engine.specs.Open.{Shows, IsOpen}
 use Rattle.nb_sched.specs.declared.stop.Stop.{Stop}
 use Rattle.nb_sched.specs.Replies.{is_refusal}
-use Rattle.nb_sched.specs.Stops.{StopLeft, IsReady}
+use Rattle.nb_sched.specs.Stops.{StopLeft}
 use Rattle.nb_top.specs.declared.status.Status.{Status}
-use Rattle.nb_top.specs.Performed.{RunLeft, RunsTo, HoldsKept, StandsFor, IsPerformed, PlaysOpened, database_of, database_named, number_of, reply_said}
+use Rattle.nb_top.specs.Performed.{RunLeft, RunsTo, HoldsKept, StandsFor, PlaysOpened, database_of, number_of, reply_said}
 use Rattle.nb_top.proofs.RefusedRuns.{no_given}
 use Rattle.nb_top.proofs.HoldLaws.{holds_base}
 use Rattle.nb_top.proofs.FirstLaws.{First, first_event, turns, turns_finish, turns_on_pages}
@@ -105,7 +104,6 @@ module _ (session : ℕ) (strokes : List Stroke) (reply : Reply) (es : List Even
 module _ (old : World) (account : Account) (stands : StandsFor old account) (plan : Plan) (askable : IsAskable plan) (first : First account plan) where
   abbrev pub events : ℕ → List Event
   events n = first_event plan.first_session first.strokes first.reply ∷ (turns plan first.now n).0
-
 
   enough : AreFinished (turns plan first.now (statement_count plan.sessions)).1.todo
   enough = turns_finish plan askable first.now first.todo

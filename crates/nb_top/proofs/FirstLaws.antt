@@ -2,28 +2,25 @@
 use Rattle.std.proofs.Common.{◌≡◌, ℕ, zero, suc, ◌+◌, ◌-◌, ◌≤◌, List, [], ◌∷◌, ◌++◌, length, take, true, false, refl, sym, ap, subst, ◌∙◌, arith}
 use Rattle.std.specs.Prelude.{Bool, Option, None, Some, Ok, IsTrue}
 use Rattle.std.specs.List.{AllByRecursion, slice_index_or}
-use Rattle.std.proofs.lemmas.Bool.{and_parts}
 use Rattle.nb_fields.specs.Fresh.{fresh, fresh_count}
 use Rattle.nb_fields.specs.Places.{is_page_size}
-use Rattle.nb_host.specs.Files.{Files}
-use Rattle.nb_host.specs.Names.{is_name, is_delta}
+use Rattle.nb_host.specs.Names.{is_delta}
 use Rattle.nb_model.specs.declared.reply.Reply.{Reply}
 use Rattle.nb_model.specs.declared.reply.Reply.TheVariants.{Pages, Opened}
 use Rattle.nb_model.specs.declared.statement.Statement.{Statement}
 use Rattle.nb_model.specs.declared.statement.Statement.TheVariants.{CreateDb, OpenDb}
-use Rattle.nb_model.specs.Image.{Image, image_state}
+use Rattle.nb_model.specs.Image.{image_state}
 use Rattle.nb_model.specs.Account.{Base, base_of, IsBase, Account}
 use Rattle.nb_model.specs.Strokes.{Stroke, make, base_after, after}
 use Rattle.nb_model.specs.Causes.{is_free_entry}
-use Rattle.nb_model.specs.Owner.{entry_in}
-use Rattle.nb_model.specs.Run.{Event, Now, Played, Opening, base_now, begun, opening, play, rounds, AreFinished, IsRun, strokes_of}
+use Rattle.nb_model.specs.Run.{Event, Now, Played, base_now, begun, opening, play, rounds, AreFinished, IsRun}
 use Rattle.nb_model.specs.Well.{IsWellBase, StaysWell, is_on_pages}
 use Rattle.nb_model.proofs.RunLaws.{entry_same}
 use Rattle.nb_model.proofs.OpeningLaws.{IsCreated, created, run_on, created_with, begun_with, IsWith}
 use Rattle.nb_model.proofs.ReopenLaws.{IsReopened, reopened}
 use Rattle.nb_model.proofs.TodoLaws.{IsSingle, built_single, finished_places}
 use Rattle.nb_model.proofs.WellLaws.{fresh_well_base}
-use Rattle.nb_model.proofs.PlayLaws.{AreOnPages, are_paged, play_well, first_on_pages, built_on_pages}
+use Rattle.nb_model.proofs.PlayLaws.{AreOnPages, are_paged, first_on_pages, built_on_pages}
 use Rattle.nb_model.proofs.FrontLaws.{after_with, made_with}
 use Rattle.nb_script.specs.Asked.{IsFurther, IsAskable, statement_count}
 use Rattle.nb_script.specs.Scripts.{Plan}

@@ -1,15 +1,14 @@
 -- What a stop leaves while one database is changed stands for an account with the records that were kept.
-use Rattle.std.proofs.Common.{◌≡◌, ◌≢◌, inl, inr, ℕ, List, true, false, refl, sym, ap, subst, ◌∙◌}
+use Rattle.std.proofs.Common.{◌≡◌, ◌≢◌, inl, inr, ℕ, List, true, false, sym, ap, subst, ◌∙◌}
 use Rattle.std.specs.Prelude.{None, Ok}
 use Rattle.nb_fields.specs.Free.{is_free_file}
-use Rattle.nb_host.specs.Files.{File, Files, with_file}
+use Rattle.nb_host.specs.Files.{Files, with_file}
 use Rattle.nb_host.specs.Names.{is_delta}
 use Rattle.nb_host.specs.World.{World}
 use Rattle.nb_host.specs.Crash.{Leaves, LeavesAll}
 use Rattle.nb_change.proofs.NameLaws.{decide, with_file-same, with_file-other}
 use Rattle.nb_model.specs.Account.{Kept, Base, base_of, IsBase, Account, with_entry}
-use Rattle.nb_model.specs.Owner.{delta_name, owner, entry_in}
-use Rattle.nb_model.specs.Stands.{Stands}
+use Rattle.nb_model.specs.Owner.{delta_name, entry_in}
 use Rattle.nb_model.specs.Well.{IsWellBase}
 use Rattle.nb_model.proofs.OpeningLaws.{with_kept}
 use Rattle.nb_model.proofs.FreeLaws.{stands_with_well, stands_free}

@@ -1,17 +1,17 @@
 -- What a stop leaves at the moments of a run.
-use Rattle.std.proofs.Common.{◌≡◌, ◌≢◌, inl, inr, ⊎_elim, ℕ, zero, suc, ◌+◌, ◌-◌, ◌≤◌, List, [], ◌∷◌, ◌++◌, length, take, true, refl, sym, ap, subst, ◌∙◌, arith}
-use Rattle.std.specs.Prelude.{Bool, false, Option, None, Some, Ok, nat_le}
+use Rattle.std.proofs.Common.{◌≡◌, inl, inr, ⊎_elim, ℕ, List, [], ◌++◌, length, refl, sym, ap, ◌∙◌, arith}
+use Rattle.std.specs.Prelude.{Option, None, Some}
 use Rattle.std.proofs.lemmas.List.{append-nil}
-use Rattle.nb_host.specs.Files.{File, Files}
+use Rattle.nb_host.specs.Files.{Files}
 use Rattle.nb_host.specs.World.{World}
-use Rattle.nb_host.specs.Crash.{Leaves, LeavesAll, Untouched}
+use Rattle.nb_host.specs.Crash.{Leaves, Untouched}
 use Rattle.nb_host.specs.Moments.{IsNow}
 use Rattle.nb_change.proofs.MomentLaws.{left_before}
-use Rattle.nb_model.specs.Account.{Kept, Account}
+use Rattle.nb_model.specs.Account.{Account}
 use Rattle.nb_model.specs.Run.{Event}
 use Rattle.nb_model.proofs.OutputLaws.{acked_in-none}
 use Rattle.nb_sched.proofs.EventLaws.{acked_none}
-use Rattle.nb_top.specs.Performed.{RunLeft, StandsAsked, IsUnasked, IsUnbegun, HoldsKept, StandsFor}
+use Rattle.nb_top.specs.Performed.{RunLeft, StandsAsked, StandsFor}
 
 -- before anything is done, what a stop leaves is as it was
 first_asked : (old : World) (account : Account) (database : Option (List ℕ)) (events : List Event) (files : Files) → ((n : List ℕ) → Leaves old n (files n)) → StandsAsked old account database events 0 0 files

@@ -1,6 +1,6 @@
 -- Why a database isn't opened: what the call tells, and what the run must say.
-use Rattle.std.proofs.Common.{◌≡◌, ◌≢◌, ◌⊎◌, inl, inr, ℕ, List, [], true, false, refl, sym, ap, ◌∙◌}
-use Rattle.std.specs.Prelude.{Bool, not, ◌==◌, Option, None, Some, Result, Ok, Err}
+use Rattle.std.proofs.Common.{◌≡◌, ◌≢◌, inl, inr, ℕ, List, true, false, refl, sym, ap, ◌∙◌}
+use Rattle.std.specs.Prelude.{Bool, not, ◌==◌, None, Some, Result, Ok, Err}
 use Rattle.std.proofs.lemmas.Bool.Decides.{eqb_tells}
 use Rattle.nb_fields.specs.Header.{state_of}
 use Rattle.nb_host.specs.Files.{File}
@@ -14,7 +14,7 @@ use Rattle.nb_model.specs.Owner.{owner, owner_in, entry_of_files, not_opened}
 use Rattle.nb_model.proofs.MainLaws.{main_of_base, main_facts, owner-formed, owner-refused}
 use Rattle.nb_model.proofs.StandsLaws.{opened_entry}
 use Rattle.nb_model.proofs.TodoLaws.{other_first, other_when, other_database}
-use Rattle.nb_engine.specs.Attach.{attach_cause, start_cause}
+use Rattle.nb_engine.specs.Attach.{attach_cause}
 use Rattle.nb_engine.proofs.AttachLaws.{start_broken, start_unfinished, start_is}
 use Rattle.nb_top.specs.Performed.{is_unended}
 

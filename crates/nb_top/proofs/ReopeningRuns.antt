@@ -1,27 +1,23 @@
 -- A run whose first statement opens its database.
-use Rattle.std.proofs.Common.{◌≡◌, ◌≢◌, inl, inr, ℕ, List, [], ◌∷◌, ◌++◌, length, true, false, refl, sym, ap, subst, ◌∙◌}
-use Rattle.std.specs.Prelude.{Bool, ◌&&◌, ◌<◌, not, nat_le, None, Some, Option, Result, Ok, Err}
+use Rattle.std.proofs.Common.{◌≡◌, ℕ, List, [], ◌∷◌, refl, sym, ap, subst, ◌∙◌}
+use Rattle.std.specs.Prelude.{◌<◌, None, Some, Result, Ok, Err}
 use Rattle.nb_host.specs.World.{World}
-use Rattle.nb_host.specs.Crash.{Leaves}
-use Rattle.nb_host.specs.Names.{is_delta}
 use Rattle.nb_host.specs.declared.faults.Fault.{Fault}
 use Rattle.nb_host.specs.declared.faults.Fault.TheVariants.{Refused}
 use Rattle.nb_host.specs.declared.refusals.Refusal.{Refusal}
-use Rattle.nb_host.specs.declared.refusals.Refusal.TheVariants.{Unfinished, Usage}
 use Rattle.nb_change.specs.Apart.{Apart}
 use Rattle.nb_page.specs.Quiet.{Quiet}
 use Rattle.nb_model.specs.declared.reply.Reply.TheVariants.{Opened as OpenedReply, Refused as RefusedReply}
 use Rattle.nb_model.specs.declared.statement.Statement.{Statement}
 use Rattle.nb_model.specs.declared.statement.Statement.TheVariants.{OpenDb}
 use Rattle.nb_model.specs.Image.{image_state, image_scn}
-use Rattle.nb_model.specs.Account.{Base, IsBase, Entry, Account}
+use Rattle.nb_model.specs.Account.{Base, IsBase, Account}
 use Rattle.nb_model.specs.Owner.{delta_name, entry_in, not_opened}
-use Rattle.nb_model.specs.Run.{Event, IsRun, base_now}
-use Rattle.nb_model.specs.Well.{IsWellBase}
+use Rattle.nb_model.specs.Run.{IsRun}
 use Rattle.nb_model.proofs.OpeningLaws.{run_ends}
 use Rattle.nb_model.proofs.ReopenLaws.{not_reopened}
 use Rattle.nb_model.proofs.FrontLaws.{opened_well}
-use Rattle.nb_script.specs.Asked.{IsAskable, statement_count}
+use Rattle.nb_script.specs.Asked.{IsAskable}
 use Rattle.nb_script.specs.Fits.{FitsFirst}
 use Rattle.nb_script.specs.Scripts.{Plan}
 use Rattle.nb_engine.specs.declared.opened.Opened.{Opened}

@@ -1,5 +1,5 @@
 -- A script is run, from its first statement on.
-use Rattle.std.proofs.Common.{◌≡◌, ℕ, List, Bool, true, false, refl, sym, ap, subst, ◌∙◌}
+use Rattle.std.proofs.Common.{◌≡◌, ℕ, List, true, false, refl, ap, subst}
 use Rattle.std.specs.Prelude.{◌<◌, Some, Result, Ok, Err, IfOk, IfErr}
 use Rattle.std.specs.Result.{IsErr}
 use Rattle.nb_fields.specs.Fresh.{fresh}

@@ -83,7 +83,7 @@ fn unended_is_not_opened(rt: HostRuntime) -> Result<(), Fail> {
     for state in [1, 2, 3] {
         let mut host = host_after(rt.alloc(), FIRST_RUN)?;
         let mut bytes = database(&host).ok_or("no file")?.to_vec(rt.alloc())?;
-        bytes[22] = state;
+        *bytes.get_mut(22).ok_or("no state")? = state;
         host.put_file(&name, &bytes)?;
         assert_eq!(rt; wrong_case(rt.alloc(), &mut host, &cases)?, None);
         assert!(rt; database(&host) == Some(&bytes[..]));
@@ -92,7 +92,8 @@ fn unended_is_not_opened(rt: HostRuntime) -> Result<(), Fail> {
 }
 
 // Pages come, are written, and go.
-const PAGES: &str = "1: create database 'a.db' page_size 1024 raw 8\n1: page new\n1: write 13 'a'\n1: free 7\n1: page new\n";
+const PAGES: &str =
+    "1: create database 'a.db' page_size 1024 raw 8\n1: page new\n1: write 13 'a'\n1: free 7\n1: page new\n";
 
 const LOOK: &str = "1: open 'a.db'\n1: read 13\n1: read 7\n";
 
