@@ -1,7 +1,7 @@
 -- A file whose name may be taken for a new file.
 use Rattle.std.specs.Prelude.{ℕ, List, take, Option, None, Some, Bool, true, ◌&&◌, ◌||◌, ◌==◌}
 use Rattle.nb_fields.specs.Bytes.{is_zeros}
-use Rattle.nb_fields.specs.Header.{is_header, state_of, pending_of}
+use Rattle.nb_fields.specs.Header.{header_length, is_header, state_of, pending_of}
 
 -- a restore was stopped here: a header in state 3 with a nil pending GUID
 abbrev pub is_unfinished : List ℕ → Bool
@@ -11,4 +11,4 @@ is_unfinished bytes = is_header bytes && state_of bytes == 3 && is_zeros (pendin
 -- This is what a creation, a copy or a restore leaves that was stopped.
 unfoldable pub is_free_file : Option (List ℕ) → Bool
 is_free_file None = true
-is_free_file (Some bytes) = is_zeros (take 64 bytes) || is_unfinished bytes
+is_free_file (Some bytes) = is_zeros (take header_length bytes) || is_unfinished bytes

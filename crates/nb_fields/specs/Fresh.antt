@@ -6,6 +6,7 @@ use Rattle.nb_fields.specs.declared.kinds.PageKind.{PageKind}
 use Rattle.nb_fields.specs.declared.kinds.PageKind.TheVariants.{Header, Inventory, Data, Raw, ScnInventory}
 use Rattle.nb_fields.specs.Kinds.{code_of}
 use Rattle.nb_fields.specs.Places.{entries_in, bits_in, inventory_place, scn_place, is_inventory_place, is_scn_place, is_system_place}
+use Rattle.nb_fields.specs.Header.{history_page}
 use Rattle.nb_fields.specs.Page.{page_of, kind_of, generation_of, stamp_of, number_of_page}
 use Rattle.nb_fields.specs.Payloads.{header_payload, inventory_payload, scn_payload, data_payload, text_payload, bit_of, entry_of}
 
@@ -36,7 +37,7 @@ fresh_payload size raw p Header = header_payload size 0 1 (replicate 16 0) (repl
 fresh_payload size raw p Inventory =
     let k : ℕ = (p + 1) / bits_in size in inventory_payload size k (fresh_count size raw - k * bits_in size)
 fresh_payload size raw p ScnInventory = scn_payload size (p / entries_in size) 1
-fresh_payload size raw p Data = data_payload 0 (if p == 4 then 1 else 0) []
+fresh_payload size raw p Data = data_payload 0 (if p == history_page then 1 else 0) []
 fresh_payload size raw p Raw = text_payload []
 
 -- page p of a new database: its generation and its stamp are 1

@@ -17,6 +17,18 @@ abbrev pub AllBefore : ℕ → List (ℕ × ℕ) → Type 0
 AllBefore at [] = Unit {0}
 AllBefore at (f ∷ fs) = (f.0 + f.1 ≤ at) × AllBefore at fs
 
+-- where the last of these fields ends, and this place where there is none
+abbrev pub end_of : ℕ → List (ℕ × ℕ) → ℕ
+end_of at [] = at
+end_of at (f ∷ fs) = end_of (f.0 + f.1) fs
+
+-- where the slots of a data page begin, and how many bytes a slot has
+abbrev pub slots_at : ℕ
+slots_at = 32
+
+abbrev pub slot_length : ℕ
+slot_length = 256
+
 -- the head of a page: type, flags, reserved, generation, SCN, number
 abbrev pub head_layout : List (ℕ × ℕ)
 head_layout = (0, 1) ∷ (1, 1) ∷ (2, 2) ∷ (4, 4) ∷ (8, 4) ∷ (12, 4) ∷ []

@@ -2,18 +2,18 @@
 use Rattle.std.specs.Prelude.{ℕ, zero, suc, ◌+◌, ◌-◌, ◌*◌, ◌/◌, ◌%◌, ◌^◌, List, [], ◌∷◌, ◌++◌, length, take, replicate, slice_index}
 use Rattle.std.specs.Int.{bit_at}
 use Rattle.nb_fields.specs.Bytes.{bytes_of, number_in, part}
-use Rattle.nb_fields.specs.Places.{entries_in}
-use Rattle.nb_fields.specs.Header.{signature}
+use Rattle.nb_fields.specs.Places.{entries_in, bits_at, entries_at}
+use Rattle.nb_fields.specs.Header.{signature, version, catalogue_page, history_page}
 
 -- the control block of a header: bytes 16 to 63
 unfoldable pub control_block : (size state scn : ℕ) (guid pending : List ℕ) → List ℕ
 control_block size state scn guid pending =
-    bytes_of 4 signature ++ (bytes_of 2 1 ++ (bytes_of 2 state ++ (bytes_of 4 size ++ (bytes_of 4 scn ++ (guid ++ pending)))))
+    bytes_of 4 signature ++ (bytes_of 2 version ++ (bytes_of 2 state ++ (bytes_of 4 size ++ (bytes_of 4 scn ++ (guid ++ pending)))))
 
 -- a header: its control block, then forced writes on and read-write, then the places of catalogue and history
 unfoldable pub header_payload : (size state scn : ℕ) (guid pending : List ℕ) → List ℕ
 header_payload size state scn guid pending =
-    control_block size state scn guid pending ++ (1 ∷ (replicate 7 0 ++ (bytes_of 4 3 ++ bytes_of 4 4)))
+    control_block size state scn guid pending ++ (1 ∷ (replicate 7 0 ++ (bytes_of 4 catalogue_page ++ bytes_of 4 history_page)))
 
 -- so many bytes of bits, the first bits taken and the others free
 unfoldable pub taken_bits : (bytes taken : ℕ) → List ℕ
@@ -21,7 +21,7 @@ taken_bits bytes taken = take bytes (replicate (taken / 8) 0 ++ ((256 - 2 ^ (tak
 
 -- page inventory page k with its first bits taken
 unfoldable pub inventory_payload : (size k taken : ℕ) → List ℕ
-inventory_payload size k taken = bytes_of 4 k ++ (replicate 12 0 ++ taken_bits (size - 32) taken)
+inventory_payload size k taken = bytes_of 4 k ++ (replicate 12 0 ++ taken_bits (size - bits_at) taken)
 
 -- so many entries of one SCN
 unfoldable pub same_entries : (scn n : ℕ) → List ℕ
@@ -49,8 +49,8 @@ text_of page = part 18 (text_length page) page
 
 -- bit i of a page inventory page: 1 means free
 abbrev pub bit_of : List ℕ → ℕ → ℕ
-bit_of page i = bit_at (slice_index page (32 + i / 8)) (i % 8)
+bit_of page i = bit_at (slice_index page (bits_at + i / 8)) (i % 8)
 
 -- entry i of an SCN inventory page
 abbrev pub entry_of : List ℕ → ℕ → ℕ
-entry_of page i = number_in (32 + 4 * i) 4 page
+entry_of page i = number_in (entries_at + 4 * i) 4 page

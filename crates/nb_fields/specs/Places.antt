@@ -1,13 +1,24 @@
 -- The places of the system pages, for a page size.
 use Rattle.std.specs.Prelude.{ℕ, zero, suc, ◌+◌, ◌-◌, ◌*◌, ◌/◌, ◌%◌, Bool, ◌&&◌, ◌||◌, ◌==◌, nat_lt, if◌then◌else◌}
 
+-- how many pages a database has at most
+abbrev pub most_pages : ℕ
+most_pages = 1048576
+
 -- one of the six page sizes
 abbrev pub is_page_size : ℕ → Bool
 is_page_size n = n == 1024 || n == 2048 || n == 4096 || n == 8192 || n == 16384 || n == 32768
 
+-- where the bits of a page inventory page begin, and the entries of an SCN inventory page
+abbrev pub bits_at : ℕ
+bits_at = 32
+
+abbrev pub entries_at : ℕ
+entries_at = 32
+
 -- how many entries an SCN inventory page has
 abbrev pub entries_in : ℕ → ℕ
-entries_in size = (size - 32) / 4
+entries_in size = (size - entries_at) / 4
 
 -- how many bits a page inventory page has
 abbrev pub bits_in : ℕ → ℕ

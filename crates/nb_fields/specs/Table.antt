@@ -2,7 +2,11 @@
 use Rattle.std.specs.Prelude.{ℕ, zero, suc, ◌+◌, ◌*◌, ◌/◌, List, [], ◌∷◌, ◌++◌, length, take, drop, replicate, Result, Ok, Err, true, false, ◌&&◌, ◌||◌, ◌==◌, nat_le, nat_lt, nat_eq}
 use Rattle.std.specs.List.{list_any}
 use Rattle.nb_fields.specs.Bytes.{number_in}
-use Rattle.nb_fields.specs.Places.{slots_in}
+use Rattle.nb_fields.specs.Places.{slots_in, most_pages}
+
+-- where the numbers of an allocation page begin
+abbrev pub numbers_at : ℕ
+numbers_at = 4
 
 -- page i of a file, with zeros where the file ends before
 unfoldable pub page_in : (size : ℕ) (bytes : List ℕ) (i : ℕ) → List ℕ
@@ -22,8 +26,8 @@ alloc_place size g = g * (slots_in size + 1)
 unfoldable pub entries_from : (size at i left : ℕ) (bytes found : List ℕ) → Result (List ℕ) ℕ
 entries_from size at i zero bytes found = Ok found
 entries_from size at i (suc left) bytes found =
-    let number : ℕ = number_in (4 + 4 * i) 4 (page_in size bytes at) in
-    elim (nat_le 1048576 number || list_any (nat_eq number) found) [
+    let number : ℕ = number_in (numbers_at + 4 * i) 4 (page_in size bytes at) in
+    elim (nat_le most_pages number || list_any (nat_eq number) found) [
       | true ↦ Err at
       | false ↦ elim (nat_lt (length bytes) ((at + 2 + i) * size)) [
         | true ↦ Err (at + 1 + i)

@@ -1,5 +1,5 @@
 ghost use Rattle.std.specs.Prelude.{◌≡◌, ℕ, ◌+◌, ◌^◌, ◌<◌, ◌≤◌, length};
-ghost use Rattle.nb_fields.specs.Bytes.{AreApart, number_in, bytes_of, part, with_part};
+ghost use Rattle.nb_fields.specs.Bytes.{AreApart, is_zeros, number_in, bytes_of, part, with_part};
 
 /// The number in `width` bytes of a page from place `at` on, the lowest byte first.
 pub fn number_at(page: &[u8], at: usize, width: usize) -> u64
@@ -24,4 +24,11 @@ pub fn put_number(page: &mut [u8], at: usize, width: usize, value: u64)
     ensures parts { (by v : ℕ) → AreApart at width by v → part by v page.new ≡ part by v page.old }
 {
     page[at..at + width].copy_from_slice(&value.to_le_bytes()[..width]);
+}
+
+/// Whether all bytes are zeros.
+pub fn are_zeros(bytes: &[u8]) -> bool
+    ensures { result ≡ is_zeros bytes.now }
+{
+    bytes.iter().all(|byte| *byte == 0)
 }

@@ -1,7 +1,11 @@
 //! Where each field stands: one module for each layout, with a law for each.
 
-ghost use Rattle.std.specs.Prelude.{◌≡◌, ◌++◌};
-ghost use Rattle.nb_fields.specs.Layouts.{head_layout, header_layout, numbered_layout, raw_layout, data_layout, row_layout, catalogue_layout, history_layout, allocation_layout, level_layout, ShareNoByte, AllBefore};
+ghost use Rattle.std.specs.Prelude.{◌≡◌, ◌++◌, codes};
+ghost use Rattle.nb_fields.specs.Bytes.{bytes_of};
+ghost use Rattle.nb_fields.specs.Header.{header_length, signature, version, catalogue_page, history_page};
+ghost use Rattle.nb_fields.specs.Places.{bits_at, entries_at};
+ghost use Rattle.nb_fields.specs.Table.{numbers_at};
+ghost use Rattle.nb_fields.specs.Layouts.{head_layout, header_layout, numbered_layout, raw_layout, slots_at, slot_length, data_layout, row_layout, catalogue_layout, history_layout, allocation_layout, level_layout, ShareNoByte, AllBefore, end_of};
 
 /// The head of every page: 16 bytes.
 pub mod head {
@@ -77,9 +81,16 @@ pub mod header {
     pub type History = Field<76, 4>;
 
     /// The fields, of which no two share a byte, nor one with the head.
+    #[tactic(auto, unfolding(crate::specs::Bytes::bytes_of))]
     pub fn layout() -> [(usize, usize); 11]
         ensures places { result ≡ header_layout }
         ensures apart { ShareNoByte (head_layout ++ header_layout) }
+        ensures length { LENGTH ≡ header_length }
+        ensures signature { SIGNATURE ≡ signature }
+        ensures letters { bytes_of 4 SIGNATURE ≡ codes "NBDB" }
+        ensures version { VERSION ≡ version }
+        ensures catalogue { CATALOGUE_PAGE ≡ catalogue_page }
+        ensures history { HISTORY_PAGE ≡ history_page }
     {
         [
             Signature::place(),
@@ -112,6 +123,7 @@ pub mod inventory {
         ensures places { result ≡ numbered_layout }
         ensures apart { ShareNoByte (head_layout ++ numbered_layout) }
         ensures before { AllBefore BITS_AT numbered_layout }
+        ensures bits { BITS_AT ≡ bits_at }
     {
         [Number::place()]
     }
@@ -132,6 +144,7 @@ pub mod scn_inventory {
         ensures places { result ≡ numbered_layout }
         ensures apart { ShareNoByte (head_layout ++ numbered_layout) }
         ensures before { AllBefore ENTRIES_AT numbered_layout }
+        ensures entries { ENTRIES_AT ≡ entries_at }
     {
         [Number::place()]
     }
@@ -178,6 +191,8 @@ pub mod data {
         ensures places { result ≡ data_layout }
         ensures apart { ShareNoByte (head_layout ++ data_layout) }
         ensures before { AllBefore SLOTS_AT data_layout }
+        ensures slots { SLOTS_AT ≡ slots_at }
+        ensures slot { SLOT ≡ slot_length }
     {
         [Next::place(), Owner::place()]
     }
@@ -204,7 +219,7 @@ pub mod row {
     pub fn layout() -> [(usize, usize); 4]
         ensures places { result ≡ row_layout }
         ensures apart { ShareNoByte row_layout }
-        ensures before { AllBefore 256 row_layout }
+        ensures before { AllBefore slot_length row_layout }
     {
         [
             Used::place(),
@@ -236,7 +251,7 @@ pub mod catalogue {
     pub fn layout() -> [(usize, usize); 4]
         ensures places { result ≡ catalogue_layout }
         ensures apart { ShareNoByte catalogue_layout }
-        ensures before { AllBefore 256 catalogue_layout }
+        ensures before { AllBefore slot_length catalogue_layout }
     {
         [
             Used::place(),
@@ -274,7 +289,7 @@ pub mod history {
     pub fn layout() -> [(usize, usize); 7]
         ensures places { result ≡ history_layout }
         ensures apart { ShareNoByte history_layout }
-        ensures before { AllBefore 256 history_layout }
+        ensures before { AllBefore slot_length history_layout }
     {
         [
             Used::place(),
@@ -301,6 +316,7 @@ pub mod allocation {
     pub fn layout() -> [(usize, usize); 1]
         ensures places { result ≡ allocation_layout }
         ensures before { AllBefore NUMBERS_AT allocation_layout }
+        ensures numbers { NUMBERS_AT ≡ numbers_at }
     {
         [Count::place()]
     }
@@ -333,10 +349,13 @@ pub mod level {
     pub type PreviousScn = Field<48, 4>;
 
     /// The fields, of which no two share a byte. They fill the head.
+    #[tactic(auto, unfolding(crate::specs::Bytes::bytes_of))]
     pub fn layout() -> [(usize, usize); 8]
         ensures places { result ≡ level_layout }
         ensures apart { ShareNoByte level_layout }
         ensures before { AllBefore LENGTH level_layout }
+        ensures length { LENGTH ≡ end_of 0 level_layout }
+        ensures letters { bytes_of 4 SIGNATURE ≡ codes "NBAK" }
     {
         [
             Signature::place(),

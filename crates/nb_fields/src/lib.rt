@@ -12,11 +12,16 @@ mod cases;
 mod field;
 mod kinds;
 pub mod layouts;
+mod places;
 
-pub use bytes::{number_at, put_number};
+pub use bytes::{are_zeros, number_at, put_number};
 pub use cases::CaseTable;
 pub use field::{Bytes16, Field};
 pub use kinds::PageKind;
+pub use places::{
+    MOST_PAGES, bits_in, entries_in, is_inventory_place, is_page_size, is_scn_place, is_system_place,
+    most_pages,
+};
 
 #[cfg(test)]
 mod tests;

@@ -73,7 +73,9 @@ impl Name {
     pub fn is_delta(&self) -> bool
         ensures { result ≡ is_delta self.now }
     {
-        self.as_str().as_bytes().ends_with(b".delta")
+        self.as_str()
+            .as_bytes()
+            .ends_with(DELTA_SUFFIX.as_bytes())
     }
 
     /// The name of the difference file beside this database.
@@ -82,7 +84,7 @@ impl Name {
         ensures { result ≡ self.now ++ delta_suffix }
     {
         let mut text = self.text;
-        text.push_str(".delta");
+        text.push_str(DELTA_SUFFIX);
         Name { text }
     }
 

@@ -10,16 +10,9 @@ ghost use Rattle.nb_level.specs.Reading.{head_fault, IsBegun};
 
 use crate::LevelReader;
 use nb_fields::layouts::level;
-use nb_fields::number_at;
+use nb_fields::{is_page_size, number_at};
 use nb_host::{Fault, Host, Name, Refusal};
 use std::alloc::Global;
-
-/// Whether a page may have so many bytes.
-fn is_page_size(size: u64) -> bool
-    ensures { result ≡ is_page_size size }
-{
-    size == 1024 || size == 2048 || size == 4096 || size == 8192 || size == 16384 || size == 32768
-}
 
 /// Whether a file begins as a level file does.
 fn begins_level(bytes: &[u8]) -> bool

@@ -5,14 +5,11 @@ ghost use Rattle.nb_level.specs.Heads.{head_of};
 ghost use Rattle.nb_level.specs.Reading.{end_step, single_step, run_step};
 
 use crate::LevelHead;
-use nb_fields::number_at;
+use nb_fields::{MOST_PAGES, number_at};
 use nb_page::read_header;
 
 /// What stands in the place of a number where no page follows.
 pub(crate) const END_MARK: u32 = u32::MAX;
-
-/// How many pages a database has at most.
-pub(crate) const MOST_PAGES: u32 = 1048576;
 
 /// Whether page 0 of a level file is the header of the database at its backup.
 #[tactic(auto, unfolding(nb_model::specs::Levels::is_first_page, nb_page::specs::Header::header_in))]

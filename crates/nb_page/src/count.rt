@@ -1,58 +1,8 @@
 ghost use Rattle.std.specs.Prelude.{◌≡◌, ◌+◌, ◌-◌, ◌*◌, ◌<◌, ◌≤◌, IsTrue, false};
-ghost use Rattle.nb_fields.specs.Places.{is_page_size, entries_in, bits_in, is_inventory_place, is_scn_place, is_system_place, plain_places};
+ghost use Rattle.nb_fields.specs.Places.{is_page_size, is_system_place, plain_places};
 ghost use Rattle.nb_fields.specs.Fresh.{next_plain, fresh_count, fresh_kind};
 
-use nb_fields::PageKind;
-
-/// How many entries an SCN inventory page has.
-#[tactic(auto, using(nb_fields::proofs::SizeLemmas::size_facts))]
-pub(crate) fn entries_in(size: u32) -> u32
-    requires { IsTrue (is_page_size size) }
-    ensures value { result ≡ entries_in size }
-    ensures some { 0 < result }
-    ensures fits { result ≤ size }
-{
-    (size - 32) / 4
-}
-
-/// How many bits a page inventory page has.
-#[tactic(auto, using(nb_fields::proofs::SizeLemmas::size_facts))]
-pub(crate) fn bits_in(size: u32) -> u32
-    requires { IsTrue (is_page_size size) }
-    ensures value { result ≡ bits_in size }
-    ensures some { 0 < result }
-{
-    32 * entries_in(size)
-}
-
-/// Whether a page inventory page stands there.
-#[tactic(auto, unfolding(nb_fields::specs::Places::is_inventory_place))]
-fn is_inventory_place(size: u32, page: u32) -> bool
-    requires size { IsTrue (is_page_size size) }
-    requires below { page < 1048576 }
-    ensures { result ≡ is_inventory_place size page }
-{
-    page == 1 || (page + 1) % bits_in(size) == 0
-}
-
-/// Whether an SCN inventory page stands there.
-#[tactic(auto, unfolding(nb_fields::specs::Places::is_scn_place))]
-fn is_scn_place(size: u32, page: u32) -> bool
-    requires size { IsTrue (is_page_size size) }
-    requires below { page < 1048576 }
-    ensures { result ≡ is_scn_place size page }
-{
-    page == 2 || (page > 0 && page % entries_in(size) == 0)
-}
-
-#[tactic(auto, unfolding(nb_fields::specs::Places::is_system_place))]
-fn is_system_place(size: u32, page: u32) -> bool
-    requires size { IsTrue (is_page_size size) }
-    requires below { page < 1048576 }
-    ensures { result ≡ is_system_place size page }
-{
-    is_inventory_place(size, page) || is_scn_place(size, page)
-}
+use nb_fields::{PageKind, is_inventory_place, is_scn_place, is_system_place};
 
 /// The next place from this one on that is no system place. Two of them may stand side by side, never three.
 #[tactic(auto, unfolding(nb_fields::specs::Fresh::next_plain))]

@@ -5,10 +5,10 @@ ghost use Rattle.nb_fields.specs.Payloads.{header_payload, inventory_payload, sc
 ghost use Rattle.nb_fields.specs.Fresh.{fresh_count};
 ghost use Rattle.nb_page.specs.Blank.{IsBlank};
 
-use crate::count::{bits_in, entries_in, fresh_count};
+use crate::count::fresh_count;
 use crate::{Header, write_header};
 use nb_fields::layouts::{data, header, inventory, scn_inventory};
-use nb_fields::put_number;
+use nb_fields::{bits_in, entries_in, put_number};
 
 /// The header of a new database behind the head of its page: state 0, SCN 1 and nil GUIDs.
 pub(crate) fn fill_header(page: &mut [u8])

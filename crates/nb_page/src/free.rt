@@ -1,19 +1,13 @@
 ghost use Rattle.std.specs.Prelude.{◌≡◌, ◌+◌, ◌≤◌, IsTrue, length, Some, IfOk, OnOk};
-ghost use Rattle.nb_fields.specs.Bytes.{is_zeros};
 ghost use Rattle.nb_fields.specs.Free.{is_free_file, is_unfinished};
 ghost use Rattle.nb_host.specs.Causes.{CountsFault};
 ghost use Rattle.nb_page.specs.Free.{is_free_name, has_delta};
 ghost use Rattle.nb_page.specs.Quiet.{Quiet};
 
 use crate::read_header;
+use nb_fields::are_zeros;
 use nb_fields::layouts::header;
 use nb_host::{Host, HostFault, MOST_BASE_NAME, Name};
-
-fn are_zeros(bytes: &[u8]) -> bool
-    ensures { result ≡ is_zeros bytes.now }
-{
-    bytes.iter().all(|byte| *byte == 0)
-}
 
 /// Whether a restore was stopped in a file that begins so.
 fn is_unfinished(first: &[u8]) -> bool

@@ -5,7 +5,7 @@ ghost use Rattle.nb_fields.specs.Page.{kind_of, number_of_page};
 ghost use Rattle.nb_fields.specs.Header.{is_header, is_marked, is_sound};
 ghost use Rattle.nb_page.specs.Header.{header_in, block_of, HasForm};
 
-use nb_fields::fields;
+use nb_fields::{fields, is_page_size};
 use nb_fields::layouts::{head, header};
 
 /// What the control block of a database holds.
@@ -21,13 +21,6 @@ pub struct Header {
     pub guid: [u8; 16],
     /// The GUID of the level file that is being merged in.
     pub pending: [u8; 16],
-}
-
-/// Whether a page may have so many bytes.
-fn is_page_size(size: u32) -> bool
-    ensures { result ≡ is_page_size size }
-{
-    size == 1024 || size == 2048 || size == 4096 || size == 8192 || size == 16384 || size == 32768
 }
 
 /// Whether the first bytes of a file say that they are those of a database of this version.
@@ -65,7 +58,7 @@ impl Header {
         ensures { result ≡ is_sound self.now.state self.now.page_size self.now.scn }
     {
         self.state <= 3
-            && is_page_size(self.page_size)
+            && is_page_size(u64::from(self.page_size))
             && self.scn >= 1
             && (self.state != 1 || self.scn < u32::MAX)
     }

@@ -1,14 +1,7 @@
 ghost use Rattle.std.specs.Prelude.{◌≡◌, ◌↔◌, ℕ, ◌+◌, ◌/◌, ◌%◌, ◌^◌, ◌<◌, IsTrue};
 ghost use Rattle.nb_fields.specs.Places.{is_page_size, bits_in, inventory_place, is_inventory_place};
 
-// How many bits an inventory page of that size has.
-fn bits_in(size: u32) -> u32
-    requires { IsTrue (is_page_size size) }
-    ensures bits { result ≡ bits_in size }
-    ensures some { 0 < result }
-{
-    32 * ((size - 32) / 4)
-}
+use nb_fields::{bits_in, is_inventory_place};
 
 /// The page at which inventory page `k` of a database with that page size stands.
 pub fn place_of(size: u32, k: u32) -> u32
@@ -26,7 +19,7 @@ pub fn is_place(size: u32, page: u32) -> bool
     ensures place { IsTrue result ↔ (k : ℕ) × (inventory_place size k ≡ page) }
     ensures value { result ≡ is_inventory_place size page }
 {
-    page == 1 || (page + 1) % bits_in(size) == 0
+    is_inventory_place(size, page)
 }
 
 /// The number of the inventory page that covers that page, and the index of the page's bit in it.

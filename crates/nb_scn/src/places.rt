@@ -1,14 +1,7 @@
 ghost use Rattle.std.specs.Prelude.{◌≡◌, ◌↔◌, ℕ, ◌/◌, ◌%◌, ◌^◌, ◌<◌, IsTrue};
 ghost use Rattle.nb_fields.specs.Places.{is_page_size, entries_in, scn_place, is_scn_place};
 
-// How many entries an SCN inventory page of that size has.
-fn entries_in(size: u32) -> u32
-    requires { IsTrue (is_page_size size) }
-    ensures entries { result ≡ entries_in size }
-    ensures some { 0 < result }
-{
-    (size - 32) / 4
-}
+use nb_fields::{entries_in, is_scn_place};
 
 /// The page at which SCN inventory page `k` of a database with that page size stands.
 pub fn place_of(size: u32, k: u32) -> u32
@@ -26,7 +19,7 @@ pub fn is_place(size: u32, page: u32) -> bool
     ensures place { IsTrue result ↔ (k : ℕ) × (scn_place size k ≡ page) }
     ensures value { result ≡ is_scn_place size page }
 {
-    page == 2 || (page > 0 && page % entries_in(size) == 0)
+    is_scn_place(size, page)
 }
 
 /// The number of the SCN inventory page that covers that page, and the index of the page's entry in it.
