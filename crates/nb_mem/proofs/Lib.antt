@@ -1,5 +1,6 @@
 pub mod NameLemmas
 pub mod SlotLemmas
+pub mod SlotNames
 pub mod PutLemmas
 pub mod CountLemmas
 pub mod CallLemmas

@@ -5,3 +5,4 @@ pub mod HistoryLaws
 pub mod Current
 pub mod Memory
 pub mod Outcomes
+pub mod Chosen

@@ -1,18 +1,27 @@
+ghost use Rattle.std.specs.Prelude.{◌≡◌};
+ghost use Rattle.nb_mem.specs.Chosen.{begun, is_yes, behind};
+
 /// Yes or no, again and again, by a number.
 ///
 /// 0 says no and 1 says yes each time. Any other number says its bits, the lowest first, then no, and begins again.
-#[derive(Drop)]
+#[derive(Clone, Copy, Drop)]
 pub struct Choices {
-    pick: u64,
-    rest: u64,
+    pub pick: u64,
+    pub rest: u64,
 }
 
 impl Choices {
-    pub fn new(pick: u64) -> Choices {
+    pub fn new(pick: u64) -> Choices
+        ensures { result ≡ begun pick }
+    {
         Choices { pick, rest: pick }
     }
 
-    pub fn choose(&mut self) -> bool {
+    #[tactic(auto, unfolding(crate::specs::Chosen::behind))]
+    pub fn choose(&mut self) -> bool
+        ensures yes { result ≡ is_yes self.old }
+        ensures rest { self.new ≡ behind self.old }
+    {
         if self.pick == 1 {
             return true;
         }

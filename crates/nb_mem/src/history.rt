@@ -3,6 +3,7 @@ ghost use Rattle.std.specs.Option.{option_copied};
 ghost use Rattle.nb_mem.specs.declared.entry.Entry.{Entry as Call};
 ghost use Rattle.nb_mem.specs.Histories.{files_of, said_of, reads_of, guids_of, times_of};
 ghost use Rattle.nb_mem.specs.Outcomes.{placed, IsLeft};
+ghost use Rattle.nb_mem.specs.Chosen.{picked};
 
 use crate::bytes::Bytes;
 use crate::choices::Choices;
@@ -156,7 +157,8 @@ impl History {
 
     /// What a stop now leaves, by the pick, as if it had just been placed.
     pub fn left(&self, pick: u64) -> Result<History, AllocError>
-        ensures { IfOk result (λ left. IsLeft self.now left) }
+        ensures left { IfOk result (λ left. IsLeft self.now left) }
+        ensures picked { IfOk result (λ left. left ≡ picked pick self.now) }
     {
         let mut left = History::new(self.alloc);
         let mut choices = Choices::new(pick);

@@ -7,6 +7,7 @@ ghost use Rattle.nb_mem.specs.Histories.{world_of, files_of, guid_of, guids_of, 
 ghost use Rattle.nb_mem.specs.declared.entry.Entry.{Entry as Call};
 ghost use Rattle.nb_mem.specs.Memory.{Answers, fresh};
 ghost use Rattle.nb_mem.specs.Outcomes.{IsLeft};
+ghost use Rattle.nb_mem.specs.Chosen.{picked};
 ghost use Rattle.nb_mem.specs.HistoryLaws.{timely, reads_left};
 
 use crate::counts::Counts;
@@ -92,6 +93,7 @@ impl MemHost {
     /// bytes are kept, then whether whole, and then whether zeros stand in the place of their second half.
     pub fn left(&self, pick: u64) -> Result<MemHost, Fault>
         ensures left { IfOk result (λ host. IsLeft self.now.history host.history) }
+        ensures picked { IfOk result (λ host. host.history ≡ picked pick self.now.history) }
         ensures anew { IfOk result (λ host. host ≡ record (fresh [] None) { history = host.history }) }
         ensures err { IfErr result (λ fault. fault ≡ Fault.Memory) }
     {

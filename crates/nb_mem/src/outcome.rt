@@ -1,7 +1,6 @@
-ghost use Rattle.std.specs.Prelude.{◌≡◌, ◌≤◌, ◌⊎◌, true, false, length, IfOk, OnOk};
+ghost use Rattle.std.specs.Prelude.{◌≡◌, ◌≤◌, ◌<◌, length, IfOk, OnOk};
 ghost use Rattle.nb_host.specs.Files.{bytes_of};
-ghost use Rattle.nb_host.specs.Crash.{PageLeft, AppendLeft, IsTornFrom};
-ghost use Rattle.nb_mem.specs.Outcomes.{Follows};
+ghost use Rattle.nb_mem.specs.Chosen.{grown, page_by, torn_by, bytes_by, settled, anew_by, behind, outcome_after, choices_after};
 
 use crate::bytes::Bytes;
 use crate::choices::Choices;
@@ -34,15 +33,14 @@ pub fn length_of(file: &Option<Bytes>) -> usize
     }
 }
 
-/// The file grows by pages of zeros, up to the end of the page at that place.
+/// The file grows by whole pages of zeros, up to the end of the page at that place.
 fn grow(alloc: Global, left: &mut Option<Bytes>, at: usize, page: &[u8]) -> Result<(), AllocError>
-    requires { length (bytes_of left.old) ≤ at }
-    ensures { OnOk result (PageLeft at page.now left.old left.new) }
+    ensures { OnOk result (left.new ≡ grown at page.now left.old) }
 {
     if page.len() == 0 || at > usize::MAX - page.len() {
-        return Ok(());
+        return Err(AllocError);
     }
-    let pages = (at + page.len() - length_of(left)) / page.len();
+    let pages = (at + page.len()).saturating_sub(length_of(left)) / page.len();
     match left {
         Some(bytes) => bytes.append_zeros(pages * page.len())?,
         None => {
@@ -55,6 +53,7 @@ fn grow(alloc: Global, left: &mut Option<Bytes>, at: usize, page: &[u8]) -> Resu
 }
 
 /// A page was written: it is kept, or lost. Where it lay past the end, the file may have grown all the same.
+#[tactic(auto, unfolding(crate::specs::Chosen::page_by))]
 fn leave_page(
     alloc: Global,
     left: &mut Option<Bytes>,
@@ -62,21 +61,26 @@ fn leave_page(
     page: &[u8],
     choices: &mut Choices,
 ) -> Result<(), AllocError>
-    ensures { OnOk result (PageLeft at page.now left.old left.new) }
+    ensures file { OnOk result (left.new ≡ (page_by choices.old at page.now left.old).0) }
+    ensures choices { OnOk result (choices.new ≡ (page_by choices.old at page.now left.old).1) }
 {
     if choices.choose() {
         write(alloc, left, at, page)?;
         return Ok(());
     }
-    if length_of(left) <= at && choices.choose() {
-        grow(alloc, left, at, page)?;
+    if length_of(left) <= at {
+        if choices.choose() {
+            grow(alloc, left, at, page)?;
+            return Ok(());
+        }
     }
     Ok(())
 }
 
 /// The first half of the bytes, and then zeros or nothing.
+#[tactic(auto, unfolding(crate::specs::Chosen::torn_by))]
 fn torn(alloc: Global, bytes: &[u8], is_padded: bool) -> Result<Bytes, AllocError>
-    ensures { IfOk result (λ torn. IsTornFrom bytes.now torn) }
+    ensures { IfOk result (λ torn. torn ≡ torn_by is_padded bytes.now) }
 {
     let half = bytes.len() / 2;
     let mut torn = Bytes::copy(alloc, &bytes[..half])?;
@@ -87,6 +91,7 @@ fn torn(alloc: Global, bytes: &[u8], is_padded: bool) -> Result<Bytes, AllocErro
 }
 
 /// Bytes were appended where the file had that length: they are kept, or lost, or torn.
+#[tactic(auto, unfolding(crate::specs::Chosen::bytes_by))]
 fn leave_bytes(
     alloc: Global,
     left: &mut Option<Bytes>,
@@ -94,9 +99,13 @@ fn leave_bytes(
     bytes: &[u8],
     choices: &mut Choices,
 ) -> Result<(), AllocError>
-    ensures { OnOk result (AppendLeft len bytes.now left.old left.new) }
+    ensures file { OnOk result (left.new ≡ (bytes_by choices.old len bytes.now left.old).0) }
+    ensures choices { OnOk result (choices.new ≡ (bytes_by choices.old len bytes.now left.old).1) }
 {
-    if length_of(left) != len || !choices.choose() {
+    if length_of(left) != len {
+        return Ok(());
+    }
+    if !choices.choose() {
         return Ok(());
     }
     if choices.choose() {
@@ -109,19 +118,26 @@ fn leave_bytes(
 }
 
 impl Outcome {
-    /// It goes on by a change of the file, which had that length before and reads so then.
+    /// It goes on by a change of the file, which had that length before and reads so then. Where the file is settled, the
+    /// choices begin again as they were at first.
+    #[tactic(auto, unfolding(crate::specs::Chosen::outcome_after, crate::specs::Chosen::choices_after))]
     pub fn follow(
         &mut self,
         alloc: Global,
         change: &Change,
         len: usize,
         file: &Option<Bytes>,
+        first: Choices,
         choices: &mut Choices,
     ) -> Result<(), AllocError>
-        ensures { OnOk result (Follows change.now len file.now self.old self.new) }
+        ensures outcome { OnOk result (self.new ≡ outcome_after first change.now len file.now self.old choices.old) }
+        ensures choices { OnOk result (choices.new ≡ choices_after first change.now len self.old choices.old) }
     {
         match change {
-            Change::Placed(_) => self.settle(alloc, file)?,
+            Change::Placed(_) => {
+                self.settle(alloc, file)?;
+                *choices = first;
+            }
             Change::Made => self.start_anew(alloc, file, choices)?,
             Change::Removed => self.start_anew(alloc, file, choices)?,
             Change::Paged(at, page) => {
@@ -134,14 +150,17 @@ impl Outcome {
                     leave_bytes(alloc, &mut self.left, len, bytes.as_slice(), choices)?;
                 }
             }
-            Change::Synced => self.settle(alloc, file)?,
+            Change::Synced => {
+                self.settle(alloc, file)?;
+                *choices = first;
+            }
         }
         Ok(())
     }
 
     /// Nothing is left but the file.
     fn settle(&mut self, alloc: Global, file: &Option<Bytes>) -> Result<(), AllocError>
-        ensures { OnOk result (self.new ≡ record { left = file.now; is_back = false }) }
+        ensures { OnOk result (self.new ≡ settled file.now) }
     {
         self.left = copy_file(alloc, file)?;
         self.is_back = false;
@@ -149,13 +168,15 @@ impl Outcome {
     }
 
     /// The file was made or removed: so it is, or as it was.
+    #[tactic(auto, unfolding(crate::specs::Chosen::anew_by))]
     fn start_anew(
         &mut self,
         alloc: Global,
         file: &Option<Bytes>,
         choices: &mut Choices,
     ) -> Result<(), AllocError>
-        ensures { OnOk result ((self.new ≡ record { left = self.old.left; is_back = true }) ⊎ (self.new ≡ record { left = file.now; is_back = false })) }
+        ensures outcome { OnOk result (self.new ≡ anew_by choices.old file.now self.old) }
+        ensures choices { OnOk result (choices.new ≡ behind choices.old) }
     {
         if choices.choose() {
             self.settle(alloc, file)?;

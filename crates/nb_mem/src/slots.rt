@@ -4,7 +4,8 @@ ghost use Rattle.std.specs.Option.{option_copied};
 ghost use Rattle.nb_host.specs.Files.{File, with_file, with_page, with_bytes};
 ghost use Rattle.nb_host.specs.Names.{same_name};
 ghost use Rattle.nb_mem.specs.Changes.{file_after};
-ghost use Rattle.nb_mem.specs.Slots.{files_in};
+ghost use Rattle.nb_mem.specs.Slots.{files_in, names_in};
+ghost use Rattle.nb_mem.specs.Chosen.{with_name};
 
 use crate::bytes::Bytes;
 use crate::entry::Change;
@@ -92,7 +93,9 @@ pub fn change_slot(
     change: &Change,
 ) -> Result<(), AllocError>
     ensures ok { OnOk result (files_in slots.new.items ≡ with_file (files_in slots.old.items) name.now (file_after change.now (files_in slots.old.items name.now))) }
+    ensures names { OnOk result (names_in slots.new.items ≡ with_name name.now (names_in slots.old.items)) }
     ensures err { OnErr result (files_in slots.new.items ≡ files_in slots.old.items) }
+    ensures same_names { OnErr result (names_in slots.new.items ≡ names_in slots.old.items) }
 {
     match place(slots, name) {
         Some(at) => {

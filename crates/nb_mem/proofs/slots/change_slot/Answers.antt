@@ -5,8 +5,9 @@ use Rattle.nb_mem.specs.declared.slots.Slot.{Slot}
 use Rattle.std.proofs.Common.{◌≡◌, ◌∙◌, sym, ap, List, ℕ, ◌∷◌, ◌++◌, []}
 use Rattle.nb_host.specs.Files.{File, with_file}
 use Rattle.nb_mem.specs.Changes.{file_after}
-use Rattle.nb_mem.specs.Slots.{files_in}
+use Rattle.nb_mem.specs.Slots.{files_in, names_in}
 use Rattle.nb_mem.proofs.SlotLemmas.{found, changed, not_found, added}
+use Rattle.nb_mem.proofs.SlotNames.{names-changed, names-added}
 use Rattle.nb_mem.proofs.slots.change_slot.Goals as goal
 
 pub returns-in_ok-change_file-in-Some-clause-ok : goal.returns-in_ok-change_file-in-Some-clause-ok
@@ -29,3 +30,19 @@ returns-in_ok-push-in-None-clause-ok c =
     ∙ added name slots file is
     ∙ ap (λ (f : File). with_file (files_in slots) name f)
     (c.in_ok-change_file-in-None.ensures.ok ∙ ap (λ (f : File). file_after c.args.change.now f) (sym (not_found name slots is)))
+
+pub returns-in_ok-change_file-in-Some-clause-names : goal.returns-in_ok-change_file-in-Some-clause-names
+returns-in_ok-change_file-in-Some-clause-names c =
+    let slots = c.args.slots.now.items in
+    let name = c.args.name.now in
+    let is : position (λ s. same_name name s.name) slots ≡ Some c.in-Some.at = sym (c.in-Some.ensures ∙ ap (λ (l : List Slot). position (λ (s : Slot). same_name name s.name) l) c.deref.ensures.value) in
+    names-changed name slots c.in-Some.at c.index_mut-slot.result.now c.change_file.new.file is c.index_mut-slot.ensures.value
+
+pub returns-in_ok-push-in-None-clause-names : goal.returns-in_ok-push-in-None-clause-names
+returns-in_ok-push-in-None-clause-names c =
+    let slots = c.args.slots.now.items in
+    let name = c.args.name.now in
+    let file = c.change_file-in-None.new.file in
+    let is : position (λ s. same_name name s.name) slots ≡ None = sym (c.in-None.ensures ∙ ap (λ (l : List Slot). position (λ (s : Slot). same_name name s.name) l) c.deref.ensures.value) in
+    ap names_in (c.in_ok-push-in-None.ensures.items ∙ ap (λ (n : List ℕ). slots ++ record { name = n; file = file } ∷ []) c.copied-name.ensures)
+    ∙ names-added name slots file is
