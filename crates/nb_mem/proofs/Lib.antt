@@ -6,3 +6,4 @@ pub mod CountLemmas
 pub mod CallLemmas
 pub mod OutcomeLemmas
 pub mod LeftLemmas
+pub mod CrashLaws

@@ -6,3 +6,4 @@ pub mod Current
 pub mod Memory
 pub mod Outcomes
 pub mod Chosen
+pub mod Crashes

@@ -12,6 +12,7 @@ mod counts;
 mod entry;
 mod history;
 mod host;
+pub mod laws;
 mod left;
 mod outcome;
 mod reads;
