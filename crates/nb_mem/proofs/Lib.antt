@@ -7,3 +7,4 @@ pub mod CallLemmas
 pub mod OutcomeLemmas
 pub mod LeftLemmas
 pub mod CrashLaws
+pub mod PickLaws

@@ -1,0 +1,12 @@
+use Rattle.std.proofs.Common.{ap}
+use Rattle.nb_mem.specs.declared.choices.Choices.{Choices}
+use Rattle.nb_mem.specs.declared.outcome.Outcome.{Outcome}
+use Rattle.nb_mem.proofs.PickLaws.{picks_reach, keeps_all, loses_all}
+use Rattle.nb_mem.proofs.laws.picks.Goals as goal
+
+pub returns : goal.returns
+returns c = record {
+  reach = picks_reach;
+  all = λ es n. ap (λ (x : Outcome × Choices). x.0.left) (keeps_all es n);
+  nothing = λ es n. (loses_all es n).file;
+}
