@@ -1,5 +1,6 @@
 -- What an answer of a reader says of the file, of the reader and of the host.
-use Rattle.std.specs.Prelude.{◌≡◌, ℕ, ◌+◌, ◌≤◌, Bool, IsTrue, List, [], ◌∷◌, Some, None, Result, Ok, Err}
+use Rattle.std.specs.Prelude.{◌≡◌, ℕ, ◌+◌, ◌≤◌, Bool, true, false, ◌==◌, nat_lt, drop, IsTrue, List, [], ◌∷◌, Some, None, Result, Ok, Err}
+use Rattle.nb_fields.specs.Bytes.{number_in, part}
 use Rattle.nb_host.specs.Files.{File, bytes_of}
 use Rattle.nb_host.specs.World.{World}
 use Rattle.nb_host.specs.Causes.{Rose}
@@ -20,6 +21,25 @@ NextSays tells file old new page (Err (Refused (BadLevel name at))) = (name ≡ 
 NextSays tells file old new page (Err (Refused refusal)) = ⊥
 NextSays tells file old new page (Err Device) = new ≡ old
 NextSays tells file old new page (Err Memory) = ⊥
+
+-- what stands before the next page: its number, or that and how many pages its run has, or within a run nothing
+abbrev pub lead_of : Reading → ℕ
+lead_of r = elim (r.version == 101) [ true ↦ 4 | false ↦ elim (nat_lt 0 r.place.left) [ true ↦ 0 | false ↦ 8 ] ]
+
+-- the number that is due: the next one of the run, or the one that stands there
+abbrev pub number_due : Reading → (rest : List ℕ) → ℕ
+number_due r rest = elim (nat_lt 0 r.place.left) [ true ↦ r.place.least | false ↦ number_in 0 4 rest ]
+
+-- The page is the one that stands there in the file, whatever follows it, and so is its number. The reader then stands behind it.
+pub record IsThere (bytes : List ℕ) (lead due : ℕ) (old new : Reading) (n : ℕ) (given : List ℕ) : Type 0 where
+  pub number : n ≡ due
+  pub page : given ≡ part lead old.head.page_size (drop old.place.at bytes)
+  pub stands : new.place.at ≡ old.place.at + lead + old.head.page_size
+
+abbrev pub GivesAt : (tells : Bool) (file : File) (lead due : ℕ) (old new : Reading) (page : List ℕ) → Result Item Fault → Type 0
+GivesAt tells file lead due old new page (Ok (PageAt number)) = IsTrue tells → IsThere (bytes_of file) lead due old new number page
+GivesAt tells file lead due old new page (Ok (End count)) = Unit {0}
+GivesAt tells file lead due old new page (Err fault) = Unit {0}
 
 -- what the file holds is the head and what is still to come; or its first broken place; or there is no such file
 abbrev pub StartSays : (tells : Bool) (file : File) (name : List ℕ) → Result Reading Fault → Type 0

@@ -1,12 +1,13 @@
-ghost use Rattle.std.specs.Prelude.{◌≡◌, ◌⊎◌, ◌<◌, ◌≤◌, ◌+◌, length, IsTrue, IfOk};
+ghost use Rattle.std.specs.Prelude.{◌≡◌, ◌⊎◌, ◌<◌, ◌≤◌, ◌+◌, length, drop, IsTrue, IfOk};
 ghost use Rattle.nb_fields.specs.Bytes.{number_in};
 ghost use Rattle.nb_fields.specs.Places.{is_page_size};
 ghost use Rattle.nb_level.specs.Reading.{IsBegun};
 ghost use Rattle.nb_host.specs.declared.faults.Fault.TheVariants.{Refused};
 ghost use Rattle.nb_host.specs.declared.refusals.Refusal.TheVariants.{BadLevel};
+ghost use Rattle.nb_host.specs.Files.{bytes_of};
 ghost use Rattle.nb_host.specs.Calls.{IsStill};
 ghost use Rattle.nb_host.specs.Moments.{Passes};
-ghost use Rattle.nb_level.specs.Answers.{NextSays, CountsDevice, ReadsOnce};
+ghost use Rattle.nb_level.specs.Answers.{NextSays, GivesAt, lead_of, number_due, CountsDevice, ReadsOnce};
 ghost use Rattle.nb_level.specs.declared.place.Place.{Place};
 
 use crate::head::head_in;
@@ -110,15 +111,14 @@ impl LevelReader {
         requires size { length into.old ≡ self.old.head.page_size }
         requires run { (self.old.version ≡ 102) × (0 < self.old.place.left) }
         ensures answer { NextSays H.tells ((H.world host.old).files self.old.name) self.old self.new into.new result }
+        ensures there { GivesAt H.tells ((H.world host.old).files self.old.name) 0 self.old.place.least self.old self.new into.new result }
         ensures same { self.new ≡ record self.old { place = self.new.place } }
         ensures files { IsStill (H.world host.old) (H.world host.new) }
         ensures log { ReadsOnce H.tells (H.world host.old) (H.world host.new) }
         ensures time { Passes (H.world host.old) (H.world host.new) }
         ensures cause { CountsDevice result (H.faults host.old) (H.faults host.new) }
     {
-        let Ok(count) = host.read_at(&self.name, self.place.at, into) else {
-            return Err(Fault::Device);
-        };
+        let count = host.read_at(&self.name, self.place.at, into)?;
         if count < into.len() {
             return Err(self.broken(self.place.at + count as u64));
         }
@@ -138,6 +138,7 @@ impl LevelReader {
         requires size { length into.old ≡ self.old.head.page_size }
         requires version { self.old.version ≡ 101 }
         ensures answer { NextSays H.tells ((H.world host.old).files self.old.name) self.old self.new into.new result }
+        ensures there { GivesAt H.tells ((H.world host.old).files self.old.name) 4 (number_in 0 4 (drop self.old.place.at (bytes_of ((H.world host.old).files self.old.name)))) self.old self.new into.new result }
         ensures same { self.new ≡ record self.old { place = self.new.place } }
         ensures files { IsStill (H.world host.old) (H.world host.new) }
         ensures log { ReadsOnce H.tells (H.world host.old) (H.world host.new) }
@@ -150,9 +151,7 @@ impl LevelReader {
             least,
             ..
         } = self.place;
-        let Ok(got) = host.read_at(&self.name, at, &mut self.buffer) else {
-            return Err(Fault::Device);
-        };
+        let got = host.read_at(&self.name, at, &mut self.buffer)?;
         match single_step(&self.head, at, count, least, &self.buffer[..got]) {
             Err(place) => Err(self.broken(place)),
             Ok(None) => Ok(Item::End(count)),
@@ -175,6 +174,7 @@ impl LevelReader {
         requires size { length into.old ≡ self.old.head.page_size }
         requires run { (self.old.version ≡ 102) × (self.old.place.left ≡ 0) }
         ensures answer { NextSays H.tells ((H.world host.old).files self.old.name) self.old self.new into.new result }
+        ensures there { GivesAt H.tells ((H.world host.old).files self.old.name) 8 (number_in 0 4 (drop self.old.place.at (bytes_of ((H.world host.old).files self.old.name)))) self.old self.new into.new result }
         ensures same { self.new ≡ record self.old { place = self.new.place } }
         ensures files { IsStill (H.world host.old) (H.world host.new) }
         ensures log { ReadsOnce H.tells (H.world host.old) (H.world host.new) }
@@ -188,9 +188,7 @@ impl LevelReader {
             barred,
             ..
         } = self.place;
-        let Ok(got) = host.read_at(&self.name, at, &mut self.buffer) else {
-            return Err(Fault::Device);
-        };
+        let got = host.read_at(&self.name, at, &mut self.buffer)?;
         match run_step(&self.head, at, count, least, barred, &self.buffer[..got]) {
             Err(place) => Err(self.broken(place)),
             Ok(None) => Ok(Item::End(count)),
@@ -214,6 +212,7 @@ impl LevelReader {
     pub fn next<H: Host>(&mut self, host: &mut H, into: &mut [u8]) -> Result<Item, Fault>
         requires { length into.old ≡ self.old.head.page_size }
         ensures answer { NextSays H.tells ((H.world host.old).files self.old.name) self.old self.new into.new result }
+        ensures there { GivesAt H.tells ((H.world host.old).files self.old.name) (lead_of self.old) (number_due self.old (drop self.old.place.at (bytes_of ((H.world host.old).files self.old.name)))) self.old self.new into.new result }
         ensures same { self.new ≡ record self.old { place = self.new.place } }
         ensures files { IsStill (H.world host.old) (H.world host.new) }
         ensures log { ReadsOnce H.tells (H.world host.old) (H.world host.new) }

@@ -63,21 +63,16 @@ fn open<H: Host>(alloc: Global, host: &mut H, name: &Name) -> Result<LevelReader
     ensures cause { CountsDevice result (H.faults host.old) (H.faults host.new) }
 {
     let mut first = [0; level::LENGTH];
-    let Ok(got) = host.read_at(name, 0, &mut first) else {
-        return Err(Fault::Device);
-    };
+    let got = host.read_at(name, 0, &mut first)?;
     match head_fault(&first[..got]) {
-        Some(at) => {
-            return Err(Fault::Refused(Refusal::BadLevel {
-                name: name.copied(),
-                at,
-            }));
+        Some(at) => Err(Fault::Refused(Refusal::BadLevel {
+            name: name.copied(),
+            at,
+        })),
+        None => {
+            let reader = LevelReader::begun(alloc, name, &first)?;
+            Ok(reader)
         }
-        None => {}
-    }
-    match LevelReader::begun(alloc, name, &first) {
-        Ok(reader) => Ok(reader),
-        Err(_) => Err(Fault::Memory),
     }
 }
 
@@ -92,12 +87,11 @@ impl LevelReader {
         ensures reads { IsTrue H.tells → (H.world host.new).reads ≤ (H.world host.old).reads + 1 }
         ensures cause { CountsDevice result (H.faults host.old) (H.faults host.new) }
     {
-        match host.size(name) {
-            Ok(Some(_)) => open(alloc, host, name),
-            Ok(None) => Err(Fault::Refused(Refusal::NoFile {
+        match host.size(name)? {
+            Some(_) => open(alloc, host, name),
+            None => Err(Fault::Refused(Refusal::NoFile {
                 name: name.copied(),
             })),
-            Err(_) => Err(Fault::Device),
         }
     }
 }

@@ -1,4 +1,5 @@
 ghost use Rattle.std.specs.Prelude.{◌≡◌, ◌+◌, ◌^◌, ◌<◌, ◌≤◌, ◌==◌, ◌||◌, nat_lt, length, IsTrue, IfOk, IfSome};
+ghost use Rattle.nb_fields.specs.Bytes.{number_in};
 ghost use Rattle.nb_fields.specs.Places.{is_page_size};
 ghost use Rattle.nb_model.specs.Levels.{is_first_page, is_bad_number, barred_after};
 ghost use Rattle.nb_level.specs.Heads.{head_of};
@@ -70,6 +71,7 @@ pub(crate) fn single_step(
     requires place { at < 2 ^ 62 }
     requires window { length bytes.now ≤ 4 + head.now.page_size }
     ensures step { result ≡ single_step (head_of head.now) at count least bytes.now }
+    ensures number { IfOk result (λ next. IfSome next (λ page. page.0 ≡ number_in 0 4 bytes.now)) }
     ensures page { IfOk result (λ next. IfSome next (λ page. (length bytes.now ≡ 4 + head.now.page_size) × (least ≤ page.0) × (page.0 < 1048576))) }
 {
     if bytes.len() < 4 {
@@ -115,6 +117,7 @@ pub(crate) fn run_step(
     requires place { at < 2 ^ 62 }
     requires window { length bytes.now ≤ 8 + head.now.page_size }
     ensures step { result ≡ run_step (head_of head.now) at count least barred bytes.now }
+    ensures number { IfOk result (λ next. IfSome next (λ run. run.0 ≡ number_in 0 4 bytes.now)) }
     ensures run { IfOk result (λ next. IfSome next (λ run. (length bytes.now ≡ 8 + head.now.page_size) × (least ≤ run.0) × (1 ≤ run.1) × (run.1 ≤ 16) × (run.0 + run.1 ≤ 1048576))) }
 {
     if bytes.len() < 4 {

@@ -40,10 +40,10 @@ page_left c at page before =
     let P : File × Choices → Type 0 = λ x. PageLeft at page before x.0 in
     chosen P (is_yes c) _ _ (λ kept. inr (inl refl))
     (λ lost. chosen P (nat_le (length (bytes_of before)) at) _ _
-      (λ low. chosen P (is_yes (behind c)) _ _
-        (λ kept. inr (inr ((at + length page - length (bytes_of before)) / length page, grown-bound at (length page) (length (bytes_of before)) (leb-true (length (bytes_of before)) at low), refl)))
-        (λ lost. inl refl))
-      (λ high. inl refl))
+    (λ low. chosen P (is_yes (behind c)) _ _
+    (λ kept. inr (inr ((at + length page - length (bytes_of before)) / length page, grown-bound at (length page) (length (bytes_of before)) (leb-true (length (bytes_of before)) at low), refl)))
+    (λ lost. inl refl))
+    (λ high. inl refl))
 
 whole_torn : (bytes : List ℕ) → IsTornFrom bytes bytes
 whole_torn bytes = record { no_longer = omega arith; each = λ i low. inl refl }
@@ -59,9 +59,9 @@ half_torn true bytes =
     record {
       no_longer = omega (arith, length-append (take h bytes) (replicate (length bytes - h) 0), front, length-replicate {A = ℕ} (length bytes - h) 0);
       each = λ i low. ⊎_elim
-        (λ first. let first_too : i < length (take h bytes) = omega (arith, front) in inl (get_or_append_left (take h bytes) _ 0 i first_too ∙ get_or-take h bytes i 0 first))
-        (λ second. inr (get_or-append_right (take h bytes) _ h i 0 front second ∙ get_or-zeros (length bytes - h) (i - h)))
-        (cases_lt i h);
+          (λ first. let first_too : i < length (take h bytes) = omega (arith, front) in inl (get_or_append_left (take h bytes) _ 0 i first_too ∙ get_or-take h bytes i 0 first))
+          (λ second. inr (get_or-append_right (take h bytes) _ h i 0 front second ∙ get_or-zeros (length bytes - h) (i - h)))
+          (cases_lt i h);
     }
 half_torn false bytes =
     let h : ℕ = length bytes / 2 in
@@ -78,11 +78,11 @@ bytes_left c len bytes before =
     let P : File × Choices → Type 0 = λ x. AppendLeft len bytes before x.0 in
     chosen P (length (bytes_of before) == len) _ _
     (λ same. let at : length (bytes_of before) ≡ len = eqb-true (length (bytes_of before)) len same in
-      chosen P (is_yes c) _ _
-      (λ kept. chosen P (is_yes (behind c)) _ _
-        (λ whole. inr (bytes, whole_torn bytes, at, refl))
-        (λ torn. inr (torn_by (is_yes (behind (behind c))) bytes, half_torn (is_yes (behind (behind c))) bytes, at, refl)))
-      (λ lost. inl refl))
+    chosen P (is_yes c) _ _
+    (λ kept. chosen P (is_yes (behind c)) _ _
+    (λ whole. inr (bytes, whole_torn bytes, at, refl))
+    (λ torn. inr (torn_by (is_yes (behind (behind c))) bytes, half_torn (is_yes (behind (behind c))) bytes, at, refl)))
+    (λ lost. inl refl))
     (λ other. inl refl)
 
 module _ (es : List Entry) (n : List ℕ) where
@@ -109,7 +109,7 @@ module _ (es : List Entry) (n : List ℕ) where
       → MayBe es n o → After change (elim o.is_back as (λ _. Outcome) [ true ↦ o | false ↦ settled left ])
   goes_on change o left back now may = chosen (After change) o.is_back o (settled left)
       (λ is. subst (λ b. MatchBool b (BackAfter change (Back es n) (Now es n) o.left) (NowAfter change (files_of es n) (Now es n) o.left)) (sym is)
-        (back (subst (λ b. MatchBool b (Back es n o.left) (Now es n o.left)) is may)))
+      (back (subst (λ b. MatchBool b (Back es n o.left) (Now es n o.left)) is may)))
       (λ is. now (subst (λ b. MatchBool b (Back es n o.left) (Now es n o.left)) is may))
 
   after : (first : Choices) (change : Change) (o : Outcome) (c : Choices) → MayBe es n o
@@ -153,8 +153,10 @@ other_outcome first (Asked question) n es other = refl
 
 -- one of this file
 pub same_outcome : (first : Choices) (n : List ℕ) (change : Change) (es : List Entry) → outcome_by first (Changed n change ∷ es) n
-    ≡ (outcome_after first change (length (bytes_of (files_of es n))) (file_after change (files_of es n)) (outcome_by first es n).0 (outcome_by first es n).1,
-      choices_after first change (length (bytes_of (files_of es n))) (outcome_by first es n).0 (outcome_by first es n).1)
+    ≡ (
+      outcome_after first change (length (bytes_of (files_of es n))) (file_after change (files_of es n)) (outcome_by first es n).0 (outcome_by first es n).1,
+      choices_after first change (length (bytes_of (files_of es n))) (outcome_by first es n).0 (outcome_by first es n).1,
+    )
 unfolding outcome_by
 same_outcome first n change es = rw (same_self n, outcome_by) refl
 
@@ -167,10 +169,10 @@ pub left_may : (first : Choices) (es : List Entry) (n : List ℕ) → MayBe es n
 left_may first [] n = before_all first n
 left_may first (Changed m change ∷ es) n = ⊎_elim
     (λ same. subst (λ q. MayBe (Changed q change ∷ es) n (outcome_by first (Changed q change ∷ es) n).0) same
-      (subst (λ o. MayBe (Changed n change ∷ es) n o) (sym (ap (λ x. x.0) (same_outcome first n change es)))
-        (goes_by es n first change (outcome_by first es n).0 (outcome_by first es n).1 (left_may first es n))))
+    (subst (λ o. MayBe (Changed n change ∷ es) n o) (sym (ap (λ x. x.0) (same_outcome first n change es)))
+    (goes_by es n first change (outcome_by first es n).0 (outcome_by first es n).1 (left_may first es n))))
     (λ other. subst (λ o. MayBe (Changed m change ∷ es) n o) (sym (ap (λ x. x.0) (other_outcome first (Changed m change) n es other)))
-      (other_left (Changed m change) n es (outcome_by first es n).0 other (left_may first es n)))
+    (other_left (Changed m change) n es (outcome_by first es n).0 other (left_may first es n)))
     (decide n m)
 left_may first (Said bytes ∷ es) n = subst (λ o. MayBe es n o) (sym (ap (λ x. x.0) (other_outcome first (Said bytes) n es tt))) (left_may first es n)
 left_may first (Asked question ∷ es) n = subst (λ o. MayBe es n o) (sym (ap (λ x. x.0) (other_outcome first (Asked question) n es tt))) (left_may first es n)

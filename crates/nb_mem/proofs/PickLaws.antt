@@ -107,10 +107,10 @@ pub keeps_all : (es : List Entry) (n : List ℕ) → outcome_by (begun 1) es n �
 keeps_all [] n = nothing_by (begun 1) n
 keeps_all (Changed m change ∷ es) n = ⊎_elim
     (λ same. subst (λ q. outcome_by (begun 1) (Changed q change ∷ es) n ≡ (settled (files_of (Changed q change ∷ es) n), begun 1)) same
-      (same_outcome (begun 1) n change es
-      ∙ ap (λ (x : Outcome × Choices). (outcome_after (begun 1) change (length (bytes_of (files_of es n))) (file_after change (files_of es n)) x.0 x.1, choices_after (begun 1) change (length (bytes_of (files_of es n))) x.0 x.1)) (keeps_all es n)
-      ∙ ap₂ (λ (o : Outcome) (c : Choices). (o, c)) (keeps_change change (files_of es n)) (keeps_choices change (files_of es n))
-      ∙ ap (λ (f : File). (settled f, begun 1)) (sym (with_file-same (files_of es) n (file_after change (files_of es n))))))
+    (same_outcome (begun 1) n change es
+    ∙ ap (λ (x : Outcome × Choices). (outcome_after (begun 1) change (length (bytes_of (files_of es n))) (file_after change (files_of es n)) x.0 x.1, choices_after (begun 1) change (length (bytes_of (files_of es n))) x.0 x.1)) (keeps_all es n)
+    ∙ ap₂ (λ (o : Outcome) (c : Choices). (o, c)) (keeps_change change (files_of es n)) (keeps_choices change (files_of es n))
+    ∙ ap (λ (f : File). (settled f, begun 1)) (sym (with_file-same (files_of es) n (file_after change (files_of es n))))))
     (λ other. other_outcome (begun 1) (Changed m change) n es other ∙ keeps_all es n ∙ ap (λ (f : File). (settled f, begun 1)) (sym (with_file-other (files_of es) m (file_after change (files_of es m)) n other)))
     (decide n m)
 keeps_all (Said bytes ∷ es) n = other_outcome (begun 1) (Said bytes) n es tt ∙ keeps_all es n
@@ -190,12 +190,12 @@ loses_same n change es before =
     let old : Outcome × Choices = outcome_by (begun 0) es n in
     record {
       file = ap (λ (x : Outcome × Choices). x.0.left) (same_outcome (begun 0) n change es)
-        ∙ ap (λ (c : Choices). (outcome_after (begun 0) change len (file_after change (files_of es n)) old.0 c).left) before.choices
-        ∙ loses_change change len (files_of es n) (settled_file es n) old.0 before.file
-        ∙ sym (settled_same n change es);
+          ∙ ap (λ (c : Choices). (outcome_after (begun 0) change len (file_after change (files_of es n)) old.0 c).left) before.choices
+          ∙ loses_change change len (files_of es n) (settled_file es n) old.0 before.file
+          ∙ sym (settled_same n change es);
       choices = ap (λ (x : Outcome × Choices). x.1) (same_outcome (begun 0) n change es)
-        ∙ ap (λ (c : Choices). choices_after (begun 0) change len old.0 c) before.choices
-        ∙ loses_choices change len old.0;
+          ∙ ap (λ (c : Choices). choices_after (begun 0) change len old.0 c) before.choices
+          ∙ loses_choices change len old.0;
     }
 
 loses_other : (e : Entry) (n : List ℕ) (es : List Entry) → IsOther e n → settled_file es n ≡ settled_file (e ∷ es) n → LosesAll es n → LosesAll (e ∷ es) n

@@ -16,29 +16,25 @@ ghost use Rattle.nb_mem.specs.Crashes.{LeavesAfter, PagesMay, BytesMay, AnewMay,
 pub fn pages_may()
     ensures now { (es : List Call) (n : List ℕ) (at : ℕ) (page : List ℕ) (before : File) → Now es n before → PagesMay es n at page before }
     ensures back { (es : List Call) (n : List ℕ) (at : ℕ) (page : List ℕ) (before : File) → Back es n before → LeavesAfter es n (Step.Paged at page) before }
-{
-}
+{}
 
 /// Bytes that were appended may be lost, cut, or zeros, each as it was written or zero; and so on.
 pub fn bytes_may()
     ensures now { (es : List Call) (n bytes : List ℕ) (before : File) → Now es n before → BytesMay es n bytes before }
     ensures back { (es : List Call) (n bytes : List ℕ) (before : File) → Back es n before → LeavesAfter es n (Step.Appended bytes) before }
-{
-}
+{}
 
 /// A file that was made may be gone again, or as it was before; and one that was removed may be back.
 pub fn files_may_be_back()
     ensures made { (es : List Call) (n : List ℕ) → AnewMay es n Step.Made (Some []) }
     ensures removed { (es : List Call) (n : List ℕ) → AnewMay es n Step.Removed None }
-{
-}
+{}
 
 /// A file that was synced is as it reads, and so is a placed one. What a stop leaves of the others stays.
 pub fn synced_stay()
     ensures synced { (es : List Call) (n : List ℕ) → SyncedMay es n }
     ensures others { (es : List Call) (n : List ℕ) (change : Step) → OthersMay es n change }
-{
-}
+{}
 
 /// Each rule has a pick that reaches its outcomes. Pick 1 keeps all, and pick 0 gives each file as it was when it was last placed
 /// or synced.
@@ -46,5 +42,4 @@ pub fn picks()
     ensures reach { (es : List Call) (n : List ℕ) → PicksReach es n }
     ensures all { (es : List Call) (n : List ℕ) → left_by (begun 1) es n ≡ files_of es n }
     ensures nothing { (es : List Call) (n : List ℕ) → left_by (begun 0) es n ≡ settled_file es n }
-{
-}
+{}

@@ -16,9 +16,9 @@ returns-then-count-into-clause-answer g c =
       refl,
       refl,
       λ told.
-          let read = c.in-Ok.ensures.answer told in
-          let cut = read_cut (length c.args.into.now) c.in-Ok.count c.read_at.new.into (drop i.place.at bytes) (omega arith) read.bytes (omega arith) in
-          run-cut bytes r version (omega (arith, ap (λ (v : Reading). v.place.left) view, c.requires.run.1)) c.in-Ok.count cut (omega (arith, size)),
+          let read = c.in_ok-count.ensures.answer told in
+          let cut = read_cut (length c.args.into.now) c.in_ok-count.count c.read_at.new.into (drop i.place.at bytes) (omega arith) read.bytes (omega arith) in
+          run-cut bytes r version (omega (arith, ap (λ (v : Reading). v.place.left) view, c.requires.run.1)) c.in_ok-count.count cut (omega (arith, size)),
     )
 
 pub returns-clause-answer : goal.returns-clause-answer
@@ -30,10 +30,10 @@ returns-clause-answer g c =
     let size : length c.args.into.now ≡ i.head.page_size = c.requires.size ∙ sym (ap (λ (v : Reading). v.head.page_size) view) in
     let version : i.version ≡ 102 = ap (λ (v : Reading). v.version) view ∙ c.requires.run.0 in
     rw (← c.self.view_is) (λ told.
-    let read = c.in-Ok.ensures.answer told in
+    let read = c.in_ok-count.ensures.answer told in
     let rest : List ℕ = drop i.place.at bytes in
-    let got : c.in-Ok.count ≡ i.head.page_size = omega (arith, size) in
-    let whole = read_whole i.head.page_size c.read_at.new.into rest (omega (arith, size)) (window c.in-Ok.count i.head.page_size (length c.args.into.now) c.read_at.new.into rest read.bytes got size) in
-    run-more bytes r version (omega (arith, ap (λ (v : Reading). v.place.left) view, c.requires.run.1)) c.in-Ok.count c.read_at.new.into got whole.0 whole.1 _ refl) where
+    let got : c.in_ok-count.count ≡ i.head.page_size = omega (arith, size) in
+    let whole = read_whole i.head.page_size c.read_at.new.into rest (omega (arith, size)) (window c.in_ok-count.count i.head.page_size (length c.args.into.now) c.read_at.new.into rest read.bytes got size) in
+    run-more bytes r version (omega (arith, ap (λ (v : Reading). v.place.left) view, c.requires.run.1)) c.in_ok-count.count c.read_at.new.into got whole.0 whole.1 _ refl) where
       window : (count size room : ℕ) (after rest : List ℕ) → take count after ≡ take room rest → count ≡ size → room ≡ size → take size after ≡ take size rest
       window count size room after rest same one two = ap (λ n. take n after) (sym one) ∙ same ∙ ap (λ n. take n rest) two

@@ -30,10 +30,10 @@ loop-slot-preserved c =
     let rest : slot.name ∷ names_in (drop (i + 1) slots) ≡ names_in (drop i slots) = ap (λ (s : Slot). s.name ∷ names_in (drop (i + 1) slots)) at ∙ ap (λ k. (get_or slots i slot).name ∷ names_in (drop k slots)) (add-one i) ∙ sym (ap names_in (drop-cons slots i slot low)) in
     record {
       so_far = subst (λ (l : List Entry). IsLeftSoFar stopped l (take (i + 1) slots)) (sym c.in_ok-place_left.ensures)
-        (subst (IsLeftSoFar stopped _) more (one_placed stopped c.loop-slot.left (take i slots) slot c.loop-slot.invariant.so_far c.in_ok-file.file leaves));
+          (subst (IsLeftSoFar stopped _) more (one_placed stopped c.loop-slot.left (take i slots) slot c.loop-slot.invariant.so_far c.in_ok-file.file leaves));
       by_choices = ap₂ (λ (l : List Entry) (d : Choices). placed_all stopped (names_in (drop (i + 1) slots)) l d) (c.in_ok-place_left.ensures ∙ ap (λ f. placed slot.name f c.loop-slot.left) file_is) choices_are
-        ∙ ap (λ ns. placed_all stopped ns c.loop-slot.left c.loop-slot.choices) rest
-        ∙ c.loop-slot.invariant.by_choices;
+          ∙ ap (λ ns. placed_all stopped ns c.loop-slot.left c.loop-slot.choices) rest
+          ∙ c.loop-slot.invariant.by_choices;
     }
 
 pub returns : goal.returns
@@ -45,9 +45,9 @@ returns c =
     let none : drop c.loop-slot.slot-index slots ≡ [] = drop_all c.loop-slot.slot-index slots end in
     record {
       left = subst (λ (l : List Entry). IsLeft l c.loop-slot.left) c.self.view_is
-        (all_placed stopped c.loop-slot.left slots c.self.invariant.files (subst (IsLeftSoFar stopped c.loop-slot.left) all c.loop-slot.invariant.so_far));
+          (all_placed stopped c.loop-slot.left slots c.self.invariant.files (subst (IsLeftSoFar stopped c.loop-slot.left) all c.loop-slot.invariant.so_far));
       picked = ap (λ (l : List Slot). (placed_all stopped (names_in l) c.loop-slot.left c.loop-slot.choices).0) (sym none)
-        ∙ ap (λ x. x.0) c.loop-slot.invariant.by_choices
-        ∙ ap (λ ns. (placed_all stopped ns [] (begun c.args.pick)).0) c.self.invariant.names
-        ∙ ap (λ (l : List Entry). picked c.args.pick l) c.self.view_is;
+          ∙ ap (λ x. x.0) c.loop-slot.invariant.by_choices
+          ∙ ap (λ ns. (placed_all stopped ns [] (begun c.args.pick)).0) c.self.invariant.names
+          ∙ ap (λ (l : List Entry). picked c.args.pick l) c.self.view_is;
     }
