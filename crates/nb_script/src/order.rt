@@ -108,33 +108,3 @@ pub(crate) fn order(alloc: Global, line: &[u8]) -> Result<Option<Vec<u32>>, Faul
     }
     spelled(alloc, line)
 }
-
-#[cfg(test)]
-mod tests {
-    use super::*;
-    use std::test::Fail;
-
-    #[test]
-    fn a_seed(rt: HostRuntime) -> Result<(), Fail> {
-        let sessions = spelled(rt.alloc(), b"seed 7")?.ok_or("a seed is an order")?;
-        assert_eq!(rt; sessions.len(), 4096);
-        assert_eq!(rt; sessions.first().copied(), Some(15));
-        Ok(())
-    }
-
-    #[test]
-    fn a_schedule(rt: HostRuntime) -> Result<(), Fail> {
-        let sessions = spelled(rt.alloc(), b"schedule 2 16 1")?.ok_or("an order")?;
-        assert_eq!(rt; sessions.as_slice(), [2, 16, 1].as_slice());
-        for line in [
-            b"schedule".as_slice(),
-            b"schedule 1 ",
-            b"schedule 17",
-            b"schedule 01",
-            b"seed",
-        ] {
-            assert!(rt; spelled(rt.alloc(), line)?.is_none());
-        }
-        Ok(())
-    }
-}

@@ -1,4 +1,4 @@
-ghost use Rattle.std.specs.Prelude.{◌≡◌, ℕ, ◌≤◌, List, length, OnOk, IfErr};
+ghost use Rattle.std.specs.Prelude.{◌≡◌, ℕ, ◌≤◌, List, length, OnOk, OnErr, IfErr};
 ghost use Rattle.nb_host.specs.declared.faults.Fault.TheVariants.{Memory};
 ghost use Rattle.nb_script.specs.Scripts.{Plan, started, with_statement, statements_of};
 
@@ -68,6 +68,7 @@ impl Script {
         requires low { 1 ≤ session }
         requires high { session ≤ 16 }
         ensures ok { OnOk result (self.new ≡ with_statement self.old (session, statement)) }
+        ensures same { OnErr result (self.new ≡ self.old) }
         ensures only_memory { IfErr result (λ fault. fault ≡ Memory) }
     {
         self.sessions[session as usize - 1].push(statement)?;

@@ -301,58 +301,60 @@ mod tests {
     use super::*;
     use std::test::Fail;
 
-    #[test]
-    fn every_statement(rt: HostRuntime) -> Result<(), Fail> {
-        let lines: [&[u8]; 25] = [
-            b"1: page new",
-            b"2: write 6 'hello'",
-            b"3: read 6",
-            b"16: free 6",
-            b"1: alter database begin backup",
-            b"1: alter database end backup",
-            b"1: backup 9 to 'a.9'",
-            b"1: copy to 'k.db'",
-            b"1: create table t_1",
-            b"1: drop table t",
-            b"1: insert t 18446744073709551615 ''",
-            b"1: update t 0 'x'",
-            b"1: delete t 1",
-            b"1: get t 1",
-            b"1: scan t",
-            b"1: forced writes on",
-            b"1: forced writes off",
-            b"1: access read_only",
-            b"1: access read_write",
-            b"1: sync",
-            b"1: show header",
-            b"1: show pages",
-            b"1: show image",
-            b"1: show cache",
-            b"1: copy to 'a.delt'",
-        ];
-        for line in lines {
-            assert!(rt; spelled(rt.alloc(), line)?.is_some());
+    const STATEMENTS: &[u8] = b"1: page new
+2: write 6 'hello'
+3: read 6
+16: free 6
+1: alter database begin backup
+1: alter database end backup
+1: backup 9 to 'a.9'
+1: copy to 'k.db'
+1: create table t_1
+1: drop table t
+1: insert t 18446744073709551615 ''
+1: update t 0 'x'
+1: delete t 1
+1: get t 1
+1: scan t
+1: forced writes on
+1: forced writes off
+1: access read_only
+1: access read_write
+1: sync
+1: show header
+1: show pages
+1: show image
+1: show cache
+1: copy to 'a.delt'";
+
+    const OTHERS: &[u8] = b"1: page  new
+1: backup 10 to 'a.0'
+1: backup 0 to 'a.delta'
+1: create table 1t
+1: insert t 18446744073709551616 ''
+1: update t 0
+1: delete t 01
+1: scan t 
+1: show
+1:sync";
+
+    /// How many of these lines spell a statement.
+    fn count(alloc: Global, lines: &[u8]) -> Result<u32, Fail> {
+        let mut count: u32 = 0;
+        for line in lines.split(|byte| *byte == b'\n') {
+            if spelled(alloc, line)?.is_some() {
+                count = count.wrapping_add(1);
+            }
         }
-        Ok(())
+        Ok(count)
     }
 
     #[test]
-    fn no_statement(rt: HostRuntime) -> Result<(), Fail> {
-        let lines: [&[u8]; 10] = [
-            b"1: page  new",
-            b"1: backup 10 to 'a.0'",
-            b"1: backup 0 to 'a.delta'",
-            b"1: create table 1t",
-            b"1: insert t 18446744073709551616 ''",
-            b"1: update t 0",
-            b"1: delete t 01",
-            b"1: scan t ",
-            b"1: show",
-            b"1:sync",
-        ];
-        for line in lines {
-            assert!(rt; spelled(rt.alloc(), line)?.is_none());
-        }
+    fn lines_of_every_statement(rt: HostRuntime) -> Result<(), Fail> {
+        assert_eq!(rt;
+            (count(rt.alloc(), STATEMENTS)?, count(rt.alloc(), OTHERS)?),
+            (25, 0)
+        );
         Ok(())
     }
 }

@@ -1,4 +1,7 @@
 use Rattle.std.proofs.Common.{ap, ◌∙◌, arith, List, ◌-◌, ◌<◌, length}
+use Rattle.std.specs.Global.{Vec}
+use Rattle.std.specs.Prelude.{Result, Ok, Err, OnErr}
+use Rattle.std.proofs.Math.Seq.{map-set_same}
 use Rattle.nb_model.specs.declared.statement.Statement.{Statement}
 use Rattle.nb_script.specs.Scripts.{Plan, with_statement}
 use Rattle.nb_script.proofs.Sessions.{one_more}
@@ -13,3 +16,17 @@ returns-clause-ok c =
     ap (λ (sessions : List (List Statement)). record { first_session = s.first_session; first = s.first; schedule = s.schedule.items; sessions = sessions })
     (one_more s.sessions i c.index-self-session.result c.push.new.self c.args.statement inside c.in_ok-push.ensures.items)
     ∙ ap (λ (p : Plan). with_statement p (c.args.session, c.args.statement)) c.self.view_is
+
+-- what holds holds at an error
+at_error : {T E : Type 0} (r : Result T E) (P : Type 0) → P → OnErr r P
+at_error (Ok value) P holds = tt
+at_error (Err error) P holds = holds
+
+pub returns-in_err-push-clause-same : goal.returns-in_err-push-clause-same
+returns-in_err-push-clause-same c =
+    let s = c.self.inside in
+    let i = c.args.session - 1 in
+    at_error c.from_residual.result _
+    (ap (λ (sessions : List (List Statement)). record { first_session = s.first_session; first = s.first; schedule = s.schedule.items; sessions = sessions })
+    (map-set_same (λ (v : Vec Statement). v.items) s.sessions i c.push.new.self c.index-self-session.result c.in_err-push.ensures.items)
+    ∙ c.self.view_is)
