@@ -19,8 +19,8 @@ pub use cases::CaseTable;
 pub use field::{Bytes16, Field};
 pub use kinds::PageKind;
 pub use places::{
-    MOST_PAGES, bits_in, entries_in, is_inventory_place, is_page_size, is_scn_place, is_system_place,
-    most_pages,
+    MOST_PAGES, bits_in, entries_in, is_inventory_place, is_page_size, is_scn_place,
+    is_system_place, most_pages,
 };
 
 #[cfg(test)]

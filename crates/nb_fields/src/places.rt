@@ -9,8 +9,7 @@ pub const MOST_PAGES: u32 = 1_048_576;
 /// The law of that number.
 pub fn most_pages()
     ensures { MOST_PAGES ≡ most_pages }
-{
-}
+{}
 
 /// Whether a page may have so many bytes.
 pub fn is_page_size(size: u64) -> bool

@@ -73,9 +73,7 @@ impl Name {
     pub fn is_delta(&self) -> bool
         ensures { result ≡ is_delta self.now }
     {
-        self.as_str()
-            .as_bytes()
-            .ends_with(DELTA_SUFFIX.as_bytes())
+        self.as_str().as_bytes().ends_with(DELTA_SUFFIX.as_bytes())
     }
 
     /// The name of the difference file beside this database.

@@ -1,15 +1,12 @@
 -- The outcomes of each rule.
-use Rattle.std.proofs.Common.{◌≡◌, ◌≢◌, ◌⊎◌, inl, inr, ⊎_elim, ℕ, Bool, true, false, List, ◌∷◌, refl}
-use Rattle.std.specs.Prelude.{MatchBool, [], Some, None}
-use Rattle.nb_host.specs.Names.{same_name}
+use Rattle.std.proofs.Common.{◌≡◌, inl, inr, ⊎_elim, ℕ, List, refl}
+use Rattle.std.specs.Prelude.{[], Some, None}
 use Rattle.nb_host.specs.Files.{File}
-use Rattle.nb_host.specs.Crash.{Leaves}
 use Rattle.nb_mem.specs.declared.entry.Change.{Change}
-use Rattle.nb_mem.specs.declared.entry.Change.TheVariants.{Placed, Made, Removed, Paged, Appended, Synced}
+use Rattle.nb_mem.specs.declared.entry.Change.TheVariants.{Made, Removed, Paged, Appended, Synced}
 use Rattle.nb_mem.specs.declared.entry.Entry.{Entry}
-use Rattle.nb_mem.specs.declared.entry.Entry.TheVariants.{Changed}
 use Rattle.nb_mem.specs.Changes.{NowAfter, BackAfter}
-use Rattle.nb_mem.specs.Histories.{files_of, Now, Back, world_of}
+use Rattle.nb_mem.specs.Histories.{files_of, Now, Back}
 use Rattle.nb_mem.specs.Crashes.{LeavesAfter, PagesMay, BytesMay, AnewMay, SyncedMay, OthersMay}
 use Rattle.nb_mem.proofs.NameLemmas.{at_same, to_same, to_other}
 

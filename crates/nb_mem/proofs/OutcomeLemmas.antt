@@ -1,11 +1,10 @@
 -- An outcome goes on with the history.
-use Rattle.std.proofs.Common.{◌≡◌, ◌⊎◌, inl, inr, ℕ, zero, suc, ◌+◌, ◌-◌, ◌*◌, ◌/◌, ◌<◌, ◌≤◌, ◌==◌, nat_le, Bool, true, false, List, [], ◌∷◌, ◌++◌, length, take, replicate, get_or, ⊎_elim, length-append, refl, sym, ◌∙◌, ap, ap₂, subst, arith}
+use Rattle.std.proofs.Common.{◌≡◌, ◌⊎◌, inl, inr, ℕ, zero, suc, ◌+◌, ◌-◌, ◌*◌, ◌/◌, ◌<◌, ◌≤◌, ◌==◌, nat_le, Bool, true, false, List, [], ◌∷◌, length, take, replicate, get_or, ⊎_elim, length-append, refl, sym, ◌∙◌, ap, ap₂, subst, arith}
 use Rattle.std.specs.Prelude.{MatchBool, Some, None}
 use Rattle.std.proofs.lemmas.Bool.{eqb-true, leb-true}
 use Rattle.std.proofs.lemmas.Bool.{cases_lt}
-use Rattle.std.proofs.lemmas.List.{length-take-le, length-replicate, get_or-take, get_or_append_left, get_or-append_right, get_or-replicate}
+use Rattle.std.proofs.lemmas.List.{length-take-le, length-replicate, get_or-take, get_or_append_left, get_or-append_right}
 use Rattle.std.proofs.Math.Nat.{div-mul-le_self}
-use Rattle.nb_host.specs.Names.{same_name}
 use Rattle.nb_host.specs.Files.{File, bytes_of}
 use Rattle.nb_host.specs.Crash.{PageLeft, AppendLeft, IsTornFrom, Leaves}
 use Rattle.nb_mem.specs.declared.choices.Choices.{Choices}
@@ -17,7 +16,7 @@ use Rattle.nb_mem.specs.declared.outcome.Outcome.{Outcome}
 use Rattle.nb_mem.specs.Changes.{file_after, NowAfter, BackAfter}
 use Rattle.nb_mem.specs.Histories.{files_of, Now, Back, world_of}
 use Rattle.nb_mem.specs.Outcomes.{MayBe, IsOther}
-use Rattle.nb_mem.specs.Chosen.{is_yes, behind, page_by, grown, torn_by, bytes_by, anew_by, settled, outcome_after, choices_after, outcome_by, left_by}
+use Rattle.nb_mem.specs.Chosen.{is_yes, behind, page_by, torn_by, bytes_by, anew_by, settled, outcome_after, choices_after, outcome_by, left_by}
 use Rattle.nb_mem.proofs.NameLemmas.{to_same, to_other, with_file-same, with_file-other, same_self, same_other, decide}
 
 get_or-zeros : (n i : ℕ) → ◌≡◌ {A = ℕ} (get_or (replicate n 0) i 0) 0

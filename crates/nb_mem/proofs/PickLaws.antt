@@ -1,9 +1,8 @@
 -- What picks leave.
 use Rattle.std.proofs.Common.{◌≡◌, ◌≢◌, ⊎_elim, ℕ, ◌≤◌, ◌==◌, nat_le, Bool, true, false, List, [], ◌∷◌, length, refl, sym, ◌∙◌, ap, ap₂, subst}
-use Rattle.std.specs.Prelude.{Some, None}
+use Rattle.std.specs.Prelude.{None}
 use Rattle.std.proofs.lemmas.Bool.{eq-eqb, le-leb}
-use Rattle.nb_host.specs.Names.{same_name}
-use Rattle.nb_host.specs.Files.{File, bytes_of, with_page, with_bytes}
+use Rattle.nb_host.specs.Files.{File, bytes_of, with_bytes}
 use Rattle.nb_mem.specs.declared.choices.Choices.{Choices}
 use Rattle.nb_mem.specs.declared.entry.Change.{Change}
 use Rattle.nb_mem.specs.declared.entry.Change.TheVariants.{Placed, Made, Removed, Paged, Appended, Synced}
@@ -15,7 +14,7 @@ use Rattle.nb_mem.specs.Histories.{files_of}
 use Rattle.nb_mem.specs.Chosen.{begun, is_yes, behind, page_by, grown, torn_by, bytes_by, anew_by, settled, outcome_after, choices_after, outcome_by, left_by}
 use Rattle.nb_mem.specs.declared.entry.Question.{Question}
 use Rattle.nb_mem.specs.Outcomes.{IsOther}
-use Rattle.nb_mem.specs.Crashes.{settled_after, settled_file, pick_after, PicksReach}
+use Rattle.nb_mem.specs.Crashes.{settled_after, settled_file, PicksReach}
 use Rattle.nb_mem.proofs.NameLemmas.{with_file-same, with_file-other, same_self, same_other, decide}
 use Rattle.nb_mem.proofs.OutcomeLemmas.{same_outcome, other_outcome}
 

@@ -1,5 +1,5 @@
 -- What a stop leaves, by choices: each is yes or no, by a number.
-use Rattle.std.specs.Prelude.{ℕ, zero, suc, ◌+◌, ◌-◌, ◌*◌, ◌/◌, ◌%◌, Bool, true, false, ◌||◌, ◌==◌, nat_le, List, [], ◌∷◌, ◌++◌, length, take, replicate, None, Some, if◌then◌else◌}
+use Rattle.std.specs.Prelude.{ℕ, ◌+◌, ◌-◌, ◌*◌, ◌/◌, ◌%◌, Bool, true, false, ◌||◌, ◌==◌, nat_le, List, [], ◌∷◌, ◌++◌, length, take, replicate, None, Some}
 use Rattle.std.specs.List.{position}
 use Rattle.nb_host.specs.Names.{same_name}
 use Rattle.nb_host.specs.Files.{File, bytes_of, with_page, with_bytes}

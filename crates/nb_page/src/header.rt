@@ -5,8 +5,8 @@ ghost use Rattle.nb_fields.specs.Page.{kind_of, number_of_page};
 ghost use Rattle.nb_fields.specs.Header.{is_header, is_marked, is_sound};
 ghost use Rattle.nb_page.specs.Header.{header_in, block_of, HasForm};
 
-use nb_fields::{fields, is_page_size};
 use nb_fields::layouts::{head, header};
+use nb_fields::{fields, is_page_size};
 
 /// What the control block of a database holds.
 #[derive(Clone, Copy, Debug, PartialEq, Eq)]

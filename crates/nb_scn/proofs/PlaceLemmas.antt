@@ -15,9 +15,9 @@ unfolding is_scn_place
 place_found size page entries is = ⊎_elim
     (λ first. (0, sym (eqb-true page 2 first)))
     (λ both.
-      let some : 0 < page = ltb-true 0 page (and_parts (nat_lt 0 page) (page % entries_in size == 0) both).0 in
-      let whole : page % entries_in size ≡ 0 = eqb-true (page % entries_in size) 0 (and_parts (nat_lt 0 page) (page % entries_in size == 0) both).1 in
-      place_at size page (page / entries_in size) some (omega arith))
+    let some : 0 < page = ltb-true 0 page (and_parts (nat_lt 0 page) (page % entries_in size == 0) both).0 in
+    let whole : page % entries_in size ≡ 0 = eqb-true (page % entries_in size) 0 (and_parts (nat_lt 0 page) (page % entries_in size == 0) both).1 in
+    place_at size page (page / entries_in size) some (omega arith))
     (or_cases (page == 2) (nat_lt 0 page && (page % entries_in size == 0)) is)
 
 -- each place is such a page
