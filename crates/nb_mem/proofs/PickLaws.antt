@@ -14,7 +14,7 @@ use Rattle.nb_mem.specs.Histories.{files_of}
 use Rattle.nb_mem.specs.Chosen.{begun, is_yes, behind, page_by, grown, torn_by, bytes_by, anew_by, settled, outcome_after, choices_after, outcome_by, left_by}
 use Rattle.nb_mem.specs.declared.entry.Question.{Question}
 use Rattle.nb_mem.specs.Outcomes.{IsOther}
-use Rattle.nb_mem.specs.Crashes.{settled_after, settled_file, PicksReach}
+use Rattle.nb_mem.specs.Crashes.{LosesAll, settled_after, settled_file, PicksReach}
 use Rattle.nb_mem.proofs.NameLemmas.{with_file-same, with_file-other, same_self, same_other, decide}
 use Rattle.nb_mem.proofs.OutcomeLemmas.{same_outcome, other_outcome}
 
@@ -116,10 +116,6 @@ keeps_all (Said bytes ∷ es) n = other_outcome (begun 1) (Said bytes) n es tt �
 keeps_all (Asked question ∷ es) n = other_outcome (begun 1) (Asked question) n es tt ∙ keeps_all es n
 
 -- pick 0 loses each change
-pub record LosesAll (es : List Entry) (n : List ℕ) : Type 0 where
-  pub file : (outcome_by (begun 0) es n).0.left ≡ settled_file es n
-  pub choices : (outcome_by (begun 0) es n).1 ≡ begun 0
-
 loses_bytes : (len : ℕ) (bytes : List ℕ) (file : File) → bytes_by (begun 0) len bytes file ≡ (file, begun 0)
 unfolding bytes_by behind
 loses_bytes len bytes file = by_test (length (bytes_of file) == len)

@@ -9,7 +9,7 @@ use Rattle.nb_mem.specs.declared.entry.Entry.TheVariants.{Changed, Said, Asked}
 use Rattle.nb_mem.specs.declared.entry.Change.{Change}
 use Rattle.nb_mem.specs.declared.entry.Change.TheVariants.{Placed, Made, Removed, Paged, Appended, Synced}
 use Rattle.nb_mem.specs.Histories.{files_of, world_of}
-use Rattle.nb_mem.specs.Chosen.{begun, grown, left_by}
+use Rattle.nb_mem.specs.Chosen.{begun, grown, left_by, outcome_by}
 
 -- what a stop leaves after a change of the file
 abbrev pub LeavesAfter : List Entry → (n : List ℕ) → Change → File → Type 0
@@ -76,3 +76,13 @@ pub record PicksReach (es : List Entry) (n : List ℕ) : Type 0 where
   pub made_back : pick_after 0 es n Made ≡ files_of es n
   pub removed : pick_after 1 es n Removed ≡ None
   pub removed_back : pick_after 0 es n Removed ≡ files_of es n
+
+-- Pick 0 leaves a file as it was when it was last placed or synced, and goes on as pick 0 with the next one.
+pub record LosesAll (es : List Entry) (n : List ℕ) : Type 0 where
+  pub file : left_by (begun 0) es n ≡ settled_file es n
+  pub choices : (outcome_by (begun 0) es n).1 ≡ begun 0
+
+-- Pick 1 leaves a file as it reads, and goes on as pick 1.
+pub record KeepsAll (es : List Entry) (n : List ℕ) : Type 0 where
+  pub file : left_by (begun 1) es n ≡ files_of es n
+  pub choices : (outcome_by (begun 1) es n).1 ≡ begun 1

@@ -2,14 +2,12 @@
 //!
 //! They speak of what a host has done, newest first, as the contracts of `MemHost` see it.
 
-ghost use Rattle.std.specs.Prelude.{◌≡◌, ◌≢◌, ℕ, List, [], ◌∷◌, Some, None};
+ghost use Rattle.std.specs.Prelude.{ℕ, List, [], Some, None};
 ghost use Rattle.nb_host.specs.Files.{File};
-ghost use Rattle.nb_host.specs.Crash.{Leaves};
 ghost use Rattle.nb_mem.specs.declared.entry.Change.{Change as Step};
 ghost use Rattle.nb_mem.specs.declared.entry.Entry.{Entry as Call};
-ghost use Rattle.nb_mem.specs.Histories.{Now, Back, files_of, world_of};
-ghost use Rattle.nb_mem.specs.Chosen.{begun, left_by};
-ghost use Rattle.nb_mem.specs.Crashes.{LeavesAfter, PagesMay, BytesMay, AnewMay, SyncedMay, OthersMay, PicksReach, settled_file};
+ghost use Rattle.nb_mem.specs.Histories.{Now, Back};
+ghost use Rattle.nb_mem.specs.Crashes.{LeavesAfter, PagesMay, BytesMay, AnewMay, SyncedMay, OthersMay, PicksReach, KeepsAll, LosesAll};
 
 /// A page that was written may be lost or there, each by itself, and the file may have grown by zeros; and of a file that was
 /// made or removed before, what stood before that may be back.
@@ -40,6 +38,6 @@ pub fn synced_stay()
 /// or synced.
 pub fn picks()
     ensures reach { (es : List Call) (n : List ℕ) → PicksReach es n }
-    ensures all { (es : List Call) (n : List ℕ) → left_by (begun 1) es n ≡ files_of es n }
-    ensures nothing { (es : List Call) (n : List ℕ) → left_by (begun 0) es n ≡ settled_file es n }
+    ensures all { (es : List Call) (n : List ℕ) → KeepsAll es n }
+    ensures nothing { (es : List Call) (n : List ℕ) → LosesAll es n }
 {}

@@ -7,6 +7,6 @@ use Rattle.nb_mem.proofs.laws.picks.Goals as goal
 pub returns : goal.returns
 returns c = record {
   reach = picks_reach;
-  all = λ es n. ap (λ (x : Outcome × Choices). x.0.left) (keeps_all es n);
-  nothing = λ es n. (loses_all es n).file;
+  all = λ es n. record { file = ap (λ (x : Outcome × Choices). x.0.left) (keeps_all es n); choices = ap (λ (x : Outcome × Choices). x.1) (keeps_all es n) };
+  nothing = loses_all;
 }
