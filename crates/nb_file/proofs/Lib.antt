@@ -1,1 +1,4 @@
+mod GatheredLemmas
+mod PutLemmas
+mod PartLemmas
 mod TableLemmas
