@@ -1,5 +1,5 @@
 -- Parts of a file.
-use Rattle.std.proofs.Common.{◌≡◌, ℕ, ◌+◌, ◌-◌, ◌≤◌, List, [], ◌++◌, length, take, drop, refl, sym, ◌∙◌, ap, arith, length-take, length-drop}
+use Rattle.std.proofs.Common.{◌≡◌, ℕ, ◌+◌, ◌-◌, ◌≤◌, List, [], ◌++◌, length, take, drop, refl, subst, sym, ◌∙◌, ap, arith, length-take, length-drop}
 use Rattle.std.proofs.lemmas.List.{drop-take, drop-drop, take-take, take_at, take_all}
 use Rattle.nb_file.specs.Fetched.{IsPart}
 
@@ -15,3 +15,11 @@ part_within from part file at count is low within =
 
     m : ℕ
     m = length part - (at - from)
+
+-- the same, of the first so many bytes of a buffer
+pub given_within : (from k : ℕ) (buffer file : List ℕ) (at count : ℕ) → IsPart from (take k buffer) file → k ≤ length buffer → from ≤ at → at - from + count ≤ k → take count (drop (at - from) (take k buffer)) ≡ take count (drop at file)
+given_within from k buffer file at count is room low within = part_within from (take k buffer) file at count is low (omega (arith, within, room, length-take k buffer))
+
+-- no bytes stand anywhere
+pub empty_part : (at k : ℕ) (buffer file : List ℕ) → k ≡ 0 → IsPart at (take k buffer) file
+empty_part at k buffer file none = let P : ℕ → Type 0 = λ n. IsPart at (take n buffer) file in subst P (sym none) refl

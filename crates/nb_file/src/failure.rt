@@ -1,7 +1,8 @@
 // What failed, and how it is said.
-ghost use Rattle.std.specs.Prelude.{◌≡◌, Ok, IfOk, OnOk, IsErr, IsOk, ◌↔◌};
+ghost use Rattle.std.specs.Prelude.{◌≡◌, ◌↔◌, Ok, IfOk, IsOk};
 
 use nb_host::Name;
+use std::alloc::AllocFailed;
 use std::fmt;
 use std::io;
 
@@ -40,6 +41,13 @@ pub enum Failure {
     InUse(Name),
     /// The output, the random bytes or the clock.
     Of(&'static str, io::Error),
+    Memory,
+}
+
+impl<T: Drop> From<AllocFailed<T>> for Failure {
+    fn from(_: AllocFailed<T>) -> Self {
+        Failure::Memory
+    }
 }
 
 impl fmt::Display for Failure {
@@ -48,6 +56,7 @@ impl fmt::Display for Failure {
             Failure::OnFile(name, call, error) => write!(f, "{name}: {call}: {error}"),
             Failure::InUse(name) => write!(f, "{name} is in use"),
             Failure::Of(what, error) => write!(f, "{what}: {error}"),
+            Failure::Memory => f.pad("out of memory"),
         }
     }
 }

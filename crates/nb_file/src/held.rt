@@ -132,18 +132,33 @@ impl<F: Disk + Drop> Held<F> {
         self.write(waiting, at, bytes)
     }
 
-    /// Fills `into` from `at` on, and fetches more where the file is read in sequence.
+    /// Fetches more than so many bytes from `at` on, where the file is read in sequence.
+    fn look_ahead(&mut self, at: u64, count: usize)
+        ensures same { (self.new.name ≡ self.old.name) × (self.new.can_write ≡ self.old.can_write) × (self.new.state ≡ self.old.state) × (self.new.file ≡ self.old.file) }
+    {
+        if self.ahead.is_due(at, count) && !self.ahead.has(at, count) {
+            // Where more can't be fetched, what was asked for still may be.
+            let _ = self.ahead.fill(&self.file, at, self.state.len);
+        }
+    }
+
+    /// Fills `into` from `at` on, from what was fetched or from the file.
+    fn copy_to(&self, at: u64, into: &mut [u8]) -> io::Result<()>
+        ensures { IsTrue F.tells → OnOk result (into.new ≡ take (length into.old) (drop at (F.bytes self.now.file))) }
+    {
+        if self.ahead.give(at, into) {
+            return Ok(());
+        }
+        self.file.fetch(at, into)
+    }
+
+    /// Fills `into` from `at` on.
     fn fill(&mut self, at: u64, into: &mut [u8]) -> io::Result<()>
         ensures bytes { IsTrue F.tells → OnOk result (into.new ≡ take (length into.old) (drop at (F.bytes self.old.file))) }
         ensures same { (self.new.name ≡ self.old.name) × (self.new.can_write ≡ self.old.can_write) × (self.new.state ≡ self.old.state) × (self.new.file ≡ self.old.file) }
     {
-        if self.ahead.is_due(at, into.len()) && !self.ahead.has(at, into.len()) {
-            // Where more can't be fetched, what was asked for is.
-            let _ = self.ahead.fill(&self.file, at, self.state.len);
-        }
-        if !self.ahead.give(at, into) {
-            self.file.fetch(at, into)?;
-        }
+        self.look_ahead(at, into.len());
+        self.copy_to(at, into)?;
         self.ahead.note(at, into.len());
         Ok(())
     }
@@ -154,9 +169,8 @@ impl<F: Disk + Drop> Held<F> {
         ensures answer { IsTrue F.tells → IfOk result (ReadsPage (Some (seen waiting.old.name waiting.old.at waiting.old.bytes.items self.old.name (F.bytes self.old.file))) at into.old into.new) }
     {
         self.settle(waiting)?;
-        match at.checked_add(into.len() as u64) {
-            Some(end) if end <= self.state.len => {}
-            _ => return Ok(false),
+        if self.state.len < at || self.state.len - at < into.len() as u64 {
+            return Ok(false);
         }
         self.fill(at, into)?;
         Ok(true)
@@ -220,6 +234,17 @@ impl<F: Disk + Drop> Held<F> {
         let outcome = self.file.keep();
         self.state.synced(outcome.is_ok());
         outcome
+    }
+
+    /// Leaves nothing to do but to close it.
+    pub fn finish(&mut self) -> io::Result<()>
+        ensures { OnOk result ((self.new.state.is_dirty ≡ false) × (self.new.state.is_lost ≡ false)) }
+    {
+        if self.state.is_dirty {
+            self.keep()
+        } else {
+            self.state.check()
+        }
     }
 
     /// Keeps for good its bytes, as far as none wait, and that its name is there. Where that fails the file is lost.

@@ -1,5 +1,5 @@
 // What is known of one open file.
-ghost use Rattle.std.specs.Prelude.{◌≡◌, ◌↔◌, true, false, max, if◌then◌else◌, IsOk};
+ghost use Rattle.std.specs.Prelude.{◌≡◌, true, false, max, if◌then◌else◌, OnOk, OnErr};
 
 use std::io;
 
@@ -34,7 +34,8 @@ impl State {
 
     /// Fails where the file is lost.
     pub fn check(&self) -> io::Result<()>
-        ensures { IsOk result ↔ (self.now.is_lost ≡ false) }
+        ensures sure { OnOk result (self.now.is_lost ≡ false) }
+        ensures lost { OnErr result (self.now.is_lost ≡ true) }
     {
         if self.is_lost {
             Err(io::Error::other("an earlier write or sync of it failed"))

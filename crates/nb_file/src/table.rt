@@ -54,9 +54,9 @@ where
         self.files.iter().position(|held| held.name == *name)
     }
 
-    /// Writes what waits.
+    /// Writes what waits. Nothing waits after it, also where it fails.
     pub fn flush(&mut self) -> Result<(), Failure>
-        ensures none { OnOk result (self.new.waiting.name ≡ None) }
+        ensures none { self.new.waiting.name ≡ None }
         ensures count { vec_len self.new.files ≡ vec_len self.old.files }
     {
         let name = match &self.waiting.name {
@@ -68,7 +68,7 @@ where
 
     fn flush_to(&mut self, name: &Name) -> Result<(), Failure>
         requires { IsFreeFor self.old.waiting.name name.now }
-        ensures none { OnOk result (self.new.waiting.name ≡ None) }
+        ensures none { self.new.waiting.name ≡ None }
         ensures count { vec_len self.new.files ≡ vec_len self.old.files }
     {
         match self.index_of(name) {
@@ -76,13 +76,16 @@ where
                 let outcome = self.files[i].flush(&mut self.waiting);
                 named(outcome, name, Call::Write)
             }
-            None => named(Err(ErrorKind::NotFound.into()), name, Call::Write),
+            None => {
+                self.waiting.clear();
+                named(Err(ErrorKind::NotFound.into()), name, Call::Write)
+            }
         }
     }
 
     /// Writes what waits for another file.
     fn turn_to(&mut self, name: &Name) -> Result<(), Failure>
-        ensures free { OnOk result (IsFreeFor self.new.waiting.name name.now) }
+        ensures { IsFreeFor self.new.waiting.name name.now }
     {
         if self.waiting.is_for(name) {
             return Ok(());
@@ -149,12 +152,11 @@ where
         self.open(rt, name, &how)
     }
 
-    /// Opens the file, in the place of one that was opened to read, and locks it.
+    /// Opens the file, in the place of one that was opened to read, and locks it. What waits is written before.
     fn open(&mut self, rt: &R, name: &Name, how: &OpenOptions) -> Result<usize, Failure>
         ensures place { IfOk result (λ i. i < vec_len self.new.files) }
         ensures name { IfOk result (IsNamedAt self.new.files.items (λ held. held.name) name.now) }
-        ensures free { IsFreeFor self.old.waiting.name name.now → IsFreeFor self.new.waiting.name name.now }
-        ensures none { self.old.waiting.name ≡ None → self.new.waiting.name ≡ None }
+        ensures none { self.new.waiting.name ≡ None }
     {
         self.make_room()?;
         let file = named(open_by(rt, name, how), name, Call::Open)?;
@@ -184,35 +186,40 @@ where
             how.asks_write(),
             how.asks_create_new(),
         );
-        let held = named(held, name, Call::Open)?;
-        match self.files.push(held) {
-            Ok(()) => Ok(self.files.len() - 1),
-            Err(_) => named(Err(ErrorKind::OutOfMemory.into()), name, Call::Open),
-        }
+        self.files.push(named(held, name, Call::Open)?)?;
+        Ok(self.files.len() - 1)
     }
 
-    /// Closes the file that was opened first, where as many are open as may be, and answers it. Nothing is lost by it: all
-    /// that was written to it is synced, a lost file is never closed, and where it is opened again its first sync keeps the
-    /// folder anew.
+    /// Closes the file that was opened first, where as many are open as may be, and answers it. What waits is written
+    /// before. Nothing is lost by it: all that was written to the file is synced, a lost file is never closed, and where it
+    /// is opened again its first sync keeps the folder anew.
     fn make_room(&mut self) -> Result<Option<Held<R::File>>, Failure>
         ensures room { OnOk result (vec_len self.new.files < 64) }
         ensures count { IfOk result (λ closed. MatchOption closed (vec_len self.new.files ≡ vec_len self.old.files) (λ _. vec_len self.new.files + 1 ≡ vec_len self.old.files)) }
         ensures clean { IfOk result (λ closed. IfSome closed (λ held. (held.state.is_dirty ≡ false) × (held.state.is_lost ≡ false))) }
-        ensures none { self.old.waiting.name ≡ None → self.new.waiting.name ≡ None }
-        ensures flushed { OnOk result (self.new.waiting.name ≡ None) }
+        ensures none { self.new.waiting.name ≡ None }
     {
         self.flush()?;
         if self.files.len() < MOST_OPEN {
             return Ok(None);
         }
-        let Some(i) = self.files.iter().position(|held| !held.state.is_lost) else {
-            return Err(Failure::Of("open files", ErrorKind::Other.into()));
-        };
-        if self.files[i].state.is_dirty {
-            let outcome = self.files[i].keep();
-            named(outcome, &self.files[i].name, Call::Sync)?;
+        match self.files.iter().position(|held| !held.state.is_lost) {
+            Some(i) => self.close(i).map(Some),
+            None => Err(Failure::Of("open files", ErrorKind::Other.into())),
         }
-        Ok(Some(self.files.remove(i)))
+    }
+
+    /// Closes a file, for which nothing is left to do then.
+    fn close(&mut self, i: usize) -> Result<Held<R::File>, Failure>
+        requires place { i < vec_len self.old.files }
+        ensures count { OnOk result (vec_len self.new.files + 1 ≡ vec_len self.old.files) }
+        ensures clean { IfOk result (λ held. (held.state.is_dirty ≡ false) × (held.state.is_lost ≡ false)) }
+        ensures same { self.new.waiting ≡ self.old.waiting }
+    {
+        let held = &mut self.files[i];
+        let outcome = held.finish();
+        named(outcome, &held.name, Call::Sync)?;
+        Ok(self.files.remove(i))
     }
 
     /// The file's length in bytes, if there is one.
