@@ -24,7 +24,7 @@ owns (Some own) name some free = grind (arith, free)
 
 -- more waits right behind
 pub seen-more : (own : Option (List ℕ)) (at : ℕ) (old new name : List ℕ) (next : ℕ) → is_none own ≡ false → IsNext own at (length old) next → IsFreeFor own name → (file : List ℕ)
-  → seen own at (old ++ new) name file ≡ put_at (seen own at old name file) next new
+    → seen own at (old ++ new) name file ≡ put_at (seen own at old name file) next new
 seen-more None at old new name next some is free file = cc
 seen-more (Some own) at old new name next some is free file =
     seen-owner (Some own) at (old ++ new) name file mine ∙ put_at-next file at old new next is ∙ ap (λ (l : List ℕ). put_at l next new) (sym (seen-owner (Some own) at old name file mine))

@@ -6,8 +6,8 @@ use Rattle.nb_file.proofs.PutLemmas.{length-put_at, put_at-end}
 
 -- where the file is sure after a write, its length is known
 pub measured_after : {E : Type 0} (r : Result Unit E) (was is done : Bool) (len len' at end : ℕ) (before after new : List ℕ)
-  → done ≡ is_ok r → is ≡ if done then was else true → len' ≡ max len end → end ≡ at + length new → (was ≡ false → len ≡ length before) → OnOk r (after ≡ put_at before at new)
-  → is ≡ false → len' ≡ length after
+    → done ≡ is_ok r → is ≡ if done then was else true → len' ≡ max len end → end ≡ at + length new → (was ≡ false → len ≡ length before) → OnOk r (after ≡ put_at before at new)
+    → is ≡ false → len' ≡ length after
 measured_after (Ok u) was is done len len' at end before after new all lost grew ends known put sure =
     grew ∙ (λ i. max (known unlost i) (ends i)) ∙ sym (ap length put ∙ length-put_at before at new)
   where

@@ -43,7 +43,7 @@ unfolding put_at
 put_at-next file at old new next is = sym (
     onto (take at (padded file at)) old (drop (at + length old) file) new next (omega (arith, is, length-front file at))
     ∙ ap (λ (l : List ℕ). take at (padded file at) ++ ((old ++ new) ++ l))
-        (drop-drop (length new) (at + length old) file ∙ ap (λ (k : ℕ). drop k file) (let e : at + length old + length new ≡ at + length (old ++ new) = omega (arith, length-append old new) in e)))
+    (drop-drop (length new) (at + length old) file ∙ ap (λ (k : ℕ). drop k file) (let e : at + length old + length new ≡ at + length (old ++ new) = omega (arith, length-append old new) in e)))
 
 -- what is put at the end is added there
 pub put_at-end : (file : List ℕ) (at : ℕ) (new : List ℕ) → at ≡ length file → put_at file at new ≡ file ++ new

@@ -3,8 +3,7 @@ ghost use Rattle.std.specs.Prelude.{◌≡◌, ◌↔◌, Ok, IfOk, IsOk};
 
 use nb_host::Name;
 use std::alloc::AllocFailed;
-use std::fmt;
-use std::io;
+use std::{fmt, io};
 
 /// What was asked of the system.
 #[derive(Clone, Copy)]

@@ -32,7 +32,13 @@ pub struct Held<F: Disk + Drop> {
 
 impl<F: Disk + Drop> Held<F> {
     /// Takes a file that was just opened and locked. What is no file is an error.
-    pub fn new(alloc: Global, name: Name, file: F, can_write: bool, is_new: bool) -> io::Result<Held<F>>
+    pub fn new(
+        alloc: Global,
+        name: Name,
+        file: F,
+        can_write: bool,
+        is_new: bool,
+    ) -> io::Result<Held<F>>
         ensures name { IfOk result (λ held. held.name ≡ name) }
         ensures fresh { IfOk result (λ held. (held.state.is_dirty ≡ is_new) × (held.state.is_kept ≡ false) × (held.state.is_lost ≡ false)) }
         ensures file { IfOk result (λ held. (held.file ≡ file) × (held.can_write ≡ can_write)) }
@@ -164,7 +170,12 @@ impl<F: Disk + Drop> Held<F> {
     }
 
     /// Fills `into` from `at` on, and answers whether the file has so many bytes. Where it has not, nothing is read.
-    pub fn read_whole(&mut self, waiting: &mut Waiting, at: u64, into: &mut [u8]) -> io::Result<bool>
+    pub fn read_whole(
+        &mut self,
+        waiting: &mut Waiting,
+        at: u64,
+        into: &mut [u8],
+    ) -> io::Result<bool>
         ensures lost { self.old.state.is_lost ≡ true → IsErr result }
         ensures answer { IsTrue F.tells → IfOk result (ReadsPage (Some (seen waiting.old.name waiting.old.at waiting.old.bytes.items self.old.name (F.bytes self.old.file))) at into.old into.new) }
     {
@@ -177,7 +188,12 @@ impl<F: Disk + Drop> Held<F> {
     }
 
     /// Fills `into` from `at` on, as far as the file goes, and answers how many bytes there were.
-    pub fn read_some(&mut self, waiting: &mut Waiting, at: u64, into: &mut [u8]) -> io::Result<usize>
+    pub fn read_some(
+        &mut self,
+        waiting: &mut Waiting,
+        at: u64,
+        into: &mut [u8],
+    ) -> io::Result<usize>
         ensures lost { self.old.state.is_lost ≡ true → IsErr result }
         ensures room { IfOk result (λ count. count ≤ length into.old) }
         ensures answer { IsTrue F.tells → IfOk result (ReadsBytes (Some (seen waiting.old.name waiting.old.at waiting.old.bytes.items self.old.name (F.bytes self.old.file))) at into.old into.new) }

@@ -260,7 +260,13 @@ where
         Ok(())
     }
 
-    pub fn read_whole(&mut self, rt: &R, name: &Name, at: u64, into: &mut [u8]) -> Result<bool, Failure> {
+    pub fn read_whole(
+        &mut self,
+        rt: &R,
+        name: &Name,
+        at: u64,
+        into: &mut [u8],
+    ) -> Result<bool, Failure> {
         match self.find(rt, name)? {
             Some(i) => {
                 let outcome = self.files[i].read_whole(&mut self.waiting, at, into);
@@ -270,7 +276,13 @@ where
         }
     }
 
-    pub fn read_some(&mut self, rt: &R, name: &Name, at: u64, into: &mut [u8]) -> Result<usize, Failure>
+    pub fn read_some(
+        &mut self,
+        rt: &R,
+        name: &Name,
+        at: u64,
+        into: &mut [u8],
+    ) -> Result<usize, Failure>
         ensures { IfOk result (λ count. count ≤ length into.old) }
     {
         match self.find(rt, name)? {

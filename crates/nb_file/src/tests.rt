@@ -85,19 +85,14 @@ fn writes_keep_their_order<A: Abort + Files, H: Host>(
 }
 
 /// A file that is written is held against everyone else, and one that is only read against those who write.
-fn file_is_held<A: Abort, H: Host>(
-    rt: &A,
-    host: &mut H,
-    other: &mut H,
-    name: &Name,
-    same: &Name,
-) {
+fn file_is_held<A: Abort, H: Host>(rt: &A, host: &mut H, other: &mut H, name: &Name, same: &Name) {
     let mut page = page_of(0);
+    assert_eq!(rt; host.write_page(name, 0, &page), Ok(()));
     assert_eq!(rt; host.read_page(same, 0, &mut page), Err(HostFault));
     assert_eq!(rt; other.size(name), Err(HostFault));
     assert_eq!(rt; other.make(name), Err(HostFault));
     assert_eq!(rt; other.remove(name), Err(HostFault));
-    assert_eq!(rt; host.size(name), Ok(Some(308_224)));
+    assert_eq!(rt; host.size(name), Ok(Some(1024)));
     assert_eq!(rt; host.remove(name), Ok(()));
     assert_eq!(rt; host.append(name, &[1]), Ok(()));
     assert_eq!(rt; host.remove(name), Ok(()));
@@ -143,5 +138,26 @@ fn files_are_written_and_read(rt: HostRuntime) -> Result<(), Fail> {
     system_answers(&rt, &mut host)?;
     assert_eq!(rt; host.remove(&name), Ok(()));
     assert_eq!(rt; host.fault_count(), 0);
+    Ok(())
+}
+
+#[test]
+fn files_are_locked(rt: HostRuntime) -> Result<(), Fail> {
+    let name = Name::read("nb_file_lock.db").ok_or("no name")?;
+    let same = Name::read("./nb_file_lock.db").ok_or("no name")?;
+    let mut host = FileHost::new(rt, rt.alloc());
+    let mut writer = FileHost::new(rt, rt.alloc());
+    file_is_held(&rt, &mut host, &mut writer, &name, &same);
+    assert_eq!(rt; (host.fault_count(), writer.fault_count()), (2, 3));
+    drop(writer);
+    let mut reader = FileHost::new(rt, rt.alloc());
+    readers_share(&rt, &mut host, &mut reader, &name);
+    assert_eq!(rt; (host.fault_count(), reader.fault_count()), (3, 0));
+    drop(reader);
+    assert_eq!(rt; host.remove(&name), Ok(()));
+    let folder = Name::read(".").ok_or("no name")?;
+    let below = Name::read("nb_file_lock.db/x").ok_or("no name")?;
+    folder_is_no_file(&rt, &mut host, &folder, &below);
+    assert_eq!(rt; host.fault_count(), 6);
     Ok(())
 }
