@@ -66,7 +66,7 @@ def database_is_locked(folder, path):
 
 def two_runs(folder, path):
     """The first run waits for its output to be read, with the database open. The second changes nothing of it."""
-    folder.write_script("script", [CREATE] + [write_line(*write) for write in writes(20_000)])
+    folder.write_script("script", [CREATE] + [write_line(*write) for write in writes(9_000)])
     folder.write_script("second", ["1: open 'x.db'", "1: page new"])
     first = folder.start([path, "run", "script"])
     first.stdout.readline()
@@ -90,7 +90,7 @@ def main():
             (status, replies, said), wanted, line = case(folder, path)
             if status != 3 or len(replies) != wanted or not re.fullmatch(f"nehumiro: {line}\n", said):
                 wrong.append(f"status {status}, {len(replies)} replies for {wanted}, {said!r} for {line!r}")
-    report("faults", not wrong, f"{len(cases) - len(wrong)} of {len(cases)} failures end the run and are said {wrong[:3] or ''}")
+    report("faults", not wrong, f"{len(cases) - len(wrong)} of {len(cases)} failures end the run and are said{''.join(' ' + text for text in wrong[:3])}")
 
 
 if __name__ == "__main__":

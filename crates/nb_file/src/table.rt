@@ -316,7 +316,7 @@ where
     pub fn sync(&mut self, rt: &R, name: &Name) -> Result<(), Failure>
         ensures { OnOk result (self.new.waiting.name ≡ None) }
     {
-        self.flush()?;
+        self.flush()?; // What waits is part of what is kept.
         match self.find_to_sync(rt, name)? {
             Some(i) => {
                 let outcome = self.files[i].sync(rt);
