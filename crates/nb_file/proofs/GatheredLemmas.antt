@@ -1,11 +1,9 @@
 -- What a file holds with what waits for it.
-use Rattle.std.proofs.Common.{◌≡◌, ◌≢◌, ℕ, ◌+◌, Bool, true, false, IsTrue, List, ◌++◌, length, max, Option, None, Some, arith, refl, sym, ◌∙◌, ap, cond}
+use Rattle.std.proofs.Common.{◌≡◌, ℕ, true, false, List, ◌++◌, length, Option, None, Some, arith, refl, sym, ◌∙◌, ap, cond}
 use Rattle.std.specs.Prelude.{is_none}
-use Rattle.std.specs.Cmp.Lexicographic.{nat_list_eq_equiv}
-use Rattle.nb_host.specs.Names.{same_name}
 use Rattle.nb_host.specs.Files.{put_at}
 use Rattle.nb_file.specs.Gathered.{seen, is_owner, IsNext, IsFreeFor}
-use Rattle.nb_file.proofs.PutLemmas.{put_at-next, length-put_at}
+use Rattle.nb_file.proofs.PutLemmas.{put_at-next}
 
 -- of its owner, what waits is put over the file
 pub seen-owner : (own : Option (List ℕ)) (at : ℕ) (bytes name file : List ℕ) → is_owner own name ≡ true → seen own at bytes name file ≡ put_at file at bytes

@@ -1,5 +1,5 @@
 -- Where a list that grew by one has its new element.
-use Rattle.std.proofs.Common.{◌≡◌, ℕ, ◌+◌, List, [], ◌∷◌, ◌++◌, length, IsTrue, IsSomeAnd, Some, slice_get, subst, sym, ap, ◌∙◌, arith, length-append, ◌<◌, get_or, refl, Option, None, inl, inr, ◌⊎◌, Result, Ok, Err, OnOk}
+use Rattle.std.proofs.Common.{◌≡◌, ℕ, ◌+◌, List, [], ◌∷◌, ◌++◌, length, IsTrue, IsSomeAnd, Some, slice_get, subst, sym, ap, ◌∙◌, arith, length-append, ◌<◌, get_or, refl, Option, None, inl, inr, Result, Ok, Err, OnOk}
 use Rattle.std.proofs.Math.Seq.{get_or-append_seam}
 use Rattle.std.proofs.lemmas.Option.{slice_get_read, slice_get_past}
 use Rattle.std.proofs.lemmas.Bool.{cases_lt}

@@ -1,5 +1,5 @@
 -- A file's bytes, as far as they are written, and those that wait to be.
-use Rattle.std.specs.Prelude.{◌≡◌, ◌⊎◌, ℕ, ◌+◌, Bool, false, IsTrue, List, ◌++◌, Option, None, Some, if◌then◌else◌}
+use Rattle.std.specs.Prelude.{◌≡◌, ℕ, ◌+◌, Bool, false, IsTrue, List, Option, None, Some, if◌then◌else◌}
 use Rattle.nb_host.specs.Names.{same_name}
 use Rattle.nb_host.specs.Files.{put_at}
 

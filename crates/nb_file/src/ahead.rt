@@ -1,5 +1,5 @@
 // Reading ahead: where a file is read in sequence, more of it is fetched than was asked for.
-ghost use Rattle.std.specs.Prelude.{◌≡◌, ◌+◌, ◌-◌, ◌≤◌, IsTrue, true, false, [], length, take, drop, OnOk, OnErr};
+ghost use Rattle.std.specs.Prelude.{◌≡◌, ◌+◌, ◌-◌, ◌≤◌, IsTrue, true, false, length, take, drop, OnOk};
 ghost use Rattle.nb_file.specs.Fetched.{IsPart};
 
 use crate::disk::Disk;
@@ -39,11 +39,13 @@ impl Ahead {
         }
     }
 
-    /// Forgets the part, since the file changes.
+    /// Forgets the part, since the file changes. No part is fetched again until the file was read in sequence for so long
+    /// that it pays.
     pub fn forget(&mut self)
         ensures { self.new.count ≡ 0 }
     {
         self.count = 0;
+        self.run = 0;
     }
 
     /// Whether so many bytes from that place were fetched.

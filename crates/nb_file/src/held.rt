@@ -1,11 +1,12 @@
 // One open file: what is written to it, read of it and kept of it.
-ghost use Rattle.std.specs.Prelude.{◌≡◌, ◌+◌, ◌-◌, ◌++◌, ◌≤◌, ◌↔◌, ℕ, List, [], IsTrue, true, false, length, take, drop, min, Some, None, IsOk, IsErr, IfOk, OnOk, OnErr};
+ghost use Rattle.std.specs.Prelude.{◌≡◌, ◌++◌, ◌≤◌, [], IsTrue, true, false, length, take, drop, Some, None, IsErr, IfOk, OnOk, OnErr};
 ghost use Rattle.nb_host.specs.Files.{put_at};
 ghost use Rattle.nb_host.specs.Calls.{ReadsBytes, ReadsPage};
 ghost use Rattle.nb_file.specs.Fetched.{IsPart};
-ghost use Rattle.nb_file.specs.Gathered.{IsFreeFor, seen};
+ghost use Rattle.nb_file.specs.Contents.{with_waiting};
+ghost use Rattle.nb_file.specs.Gathered.{IsFreeFor};
 
-use crate::ahead::{Ahead, MOST_AHEAD};
+use crate::ahead::Ahead;
 use crate::disk::Disk;
 use crate::folder::sync_folder;
 use crate::state::State;
@@ -56,7 +57,7 @@ impl<F: Disk + Drop> Held<F> {
     /// In bytes, with what waits for it.
     pub fn length(&self, waiting: &Waiting) -> io::Result<u64>
         ensures lost { self.now.state.is_lost ≡ true → IsErr result }
-        ensures len { IsTrue F.tells → IfOk result (λ len. len ≡ length (seen waiting.now.name waiting.now.at waiting.now.bytes.items self.now.name (F.bytes self.now.file))) }
+        ensures len { IsTrue F.tells → IfOk result (λ len. len ≡ length (with_waiting waiting.now self.now.name (F.bytes self.now.file))) }
     {
         self.state.check()?;
         if !waiting.is_for(&self.name) {
@@ -90,7 +91,7 @@ impl<F: Disk + Drop> Held<F> {
     pub fn flush(&mut self, waiting: &mut Waiting) -> io::Result<()>
         requires mine { IsFreeFor waiting.old.name self.old.name }
         ensures none { waiting.new.name ≡ None }
-        ensures bytes { IsTrue F.tells → OnOk result (F.bytes self.new.file ≡ seen waiting.old.name waiting.old.at waiting.old.bytes.items self.old.name (F.bytes self.old.file)) }
+        ensures bytes { IsTrue F.tells → OnOk result (F.bytes self.new.file ≡ with_waiting waiting.old self.old.name (F.bytes self.old.file)) }
         ensures sure { OnOk result (self.new.state.is_lost ≡ self.old.state.is_lost) }
         ensures lost { OnErr result (self.new.state.is_lost ≡ true) }
         ensures same { (self.new.name ≡ self.old.name) × (self.new.can_write ≡ self.old.can_write) × (self.new.state.is_kept ≡ self.old.state.is_kept) }
@@ -109,8 +110,8 @@ impl<F: Disk + Drop> Held<F> {
         ensures mine { IsFreeFor waiting.new.name self.new.name }
         ensures lost { self.old.state.is_lost ≡ true → IsErr result }
         ensures bytes { IsTrue F.tells → OnOk result (
-            seen waiting.new.name waiting.new.at waiting.new.bytes.items self.new.name (F.bytes self.new.file)
-            ≡ put_at (seen waiting.old.name waiting.old.at waiting.old.bytes.items self.old.name (F.bytes self.old.file)) at bytes.now) }
+            with_waiting waiting.new self.new.name (F.bytes self.new.file)
+            ≡ put_at (with_waiting waiting.old self.old.name (F.bytes self.old.file)) at bytes.now) }
         ensures same { (self.new.name ≡ self.old.name) × (self.new.can_write ≡ self.old.can_write) × (self.new.state.is_kept ≡ self.old.state.is_kept) }
     {
         self.state.check()?;
@@ -130,8 +131,8 @@ impl<F: Disk + Drop> Held<F> {
         ensures mine { IsFreeFor waiting.new.name self.new.name }
         ensures lost { self.old.state.is_lost ≡ true → IsErr result }
         ensures bytes { IsTrue F.tells → OnOk result (
-            seen waiting.new.name waiting.new.at waiting.new.bytes.items self.new.name (F.bytes self.new.file)
-            ≡ seen waiting.old.name waiting.old.at waiting.old.bytes.items self.old.name (F.bytes self.old.file) ++ bytes.now) }
+            with_waiting waiting.new self.new.name (F.bytes self.new.file)
+            ≡ with_waiting waiting.old self.old.name (F.bytes self.old.file) ++ bytes.now) }
         ensures same { (self.new.name ≡ self.old.name) × (self.new.can_write ≡ self.old.can_write) × (self.new.state.is_kept ≡ self.old.state.is_kept) }
     {
         let at = self.length(waiting)?;
@@ -177,7 +178,7 @@ impl<F: Disk + Drop> Held<F> {
         into: &mut [u8],
     ) -> io::Result<bool>
         ensures lost { self.old.state.is_lost ≡ true → IsErr result }
-        ensures answer { IsTrue F.tells → IfOk result (ReadsPage (Some (seen waiting.old.name waiting.old.at waiting.old.bytes.items self.old.name (F.bytes self.old.file))) at into.old into.new) }
+        ensures answer { IsTrue F.tells → IfOk result (ReadsPage (Some (with_waiting waiting.old self.old.name (F.bytes self.old.file))) at into.old into.new) }
     {
         self.settle(waiting)?;
         if self.state.len < at || self.state.len - at < into.len() as u64 {
@@ -196,7 +197,7 @@ impl<F: Disk + Drop> Held<F> {
     ) -> io::Result<usize>
         ensures lost { self.old.state.is_lost ≡ true → IsErr result }
         ensures room { IfOk result (λ count. count ≤ length into.old) }
-        ensures answer { IsTrue F.tells → IfOk result (ReadsBytes (Some (seen waiting.old.name waiting.old.at waiting.old.bytes.items self.old.name (F.bytes self.old.file))) at into.old into.new) }
+        ensures answer { IsTrue F.tells → IfOk result (ReadsBytes (Some (with_waiting waiting.old self.old.name (F.bytes self.old.file))) at into.old into.new) }
     {
         self.settle(waiting)?;
         let left = self.state.len.saturating_sub(at);
@@ -209,7 +210,7 @@ impl<F: Disk + Drop> Held<F> {
     fn settle(&mut self, waiting: &mut Waiting) -> io::Result<()>
         ensures lost { self.old.state.is_lost ≡ true → IsErr result }
         ensures sure { OnOk result (self.new.state.is_lost ≡ false) }
-        ensures bytes { IsTrue F.tells → OnOk result (F.bytes self.new.file ≡ seen waiting.old.name waiting.old.at waiting.old.bytes.items self.old.name (F.bytes self.old.file)) }
+        ensures bytes { IsTrue F.tells → OnOk result (F.bytes self.new.file ≡ with_waiting waiting.old self.old.name (F.bytes self.old.file)) }
         ensures same { (self.new.name ≡ self.old.name) × (self.new.can_write ≡ self.old.can_write) × (self.new.state.is_kept ≡ self.old.state.is_kept) }
     {
         self.state.check()?;

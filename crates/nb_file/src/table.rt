@@ -1,5 +1,5 @@
 // The open files.
-ghost use Rattle.std.specs.Prelude.{◌≡◌, ◌+◌, ◌<◌, ◌≤◌, false, length, None, IsErr, IfOk, IfSome, OnOk, MatchOption, vec_len};
+ghost use Rattle.std.specs.Prelude.{◌≡◌, ◌+◌, ◌<◌, ◌≤◌, false, length, None, IfOk, IfSome, OnOk, MatchOption, vec_len};
 ghost use Rattle.nb_file.specs.Gathered.{IsFreeFor};
 ghost use Rattle.nb_file.specs.Named.{IsNamedAt};
 
@@ -117,10 +117,11 @@ where
         ensures free { IsFreeFor self.old.waiting.name name.now → IsFreeFor self.new.waiting.name name.now }
         ensures none { self.old.waiting.name ≡ None → self.new.waiting.name ≡ None }
     {
-        if let Some(i) = self.index_of(name)
-            && self.files[i].can_write
-        {
-            return Ok(Some(i));
+        if let Some(i) = self.index_of(name) {
+            if self.files[i].can_write {
+                return Ok(Some(i));
+            }
+            named(self.files[i].state.check(), name, Call::Open)?;
         }
         if named(look_up(rt, name), name, Call::Open)?.is_none() {
             return Ok(None);

@@ -1,7 +1,8 @@
 // Bytes that wait to be written: adjacent writes are gathered and go out together.
 ghost use Rattle.std.specs.Prelude.{◌≡◌, ◌≢◌, ◌+◌, ℕ, List, length, Some, None, is_none, true, IfSome, OnOk, OnErr};
 ghost use Rattle.nb_host.specs.Files.{put_at};
-ghost use Rattle.nb_file.specs.Gathered.{IsNext, IsFreeFor, is_owner, seen};
+ghost use Rattle.nb_file.specs.Contents.{with_waiting};
+ghost use Rattle.nb_file.specs.Gathered.{IsNext, IsFreeFor, is_owner};
 
 use nb_host::Name;
 use std::alloc::{AllocError, Global};
@@ -69,10 +70,10 @@ impl Waiting {
     pub fn add(&mut self, name: &Name, at: u64, bytes: &[u8]) -> Result<(), AllocError>
         requires next { IsNext self.old.name self.old.at (length self.old.bytes.items) at }
         requires mine { IsFreeFor self.old.name name.now }
-        ensures seen { OnOk result ((file : List ℕ) → seen self.new.name self.new.at self.new.bytes.items name.now file ≡ put_at (seen self.old.name self.old.at self.old.bytes.items name.now file) at bytes.now) }
+        ensures seen { OnOk result ((file : List ℕ) → with_waiting self.new name.now file ≡ put_at (with_waiting self.old name.now file) at bytes.now) }
         ensures mine { IsFreeFor self.new.name name.now }
         ensures waits { OnOk result (self.new.name ≢ None) }
-        ensures fails { OnErr result ((file : List ℕ) → seen self.new.name self.new.at self.new.bytes.items name.now file ≡ seen self.old.name self.old.at self.old.bytes.items name.now file) }
+        ensures fails { OnErr result ((file : List ℕ) → with_waiting self.new name.now file ≡ with_waiting self.old name.now file) }
     {
         if self.is_empty() {
             self.start(name, at, bytes)

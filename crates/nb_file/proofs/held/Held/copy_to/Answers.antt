@@ -1,4 +1,4 @@
-use Rattle.std.proofs.Common.{◌≡◌, ◌∙◌}
+use Rattle.std.proofs.Common.{◌∙◌}
 use Rattle.nb_file.proofs.PartLemmas.{given_within}
 use Rattle.nb_file.proofs.held.Held.copy_to.Goals as goal
 

@@ -1,4 +1,4 @@
-use Rattle.std.proofs.Common.{◌≡◌, ◌∙◌, sym, ap, length, max}
+use Rattle.std.proofs.Common.{◌∙◌, sym, ap, length, max}
 use Rattle.nb_file.proofs.PutLemmas.{length-put_at}
 use Rattle.nb_file.proofs.GatheredLemmas.{seen-owner}
 use Rattle.nb_file.proofs.held.Held.length.Goals as goal

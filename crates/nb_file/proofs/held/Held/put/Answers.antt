@@ -1,4 +1,3 @@
-use Rattle.std.proofs.Common.{◌≡◌}
 use Rattle.nb_file.proofs.HeldLemmas.{measured_after}
 use Rattle.nb_file.proofs.PartLemmas.{empty_part}
 use Rattle.nb_file.proofs.held.Held.put.Goals as goal

@@ -1,4 +1,4 @@
-use Rattle.std.proofs.Common.{◌≡◌, Option, List, ℕ, subst, sym}
+use Rattle.std.proofs.Common.{subst}
 use Rattle.nb_file.specs.Gathered.{IsFreeFor}
 use Rattle.nb_file.proofs.TableLemmas.{free_for_named, free_for_name, at_ok}
 use Rattle.nb_file.proofs.table.Table.append.Goals as goal

@@ -1,6 +1,4 @@
-use Rattle.std.proofs.Common.{◌≡◌, Option, List, ℕ, subst, sym}
-use Rattle.nb_file.specs.Gathered.{IsFreeFor}
-use Rattle.nb_file.proofs.TableLemmas.{free_for_named, free_for_name}
+use Rattle.nb_file.proofs.TableLemmas.{free_for_named}
 use Rattle.nb_file.proofs.table.Table.make.Goals as goal
 
 pub empty-outcome-requires : goal.empty-outcome-requires

@@ -1,9 +1,6 @@
-use Rattle.std.proofs.Common.{◌≡◌, ◌++◌, List, ℕ, ap, sym, ◌∙◌, Result, is_ok, if◌then◌else◌, OnOk, Ok, Err, Bool, true, false, IsTrue, Option, None, Some}
-use Rattle.std.proofs.lemmas.Bool.{false≢true}
-use Rattle.nb_host.specs.Names.{same_name}
+use Rattle.std.proofs.Common.{◌≡◌, ◌++◌, List, ℕ, ap, sym, ◌∙◌, Result, is_ok, if◌then◌else◌, OnOk, Ok, Err}
 use Rattle.nb_host.specs.Files.{put_at}
-use Rattle.nb_file.specs.Gathered.{seen, IsNext, IsFreeFor}
-use Rattle.nb_file.proofs.PutLemmas.{put_at-next}
+use Rattle.nb_file.specs.Gathered.{seen}
 use Rattle.nb_file.proofs.GatheredLemmas.{seen-more}
 use Rattle.nb_file.proofs.waiting.Waiting.add.Goals as goal
 
