@@ -191,9 +191,9 @@ where
         Ok(self.files.len() - 1)
     }
 
-    /// Closes the file that was opened first, where as many are open as may be, and answers it. What waits is written
-    /// before. Nothing is lost by it: all that was written to the file is synced, a lost file is never closed, and where it
-    /// is opened again its first sync keeps the folder anew.
+    /// Closes a file, where as many are open as may be, and answers it. What waits is written before. Nothing is lost by it:
+    /// all that was written to the file is synced, a lost file is never closed, and where it is opened again its first sync
+    /// keeps the folder anew.
     fn make_room(&mut self) -> Result<Option<Held<R::File>>, Failure>
         ensures room { OnOk result (vec_len self.new.files < 64) }
         ensures count { IfOk result (λ closed. MatchOption closed (vec_len self.new.files ≡ vec_len self.old.files) (λ _. vec_len self.new.files + 1 ≡ vec_len self.old.files)) }
@@ -204,10 +204,25 @@ where
         if self.files.len() < MOST_OPEN {
             return Ok(None);
         }
-        match self.files.iter().position(|held| !held.state.is_lost) {
+        match self.first_to_close() {
             Some(i) => self.close(i).map(Some),
             None => Err(Failure::Of("open files", ErrorKind::Other.into())),
         }
+    }
+
+    /// The file that was opened first of those that are only read, so that no lock against everyone is given up; where there
+    /// is none, of those that are not lost.
+    fn first_to_close(&self) -> Option<usize>
+        ensures { IfSome result (λ i. i < vec_len self.now.files) }
+    {
+        let reader = self
+            .files
+            .iter()
+            .position(|held| !held.can_write && !held.state.is_lost);
+        if reader.is_some() {
+            return reader;
+        }
+        self.files.iter().position(|held| !held.state.is_lost)
     }
 
     /// Closes a file, for which nothing is left to do then.
