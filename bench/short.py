@@ -18,7 +18,7 @@ SCRIPTS = {
 
 
 def outcome(folder, path, library):
-    """The replies of each script, the database after each but for its GUIDs and times."""
+    """The replies of each script, and the database after each, but for its first page, which has a GUID."""
     environment = dict(os.environ)
     if library:
         environment["LD_PRELOAD"] = library

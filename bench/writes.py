@@ -2,8 +2,8 @@
 
 Each job is a script on a database that is there. Its time is that of the script less that of one that only opens the
 database. The loop makes as many calls of pwrite and fdatasync as strace counts of the job, on a file of the same size that
-grows where the job's does, and nothing else. Job and loop take turns, and what is judged is the ratio
-of their shortest times, which other work on the disk disturbs least.
+grows where the job's does, and nothing else. Job and loop take turns, and what is judged is the ratio of their shortest times,
+which other work disturbs least.
 """
 
 import os
