@@ -1,1 +1,5 @@
+mod GatheredLemmas
+mod HeldLemmas
+mod PutLemmas
+mod PartLemmas
 mod TableLemmas

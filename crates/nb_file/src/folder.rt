@@ -2,28 +2,12 @@
 ghost use Rattle.std.specs.Prelude.{IfOk, IfSome};
 ghost use Rattle.std.specs.Fs.{file_type, IsFile};
 
+use crate::disk::no_file;
 use nb_host::Name;
 use std::fs::{self, File, Metadata, OpenFile};
 use std::io::{self, ErrorKind};
-use std::os::unix::fs::MetadataExt;
 use std::path::Path;
 use std::rt::Files;
-
-/// Which file of the system it is, whatever its names.
-#[derive(Clone, Copy, PartialEq, Eq)]
-pub struct Node {
-    device: u64,
-    inode: u64,
-}
-
-impl Node {
-    pub fn of(found: &Metadata) -> Node {
-        Node {
-            device: found.dev(),
-            inode: found.ino(),
-        }
-    }
-}
 
 /// The file that has this name, if there is one. What is no file is an error: a folder, a FIFO, a device, and a
 /// symbolic link too.
@@ -32,7 +16,7 @@ pub fn look_up<R: Files>(rt: &R, name: &Name) -> io::Result<Option<Metadata>>
 {
     match fs::symlink_metadata(rt, name.as_str()) {
         Ok(found) if found.is_file() => Ok(Some(found)),
-        Ok(_) => Err(ErrorKind::Unsupported.into()),
+        Ok(_) => Err(no_file()),
         Err(error) if is_missing(error.kind()) => Ok(None),
         Err(error) => Err(error),
     }

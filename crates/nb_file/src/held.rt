@@ -1,175 +1,284 @@
-// One open file.
-ghost use Rattle.std.specs.Prelude.{◌≡◌, ◌+◌, ◌<◌, ◌≤◌, ◌↔◌, true, false, length, max, Some, None, option_map, IsOk, IsErr, IfOk, IfSome, OnOk, OnErr};
+// One open file: what is written to it, read of it and kept of it.
+ghost use Rattle.std.specs.Prelude.{◌≡◌, ◌++◌, ◌≤◌, [], IsTrue, true, false, length, take, drop, Some, None, IsErr, IfOk, OnOk, OnErr};
+ghost use Rattle.nb_host.specs.Files.{put_at};
+ghost use Rattle.nb_host.specs.Calls.{ReadsBytes, ReadsPage};
+ghost use Rattle.nb_file.specs.Fetched.{IsPart};
+ghost use Rattle.nb_file.specs.Contents.{with_waiting};
+ghost use Rattle.nb_file.specs.Gathered.{IsFreeFor};
 
-use crate::bytes::read_from;
-use crate::folder::{Node, sync_folder};
+use crate::ahead::Ahead;
+use crate::disk::Disk;
+use crate::folder::sync_folder;
+use crate::state::State;
+use crate::waiting::{MOST_GATHERED, Waiting};
 use nb_host::Name;
-use std::fs::OpenFile;
+use std::alloc::Global;
 use std::io::{self, ErrorKind};
-use std::os::unix::fs::FileExt;
 use std::rt::Files;
 
-/// A file that is open under one of its names.
+/// A file that is open under its name.
+///
+/// What it holds is what the system has of it, and over it what waits for it, which the table keeps.
 #[derive(Drop)]
-pub struct Held<F: Drop> {
+pub struct Held<F: Disk + Drop> {
     pub name: Name,
-    pub file: F,
-    pub node: Node,
-    /// In bytes. None where only the system knows it: another name leads to the file, or a write failed.
-    pub len: Option<u64>,
-    /// It was written since its last sync.
-    pub is_dirty: bool,
-    /// Its folder was synced since the name was made, and in this process.
-    pub is_kept: bool,
-    /// A sync of it failed, so nothing that was written is sure: each call on it fails, until it is made anew or removed.
-    pub is_lost: bool,
+    /// It was opened to write, so that nobody else has it.
+    pub can_write: bool,
+    file: F,
+    pub state: State,
+    ahead: Ahead,
+    ghost measured: { IsTrue F.tells → state.is_lost ≡ false → state.len ≡ length (F.bytes file) },
+    ghost fetched: { IsTrue F.tells → IsPart ahead.at (take ahead.count ahead.bytes.items) (F.bytes file) },
 }
 
-impl<F: OpenFile + FileExt + Drop> Held<F> {
-    /// Takes a file that was just opened, and refuses what is no file.
-    pub fn new(name: Name, file: F) -> io::Result<Held<F>>
+impl<F: Disk + Drop> Held<F> {
+    /// Takes a file that was just opened and locked. What is no file is an error.
+    pub fn new(
+        alloc: Global,
+        name: Name,
+        file: F,
+        can_write: bool,
+        is_new: bool,
+    ) -> io::Result<Held<F>>
         ensures name { IfOk result (λ held. held.name ≡ name) }
-        ensures fresh { IfOk result (λ held. (held.is_kept ≡ false) × (held.is_lost ≡ false)) }
+        ensures fresh { IfOk result (λ held. (held.state.is_dirty ≡ is_new) × (held.state.is_kept ≡ false) × (held.state.is_lost ≡ false)) }
+        ensures file { IfOk result (λ held. (held.file ≡ file) × (held.can_write ≡ can_write)) }
     {
-        let found = file.metadata()?;
-        if !found.is_file() {
-            return Err(ErrorKind::Unsupported.into());
-        }
+        let len = file.measure()?;
         Ok(Held {
             name,
+            can_write,
             file,
-            node: Node::of(&found),
-            len: Some(found.len()),
-            is_dirty: false,
-            is_kept: false,
-            is_lost: false,
+            state: State::opened(len, is_new),
+            ahead: Ahead::new(alloc),
         })
     }
 
-    fn check(&self) -> io::Result<()>
-        ensures { IsOk result ↔ (self.now.is_lost ≡ false) }
+    /// In bytes, with what waits for it.
+    pub fn length(&self, waiting: &Waiting) -> io::Result<u64>
+        ensures lost { self.now.state.is_lost ≡ true → IsErr result }
+        ensures len { IsTrue F.tells → IfOk result (λ len. len ≡ length (with_waiting waiting.now self.now.name (F.bytes self.now.file))) }
     {
-        if self.is_lost {
-            Err(ErrorKind::Other.into())
-        } else {
-            Ok(())
+        self.state.check()?;
+        if !waiting.is_for(&self.name) {
+            return Ok(self.state.len);
+        }
+        match waiting.end() {
+            Some(end) => Ok(self.state.len.max(end)),
+            None => Err(ErrorKind::FileTooLarge.into()),
         }
     }
 
-    /// In bytes.
-    pub fn length(&self) -> io::Result<u64>
-        ensures lost { self.now.is_lost ≡ true → IsErr result }
-        ensures known { IfSome self.now.len (λ len. IfOk result (λ answer. answer ≡ len)) }
+    /// Puts the bytes into the file. Where that fails the file is lost.
+    fn put(&mut self, at: u64, bytes: &[u8]) -> io::Result<()>
+        ensures bytes { IsTrue F.tells → OnOk result (F.bytes self.new.file ≡ put_at (F.bytes self.old.file) at bytes.now) }
+        ensures dirty { OnOk result (self.new.state.is_dirty ≡ true) }
+        ensures sure { OnOk result (self.new.state.is_lost ≡ self.old.state.is_lost) }
+        ensures lost { OnErr result (self.new.state.is_lost ≡ true) }
+        ensures same { (self.new.name ≡ self.old.name) × (self.new.can_write ≡ self.old.can_write) × (self.new.state.is_kept ≡ self.old.state.is_kept) }
     {
-        self.check()?;
-        match self.len {
-            Some(len) => Ok(len),
-            None => Ok(self.file.metadata()?.len()),
+        let Some(end) = at.checked_add(bytes.len() as u64) else {
+            self.state.wrote(at, false);
+            return Err(ErrorKind::FileTooLarge.into());
+        };
+        self.ahead.forget();
+        let outcome = self.file.put(at, bytes);
+        self.state.wrote(end, outcome.is_ok());
+        outcome
+    }
+
+    /// Writes what waits for it. Nothing waits after it, and where it fails the file is lost.
+    pub fn flush(&mut self, waiting: &mut Waiting) -> io::Result<()>
+        requires mine { IsFreeFor waiting.old.name self.old.name }
+        ensures none { waiting.new.name ≡ None }
+        ensures bytes { IsTrue F.tells → OnOk result (F.bytes self.new.file ≡ with_waiting waiting.old self.old.name (F.bytes self.old.file)) }
+        ensures sure { OnOk result (self.new.state.is_lost ≡ self.old.state.is_lost) }
+        ensures lost { OnErr result (self.new.state.is_lost ≡ true) }
+        ensures same { (self.new.name ≡ self.old.name) × (self.new.can_write ≡ self.old.can_write) × (self.new.state.is_kept ≡ self.old.state.is_kept) }
+    {
+        if waiting.is_empty() {
+            return Ok(());
         }
+        let outcome = self.put(waiting.at, &waiting.bytes);
+        waiting.clear();
+        outcome
+    }
+
+    /// Writes all the bytes at that place, or lets them wait. Where the file is shorter, zeros stand between.
+    pub fn write(&mut self, waiting: &mut Waiting, at: u64, bytes: &[u8]) -> io::Result<()>
+        requires mine { IsFreeFor waiting.old.name self.old.name }
+        ensures mine { IsFreeFor waiting.new.name self.new.name }
+        ensures lost { self.old.state.is_lost ≡ true → IsErr result }
+        ensures bytes { IsTrue F.tells → OnOk result (
+            with_waiting waiting.new self.new.name (F.bytes self.new.file)
+            ≡ put_at (with_waiting waiting.old self.old.name (F.bytes self.old.file)) at bytes.now) }
+        ensures same { (self.new.name ≡ self.old.name) × (self.new.can_write ≡ self.old.can_write) × (self.new.state.is_kept ≡ self.old.state.is_kept) }
+    {
+        self.state.check()?;
+        if !waiting.takes(at, bytes.len()) {
+            self.flush(waiting)?;
+        }
+        if bytes.len() < MOST_GATHERED && waiting.add(&self.name, at, bytes).is_ok() {
+            return Ok(());
+        }
+        self.flush(waiting)?;
+        self.put(at, bytes)
+    }
+
+    /// Adds the bytes at its end.
+    pub fn append(&mut self, waiting: &mut Waiting, bytes: &[u8]) -> io::Result<()>
+        requires mine { IsFreeFor waiting.old.name self.old.name }
+        ensures mine { IsFreeFor waiting.new.name self.new.name }
+        ensures lost { self.old.state.is_lost ≡ true → IsErr result }
+        ensures bytes { IsTrue F.tells → OnOk result (
+            with_waiting waiting.new self.new.name (F.bytes self.new.file)
+            ≡ with_waiting waiting.old self.old.name (F.bytes self.old.file) ++ bytes.now) }
+        ensures same { (self.new.name ≡ self.old.name) × (self.new.can_write ≡ self.old.can_write) × (self.new.state.is_kept ≡ self.old.state.is_kept) }
+    {
+        let at = self.length(waiting)?;
+        self.write(waiting, at, bytes)
+    }
+
+    /// Fetches more than so many bytes from `at` on, where the file is read in sequence.
+    fn look_ahead(&mut self, at: u64, count: usize)
+        ensures same { (self.new.name ≡ self.old.name) × (self.new.can_write ≡ self.old.can_write) × (self.new.state ≡ self.old.state) × (self.new.file ≡ self.old.file) }
+    {
+        if self.ahead.is_due(at, count) && !self.ahead.has(at, count) {
+            // Where more can't be fetched, what was asked for still may be.
+            let _ = self.ahead.fill(&self.file, at, self.state.len);
+        }
+    }
+
+    /// Fills `into` from `at` on, from what was fetched or from the file.
+    fn copy_to(&self, at: u64, into: &mut [u8]) -> io::Result<()>
+        ensures { IsTrue F.tells → OnOk result (into.new ≡ take (length into.old) (drop at (F.bytes self.now.file))) }
+    {
+        if self.ahead.give(at, into) {
+            return Ok(());
+        }
+        self.file.fetch(at, into)
+    }
+
+    /// Fills `into` from `at` on.
+    fn fill(&mut self, at: u64, into: &mut [u8]) -> io::Result<()>
+        ensures bytes { IsTrue F.tells → OnOk result (into.new ≡ take (length into.old) (drop at (F.bytes self.old.file))) }
+        ensures same { (self.new.name ≡ self.old.name) × (self.new.can_write ≡ self.old.can_write) × (self.new.state ≡ self.old.state) × (self.new.file ≡ self.old.file) }
+    {
+        self.look_ahead(at, into.len());
+        self.copy_to(at, into)?;
+        self.ahead.note(at, into.len());
+        Ok(())
     }
 
     /// Fills `into` from `at` on, and answers whether the file has so many bytes. Where it has not, nothing is read.
-    pub fn read_whole(&self, at: u64, into: &mut [u8]) -> io::Result<bool>
-        ensures lost { self.now.is_lost ≡ true → IsErr result }
-        ensures past_end { IfSome self.now.len (λ len. len < at + length into.old → IfOk result (λ is_there. is_there ≡ false)) }
-        ensures unread { IfOk result (λ is_there. is_there ≡ false → into.new ≡ into.old) }
+    pub fn read_whole(
+        &mut self,
+        waiting: &mut Waiting,
+        at: u64,
+        into: &mut [u8],
+    ) -> io::Result<bool>
+        ensures lost { self.old.state.is_lost ≡ true → IsErr result }
+        ensures answer { IsTrue F.tells → IfOk result (ReadsPage (Some (with_waiting waiting.old self.old.name (F.bytes self.old.file))) at into.old into.new) }
     {
-        let len = self.length()?;
-        match at.checked_add(into.len() as u64) {
-            Some(end) if end <= len => {}
-            _ => return Ok(false),
+        self.settle(waiting)?;
+        if self.state.len < at || self.state.len - at < into.len() as u64 {
+            return Ok(false);
         }
-        self.file.read_exact_at(into, at)?;
+        self.fill(at, into)?;
         Ok(true)
     }
 
     /// Fills `into` from `at` on, as far as the file goes, and answers how many bytes there were.
-    pub fn read_some(&self, at: u64, into: &mut [u8]) -> io::Result<usize>
-        ensures lost { self.now.is_lost ≡ true → IsErr result }
+    pub fn read_some(
+        &mut self,
+        waiting: &mut Waiting,
+        at: u64,
+        into: &mut [u8],
+    ) -> io::Result<usize>
+        ensures lost { self.old.state.is_lost ≡ true → IsErr result }
         ensures room { IfOk result (λ count. count ≤ length into.old) }
-        ensures past_end { IfSome self.now.len (λ len. len ≤ at → IfOk result (λ count. count ≡ 0)) }
+        ensures answer { IsTrue F.tells → IfOk result (ReadsBytes (Some (with_waiting waiting.old self.old.name (F.bytes self.old.file))) at into.old into.new) }
     {
-        if self.length()? <= at {
-            return Ok(0);
+        self.settle(waiting)?;
+        let left = self.state.len.saturating_sub(at);
+        let count = left.min(into.len() as u64) as usize;
+        self.fill(at, &mut into[..count])?;
+        Ok(count)
+    }
+
+    /// Writes what waits for it, if something does, before it is read.
+    fn settle(&mut self, waiting: &mut Waiting) -> io::Result<()>
+        ensures lost { self.old.state.is_lost ≡ true → IsErr result }
+        ensures sure { OnOk result (self.new.state.is_lost ≡ false) }
+        ensures bytes { IsTrue F.tells → OnOk result (F.bytes self.new.file ≡ with_waiting waiting.old self.old.name (F.bytes self.old.file)) }
+        ensures same { (self.new.name ≡ self.old.name) × (self.new.can_write ≡ self.old.can_write) × (self.new.state.is_kept ≡ self.old.state.is_kept) }
+    {
+        self.state.check()?;
+        if waiting.is_for(&self.name) {
+            self.flush(waiting)?;
         }
-        read_from(&self.file, at, into)
-    }
-
-    /// Writes all the bytes at that place. Where the file is shorter, zeros stand between.
-    pub fn write(&mut self, at: u64, bytes: &[u8]) -> io::Result<()>
-        ensures lost { self.old.is_lost ≡ true → IsErr result }
-        ensures dirty { OnOk result (self.new.is_dirty ≡ true) }
-        ensures grows { OnOk result (self.new.len ≡ option_map (λ len. max len (at + length bytes.now)) self.old.len) }
-        ensures same { (self.new.name ≡ self.old.name) × (self.new.is_lost ≡ self.old.is_lost) × (self.new.is_kept ≡ self.old.is_kept) }
-    {
-        self.check()?;
-        let Some(end) = at.checked_add(bytes.len() as u64) else {
-            return Err(ErrorKind::FileTooLarge.into());
-        };
-        let len = self.len;
-        self.len = None;
-        self.is_dirty = true;
-        self.file.write_all_at(bytes, at)?;
-        self.len = len.map(|len| len.max(end));
         Ok(())
     }
 
-    /// Adds the bytes at its end.
-    pub fn append(&mut self, bytes: &[u8]) -> io::Result<()>
-        ensures lost { self.old.is_lost ≡ true → IsErr result }
-        ensures dirty { OnOk result (self.new.is_dirty ≡ true) }
-        ensures same { (self.new.name ≡ self.old.name) × (self.new.is_lost ≡ self.old.is_lost) × (self.new.is_kept ≡ self.old.is_kept) }
+    /// Takes all its bytes away, and what waits for it too. A file that was lost is so no longer, since nothing of it is
+    /// left that is unsure.
+    pub fn empty(&mut self, waiting: &mut Waiting) -> io::Result<()>
+        requires mine { IsFreeFor waiting.old.name self.old.name }
+        ensures none { waiting.new.name ≡ None }
+        ensures bytes { IsTrue F.tells → OnOk result (F.bytes self.new.file ≡ []) }
+        ensures fresh { OnOk result ((self.new.state.is_dirty ≡ true) × (self.new.state.is_lost ≡ false)) }
+        ensures lost { OnErr result (self.new.state.is_lost ≡ true) }
+        ensures kept { self.new.state.is_kept ≡ false }
+        ensures same { (self.new.name ≡ self.old.name) × (self.new.can_write ≡ self.old.can_write) }
     {
-        let at = self.length()?;
-        self.write(at, bytes)
+        waiting.clear();
+        self.ahead.forget();
+        let outcome = self.file.cut();
+        self.state.emptied(outcome.is_ok());
+        outcome
     }
 
-    /// Takes all its bytes away. A file that was lost is so no longer, since nothing of it is left that is unsure.
-    pub fn empty(&mut self) -> io::Result<()>
-        ensures empty { OnOk result (self.new.len ≡ option_map (λ _. 0) self.old.len) }
-        ensures fresh { OnOk result ((self.new.is_dirty ≡ true) × (self.new.is_kept ≡ false) × (self.new.is_lost ≡ false)) }
-        ensures fails { OnErr result (self.new.is_lost ≡ self.old.is_lost) }
-        ensures same { self.new.name ≡ self.old.name }
+    /// Keeps its bytes for good, as far as none wait. Where that fails the file is lost.
+    pub fn keep(&mut self) -> io::Result<()>
+        ensures lost { self.old.state.is_lost ≡ true → IsErr result }
+        ensures clean { OnOk result ((self.new.state.is_dirty ≡ false) × (self.new.state.is_lost ≡ false)) }
+        ensures durable { IsTrue F.tells → OnOk result (F.is_durable self.new.file ≡ true) }
+        ensures bytes { IsTrue F.tells → F.bytes self.new.file ≡ F.bytes self.old.file }
+        ensures fails { OnErr result (self.new.state.is_lost ≡ true) }
+        ensures same { (self.new.name ≡ self.old.name) × (self.new.can_write ≡ self.old.can_write) × (self.new.state.is_kept ≡ self.old.state.is_kept) }
     {
-        let len = self.len;
-        self.len = None;
-        self.is_dirty = true;
-        self.is_kept = false;
-        self.file.set_len(0)?;
-        self.len = len.map(|_| 0);
-        self.is_lost = false;
-        Ok(())
+        self.state.check()?;
+        let outcome = self.file.keep();
+        self.state.synced(outcome.is_ok());
+        outcome
     }
 
-    /// Keeps its bytes for good. Where that fails the file is lost.
-    pub fn sync_bytes(&mut self) -> io::Result<()>
-        ensures lost { self.old.is_lost ≡ true → IsErr result }
-        ensures clean { OnOk result ((self.new.is_dirty ≡ false) × (self.new.is_lost ≡ false)) }
-        ensures fails { OnErr result (self.new.is_lost ≡ true) }
-        ensures same { (self.new.name ≡ self.old.name) × (self.new.len ≡ self.old.len) × (self.new.is_kept ≡ self.old.is_kept) }
+    /// Leaves nothing to do but to close it.
+    pub fn finish(&mut self) -> io::Result<()>
+        ensures { OnOk result ((self.new.state.is_dirty ≡ false) × (self.new.state.is_lost ≡ false)) }
     {
-        self.check()?;
-        self.is_lost = true;
-        self.file.sync_data()?;
-        self.is_lost = false;
-        self.is_dirty = false;
-        Ok(())
+        if self.state.is_dirty {
+            self.keep()
+        } else {
+            self.state.check()
+        }
     }
 
-    /// Keeps for good its bytes and that its name is there. Where that fails the file is lost.
+    /// Keeps for good its bytes, as far as none wait, and that its name is there. Where that fails the file is lost.
     pub fn sync<R: Files>(&mut self, rt: &R) -> io::Result<()>
-        ensures lost { self.old.is_lost ≡ true → IsErr result }
-        ensures clean { OnOk result ((self.new.is_dirty ≡ false) × (self.new.is_lost ≡ false) × (self.new.is_kept ≡ true)) }
-        ensures fails { OnErr result (self.new.is_lost ≡ true) }
-        ensures same { (self.new.name ≡ self.old.name) × (self.new.len ≡ self.old.len) }
+        ensures lost { self.old.state.is_lost ≡ true → IsErr result }
+        ensures clean { OnOk result ((self.new.state.is_dirty ≡ false) × (self.new.state.is_lost ≡ false) × (self.new.state.is_kept ≡ true)) }
+        ensures durable { IsTrue F.tells → OnOk result (F.is_durable self.new.file ≡ true) }
+        ensures bytes { IsTrue F.tells → F.bytes self.new.file ≡ F.bytes self.old.file }
+        ensures fails { OnErr result ((self.new.state.is_lost ≡ true) × (self.new.state.is_kept ≡ self.old.state.is_kept)) }
+        ensures same { (self.new.name ≡ self.old.name) × (self.new.can_write ≡ self.old.can_write) }
     {
-        self.sync_bytes()?;
-        if !self.is_kept {
-            self.is_lost = true;
-            sync_folder(rt, &self.name)?;
-            self.is_lost = false;
-            self.is_kept = true;
+        self.keep()?;
+        if self.state.is_kept {
+            return Ok(());
         }
-        Ok(())
+        let outcome = sync_folder(rt, &self.name);
+        self.state.folder_synced(outcome.is_ok());
+        outcome
     }
 }

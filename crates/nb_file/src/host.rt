@@ -1,38 +1,43 @@
 // The host.
-ghost use Rattle.std.specs.Prelude.{◌≡◌, ℕ, false, Ok, IfOk};
+ghost use Rattle.std.specs.Prelude.{◌≡◌, ◌*◌, ◌≤◌, ℕ, false, length, Ok, IfOk};
 ghost use Rattle.nb_host.specs.Causes.{Rose, CountsFault};
 ghost use Rattle.nb_file.specs.Nothing.{silence, silence_timely, untold};
 
-use crate::bytes::place_of;
+use crate::disk::Disk;
+use crate::failure::Failure;
 use crate::guid::draw;
 use crate::table::Table;
 use nb_host::{Host, HostFault, Name};
 use std::alloc::Global;
-use std::io;
 use std::marker::Model;
 use std::os::fd::AsRawFd;
-use std::os::unix::fs::FileExt;
 use std::rt::{Clock, Files};
 
 /// Real files, the standard output, the system's random bytes and its clock.
 ///
 /// Contracts see it as its count of faults, since it tells nothing else.
 #[derive(Drop)]
-pub struct FileHost<R: Files + Drop> {
+pub struct FileHost<R: Files + Drop>
+where
+    R::File: Disk,
+{
     rt: R,
     files: Table<R>,
     faults: u64,
 }
 
-impl<R: Files + Drop> Model for FileHost<R> {
+impl<R: Files + Drop> Model for FileHost<R>
+where
+    R::File: Disk,
+{
     ghost Value = { ℕ };
 
     ghost view = { λ host. host.faults };
 }
 
-impl<R: Files + Print + Clock + Drop> FileHost<R>
+impl<R: Files + Print + Eprint + Clock + Drop> FileHost<R>
 where
-    R::File: FileExt + AsRawFd,
+    R::File: Disk + AsRawFd,
 {
     /// A host with no file open and no fault.
     pub fn new(rt: R, alloc: Global) -> FileHost<R>
@@ -52,24 +57,46 @@ where
         self.faults
     }
 
-    /// Counts a fault where the system failed. What it failed of is not told.
-    fn answer<T: Drop>(&mut self, outcome: io::Result<T>) -> Result<T, HostFault>
+    /// Counts a fault where the system failed, and says on the standard error what failed.
+    fn answer<T: Drop>(&mut self, outcome: Result<T, Failure>) -> Result<T, HostFault>
         ensures value { IfOk result (λ value. outcome ≡ Ok value) }
         ensures cause { CountsFault result self.old self.new }
     {
         match outcome {
             Ok(value) => Ok(value),
-            Err(_) => {
+            Err(failure) => {
+                // Nothing is left to do where the standard error fails too.
+                let _ = eprintln!(self.rt; "nehumiro: {failure}");
                 self.faults = self.faults.saturating_add(1);
                 Err(HostFault)
             }
         }
     }
+
+    /// Writes what waits, and then the reply: no write that has its reply lies in memory.
+    fn reply(&mut self, bytes: &[u8]) -> Result<(), Failure>
+        ensures { self.new ≡ self.old }
+    {
+        self.files.flush()?;
+        // The runtime has no buffer: each byte was given to the system before this answers Ok.
+        match self.rt.write_all(bytes) {
+            Ok(()) => Ok(()),
+            Err(error) => Err(Failure::Of("standard output", error)),
+        }
+    }
 }
 
-impl<R: Files + Print + Clock + Drop> Host for FileHost<R>
+/// Where page `index` begins, counted in pages of the length of `page`.
+fn place_of(index: u32, page: &[u8]) -> u64
+    requires { length page.now ≤ 32768 }
+    ensures { result ≡ index * length page.now }
+{
+    u64::from(index) * page.len() as u64
+}
+
+impl<R: Files + Print + Eprint + Clock + Drop> Host for FileHost<R>
 where
-    R::File: FileExt + AsRawFd,
+    R::File: Disk + AsRawFd,
 {
     ghost tells = { false };
 
@@ -125,19 +152,24 @@ where
         self.answer(outcome)
     }
 
-    // The runtime has no buffer: each byte was given to the system before this answers Ok.
     fn say(&mut self, bytes: &[u8]) -> Result<(), HostFault> {
-        let outcome = self.rt.write_all(bytes);
+        let outcome = self.reply(bytes);
         self.answer(outcome)
     }
 
     fn guid(&mut self) -> Result<[u8; 16], HostFault> {
-        let outcome = draw(&self.rt);
+        let outcome = match draw(&self.rt) {
+            Ok(guid) => Ok(guid),
+            Err(error) => Err(Failure::Of("/dev/urandom", error)),
+        };
         self.answer(outcome)
     }
 
     fn seconds(&mut self) -> Result<u64, HostFault> {
-        let outcome = self.rt.since_1970().map(|time| time.as_secs());
+        let outcome = match self.rt.since_1970() {
+            Ok(time) => Ok(time.as_secs()),
+            Err(error) => Err(Failure::Of("clock", error)),
+        };
         self.answer(outcome)
     }
 }

@@ -1,18 +1,27 @@
 //! Real files as a host.
 //!
-//! It rests on `nb_host`, whose contract it meets, and on the system, which is trusted: files, the standard output,
-//! `/dev/urandom` and the clock. It tells nothing of what its files hold. A layer above may rely on this: each call
-//! is safe and ends, a call fails only where the count of faults rises, and a read never answers more than the
-//! buffer holds. That a page reaches its place, and a sync the disk, is what the system does, and what the test tries.
+//! It rests on `nb_host`, whose contract it meets, and on the system, which is trusted: files, their locks, the standard
+//! output, `/dev/urandom` and the clock. It tells nothing of what its files hold. A layer above may rely on this: each call
+//! is safe and ends, a call fails only where the count of faults rises, and a read never answers more than the buffer holds.
+//!
+//! Inside, from below: `disk` is an open file as the system gives it, or anything that tells what it holds; `state` what is
+//! known of it; `waiting` what waits to be written, and `ahead` what was read ahead; `held` one file of all these, whose
+//! bytes are proved as far as its disk does what it says; `table` the open files, and the order of their writes; `host` the
+//! trait's calls, the count of faults, and what is said of each. `docs/GATE.md` lists what only tests can see.
 #![tactic(auto)]
 
-mod bytes;
+mod ahead;
+mod disk;
+mod failure;
 mod folder;
 mod guid;
 mod held;
 mod host;
+mod state;
 mod table;
+mod waiting;
 
+pub use disk::{Disk, Sharing};
 pub use host::FileHost;
 
 #[cfg(test)]

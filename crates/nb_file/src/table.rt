@@ -1,34 +1,49 @@
 // The open files.
-ghost use Rattle.std.specs.Prelude.{◌≡◌, ◌<◌, ◌≤◌, length, IfOk, IfSome, OnOk, vec_len};
+ghost use Rattle.std.specs.Prelude.{◌≡◌, ◌+◌, ◌<◌, ◌≤◌, false, length, None, IfOk, IfSome, OnOk, MatchOption, vec_len};
+ghost use Rattle.nb_file.specs.Gathered.{IsFreeFor};
 ghost use Rattle.nb_file.specs.Named.{IsNamedAt};
 
-use crate::folder::{Node, look_up, sync_folder};
+use crate::disk::{Disk, Sharing};
+use crate::failure::{Call, Failure, named};
+use crate::folder::{look_up, sync_folder};
 use crate::held::Held;
+use crate::waiting::Waiting;
 use nb_host::Name;
 use std::alloc::Global;
 use std::fs::{self, OpenFile, OpenOptions};
 use std::io::{self, ErrorKind};
 use std::os::fd::AsRawFd;
-use std::os::unix::fs::{FileExt, OpenOptionsExt};
+use std::os::unix::fs::OpenOptionsExt;
 use std::rt::Files;
 
 /// How many files are open at most.
 const MOST_OPEN: usize = 64;
 
-/// The files that were named, in the order in which they were opened. They stay open.
+/// The files that were named, in the order in which they were opened, and what waits to be written to one of them. They
+/// stay open.
+///
+/// A file that is only read is opened to read and locked with other readers. Before it is written, emptied, synced or
+/// removed it is opened to write and locked against everyone, by whatever name they have it.
 #[derive(Drop)]
-pub struct Table<R: Files + Drop> {
+pub struct Table<R: Files + Drop>
+where
+    R::File: Disk,
+{
+    alloc: Global,
     files: Vec<Held<R::File>>,
+    waiting: Waiting,
     ghost few: { vec_len files ≤ 64 },
 }
 
 impl<R: Files + Drop> Table<R>
 where
-    R::File: FileExt + AsRawFd,
+    R::File: Disk + AsRawFd,
 {
     pub fn new(alloc: Global) -> Table<R> {
         Table {
+            alloc,
             files: Vec::new(alloc),
+            waiting: Waiting::new(alloc),
         }
     }
 
@@ -39,146 +54,225 @@ where
         self.files.iter().position(|held| held.name == *name)
     }
 
-    /// The open file of this name. Where it is not open yet, it is opened, if there is one.
-    fn find(&mut self, rt: &R, name: &Name) -> io::Result<Option<usize>>
+    /// Writes what waits. Nothing waits after it, also where it fails.
+    pub fn flush(&mut self) -> Result<(), Failure>
+        ensures none { self.new.waiting.name ≡ None }
+        ensures count { vec_len self.new.files ≡ vec_len self.old.files }
+    {
+        let name = match &self.waiting.name {
+            Some(name) => name.copied(),
+            None => return Ok(()),
+        };
+        self.flush_to(&name)
+    }
+
+    fn flush_to(&mut self, name: &Name) -> Result<(), Failure>
+        requires { IsFreeFor self.old.waiting.name name.now }
+        ensures none { self.new.waiting.name ≡ None }
+        ensures count { vec_len self.new.files ≡ vec_len self.old.files }
+    {
+        match self.index_of(name) {
+            Some(i) => {
+                let outcome = self.files[i].flush(&mut self.waiting);
+                named(outcome, name, Call::Write)
+            }
+            None => {
+                self.waiting.clear();
+                named(Err(ErrorKind::NotFound.into()), name, Call::Write)
+            }
+        }
+    }
+
+    /// Writes what waits for another file.
+    fn turn_to(&mut self, name: &Name) -> Result<(), Failure>
+        ensures { IsFreeFor self.new.waiting.name name.now }
+    {
+        if self.waiting.is_for(name) {
+            return Ok(());
+        }
+        self.flush()
+    }
+
+    /// The open file of this name. Where it is not open yet, it is opened to read, if there is one.
+    fn find(&mut self, rt: &R, name: &Name) -> Result<Option<usize>, Failure>
         ensures place { IfOk result (λ found. IfSome found (λ i. i < vec_len self.new.files)) }
         ensures name { IfOk result (λ found. IfSome found (IsNamedAt self.new.files.items (λ held. held.name) name.now)) }
+        ensures none { self.old.waiting.name ≡ None → self.new.waiting.name ≡ None }
     {
         if let Some(i) = self.index_of(name) {
             return Ok(Some(i));
         }
-        if look_up(rt, name)?.is_none() {
+        if named(look_up(rt, name), name, Call::Open)?.is_none() {
+            return Ok(None);
+        }
+        let mut how = OpenOptions::new();
+        how.read(true);
+        self.open(rt, name, &how).map(Some)
+    }
+
+    /// The file of this name, open to write and locked, if there is one.
+    fn claim(&mut self, rt: &R, name: &Name) -> Result<Option<usize>, Failure>
+        ensures place { IfOk result (λ found. IfSome found (λ i. i < vec_len self.new.files)) }
+        ensures name { IfOk result (λ found. IfSome found (IsNamedAt self.new.files.items (λ held. held.name) name.now)) }
+        ensures free { IsFreeFor self.old.waiting.name name.now → IsFreeFor self.new.waiting.name name.now }
+        ensures none { self.old.waiting.name ≡ None → self.new.waiting.name ≡ None }
+    {
+        if let Some(i) = self.index_of(name) {
+            if self.files[i].can_write {
+                return Ok(Some(i));
+            }
+            named(self.files[i].state.check(), name, Call::Open)?;
+        }
+        if named(look_up(rt, name), name, Call::Open)?.is_none() {
             return Ok(None);
         }
         let mut how = OpenOptions::new();
         how.read(true).write(true);
-        match self.open(rt, name, &how) {
-            Err(error) if is_read_only(error.kind()) => {
-                how.write(false);
-                self.open(rt, name, &how).map(Some)
-            }
-            answer => answer.map(Some),
-        }
+        self.open(rt, name, &how).map(Some)
     }
 
-    /// The open file of this name. Where there is no file, it is made.
-    fn find_or_make(&mut self, rt: &R, name: &Name) -> io::Result<usize>
+    /// The file of this name, open to write and locked. Where there is no file, it is made.
+    fn claim_or_make(&mut self, rt: &R, name: &Name) -> Result<usize, Failure>
         ensures place { IfOk result (λ i. i < vec_len self.new.files) }
         ensures name { IfOk result (IsNamedAt self.new.files.items (λ held. held.name) name.now) }
+        ensures free { IsFreeFor self.old.waiting.name name.now → IsFreeFor self.new.waiting.name name.now }
     {
-        match self.find(rt, name)? {
+        match self.claim(rt, name)? {
             Some(i) => Ok(i),
             None => self.create(rt, name),
         }
     }
 
-    fn create(&mut self, rt: &R, name: &Name) -> io::Result<usize>
+    fn create(&mut self, rt: &R, name: &Name) -> Result<usize, Failure>
         ensures place { IfOk result (λ i. i < vec_len self.new.files) }
         ensures name { IfOk result (IsNamedAt self.new.files.items (λ held. held.name) name.now) }
+        ensures free { IsFreeFor self.old.waiting.name name.now → IsFreeFor self.new.waiting.name name.now }
     {
         let mut how = OpenOptions::new();
         how.read(true).write(true).create_new(true).mode(0o660);
         self.open(rt, name, &how)
     }
 
-    fn open(&mut self, rt: &R, name: &Name, how: &OpenOptions) -> io::Result<usize>
+    /// Opens the file, in the place of one that was opened to read, and locks it. What waits is written before.
+    fn open(&mut self, rt: &R, name: &Name, how: &OpenOptions) -> Result<usize, Failure>
         ensures place { IfOk result (λ i. i < vec_len self.new.files) }
         ensures name { IfOk result (IsNamedAt self.new.files.items (λ held. held.name) name.now) }
+        ensures none { self.new.waiting.name ≡ None }
     {
         self.make_room()?;
-        let mut file = how.open(rt, name.as_str())?;
-        // Where a standard stream was closed the system gives its number to the next file, and what is meant for the
-        // stream would land in the file.
-        if file.as_raw_fd() <= 2 {
-            file = file.try_clone()?;
+        let file = named(open_by(rt, name, how), name, Call::Open)?;
+        // A lock of our own on the same file would keep us out.
+        self.files.retain(|held| held.name != *name);
+        let sharing = if how.asks_write() {
+            Sharing::NoOne
+        } else {
+            Sharing::Readers
+        };
+        if !named(file.lock(sharing), name, Call::Lock)? {
+            return Err(Failure::InUse(name.copied()));
         }
-        self.add(name, file, how.asks_create_new())
+        self.add(name, file, how)
     }
 
-    fn add(&mut self, name: &Name, file: R::File, is_new: bool) -> io::Result<usize>
+    fn add(&mut self, name: &Name, file: R::File, how: &OpenOptions) -> Result<usize, Failure>
         requires { vec_len self.old.files < 64 }
         ensures place { IfOk result (λ i. i < vec_len self.new.files) }
         ensures name { IfOk result (IsNamedAt self.new.files.items (λ held. held.name) name.now) }
+        ensures waiting { self.new.waiting ≡ self.old.waiting }
     {
-        let mut held = Held::new(name.copied(), file)?;
-        held.is_dirty = is_new;
-        self.join(&mut held);
-        self.files.push(held)?;
+        let held = Held::new(
+            self.alloc,
+            name.copied(),
+            file,
+            how.asks_write(),
+            how.asks_create_new(),
+        );
+        self.files.push(named(held, name, Call::Open)?)?;
         Ok(self.files.len() - 1)
     }
 
-    /// Two names of one file both ask the system for its length, and are lost together.
-    fn join(&mut self, new: &mut Held<R::File>)
-        ensures len { vec_len self.new.files ≡ vec_len self.old.files }
-        ensures name { new.new.name ≡ new.old.name }
+    /// Closes a file, where as many are open as may be, and answers it. What waits is written before. Nothing is lost by it:
+    /// all that was written to the file is synced, a lost file is never closed, and where it is opened again its first sync
+    /// keeps the folder anew.
+    fn make_room(&mut self) -> Result<Option<Held<R::File>>, Failure>
+        ensures room { OnOk result (vec_len self.new.files < 64) }
+        ensures count { IfOk result (λ closed. MatchOption closed (vec_len self.new.files ≡ vec_len self.old.files) (λ _. vec_len self.new.files + 1 ≡ vec_len self.old.files)) }
+        ensures clean { IfOk result (λ closed. IfSome closed (λ held. (held.state.is_dirty ≡ false) × (held.state.is_lost ≡ false))) }
+        ensures none { self.new.waiting.name ≡ None }
     {
-        for held in self.files.iter_mut() {
-            if held.node == new.node {
-                held.len = None;
-                new.len = None;
-                new.is_lost |= held.is_lost;
-            }
-        }
-    }
-
-    /// Each open name of that file is lost, or is so no longer.
-    fn mark_lost(&mut self, node: Node, is_lost: bool) {
-        for held in self.files.iter_mut() {
-            if held.node == node {
-                held.is_lost = is_lost;
-            }
-        }
-    }
-
-    /// Closes the file that was opened first, where as many are open as may be. Nothing is lost by it: what was written
-    /// to it is synced before, a lost file is never closed, and where it is opened again its first sync keeps the folder
-    /// anew.
-    fn make_room(&mut self) -> io::Result<()>
-        ensures { OnOk result (vec_len self.new.files < 64) }
-    {
+        self.flush()?;
         if self.files.len() < MOST_OPEN {
-            return Ok(());
+            return Ok(None);
         }
-        let Some(i) = self.files.iter().position(|held| !held.is_lost) else {
-            return Err(ErrorKind::Other.into());
-        };
-        if self.files[i].is_dirty {
-            self.files[i].sync_bytes()?;
+        match self.first_to_close() {
+            Some(i) => self.close(i).map(Some),
+            None => Err(Failure::Of("open files", ErrorKind::Other.into())),
         }
-        self.files.remove(i);
-        Ok(())
+    }
+
+    /// The file that was opened first of those that are only read, so that no lock against everyone is given up; where there
+    /// is none, of those that are not lost.
+    fn first_to_close(&self) -> Option<usize>
+        ensures { IfSome result (λ i. i < vec_len self.now.files) }
+    {
+        let reader = self
+            .files
+            .iter()
+            .position(|held| !held.can_write && !held.state.is_lost);
+        if reader.is_some() {
+            return reader;
+        }
+        self.files.iter().position(|held| !held.state.is_lost)
+    }
+
+    /// Closes a file, for which nothing is left to do then.
+    fn close(&mut self, i: usize) -> Result<Held<R::File>, Failure>
+        requires place { i < vec_len self.old.files }
+        ensures count { OnOk result (vec_len self.new.files + 1 ≡ vec_len self.old.files) }
+        ensures clean { IfOk result (λ held. (held.state.is_dirty ≡ false) × (held.state.is_lost ≡ false)) }
+        ensures same { self.new.waiting ≡ self.old.waiting }
+    {
+        let held = &mut self.files[i];
+        let outcome = held.finish();
+        named(outcome, &held.name, Call::Sync)?;
+        Ok(self.files.remove(i))
     }
 
     /// The file's length in bytes, if there is one.
-    pub fn size(&self, rt: &R, name: &Name) -> io::Result<Option<u64>> {
-        match self.index_of(name) {
-            Some(i) => self.files[i].length().map(Some),
-            None => Ok(look_up(rt, name)?.map(|found| found.len())),
+    pub fn size(&mut self, rt: &R, name: &Name) -> Result<Option<u64>, Failure> {
+        self.flush()?;
+        match self.find(rt, name)? {
+            Some(i) => named(self.files[i].length(&self.waiting), name, Call::Read).map(Some),
+            None => Ok(None),
         }
     }
 
     /// Leaves an empty file of that name.
-    pub fn make(&mut self, rt: &R, name: &Name) -> io::Result<()> {
-        let Some(i) = self.find(rt, name)? else {
-            self.create(rt, name)?;
-            return Ok(());
-        };
-        let node = self.files[i].node;
-        self.files[i].empty()?;
-        self.mark_lost(node, false);
-        Ok(())
+    pub fn make(&mut self, rt: &R, name: &Name) -> Result<(), Failure> {
+        self.turn_to(name)?;
+        match self.claim(rt, name)? {
+            Some(i) => {
+                let outcome = self.files[i].empty(&mut self.waiting);
+                named(outcome, name, Call::Empty)
+            }
+            None => self.create(rt, name).map(|_| ()),
+        }
     }
 
-    /// Takes the file away, and closes each of its names that went with it.
-    pub fn remove(&mut self, rt: &R, name: &Name) -> io::Result<()> {
-        let Some(found) = look_up(rt, name)? else {
-            self.files.retain(|held| held.name != *name);
+    /// Takes the file away, and what waits for it.
+    pub fn remove(&mut self, rt: &R, name: &Name) -> Result<(), Failure> {
+        self.turn_to(name)?;
+        if self.claim(rt, name)?.is_none() {
             return Ok(());
-        };
-        fs::remove_file(rt, name.as_str())?;
-        let node = Node::of(&found);
-        self.files
-            .retain(|held| held.node != node || leads_to(rt, &held.name, node));
+        }
+        match fs::remove_file(rt, name.as_str()) {
+            Err(error) if error.kind() != ErrorKind::NotFound => {
+                return named(Err(error), name, Call::Remove);
+            }
+            _ => {}
+        }
+        self.waiting.clear();
+        self.files.retain(|held| held.name != *name);
         Ok(())
     }
 
@@ -188,50 +282,94 @@ where
         name: &Name,
         at: u64,
         into: &mut [u8],
-    ) -> io::Result<bool> {
+    ) -> Result<bool, Failure> {
         match self.find(rt, name)? {
-            Some(i) => self.files[i].read_whole(at, into),
+            Some(i) => {
+                let outcome = self.files[i].read_whole(&mut self.waiting, at, into);
+                named(outcome, name, Call::Read)
+            }
             None => Ok(false),
         }
     }
 
-    pub fn read_some(&mut self, rt: &R, name: &Name, at: u64, into: &mut [u8]) -> io::Result<usize>
+    pub fn read_some(
+        &mut self,
+        rt: &R,
+        name: &Name,
+        at: u64,
+        into: &mut [u8],
+    ) -> Result<usize, Failure>
         ensures { IfOk result (λ count. count ≤ length into.old) }
     {
         match self.find(rt, name)? {
-            Some(i) => self.files[i].read_some(at, into),
+            Some(i) => {
+                let outcome = self.files[i].read_some(&mut self.waiting, at, into);
+                named(outcome, name, Call::Read)
+            }
             None => Ok(0),
         }
     }
 
-    pub fn write(&mut self, rt: &R, name: &Name, at: u64, bytes: &[u8]) -> io::Result<()> {
-        let i = self.find_or_make(rt, name)?;
-        self.files[i].write(at, bytes)
+    pub fn write(&mut self, rt: &R, name: &Name, at: u64, bytes: &[u8]) -> Result<(), Failure>
+        ensures { OnOk result (IsFreeFor self.new.waiting.name name.now) }
+    {
+        self.turn_to(name)?;
+        let i = self.claim_or_make(rt, name)?;
+        let outcome = self.files[i].write(&mut self.waiting, at, bytes);
+        named(outcome, name, Call::Write)
     }
 
-    pub fn append(&mut self, rt: &R, name: &Name, bytes: &[u8]) -> io::Result<()> {
-        let i = self.find_or_make(rt, name)?;
-        self.files[i].append(bytes)
+    pub fn append(&mut self, rt: &R, name: &Name, bytes: &[u8]) -> Result<(), Failure>
+        ensures { OnOk result (IsFreeFor self.new.waiting.name name.now) }
+    {
+        self.turn_to(name)?;
+        let i = self.claim_or_make(rt, name)?;
+        let outcome = self.files[i].append(&mut self.waiting, bytes);
+        named(outcome, name, Call::Write)
     }
 
-    /// Keeps the file for good. Where there is none, keeps for good that there is none.
-    pub fn sync(&mut self, rt: &R, name: &Name) -> io::Result<()> {
-        let Some(i) = self.find(rt, name)? else {
-            return sync_folder(rt, name);
-        };
-        let node = self.files[i].node;
-        let outcome = self.files[i].sync(rt);
-        if outcome.is_err() {
-            self.mark_lost(node, true);
+    /// Keeps the file for good, and writes before what waits. Where there is none, keeps for good that there is none.
+    pub fn sync(&mut self, rt: &R, name: &Name) -> Result<(), Failure>
+        ensures { OnOk result (self.new.waiting.name ≡ None) }
+    {
+        self.flush()?; // What waits is part of what is kept.
+        match self.find_to_sync(rt, name)? {
+            Some(i) => {
+                let outcome = self.files[i].sync(rt);
+                named(outcome, name, Call::Sync)
+            }
+            None => named(sync_folder(rt, name), name, Call::Sync),
         }
-        outcome
     }
+
+    /// The file that is to be synced: open to write, unless it can only be read.
+    fn find_to_sync(&mut self, rt: &R, name: &Name) -> Result<Option<usize>, Failure>
+        ensures place { IfOk result (λ found. IfSome found (λ i. i < vec_len self.new.files)) }
+        ensures name { IfOk result (λ found. IfSome found (IsNamedAt self.new.files.items (λ held. held.name) name.now)) }
+        ensures none { self.old.waiting.name ≡ None → self.new.waiting.name ≡ None }
+    {
+        match self.claim(rt, name) {
+            Err(Failure::OnFile(_, Call::Open, error)) if is_read_only(error.kind()) => {
+                self.find(rt, name)
+            }
+            answer => answer,
+        }
+    }
+}
+
+// Opens the file. Where a standard stream was closed the system gives its number to the next file, and what is meant for
+// the stream would land in the file.
+fn open_by<R: Files>(rt: &R, name: &Name, how: &OpenOptions) -> io::Result<R::File>
+where
+    R::File: AsRawFd,
+{
+    let file = how.open(rt, name.as_str())?;
+    if file.as_raw_fd() <= 2 {
+        return file.try_clone();
+    }
+    Ok(file)
 }
 
 fn is_read_only(kind: ErrorKind) -> bool {
     kind == ErrorKind::PermissionDenied || kind == ErrorKind::ReadOnlyFilesystem
-}
-
-fn leads_to<R: Files>(rt: &R, name: &Name, node: Node) -> bool {
-    matches!(look_up(rt, name), Ok(Some(found)) if Node::of(&found) == node)
 }

@@ -1,0 +1,97 @@
+"""What the system fails of ends the run with status 3, and one line on the standard error says the file, the call and the reason.
+
+Each case makes one call of the system fail: the output by /dev/full, a write by a limit on the size of files, syncs by
+strace, which answers them with an error and does not make them, the rest by what stands under a name. No reply comes after a
+failed sync or write of its page.
+"""
+
+import fcntl
+import os
+import re
+import resource
+import shutil
+import signal
+import subprocess
+import sys
+
+from common import CREATE, PAGE_SIZE, Folder, program, report, write_line, writes
+
+COUNT = 20
+
+
+def run(folder, words, output=subprocess.PIPE, prepare=None):
+    """The exit status, the replies and the standard error of a run."""
+    ran = subprocess.run(words, cwd=folder.path, stdout=output, stderr=subprocess.PIPE, preexec_fn=prepare, check=False)
+    return ran.returncode, (ran.stdout or b"").decode().splitlines(), ran.stderr.decode()
+
+
+def small_files():
+    """No file grows past 60 pages. The signal is ignored, so that the write fails and the process goes on."""
+    signal.signal(signal.SIGXFSZ, signal.SIG_IGN)
+    resource.setrlimit(resource.RLIMIT_FSIZE, (60 * PAGE_SIZE, 60 * PAGE_SIZE))
+
+
+def script_is_a_folder(folder, path):
+    os.mkdir(folder.file("script"))
+    return run(folder, [path, "run", "script"]), 0, r"script: open: not a regular file"
+
+
+def output_is_full(folder, path):
+    folder.write_script("script", [CREATE])
+    with open("/dev/full", "wb") as full:
+        return run(folder, [path, "run", "script"], output=full), 0, r"standard output: No space left on device.*"
+
+
+def write_finds_no_room(folder, path):
+    folder.write_script("script", [CREATE])
+    return run(folder, [path, "run", "script"], prepare=small_files), 0, r"x\.db: write: File too large.*"
+
+
+def sync_fails(folder, path, call, when):
+    """The call with that number is not made and answers EIO. Creating syncs twice, and each write once."""
+    folder.write_script("script", [CREATE] + [write_line(*write) for write in writes(COUNT)])
+    words = ["strace", "-f", "-qq", "-o", "/dev/null", "-e", f"trace={call}", "-e", f"inject={call}:error=EIO:when={when}"]
+    replies = max(when - 2, 0) if call == "fdatasync" else 0
+    return run(folder, words + [path, "run", "script"]), replies, r"x\.db: sync: Input/output error.*"
+
+
+def database_is_locked(folder, path):
+    folder.write_script("create", [CREATE])
+    run(folder, [path, "run", "create"])
+    folder.write_script("script", ["1: open 'x.db'", "1: page new"])
+    with open(folder.file("x.db"), "rb") as file:
+        fcntl.flock(file, fcntl.LOCK_EX)
+        return run(folder, [path, "run", "script"]), 0, r"x\.db is in use"
+
+
+def two_runs(folder, path):
+    """The first run waits for its output to be read, with the database open. The second changes nothing of it."""
+    folder.write_script("script", [CREATE] + [write_line(*write) for write in writes(9_000)])
+    folder.write_script("second", ["1: open 'x.db'", "1: page new"])
+    first = folder.start([path, "run", "script"])
+    first.stdout.readline()
+    ran = run(folder, [path, "run", "second"])
+    first.stdout.read()
+    if first.wait() != 0:
+        report("faults", False, "the first of two runs failed")
+    return ran, 0, r"x\.db is in use"
+
+
+def main():
+    path = program()
+    if not shutil.which("strace"):
+        sys.exit("strace is not installed: apt-get install strace")
+    cases = [script_is_a_folder, output_is_full, write_finds_no_room, database_is_locked, two_runs]
+    cases += [lambda folder, path, when=when: sync_fails(folder, path, "fdatasync", when) for when in range(1, COUNT + 3)]
+    cases += [lambda folder, path: sync_fails(folder, path, "fsync", 1)]
+    wrong = []
+    for case in cases:
+        with Folder() as folder:
+            (status, replies, said), wanted, line = case(folder, path)
+            if status != 3 or len(replies) != wanted or not re.fullmatch(f"nehumiro: {line}\n", said):
+                wrong.append(f"status {status}, {len(replies)} replies for {wanted}, {said!r} for {line!r}")
+    report("faults", not wrong, f"{len(cases) - len(wrong)} of {len(cases)} failures end the run and are said{''.join(' ' + text for text in wrong[:3])}")
+
+
+if __name__ == "__main__":
+    main()

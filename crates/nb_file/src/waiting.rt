@@ -1,0 +1,104 @@
+// Bytes that wait to be written: adjacent writes are gathered and go out together.
+ghost use Rattle.std.specs.Prelude.{◌≡◌, ◌≢◌, ◌+◌, ℕ, List, length, Some, None, is_none, true, IfSome, OnOk, OnErr};
+ghost use Rattle.nb_host.specs.Files.{put_at};
+ghost use Rattle.nb_file.specs.Contents.{with_waiting};
+ghost use Rattle.nb_file.specs.Gathered.{IsNext, IsFreeFor, is_owner};
+
+use nb_host::Name;
+use std::alloc::{AllocError, Global};
+
+/// How many bytes are written together at most.
+pub const MOST_GATHERED: usize = 262_144;
+
+/// Bytes of one file that wait to be written at one place.
+#[derive(Drop)]
+pub struct Waiting {
+    /// Whose they are; nothing waits where it is none.
+    pub name: Option<Name>,
+    pub at: u64,
+    pub bytes: Vec<u8>,
+}
+
+impl Waiting {
+    pub fn new(alloc: Global) -> Waiting
+        ensures { result.name ≡ None }
+    {
+        Waiting {
+            name: None,
+            at: 0,
+            bytes: Vec::new(alloc),
+        }
+    }
+
+    pub fn is_empty(&self) -> bool
+        ensures { result ≡ is_none self.now.name }
+    {
+        self.name.is_none()
+    }
+
+    /// Whether bytes of this file wait.
+    pub fn is_for(&self, name: &Name) -> bool
+        ensures { result ≡ is_owner self.now.name name.now }
+    {
+        match &self.name {
+            Some(own) => own == name,
+            None => false,
+        }
+    }
+
+    /// Where what waits ends in the file, in bytes.
+    pub fn end(&self) -> Option<u64>
+        ensures { IfSome result (λ end. end ≡ self.now.at + length self.now.bytes.items) }
+    {
+        self.at.checked_add(self.bytes.len() as u64)
+    }
+
+    /// Whether bytes at that place follow what waits, and there is room for them.
+    pub fn takes(&self, at: u64, count: usize) -> bool
+        ensures { result ≡ true → IsNext self.now.name self.now.at (length self.now.bytes.items) at }
+    {
+        if self.is_empty() {
+            return true;
+        }
+        if self.bytes.len() > MOST_GATHERED || count > MOST_GATHERED - self.bytes.len() {
+            return false;
+        }
+        self.end() == Some(at)
+    }
+
+    /// Lets them wait, behind what waits already. Where memory runs out nothing changes.
+    pub fn add(&mut self, name: &Name, at: u64, bytes: &[u8]) -> Result<(), AllocError>
+        requires next { IsNext self.old.name self.old.at (length self.old.bytes.items) at }
+        requires mine { IsFreeFor self.old.name name.now }
+        ensures seen { OnOk result ((file : List ℕ) → with_waiting self.new name.now file ≡ put_at (with_waiting self.old name.now file) at bytes.now) }
+        ensures mine { IsFreeFor self.new.name name.now }
+        ensures waits { OnOk result (self.new.name ≢ None) }
+        ensures fails { OnErr result ((file : List ℕ) → with_waiting self.new name.now file ≡ with_waiting self.old name.now file) }
+    {
+        if self.is_empty() {
+            self.start(name, at, bytes)
+        } else {
+            self.bytes.extend_from_slice(bytes)
+        }
+    }
+
+    fn start(&mut self, name: &Name, at: u64, bytes: &[u8]) -> Result<(), AllocError>
+        requires { self.old.name ≡ None }
+        ensures starts { OnOk result ((self.new.name ≡ Some name.now) × (self.new.at ≡ at) × (self.new.bytes.items ≡ bytes.now)) }
+        ensures fails { OnErr result (self.new.name ≡ None) }
+    {
+        self.bytes.clear();
+        self.bytes.extend_from_slice(bytes)?;
+        self.name = Some(name.copied());
+        self.at = at;
+        Ok(())
+    }
+
+    /// Nothing waits any more. The memory stays.
+    pub fn clear(&mut self)
+        ensures { self.new.name ≡ None }
+    {
+        self.name = None;
+        self.bytes.clear();
+    }
+}
