@@ -7,7 +7,7 @@ ghost use Rattle.nb_host.specs.declared.refusals.Refusal.TheVariants.{BadLevel};
 ghost use Rattle.nb_host.specs.Files.{bytes_of};
 ghost use Rattle.nb_host.specs.Calls.{IsStill};
 ghost use Rattle.nb_host.specs.Moments.{Passes};
-ghost use Rattle.nb_level.specs.Answers.{NextSays, GivesAt, lead_of, number_due, CountsDevice, ReadsOnce};
+ghost use Rattle.nb_level.specs.Answers.{NextSays, GivesAt, Rises, lead_of, number_due, CountsDevice, ReadsOnce};
 ghost use Rattle.nb_level.specs.declared.place.Place.{Place};
 
 use crate::head::head_in;
@@ -112,6 +112,7 @@ impl LevelReader {
         requires run { (self.old.version ≡ 102) × (0 < self.old.place.left) }
         ensures answer { NextSays H.tells ((H.world host.old).files self.old.name) self.old self.new into.new result }
         ensures there { GivesAt H.tells ((H.world host.old).files self.old.name) 0 self.old.place.least self.old self.new into.new result }
+        ensures rises { Rises self.old self.new result }
         ensures same { self.new ≡ record self.old { place = self.new.place } }
         ensures files { IsStill (H.world host.old) (H.world host.new) }
         ensures log { ReadsOnce H.tells (H.world host.old) (H.world host.new) }
@@ -139,6 +140,7 @@ impl LevelReader {
         requires version { self.old.version ≡ 101 }
         ensures answer { NextSays H.tells ((H.world host.old).files self.old.name) self.old self.new into.new result }
         ensures there { GivesAt H.tells ((H.world host.old).files self.old.name) 4 (number_in 0 4 (drop self.old.place.at (bytes_of ((H.world host.old).files self.old.name)))) self.old self.new into.new result }
+        ensures rises { Rises self.old self.new result }
         ensures same { self.new ≡ record self.old { place = self.new.place } }
         ensures files { IsStill (H.world host.old) (H.world host.new) }
         ensures log { ReadsOnce H.tells (H.world host.old) (H.world host.new) }
@@ -175,6 +177,7 @@ impl LevelReader {
         requires run { (self.old.version ≡ 102) × (self.old.place.left ≡ 0) }
         ensures answer { NextSays H.tells ((H.world host.old).files self.old.name) self.old self.new into.new result }
         ensures there { GivesAt H.tells ((H.world host.old).files self.old.name) 8 (number_in 0 4 (drop self.old.place.at (bytes_of ((H.world host.old).files self.old.name)))) self.old self.new into.new result }
+        ensures rises { Rises self.old self.new result }
         ensures same { self.new ≡ record self.old { place = self.new.place } }
         ensures files { IsStill (H.world host.old) (H.world host.new) }
         ensures log { ReadsOnce H.tells (H.world host.old) (H.world host.new) }
@@ -213,6 +216,7 @@ impl LevelReader {
         requires { length into.old ≡ self.old.head.page_size }
         ensures answer { NextSays H.tells ((H.world host.old).files self.old.name) self.old self.new into.new result }
         ensures there { GivesAt H.tells ((H.world host.old).files self.old.name) (lead_of self.old) (number_due self.old (drop self.old.place.at (bytes_of ((H.world host.old).files self.old.name)))) self.old self.new into.new result }
+        ensures rises { Rises self.old self.new result }
         ensures same { self.new ≡ record self.old { place = self.new.place } }
         ensures files { IsStill (H.world host.old) (H.world host.new) }
         ensures log { ReadsOnce H.tells (H.world host.old) (H.world host.new) }
