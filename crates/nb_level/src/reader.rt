@@ -84,7 +84,8 @@ impl LevelReader {
 
     /// The head of the file.
     pub fn head(&self) -> LevelHead
-        ensures { result ≡ self.now.head }
+        ensures value { result ≡ self.now.head }
+        ensures size { IsTrue (is_page_size result.page_size) }
     {
         self.head
     }

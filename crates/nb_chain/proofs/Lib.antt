@@ -1,0 +1,5 @@
+pub mod ImageLaws
+pub mod CountLaws
+pub mod PageLemmas
+pub mod LinkLemmas
+pub mod StartLemmas
