@@ -26,9 +26,6 @@ pub last_filled : (blank : ℕ → Bool) (n : ℕ) → blank n ≡ false → wit
 unfolding by_last
 last_filled blank n e = last_step blank n ∙ ap (λ (b : Bool). by_last b (without_blank blank n) (suc n)) e
 
-pub all_blank : (blank : ℕ → Bool) → without_blank blank 0 ≡ 0
-all_blank blank = none_left blank
-
 -- pages that are blank alike are counted alike
 pub counted_alike : (f g : ℕ → Bool) → ((p : ℕ) → f p ≡ g p) → (n : ℕ) → without_blank f n ≡ without_blank g n
 counted_alike f g same zero = none_left f ∙ sym (none_left g)
@@ -86,3 +83,13 @@ pub length_trimmed : (image : Image) → length (trimmed image) ≡ without_blan
 length_trimmed [] = ap length none_by ∙ sym (none_left (λ p. is_zeros (page_at [] p)))
 length_trimmed (p ∷ ps) =
     ap length (trimmed_by p ps) ∙ length_by p (trimmed ps) ∙ ap (more (is_zeros p)) (length_trimmed ps) ∙ sym (before_others (λ q. is_zeros (page_at (p ∷ ps) q)) (length ps))
+
+-- the same with the place in front of so many pages named
+pub found_filled : (blank : ℕ → Bool) (n m : ℕ) → n ≡ suc m → blank m ≡ false → without_blank blank n ≡ n
+found_filled blank n m next e = ap (without_blank blank) next ∙ last_filled blank m e ∙ sym next
+
+pub found_blank : (blank : ℕ → Bool) (n m : ℕ) → n ≡ suc m → blank m ≡ true → without_blank blank n ≡ without_blank blank m
+found_blank blank n m next e = ap (without_blank blank) next ∙ last_blank blank m e
+
+pub found_none : (blank : ℕ → Bool) (n : ℕ) → n ≡ 0 → without_blank blank n ≡ n
+found_none blank n none = ap (without_blank blank) none ∙ none_left blank ∙ sym none

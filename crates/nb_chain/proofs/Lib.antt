@@ -3,3 +3,4 @@ pub mod CountLaws
 pub mod PageLemmas
 pub mod LinkLemmas
 pub mod StartLemmas
+pub mod AnswerLemmas

@@ -1,6 +1,6 @@
 -- Reading the pages of a level file one by one.
-use Rattle.std.proofs.Common.{◌≡◌, ℕ, ◌+◌, ◌≤◌, List, [], ◌∷◌, ◌++◌, length, refl, sym, ap, ◌∙◌, arith, length-append}
-use Rattle.std.specs.Prelude.{Result, Ok, Err}
+use Rattle.std.proofs.Common.{◌≡◌, ℕ, ◌+◌, ◌≤◌, List, [], ◌∷◌, ◌++◌, length, refl, sym, ap, subst, ◌∙◌, arith, length-append}
+use Rattle.std.specs.Prelude.{Bool, IsTrue, Result, Ok, Err}
 use Rattle.std.proofs.lemmas.List.{append-nil}
 use Rattle.nb_host.specs.Files.{File, bytes_of}
 use Rattle.nb_host.specs.declared.faults.Fault.{Fault}
@@ -10,6 +10,9 @@ use Rattle.nb_host.specs.declared.refusals.Refusal.TheVariants.{BadLevel}
 use Rattle.nb_model.specs.Image.{Numbered}
 use Rattle.nb_model.specs.Levels.{behind}
 use Rattle.nb_level.specs.Reading.{Reading, still_to_come}
+use Rattle.nb_level.specs.Answers.{NextSays}
+use Rattle.nb_level.specs.declared.item.Item.{Item}
+use Rattle.nb_level.specs.declared.item.Item.TheVariants.{PageAt, End}
 use Rattle.nb_level.proofs.ReadingLemmas.{behind-behind, behind-none}
 use Rattle.nb_chain.specs.declared.overlay.Mark.{Mark}
 use Rattle.nb_chain.specs.Overlay.{noted, all_noted}
@@ -54,3 +57,19 @@ module _ (file : File) (first now : Reading) (old new : List Mark) (before after
   -- a broken place
   pub so_far_broken : (at : ℕ) → still_to_come (bytes_of file) now ≡ Err at → still_to_come (bytes_of file) first ≡ Err at
   so_far_broken at gives = so_far.left ∙ ap (behind so_far.pages) gives
+
+-- what the next page says of the file as it was
+pub gives_there : (file file' : File) (now next : Reading) (item : Item) (page : List ℕ) (n : ℕ) (tells : Bool) → item ≡ PageAt n → IsTrue tells → NextSays tells file' now next page (Ok item) → file' ≡ file
+    → still_to_come (bytes_of file) now ≡ behind ((n, page) ∷ []) (still_to_come (bytes_of file) next)
+gives_there file file' now next item page n tells is told says same =
+    subst (λ (f : File). still_to_come (bytes_of f) now ≡ behind ((n, page) ∷ []) (still_to_come (bytes_of f) next)) same
+    (subst (λ (i : Item). NextSays tells file' now next page (Ok i)) is says told)
+
+-- what a refusal says of the pages that were still to come
+pub pages_broken : (tells : Bool) (file file' : File) (first now next : Reading) (page : List ℕ) (old new : List Mark) (before after after' : ℕ) (fault : Fault) → IsTrue tells → SoFar file first now old new before after
+    → NextSays tells file' now next page (Err fault) → file' ≡ file → now.name ≡ first.name → PagesSay file first old new before after' (Err fault)
+pages_broken tells file file' first now next page old new before after after' (Refused (BadLevel name at)) told so_far says same named =
+    (at, so_far_broken file first now old new before after so_far at (subst (λ (f : File). still_to_come (bytes_of f) now ≡ Err at) same (says.2 told)), ap (λ (m : List ℕ). BadLevel m at) (says.0 ∙ named))
+pages_broken tells file file' first now next page old new before after after' (Refused refusal) told so_far says same named = absurd says
+pages_broken tells file file' first now next page old new before after after' Device told so_far says same named = tt
+pages_broken tells file file' first now next page old new before after after' Memory told so_far says same named = tt

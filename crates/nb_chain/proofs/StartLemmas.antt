@@ -1,5 +1,5 @@
 -- What the first bytes of a file tell of it.
-use Rattle.std.proofs.Common.{◌≡◌, ◌≢◌, inl, inr, ⊎_elim, ℕ, suc, ◌+◌, ◌-◌, ◌*◌, ◌/◌, ◌%◌, ◌<◌, ◌≤◌, ◌^◌, List, [], ◌∷◌, length, get_or, take, drop, refl, sym, ap, subst, ◌∙◌, arith, nat_eq, length-drop}
+use Rattle.std.proofs.Common.{◌≡◌, ◌≢◌, inl, inr, ⊎_elim, ℕ, zero, suc, ◌+◌, ◌-◌, ◌*◌, ◌/◌, ◌%◌, ◌<◌, ◌≤◌, ◌^◌, List, [], ◌∷◌, length, get_or, take, drop, refl, sym, ap, subst, ◌∙◌, arith, nat_eq, length-drop}
 use Rattle.std.specs.Prelude.{Bool, true, false, not, ◌||◌, ◌==◌, nat_lt, Option, Some, None, option_map, Result, Ok, Err}
 use Rattle.std.specs.Cmp.Lexicographic.{pointwise}
 use Rattle.std.proofs.lemmas.List.{take-take, take_all, length-take-le, get_or-drop}
@@ -146,10 +146,10 @@ module _ (name bytes : List ℕ) where
     next_accepted c e read none = rw (e, next_link) (rw (read, next_link) (rw (none, next_link) refl))
 
 few_bytes : (k : ℕ) → k ≤ 3 → 256 ^ k ≤ 16777216
-few_bytes 0 h = omega arith
-few_bytes 1 h = omega arith
-few_bytes 2 h = omega arith
-few_bytes 3 h = omega arith
+few_bytes zero h = omega arith
+few_bytes (suc zero) h = omega arith
+few_bytes (suc (suc zero)) h = omega arith
+few_bytes (suc (suc (suc zero))) h = omega arith
 few_bytes (suc (suc (suc (suc k)))) h = absurd (omega arith)
 
 -- too few bytes to have the signature of a database
