@@ -4,3 +4,4 @@ pub mod PageLemmas
 pub mod LinkLemmas
 pub mod StartLemmas
 pub mod AnswerLemmas
+pub mod CheckLemmas

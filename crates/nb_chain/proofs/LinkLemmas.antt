@@ -1,8 +1,11 @@
 -- Accepting the files of a chain one by one.
-use Rattle.std.proofs.Common.{◌≡◌, ℕ, ◌+◌, ◌≤◌, List, [], ◌∷◌, ◌++◌, length, refl, sym, ap, ◌∙◌, arith, append_assoc, length-append}
+use Rattle.std.proofs.Common.{◌≡◌, ℕ, suc, ◌+◌, ◌<◌, ◌≤◌, List, [], ◌∷◌, ◌++◌, length, drop, get_or, refl, sym, ap, subst, ◌∙◌, arith, append_assoc, length-append}
 use Rattle.std.specs.Prelude.{Some, None, Result, Ok, Err}
-use Rattle.std.proofs.lemmas.List.{append-nil}
+use Rattle.std.proofs.lemmas.List.{append-nil, drop_all}
+use Rattle.std.proofs.Math.Seq.{drop-cons}
 use Rattle.nb_host.specs.Files.{File, Files}
+use Rattle.nb_host.specs.declared.faults.Fault.{Fault}
+use Rattle.nb_host.specs.declared.faults.Fault.TheVariants.{Refused, Device, Memory}
 use Rattle.nb_host.specs.declared.refusals.Refusal.{Refusal}
 use Rattle.nb_host.specs.declared.refusals.Refusal.TheVariants.{NoFile}
 use Rattle.nb_model.specs.Restoring.{Link, next_link, next_links, not_behind, linked, first_link, verdict}
@@ -10,7 +13,7 @@ use Rattle.nb_chain.specs.declared.overlay.Mark.{Mark}
 use Rattle.nb_chain.specs.declared.tip.Tip.{Tip}
 use Rattle.nb_chain.specs.declared.checking.Chain.{Chain}
 use Rattle.nb_chain.specs.Overlay.{all_noted, links_noted}
-use Rattle.nb_chain.specs.Answers.{tip_link, last_of, level_reads, IsNext, NextRefused, IsLast, AreNext}
+use Rattle.nb_chain.specs.Answers.{tip_link, last_of, level_reads, IsNext, NextRefused, NextSays, LevelsSay, IsLast, AreNext}
 
 -- a link without its pages
 abbrev pub bare : Link → Link
@@ -100,6 +103,25 @@ pub record Accepted (files : Files) (first : Tip) (all : List (List ℕ)) (k : �
 pub accepted_none : (files : Files) (first : Tip) (all : List (List ℕ)) (marks : List Mark) (reads : ℕ) → Accepted files first all 1 first all marks marks reads reads
 accepted_none files first all marks reads = record { links = []; so_far = sym (linked_none (next_links files 1 (tip_link first) all)); next = refl; marks = sym (noted_none marks); reads = omega arith }
 
+-- the first of the names that are left
+left_from : {X : Type 0} (xs : List X) (k : ℕ) (x : X) → k < length xs → x ≡ get_or xs k x → drop k xs ≡ x ∷ drop (k + 1) xs
+left_from xs k x h is = drop-cons xs k x h ∙ ap (λ y. y ∷ drop (suc k) xs) (sym is) ∙ ap (λ (n : ℕ). x ∷ drop n xs) (let e : suc k ≡ k + 1 = omega arith in e)
+
+pub accepted_at : (files : Files) (first : Tip) (all : List (List ℕ)) (k : ℕ) (last : Tip) (names : List (List ℕ)) (name : List ℕ) (old new : List Mark) (before after : ℕ) → k < length names → name ≡ get_or names k name
+    → Accepted files first all k last (drop k names) old new before after → Accepted files first all k last (name ∷ drop (k + 1) names) old new before after
+accepted_at files first all k last names name old new before after inside is accepted =
+    subst (λ (left : List (List ℕ)). Accepted files first all k last left old new before after) (left_from names k name inside is) accepted
+
+-- and after the last of them
+pub accepted_end : (files : Files) (first : Tip) (all : List (List ℕ)) (k : ℕ) (last : Tip) (names : List (List ℕ)) (old new : List Mark) (before after : ℕ) → length names ≤ k
+    → Accepted files first all k last (drop k names) old new before after → Accepted files first all k last [] old new before after
+accepted_end files first all k last names old new before after outside accepted =
+    subst (λ (left : List (List ℕ)). Accepted files first all k last left old new before after) (drop_all k names outside) accepted
+
+pub split : {X : Type 0} (xs : List X) (x : X) → 1 ≤ length xs → x ≡ get_or xs 0 x → xs ≡ x ∷ drop 1 xs
+split [] x h is = absurd (omega arith)
+split (y ∷ ys) x h is = ap (λ z. z ∷ ys) (sym is)
+
 module _ (files : Files) (first : Tip) (all : List (List ℕ)) (k : ℕ) (last : Tip) (name : List ℕ) (names : List (List ℕ)) (old new : List Mark) (before after : ℕ)
     (accepted : Accepted files first all k last (name ∷ names) old new before after) where
   -- one file more
@@ -122,6 +144,12 @@ module _ (files : Files) (first : Tip) (all : List (List ℕ)) (k : ℕ) (last :
       from : (file : File) → files name ≡ file → NextRefused file k last name r → next_links files k (tip_link last) (name ∷ names) ≡ Err r
       from None is refused = next_missing files k (tip_link last) name names is ∙ ap (λ (x : Refusal). Err x) (sym refused)
       from (Some bytes) is refused = next_broken files k (tip_link last) name names bytes r is refused
+
+  -- a fault is passed on
+  pub accepted_fault : (file : File) (new' marks : List Mark) (after' done : ℕ) (fault : Fault) → file ≡ files name → NextSays file k last name new new' after after' (Err fault) → LevelsSay files first all old marks before done (Err fault)
+  accepted_fault file new' marks after' done (Refused r) there says = accepted_refused r (subst (λ (f : File). NextRefused f k last name r) there says)
+  accepted_fault file new' marks after' done Device there says = tt
+  accepted_fault file new' marks after' done Memory there says = tt
 
 -- none is left
 pub accepted_all : (files : Files) (first : Tip) (all : List (List ℕ)) (k : ℕ) (last : Tip) (old new : List Mark) (before after : ℕ) → Accepted files first all k last [] old new before after

@@ -83,12 +83,13 @@ pub fn check<H: Host>(alloc: Global, host: &mut H, files: &[Name]) -> Result<Cha
     ensures quiet { Quiet (H.world host.old) (H.world host.new) }
     ensures cause { CountsDevice result (H.faults host.old) (H.faults host.new) }
 {
-    let first = read_first(alloc, host, &files[0])?;
+    let name = &files[0];
+    let first = read_first(alloc, host, name)?;
     let mut overlay = Overlay::new(alloc);
     let tip = first_tip(&first.header);
     let last = read_levels(alloc, host, files, tip, &mut overlay)?;
     let mut page = vec![in alloc; 0; first.header.page_size as usize]?;
-    let count = count_pages(host, &files[0], first.pages, &overlay, &mut page)?;
+    let count = count_pages(host, name, first.pages, &overlay, &mut page)?;
     let Tip {
         page_size,
         guid,
