@@ -1,6 +1,6 @@
 -- What the answers of the calls below say of a file of a chain.
-use Rattle.std.proofs.Common.{◌≡◌, inl, inr, ℕ, ◌+◌, ◌*◌, ◌≤◌, List, [], length, take, refl, sym, ap, subst, ◌∙◌, arith}
-use Rattle.std.specs.Prelude.{Bool, true, false, ◌==◌, Some, None, Result, Ok, Err, IsErr, IsErrAnd, IfOk}
+use Rattle.std.proofs.Common.{◌≡◌, inl, inr, ℕ, ◌+◌, ◌*◌, ◌≤◌, List, [], length, refl, sym, ap, subst, ◌∙◌, arith}
+use Rattle.std.specs.Prelude.{true, false, ◌==◌, Some, None, Result, Ok, Err, IsErr, IsErrAnd, IfOk}
 use Rattle.std.proofs.lemmas.Bool.{cases_Bool}
 use Rattle.nb_fields.specs.Bytes.{number_in}
 use Rattle.nb_fields.specs.Header.{signature}
@@ -8,9 +8,8 @@ use Rattle.nb_host.specs.Files.{File}
 use Rattle.nb_host.specs.declared.faults.Fault.{Fault}
 use Rattle.nb_host.specs.declared.faults.Fault.TheVariants.{Refused, Device, Memory}
 use Rattle.nb_host.specs.declared.refusals.Refusal.{Refusal}
-use Rattle.nb_host.specs.declared.refusals.Refusal.TheVariants.{NoFile, BadLevel, ChainLevel}
+use Rattle.nb_host.specs.declared.refusals.Refusal.TheVariants.{BadLevel, ChainLevel}
 use Rattle.nb_page.specs.Header.{header_in}
-use Rattle.nb_model.specs.Causes.{Cause}
 use Rattle.nb_model.specs.Levels.{Head, Contents, begins_level, read_level}
 use Rattle.nb_model.specs.Restoring.{not_whole, not_behind, level_link, first_link}
 use Rattle.nb_level.specs.Heads.{head_of}
@@ -119,9 +118,9 @@ module _ (k : ℕ) (last : Tip) (name : List ℕ) (old : List Mark) (before : �
       link = level_link is.contents;
       accepted = next_accepted name bytes k (tip_link last) is.contents begins read_is none;
       next = let g = guid ∙ ap (λ (h : Head). h.guid) is.named in
-             let s = scn ∙ ap (λ (h : Head). h.scn) is.named in
-             let z = size ∙ ap (λ (h : Head). h.size) is.named in
-             λ i. record { guid = g i; scn = s i; size = z i; pages = [] };
+          let s = scn ∙ ap (λ (h : Head). h.scn) is.named in
+          let z = size ∙ ap (λ (h : Head). h.size) is.named in
+          λ i. record { guid = g i; scn = s i; size = z i; pages = [] };
       marks = is.marks;
       reads = omega (arith, is.reads, started);
     }

@@ -1,21 +1,19 @@
 -- The verdict on a chain, from what its files are found to be.
-use Rattle.std.proofs.Common.{◌≡◌, ℕ, ◌+◌, ◌-◌, ◌*◌, ◌<◌, ◌≤◌, List, [], ◌∷◌, length, drop, refl, sym, ap, subst, ◌∙◌, arith}
-use Rattle.std.specs.Prelude.{Some, None, Result, Ok, Err, max}
-use Rattle.nb_fields.specs.Header.{size_of, scn_of, guid_of}
+use Rattle.std.proofs.Common.{◌≡◌, ℕ, ◌+◌, ◌*◌, ◌<◌, ◌≤◌, List, [], ◌∷◌, length, refl, sym, ap, ◌∙◌, arith}
+use Rattle.std.specs.Prelude.{Some, None, Err, max}
+use Rattle.nb_fields.specs.Header.{size_of}
 use Rattle.nb_fields.proofs.SizeLemmas.{size_facts}
 use Rattle.nb_host.specs.Files.{File, Files}
 use Rattle.nb_host.specs.declared.faults.Fault.{Fault}
 use Rattle.nb_host.specs.declared.faults.Fault.TheVariants.{Refused, Device, Memory}
 use Rattle.nb_host.specs.declared.refusals.Refusal.{Refusal}
 use Rattle.nb_page.specs.Header.{header_in, HasForm}
-use Rattle.nb_page.specs.declared.header.Header.{Header}
-use Rattle.nb_model.specs.Restoring.{Link, whole_link, first_link, next_links, linked, verdict, all_over, applied}
-use Rattle.nb_chain.specs.declared.checking.Chain.{Chain}
+use Rattle.nb_model.specs.Restoring.{Link, whole_link, next_links, linked, verdict, all_over, applied}
 use Rattle.nb_chain.specs.declared.first_file.First.{First}
 use Rattle.nb_chain.specs.declared.overlay.Mark.{Mark}
 use Rattle.nb_chain.specs.declared.tip.Tip.{Tip}
 use Rattle.nb_chain.specs.Overlay.{is_blank, without_blank, links_noted}
-use Rattle.nb_chain.specs.Answers.{CheckSays, IsChain, FirstSays, FirstRefused, IsFirst, LevelsSay, AreNext, tip_link, header_link, last_of, most_reads, level_reads}
+use Rattle.nb_chain.specs.Answers.{CheckSays, IsChain, FirstSays, FirstRefused, IsFirst, LevelsSay, AreNext, tip_link, header_link, last_of}
 use Rattle.nb_chain.proofs.ImageLaws.{chain_length, chain_count}
 use Rattle.nb_chain.proofs.LinkLemmas.{bare, links_bare, first_there, first_broken, first_missing, is_last, last_bare}
 use Rattle.nb_chain.proofs.StartLemmas.{size_is}

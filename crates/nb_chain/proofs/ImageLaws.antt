@@ -1,14 +1,14 @@
 -- What level files say of pages tells which pages of the image that a chain gives are all zeros.
-use Rattle.std.proofs.Common.{◌≡◌, ◌≢◌, inl, inr, ℕ, zero, suc, ◌+◌, ◌-◌, ◌*◌, ◌/◌, ◌<◌, ◌≤◌, List, [], ◌∷◌, ◌++◌, length, take, drop, replicate, get_or, set, refl, sym, ap, ◌∙◌, arith, append_assoc, length-append, get_or-set_other}
+use Rattle.std.proofs.Common.{◌≡◌, ◌≢◌, inl, inr, ℕ, zero, suc, ◌+◌, ◌-◌, ◌*◌, ◌/◌, ◌<◌, ◌≤◌, List, [], ◌∷◌, ◌++◌, length, replicate, get_or, set, refl, sym, ap, ◌∙◌, arith, append_assoc, length-append, get_or-set_other}
 use Rattle.std.specs.Prelude.{Bool, true, false, nat_lt, max}
-use Rattle.std.proofs.lemmas.Bool.{cases_Bool, cases_lt, cases_eq}
-use Rattle.std.proofs.lemmas.List.{append-nil, get_or_append_left, get_or-append_right, get_or-replicate, get_or-set_same, get_or_past}
+use Rattle.std.proofs.lemmas.Bool.{cases_lt, cases_eq}
+use Rattle.std.proofs.lemmas.List.{append-nil, get_or_append_left, get_or-append_right, get_or-set_same, get_or_past}
 use Rattle.std.proofs.Math.ListN.{length-set, length-replicate}
 use Rattle.std.proofs.Math.Nat.{mul-div_cancel}
 use Rattle.nb_fields.specs.Bytes.{is_zeros, part}
 use Rattle.nb_fields.specs.Header.{size_of}
 use Rattle.nb_model.specs.Image.{Page, Image, Numbered, page_at, cut, trimmed, written_at, overwritten}
-use Rattle.nb_model.specs.Levels.{joined, numbered_from}
+use Rattle.nb_model.specs.Levels.{numbered_from}
 use Rattle.nb_model.specs.Restoring.{Link, whole_link, all_over, applied}
 use Rattle.nb_model.proofs.FollowsLaws.{written_end}
 use Rattle.nb_model.proofs.ImageLaws.{Pages, pages_of, cut-joined, page-joined, zeros-are}

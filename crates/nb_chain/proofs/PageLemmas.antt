@@ -1,18 +1,17 @@
 -- Reading the pages of a level file one by one.
 use Rattle.std.proofs.Common.{◌≡◌, ℕ, ◌+◌, ◌≤◌, List, [], ◌∷◌, ◌++◌, length, refl, sym, ap, subst, ◌∙◌, arith, length-append}
-use Rattle.std.specs.Prelude.{Bool, IsTrue, Result, Ok, Err}
+use Rattle.std.specs.Prelude.{Bool, IsTrue, Ok, Err}
 use Rattle.std.proofs.lemmas.List.{append-nil}
 use Rattle.nb_host.specs.Files.{File, bytes_of}
 use Rattle.nb_host.specs.declared.faults.Fault.{Fault}
 use Rattle.nb_host.specs.declared.faults.Fault.TheVariants.{Refused, Device, Memory}
-use Rattle.nb_host.specs.declared.refusals.Refusal.{Refusal}
 use Rattle.nb_host.specs.declared.refusals.Refusal.TheVariants.{BadLevel}
 use Rattle.nb_model.specs.Image.{Numbered}
 use Rattle.nb_model.specs.Levels.{behind}
 use Rattle.nb_level.specs.Reading.{Reading, still_to_come}
 use Rattle.nb_level.specs.Answers.{NextSays}
 use Rattle.nb_level.specs.declared.item.Item.{Item}
-use Rattle.nb_level.specs.declared.item.Item.TheVariants.{PageAt, End}
+use Rattle.nb_level.specs.declared.item.Item.TheVariants.{PageAt}
 use Rattle.nb_level.proofs.ReadingLemmas.{behind-behind, behind-none}
 use Rattle.nb_chain.specs.declared.overlay.Mark.{Mark}
 use Rattle.nb_chain.specs.Overlay.{noted, all_noted}

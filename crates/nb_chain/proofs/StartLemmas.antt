@@ -1,11 +1,11 @@
 -- What the first bytes of a file tell of it.
-use Rattle.std.proofs.Common.{◌≡◌, ◌≢◌, inl, inr, ⊎_elim, ℕ, zero, suc, ◌+◌, ◌-◌, ◌*◌, ◌/◌, ◌%◌, ◌<◌, ◌≤◌, ◌^◌, List, [], ◌∷◌, length, get_or, take, drop, refl, sym, ap, subst, ◌∙◌, arith, nat_eq, length-drop}
-use Rattle.std.specs.Prelude.{Bool, true, false, not, ◌||◌, ◌==◌, nat_lt, Option, Some, None, option_map, Result, Ok, Err}
+use Rattle.std.proofs.Common.{◌≡◌, ◌≢◌, ℕ, zero, suc, ◌+◌, ◌<◌, ◌≤◌, ◌^◌, List, [], ◌∷◌, length, get_or, take, drop, refl, sym, ap, subst, ◌∙◌, arith, nat_eq, length-drop}
+use Rattle.std.specs.Prelude.{Bool, true, false, not, ◌==◌, Some, None, Ok, Err}
 use Rattle.std.specs.Cmp.Lexicographic.{pointwise}
-use Rattle.std.proofs.lemmas.List.{take-take, take_all, length-take-le, get_or-drop}
+use Rattle.std.proofs.lemmas.List.{take-take, take_all, get_or-drop}
 use Rattle.nb_fields.specs.Bytes.{number_of, number_in, part}
 use Rattle.nb_fields.specs.Header.{is_header, signature, state_of, size_of, scn_of, guid_of}
-use Rattle.nb_fields.proofs.HeaderLemmas.{is_header-take, is_header-short}
+use Rattle.nb_fields.proofs.HeaderLemmas.{is_header-take}
 use Rattle.nb_fields.proofs.NumberLemmas.{number_of-lt}
 use Rattle.nb_fields.proofs.PartLemmas.{part-take, number_in-take}
 use Rattle.nb_host.specs.declared.faults.Fault.{Fault}

@@ -1,5 +1,5 @@
 -- What is answered of the files of a chain.
-use Rattle.std.specs.Prelude.{◌≡◌, ℕ, ◌+◌, ◌-◌, ◌*◌, ◌/◌, ◌%◌, ◌≤◌, List, [], ◌∷◌, length, drop, take, Option, Some, None, Result, Ok, Err, Bool, not, ◌||◌, ◌==◌, nat_lt}
+use Rattle.std.specs.Prelude.{◌≡◌, ℕ, ◌+◌, ◌-◌, ◌*◌, ◌/◌, ◌%◌, ◌≤◌, List, [], ◌∷◌, length, drop, take, Some, None, Result, Ok, Err, Bool, not, ◌||◌, ◌==◌, nat_lt}
 use Rattle.nb_host.specs.Files.{File, Files, bytes_of}
 use Rattle.nb_host.specs.declared.faults.Fault.{Fault}
 use Rattle.nb_host.specs.declared.faults.Fault.TheVariants.{Refused, Device, Memory}
@@ -10,7 +10,7 @@ use Rattle.nb_page.specs.declared.header.Header.{Header}
 use Rattle.nb_model.specs.Image.{Numbered}
 use Rattle.nb_model.specs.Causes.{Cause}
 use Rattle.nb_model.specs.Levels.{Contents, read_level}
-use Rattle.nb_model.specs.Restoring.{Link, whole_link, first_link, next_link, next_links, not_whole, verdict, all_over, applied}
+use Rattle.nb_model.specs.Restoring.{Link, whole_link, first_link, next_link, next_links, verdict, all_over, applied}
 use Rattle.nb_level.specs.Heads.{head_of}
 use Rattle.nb_level.specs.Reading.{Reading, still_to_come}
 use Rattle.nb_level.specs.declared.head.LevelHead.{LevelHead}

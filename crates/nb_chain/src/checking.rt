@@ -7,8 +7,8 @@ ghost use Rattle.nb_chain.specs.Answers.{CheckSays, LevelsSay, tip_link, header_
 use crate::last_page::count_pages;
 use crate::next_file::read_next;
 use crate::overlay::Overlay;
-use crate::tip::Tip;
 use crate::read_first;
+use crate::tip::Tip;
 use nb_host::{Fault, Host, Name};
 use nb_page::Header;
 use std::alloc::Global;

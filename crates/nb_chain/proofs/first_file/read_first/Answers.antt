@@ -1,4 +1,4 @@
-use Rattle.std.proofs.Common.{◌≡◌, ℕ, List, take, ap, ◌∙◌, sym}
+use Rattle.std.proofs.Common.{take, ap, ◌∙◌, sym}
 use Rattle.nb_host.specs.Files.{Files}
 use Rattle.nb_chain.specs.declared.first_file.First.{First}
 use Rattle.nb_chain.proofs.StartLemmas.{first_begins}

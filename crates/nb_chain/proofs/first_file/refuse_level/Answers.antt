@@ -1,4 +1,4 @@
-use Rattle.std.proofs.Common.{◌≡◌, ℕ, List, ap, ◌∙◌, sym}
+use Rattle.std.proofs.Common.{ℕ, List, ap, ◌∙◌, sym}
 use Rattle.std.specs.Prelude.{Err}
 use Rattle.nb_host.specs.declared.refusals.Refusal.TheVariants.{ChainLevel}
 use Rattle.nb_chain.specs.declared.first_file.First.{First}

@@ -1,6 +1,6 @@
-use Rattle.std.proofs.Common.{◌≡◌, ℕ, length, ap, sym, ◌∙◌}
-use Rattle.std.specs.Prelude.{true, false, Some}
-use Rattle.nb_fields.specs.Header.{is_header, size_of}
+use Rattle.std.proofs.Common.{◌≡◌, ℕ, ap, sym, ◌∙◌}
+use Rattle.std.specs.Prelude.{true, Some}
+use Rattle.nb_fields.specs.Header.{is_header}
 use Rattle.nb_fields.proofs.HeaderLemmas.{is_header-short}
 use Rattle.nb_host.specs.declared.refusals.Refusal.TheVariants.{BadLevel}
 use Rattle.nb_chain.specs.declared.first_file.First.{First}

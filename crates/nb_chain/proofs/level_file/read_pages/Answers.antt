@@ -1,5 +1,5 @@
-use Rattle.std.proofs.Common.{◌≡◌, List, ℕ, refl, ap, sym, ◌∙◌}
-use Rattle.nb_host.specs.Files.{File, Files}
+use Rattle.std.proofs.Common.{◌≡◌, refl, ap, ◌∙◌}
+use Rattle.nb_host.specs.Files.{Files}
 use Rattle.nb_level.specs.Reading.{Reading}
 use Rattle.nb_page.proofs.QuietLemmas.{quiet_begun, quiet_call, quiet_joined}
 use Rattle.nb_chain.proofs.PageLemmas.{so_far_none, so_far_more, gives_there}
