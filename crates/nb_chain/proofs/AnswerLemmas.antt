@@ -60,19 +60,8 @@ whole_first file name bytes len (Err (Refused r)) there long begins tested heade
 whole_first file name bytes len (Err Device) there long begins tested header pages = tt
 whole_first file name bytes len (Err Memory) there long begins tested header pages = tt
 
--- a file that isn't there
-pub first_absent : (file : File) (name first : List ℕ) (fault : Fault) → StartSays file name first (Err fault) → FirstSays file name (Err fault)
-first_absent file name first (Refused r) says = subst (λ (f : File). FirstRefused f name r) (sym says.0) says.1
-first_absent file name first Device says = tt
-first_absent file name first Memory says = tt
-
 -- the file in place k
 module _ (k : ℕ) (last : Tip) (name : List ℕ) (old : List Mark) (before : ℕ) where
-  pub next_absent : (file : File) (first : List ℕ) (new : List Mark) (after : ℕ) (fault : Fault) → StartSays file name first (Err fault) → NextSays file k last name old new before after (Err fault)
-  next_absent file first new after (Refused r) says = subst (λ (f : File). NextRefused f k last name r) (sym says.0) says.1
-  next_absent file first new after Device says = tt
-  next_absent file first new after Memory says = tt
-
   refused_there : (file : File) (bytes : List ℕ) (new : List Mark) (after : ℕ) (fault : Fault) (r : Refusal) → file ≡ Some bytes → fault ≡ Refused r → NextRefused (Some bytes) k last name r
       → NextSays file k last name old new before after (Err fault)
   refused_there file bytes new after fault r there is refused =

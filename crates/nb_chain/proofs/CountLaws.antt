@@ -18,11 +18,11 @@ unfolding without_blank
 none_left blank = refl
 
 -- the last page is blank, and isn't
-pub last_blank : (blank : ℕ → Bool) (n : ℕ) → blank n ≡ true → without_blank blank (suc n) ≡ without_blank blank n
+last_blank : (blank : ℕ → Bool) (n : ℕ) → blank n ≡ true → without_blank blank (suc n) ≡ without_blank blank n
 unfolding by_last
 last_blank blank n e = last_step blank n ∙ ap (λ (b : Bool). by_last b (without_blank blank n) (suc n)) e
 
-pub last_filled : (blank : ℕ → Bool) (n : ℕ) → blank n ≡ false → without_blank blank (suc n) ≡ suc n
+last_filled : (blank : ℕ → Bool) (n : ℕ) → blank n ≡ false → without_blank blank (suc n) ≡ suc n
 unfolding by_last
 last_filled blank n e = last_step blank n ∙ ap (λ (b : Bool). by_last b (without_blank blank n) (suc n)) e
 

@@ -138,7 +138,7 @@ module _ (files : Files) (first : Tip) (all : List (List ℕ)) (k : ℕ) (last :
   }
 
   -- it is refused
-  pub accepted_refused : (r : Refusal) → NextRefused (files name) k last name r → next_links files 1 (tip_link first) all ≡ Err r
+  accepted_refused : (r : Refusal) → NextRefused (files name) k last name r → next_links files 1 (tip_link first) all ≡ Err r
   accepted_refused r refused = accepted.so_far ∙ ap (linked_all accepted.links) (from (files name) refl refused)
     where
       from : (file : File) → files name ≡ file → NextRefused file k last name r → next_links files k (tip_link last) (name ∷ names) ≡ Err r

@@ -46,17 +46,6 @@ module _ (file : File) (first now : Reading) (old new : List Mark) (before after
     marks = marks ∙ ap (λ (m : List Mark). noted m (n, page)) so_far.marks ∙ sym (noted_more so_far.pages (n, page) old);
     reads = omega (arith, so_far.reads, reads, length-append so_far.pages ((n, page) ∷ []));
   }
-
-  -- the end
-  pub so_far_end : (after' : ℕ) → still_to_come (bytes_of file) now ≡ Ok [] → after' ≤ after + 1
-      → (pages : List Numbered) × (still_to_come (bytes_of file) first ≡ Ok pages) × (new ≡ all_noted pages old) × (after' ≤ before + length pages + 1)
-  so_far_end after' gives reads =
-      (so_far.pages, so_far.left ∙ ap (behind so_far.pages) gives ∙ ap (λ (ps : List Numbered). Ok ps) (append-nil so_far.pages), so_far.marks, omega (arith, so_far.reads, reads))
-
-  -- a broken place
-  pub so_far_broken : (at : ℕ) → still_to_come (bytes_of file) now ≡ Err at → still_to_come (bytes_of file) first ≡ Err at
-  so_far_broken at gives = so_far.left ∙ ap (behind so_far.pages) gives
-
 -- what the next page says of the file as it was
 pub gives_there : (file file' : File) (now next : Reading) (item : Item) (page : List ℕ) (n : ℕ) (tells : Bool) → item ≡ PageAt n → IsTrue tells → NextSays tells file' now next page (Ok item) → file' ≡ file
     → still_to_come (bytes_of file) now ≡ behind ((n, page) ∷ []) (still_to_come (bytes_of file) next)
@@ -64,11 +53,3 @@ gives_there file file' now next item page n tells is told says same =
     subst (λ (f : File). still_to_come (bytes_of f) now ≡ behind ((n, page) ∷ []) (still_to_come (bytes_of f) next)) same
     (subst (λ (i : Item). NextSays tells file' now next page (Ok i)) is says told)
 
--- what a refusal says of the pages that were still to come
-pub pages_broken : (tells : Bool) (file file' : File) (first now next : Reading) (page : List ℕ) (old new : List Mark) (before after after' : ℕ) (fault : Fault) → IsTrue tells → SoFar file first now old new before after
-    → NextSays tells file' now next page (Err fault) → file' ≡ file → now.name ≡ first.name → PagesSay file first old new before after' (Err fault)
-pages_broken tells file file' first now next page old new before after after' (Refused (BadLevel name at)) told so_far says same named =
-    (at, so_far_broken file first now old new before after so_far at (subst (λ (f : File). still_to_come (bytes_of f) now ≡ Err at) same (says.2 told)), ap (λ (m : List ℕ). BadLevel m at) (says.0 ∙ named))
-pages_broken tells file file' first now next page old new before after after' (Refused refusal) told so_far says same named = absurd says
-pages_broken tells file file' first now next page old new before after after' Device told so_far says same named = tt
-pages_broken tells file file' first now next page old new before after after' Memory told so_far says same named = tt

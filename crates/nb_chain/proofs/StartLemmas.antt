@@ -29,7 +29,7 @@ module _ (first bytes : List ℕ) (read : first ≡ take 64 bytes) where
   pub first_number : (at w : ℕ) → at + w ≤ 64 → number_in at w first ≡ number_in at w bytes
   first_number at w h = ap (λ (x : List ℕ). number_in at w x) read ∙ number_in-take 64 at w bytes h
 
-  pub first_part : (at w : ℕ) → at + w ≤ 64 → part at w first ≡ part at w bytes
+  first_part : (at w : ℕ) → at + w ≤ 64 → part at w first ≡ part at w bytes
   first_part at w h = ap (λ (x : List ℕ). part at w x) read ∙ part-take 64 at w bytes h
 
   pub first_header : is_header first ≡ is_header bytes
@@ -55,14 +55,6 @@ module _ (bytes : List ℕ) (header : Header) (is : header ≡ header_in bytes) 
   pub state_is : header.state ≡ state_of bytes
   unfolding header_in
   state_is = ap (λ (h : Header). h.state) is
-
-  pub scn_is : header.scn ≡ scn_of bytes
-  unfolding header_in
-  scn_is = ap (λ (h : Header). h.scn) is
-
-  pub guid_is : header.guid ≡ guid_of bytes
-  unfolding header_in
-  guid_is = ap (λ (h : Header). h.guid) is
 
 -- whole pages, test by test
 module _ (name bytes : List ℕ) where

@@ -1,4 +1,5 @@
-ghost use Rattle.std.specs.Prelude.{◌≡◌, ◌≤◌, length, drop, IsTrue};
+ghost use Rattle.std.specs.Prelude.{◌≡◌, ◌≤◌, length, drop, IsTrue, IfOk};
+ghost use Rattle.nb_fields.specs.Places.{is_page_size};
 ghost use Rattle.nb_page.specs.Header.{HasForm};
 ghost use Rattle.nb_page.specs.Quiet.{Quiet};
 ghost use Rattle.nb_level.specs.Answers.{CountsDevice};
@@ -29,7 +30,8 @@ pub struct Chain {
 /// What the file behind level 0 goes on from. The SCN of its backup is one below that of its header.
 fn first_tip(header: &Header) -> Tip
     requires { HasForm header.now }
-    ensures { tip_link result ≡ header_link header.now }
+    ensures value { tip_link result ≡ header_link header.now }
+    ensures size { IsTrue (is_page_size result.page_size) }
 {
     let Header {
         page_size,
@@ -52,9 +54,11 @@ fn read_levels<H: Host>(
     first: Tip,
     overlay: &mut Overlay,
 ) -> Result<Tip, Fault>
-    requires { length files.now ≤ 10 }
+    requires few { length files.now ≤ 10 }
+    requires size { IsTrue (is_page_size first.page_size) }
     ensures answer { IsTrue H.tells
         → LevelsSay (H.world host.old).files first (drop 1 files.now) overlay.old overlay.new (H.world host.old).reads (H.world host.new).reads result }
+    ensures size { IfOk result (λ tip. IsTrue (is_page_size tip.page_size)) }
     ensures quiet { Quiet (H.world host.old) (H.world host.new) }
     ensures cause { CountsDevice result (H.faults host.old) (H.faults host.new) }
 {
@@ -80,6 +84,8 @@ pub fn check<H: Host>(alloc: Global, host: &mut H, files: &[Name]) -> Result<Cha
     requires few { length files.now ≤ 10 }
     ensures answer { IsTrue H.tells
         → CheckSays (H.world host.old).files files.now (H.world host.old).reads (H.world host.new).reads result }
+    ensures size { IfOk result (λ chain. IsTrue (is_page_size chain.page_size)) }
+    ensures most { IfOk result (λ chain. chain.count ≤ 1048576) }
     ensures quiet { Quiet (H.world host.old) (H.world host.new) }
     ensures cause { CountsDevice result (H.faults host.old) (H.faults host.new) }
 {

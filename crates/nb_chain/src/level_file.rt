@@ -1,4 +1,5 @@
-ghost use Rattle.std.specs.Prelude.{◌≡◌, length, IsTrue};
+ghost use Rattle.std.specs.Prelude.{◌≡◌, length, IsTrue, IfOk};
+ghost use Rattle.nb_fields.specs.Places.{is_page_size};
 ghost use Rattle.nb_page.specs.Quiet.{Quiet};
 ghost use Rattle.nb_level.specs.Answers.{CountsDevice};
 ghost use Rattle.nb_chain.specs.Answers.{PagesSay, LevelSays, WholeSays};
@@ -36,6 +37,7 @@ pub(crate) fn read_level<H: Host>(
 ) -> Result<LevelHead, Fault>
     ensures answer { IsTrue H.tells
         → LevelSays ((H.world host.old).files name.now) name.now overlay.old overlay.new (H.world host.old).reads (H.world host.new).reads result }
+    ensures size { IfOk result (λ head. IsTrue (is_page_size head.page_size)) }
     ensures quiet { Quiet (H.world host.old) (H.world host.new) }
     ensures cause { CountsDevice result (H.faults host.old) (H.faults host.new) }
 {
@@ -53,6 +55,7 @@ pub(crate) fn read_level<H: Host>(
 pub fn whole<H: Host>(alloc: Global, host: &mut H, file: &Name) -> Result<LevelHead, Fault>
     ensures answer { IsTrue H.tells
         → WholeSays ((H.world host.old).files file.now) file.now (H.world host.old).reads (H.world host.new).reads result }
+    ensures size { IfOk result (λ head. IsTrue (is_page_size head.page_size)) }
     ensures quiet { Quiet (H.world host.old) (H.world host.new) }
     ensures cause { CountsDevice result (H.faults host.old) (H.faults host.new) }
 {

@@ -1,6 +1,7 @@
-ghost use Rattle.std.specs.Prelude.{◌≡◌, ◌≤◌, IsTrue, true, false, length, take, List, ℕ, ◌==◌};
+ghost use Rattle.std.specs.Prelude.{◌≡◌, ◌≤◌, IsTrue, true, false, length, take, List, ℕ, ◌==◌, IfOk};
 ghost use Rattle.nb_fields.specs.Bytes.{number_in};
 ghost use Rattle.nb_fields.specs.Header.{signature};
+ghost use Rattle.nb_fields.specs.Places.{is_page_size};
 ghost use Rattle.nb_host.specs.declared.faults.Fault.TheVariants.{Refused};
 ghost use Rattle.nb_host.specs.declared.refusals.Refusal.TheVariants.{BadLevel, ChainLevel};
 ghost use Rattle.nb_page.specs.Quiet.{Quiet};
@@ -98,6 +99,7 @@ pub(crate) fn read_next<H: Host>(
 ) -> Result<Tip, Fault>
     ensures answer { IsTrue H.tells
         → NextSays ((H.world host.old).files name.now) place last.now name.now overlay.old overlay.new (H.world host.old).reads (H.world host.new).reads result }
+    ensures size { IfOk result (λ tip. IsTrue (is_page_size tip.page_size)) }
     ensures quiet { Quiet (H.world host.old) (H.world host.new) }
     ensures cause { CountsDevice result (H.faults host.old) (H.faults host.new) }
 {

@@ -34,7 +34,7 @@ returns-in_err-last-clause-answer g c tells =
     let says = subst (λ (f : Files). LevelsSay f c.first_tip-tip.result (drop 1 names) c.new-overlay.result c.read_levels.new.overlay middle after (Err fault)) c.read_first.ensures.quiet.still.files (c.in_err-last.ensures.answer tells) in
     passed Chain (λ r. CheckSays files names before after r) c.from_residual-in_err-last.result fault c.from_residual-in_err-last.ensures
     (subst (λ (l : List (List ℕ)). CheckSays files l before after (Err fault)) (sym (split names name c.requires.some c.index-files-0.is))
-    (check_others files name (drop 1 names) is.0 c.in_ok-first.first c.first_tip-tip.result is.1 is.2 c.first_tip-tip.ensures c.new-overlay.result c.read_levels.new.overlay middle after before after fault says))
+    (check_others files name (drop 1 names) is.0 c.in_ok-first.first c.first_tip-tip.result is.1 is.2 c.first_tip-tip.ensures.value c.new-overlay.result c.read_levels.new.overlay middle after before after fault says))
 
 pub returns-clause-answer : goal.returns-clause-answer
 returns-clause-answer g c tells =
@@ -52,7 +52,7 @@ returns-clause-answer g c tells =
     let pages = ap (λ (k : ℕ). c.in_ok-first.first.pages * k) size in
     let long = is.2.pages in
     let counted = c.in_ok-count.ensures.answer tells is.0 there (omega (arith, pages, long)) in
-    let all = check_all files name (drop 1 names) is.0 c.in_ok-first.first c.first_tip-tip.result is.1 is.2 c.first_tip-tip.ensures c.in_ok-first.ensures.form _ _ c.new-overlay.ensures before middle reads after c.in_ok-last.last next
+    let all = check_all files name (drop 1 names) is.0 c.in_ok-first.first c.first_tip-tip.result is.1 is.2 c.first_tip-tip.ensures.value c.in_ok-first.ensures.form _ _ c.new-overlay.ensures before middle reads after c.in_ok-last.last next
     c.in_ok-count.count
     (counted ∙ ap (λ (k : ℕ). without_blank (is_blank is.0 k c.in_ok-first.first.pages c.read_levels.new.overlay) (max c.in_ok-first.first.pages (length c.read_levels.new.overlay))) size) (c.in_ok-first.ensures.reads tells) (c.in_ok-count.ensures.reads tells) in
     subst (λ (l : List (List ℕ)). IsChain files l before after (record { page_size = c.in_ok-last.last.page_size; count = c.in_ok-count.count; guid = c.in_ok-last.last.guid; scn = c.in_ok-last.last.scn })) (sym (split names name c.requires.some c.index-files-0.is)) all

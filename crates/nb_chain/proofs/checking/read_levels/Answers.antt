@@ -10,6 +10,7 @@ use Rattle.nb_chain.proofs.checking.read_levels.Goals as goal
 pub loop-place-init : goal.loop-place-init
 loop-place-init g c = record {
   quiet = quiet_begun (g.H.Host.world c.args.host.now) (g.met.H.Host.timely _);
+  size = c.requires.size;
   cause = refl;
   so_far = λ tells. accepted_none _ _ _ _ _;
 }
@@ -32,6 +33,7 @@ loop-place-preserved g c =
     let loop = c.loop-place.invariant in
     record {
       quiet = quiet_joined _ _ _ loop.quiet c.read_next.ensures.quiet;
+      size = c.in_ok-last.ensures.size;
       cause = c.in_ok-last.ensures.cause ∙ loop.cause;
       so_far = λ tells.
           let names : List (List ℕ) = c.args.files.now in
