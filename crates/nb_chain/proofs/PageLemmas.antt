@@ -1,11 +1,7 @@
 -- Reading the pages of a level file one by one.
 use Rattle.std.proofs.Common.{◌≡◌, ℕ, ◌+◌, ◌≤◌, List, [], ◌∷◌, ◌++◌, length, refl, sym, ap, subst, ◌∙◌, arith, length-append}
-use Rattle.std.specs.Prelude.{Bool, IsTrue, Ok, Err}
-use Rattle.std.proofs.lemmas.List.{append-nil}
+use Rattle.std.specs.Prelude.{Bool, IsTrue, Ok}
 use Rattle.nb_host.specs.Files.{File, bytes_of}
-use Rattle.nb_host.specs.declared.faults.Fault.{Fault}
-use Rattle.nb_host.specs.declared.faults.Fault.TheVariants.{Refused, Device, Memory}
-use Rattle.nb_host.specs.declared.refusals.Refusal.TheVariants.{BadLevel}
 use Rattle.nb_model.specs.Image.{Numbered}
 use Rattle.nb_model.specs.Levels.{behind}
 use Rattle.nb_level.specs.Reading.{Reading, still_to_come}
@@ -15,7 +11,6 @@ use Rattle.nb_level.specs.declared.item.Item.TheVariants.{PageAt}
 use Rattle.nb_level.proofs.ReadingLemmas.{behind-behind, behind-none}
 use Rattle.nb_chain.specs.declared.overlay.Mark.{Mark}
 use Rattle.nb_chain.specs.Overlay.{noted, all_noted}
-use Rattle.nb_chain.specs.Answers.{PagesSay}
 
 -- so far these pages were read, of those that were still to come, and noted
 pub record SoFar (file : File) (first now : Reading) (old new : List Mark) (before after : ℕ) : Type 0 where
@@ -46,10 +41,10 @@ module _ (file : File) (first now : Reading) (old new : List Mark) (before after
     marks = marks ∙ ap (λ (m : List Mark). noted m (n, page)) so_far.marks ∙ sym (noted_more so_far.pages (n, page) old);
     reads = omega (arith, so_far.reads, reads, length-append so_far.pages ((n, page) ∷ []));
   }
+
 -- what the next page says of the file as it was
 pub gives_there : (file file' : File) (now next : Reading) (item : Item) (page : List ℕ) (n : ℕ) (tells : Bool) → item ≡ PageAt n → IsTrue tells → NextSays tells file' now next page (Ok item) → file' ≡ file
     → still_to_come (bytes_of file) now ≡ behind ((n, page) ∷ []) (still_to_come (bytes_of file) next)
 gives_there file file' now next item page n tells is told says same =
     subst (λ (f : File). still_to_come (bytes_of f) now ≡ behind ((n, page) ∷ []) (still_to_come (bytes_of f) next)) same
     (subst (λ (i : Item). NextSays tells file' now next page (Ok i)) is says told)
-

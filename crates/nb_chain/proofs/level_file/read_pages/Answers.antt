@@ -17,8 +17,10 @@ pub loop-number-preserved : goal.loop-number-preserved
 loop-number-preserved g c =
     let loop = c.loop-number.invariant in
     let log = c.next.ensures.log in
-    let there : (g.H.Host.world c.loop-number.host).files c.loop-number.reader.name ≡ (g.H.Host.world c.args.host.now).files c.args.reader.now.name =
-    ap (λ (f : Files). f c.loop-number.reader.name) loop.quiet.still.files ∙ ap (λ (r : Reading). (g.H.Host.world c.args.host.now).files r.name) loop.same in
+    let files : Files = (g.H.Host.world c.args.host.now).files in
+    let same : (g.H.Host.world c.loop-number.host).files c.loop-number.reader.name ≡ files c.loop-number.reader.name = ap (λ (f : Files). f c.loop-number.reader.name) loop.quiet.still.files in
+    let named : files c.loop-number.reader.name ≡ files c.args.reader.now.name = ap (λ (r : Reading). files r.name) loop.same in
+    let there : (g.H.Host.world c.loop-number.host).files c.loop-number.reader.name ≡ files c.args.reader.now.name = same ∙ named in
     record {
       same = c.next.ensures.same ∙ ap (λ (r : Reading). record r { place = c.next.new.self.place }) loop.same;
       quiet = quiet_joined _ _ _ loop.quiet (quiet_call _ _ (g.met.H.Host.timely _) c.next.ensures.files log.said log.guids log.times c.next.ensures.time);
