@@ -17,7 +17,9 @@ use Rattle.nb_level.specs.declared.head.LevelHead.{LevelHead}
 use Rattle.nb_chain.specs.declared.first_file.First.{First}
 use Rattle.nb_chain.specs.declared.overlay.Mark.{Mark}
 use Rattle.nb_chain.specs.declared.tip.Tip.{Tip}
-use Rattle.nb_chain.specs.Answers.{FirstSays, FirstRefused, IsRefused, WholeSays, LevelSays, LevelRefused, IsRead, NextSays, NextRefused, IsNext, Tested, tip_link}
+use Rattle.nb_chain.specs.First.{FirstSays, FirstRefused, IsRefused, Tested}
+use Rattle.nb_chain.specs.Level.{WholeSays, LevelSays, LevelRefused, IsRead}
+use Rattle.nb_chain.specs.Next.{NextSays, NextRefused, IsNext, tip_link}
 use Rattle.nb_chain.proofs.StartLemmas.{first_whole, first_parted, first_unread, first_level, next_signed, next_other, next_unread, next_refused, next_accepted}
 
 -- a fault that is passed on

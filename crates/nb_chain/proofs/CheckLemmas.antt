@@ -13,7 +13,9 @@ use Rattle.nb_chain.specs.declared.first_file.First.{First}
 use Rattle.nb_chain.specs.declared.overlay.Mark.{Mark}
 use Rattle.nb_chain.specs.declared.tip.Tip.{Tip}
 use Rattle.nb_chain.specs.Overlay.{is_blank, without_blank, links_noted}
-use Rattle.nb_chain.specs.Answers.{CheckSays, IsChain, FirstSays, FirstRefused, IsFirst, LevelsSay, AreNext, tip_link, header_link, last_of}
+use Rattle.nb_chain.specs.Chain.{CheckSays, IsChain}
+use Rattle.nb_chain.specs.First.{FirstSays, FirstRefused, IsFirst}
+use Rattle.nb_chain.specs.Next.{LevelsSay, AreNext, tip_link, header_link, last_of}
 use Rattle.nb_chain.proofs.ImageLaws.{chain_length, chain_count}
 use Rattle.nb_chain.proofs.LinkLemmas.{bare, links_bare, first_there, first_broken, first_missing, is_last, last_bare}
 use Rattle.nb_chain.proofs.StartLemmas.{size_is}

@@ -13,7 +13,8 @@ use Rattle.nb_chain.specs.declared.overlay.Mark.{Mark}
 use Rattle.nb_chain.specs.declared.tip.Tip.{Tip}
 use Rattle.nb_chain.specs.declared.checking.Chain.{Chain}
 use Rattle.nb_chain.specs.Overlay.{all_noted, links_noted}
-use Rattle.nb_chain.specs.Answers.{tip_link, last_of, level_reads, IsNext, NextRefused, NextSays, LevelsSay, IsLast, AreNext}
+use Rattle.nb_chain.specs.Chain.{level_reads, IsLast}
+use Rattle.nb_chain.specs.Next.{tip_link, last_of, IsNext, NextRefused, NextSays, LevelsSay, AreNext}
 
 -- a link without its pages
 abbrev pub bare : Link → Link

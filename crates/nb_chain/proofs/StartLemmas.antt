@@ -18,7 +18,7 @@ use Rattle.nb_model.specs.Causes.{Cause, first_cause, when}
 use Rattle.nb_model.specs.Levels.{Contents, begins_level, level_signature, read_level}
 use Rattle.nb_model.specs.Restoring.{Link, whole_link, not_whole, first_link, next_link, not_behind, level_link, is_bad_length}
 use Rattle.nb_model.proofs.ReadLaws.{eq_no, eq_yes}
-use Rattle.nb_chain.specs.Answers.{Tested, is_bad_count}
+use Rattle.nb_chain.specs.First.{Tested, is_bad_count}
 
 -- the first 64 bytes
 module _ (first bytes : List ℕ) (read : first ≡ take 64 bytes) where

@@ -1,2 +1,5 @@
-pub mod Answers
+pub mod Chain
+pub mod First
+pub mod Level
+pub mod Next
 pub mod Overlay

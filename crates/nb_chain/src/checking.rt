@@ -3,7 +3,8 @@ ghost use Rattle.nb_fields.specs.Places.{is_page_size};
 ghost use Rattle.nb_page.specs.Header.{HasForm};
 ghost use Rattle.nb_page.specs.Quiet.{Quiet};
 ghost use Rattle.nb_level.specs.Answers.{CountsDevice};
-ghost use Rattle.nb_chain.specs.Answers.{CheckSays, LevelsSay, tip_link, header_link};
+ghost use Rattle.nb_chain.specs.Chain.{CheckSays};
+ghost use Rattle.nb_chain.specs.Next.{LevelsSay, tip_link, header_link};
 
 use crate::last_page::count_pages;
 use crate::next_file::read_next;

@@ -2,7 +2,7 @@ ghost use Rattle.std.specs.Prelude.{◌≡◌, length, IsTrue, IfOk};
 ghost use Rattle.nb_fields.specs.Places.{is_page_size};
 ghost use Rattle.nb_page.specs.Quiet.{Quiet};
 ghost use Rattle.nb_level.specs.Answers.{CountsDevice};
-ghost use Rattle.nb_chain.specs.Answers.{PagesSay, LevelSays, WholeSays};
+ghost use Rattle.nb_chain.specs.Level.{PagesSay, LevelSays, WholeSays};
 
 use crate::overlay::Overlay;
 use nb_host::{Fault, Host, Name};

@@ -9,7 +9,8 @@ ghost use Rattle.nb_model.specs.Levels.{Contents};
 ghost use Rattle.nb_model.specs.Restoring.{not_behind};
 ghost use Rattle.nb_level.specs.Answers.{CountsDevice};
 ghost use Rattle.nb_level.specs.Heads.{head_of};
-ghost use Rattle.nb_chain.specs.Answers.{NextSays, Tested, tip_link};
+ghost use Rattle.nb_chain.specs.First.{Tested};
+ghost use Rattle.nb_chain.specs.Next.{NextSays, tip_link};
 
 use crate::level_file::read_level;
 use crate::overlay::Overlay;

@@ -4,7 +4,8 @@ use Rattle.nb_host.specs.declared.faults.Fault.{Fault}
 use Rattle.nb_host.specs.Files.{Files}
 use Rattle.nb_chain.specs.declared.checking.Chain.{Chain}
 use Rattle.nb_chain.specs.Overlay.{is_blank, without_blank}
-use Rattle.nb_chain.specs.Answers.{CheckSays, IsChain, LevelsSay, AreNext}
+use Rattle.nb_chain.specs.Chain.{CheckSays, IsChain}
+use Rattle.nb_chain.specs.Next.{LevelsSay, AreNext}
 use Rattle.nb_chain.proofs.AnswerLemmas.{passed}
 use Rattle.nb_chain.proofs.LinkLemmas.{split}
 use Rattle.nb_chain.proofs.CheckLemmas.{check_first, check_others, check_all}

@@ -2,7 +2,7 @@ use Rattle.std.proofs.Common.{ℕ, ◌+◌, List, drop, refl, ap, subst, ◌∙�
 use Rattle.nb_host.specs.Files.{File, Files}
 use Rattle.nb_page.proofs.QuietLemmas.{quiet_begun, quiet_joined}
 use Rattle.nb_chain.specs.declared.tip.Tip.{Tip}
-use Rattle.nb_chain.specs.Answers.{IsNext, LevelsSay}
+use Rattle.nb_chain.specs.Next.{IsNext, LevelsSay}
 use Rattle.nb_chain.proofs.AnswerLemmas.{passed}
 use Rattle.nb_chain.proofs.LinkLemmas.{accepted_none, accepted_at, accepted_end, accepted_more, accepted_fault, accepted_all}
 use Rattle.nb_chain.proofs.checking.read_levels.Goals as goal

@@ -4,7 +4,7 @@ use Rattle.nb_fields.specs.Header.{is_header}
 use Rattle.nb_fields.proofs.HeaderLemmas.{is_header-short}
 use Rattle.nb_host.specs.declared.refusals.Refusal.TheVariants.{BadLevel}
 use Rattle.nb_chain.specs.declared.first_file.First.{First}
-use Rattle.nb_chain.specs.Answers.{is_bad_count}
+use Rattle.nb_chain.specs.First.{is_bad_count}
 use Rattle.nb_chain.proofs.StartLemmas.{refused, first_header, header_same, size_is, state_is, unheaded, unstalled, unfit, fit}
 use Rattle.nb_chain.proofs.first_file.whole_pages.Goals as goal
 
