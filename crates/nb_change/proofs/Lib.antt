@@ -4,3 +4,4 @@ pub mod ChangeLaws
 pub mod ApartLaws
 pub mod StrokeLaws
 pub mod ResultLaws
+pub mod ChangesLaws

@@ -46,3 +46,7 @@ pub record Moved (old : World) (name : List ℕ) (step : File → File → Type 
   pub before : File
   pub was : Leaves old name before
   pub by : step before (files name)
+
+-- of the file a stop leaves what it would have left before, or such a file as was made
+abbrev pub Remade : (old : World) (name : List ℕ) (made : File → Type 0) → Files → Type 0
+Remade old name made files = Leaves old name (files name) ⊎ made (files name)
