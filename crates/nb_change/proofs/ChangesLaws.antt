@@ -1,14 +1,13 @@
 -- How a run of calls goes on: by another run of calls, and by one call.
-use Rattle.std.proofs.Common.{◌≡◌, ◌≢◌, ◌⊎◌, inl, inr, ⊎_elim, ℕ, Bool, List, [], refl, sym, ◌∙◌, ap, subst}
-use Rattle.std.specs.Prelude.{Result, Ok, Err, OnOk, IsTrue, Some, None}
-use Rattle.nb_host.specs.Files.{File, Files, with_file, with_page, with_bytes}
+use Rattle.std.proofs.Common.{◌≡◌, ◌≢◌, ⊎_elim, ℕ, List, refl, sym, ◌∙◌, ap, subst}
+use Rattle.nb_host.specs.Files.{File, Files, with_file}
 use Rattle.nb_host.specs.World.{World}
-use Rattle.nb_host.specs.Crash.{Leaves, LeavesAll, PageLeft, AppendLeft, Untouched, IsDurable}
-use Rattle.nb_host.specs.Calls.{IsStill, Remakes, Steps, WritesPage, AppendsBytes, Syncs}
+use Rattle.nb_host.specs.Crash.{Leaves, LeavesAll, Untouched}
+use Rattle.nb_host.specs.Calls.{IsStill}
 use Rattle.nb_host.specs.Moments.{IsNow, IsTimely, Passes, AtEachMoment}
 use Rattle.nb_change.specs.Changes.{Names, Other, Only, Changes, Moved, Remade}
 use Rattle.nb_change.proofs.MomentLaws.{started, goes_on, joined, weaker, left_before, untouched_joined, untouched_fewer, untouched_begun}
-use Rattle.nb_change.proofs.NameLaws.{decide, with_file-same, with_file-other, whole-other}
+use Rattle.nb_change.proofs.NameLaws.{decide, with_file-same, with_file-other}
 
 -- of every file a stop leaves what it would have left before
 pub all_before : (old new : World) → Untouched old new (λ _. Unit {0}) → (files : Files) → LeavesAll new files → LeavesAll old files

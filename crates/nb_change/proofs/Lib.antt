@@ -5,3 +5,8 @@ pub mod ApartLaws
 pub mod StrokeLaws
 pub mod ResultLaws
 pub mod ChangesLaws
+pub mod CallLaws
+pub mod MovedLaws
+pub mod SettledLaws
+pub mod ReachedLaws
+pub mod GaveLaws

@@ -1,5 +1,5 @@
 -- What the outside gave between two moments: GUIDs and clock values.
-use Rattle.std.specs.Prelude.{◌≡◌, ℕ, List, [], ◌++◌}
+use Rattle.std.specs.Prelude.{◌≡◌, ℕ, List, ◌++◌}
 use Rattle.nb_host.specs.World.{World}
 
 -- these, in order
