@@ -23,12 +23,12 @@ bytes_others tells (Err e) old new name bytes told appends m other =
 pub remade_others : {T E : Type 0} (tells : Bool) (result : Result T E) (old new : World) (name : List ℕ) (file : File) → IsTrue tells → Remakes tells result old new name file → (m : List ℕ) → m ≢ name → new.files m ≡ old.files m
 remade_others tells result old new name file told remakes m other = whole-other result old.files new.files name file (remakes.files told) m other
 
--- one call more, by which one file goes on by a step
-pub step_more : (old mid new : World) (names : Names) (P Q : Files → Type 0) (name : List ℕ) (step : File → File → Type 0) → Changes old mid names P → names name → Passes mid new → Steps mid new name step
+-- One call more, by which one file goes on by a step. It goes on from what was made since the file was last made or removed.
+pub step_since : (old mid new : World) (names : Names) (P Q : Files → Type 0) (name : List ℕ) (step : File → File → Type 0) → Changes old mid names P → names name → Passes mid new → Steps mid new name step
     → ((m : List ℕ) → m ≢ name → new.files m ≡ mid.files m) → new.said ≡ mid.said
     → ((files : Files) → P files → Q files)
-    → ((before files : Files) → LeavesAll mid before → P before → step (before name) (files name) → ((m : List ℕ) → m ≢ name → files m ≡ before m) → Q files) → Changes old new names Q
-step_more old mid new names P Q name step so_far touched time steps read silent weak by =
+    → ((before files : Files) → LeavesAll mid before → mid.now name (before name) → P before → step (before name) (files name) → ((m : List ℕ) → m ≢ name → files m ≡ before m) → Q files) → Changes old new names Q
+step_since old mid new names P Q name step so_far touched time steps read silent weak by =
     one_more old mid new names P Q so_far time (untouched_fewer mid new _ _ steps.others (λ m other. apart m other)) (λ m other. read m (apart m other)) silent weak
     (λ files left.
     let others : (m : List ℕ) → m ≢ name → Leaves mid m (files m) = λ m other. left_before mid new _ steps.others m (files m) other (left m) in
@@ -37,13 +37,22 @@ step_more old mid new names P Q name step so_far touched time steps read silent 
     (λ now.
     let from = steps.now (files name) now in
     let before : Files = with_file files name from.0 in
+    let here : from.0 ≡ before name = sym (with_file-same files name from.0) in
     let all : LeavesAll mid before = left_with mid name files from.0 others (inr from.1) in
-    by before files all (so_far.now before all) (subst (λ (f : File). step f (files name)) (sym (with_file-same files name from.0)) from.2)
+    by before files all (subst (λ (f : File). mid.now name f) here from.1) (so_far.now before all) (subst (λ (f : File). step f (files name)) here from.2)
     (λ m other. sym (with_file-other files name from.0 m other)))
     (left name))
   where
     apart : (m : List ℕ) → Other names m → m ≢ name
     apart m other is = other (subst names (sym is) touched)
+
+-- the same, of whatever a stop would have left
+pub step_more : (old mid new : World) (names : Names) (P Q : Files → Type 0) (name : List ℕ) (step : File → File → Type 0) → Changes old mid names P → names name → Passes mid new → Steps mid new name step
+    → ((m : List ℕ) → m ≢ name → new.files m ≡ mid.files m) → new.said ≡ mid.said
+    → ((files : Files) → P files → Q files)
+    → ((before files : Files) → LeavesAll mid before → P before → step (before name) (files name) → ((m : List ℕ) → m ≢ name → files m ≡ before m) → Q files) → Changes old new names Q
+step_more old mid new names P Q name step so_far touched time steps read silent weak by =
+    step_since old mid new names P Q name step so_far touched time steps read silent weak (λ before files left now has next others. by before files left has next others)
 
 -- a page write more
 pub page_more : {T E : Type 0} (tells : Bool) (result : Result T E) (old mid new : World) (names : Names) (P Q : Files → Type 0) (name : List ℕ) (at : ℕ) (page : List ℕ) → IsTrue tells → Changes old mid names P → names name
@@ -118,3 +127,12 @@ remade_alone tells result old new name file made told timely remakes silent time
     one_more old old new (Only name) (Remade old name made) (Remade old name made) (begun old (Only name) _ timely (λ files left. inl (left name))) time remakes.others (remade_others tells result old new name file told remakes) silent
     (λ files has. has)
     (λ files left. ⊎_elim (λ back. inl (remakes.back (files name) back)) (λ now. ⊎_elim inl (λ e. inr (subst made (sym e) is)) (remakes.now (files name) now)) (left name))
+
+-- one call more behind a file that was made anew, where all that was made since is known
+pub remade_step : (old mid new : World) (name : List ℕ) (first made all : File → Type 0) (step : File → File → Type 0) → Changes old mid (Only name) (Remade old name first) → Passes mid new → Steps mid new name step
+    → ((m : List ℕ) → m ≢ name → new.files m ≡ mid.files m) → new.said ≡ mid.said
+    → ((c : File) → mid.now name c → made c) → ((c : File) → first c → all c) → ((c d : File) → made c → step c d → all d) → Changes old new (Only name) (Remade old name all)
+remade_step old mid new name first made all step so_far time steps read silent known weak by =
+    step_since old mid new (Only name) (Remade old name first) (Remade old name all) name step so_far refl time steps read silent
+    (λ files. ⊎_elim inl (λ is. inr (weak (files name) is)))
+    (λ before files left now has next others. inr (by (before name) (files name) (known (before name) now) next))

@@ -5,7 +5,7 @@ use Rattle.nb_host.specs.World.{World}
 use Rattle.nb_host.specs.Crash.{Leaves, LeavesAll, Untouched}
 use Rattle.nb_host.specs.Calls.{IsStill}
 use Rattle.nb_host.specs.Moments.{IsNow, IsTimely, Passes, AtEachMoment}
-use Rattle.nb_change.specs.Changes.{Names, Other, Only, Changes, Moved, Remade}
+use Rattle.nb_change.specs.Changes.{Names, Other, Only, NoNames, Changes, Moved, Remade}
 use Rattle.nb_change.proofs.MomentLaws.{started, goes_on, joined, weaker, left_before, untouched_joined, untouched_fewer, untouched_begun}
 use Rattle.nb_change.proofs.NameLaws.{decide, with_file-same, with_file-other}
 
@@ -139,3 +139,13 @@ remade_on old mid new names P Q name made there first second touched was weak by
     let before : Files = with_file files name there in
     let left : LeavesAll mid before = left_with mid name files there others was in
     by before files left (first.now before left) (with_file-same files name there) is (λ m other. sym (with_file-other files name there m other))))
+
+-- After a run of calls others change no file: what stood stands.
+pub kept_on : (old mid new : World) (names : Names) (P : Files → Type 0) → Changes old mid names P → Changes mid new NoNames (LeavesAll mid) → Changes old new names P
+kept_on old mid new names P first second =
+    composed_within old mid new names NoNames names P (LeavesAll mid) P first second (λ m one. one) (λ m none. absurd none) (λ files others has. has) (λ files others left. first.now files left)
+
+-- Calls that change no file, and then a run of calls.
+pub kept_then : (old mid new : World) (names : Names) (P Q : Files → Type 0) → Changes old mid NoNames (LeavesAll old) → Changes mid new names P → ((files : Files) → LeavesAll old files → Q files) → ((files : Files) → P files → Q files) → Changes old new names Q
+kept_then old mid new names P Q first second here pq =
+    composed_within old mid new NoNames names names (LeavesAll old) P Q first second (λ m none. absurd none) (λ m one. one) (λ files others left. here files left) (λ files others has. pq files has)
