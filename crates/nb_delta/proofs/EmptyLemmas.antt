@@ -8,7 +8,8 @@ use Rattle.nb_host.specs.Crash.{PageLeft}
 use Rattle.nb_fields.specs.Places.{is_page_size, slots_in}
 use Rattle.nb_fields.specs.Table.{page_in, slot_place, alloc_place}
 use Rattle.nb_delta.specs.Slots.{slot_page}
-use Rattle.nb_delta.specs.Groups.{GroupStep, GroupPut, Stays, Empties}
+use Rattle.nb_delta.specs.Waiting.{Stays}
+use Rattle.nb_delta.specs.Groups.{GroupStep, GroupPut, Empties}
 use Rattle.nb_delta.proofs.PlaceLemmas.{alloc_other, alloc_other_slot}
 use Rattle.nb_delta.proofs.SpellLemmas.{put_step, page_step, spells_behind}
 use Rattle.nb_delta.proofs.StepLemmas.{some_slots, there_after, has_told, has_read, has_there}
@@ -27,9 +28,6 @@ module _ (size : ℕ) (is_size : IsTrue (is_page_size size)) where
       pages = put_step size (alloc_place size g) page long (bytes_of before) (bytes_of after) (ap (λ (f : File). bytes_of f) is);
       there = is ∙ ap (λ (f : File). Some (bytes_of f)) (sym is);
     }
-
-  pub group_none : (g : ℕ) (page : List ℕ) (file : File) → GroupStep size g page file file
-  group_none g page file = record { pages = record { pages = inl (λ j. refl); longer = omega arith; grows = inl refl }; there = λ is. is }
 
   pub group_step : (g : ℕ) (page : List ℕ) (before after : File) → GroupPut size g page before after → GroupStep size g page before after
   group_step g page before after put = record { pages = record { pages = inr put.pages.pages; longer = put.pages.longer; grows = put.pages.grows }; there = λ is. put.there }
