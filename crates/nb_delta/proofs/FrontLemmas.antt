@@ -16,7 +16,7 @@ use Rattle.nb_delta.specs.Slots.{HasTable, HasZeros}
 use Rattle.nb_delta.specs.Waiting.{Waits, HasFront, Fronts, HasAll}
 use Rattle.nb_delta.specs.Groups.{Empties, IsOfGroup, NotesSome, NotesAll}
 use Rattle.nb_delta.proofs.GroupLemmas.{zeros_count}
-use Rattle.nb_delta.proofs.TableLemmas.{count_at, number_at, Spells}
+use Rattle.nb_delta.proofs.TableLemmas.{count_at, number_at, Spells, SamePlace, same_place}
 use Rattle.nb_delta.proofs.ZeroLemmas.{zeros_all, zeros_none}
 use Rattle.nb_delta.proofs.PageLemmas.{length-page_in}
 use Rattle.nb_delta.proofs.PlaceLemmas.{slot_at}
@@ -279,9 +279,35 @@ module _ (size : ℕ) (is_size : IsTrue (is_page_size size)) (entries table wait
         | inr ne ↦ all_front end order (named_below end named) entries [] split refl (let high = places.ends in omega arith) places.inside
       ])
 
+  -- zeros stand behind the last of the numbers, or in the empty allocation page behind a full group
+  pub zeros : ((h : ℕ) → first ≤ h → h < end → IsOfGroup size entries h (page_in size (bytes_of new) (alloc_place size h))) → HasZeros size new (length entries)
+  zeros named h j low at = elim (cases_lt h end) [
+    | inl l ↦
+        let from : first ≤ h = elim (cases_lt h first) [
+          | inl m ↦ let high : (h + 1) * slots_in size ≤ first * slots_in size = mul-le-mul_right (slots_in size) (omega arith) in let begins = places.begins in let more = more_than in absurd (omega (arith, high, begins, more, at, low))
+          | inr m ↦ m
+        ] in
+        let so_many : min (slots_in size) (length entries - h * slots_in size) ≡ j = omega (arith, at, low) in
+        subst (λ (n : ℕ). drop (4 + 4 * n) (page_in size (bytes_of new) (alloc_place size h)) ≡ replicate (size - (4 + 4 * n)) 0) so_many (named h from l).behind
+    | inr l ↦
+        let order = places.order in
+        let more : first < h = omega (arith, order, l) in
+        zeros_all size (4 + 4 * j) (page_in size (bytes_of new) (alloc_place size h)) (notes.others h (inr l) ∙ empties.empty h more (empty_behind h more (omega (arith, at))))
+  ]
+
+  -- and they stay where nothing of the waiting entries is named
+  first_zeros : HasZeros size old (length table) → page_in size (bytes_of new) (alloc_place size first) ≡ page_in size (bytes_of ready) (alloc_place size first) → HasZeros size new (length table + 0)
+  first_zeros was here h j low at =
+      let begins = places.begins in
+      let within = places.within in
+      let same : SamePlace first (length table - first * slots_in size) h j = same_place (slots_in size) first (length table - first * slots_in size) h j (omega (arith, begins, within)) low (omega (arith, at, begins)) in
+      let ready_has : HasZeros size ready (length table) = (empties.stays (length table) places.within).zeros (length table) (omega arith) was in
+      subst (λ (n : ℕ). drop (4 + 4 * j) (page_in size (bytes_of new) (alloc_place size n)) ≡ replicate (size - (4 + 4 * j)) 0) (sym same.group)
+      (ap (λ (p : List ℕ). drop (4 + 4 * j) p) here ∙ subst (λ (n : ℕ). drop (4 + 4 * j) (page_in size (bytes_of ready) (alloc_place size n)) ≡ replicate (size - (4 + 4 * j)) 0) same.group (ready_has h j low (omega (arith, at))))
+
   -- the groups before g are named, and group g isn't
   stopped : (g : ℕ) → first < g → g < end → ((h : ℕ) → first ≤ h → h < g → IsOfGroup size entries h (page_in size (bytes_of new) (alloc_place size h)))
-      → page_in size (bytes_of new) (alloc_place size g) ≡ page_in size (bytes_of ready) (alloc_place size g) → HasFront size table waiting new
+      → page_in size (bytes_of new) (alloc_place size g) ≡ page_in size (bytes_of ready) (alloc_place size g) → HasFront size table waiting old new
   stopped g more less named here =
       let inside = places.inside g less in
       let behind : (first + 1) * slots_in size ≤ g * slots_in size = mul-le-mul_right (slots_in size) (omega arith) in
@@ -297,15 +323,21 @@ module _ (size : ℕ) (is_size : IsTrue (is_page_size size)) (entries table wait
         rest = drop n waiting;
         split = parts;
         has = has_told size is_size new (table ++ take n waiting) there (full_front g more (named_below g named) (table ++ take n waiting) (drop n waiting) split long_front here);
+        zeros = λ was h j low at.
+            let sum : length table + length (take n waiting) ≡ g * slots_in size = omega (arith, length-take-le n waiting few, behind, within) in
+            let same : SamePlace g 0 h j = same_place (slots_in size) g 0 h j some low (omega (arith, at, sum)) in
+            zeros_all size (4 + 4 * j) (page_in size (bytes_of new) (alloc_place size h))
+            (ap (λ (k : ℕ). page_in size (bytes_of new) (alloc_place size k)) same.group ∙ here ∙ empties.empty g more (empty_behind g more (omega (arith, inside))));
       }
 
   -- the first group that isn't named
-  find : (left g : ℕ) → g + left ≡ end → first ≤ g → ((h : ℕ) → first ≤ h → h < g → IsOfGroup size entries h (page_in size (bytes_of new) (alloc_place size h))) → HasFront size table waiting new
+  find : (left g : ℕ) → g + left ≡ end → first ≤ g → ((h : ℕ) → first ≤ h → h < g → IsOfGroup size entries h (page_in size (bytes_of new) (alloc_place size h))) → HasFront size table waiting old new
   find zero g at order named = record {
     front = waiting;
     rest = [];
     split = sym (append-nil waiting);
     has = subst (λ (xs : List ℕ). HasTable size new xs) waits.all (all_named (λ h low high. named h low (omega arith)));
+    zeros = λ was. subst (λ (n : ℕ). HasZeros size new n) many (zeros (λ h low high. named h low (omega arith)));
   }
   find (suc left) g at order named = ⊎_elim
       (λ same. elim (cases_eq g first) [
@@ -315,6 +347,7 @@ module _ (size : ℕ) (is_size : IsTrue (is_page_size size)) (entries table wait
           split = refl;
           has = subst (λ (xs : List ℕ). HasTable size new xs) (sym (append-nil table))
               (has_told size is_size new table there (none_named (subst (λ (n : ℕ). page_in size (bytes_of new) (alloc_place size n) ≡ page_in size (bytes_of ready) (alloc_place size n)) e same)));
+          zeros = λ was. first_zeros was (subst (λ (n : ℕ). page_in size (bytes_of new) (alloc_place size n) ≡ page_in size (bytes_of ready) (alloc_place size n)) e same);
         }
         | inr ne ↦ stopped g (omega arith) (omega arith) named same
       ])
@@ -333,22 +366,6 @@ module _ (size : ℕ) (is_size : IsTrue (is_page_size size)) (entries table wait
     slots = all_slots;
     no_shorter = long;
   }
-
-  -- zeros stand behind the last of the numbers, or in the empty allocation page behind a full group
-  pub zeros : NotesAll size entries first end ready new → HasZeros size new (length entries)
-  zeros all h j low at = elim (cases_lt h end) [
-    | inl l ↦
-        let from : first ≤ h = elim (cases_lt h first) [
-          | inl m ↦ let high : (h + 1) * slots_in size ≤ first * slots_in size = mul-le-mul_right (slots_in size) (omega arith) in let begins = places.begins in let more = more_than in absurd (omega (arith, high, begins, more, at, low))
-          | inr m ↦ m
-        ] in
-        let so_many : min (slots_in size) (length entries - h * slots_in size) ≡ j = omega (arith, at, low) in
-        subst (λ (n : ℕ). drop (4 + 4 * n) (page_in size (bytes_of new) (alloc_place size h)) ≡ replicate (size - (4 + 4 * n)) 0) so_many (all.all h from l).behind
-    | inr l ↦
-        let order = places.order in
-        let more : first < h = omega (arith, order, l) in
-        zeros_all size (4 + 4 * j) (page_in size (bytes_of new) (alloc_place size h)) (notes.others h (inr l) ∙ empties.empty h more (empty_behind h more (omega (arith, at))))
-  ]
 
   pub has_all : NotesAll size entries first end ready new → HasAll size entries old new
   has_all all = record { has = all_named all.all; slots = all_slots; no_shorter = long }

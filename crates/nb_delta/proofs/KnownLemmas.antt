@@ -87,7 +87,7 @@ padded_to size rest short =
     let k : ℕ = size - length rest in
     let sum : size ≡ k + length rest = omega arith in
     let long : length (rest ++ replicate k 0) ≡ size = omega (arith, length-append rest (replicate k 0), length-replicate {A = ℕ} k 0) in
-    ap {A = ℕ} (λ (n : ℕ). take size (rest ++ replicate n 0)) sum
+    ap {A = ℕ} (λ (n : ℕ). take size (rest ++ replicate n 0)) {x = size} {y = k + length rest} sum
     ∙ ap (λ (xs : List ℕ). take size (rest ++ xs)) (sym (replicate-append-replicate k (length rest) 0))
     ∙ ap (λ (xs : List ℕ). take size xs) (sym (append_assoc rest (replicate k 0) (replicate (length rest) 0)))
     ∙ take-append-le size (rest ++ replicate k 0) (replicate (length rest) 0) (omega (arith, long))
@@ -143,7 +143,7 @@ pub wait_begun : (old : World) (inside k : Known) → inside ≡ k → IsTimely 
 wait_begun old inside k same timely =
     subst (λ (x : Known). WaitChanges old old x) same
     (λ table waiting waits. moved_begun old (Only inside.name) inside.name (FrontStep inside.page_size table waiting (old.files inside.name)) timely
-    (λ d was. inl (record { tables = λ entries few has. has; slots = λ j. refl; no_shorter = omega arith })))
+    (λ d was. inl (record { tables = λ entries few has. has; zeros = λ m few has. has; slots = λ j. refl; no_shorter = omega arith })))
 
 -- what a file holds after them
 abbrev pub WaitWrites : (before after : Files) → Known → Type 0

@@ -12,7 +12,7 @@ use Rattle.nb_fields.proofs.SizeLemmas.{size_facts}
 use Rattle.nb_delta.specs.Slots.{HasTable, slot_page, HasSlot, HasZeros, Keeps, SlotStep, SlotPut, Adds, AddStep}
 use Rattle.nb_delta.specs.Noting.{IsAllocation, HasRoom, MakesRoom, Prepared, IsReady, IsNewest, Notes, NoteStep}
 use Rattle.nb_delta.proofs.TableLemmas.{Spells, same_place}
-use Rattle.nb_delta.proofs.ZeroLemmas.{zeros_all}
+use Rattle.nb_delta.proofs.ZeroLemmas.{zeros_all, zeros_same}
 use Rattle.std.proofs.lemmas.Bool.{cases_eq}
 use Rattle.nb_delta.proofs.TellLemmas.{table_read, table_told}
 use Rattle.nb_delta.proofs.PlaceLemmas.{in_group, group_is, slot_at, slot_other, alloc_other, alloc_other_slot}
@@ -66,6 +66,7 @@ module _ (size : ℕ) (is_size : IsTrue (is_page_size size)) where
           table = λ table has. after_left (slot_place size k * size) page table before after left (λ spells. spells_slot size (some_slots size is_size) k page (bytes_of before) (bytes_of after) table spells step) has;
           slot = ⊎_elim (λ all. inl (all (slot_place size k))) (λ put. inr put.here) step.pages;
           others = λ j other. ⊎_elim (λ all. all (slot_place size j)) (λ put. put.others (slot_place size j) (slot_other size (some_slots size is_size) j k other)) step.pages;
+          zeros = λ m. zeros_same size m before after (λ g low. ⊎_elim (λ all. all (alloc_place size g)) (λ put. put.others (alloc_place size g) (alloc_other_slot size (some_slots size is_size) g k)) step.pages);
           no_shorter = step.longer;
         }
 
@@ -78,24 +79,25 @@ module _ (size : ℕ) (is_size : IsTrue (is_page_size size)) where
           slot = put.pages.here;
           whole = put.whole;
           others = λ j other. put.pages.others (slot_place size j) (slot_other size (some_slots size is_size) j k other);
+          zeros = λ m. zeros_same size m before after (λ g low. put.pages.others (alloc_place size g) (alloc_other_slot size (some_slots size is_size) g k));
           no_shorter = put.longer;
         }
 
   pub slot_none : (k : ℕ) (page : List ℕ) (file : File) → SlotStep size k page file file
-  slot_none k page file = record { table = λ table has. has; slot = inl refl; others = λ j other. refl; no_shorter = omega arith }
+  slot_none k page file = record { table = λ table has. has; slot = inl refl; others = λ j other. refl; zeros = λ m has. has; no_shorter = omega arith }
 
   -- what a write of slot n keeps
   pub keeps_slot : (n : ℕ) (page : List ℕ) (before after : File) → SlotStep size n page before after → Keeps size n before after
-  keeps_slot n page before after step = record { table = λ table few has. step.table table has; slots = λ k low. step.others k (λ e. absurd (omega arith)) }
+  keeps_slot n page before after step = record { table = λ table few has. step.table table has; slots = λ k low. step.others k (λ e. absurd (omega arith)); zeros = λ m few has. step.zeros m has }
 
   pub keeps_put : (n : ℕ) (page : List ℕ) (before after : File) → SlotPut size n page before after → Keeps size n before after
-  keeps_put n page before after put = record { table = λ table few has. put.table table has; slots = λ k low. put.others k (λ e. absurd (omega arith)) }
+  keeps_put n page before after put = record { table = λ table few has. put.table table has; slots = λ k low. put.others k (λ e. absurd (omega arith)); zeros = λ m few has. put.zeros m has }
 
   pub keeps_none : (n : ℕ) (file : File) → Keeps size n file file
-  keeps_none n file = record { table = λ table few has. has; slots = λ k low. refl }
+  keeps_none n file = record { table = λ table few has. has; slots = λ k low. refl; zeros = λ m few has. has }
 
   pub keeps_joined : (n : ℕ) (b d c : File) → Keeps size n b d → Keeps size n d c → Keeps size n b c
-  keeps_joined n b d c first second = record { table = λ table few has. second.table table few (first.table table few has); slots = λ k low. second.slots k low ∙ first.slots k low }
+  keeps_joined n b d c first second = record { table = λ table few has. second.table table few (first.table table few has); slots = λ k low. second.slots k low ∙ first.slots k low; zeros = λ m few has. second.zeros m few (first.zeros m few has) }
 
   -- the next allocation page is written, behind entry n
   module _ (n h : ℕ) (low : n < h * slots_in size) (page : List ℕ) (long : length page ≡ size) where
@@ -105,6 +107,7 @@ module _ (size : ℕ) (is_size : IsTrue (is_page_size size)) where
         record {
           table = λ table few has. after_left (alloc_place size h * size) page table before after left (λ spells. spells_behind size (some_slots size is_size) h page (bytes_of before) (bytes_of after) table spells (omega arith) step) has;
           slots = λ k lower. ⊎_elim (λ all. all (slot_place size k)) (λ put. put.others (slot_place size k) (λ e. alloc_other_slot size (some_slots size is_size) h k (sym e))) step.pages;
+          zeros = λ m few. zeros_same size m before after (λ g inside. ⊎_elim (λ all. all (alloc_place size g)) (λ put. put.others (alloc_place size g) (alloc_other size g h (λ e. absurd (let same = ap (λ (x : ℕ). x * slots_in size) e in omega (arith, same, inside, few, low))))) step.pages);
         }
 
     -- and the slot of entry n keeps its page
@@ -168,6 +171,7 @@ module _ (size : ℕ) (is_size : IsTrue (is_page_size size)) where
         (λ all. inl (record {
           table = λ entries few had. after_left (alloc_place size g * size) page entries before after left (λ spells. spells_same size (some_slots size is_size) (alloc_place size g) page (bytes_of before) (bytes_of after) entries spells all step.longer step.grows inside) had;
           slots = λ k lower. all (slot_place size k);
+          zeros = λ m few. zeros_same size m before after (λ h inside. all (alloc_place size h));
         }))
         (λ put. inr (noted after (left_there size (alloc_place size g * size) page table before has after left) put step.longer))
         step.pages
@@ -222,6 +226,7 @@ module _ (size : ℕ) (is_size : IsTrue (is_page_size size)) where
   add_step table number page reads mid before after ready kept (inl keeps) = inl (record {
     table = λ entries few has. keeps.table entries (omega arith) (kept.table entries few has);
     slots = λ k low. keeps.slots k (omega arith) ∙ kept.slots k low;
+    zeros = λ m few has. keeps.zeros m (omega arith) (kept.zeros m few has);
   })
 
   -- a prepared entry is ready to be noted

@@ -1,7 +1,11 @@
 -- Zeros behind the numbers of an allocation page.
 use Rattle.std.proofs.Common.{◌≡◌, inl, ℕ, ◌+◌, ◌-◌, ◌*◌, ◌≤◌, List, length, drop, replicate, sym, ap, ◌∙◌, arith, length-drop}
 use Rattle.std.proofs.lemmas.List.{drop-drop, drop-replicate, drop_all, take_all}
+use Rattle.nb_host.specs.Files.{File, bytes_of}
 use Rattle.nb_fields.specs.Bytes.{part, AreApart}
+use Rattle.nb_fields.specs.Places.{slots_in}
+use Rattle.nb_fields.specs.Table.{page_in, alloc_place}
+use Rattle.nb_delta.specs.Slots.{HasZeros}
 
 -- a page of zeros
 pub zeros_all : (size k : ℕ) (page : List ℕ) → page ≡ replicate size 0 → drop k page ≡ replicate (size - k) 0
@@ -31,3 +35,7 @@ pub zeros_more : (size i : ℕ) (page new : List ℕ) → length new ≡ length 
 zeros_more size i page new long parts is =
     let next : 4 + 4 * (i + 1) ≡ 4 + 4 * i + 4 = omega arith in
     ap (λ (n : ℕ). drop n new) next ∙ zeros_kept (4 + 4 * i) 4 page new long parts ∙ zeros_later size (4 + 4 * i) 4 page is ∙ ap (λ (n : ℕ). replicate (size - n) 0) (sym next)
+
+-- where the allocation page of n entries is as it was, its zeros are
+pub zeros_same : (size n : ℕ) (before after : File) → ((g : ℕ) → g * slots_in size ≤ n → page_in size (bytes_of after) (alloc_place size g) ≡ page_in size (bytes_of before) (alloc_place size g)) → HasZeros size before n → HasZeros size after n
+zeros_same size n before after same zeros g i low at = ap (λ (p : List ℕ). drop (4 + 4 * i) p) (same g (omega arith)) ∙ zeros g i low at

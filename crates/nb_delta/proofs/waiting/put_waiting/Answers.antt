@@ -107,4 +107,4 @@ returns-clause-zeros g c tells table waiting waits =
     let places = places_found (slots_in size) (length entries) room count c.slots_in-room.ensures.value c.len-count.ensures.value (length table) c.args.drafted (some_slots size c.requires.size) c.requires.some (waits_long size entries c.args.drafted table waiting old waits) in
     let new : File = (g.H.Host.world c.note_all.new.host).files name in
     let notes = subst (λ (n : ℕ). NotesAll n entries first end mid new) same (c.in_ok-note_all.ensures.noted tells) in
-    zeros size c.requires.size entries table waiting c.args.drafted first last end old mid new c.len-count.ensures.apart waits places (c.in_ok-make_ready.ensures.emptied tells) notes.some notes
+    zeros size c.requires.size entries table waiting c.args.drafted first last end old mid new c.len-count.ensures.apart waits places (c.in_ok-make_ready.ensures.emptied tells) notes.some notes.all
