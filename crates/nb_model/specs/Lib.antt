@@ -26,6 +26,7 @@ pub mod Stands
 pub mod Well
 pub mod Waiting
 pub mod Pagewise
+pub mod Trail
 pub mod Words
 pub mod Jobs
 pub mod Line
