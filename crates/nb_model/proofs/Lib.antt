@@ -40,3 +40,4 @@ pub mod PlayLaws
 pub mod TakenLaws
 pub mod FreeLaws
 pub mod FrontLaws
+pub mod TrailLaws

@@ -3,24 +3,25 @@
 ghost use Rattle.nb_model.specs.Account.{Account, Base, Kept};
 ghost use Rattle.nb_model.specs.Follows.{Follows, IsMixed};
 ghost use Rattle.nb_model.specs.Forms.{drafted, give_page, new_page, put, take_page};
-ghost use Rattle.nb_model.specs.Image.{Image, Numbered, Page, image_size, overwritten, page_at, with_page, written_at};
+ghost use Rattle.nb_model.specs.Image.{Image, Numbered, Page, image_size, is_forced, overwritten, page_at, with_page, written_at};
 ghost use Rattle.nb_model.specs.Levels.{Head, IsLevel, read_level, taken};
 ghost use Rattle.nb_model.specs.Line.{AreZeroPages, HoldLine, HoldsFirst, IsLine, first_file, last_in, next_files};
 ghost use Rattle.nb_model.specs.Outcomes.{DoesNothing, Seen};
 ghost use Rattle.nb_model.specs.Output.{acked};
-ghost use Rattle.nb_model.specs.Owner.{entry_for, owned, slot_page};
+ghost use Rattle.nb_model.specs.Owner.{entry_for, owned, owner, slot_page};
 ghost use Rattle.nb_model.specs.Restoring.{applied, verdict};
 ghost use Rattle.nb_model.specs.Run.{Event, IsPlayed, Now, base_now, play, rounds, strokes_of};
 ghost use Rattle.nb_model.specs.Sound.{HasNoZeros};
 ghost use Rattle.nb_model.specs.Strokes.{Stroke, after, base_after, fixed, merged_page, on_base, page as page_stroke, records_after};
+ghost use Rattle.nb_model.specs.Trail.{AreSynced, IsBehindFirst, ShowsIn, StandsIn, StandsOn, Trail, after_strokes, is_kept_place, settled};
 ghost use Rattle.nb_model.specs.Turns.{first_turn};
 ghost use Rattle.nb_model.specs.declared.reply.Reply.TheVariants.{Refused};
 ghost use Rattle.nb_model.specs.declared.statement.Statement.{Statement};
 ghost use Rattle.nb_fields.specs.Page.{stamp_of};
-ghost use Rattle.nb_host.specs.Files.{Files};
+ghost use Rattle.nb_host.specs.Files.{File, Files};
 ghost use Rattle.nb_host.specs.declared.refusals.Refusal.{Refusal};
-ghost use Rattle.std.specs.Prelude.{Contains, List, Ok, Some, [], ◌++◌, ◌+◌, ◌<◌, ◌∷◌, ◌≡◌, ◌≢◌, ◌≤◌, drop, length, replicate, slice_set, take, ℕ};
-ghost use Rattle.std.specs.List.{slice_index_or};
+ghost use Rattle.std.specs.Prelude.{Contains, List, Ok, Some, true, [], ◌++◌, ◌+◌, ◌<◌, ◌∷◌, ◌≡◌, ◌≢◌, ◌≤◌, drop, length, replicate, slice_set, take, ℕ};
+ghost use Rattle.std.specs.List.{AllByRecursion, slice_index_or};
 
 /// Lineage goes on: an image follows each one that it followed step by step, at the lowest SCN.
 pub fn lineage_goes_on()
@@ -128,4 +129,22 @@ pub fn a_session_alone_goes_in_order()
 /// What is acknowledged never falls as more is said.
 pub fn acknowledged_never_falls()
     ensures { (events : List Event) (said later : ℕ) → said ≤ later → acked events said ≤ acked events later }
+{}
+
+/// At a settled point a stop leaves the database and nothing else. Of each trail it may leave what was seen last.
+pub fn a_settled_trail_is_its_database()
+    ensures shows { (name : List ℕ) (b : Base) (m d : File) → StandsOn name (settled b) m d → owner name m d ≡ Ok b }
+    ensures stands { (name : List ℕ) (b : Base) (m d : File) → owner name m d ≡ Ok b → StandsOn name (settled b) m d }
+    ensures last { (name : List ℕ) (t : Trail) (files : Files) → ShowsIn name t.base files → StandsIn name t files }
+{}
+
+/// Of strokes that are synced a stop leaves a front, and nothing in between: so it is with forced writes on, and of a write of
+/// page 0 or of an SCN page in any case.
+pub fn synced_strokes_leave_a_front()
+    ensures settled { (b : Base) (strokes : List Stroke) (k : ℕ) → AreSynced (settled b) strokes → after_strokes (take k strokes) (settled b) ≡ settled (base_after b (take k strokes)) }
+    ensures shows { (name : List ℕ) (b : Base) (strokes : List Stroke) (k : ℕ) (files : Files) → AreSynced (settled b) strokes → StandsIn name (after_strokes (take k strokes) (settled b)) files
+        → ShowsIn name (base_after b (take k strokes)) files }
+    ensures forced { (b : Base) (strokes : List Stroke) → is_forced b.image ≡ true → AllByRecursion IsBehindFirst strokes → AreSynced (settled b) strokes }
+    ensures one { (b : Base) (p : ℕ) (bytes : Page) → is_forced b.image ≡ true → AreSynced (settled b) (page_stroke p bytes ∷ []) }
+    ensures kept { (b : Base) (p : ℕ) (bytes : Page) → is_kept_place (image_size b.image) p ≡ true → AreSynced (settled b) (page_stroke p bytes ∷ []) }
 {}
