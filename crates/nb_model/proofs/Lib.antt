@@ -41,3 +41,5 @@ pub mod TakenLaws
 pub mod FreeLaws
 pub mod FrontLaws
 pub mod TrailLaws
+pub mod MixtureLaws
+pub mod EarlierLaws
