@@ -18,7 +18,8 @@ use Rattle.nb_model.specs.Stands.{IsKeptAs, is_history_page, GoesOn, IsRemembere
 use Rattle.nb_model.proofs.StrokeLaws.{with_page_same}
 use Rattle.nb_model.proofs.FollowsLaws.{follows_set, follows_add}
 use Rattle.nb_model.proofs.SoundLaws.{written_other, with_page_length, HasFields, FitsAt, size_stays, scn_stays, guid_stays}
-use Rattle.nb_model.proofs.PutSound.{Held, Throughout, text_holds}
+use Rattle.nb_model.proofs.FitLaws.{Held, Throughout}
+use Rattle.nb_model.proofs.PutSound.{text_holds}
 
 -- what holds of each row
 all_rows : (P R : Slot → Type 0) (rows : List Slot) → ((row : Slot) → P row → R row) → AllByRecursion P rows → AllByRecursion R rows
