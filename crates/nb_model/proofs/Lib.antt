@@ -35,6 +35,7 @@ pub mod OutputLaws
 pub mod TodoLaws
 pub mod OpeningLaws
 pub mod ReopenLaws
+pub mod PagesFit
 pub mod WellLaws
 pub mod PlayLaws
 pub mod TakenLaws
