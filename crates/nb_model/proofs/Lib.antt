@@ -45,3 +45,5 @@ pub mod TrailLaws
 pub mod FitLaws
 pub mod MixtureLaws
 pub mod EarlierLaws
+pub mod EntryLaws
+pub mod StalledLaws
