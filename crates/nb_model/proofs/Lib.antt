@@ -47,3 +47,5 @@ pub mod MixtureLaws
 pub mod EarlierLaws
 pub mod EntryLaws
 pub mod StalledLaws
+pub mod LineageLaws
+pub mod WellTrailLaws

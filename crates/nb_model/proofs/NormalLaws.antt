@@ -36,12 +36,12 @@ forms_have_pages = record {
 }
 
 -- one stroke
-record IsQuiet (s : Stroke) (b : Base) : Type 0 where
-  frozen : (on_base s b).frozen ≡ b.frozen
-  diverted : (on_base s b).diverted ≡ b.diverted
-  records : records_of s b ≡ []
+pub record IsQuiet (s : Stroke) (b : Base) : Type 0 where
+  pub frozen : (on_base s b).frozen ≡ b.frozen
+  pub diverted : (on_base s b).diverted ≡ b.diverted
+  pub records : records_of s b ≡ []
 
-quiet : (s : Stroke) (b : Base) → IsPage s → image_state b.image ≡ 0 → IsQuiet s b
+pub quiet : (s : Stroke) (b : Base) → IsPage s → image_state b.image ≡ 0 → IsQuiet s b
 unfolding on_base records_of
 quiet (page p bytes) b is normal = record {
   frozen = refl;
@@ -56,7 +56,7 @@ quiet fix b is normal = absurd is
 quiet (merge records) b is normal = absurd is
 
 -- so it is as its image tells it
-told_whole : (b : Base) → b.frozen ≡ [] → b.diverted ≡ [] → b ≡ base_of b.image
+pub told_whole : (b : Base) → b.frozen ≡ [] → b.diverted ≡ [] → b ≡ base_of b.image
 told_whole b frozen diverted = λ i. record { image = b.image; frozen = frozen i; diverted = diverted i }
 
 -- what stands after strokes is in the normal state, and is told by its image
