@@ -1,5 +1,5 @@
 -- Laws of the stalled state: a page write and a stop keep it that what is diverted is raised.
-use Rattle.std.proofs.Common.{◌≡◌, ◌≢◌, inl, inr, ℕ, zero, suc, ◌+◌, ◌<◌, ◌≤◌, List, ◌++◌, length, take, refl, sym, ap, subst, ◌∙◌, arith}
+use Rattle.std.proofs.Common.{◌≡◌, ◌≢◌, inl, inr, ℕ, zero, suc, ◌+◌, ◌<◌, ◌≤◌, List, ◌++◌, length, refl, sym, ap, subst, ◌∙◌, arith}
 use Rattle.std.specs.Prelude.{true, false, ◌==◌, Option, Some, None, IsTrue, max}
 use Rattle.std.proofs.lemmas.Bool.{true≢false}
 use Rattle.std.proofs.lemmas.Bool.Decides.{eqb_tells}
@@ -7,9 +7,10 @@ use Rattle.nb_fields.specs.Places.{is_page_size}
 use Rattle.nb_model.specs.Image.{Page, Image, page_at, first_page, image_size, image_state, image_scn, with_page}
 use Rattle.nb_model.specs.Account.{Base}
 use Rattle.nb_model.specs.Strokes.{page, merged_page, noted, on_base}
-use Rattle.nb_model.specs.Forms.{scn_page_of, entry_number, scn_entry, has_entry}
+use Rattle.nb_model.specs.Forms.{scn_page_of, scn_entry, has_entry}
 use Rattle.nb_model.specs.Owner.{entry_for}
-use Rattle.nb_model.specs.Stands.{IsRaised, HasOldEntries, IsStalled}
+use Rattle.nb_model.specs.Stands.{HasOldEntries}
+use Rattle.nb_model.specs.Well.{IsStalled}
 use Rattle.nb_model.specs.Trail.{Trail, images_of, IsLeft}
 use Rattle.nb_model.specs.WellTrail.{IsOverFrozen}
 use Rattle.nb_model.proofs.FitLaws.{IsWhole}

@@ -1,21 +1,20 @@
 -- Whatever a stop leaves of a well trail is well, and page strokes that fit keep a trail well.
-use Rattle.std.proofs.Common.{◌≡◌, inl, inr, ℕ, zero, suc, ◌<◌, ◌≤◌, List, [], ◌∷◌, ◌++◌, length, take, refl, sym, ap, subst, ◌∙◌, arith}
-use Rattle.std.specs.Prelude.{true, false, Contains, IsTrue}
+use Rattle.std.proofs.Common.{◌≡◌, ℕ, zero, suc, ◌<◌, List, [], ◌∷◌, ◌++◌, length, take, refl, sym, ap, subst, ◌∙◌, arith}
+use Rattle.std.specs.Prelude.{true, Contains}
 use Rattle.nb_fields.specs.Header.{is_header}
-use Rattle.nb_fields.specs.Places.{is_page_size}
 use Rattle.nb_model.specs.declared.statement.Statement.{Statement}
-use Rattle.nb_model.specs.Image.{Page, Image, first_page, image_size, image_state, image_scn, image_guid, with_page}
+use Rattle.nb_model.specs.Image.{Page, Image, first_page, image_state, image_scn, image_guid, with_page}
 use Rattle.nb_model.specs.Account.{Kept, Base, base_of}
-use Rattle.nb_model.specs.Strokes.{Stroke, page, merged_page, on_base, base_after}
+use Rattle.nb_model.specs.Strokes.{Stroke, page, merged_page, on_base}
 use Rattle.nb_model.specs.Outcomes.{Seen}
 use Rattle.nb_model.specs.Turns.{first_turn}
 use Rattle.nb_model.specs.Sound.{IsSoundImage, HasHeader}
-use Rattle.nb_model.specs.Stands.{IsKeptAs, GoesOn, HasRows, NamesPast, NamesItsPast}
+use Rattle.nb_model.specs.Stands.{IsKeptAs, GoesOn, HasRows, NamesPast}
 use Rattle.nb_model.specs.Trail.{Trail, settled, images_of, after_stroke, after_strokes, IsLeft}
 use Rattle.nb_model.specs.Earlier.{IsEarlier}
-use Rattle.nb_model.specs.Well.{IsWellIn, IsWellBaseIn, is_on_pages}
+use Rattle.nb_model.specs.Well.{IsOfRecord, IsWellBaseIn, is_on_pages}
 use Rattle.nb_model.specs.WellTrail.{IsOverFrozen, AllGoOn, IsWellTrail}
-use Rattle.nb_model.proofs.FitLaws.{IsWhole, whole_with, IsFitting, AreFitting}
+use Rattle.nb_model.proofs.FitLaws.{IsWhole, IsFitting, AreFitting}
 use Rattle.nb_model.proofs.SoundLaws.{FitsAt, header_stays, fields_stay, state_stays, guid_stays, page_sound}
 use Rattle.nb_model.proofs.PutSound.{header_whole}
 use Rattle.nb_model.proofs.PastLaws.{goes_on_still, rows_with, past_with, past_written, no_rows_pass}
@@ -30,6 +29,10 @@ use Rattle.nb_model.proofs.LineageLaws.{goes_on_mixed, past_mixed}
 -- the image of a well database is whole
 pub base_whole : (kept : List Kept) (b : Base) → IsWellBaseIn kept b → IsWhole b.image
 base_whole kept b w = header_whole b.image (record { header = w.well.header; scn = w.well.scn }) w.well.sound
+
+-- with the same frozen image and the same GUID a database is of the same record
+of_record : (kept : List Kept) (a b : Base) → b.frozen ≡ a.frozen → image_guid b.image ≡ image_guid a.image → IsOfRecord kept a → IsOfRecord kept b
+of_record kept a b frozen guid is = record { backup = is.backup; kept_as = subst (λ (g : List ℕ). IsKeptAs kept g is.backup) (sym guid) is.kept_as; same = frozen ∙ is.same }
 
 -- Whatever a stop leaves of a well trail is well.
 module _ (kept : List Kept) (t : Trail) (b : Base) (w : IsWellTrail kept t) (left : IsLeft t b) where
@@ -65,7 +68,7 @@ module _ (kept : List Kept) (t : Trail) (b : Base) (w : IsWellTrail kept t) (lef
     };
     normal = left_told;
     stalled = λ stalled. left_stalled t b w.sound.size left (w.base.stalled (sym left_state ∙ stalled));
-    backup = λ stalled. let old = w.base.backup (sym left_state ∙ stalled) in (old.0, subst (λ (g : List ℕ). IsKeptAs kept g old.0) (sym left_guid) old.1);
+    backup = λ stalled. of_record kept t.base b left.frozen left_guid (w.base.backup (sym left_state ∙ stalled));
   }
 
 -- A well database, settled, is a well trail.
@@ -123,6 +126,10 @@ module _ (kept : List Kept) (t : Trail) (p : ℕ) (bytes : Page) (w : IsWellTrai
   guid : image_guid later_base.image ≡ image_guid now
   guid = ap image_guid image_is ∙ guid_stays now p page_now whole.fields whole.sound fits
 
+  frozen : later_base.frozen ≡ t.base.frozen
+  unfolding on_base
+  frozen = refl
+
   sound : IsSoundImage later_base.image
   sound = subst IsSoundImage (sym image_is) (page_sound now p page_now whole.fields whole.sound fits)
 
@@ -144,7 +151,7 @@ module _ (kept : List Kept) (t : Trail) (p : ℕ) (bytes : Page) (w : IsWellTrai
     };
     normal = told;
     stalled = λ stalled. let one : image_state now ≡ 1 = sym state ∙ stalled in stroke_stalled t.base p bytes whole one (w.base.stalled one) (w.over one) fits;
-    backup = λ stalled. let old = w.base.backup (sym state ∙ stalled) in (old.0, subst (λ (g : List ℕ). IsKeptAs kept g old.0) (sym guid) old.1);
+    backup = λ stalled. of_record kept t.base later_base frozen guid (w.base.backup (sym state ∙ stalled));
   }
 
   pub stroke_well : IsWellTrail kept (after_stroke (page p bytes) t)

@@ -8,7 +8,7 @@ use Rattle.nb_model.specs.Account.{Kept, Base, base_of}
 use Rattle.nb_model.specs.Strokes.{Stroke, base_after, records_after}
 use Rattle.nb_model.specs.Outcomes.{Turn, Begins, Copies, ClosesBackup, ClosesCopy, Ends, Merges, Finishes}
 use Rattle.nb_model.specs.Sound.{IsSoundImage}
-use Rattle.nb_model.specs.Stands.{IsKeptAs, IsStalled, NamesItsPast}
+use Rattle.nb_model.specs.Stands.{IsKeptAs, IsRaised, HasOldEntries, NamesItsPast}
 
 -- The image has a header in the state of that number, is sound, and names backups that are kept.
 pub record IsWellIn (kept : List Kept) (number : ℕ) (image : Image) : Type 0 where
@@ -27,13 +27,24 @@ pub record IsWellBase (kept : List Kept) (b : Base) : Type 0 where
   pub told : b ≡ base_of b.image
   pub well : IsWell kept b.image
 
+-- What stands in the stalled state: what is diverted since the begin is raised, and no entry of the frozen image is current.
+pub record IsStalled (b : Base) : Type 0 where
+  pub raised : IsRaised b.image b.diverted
+  pub old : HasOldEntries b.frozen
+
+-- the record that a stalled database names has its frozen image
+pub record IsOfRecord (kept : List Kept) (b : Base) : Type 0 where
+  pub backup : Kept
+  pub kept_as : IsKeptAs kept (image_guid b.image) backup
+  pub same : b.frozen ≡ backup.image
+
 -- A database that is well in the normal, the stalled or the merge state: what has to stand of one that files hold.
 pub record IsWellBaseIn (kept : List Kept) (b : Base) : Type 0 where
   pub state : image_state b.image ≤ 2
   pub well : IsWellIn kept (image_state b.image) b.image
   pub normal : image_state b.image ≡ 0 → b ≡ base_of b.image
   pub stalled : image_state b.image ≡ 1 → IsStalled b
-  pub backup : image_state b.image ≡ 1 → (r : Kept) × IsKeptAs kept (image_guid b.image) r
+  pub backup : image_state b.image ≡ 1 → IsOfRecord kept b
 
 -- After each front of the strokes the database is well, and they keep no record of a backup.
 pub record StaysWell (kept : List Kept) (b : Base) (strokes : List Stroke) : Type 0 where
