@@ -1,7 +1,7 @@
 -- What the form of a header says of the bytes, and that the first 64 bytes decide it.
 use Rattle.std.proofs.Common.{◌≡◌, inl, inr, ℕ, suc, ◌+◌, ◌≤◌, List, [], ◌∷◌, length, take, refl, sym, ap, ◌∙◌, arith}
 use Rattle.std.specs.Prelude.{Bool, true, false, IsTrue, ◌&&◌, ◌==◌}
-use Rattle.std.proofs.lemmas.Bool.{true≢false, and_parts}
+use Rattle.std.proofs.lemmas.Bool.{true≢false, and_parts, leb-true}
 use Rattle.std.proofs.lemmas.Bool.Decides.{leb_tells, eqb_tells}
 use Rattle.nb_fields.specs.Bytes.{number_of, number_in, is_zeros}
 use Rattle.nb_fields.specs.Header.{is_header, is_marked, is_sound, state_of, size_of, scn_of}
@@ -35,6 +35,14 @@ module _ (p : Page) (h : is_header p ≡ true) where
       second true true c d k = refl
       second true false c d k = absurd (true≢false (sym k))
       second false b c d k = absurd (true≢false (sym k))
+
+  -- the state is one of the four
+  pub header-state : state_of p ≤ 3
+  header-state = leb-true (state_of p) 3 (first _ _ _ _ (and_parts (is_marked p) _ form).1)
+    where
+      first : (a b c d : Bool) → (a && b && c && d) ≡ true → a ≡ true
+      first true b c d k = refl
+      first false b c d k = absurd (true≢false (sym k))
 
   -- the first byte is the kind
   pub header-kind : number_in 0 1 p ≡ 1

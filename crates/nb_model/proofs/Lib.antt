@@ -47,5 +47,6 @@ pub mod MixtureLaws
 pub mod EarlierLaws
 pub mod EntryLaws
 pub mod StalledLaws
+pub mod OverLaws
 pub mod LineageLaws
 pub mod WellTrailLaws
