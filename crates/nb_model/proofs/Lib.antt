@@ -50,3 +50,4 @@ pub mod StalledLaws
 pub mod OverLaws
 pub mod LineageLaws
 pub mod WellTrailLaws
+pub mod OpenedLaws

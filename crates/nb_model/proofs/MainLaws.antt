@@ -59,7 +59,7 @@ laid-wide image bytes laid = (size_facts (image_size image) laid.size).at_least
 times-one : (n size : ℕ) → 0 < size → n ≤ n * size
 times-one n size h = let low : n * 1 ≤ n * size = mul-le-mul_left n h in omega (arith, low)
 
-image_in-is : (bytes : List ℕ) (size : ℕ) (ps : List Page) → size_of bytes ≡ size → bytes ≡ joined ps → IsOfSize size ps → 0 < size → image_in bytes ≡ trimmed ps
+pub image_in-is : (bytes : List ℕ) (size : ℕ) (ps : List Page) → size_of bytes ≡ size → bytes ≡ joined ps → IsOfSize size ps → 0 < size → image_in bytes ≡ trimmed ps
 unfolding image_in
 image_in-is bytes size ps same is sizes some =
     let long : length bytes ≡ length ps * size = ap length is ∙ length-joined size ps sizes in

@@ -1,0 +1,145 @@
+-- A database that files stand for is well in its state, and settled it is a well trail.
+use Rattle.std.proofs.Common.{◌≡◌, inl, inr, ℕ, zero, suc, ◌+◌, ◌-◌, ◌*◌, ◌%◌, ◌<◌, ◌≤◌, List, [], ◌∷◌, ◌++◌, length, take, replicate, refl, sym, ap, subst, ◌∙◌, arith, length-append, add-mul, le_of_mul-le-mul_right}
+use Rattle.std.specs.Prelude.{true, false, ◌&&◌, ◌==◌, Some, None, Ok, IsTrue}
+use Rattle.std.proofs.lemmas.Bool.{and_parts, and_from}
+use Rattle.std.proofs.lemmas.List.{take-append-le, length-replicate}
+use Rattle.std.proofs.Math.Nat.{mul-mod_left}
+use Rattle.nb_fields.specs.Bytes.{part, is_zeros}
+use Rattle.nb_fields.specs.Header.{is_header, state_of, size_of, guid_of}
+use Rattle.nb_fields.proofs.PartLemmas.{part-take}
+use Rattle.nb_fields.proofs.SizeLemmas.{size_facts}
+use Rattle.nb_host.specs.Files.{File, Files}
+use Rattle.nb_host.specs.Names.{is_delta}
+use Rattle.nb_model.specs.Image.{Page, Image, first_page, image_size, image_state, image_scn, image_guid, image_in, trimmed}
+use Rattle.nb_model.specs.Account.{Kept, Base, base_of, IsBase, Account}
+use Rattle.nb_model.specs.Causes.{not_database}
+use Rattle.nb_model.specs.Levels.{joined}
+use Rattle.nb_model.specs.Owner.{delta_name, owned, diverted_base, owner}
+use Rattle.nb_model.specs.Main.{HoldsMain}
+use Rattle.nb_model.specs.Sound.{IsSoundImage}
+use Rattle.nb_model.specs.Stands.{to_base, to_record, IsKeptAs, IsCopyOf, IsBegun, HasOldEntries, Stands}
+use Rattle.nb_model.specs.Trail.{Trail, settled, StandsOn}
+use Rattle.nb_model.specs.Well.{IsOfRecord, IsWellBaseIn}
+use Rattle.nb_model.specs.WellTrail.{IsOverFrozen, IsWellTrail}
+use Rattle.nb_model.proofs.FormLaws.{Formed, formed}
+use Rattle.nb_model.proofs.FrontLaws.{owner_of_entry}
+use Rattle.nb_model.proofs.HeadSound.{all_zeros}
+use Rattle.nb_model.proofs.HeaderLaws.{header-long, header-size, same-header, same-number}
+use Rattle.nb_model.proofs.ImageLaws.{AreZeros, joined-append, length-joined, joined-zeros, zeros-are, trimmed-no_zeros, trimmed-append_zeros, all-append, all-replicate}
+use Rattle.nb_model.proofs.MainLaws.{IsLaid, laid, laid-front, some_page, image_in-is, main_facts, owned-front, owned-first, diverted-image, IsDiverted, owner_cases, base_told}
+use Rattle.nb_model.proofs.OverLaws.{owner_over}
+use Rattle.nb_model.proofs.WellTrailLaws.{settled_well, left_well}
+
+-- zeros behind zeros
+zeros_join : (xs ys : List ℕ) → is_zeros xs ≡ true → is_zeros ys ≡ true → is_zeros (xs ++ ys) ≡ true
+zeros_join [] ys h k = k
+zeros_join (x ∷ xs) ys h k = let parts = and_parts (x == 0) (is_zeros xs) h in and_from (x == 0) (is_zeros (xs ++ ys)) parts.0 (zeros_join xs ys parts.1 k)
+
+pages_zeros : (zs : List Page) → AreZeros zs → is_zeros (joined zs) ≡ true
+pages_zeros [] h = refl
+pages_zeros (z ∷ zs) h = zeros_join z (joined zs) h.0 (pages_zeros zs h.1)
+
+-- the first 64 bytes of pages that are joined
+joined_front : (image : Image) (rest : List Page) → is_header (first_page image) ≡ true → take 64 (joined (image ++ rest)) ≡ take 64 (first_page image)
+joined_front [] rest header = absurd (let some = some_page [] header in omega arith)
+joined_front (p ∷ ps) rest header = take-append-le 64 p (joined (ps ++ rest)) (header-long p header)
+
+-- A file that is a copy of a record holds its image.
+pub copy_image : (r : Kept) (bytes : List ℕ) → IsCopyOf r bytes → is_header (first_page r.image) ≡ true → IsSoundImage r.image → not_database bytes ≡ None → image_in bytes ≡ r.image
+copy_image r bytes copy header sound none =
+    let size : ℕ = image_size r.image in
+    let n : ℕ = length (joined copy.zeros) in
+    let form : Formed bytes = formed bytes none in
+    let wide : 1024 ≤ size = (size_facts size (header-size (first_page r.image) header)).at_least in
+    let front : take 64 bytes ≡ take 64 (first_page r.image) = ap (take 64) copy.is ∙ joined_front r.image copy.zeros header in
+    let same : size_of bytes ≡ size = same-number bytes (first_page r.image) front 24 4 (omega arith) in
+    let long : length bytes ≡ length r.image * size + n = ap length (copy.is ∙ joined-append r.image copy.zeros) ∙ length-append (joined r.image) (joined copy.zeros) ∙ ap (λ (k : ℕ). k + n) (length-joined size r.image sound.sizes) in
+    let whole : form.count * size ≡ length r.image * size + n = ap (λ (k : ℕ). form.count * k) (sym same) ∙ sym form.whole ∙ long in
+    let more : length r.image ≤ form.count = le_of_mul-le-mul_right {k = size} (let le : length r.image * size ≤ form.count * size = omega (arith, whole) in le) (omega arith) in
+    let m : ℕ = form.count - length r.image in
+    let count : form.count ≡ length r.image + m = omega (arith, more) in
+    let left : n ≡ m * size = omega (arith, whole, ap (λ (k : ℕ). k * size) count, add-mul (length r.image) m size) in
+    let zeros : List Page = replicate m (replicate {A = ℕ} size 0) in
+    let zeros_is : joined copy.zeros ≡ joined zeros = all_zeros (joined copy.zeros) (pages_zeros copy.zeros copy.are_zeros) ∙ ap (λ (k : ℕ). replicate {A = ℕ} k 0) left ∙ joined-zeros m size in
+    let is : bytes ≡ joined (r.image ++ zeros) = copy.is ∙ joined-append r.image copy.zeros ∙ ap (λ (x : List ℕ). joined r.image ++ x) zeros_is ∙ sym (joined-append r.image zeros) in
+    image_in-is bytes size (r.image ++ zeros) same is
+    (all-append (λ (x : Page). length x ≡ size) r.image zeros sound.sizes (all-replicate (λ (x : Page). length x ≡ size) m (replicate {A = ℕ} size 0) (length-replicate {A = ℕ} size 0))) (omega arith)
+    ∙ trimmed-append_zeros r.image zeros (all-replicate (λ (x : Page). is_zeros x ≡ true) m (replicate {A = ℕ} size 0) (zeros-are size)) ∙ trimmed-no_zeros r.image sound.sound.no_zeros
+
+-- the control block of a database is that of its main file
+diverted_front : (b : Base) (file : File) (is : IsDiverted b file) → take 64 (first_page b.image) ≡ take 64 is.bytes
+diverted_front b file is =
+    let main : Image = image_in is.bytes in
+    let l : IsLaid main is.bytes = laid is.bytes is.formed in
+    let some : 1 ≤ length main = some_page main l.header in
+    let size : ℕ = size_of is.bytes in
+    ap (λ (c : Base). take 64 (first_page c.image)) is.is ∙ ap (λ (x : Image). take 64 (first_page x)) (diverted-image is.bytes is.delta is.table)
+    ∙ ap (take 64) (owned-first size main is.delta is.table some) ∙ owned-front size main is.delta is.table some (header-long (first_page main) l.header) ∙ sym (laid-front main is.bytes l)
+
+-- in the stalled state it is the frozen image
+frozen_main : (b : Base) (file : File) (is : IsDiverted b file) → state_of is.bytes ≡ 1 → b.frozen ≡ image_in is.bytes
+unfolding diverted_base
+frozen_main b file is stalled = ap (λ (c : Base). c.frozen) is.is ∙ ap (λ (n : ℕ). elim (n == 1) as (λ z. Image) [ true ↦ image_in is.bytes | false ↦ [] ]) stalled
+
+module _ (files : Files) (account : Account) (name : List ℕ) (b : Base) (stands : Stands files account) (plain : is_delta name ≡ false) (there : account.entry name ≡ IsBase b) where
+  opens : owner name (files name) (files (delta_name name)) ≡ Ok b
+  opens = owner_of_entry name (files name) (files (delta_name name)) b (sym (stands.same_image name plain) ∙ there)
+
+  sound : IsSoundImage b.image
+  sound = stands.sound_images.images b.image (to_base name b there refl)
+
+  header : is_header (first_page b.image) ≡ true
+  header = elim (owner_cases name b (files name) (files (delta_name name)) opens) [
+    | inl holds ↦ (main_facts b.image (files name) holds).header
+    | inr is ↦ same-header (first_page b.image) is.bytes (diverted_front b (files name) is) ∙ (formed is.bytes is.formed).header
+  ]
+
+  low_state : image_state b.image ≤ 2
+  low_state = elim (owner_cases name b (files name) (files (delta_name name)) opens) [
+    | inl holds ↦ omega (arith, (main_facts b.image (files name) holds).state)
+    | inr is ↦ elim is.other [ inl one ↦ omega (arith, is.state, one) | inr two ↦ omega (arith, is.state, two) ]
+  ]
+
+  -- the main file of a stalled database is a copy of the record that it names
+  of_record : image_state b.image ≡ 1 → IsOfRecord account.kept b
+  of_record stalled = elim (owner_cases name b (files name) (files (delta_name name)) opens) [
+    | inl holds ↦ absurd (omega (arith, stalled, (main_facts b.image (files name) holds).state))
+    | inr is ↦
+        let named = stands.kept_records.stalled name b there stalled in
+        let r : Kept = named.0 in
+        let kept : IsKeptAs account.kept (image_guid b.image) r = named.1 in
+        let form : Formed is.bytes = formed is.bytes is.formed in
+        let front : take 64 (first_page b.image) ≡ take 64 is.bytes = diverted_front b (files name) is in
+        let guid : image_guid b.image ≡ guid_of is.bytes = sym (part-take 64 32 16 (first_page b.image) (omega arith)) ∙ ap (part 32 16) front ∙ part-take 64 32 16 is.bytes (omega arith) in
+        let one : state_of is.bytes ≡ 1 = sym is.state ∙ stalled in
+        let whole : length is.bytes % size_of is.bytes ≡ 0 = ap (λ (n : ℕ). n % size_of is.bytes) form.whole ∙ mul-mod_left form.count (size_of is.bytes) in
+        let copy : IsCopyOf r is.bytes = (stands.kept_records.levels name is.bytes is.there).copy r form.header one whole (subst (λ (g : List ℕ). IsKeptAs account.kept g r) guid kept) in
+        record {
+          backup = r;
+          kept_as = kept;
+          same = frozen_main b (files name) is one
+              ∙ copy_image r is.bytes copy (stands.sound_images.records r kept.there).header (stands.sound_images.images r.image (to_record r kept.there refl)) is.formed;
+        }
+  ]
+
+  -- It is well in its state,
+  pub opened_well_in : image_scn b.image < 4294967296 → IsWellBaseIn account.kept b
+  opened_well_in scn = record {
+    state = low_state;
+    well = record { header = header; scn = scn; state = refl; sound = sound; past = stands.history.images b.image (to_base name b there refl) };
+    normal = base_told name b (files name) (files (delta_name name)) opens;
+    stalled = λ stalled.
+        let of : IsOfRecord account.kept b = of_record stalled in
+        record { raised = stands.frozen_main name b there stalled; old = subst HasOldEntries (sym of.same) (stands.sound_images.records of.backup of.kept_as.there).old };
+    backup = of_record;
+  }
+
+  -- and a trail begins with it.
+  pub opened_trail : image_scn b.image < 4294967296 → IsWellTrail account.kept (settled b)
+  opened_trail scn = settled_well account.kept b (opened_well_in scn) (owner_over name b (files name) (files (delta_name name)) opens sound.sound.no_zeros)
+
+-- So one begins with what a stop left of a well trail.
+pub stood_trail : (kept : List Kept) (name : List ℕ) (t : Trail) (m d : File) → IsWellTrail kept t → (s : StandsOn name t m d) → IsWellTrail kept (settled s.base)
+stood_trail kept name t m d w s =
+    let well : IsWellBaseIn kept s.base = left_well kept t s.base w s.left in
+    settled_well kept s.base well (owner_over name s.base m d s.opens well.well.sound.sound.no_zeros)
