@@ -1,6 +1,6 @@
 -- A database that files stand for is well in its state, and settled it is a well trail.
-use Rattle.std.proofs.Common.{◌≡◌, inl, inr, ℕ, zero, suc, ◌+◌, ◌-◌, ◌*◌, ◌%◌, ◌<◌, ◌≤◌, List, [], ◌∷◌, ◌++◌, length, take, replicate, refl, sym, ap, subst, ◌∙◌, arith, length-append, add-mul, le_of_mul-le-mul_right}
-use Rattle.std.specs.Prelude.{true, false, ◌&&◌, ◌==◌, Some, None, Ok, IsTrue}
+use Rattle.std.proofs.Common.{◌≡◌, inl, inr, ℕ, ◌+◌, ◌-◌, ◌*◌, ◌%◌, ◌<◌, ◌≤◌, List, [], ◌∷◌, ◌++◌, length, take, replicate, refl, sym, ap, subst, ◌∙◌, arith, length-append, add-mul, le_of_mul-le-mul_right}
+use Rattle.std.specs.Prelude.{true, false, ◌==◌, None, Ok}
 use Rattle.std.proofs.lemmas.Bool.{and_parts, and_from}
 use Rattle.std.proofs.lemmas.List.{take-append-le, length-replicate}
 use Rattle.std.proofs.Math.Nat.{mul-mod_left}
@@ -10,17 +10,16 @@ use Rattle.nb_fields.proofs.PartLemmas.{part-take}
 use Rattle.nb_fields.proofs.SizeLemmas.{size_facts}
 use Rattle.nb_host.specs.Files.{File, Files}
 use Rattle.nb_host.specs.Names.{is_delta}
-use Rattle.nb_model.specs.Image.{Page, Image, first_page, image_size, image_state, image_scn, image_guid, image_in, trimmed}
-use Rattle.nb_model.specs.Account.{Kept, Base, base_of, IsBase, Account}
+use Rattle.nb_model.specs.Image.{Page, Image, first_page, image_size, image_state, image_scn, image_guid, image_in}
+use Rattle.nb_model.specs.Account.{Kept, Base, IsBase, Account}
 use Rattle.nb_model.specs.Causes.{not_database}
 use Rattle.nb_model.specs.Levels.{joined}
-use Rattle.nb_model.specs.Owner.{delta_name, owned, diverted_base, owner}
-use Rattle.nb_model.specs.Main.{HoldsMain}
+use Rattle.nb_model.specs.Owner.{delta_name, diverted_base, owner}
 use Rattle.nb_model.specs.Sound.{IsSoundImage}
-use Rattle.nb_model.specs.Stands.{to_base, to_record, IsKeptAs, IsCopyOf, IsBegun, HasOldEntries, Stands}
+use Rattle.nb_model.specs.Stands.{to_base, to_record, IsKeptAs, IsCopyOf, HasOldEntries, Stands}
 use Rattle.nb_model.specs.Trail.{Trail, settled, StandsOn}
 use Rattle.nb_model.specs.Well.{IsOfRecord, IsWellBaseIn}
-use Rattle.nb_model.specs.WellTrail.{IsOverFrozen, IsWellTrail}
+use Rattle.nb_model.specs.WellTrail.{IsWellTrail}
 use Rattle.nb_model.proofs.FormLaws.{Formed, formed}
 use Rattle.nb_model.proofs.FrontLaws.{owner_of_entry}
 use Rattle.nb_model.proofs.HeadSound.{all_zeros}

@@ -1,5 +1,5 @@
 -- What two files give in the stalled state: what isn't diverted is the frozen image's.
-use Rattle.std.proofs.Common.{◌≡◌, inl, inr, ℕ, zero, suc, ◌+◌, ◌<◌, ◌≤◌, List, [], ◌∷◌, length, replicate, take, refl, sym, ap, subst, ◌∙◌, arith}
+use Rattle.std.proofs.Common.{◌≡◌, inl, inr, ℕ, zero, suc, ◌+◌, ◌<◌, List, [], length, take, refl, sym, ap, subst, ◌∙◌, arith}
 use Rattle.std.specs.Prelude.{true, false, ◌==◌, Option, Some, None, Ok, max}
 use Rattle.std.proofs.lemmas.Bool.{true≢false}
 use Rattle.std.proofs.lemmas.Bool.Decides.{leb_tells}
@@ -13,7 +13,7 @@ use Rattle.nb_model.specs.Sound.{HasNoZeros}
 use Rattle.nb_model.specs.WellTrail.{IsOverFrozen}
 use Rattle.nb_model.proofs.HeaderLaws.{header-long}
 use Rattle.nb_model.proofs.ImageLaws.{zeros-are}
-use Rattle.nb_model.proofs.MainLaws.{IsLaid, laid, some_page, owned-front, owned-first, diverted-image, IsDiverted, owner_cases, main_state}
+use Rattle.nb_model.proofs.MainLaws.{IsLaid, laid, some_page, owned-front, owned-first, diverted-image, owner_cases, main_state}
 use Rattle.nb_model.proofs.OwnerLaws.{main_here, main_past, named}
 use Rattle.nb_model.proofs.SoundLaws.{all_at}
 

@@ -12,7 +12,7 @@ use Rattle.nb_model.specs.Sound.{IsSoundImage, HasHeader}
 use Rattle.nb_model.specs.Stands.{IsKeptAs, GoesOn, HasRows, NamesPast}
 use Rattle.nb_model.specs.Trail.{Trail, settled, images_of, after_stroke, after_strokes, IsLeft}
 use Rattle.nb_model.specs.Earlier.{IsEarlier}
-use Rattle.nb_model.specs.Well.{IsOfRecord, IsWellBaseIn, is_on_pages}
+use Rattle.nb_model.specs.Well.{IsWellIn, IsWellBase, IsOfRecord, IsWellBaseIn, is_on_pages}
 use Rattle.nb_model.specs.WellTrail.{IsOverFrozen, AllGoOn, IsWellTrail}
 use Rattle.nb_model.proofs.FitLaws.{IsWhole, IsFitting, AreFitting}
 use Rattle.nb_model.proofs.SoundLaws.{FitsAt, header_stays, fields_stay, state_stays, guid_stays, page_sound}
@@ -78,7 +78,7 @@ settled_well kept b w over = record {
   over = over;
   sound = settled_sound b (base_whole kept b w).fields.size w.well.sound;
   past = λ image has. subst (NamesPast kept (AllGoOn (settled b))) (last_one b.image image has)
-  (past_with kept (λ r. GoesOn r b.image) (AllGoOn (settled b)) (λ r on m here. subst (GoesOn r) (last_one b.image m here) on) b.image w.well.past);
+      (past_with kept (λ r. GoesOn r b.image) (AllGoOn (settled b)) (λ r on m here. subst (GoesOn r) (last_one b.image m here) on) b.image w.well.past);
 }
 
 -- A page is written that fits, and whose rows of the history name backups from which all images go on.
@@ -158,7 +158,7 @@ module _ (kept : List Kept) (t : Trail) (p : ℕ) (bytes : Page) (w : IsWellTrai
   stroke_well = record {
     base = subst (IsWellBaseIn kept) base_is base_well;
     over = subst (λ (b : Base). image_state b.image ≡ 1 → IsOverFrozen b) base_is
-    (λ stalled. let one : image_state now ≡ 1 = sym state ∙ stalled in stroke_over t.base p bytes whole one (w.base.stalled one) (w.over one) fits);
+        (λ stalled. let one : image_state now ≡ 1 = sym state ∙ stalled in stroke_over t.base p bytes whole one (w.base.stalled one) (w.over one) fits);
     sound = trail_goes_on (page p bytes) t w.sound (subst (IsEarlier now) (sym image_is) (write_goes_on p page_now now fits.there fits.head fits.no_lower)) sound;
     past = images_after (NamesPast kept (AllGoOn later)) (page p bytes) t (λ m here. past_with kept (AllGoOn t) (AllGoOn later) go_on m (w.past m here)) past_now;
   }
@@ -186,3 +186,18 @@ pages_keep_trail kept statement on s session t is w =
 -- and where all is kept for good the trail is well too.
 pub settling_well : (kept : List Kept) (t : Trail) → IsWellTrail kept t → IsWellTrail kept (settled t.base)
 settling_well kept t w = settled_well kept t.base w.base w.over
+
+-- In the normal state a well database is one that its image tells whole.
+pub normal_well : (kept : List Kept) (b : Base) → IsWellBaseIn kept b → image_state b.image ≡ 0 → IsWellBase kept b
+normal_well kept b w normal = record { told = w.normal normal; well = subst (λ (n : ℕ). IsWellIn kept n b.image) normal w.well }
+
+pub well_normal : (kept : List Kept) (b : Base) → IsWellBase kept b → IsWellBaseIn kept b
+well_normal kept b w =
+    let normal : image_state b.image ≡ 0 = w.well.state in
+    record {
+      state = omega arith;
+      well = subst (λ (n : ℕ). IsWellIn kept n b.image) (sym normal) w.well;
+      normal = λ again. w.told;
+      stalled = λ stalled. absurd (omega arith);
+      backup = λ stalled. absurd (omega arith);
+    }
