@@ -1,6 +1,6 @@
--- A database that files stand for is well in its state, and settled it is a well trail.
-use Rattle.std.proofs.Common.{◌≡◌, inl, inr, ℕ, ◌+◌, ◌-◌, ◌*◌, ◌%◌, ◌<◌, ◌≤◌, List, [], ◌∷◌, ◌++◌, length, take, replicate, refl, sym, ap, subst, ◌∙◌, arith, length-append, add-mul, le_of_mul-le-mul_right}
-use Rattle.std.specs.Prelude.{true, false, ◌==◌, None, Ok}
+-- A database that files stand for is well in its state, and settled it is a well trail; and files stand for a well database.
+use Rattle.std.proofs.Common.{◌≡◌, ◌≢◌, inl, inr, ℕ, ◌+◌, ◌-◌, ◌*◌, ◌%◌, ◌<◌, ◌≤◌, List, [], ◌∷◌, ◌++◌, length, take, replicate, refl, sym, ap, subst, ◌∙◌, arith, length-append, add-mul, le_of_mul-le-mul_right}
+use Rattle.std.specs.Prelude.{true, false, ◌==◌, Some, None, Ok, Contains}
 use Rattle.std.proofs.lemmas.Bool.{and_parts, and_from}
 use Rattle.std.proofs.lemmas.List.{take-append-le, length-replicate}
 use Rattle.std.proofs.Math.Nat.{mul-mod_left}
@@ -11,12 +11,12 @@ use Rattle.nb_fields.proofs.SizeLemmas.{size_facts}
 use Rattle.nb_host.specs.Files.{File, Files}
 use Rattle.nb_host.specs.Names.{is_delta}
 use Rattle.nb_model.specs.Image.{Page, Image, first_page, image_size, image_state, image_scn, image_guid, image_in}
-use Rattle.nb_model.specs.Account.{Kept, Base, IsBase, Account}
+use Rattle.nb_model.specs.Account.{Kept, Base, IsBase, Account, with_entry}
 use Rattle.nb_model.specs.Causes.{not_database}
 use Rattle.nb_model.specs.Levels.{joined}
 use Rattle.nb_model.specs.Owner.{delta_name, diverted_base, owner}
 use Rattle.nb_model.specs.Sound.{IsSoundImage}
-use Rattle.nb_model.specs.Stands.{to_base, to_record, IsKeptAs, IsCopyOf, HasOldEntries, Stands}
+use Rattle.nb_model.specs.Stands.{to_base, to_record, IsKeptAs, IsRaised, IsCopyOf, HoldsItsRecord, HasOldEntries, NamesItsPast, Stands}
 use Rattle.nb_model.specs.Trail.{Trail, settled, StandsOn}
 use Rattle.nb_model.specs.Well.{IsOfRecord, IsWellBaseIn}
 use Rattle.nb_model.specs.WellTrail.{IsWellTrail}
@@ -27,6 +27,7 @@ use Rattle.nb_model.proofs.HeaderLaws.{header-long, header-size, same-header, sa
 use Rattle.nb_model.proofs.ImageLaws.{AreZeros, joined-append, length-joined, joined-zeros, zeros-are, trimmed-no_zeros, trimmed-append_zeros, all-append, all-replicate}
 use Rattle.nb_model.proofs.MainLaws.{IsLaid, laid, laid-front, some_page, image_in-is, main_facts, owned-front, owned-first, diverted-image, IsDiverted, owner_cases, base_told}
 use Rattle.nb_model.proofs.OverLaws.{owner_over}
+use Rattle.nb_model.proofs.StandsLaws.{header_no_level, applying_state, opened_entry, StandsUnder, StandsBeside, stands_with_both}
 use Rattle.nb_model.proofs.WellTrailLaws.{settled_well, left_well}
 
 -- zeros behind zeros
@@ -65,7 +66,15 @@ copy_image r bytes copy header sound none =
     (all-append (λ (x : Page). length x ≡ size) r.image zeros sound.sizes (all-replicate (λ (x : Page). length x ≡ size) m (replicate {A = ℕ} size 0) (length-replicate {A = ℕ} size 0))) (omega arith)
     ∙ trimmed-append_zeros r.image zeros (all-replicate (λ (x : Page). is_zeros x ≡ true) m (replicate {A = ℕ} size 0) (zeros-are size)) ∙ trimmed-no_zeros r.image sound.sound.no_zeros
 
--- the control block of a database is that of its main file
+-- The main file of a database that is opened: it has the database's control block, and in the stalled state the frozen image.
+record HasMain (b : Base) (file : File) : Type 0 where
+  bytes : List ℕ
+  there : file ≡ Some bytes
+  formed : not_database bytes ≡ None
+  front : take 64 (first_page b.image) ≡ take 64 bytes
+  state : state_of bytes ≤ 2
+  frozen : state_of bytes ≡ 1 → b.frozen ≡ image_in bytes
+
 diverted_front : (b : Base) (file : File) (is : IsDiverted b file) → take 64 (first_page b.image) ≡ take 64 is.bytes
 diverted_front b file is =
     let main : Image = image_in is.bytes in
@@ -75,10 +84,43 @@ diverted_front b file is =
     ap (λ (c : Base). take 64 (first_page c.image)) is.is ∙ ap (λ (x : Image). take 64 (first_page x)) (diverted-image is.bytes is.delta is.table)
     ∙ ap (take 64) (owned-first size main is.delta is.table some) ∙ owned-front size main is.delta is.table some (header-long (first_page main) l.header) ∙ sym (laid-front main is.bytes l)
 
--- in the stalled state it is the frozen image
-frozen_main : (b : Base) (file : File) (is : IsDiverted b file) → state_of is.bytes ≡ 1 → b.frozen ≡ image_in is.bytes
+diverted_frozen : (b : Base) (file : File) (is : IsDiverted b file) → state_of is.bytes ≡ 1 → b.frozen ≡ image_in is.bytes
 unfolding diverted_base
-frozen_main b file is stalled = ap (λ (c : Base). c.frozen) is.is ∙ ap (λ (n : ℕ). elim (n == 1) as (λ z. Image) [ true ↦ image_in is.bytes | false ↦ [] ]) stalled
+diverted_frozen b file is stalled = ap (λ (c : Base). c.frozen) is.is ∙ ap (λ (n : ℕ). elim (n == 1) as (λ z. Image) [ true ↦ image_in is.bytes | false ↦ [] ]) stalled
+
+has_main : (name : List ℕ) (b : Base) (m d : File) → owner name m d ≡ Ok b → HasMain b m
+has_main name b m d opens = elim (owner_cases name b m d opens) [
+  | inl holds ↦ record {
+    bytes = holds.bytes;
+    there = holds.there;
+    formed = holds.formed;
+    front = sym (main_facts b.image m holds).front;
+    state = omega (arith, holds.normal);
+    frozen = λ stalled. absurd (omega (arith, stalled, holds.normal));
+  }
+  | inr is ↦ record {
+    bytes = is.bytes;
+    there = is.there;
+    formed = is.formed;
+    front = diverted_front b m is;
+    state = elim is.other [ inl one ↦ omega (arith, one) | inr two ↦ omega (arith, two) ];
+    frozen = diverted_frozen b m is;
+  }
+]
+
+-- what the control block tells of both
+module _ (b : Base) (file : File) (main : HasMain b file) where
+  main_form : Formed main.bytes
+  main_form = formed main.bytes main.formed
+
+  main_header : is_header (first_page b.image) ≡ true
+  main_header = same-header (first_page b.image) main.bytes main.front ∙ main_form.header
+
+  same_state : image_state b.image ≡ state_of main.bytes
+  same_state = same-number (first_page b.image) main.bytes main.front 22 2 (omega arith)
+
+  same_guid : image_guid b.image ≡ guid_of main.bytes
+  same_guid = sym (part-take 64 32 16 (first_page b.image) (omega arith)) ∙ ap (part 32 16) main.front ∙ part-take 64 32 16 main.bytes (omega arith)
 
 module _ (files : Files) (account : Account) (name : List ℕ) (b : Base) (stands : Stands files account) (plain : is_delta name ≡ false) (there : account.entry name ≡ IsBase b) where
   opens : owner name (files name) (files (delta_name name)) ≡ Ok b
@@ -87,45 +129,33 @@ module _ (files : Files) (account : Account) (name : List ℕ) (b : Base) (stand
   sound : IsSoundImage b.image
   sound = stands.sound_images.images b.image (to_base name b there refl)
 
-  header : is_header (first_page b.image) ≡ true
-  header = elim (owner_cases name b (files name) (files (delta_name name)) opens) [
-    | inl holds ↦ (main_facts b.image (files name) holds).header
-    | inr is ↦ same-header (first_page b.image) is.bytes (diverted_front b (files name) is) ∙ (formed is.bytes is.formed).header
-  ]
+  main : HasMain b (files name)
+  main = has_main name b (files name) (files (delta_name name)) opens
 
-  low_state : image_state b.image ≤ 2
-  low_state = elim (owner_cases name b (files name) (files (delta_name name)) opens) [
-    | inl holds ↦ omega (arith, (main_facts b.image (files name) holds).state)
-    | inr is ↦ elim is.other [ inl one ↦ omega (arith, is.state, one) | inr two ↦ omega (arith, is.state, two) ]
-  ]
+  state : image_state b.image ≡ state_of main.bytes
+  state = same_state b (files name) main
 
   -- the main file of a stalled database is a copy of the record that it names
   of_record : image_state b.image ≡ 1 → IsOfRecord account.kept b
-  of_record stalled = elim (owner_cases name b (files name) (files (delta_name name)) opens) [
-    | inl holds ↦ absurd (omega (arith, stalled, (main_facts b.image (files name) holds).state))
-    | inr is ↦
-        let named = stands.kept_records.stalled name b there stalled in
-        let r : Kept = named.0 in
-        let kept : IsKeptAs account.kept (image_guid b.image) r = named.1 in
-        let form : Formed is.bytes = formed is.bytes is.formed in
-        let front : take 64 (first_page b.image) ≡ take 64 is.bytes = diverted_front b (files name) is in
-        let guid : image_guid b.image ≡ guid_of is.bytes = sym (part-take 64 32 16 (first_page b.image) (omega arith)) ∙ ap (part 32 16) front ∙ part-take 64 32 16 is.bytes (omega arith) in
-        let one : state_of is.bytes ≡ 1 = sym is.state ∙ stalled in
-        let whole : length is.bytes % size_of is.bytes ≡ 0 = ap (λ (n : ℕ). n % size_of is.bytes) form.whole ∙ mul-mod_left form.count (size_of is.bytes) in
-        let copy : IsCopyOf r is.bytes = (stands.kept_records.levels name is.bytes is.there).copy r form.header one whole (subst (λ (g : List ℕ). IsKeptAs account.kept g r) guid kept) in
-        record {
-          backup = r;
-          kept_as = kept;
-          same = frozen_main b (files name) is one
-              ∙ copy_image r is.bytes copy (stands.sound_images.records r kept.there).header (stands.sound_images.images r.image (to_record r kept.there refl)) is.formed;
-        }
-  ]
+  of_record stalled =
+      let named = stands.kept_records.stalled name b there stalled in
+      let r : Kept = named.0 in
+      let kept : IsKeptAs account.kept (image_guid b.image) r = named.1 in
+      let form : Formed main.bytes = main_form b (files name) main in
+      let one : state_of main.bytes ≡ 1 = sym state ∙ stalled in
+      let whole : length main.bytes % size_of main.bytes ≡ 0 = ap (λ (n : ℕ). n % size_of main.bytes) form.whole ∙ mul-mod_left form.count (size_of main.bytes) in
+      let copy : IsCopyOf r main.bytes = (stands.kept_records.levels name main.bytes main.there).copy r form.header one whole (subst (λ (g : List ℕ). IsKeptAs account.kept g r) (same_guid b (files name) main) kept) in
+      record {
+        backup = r;
+        kept_as = kept;
+        same = main.frozen one ∙ copy_image r main.bytes copy (stands.sound_images.records r kept.there).header (stands.sound_images.images r.image (to_record r kept.there refl)) main.formed;
+      }
 
   -- It is well in its state,
   pub opened_well_in : image_scn b.image < 4294967296 → IsWellBaseIn account.kept b
   opened_well_in scn = record {
-    state = low_state;
-    well = record { header = header; scn = scn; state = refl; sound = sound; past = stands.history.images b.image (to_base name b there refl) };
+    state = omega (arith, state, main.state);
+    well = record { header = main_header b (files name) main; scn = scn; state = refl; sound = sound; past = stands.history.images b.image (to_base name b there refl) };
     normal = base_told name b (files name) (files (delta_name name)) opens;
     stalled = λ stalled.
         let of : IsOfRecord account.kept b = of_record stalled in
@@ -142,3 +172,61 @@ pub stood_trail : (kept : List Kept) (name : List ℕ) (t : Trail) (m d : File) 
 stood_trail kept name t m d w s =
     let well : IsWellBaseIn kept s.base = left_well kept t s.base w s.left in
     settled_well kept s.base well (owner_over name s.base m d s.opens well.well.sound.sound.no_zeros)
+
+-- What is asked of the main file of a well database, in whatever state.
+module _ (files : Files) (kept : List Kept) (name : List ℕ) (b : Base) (opens : owner name (files name) (files (delta_name name)) ≡ Ok b) (w : IsWellBaseIn kept b)
+    (distinct : (r q : Kept) → Contains kept r → Contains kept q → r.guid ≡ q.guid → r ≡ q) where
+  its_main : HasMain b (files name)
+  its_main = has_main name b (files name) (files (delta_name name)) opens
+
+  its_form : Formed its_main.bytes
+  its_form = main_form b (files name) its_main
+
+  its_state : image_state b.image ≡ state_of its_main.bytes
+  its_state = same_state b (files name) its_main
+
+  its_bytes : (bytes : List ℕ) → files name ≡ Some bytes → its_main.bytes ≡ bytes
+  its_bytes bytes there = some_same (sym its_main.there ∙ there)
+    where
+      some_same : Some its_main.bytes ≡ Some bytes → its_main.bytes ≡ bytes
+      some_same h = cc
+
+  its_base : (c : Base) → IsBase b ≡ IsBase c → b ≡ c
+  its_base c e = cc
+
+  -- it is a copy of the record that it names
+  its_copy : (r : Kept) → state_of its_main.bytes ≡ 1 → IsKeptAs kept (guid_of its_main.bytes) r → IsCopyOf r its_main.bytes
+  its_copy r one named =
+      let of : IsOfRecord kept b = w.backup (its_state ∙ one) in
+      let l : IsLaid (image_in its_main.bytes) its_main.bytes = laid its_main.bytes its_main.formed in
+      let same : of.backup ≡ r = distinct of.backup r of.kept_as.there named.there (of.kept_as.named ∙ same_guid b (files name) its_main ∙ sym named.named) in
+      let image : image_in its_main.bytes ≡ r.image = sym (its_main.frozen one) ∙ of.same ∙ ap (λ (q : Kept). q.image) same in
+      record { zeros = l.rest; are_zeros = l.zeros; is = l.is ∙ ap (λ (x : Image). joined (x ++ l.rest)) image }
+
+  its_record : HoldsItsRecord kept its_main.bytes
+  its_record = record {
+    level = λ c r reads named. absurd (header_no_level its_main.bytes c its_form.header reads);
+    copy = λ r header one whole named. its_copy r one named;
+  }
+
+  well_under : StandsUnder files kept name (IsBase b)
+  well_under = record {
+    same = sym (opened_entry name (files name) (files (delta_name name)) its_main.bytes b its_main.there opens);
+    frozen = λ c e. subst (λ (x : Base). image_state x.image ≡ 1 → IsRaised x.image x.diverted) (its_base c e) (λ stalled. (w.stalled stalled).raised);
+    sound = λ c e. subst (λ (x : Base). IsSoundImage x.image) (its_base c e) w.well.sound;
+    stalled = λ c e. subst (λ (x : Base). image_state x.image ≡ 1 → (r : Kept) × IsKeptAs kept (image_guid x.image) r) (its_base c e) (λ stalled. let of : IsOfRecord kept b = w.backup stalled in (of.backup, of.kept_as));
+    past = λ c e. subst (λ (x : Base). NamesItsPast kept x.image) (its_base c e) w.well.past;
+    holds = λ bytes there. subst (HoldsItsRecord kept) (its_bytes bytes there) its_record;
+    no_stray = λ beside. inl (b, refl);
+    standby = λ bytes r there applying named.
+        let three : state_of its_main.bytes ≡ 3 = ap state_of (its_bytes bytes there) ∙ applying_state bytes applying in
+        absurd (omega (arith, three, its_main.state));
+  }
+
+-- So the files go on to stand for an account with a well database that they hold, in whatever state.
+pub stands_with_well_in : (old new : Files) (account : Account) (name : List ℕ) (b : Base)
+    → Stands old account → is_delta name ≡ false → ((m : List ℕ) → m ≢ name → m ≢ delta_name name → new m ≡ old m)
+    → owner name (new name) (new (delta_name name)) ≡ Ok b → IsWellBaseIn account.kept b → StandsBeside new account name
+    → Stands new (with_entry name (IsBase b) account)
+stands_with_well_in old new account name b stands plain others opens w along =
+    stands_with_both old new account name (IsBase b) stands plain others (well_under new account.kept name b opens w stands.kept_records.distinct) along
