@@ -44,6 +44,7 @@ pub mod FrontLaws
 pub mod TrailLaws
 pub mod FitLaws
 pub mod MixtureLaws
+pub mod MixtureWrites
 pub mod EarlierLaws
 pub mod EntryLaws
 pub mod StalledLaws

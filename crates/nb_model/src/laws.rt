@@ -188,6 +188,15 @@ pub fn mixtures_are_pagewise()
     ensures lineage { (images : List Image) (s : ℕ) (now image : Image) → IsMixture images now image → Contains images now → s < stamp_of (first_page now) → IsMixed images s image }
 {}
 
+/// Whether a page write is kept or lost, a mixture of the images before is one with the image behind it. A write may be lost
+/// where it makes the database no longer and its page is one that may wait.
+pub fn mixtures_go_on()
+    ensures put { (images : List Image) (now image : Image) (p : ℕ) (page : Page) → IsMixture images now image → p ≤ length now → (p ≡ 0 → take 64 page ≡ take 64 (first_page now))
+        → IsMixture (images ++ with_page p page now ∷ []) (with_page p page now) (with_page p page image) }
+    ensures lost { (images : List Image) (now image : Image) (p : ℕ) (page : Page) → IsMixture images now image → p < length now → (p ≡ 0 → take 64 page ≡ take 64 (first_page now))
+        → is_kept_place (image_size now) p ≡ false → IsMixture (images ++ with_page p page now ∷ []) (with_page p page now) image }
+{}
+
 /// A mixture goes on from each backup from which all of its images go on.
 pub fn mixtures_keep_lineage()
     ensures { (images : List Image) (now image : Image) (r : Kept) → IsMixture images now image → Contains images now → IsSoundImage now
