@@ -17,7 +17,7 @@ use Rattle.nb_model.specs.Levels.{joined}
 use Rattle.nb_model.specs.Owner.{delta_name, diverted_base, owner}
 use Rattle.nb_model.specs.Sound.{IsSoundImage}
 use Rattle.nb_model.specs.Stands.{to_base, to_record, IsKeptAs, IsRaised, IsCopyOf, HoldsItsRecord, HasOldEntries, NamesItsPast, Stands}
-use Rattle.nb_model.specs.Trail.{Trail, settled, StandsOn}
+use Rattle.nb_model.specs.Trail.{Trail, settled, StandsOn, StandsIn}
 use Rattle.nb_model.specs.Well.{IsOfRecord, IsWellBaseIn}
 use Rattle.nb_model.specs.WellTrail.{IsWellTrail}
 use Rattle.nb_model.proofs.FormLaws.{Formed, formed}
@@ -230,3 +230,11 @@ pub stands_with_well_in : (old new : Files) (account : Account) (name : List ℕ
     → Stands new (with_entry name (IsBase b) account)
 stands_with_well_in old new account name b stands plain others opens w along =
     stands_with_both old new account name (IsBase b) stands plain others (well_under new account.kept name b opens w stands.kept_records.distinct) along
+
+-- So do they where a stop left them of a well trail.
+pub stood_stands : (old new : Files) (account : Account) (name : List ℕ) (t : Trail)
+    → Stands old account → is_delta name ≡ false → ((m : List ℕ) → m ≢ name → m ≢ delta_name name → new m ≡ old m)
+    → IsWellTrail account.kept t → (s : StandsIn name t new) → StandsBeside new account name
+    → Stands new (with_entry name (IsBase s.base) account)
+stood_stands old new account name t stands plain others w s along =
+    stands_with_well_in old new account name s.base stands plain others s.opens (left_well account.kept t s.base w s.left) along
