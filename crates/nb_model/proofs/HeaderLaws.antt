@@ -24,7 +24,7 @@ module _ (p : Page) (h : is_header p ≡ true) where
   pub header-long : 64 ≤ length p
   header-long = elim (leb_tells (suc (length p)) 64) [ inl w ↦ absurd (true≢false (sym h ∙ is_header-short p w.1)) | inr w ↦ omega (arith, w.1) ]
 
-  form : (is_marked p && is_sound (state_of p) (size_of p) (scn_of p)) ≡ true
+  pub form : (is_marked p && is_sound (state_of p) (size_of p) (scn_of p)) ≡ true
   form = sym (is_header-long p header-long) ∙ h
 
   -- the page size is one of the six

@@ -52,3 +52,5 @@ pub mod OverLaws
 pub mod LineageLaws
 pub mod WellTrailLaws
 pub mod OpenedLaws
+pub mod ControlLaws
+pub mod ControlSound

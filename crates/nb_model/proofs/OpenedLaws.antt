@@ -74,6 +74,7 @@ record HasMain (b : Base) (file : File) : Type 0 where
   front : take 64 (first_page b.image) ≡ take 64 bytes
   state : state_of bytes ≤ 2
   frozen : state_of bytes ≡ 1 → b.frozen ≡ image_in bytes
+  merge : state_of bytes ≡ 2 → b.frozen ≡ []
 
 diverted_front : (b : Base) (file : File) (is : IsDiverted b file) → take 64 (first_page b.image) ≡ take 64 is.bytes
 diverted_front b file is =
@@ -88,6 +89,10 @@ diverted_frozen : (b : Base) (file : File) (is : IsDiverted b file) → state_of
 unfolding diverted_base
 diverted_frozen b file is stalled = ap (λ (c : Base). c.frozen) is.is ∙ ap (λ (n : ℕ). elim (n == 1) as (λ z. Image) [ true ↦ image_in is.bytes | false ↦ [] ]) stalled
 
+diverted_merge : (b : Base) (file : File) (is : IsDiverted b file) → state_of is.bytes ≡ 2 → b.frozen ≡ []
+unfolding diverted_base
+diverted_merge b file is merge = ap (λ (c : Base). c.frozen) is.is ∙ ap (λ (n : ℕ). elim (n == 1) as (λ z. Image) [ true ↦ image_in is.bytes | false ↦ [] ]) merge
+
 has_main : (name : List ℕ) (b : Base) (m d : File) → owner name m d ≡ Ok b → HasMain b m
 has_main name b m d opens = elim (owner_cases name b m d opens) [
   | inl holds ↦ record {
@@ -97,6 +102,7 @@ has_main name b m d opens = elim (owner_cases name b m d opens) [
     front = sym (main_facts b.image m holds).front;
     state = omega (arith, holds.normal);
     frozen = λ stalled. absurd (omega (arith, stalled, holds.normal));
+    merge = λ merge. absurd (omega (arith, merge, holds.normal));
   }
   | inr is ↦ record {
     bytes = is.bytes;
@@ -105,6 +111,7 @@ has_main name b m d opens = elim (owner_cases name b m d opens) [
     front = diverted_front b m is;
     state = elim is.other [ inl one ↦ omega (arith, one) | inr two ↦ omega (arith, two) ];
     frozen = diverted_frozen b m is;
+    merge = diverted_merge b m is;
   }
 ]
 
@@ -161,6 +168,7 @@ module _ (files : Files) (account : Account) (name : List ℕ) (b : Base) (stand
         let of : IsOfRecord account.kept b = of_record stalled in
         record { raised = stands.frozen_main name b there stalled; old = subst HasOldEntries (sym of.same) (stands.sound_images.records of.backup of.kept_as.there).old };
     backup = of_record;
+    merge = λ merge. main.merge (sym state ∙ merge);
   }
 
   -- and a trail begins with it.

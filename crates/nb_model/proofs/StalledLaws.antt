@@ -21,7 +21,7 @@ use Rattle.nb_model.proofs.PutSound.{scn_page_below}
 use Rattle.nb_model.proofs.MixtureLaws.{has_same, scn_page_same, entry_same, mixed_size, mixed_scn, mixed_entry}
 
 -- page 0 has no entry
-behind_first : (image : Image) (p : ℕ) → has_entry image p ≡ true → 1 ≤ p
+pub behind_first : (image : Image) (p : ℕ) → has_entry image p ≡ true → 1 ≤ p
 unfolding has_entry
 behind_first image zero has = absurd (true≢false (sym has))
 behind_first image (suc p) has = omega arith

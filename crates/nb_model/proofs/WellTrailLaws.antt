@@ -69,6 +69,7 @@ module _ (kept : List Kept) (t : Trail) (b : Base) (w : IsWellTrail kept t) (lef
     normal = left_told;
     stalled = λ stalled. left_stalled t b w.sound.size left (w.base.stalled (sym left_state ∙ stalled));
     backup = λ stalled. of_record kept t.base b left.frozen left_guid (w.base.backup (sym left_state ∙ stalled));
+    merge = λ merge. left.frozen ∙ w.base.merge (sym left_state ∙ merge);
   }
 
 -- A well database, settled, is a well trail.
@@ -152,6 +153,7 @@ module _ (kept : List Kept) (t : Trail) (p : ℕ) (bytes : Page) (w : IsWellTrai
     normal = told;
     stalled = λ stalled. let one : image_state now ≡ 1 = sym state ∙ stalled in stroke_stalled t.base p bytes whole one (w.base.stalled one) (w.over one) fits;
     backup = λ stalled. of_record kept t.base later_base frozen guid (w.base.backup (sym state ∙ stalled));
+    merge = λ merge. frozen ∙ w.base.merge (sym state ∙ merge);
   }
 
   pub stroke_well : IsWellTrail kept (after_stroke (page p bytes) t)
@@ -200,4 +202,5 @@ well_normal kept b w =
       normal = λ again. w.told;
       stalled = λ stalled. absurd (omega arith);
       backup = λ stalled. absurd (omega arith);
+      merge = λ merge. absurd (omega arith);
     }

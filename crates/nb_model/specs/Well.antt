@@ -45,6 +45,7 @@ pub record IsWellBaseIn (kept : List Kept) (b : Base) : Type 0 where
   pub normal : image_state b.image ≡ 0 → b ≡ base_of b.image
   pub stalled : image_state b.image ≡ 1 → IsStalled b
   pub backup : image_state b.image ≡ 1 → IsOfRecord kept b
+  pub merge : image_state b.image ≡ 2 → b.frozen ≡ []
 
 -- After each front of the strokes the database is well, and they keep no record of a backup.
 pub record StaysWell (kept : List Kept) (b : Base) (strokes : List Stroke) : Type 0 where
