@@ -1,18 +1,16 @@
 -- Page 0 with another state, SCN and GUID: what it tells then, and that an image stays sound with it.
-use Rattle.std.proofs.Common.{◌≡◌, ◌≢◌, inl, inr, ℕ, zero, suc, ◌+◌, ◌/◌, ◌%◌, ◌^◌, ◌<◌, ◌≤◌, List, [], ◌∷◌, length, take, drop, refl, sym, ap, subst, ◌∙◌, arith}
-use Rattle.std.specs.Prelude.{Bool, true, false, ◌==◌, ◌||◌, ◌&&◌, not, nat_le, nat_lt, IsTrue}
-use Rattle.std.specs.List.{AllByRecursion}
-use Rattle.std.proofs.lemmas.Bool.{true≢false, and_parts, and_from, le-leb}
-use Rattle.nb_fields.specs.Bytes.{bytes_of, with_part, part, number_of, number_in, AreApart, is_zeros}
+use Rattle.std.proofs.Common.{◌≡◌, inl, inr, ℕ, ◌+◌, ◌%◌, ◌^◌, ◌<◌, ◌≤◌, List, length, refl, ap, ◌∙◌, arith}
+use Rattle.std.specs.Prelude.{Bool, true, ◌==◌, ◌&&◌}
+use Rattle.std.proofs.lemmas.Bool.{and_parts}
+use Rattle.nb_fields.specs.Bytes.{bytes_of, with_part, part, number_in, AreApart}
 use Rattle.nb_fields.specs.Header.{signature, version, is_marked, is_sound, is_header, state_of, size_of, scn_of, guid_of}
-use Rattle.nb_fields.specs.Page.{kind_of, stamp_of}
-use Rattle.nb_fields.specs.Places.{is_page_size, entries_in, bits_in}
+use Rattle.nb_fields.specs.Page.{stamp_of}
 use Rattle.nb_fields.proofs.HeaderLemmas.{is_header-long}
 use Rattle.nb_fields.proofs.NumberLemmas.{length-bytes_of}
-use Rattle.nb_fields.proofs.PartLemmas.{length-with_part, part-with_part, part-with_part_other, number_in-with_part, number_in-with_part_other, drop-with_part}
-use Rattle.nb_model.specs.Image.{Page, Image, page_at, first_page, image_size, image_state, image_scn, image_guid}
+use Rattle.nb_fields.proofs.PartLemmas.{length-with_part, part-with_part, part-with_part_other, number_in-with_part, number_in-with_part_other}
+use Rattle.nb_model.specs.Image.{Page}
 use Rattle.nb_model.specs.Strokes.{controlled}
-use Rattle.nb_model.proofs.HeaderLaws.{header-long, form, header-size}
+use Rattle.nb_model.proofs.HeaderLaws.{form}
 
 -- the four fields and the GUID of page 0
 module _ (state scn : ℕ) (guid : List ℕ) (p : Page) (long : 64 ≤ length p) (sixteen : length guid ≡ 16) where

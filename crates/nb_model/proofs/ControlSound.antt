@@ -1,21 +1,18 @@
--- The control strokes of a backup keep a database well, and so does the trail that begins behind them.
-use Rattle.std.proofs.Common.{◌≡◌, ◌≢◌, inl, inr, ℕ, zero, suc, ◌+◌, ◌/◌, ◌<◌, ◌≤◌, List, [], ◌∷◌, ◌++◌, length, take, refl, sym, ap, subst, ◌∙◌, arith}
-use Rattle.std.specs.Prelude.{Bool, true, false, ◌==◌, Option, Some, None, Contains, IsTrue}
-use Rattle.std.proofs.lemmas.Bool.{true≢false}
+-- An image stays sound where page 0 gets another state, SCN and GUID, and goes on from what it went on from.
+use Rattle.std.proofs.Common.{◌≡◌, ◌≢◌, inl, inr, ℕ, zero, suc, ◌/◌, ◌<◌, ◌≤◌, List, [], ◌∷◌, length, refl, sym, ap, subst, ◌∙◌, arith}
+use Rattle.std.specs.Prelude.{true, false}
 use Rattle.std.proofs.lemmas.Bool.Decides.{eqb_tells}
 use Rattle.nb_fields.specs.Bytes.{is_zeros}
 use Rattle.nb_fields.specs.Header.{is_header, is_sound, state_of, size_of, scn_of, guid_of}
 use Rattle.nb_fields.specs.Page.{kind_of, stamp_of}
-use Rattle.nb_fields.specs.Places.{is_page_size, entries_in, bits_in}
+use Rattle.nb_fields.specs.Places.{entries_in, bits_in, is_inventory_place, is_scn_place}
 use Rattle.nb_model.specs.Image.{Page, Image, page_at, first_page, image_size, image_state, image_scn, image_guid}
-use Rattle.nb_model.specs.Account.{Ask, Kept, Base, base_of}
-use Rattle.nb_model.specs.Strokes.{Stroke, begin, ends, finish, controlled, with_control, on_base, records_of}
+use Rattle.nb_model.specs.Account.{Kept}
+use Rattle.nb_model.specs.Strokes.{controlled, with_control}
 use Rattle.nb_model.specs.Forms.{inventory_of, scn_page_of, scn_entry, has_entry, is_free_page}
-use Rattle.nb_model.specs.Owner.{entry_for}
 use Rattle.nb_model.specs.Sound.{HasHeader, IsSoundImage}
-use Rattle.nb_model.specs.Stands.{nil, IsKeptAs, GoesOn, HasRows, NamesPast, NamesItsPast, HasOldEntries, IsRaised}
+use Rattle.nb_model.specs.Stands.{nil, IsKeptAs, GoesOn, HasRows, NamesPast, HasOldEntries}
 use Rattle.nb_model.proofs.ControlLaws.{control_length, control_size, control_stamp, control_state, control_scn, control_guid, control_header}
-use Rattle.nb_model.proofs.FitLaws.{IsWhole}
 use Rattle.nb_model.proofs.HeaderLaws.{header-long, header-other}
 use Rattle.nb_model.proofs.MainLaws.{some_page}
 use Rattle.nb_model.proofs.MixtureLaws.{has_same, scn_page_same, inventory_same, entry_same, free_same}
@@ -109,11 +106,11 @@ module _ (state scn : ℕ) (guid : List ℕ) (image : Image) (h : HasHeader imag
           (each_new (λ (x : Page). is_zeros x ≡ false) (header-other (first_page new) new_header) (λ q low. all_at (λ (x : Page). is_zeros x ≡ false) image is.sound.no_zeros q low));
       system = record {
         inventories = λ q low at.
-            let place = subst (λ (s : ℕ). Rattle.nb_fields.specs.Places.is_inventory_place s q ≡ true) new_size at in
+            let place = subst (λ (s : ℕ). is_inventory_place s q ≡ true) new_size at in
             let some : q ≢ 0 = inventory_behind (image_size image) q fields.size place in
             ap kind_of (rest q (omega (arith, some))) ∙ is.sound.system.inventories q (omega (arith, low, same_length)) place;
         scn_pages = λ q low at.
-            let place = subst (λ (s : ℕ). Rattle.nb_fields.specs.Places.is_scn_place s q ≡ true) new_size at in
+            let place = subst (λ (s : ℕ). is_scn_place s q ≡ true) new_size at in
             let some : q ≢ 0 = scn_page_behind (image_size image) q place in
             ap kind_of (rest q (omega (arith, some))) ∙ is.sound.system.scn_pages q (omega (arith, low, same_length)) place;
       };

@@ -54,3 +54,4 @@ pub mod WellTrailLaws
 pub mod OpenedLaws
 pub mod ControlLaws
 pub mod ControlSound
+pub mod ControlWell

@@ -1,6 +1,6 @@
 // Laws: each is a public function with an empty body, whose contract is the law. They show that the definitions mean what
 // they say.
-ghost use Rattle.nb_model.specs.Account.{Account, Base, IsBase, Kept};
+ghost use Rattle.nb_model.specs.Account.{Account, Ask, Base, IsBase, Kept};
 ghost use Rattle.nb_model.specs.Earlier.{IsEarlier, IsSoundTrail, LowersNone};
 ghost use Rattle.nb_model.specs.Follows.{Follows, IsMixed};
 ghost use Rattle.nb_model.specs.Forms.{drafted, give_page, new_page, put, take_page};
@@ -15,7 +15,7 @@ ghost use Rattle.nb_model.specs.Restoring.{applied, verdict};
 ghost use Rattle.nb_model.specs.Run.{Event, IsPlayed, Now, base_now, play, rounds, strokes_of};
 ghost use Rattle.nb_model.specs.Sound.{HasNoZeros, IsSoundImage, SoundInventory};
 ghost use Rattle.nb_model.specs.Stands.{GoesOn, IsRaised, Stands};
-ghost use Rattle.nb_model.specs.Strokes.{Stroke, after, base_after, fixed, merged_page, on_base, page as page_stroke, records_after};
+ghost use Rattle.nb_model.specs.Strokes.{Stroke, after, base_after, begin, ends, finish, fixed, merged_page, on_base, page as page_stroke, records_after, records_of};
 ghost use Rattle.nb_model.specs.Trail.{AreSynced, IsBehindFirst, IsLeft, IsMixture, ShowsIn, StandsIn, StandsOn, Trail, after_stroke, after_strokes, images_of, is_kept_place, settled};
 ghost use Rattle.nb_model.specs.Turns.{first_turn};
 ghost use Rattle.nb_model.specs.Well.{IsWellBaseIn, is_on_pages};
@@ -27,7 +27,7 @@ ghost use Rattle.nb_fields.specs.Places.{is_page_size};
 ghost use Rattle.nb_host.specs.Files.{File, Files};
 ghost use Rattle.nb_host.specs.Names.{is_delta};
 ghost use Rattle.nb_host.specs.declared.refusals.Refusal.{Refusal};
-ghost use Rattle.std.specs.Prelude.{Contains, IsTrue, List, Ok, Some, true, [], ◌++◌, ◌+◌, ◌<◌, ◌∷◌, ◌≡◌, ◌≢◌, ◌≤◌, drop, false, length, replicate, slice_set, take, ℕ};
+ghost use Rattle.std.specs.Prelude.{Contains, IsTrue, List, Ok, Option, Some, true, [], ◌++◌, ◌+◌, ◌<◌, ◌∷◌, ◌≡◌, ◌≢◌, ◌≤◌, drop, false, length, replicate, slice_set, take, ℕ};
 ghost use Rattle.std.specs.List.{AllByRecursion, slice_index_or};
 
 /// Lineage goes on: an image follows each one that it followed step by step, at the lowest SCN.
@@ -221,4 +221,12 @@ pub fn well_trails_stay_well()
     ensures pages { (kept : List Kept) (statement : Statement) (s : Seen) (session : ℕ) (t : Trail) (k : ℕ) → is_on_pages statement ≡ true → s.base ≡ t.base → IsWellTrail kept t
         → IsWellTrail kept (after_strokes (take k (first_turn s session statement).strokes) t) }
     ensures settled { (kept : List Kept) (t : Trail) → IsWellTrail kept t → IsWellTrail kept (settled t.base) }
+{}
+
+/// A well trail begins behind each control stroke of a backup. A begin keeps the record of its backup.
+pub fn control_strokes_keep_well()
+    ensures begin { (kept : List Kept) (b : Base) (guid : List ℕ) (ask : Option Ask) → IsWellBaseIn kept b → image_state b.image ≡ 0 → length guid ≡ 16 → image_scn b.image ≤ 4294967293
+        → IsWellTrail (kept ++ records_of (begin guid ask) b) (settled (on_base (begin guid ask) b)) }
+    ensures ends { (kept : List Kept) (b : Base) → IsWellBaseIn kept b → image_state b.image ≡ 1 → IsWellTrail kept (settled (on_base ends b)) }
+    ensures finish { (kept : List Kept) (b : Base) → IsWellBaseIn kept b → image_state b.image ≡ 2 → IsWellTrail kept (settled (on_base finish b)) }
 {}
