@@ -16,11 +16,11 @@ tail_length : (n : ℕ) (zeros page : Page) → length (replicate n zeros ++ pag
 tail_length zero zeros page = refl
 tail_length (suc n) zeros page = let h = tail_length n zeros page in omega (arith, h)
 
-main_here : (size : ℕ) (main : Image) (q : ℕ) → q < length main → main_page size main q ≡ page_at main q
+pub main_here : (size : ℕ) (main : Image) (q : ℕ) → q < length main → main_page size main q ≡ page_at main q
 unfolding main_page
 main_here size main q h = elim (leb_tells (suc q) (length main)) [ inl w ↦ rw (w.0, main_page) refl | inr w ↦ absurd (omega (arith, w.1)) ]
 
-main_past : (size : ℕ) (main : Image) (q : ℕ) → length main ≤ q → main_page size main q ≡ replicate size 0
+pub main_past : (size : ℕ) (main : Image) (q : ℕ) → length main ≤ q → main_page size main q ≡ replicate size 0
 unfolding main_page
 main_past size main q h = elim (leb_tells (suc q) (length main)) [ inl w ↦ absurd (omega (arith, w.1)) | inr w ↦ rw (w.0, main_page) refl ]
 
@@ -89,7 +89,7 @@ slot_kept size k n zero j main delta some long = ap (λ (front : List ℕ). fron
 slot_kept size k n (suc q) j main delta some long = refl
 
 -- which page is an entry's
-named : (p : ℕ) (table : List ℕ) (k : ℕ) → entry_for p table ≡ Some k → p + 1 ≤ behind_entries table
+pub named : (p : ℕ) (table : List ℕ) (k : ℕ) → entry_for p table ≡ Some k → p + 1 ≤ behind_entries table
 unfolding entry_for
 named p [] k e = absurd (none_some e)
   where

@@ -24,9 +24,11 @@ pub mod Restoring
 pub mod InPlace
 pub mod Stands
 pub mod Well
+pub mod WellTrail
 pub mod Waiting
 pub mod Pagewise
 pub mod Trail
+pub mod Earlier
 pub mod Words
 pub mod Jobs
 pub mod Line
