@@ -27,7 +27,7 @@ ghost use Rattle.nb_fields.specs.Places.{is_page_size};
 ghost use Rattle.nb_host.specs.Files.{File, Files};
 ghost use Rattle.nb_host.specs.Names.{is_delta};
 ghost use Rattle.nb_host.specs.declared.refusals.Refusal.{Refusal};
-ghost use Rattle.std.specs.Prelude.{Contains, IsTrue, List, Ok, Option, Some, true, [], ◌++◌, ◌+◌, ◌<◌, ◌∷◌, ◌≡◌, ◌≢◌, ◌≤◌, drop, false, length, replicate, slice_set, take, ℕ};
+ghost use Rattle.std.specs.Prelude.{Contains, IsTrue, List, Ok, Option, Some, [], ◌++◌, ◌+◌, ◌<◌, ◌∷◌, ◌≡◌, ◌≢◌, ◌≤◌, drop, false, length, replicate, slice_set, take, true, ℕ};
 ghost use Rattle.std.specs.List.{AllByRecursion, slice_index_or};
 
 /// Lineage goes on: an image follows each one that it followed step by step, at the lowest SCN.
