@@ -131,8 +131,8 @@ module _ (state scn : ℕ) (guid : List ℕ) (image : Image) (h : HasHeader imag
     least = omega (arith, same_length, is.least);
     most = omega (arith, same_length, is.most);
     sizes = all_from (λ (x : Page). length x ≡ image_size new) new (each_new (λ (x : Page). length x ≡ image_size new)
-    (ap length first ∙ control_length state scn guid (first_page image) long may.sixteen ∙ all_at (λ (x : Page). length x ≡ image_size image) image is.sizes 0 (omega (arith, is.least)) ∙ sym new_size)
-    (λ q low. all_at (λ (x : Page). length x ≡ image_size image) image is.sizes q low ∙ sym new_size));
+        (ap length first ∙ control_length state scn guid (first_page image) long may.sixteen ∙ all_at (λ (x : Page). length x ≡ image_size image) image is.sizes 0 (omega (arith, is.least)) ∙ sym new_size)
+        (λ q low. all_at (λ (x : Page). length x ≡ image_size image) image is.sizes q low ∙ sym new_size));
   }
 
   -- It goes on from what the image went on from,

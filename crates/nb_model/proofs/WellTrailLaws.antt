@@ -1,6 +1,8 @@
 -- Whatever a stop leaves of a well trail is well, and page strokes that fit keep a trail well.
-use Rattle.std.proofs.Common.{◌≡◌, ℕ, zero, suc, ◌<◌, List, [], ◌∷◌, ◌++◌, length, take, refl, sym, ap, subst, ◌∙◌, arith}
-use Rattle.std.specs.Prelude.{true, Contains}
+use Rattle.std.proofs.Common.{◌≡◌, ◌≤◌, ℕ, zero, suc, ◌<◌, List, [], ◌∷◌, ◌++◌, length, take, refl, sym, ap, subst, ◌∙◌, arith}
+use Rattle.std.specs.Prelude.{IsTrue, true, Contains}
+use Rattle.nb_fields.specs.Fresh.{fresh}
+use Rattle.nb_fields.specs.Places.{is_page_size}
 use Rattle.nb_fields.specs.Header.{is_header}
 use Rattle.nb_model.specs.declared.statement.Statement.{Statement}
 use Rattle.nb_model.specs.Image.{Page, Image, first_page, image_state, image_scn, image_guid, with_page}
@@ -19,6 +21,7 @@ use Rattle.nb_model.proofs.SoundLaws.{FitsAt, header_stays, fields_stay, state_s
 use Rattle.nb_model.proofs.PutSound.{header_whole}
 use Rattle.nb_model.proofs.PastLaws.{goes_on_still, rows_with, past_with, past_written, no_rows_pass}
 use Rattle.nb_model.proofs.PagesFit.{HasNoRows, pages_fit}
+use Rattle.nb_model.proofs.WellLaws.{fresh_well_base}
 use Rattle.nb_model.proofs.NormalLaws.{IsQuiet, quiet, told_whole}
 use Rattle.nb_model.proofs.TrailLaws.{last_there, trail_base}
 use Rattle.nb_model.proofs.MixtureLaws.{mixed_first, mixed_scn, mixed_state, mixed_guid}
@@ -204,3 +207,9 @@ well_normal kept b w =
       backup = λ stalled. absurd (omega arith);
       merge = λ merge. absurd (omega arith);
     }
+
+-- A well trail begins with a new database.
+pub fresh_trail : (kept : List Kept) (size raw : ℕ) → IsTrue (is_page_size size) → raw ≤ 65535 → IsWellTrail kept (settled (base_of (fresh size raw)))
+fresh_trail kept size raw is few =
+    let w : IsWellBase kept (base_of (fresh size raw)) = fresh_well_base kept size raw is few in
+    settled_well kept (base_of (fresh size raw)) (well_normal kept (base_of (fresh size raw)) w) (λ stalled. absurd (omega (arith, stalled, w.well.state)))

@@ -1,6 +1,6 @@
 // Laws: each is a public function with an empty body, whose contract is the law. They show that the definitions mean what
 // they say.
-ghost use Rattle.nb_model.specs.Account.{Account, Ask, Base, IsBase, Kept};
+ghost use Rattle.nb_model.specs.Account.{Account, Ask, Base, IsBase, Kept, base_of};
 ghost use Rattle.nb_model.specs.Earlier.{IsEarlier, IsSoundTrail, LowersNone};
 ghost use Rattle.nb_model.specs.Follows.{Follows, IsMixed};
 ghost use Rattle.nb_model.specs.Forms.{drafted, give_page, new_page, put, take_page};
@@ -22,12 +22,13 @@ ghost use Rattle.nb_model.specs.Well.{IsWellBaseIn, is_on_pages};
 ghost use Rattle.nb_model.specs.WellTrail.{IsWellTrail};
 ghost use Rattle.nb_model.specs.declared.reply.Reply.TheVariants.{Refused};
 ghost use Rattle.nb_model.specs.declared.statement.Statement.{Statement};
+ghost use Rattle.nb_fields.specs.Fresh.{fresh};
 ghost use Rattle.nb_fields.specs.Page.{stamp_of};
 ghost use Rattle.nb_fields.specs.Places.{is_page_size};
 ghost use Rattle.nb_host.specs.Files.{File, Files};
 ghost use Rattle.nb_host.specs.Names.{is_delta};
 ghost use Rattle.nb_host.specs.declared.refusals.Refusal.{Refusal};
-ghost use Rattle.std.specs.Prelude.{Contains, IsTrue, List, Ok, Option, Some, true, [], ◌++◌, ◌+◌, ◌<◌, ◌∷◌, ◌≡◌, ◌≢◌, ◌≤◌, drop, false, length, replicate, slice_set, take, ℕ};
+ghost use Rattle.std.specs.Prelude.{Contains, IsTrue, List, Ok, Option, Some, [], ◌++◌, ◌+◌, ◌<◌, ◌∷◌, ◌≡◌, ◌≢◌, ◌≤◌, drop, false, length, replicate, slice_set, take, true, ℕ};
 ghost use Rattle.std.specs.List.{AllByRecursion, slice_index_or};
 
 /// Lineage goes on: an image follows each one that it followed step by step, at the lowest SCN.
@@ -210,9 +211,10 @@ pub fn well_trails_leave_well_databases()
     ensures again { (kept : List Kept) (name : List ℕ) (t : Trail) (m d : File) → IsWellTrail kept t → (s : StandsOn name t m d) → IsWellTrail kept (settled s.base) }
 {}
 
-/// A well trail begins with each database that files stand for.
+/// A well trail begins with each new database, and with each that files stand for.
 pub fn well_trails_begin()
-    ensures { (files : Files) (account : Account) (name : List ℕ) (b : Base) → Stands files account → is_delta name ≡ false → account.entry name ≡ IsBase b → image_scn b.image < 4294967296
+    ensures fresh { (kept : List Kept) (size raw : ℕ) → IsTrue (is_page_size size) → raw ≤ 65535 → IsWellTrail kept (settled (base_of (fresh size raw))) }
+    ensures opened { (files : Files) (account : Account) (name : List ℕ) (b : Base) → Stands files account → is_delta name ≡ false → account.entry name ≡ IsBase b → image_scn b.image < 4294967296
         → IsWellTrail account.kept (settled b) }
 {}
 
