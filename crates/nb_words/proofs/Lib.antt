@@ -1,3 +1,4 @@
 pub mod LineLemmas
 pub mod Rules
 pub mod RowLemmas
+pub mod UseLemmas

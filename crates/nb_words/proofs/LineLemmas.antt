@@ -1,4 +1,4 @@
-use Rattle.std.proofs.Common.{◌≡◌, ◌∙◌, ap, refl, subst, map, true, List, ℕ, Result, Ok, Err, IfOk, IfErr, OnOk, []}
+use Rattle.std.proofs.Common.{◌≡◌, refl, subst, true, List, Result, Ok, Err, IfOk, IfErr, OnOk, []}
 use Rattle.std.proofs.lemmas.Result.{IfOk-weaker}
 use Rattle.clap.specs.Words.{App, Text, HasMatchesOf, is_simple, is_simple_and_free, matches_of, rows_of, found_of, fault_of}
 use Rattle.clap.specs.Kinds.{FailsBy, HasKind, Kinds}

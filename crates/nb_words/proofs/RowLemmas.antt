@@ -1,5 +1,5 @@
 -- The rows of what was found: what a change of one id's row leaves, and what a count, a value or a default does.
-use Rattle.std.proofs.Common.{◌≡◌, ◌∙◌, ℕ, ◌+◌, ◌==◌, min, Bool, true, false, List, [], ◌∷◌, ◌++◌, Option, Some, None, unwrap_or, option_map, refl, ap, sym, inl, inr, cond, find}
+use Rattle.std.proofs.Common.{◌≡◌, ◌∙◌, ℕ, true, false, List, [], ◌∷◌, ◌++◌, Option, Some, None, unwrap_or, option_map, refl, ap, sym, inl, inr, cond, find}
 use Rattle.std.specs.Option.{option_map_or}
 use Rattle.std.specs.Str.{bytes_eq}
 use Rattle.std.proofs.lemmas.Bool.{cases_Bool, cond-true, cond-false}

@@ -1,12 +1,10 @@
 -- The rules of a command line of these flags: which one a letter, a long name, a place or an id finds.
-use Rattle.std.proofs.Common.{◌≡◌, ◌∙◌, ℕ, ◌==◌, ◌||◌, ◌&&◌, Bool, true, false, List, [], ◌∷◌, Option, Some, None, codes, refl, ap, sym, subst, inl, inr, cond, find, is_some, not}
-use Rattle.std.specs.List.{list_any}
-use Rattle.std.specs.Option.{option_map_or}
+use Rattle.std.proofs.Common.{◌≡◌, ◌∙◌, ℕ, ◌==◌, ◌||◌, Bool, true, false, List, [], ◌∷◌, Option, Some, None, codes, refl, ap, inl, inr, cond}
 use Rattle.std.specs.Str.{bytes_eq}
-use Rattle.std.proofs.lemmas.Bool.{cases_Bool, cond-true, cond-false, or_parts, or_cases, or_from, or_left, or_right, eqb-true, eq-eqb, and_right}
+use Rattle.std.proofs.lemmas.Bool.{cases_Bool, cond-true, cond-false, or_parts, or_cases, or_from, or_left, eqb-true, and_right}
 use Rattle.clap.specs.Simple.{filled, with_index}
-use Rattle.clap.specs.Words.{App, Rule, Text, built}
-use Rattle.clap.specs.Walk.{arg_by_short, arg_by_long, arg_by_index, arg_by_id, has_short}
+use Rattle.clap.specs.Words.{Rule, Text, built}
+use Rattle.clap.specs.Walk.{arg_by_short, arg_by_long, arg_by_index, arg_by_id}
 use Rattle.clap.proofs.OnLiterals.{clap_on_literals}
 use Rattle.nb_words.specs.Line.{line, flag, plain, words_id}
 

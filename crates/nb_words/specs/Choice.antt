@@ -1,8 +1,8 @@
 -- Which job the flags and the number of plain words choose, as a table.
-use Rattle.std.specs.Prelude.{◌≡◌, ℕ, ◌==◌, ◌&&◌, ◌||◌, Bool, true, false, nat_le, List, [], ◌∷◌, length, map, min, Option, Some, None, codes}
+use Rattle.std.specs.Prelude.{◌≡◌, ℕ, ◌==◌, ◌&&◌, ◌||◌, true, false, nat_le, List, [], ◌∷◌, length, map, min, Option, None, codes}
 use Rattle.std.specs.List.{position_or_len, range_with_len}
 use Rattle.nb_fields.specs.Cases.{cell}
-use Rattle.nb_model.specs.Words.{Word, Read, are_flags, job_read, plain_job, backup_job, restore_job, apply_job, database_job}
+use Rattle.nb_model.specs.Words.{Word, are_flags, job_read, plain_job, backup_job, restore_job, apply_job, database_job}
 use Rattle.nb_model.specs.declared.job.Job.{Job}
 use Rattle.nb_model.specs.declared.job.Job.TheVariants.{Lock, LockWithSize, Unlock, Fixup}
 
