@@ -2,3 +2,5 @@ pub mod LineLemmas
 pub mod Rules
 pub mod RowLemmas
 pub mod UseLemmas
+pub mod Bundles
+pub mod Steps
