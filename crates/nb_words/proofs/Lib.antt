@@ -4,3 +4,5 @@ pub mod RowLemmas
 pub mod UseLemmas
 pub mod Bundles
 pub mod Steps
+pub mod Looks
+pub mod Defined
