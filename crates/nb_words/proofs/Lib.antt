@@ -6,3 +6,4 @@ pub mod Bundles
 pub mod Steps
 pub mod Looks
 pub mod Defined
+pub mod Walks
