@@ -7,3 +7,4 @@ pub mod Steps
 pub mod Looks
 pub mod Defined
 pub mod Walks
+pub mod Ends
