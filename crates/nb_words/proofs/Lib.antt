@@ -8,3 +8,4 @@ pub mod Looks
 pub mod Defined
 pub mod Walks
 pub mod Ends
+pub mod Whole

@@ -20,7 +20,7 @@ use Rattle.nb_words.proofs.Looks.{looks_plain, looks_flags}
 use Rattle.nb_words.proofs.Defined.{read_dashes, read_plain, read_flags, read_other}
 
 -- the words that wait are no more than all that came
-waiting_fits : (rows : List Row) (waiting : Option (List Text)) (flags : List ℕ) (plain : List Text) (n : ℕ) → Seen rows waiting flags plain → length plain + n ≤ usize_max → length (unwrap_or waiting []) ≤ usize_max
+pub waiting_fits : (rows : List Row) (waiting : Option (List Text)) (flags : List ℕ) (plain : List Text) (n : ℕ) → Seen rows waiting flags plain → length plain + n ≤ usize_max → length (unwrap_or waiting []) ≤ usize_max
 waiting_fits rows waiting flags plain n s le =
     let e : length (words_in rows) + length (unwrap_or waiting []) ≡ length plain = sym (length-append (words_in rows) (unwrap_or waiting [])) ∙ ap length s.words in
     omega (arith, e, le)
