@@ -9,3 +9,4 @@ pub mod Defined
 pub mod Walks
 pub mod Ends
 pub mod Whole
+pub mod Parts

@@ -1,17 +1,24 @@
 -- What `clap` finds in the words, and what it refuses, is what the definition reads.
-use Rattle.std.proofs.Common.{nat_lt, ◌≡◌, ◌∙◌, ◌<◌, ◌≤◌, ℕ, ◌==◌, Bool, true, false, List, [], ◌∷◌, length, fold, Option, Some, None, is_some, IsUtf8, refl, ap, sym, subst, inl, inr, codes, append-nil, arith}
+use Rattle.std.proofs.lemmas.Str.{IsUtf8-string_bytes}
+use Rattle.std.proofs.Common.{map, string_bytes, String, nat_lt, ◌≡◌, ◌∙◌, ◌<◌, ◌≤◌, ℕ, ◌==◌, Bool, true, false, List, [], ◌∷◌, length, fold, Option, Some, None, is_some, IsUtf8, refl, ap, sym, subst, inl, inr, codes, append-nil, arith}
 use Rattle.std.specs.List.{list_all, AllByRecursion}
 use Rattle.std.proofs.lemmas.Bool.{or_cases, eqb-true, and_parts, ltb-true}
 use Rattle.clap.specs.Lexer.{usize_max}
 use Rattle.clap.specs.Words.{App, Row, Text, Kinds, built, fault_of, matches_of}
-use Rattle.clap.specs.Kinds.{or_else}
+use Rattle.clap.specs.Kinds.{or_else, HasKind, IsAmong}
+use Rattle.clap.specs.Values.{kind_of}
+use Rattle.clap.specs.Words.{rows_of, found_of}
+use Rattle.clap.specs.declared.error.Error.{Error}
+use Rattle.clap.specs.declared.error.kind.ErrorKind.TheVariants as kind
+use Rattle.clap.specs.declared.parser.matches.ArgMatches.{ArgMatches}
+use Rattle.std.proofs.lemmas.List.{length-map}
 use Rattle.clap.specs.Simple.{Shape, names_of, entered, argument_words}
 use Rattle.clap.specs.Walk.{Walk, walk_from, nothing_held, settled, finished, with_default, rows_after}
 use Rattle.clap.specs.Faults.{built_fault, entered_fault, walk_fault, settle_fault, defaults_fault, check_fault}
 use Rattle.clap.proofs.OnLiterals.{clap_on_literals}
 use Rattle.nb_model.specs.Words.{Read, read_words}
 use Rattle.nb_words.specs.Line.{line, words_in}
-use Rattle.nb_words.specs.Read.{Shows}
+use Rattle.nb_words.specs.Read.{Shows, Holds}
 use Rattle.nb_words.proofs.Rules.{rules_for, is_in}
 use Rattle.nb_words.proofs.UseLemmas.{Seen, held, after_waiting, settled_is, seen_settled, waiting_pass, no_else}
 use Rattle.nb_words.proofs.Steps.{stand, shape}
@@ -120,3 +127,34 @@ at_some n o r e few = subst (AtMost n) e few
 
 pub agrees : (words : List Text) → AllByRecursion IsUtf8 words → length words ≤ usize_max → Agrees words (read_words words)
 agrees words texts le = agrees_by words (read_words words) (λ r e. let few = at_some (length words) (read_words words) r e (no_more words) in omega (arith, few, le)) (comes words texts le)
+
+-- ---- of what a call of `clap` answers
+
+pub all_texts : {Z : Type 0} (words : List (String Z)) → AllByRecursion IsUtf8 (map string_bytes words)
+all_texts [] = tt
+all_texts (w ∷ ws) = (IsUtf8-string_bytes w, all_texts ws)
+
+holds_by : (words : List Text) (m : ArgMatches) (o : Option Read) → read_words words ≡ o → Agrees words o → fault_of line words ≡ [] → rows_of (found_of m) ≡ matches_of line words → Holds words m
+holds_by words m None e agreed free same = absurd (agreed free)
+holds_by words m (Some r) e agreed free same = record { read = r; gives = e; shows = subst (λ (rows : List Row). Shows rows r) (sym same) agreed.1 }
+
+-- at Ok
+pub holds : {Z : Type 0} (words : List (String Z)) (m : ArgMatches) → length words ≤ usize_max → fault_of line (map string_bytes words) ≡ [] → rows_of (found_of m) ≡ matches_of line (map string_bytes words) → Holds (map string_bytes words) m
+holds words m le free same =
+    let count = length-map words string_bytes in
+    let texts = map string_bytes words in
+    holds_by texts m (read_words texts) refl (agrees texts (all_texts words) (omega (arith, count, le))) free same
+
+none_by : (words : List Text) (e : Error) (o : Option Read) → read_words words ≡ o → Agrees words o → HasKind (fault_of line words) e → (kind_of e ≡ kind.OutOfMemory → ⊥) → read_words words ≡ None
+none_by words e None is agreed has other = is
+none_by words e (Some r) is agreed has other = elim has [
+  | inl memory ↦ absurd (other memory)
+  | inr among ↦ absurd (subst (λ (k : Kinds). IsAmong (kind_of e) k) agreed.0 among)
+]
+
+-- at Err, where it isn't for want of memory
+pub none : {Z : Type 0} (words : List (String Z)) (e : Error) → length words ≤ usize_max → HasKind (fault_of line (map string_bytes words)) e → (kind_of e ≡ kind.OutOfMemory → ⊥) → read_words (map string_bytes words) ≡ None
+none words e le has other =
+    let count = length-map words string_bytes in
+    let texts = map string_bytes words in
+    none_by texts e (read_words texts) refl (agrees texts (all_texts words) (omega (arith, count, le))) has other

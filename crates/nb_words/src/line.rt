@@ -1,5 +1,5 @@
 // The words, read by `clap`: which flags were given, how often, and the plain words.
-ghost use Rattle.std.specs.Prelude.{◌≡◌, [], ◌∷◌, map, None, IfOk, IfErr, OnOk, MatchOption, string_bytes, codes};
+ghost use Rattle.std.specs.Prelude.{◌≡◌, [], ◌∷◌, map, None, IfOk, IfErr, OnOk, MatchOption, string_bytes, codes, unwrap_or, option_map};
 ghost use Rattle.clap.specs.Words.{app_of, rule_of, with_rule, rows_of, found_of, matches_of, fault_of, count_of, HasKind};
 ghost use Rattle.nb_host.specs.declared.faults.Fault.TheVariants.{Memory};
 ghost use Rattle.nb_model.specs.Words.{read_words};
@@ -65,4 +65,40 @@ fn parsed<'a>(alloc: Global, words: &'a [String]) -> Result<ArgMatches<'a>, Erro
 {
     let command = command(alloc)?;
     command.try_get_matches_from(words)
+}
+
+/// What `clap` finds in the words, and none where it refuses them.
+pub(crate) fn read<'a>(alloc: Global, words: &'a [String]) -> Result<Option<ArgMatches<'a>>, Fault>
+    ensures found { IfOk result (λ found. MatchOption found (read_words (map string_bytes words.entry.now) ≡ None) (Holds (map string_bytes words.entry.now))) }
+    ensures only_memory { IfErr result (λ fault. fault ≡ Memory) }
+{
+    match parsed(alloc, words) {
+        Ok(matches) => Ok(Some(matches)),
+        Err(error) => match error.kind() {
+            ErrorKind::OutOfMemory => Err(Fault::Memory),
+            _ => Ok(None),
+        },
+    }
+}
+
+/// How often each of the flags B, R, L, S, N, F and I was given, 255 standing for 255 and more.
+pub(crate) fn counts(found: &ArgMatches<'_>) -> [u8; 7]
+    ensures { result ≡ map (λ letter. count_of (letter ∷ []) (rows_of (found_of found.now))) (codes "BRLSNFI") }
+{
+    [
+        found.get_count("B"),
+        found.get_count("R"),
+        found.get_count("L"),
+        found.get_count("S"),
+        found.get_count("N"),
+        found.get_count("F"),
+        found.get_count("I"),
+    ]
+}
+
+/// The plain words, in order; none where there aren't any.
+pub(crate) fn plain_words<'m, 'a>(found: &'m ArgMatches<'a>) -> Option<&'m [&'a str]>
+    ensures { unwrap_or (option_map (λ words. words_of words.now) result) [] ≡ words_in (rows_of (found_of found.now)) }
+{
+    found.get_raw("words")
 }
