@@ -10,3 +10,4 @@ pub mod Walks
 pub mod Ends
 pub mod Whole
 pub mod Parts
+pub mod Table

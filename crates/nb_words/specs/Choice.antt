@@ -1,7 +1,9 @@
 -- Which job the flags and the number of plain words choose, as a table.
-use Rattle.std.specs.Prelude.{◌≡◌, ℕ, ◌==◌, ◌&&◌, ◌||◌, true, false, nat_le, List, [], ◌∷◌, length, map, min, Option, None, codes}
+use Rattle.std.specs.Prelude.{◌≡◌, ℕ, ◌==◌, ◌&&◌, ◌||◌, true, false, nat_eq, nat_le, List, [], ◌∷◌, length, map, min, Option, None, codes}
 use Rattle.std.specs.List.{position_or_len, range_with_len}
+use Rattle.std.specs.Cmp.Lexicographic.{pointwise}
 use Rattle.nb_fields.specs.Cases.{cell}
+use Rattle.nb_words.specs.Read.{counts_of}
 use Rattle.nb_model.specs.Words.{Word, are_flags, job_read, plain_job, backup_job, restore_job, apply_job, database_job}
 use Rattle.nb_model.specs.declared.job.Job.{Job}
 use Rattle.nb_model.specs.declared.job.Job.TheVariants.{Lock, LockWithSize, Unlock, Fixup}
@@ -13,6 +15,10 @@ sets = codes "" ∷ codes "B" ∷ codes "R" ∷ codes "IR" ∷ codes "L" ∷ cod
 -- the row of these flags; those that name no job have the last one
 abbrev pub row_of : List ℕ → ℕ
 row_of flags = position_or_len (are_flags flags) sets
+
+-- the row of flags of which each was given so often
+abbrev pub row_at : List ℕ → ℕ
+row_at counts = position_or_len (λ set. pointwise nat_eq (counts_of set) counts) sets
 
 -- the column: the number of plain words, 12 standing for 12 and more
 abbrev pub column_of : List Word → ℕ

@@ -5,5 +5,6 @@
 //! the definition gives, for every list of words, and refuses as `Usage` exactly where it gives none.
 #![tactic(auto)]
 
+mod choice;
 mod line;
 mod word;
