@@ -11,3 +11,4 @@ pub mod Ends
 pub mod Whole
 pub mod Parts
 pub mod Table
+pub mod JobLemmas

@@ -6,5 +6,6 @@
 #![tactic(auto)]
 
 mod choice;
+mod jobs;
 mod line;
 mod word;

@@ -24,6 +24,15 @@ pub(crate) fn database(word: &str) -> Option<Name>
     if word.len() <= MOST_BASE_NAME { Some(name) } else { None }
 }
 
+/// The names of a database and of a file.
+pub(crate) fn database_and_file(db: &str, file: &str) -> Option<(Name, Name)>
+    ensures { result ≡ cond (is_database db.now && is_file file.now) (Some (db.now, file.now)) None }
+{
+    let db = database(db)?;
+    let file = self::file(file)?;
+    Some((db, file))
+}
+
 fn are_digits(word: &[u8]) -> bool
     ensures { result ≡ list_all (λ b. nat_le 48 b && nat_le b 57) word.now }
 {
