@@ -69,10 +69,10 @@ fn backup_of(since: &str, db: &str, file: &str) -> Option<Job>
 fn backup(words: &[&str]) -> Option<Job>
     ensures { result ≡ backup_job (words_of words.now) }
 {
-    match words {
-        [since, db, file] => backup_of(since, db, file),
-        _ => None,
-    }
+    let [since, db, file] = words else {
+        return None;
+    };
+    backup_of(since, db, file)
 }
 
 /// The names of some files, where each word is one.

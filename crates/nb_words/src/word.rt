@@ -3,7 +3,7 @@ ghost use Rattle.std.specs.Prelude.{◌≡◌, ◌==◌, ◌&&◌, ◌-◌, nat_
 ghost use Rattle.std.specs.List.{list_all};
 ghost use Rattle.uuid.specs.Text.{parsed_hyphenated};
 ghost use Rattle.nb_model.specs.Words.{is_file, is_database, number_in_word};
-ghost use Rattle.nb_words.specs.Parts.{is_level, is_plain_number};
+ghost use Rattle.nb_words.specs.Parts.{is_level, is_plain_number, named};
 
 use nb_host::{MOST_BASE_NAME, Name};
 use uuid::Uuid;
@@ -26,7 +26,7 @@ pub(crate) fn database(word: &str) -> Option<Name>
 
 /// The names of a database and of a file.
 pub(crate) fn database_and_file(db: &str, file: &str) -> Option<(Name, Name)>
-    ensures { result ≡ cond (is_database db.now && is_file file.now) (Some (db.now, file.now)) None }
+    ensures { result ≡ named db.now file.now }
 {
     let db = database(db)?;
     let file = self::file(file)?;
