@@ -1,10 +1,10 @@
 -- The jobs of the cells, by the words that they ask for.
 use Rattle.uuid.specs.Text.{parsed_hyphenated}
-use Rattle.nb_model.specs.declared.job.Job.TheVariants.{Backup, BackupSince}
-use Rattle.std.proofs.lemmas.List.{take_more, take_all, map-append, get_or_default}
-use Rattle.std.proofs.Common.{take, ◌++◌, ◌-◌, ap₂, slice_index, ◌≡◌, ◌∙◌, ◌+◌, ◌<◌, ◌≤◌, ◌≢◌, ℕ, zero, suc, ◌==◌, ◌&&◌, Bool, true, false, List, [], ◌∷◌, length, get_or, Option, Some, None, option_map, refl, ap, sym, subst, inl, inr, cond, arith, Bor}
+use Rattle.nb_model.specs.declared.job.Job.TheVariants.{Backup, BackupSince, Restore}
+use Rattle.std.proofs.lemmas.List.{take_more, take_all, map-append, get_or_default, length-map}
+use Rattle.std.proofs.Common.{drop, nat_le, take, ◌++◌, ◌-◌, ap₂, slice_index, ◌≡◌, ◌∙◌, ◌+◌, ◌<◌, ◌≤◌, ◌≢◌, ℕ, zero, suc, ◌==◌, ◌&&◌, Bool, true, false, List, [], ◌∷◌, length, get_or, Option, Some, None, option_map, refl, ap, sym, subst, inl, inr, cond, arith, Bor}
 use Rattle.std.specs.List.{list_all}
-use Rattle.std.proofs.lemmas.Bool.{cases_Bool, and_left, and_right}
+use Rattle.std.proofs.lemmas.Bool.{and_left, and_right, and_from, le-leb}
 use Rattle.nb_model.specs.Words.{Word, is_database, is_file, job_if, backup_job, restore_job, apply_job, database_job}
 use Rattle.nb_model.specs.declared.job.Job.{Job}
 use Rattle.nb_words.specs.Parts.{one_database, is_level, named}
@@ -39,6 +39,8 @@ not_three (a ∷ b ∷ c ∷ d ∷ rest) other = refl
 refused : (b : Bool) (w : Word) → cond b (Some w) None ≡ None → b ≡ false
 refused true w e = absurd (cc)
 refused false w e = refl
+
+-- ---- files
 
 -- one word that is no name of a file
 pub one_fails : (words : List (Bor Word)) (i : ℕ) (w : Bor Word) → i < length words → w ≡ get_or words i w → is_file w.now ≡ false → list_all is_file (words_of words) ≡ false
@@ -124,9 +126,9 @@ taken_all words i names past t =
     let all : list_all is_file (words_of words) ≡ true = sym (ap (λ (w : List (Bor Word)). list_all is_file (words_of w)) whole) ∙ t.all in
     ap (λ (n : List Word). Some n) (t.same ∙ ap words_of whole) ∙ sym (ap (λ (b : Bool). cond b (Some (words_of words)) None) all)
 
-is_named : (b : Bool) (w name : Word) → cond b (Some w) None ≡ Some name → (b ≡ true) × (name ≡ w)
-is_named true w name e = (refl, cc)
-is_named false w name e = absurd (cc)
+is_some_of : {A : Type 0} (b : Bool) (w name : A) → cond b (Some w) None ≡ Some name → (b ≡ true) × (name ≡ w)
+is_some_of true w name e = (refl, cc)
+is_some_of false w name e = absurd (cc)
 
 -- not all of them
 pub not_all : (words : List (Bor Word)) (i : ℕ) (d : Bor Word) → i < length words → cond (is_file (get_or words i d).now) (Some (get_or words i d).now) None ≡ None → None ≡ cond (list_all is_file (words_of words)) (Some (words_of words)) None
@@ -138,5 +140,32 @@ not_all words i d within none =
 pub one_taken : (words : List (Bor Word)) (i : ℕ) (d : Bor Word) (names more : List Word) (name : Word) → i < length words → cond (is_file (get_or words i d).now) (Some (get_or words i d).now) None ≡ Some name → Taken words i names → more ≡ names ++ name ∷ [] → Taken words (i + 1) more
 one_taken words i d names more name within is t e =
     let w = get_or words i d in
-    let n = is_named (is_file w.now) w.now name is in
+    let n = is_some_of (is_file w.now) w.now name is in
     taken_more words i w names more within (get_or_default words i d w within) n.0 t (e ∙ ap (λ (x : Word). names ++ x ∷ []) n.1)
+
+-- ---- the words by their places
+
+pub three : (words : List (Bor Word)) (d : Bor Word) → length words ≡ 3 → words_of words ≡ (get_or words 0 d).now ∷ (get_or words 1 d).now ∷ (get_or words 2 d).now ∷ []
+three [] d e = absurd (omega (arith, e))
+three (a ∷ []) d e = absurd (omega (arith, e))
+three (a ∷ b ∷ []) d e = absurd (omega (arith, e))
+three (a ∷ b ∷ c ∷ []) d e = refl
+three (a ∷ b ∷ c ∷ x ∷ rest) d e = absurd (omega (arith, e))
+
+-- ---- restoring
+
+all_four : (a b c d : Bool) → a ≡ true → b ≡ true → c ≡ true → d ≡ true → (a && b && c && d) ≡ true
+all_four a b c d e f g h = and_from (a && b && c) d (and_from (a && b) c (and_from a b e f) g) h
+
+pub restored : (words : List (Bor Word)) (d : Bor Word) (db : Word) (files : List Word) → 2 ≤ length words → length words ≤ 11
+    → cond (is_database (get_or words 0 d).now) (Some (get_or words 0 d).now) None ≡ Some db
+    → cond (list_all is_file (words_of (take (length words - 1) (drop 1 words)))) (Some (words_of (take (length words - 1) (drop 1 words)))) None ≡ Some files
+    → Some (Restore db files) ≡ restore_job (words_of words)
+restored [] d db files least most named all = absurd (omega (arith, least))
+restored (w ∷ ws) d db files least most named all =
+    let first = is_some_of (is_database w.now) w.now db named in
+    let behind : take (length (w ∷ ws) - 1) ws ≡ ws = take_all (length (w ∷ ws) - 1) ws (omega arith) in
+    let rest = is_some_of (list_all is_file (words_of ws)) (words_of ws) files (subst (λ (r : List (Bor Word)). cond (list_all is_file (words_of r)) (Some (words_of r)) None ≡ Some files) behind all) in
+    let count : length (words_of ws) ≡ length ws = length-map ws (λ (s : Bor Word). s.now) in
+    let test = all_four (is_database w.now) (nat_le 1 (length (words_of ws))) (nat_le (length (words_of ws)) 10) (list_all is_file (words_of ws)) first.0 (le-leb 1 (length (words_of ws)) (omega (arith, count, least))) (le-leb (length (words_of ws)) 10 (omega (arith, count, most))) rest.0 in
+    ap₂ (λ (n : Word) (f : List Word). Some (Restore n f)) first.1 rest.1 ∙ sym (ap (λ (b : Bool). job_if b (Restore w.now (words_of ws))) test)

@@ -12,3 +12,4 @@ pub mod Whole
 pub mod Parts
 pub mod Table
 pub mod JobLemmas
+pub mod Sets

@@ -80,7 +80,7 @@ looks_flags ls (x ∷ y ∷ ys) apart other flags u =
 
 -- ---- the letters of the definition
 
-turned : (x y : ℕ) → (x == y) ≡ (y == x)
+pub turned : (x y : ℕ) → (x == y) ≡ (y == x)
 turned x y = elim (cases_Bool (x == y)) [
   | inl e ↦ e ∙ sym (eq-eqb y x (sym (eqb-true x y e)))
   | inr e ↦ e ∙ sym (ne_eqb y x (λ d. eqb-false x y e (sym d)))

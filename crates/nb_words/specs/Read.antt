@@ -3,7 +3,8 @@ use Rattle.std.specs.Prelude.{◌≡◌, ℕ, ◌+◌, ◌==◌, List, [], ◌�
 use Rattle.std.specs.Borrow.{Bor}
 use Rattle.clap.specs.Words.{Row, count_of, rows_of, found_of}
 use Rattle.clap.specs.declared.parser.matches.ArgMatches.{ArgMatches}
-use Rattle.nb_model.specs.Words.{Word, Read, read_words}
+use Rattle.nb_model.specs.Words.{Word, Read, read_words, job_of}
+use Rattle.nb_model.specs.declared.job.Job.{Job}
 use Rattle.nb_words.specs.Line.{words_in}
 
 -- how often a letter stands in a list
@@ -29,3 +30,7 @@ pub record Holds (words : List Word) (m : ArgMatches) : Type 0 where
   pub read : Read
   pub gives : read_words words ≡ Some read
   pub shows : Shows (rows_of (found_of m)) read
+
+-- the job of what is held
+abbrev pub IsJobOf : ArgMatches → Option Job → Type 0
+IsJobOf m job = (words : List Word) → Holds words m → job ≡ job_of words

@@ -69,10 +69,10 @@ fn backup_of(since: &str, db: &str, file: &str) -> Option<Job>
 fn backup(words: &[&str]) -> Option<Job>
     ensures { result ≡ backup_job (words_of words.now) }
 {
-    let [since, db, file] = words else {
+    if words.len() != 3 {
         return None;
-    };
-    backup_of(since, db, file)
+    }
+    backup_of(words[0], words[1], words[2])
 }
 
 /// The names of some files, where each word is one.

@@ -8,4 +8,7 @@
 mod choice;
 mod jobs;
 mod line;
+mod reading;
 mod word;
+
+pub use reading::read_job;
