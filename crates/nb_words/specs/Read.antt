@@ -1,5 +1,5 @@
 -- The words, as `clap` hands them on.
-use Rattle.std.specs.Prelude.{◌≡◌, ℕ, ◌+◌, ◌==◌, List, [], ◌∷◌, true, false, map, min, codes, Some}
+use Rattle.std.specs.Prelude.{Option, ◌≡◌, ℕ, ◌+◌, ◌==◌, List, [], ◌∷◌, true, false, map, min, codes, Some}
 use Rattle.std.specs.Borrow.{Bor}
 use Rattle.clap.specs.Words.{Row, count_of, rows_of, found_of}
 use Rattle.clap.specs.declared.parser.matches.ArgMatches.{ArgMatches}

@@ -1,4 +1,4 @@
-ghost use Rattle.std.specs.Prelude.{◌≡◌, ◌×◌, ◌⊎◌, map, string_bytes, Some, None, IfOk, IfErr, OnErr};
+ghost use Rattle.std.specs.Prelude.{◌≡◌, ◌⊎◌, map, string_bytes, Some, None, IfOk, IfErr, OnErr};
 ghost use Rattle.nb_host.specs.declared.faults.Fault.TheVariants.{Memory, Refused};
 ghost use Rattle.nb_host.specs.declared.refusals.Refusal.TheVariants.{Usage};
 ghost use Rattle.nb_model.specs.Words.{job_of, job_read};

@@ -1,4 +1,4 @@
-use Rattle.std.proofs.Common.{◌≡◌, ◌∙◌, sym, subst}
+use Rattle.std.proofs.Common.{◌∙◌, sym, subst}
 use Rattle.nb_words.proofs.JobLemmas.{Taken, nothing_taken, one_taken, taken_all, not_all}
 use Rattle.nb_words.proofs.jobs.files.Goals as goal
 

@@ -1,4 +1,4 @@
-use Rattle.std.proofs.Common.{◌≡◌, ◌∙◌, sym, arith}
+use Rattle.std.proofs.Common.{◌∙◌, sym, arith}
 use Rattle.nb_words.proofs.JobLemmas.{restored}
 use Rattle.nb_words.proofs.jobs.restore.Goals as goal
 
