@@ -2,7 +2,7 @@
 use Rattle.uuid.specs.Text.{parsed_hyphenated}
 use Rattle.nb_model.specs.declared.job.Job.TheVariants.{Backup, BackupSince, Restore}
 use Rattle.std.proofs.lemmas.List.{take_more, take_all, map-append, get_or_default, length-map}
-use Rattle.std.proofs.Common.{drop, nat_le, take, ◌++◌, ◌-◌, ap₂, slice_index, ◌≡◌, ◌∙◌, ◌+◌, ◌<◌, ◌≤◌, ◌≢◌, ℕ, zero, suc, ◌==◌, ◌&&◌, Bool, true, false, List, [], ◌∷◌, length, get_or, Option, Some, None, option_map, refl, ap, sym, subst, inl, inr, cond, arith, Bor}
+use Rattle.std.proofs.Common.{drop, nat_le, take, ◌++◌, ◌-◌, ap₂, slice_index, ◌≡◌, ◌∙◌, ◌+◌, ◌<◌, ◌≤◌, ℕ, zero, suc, ◌&&◌, Bool, true, false, List, [], ◌∷◌, length, get_or, Option, Some, None, option_map, refl, ap, sym, subst, cond, arith, Bor}
 use Rattle.std.specs.List.{list_all}
 use Rattle.std.proofs.lemmas.Bool.{and_left, and_right, and_from, le-leb}
 use Rattle.nb_model.specs.Words.{Word, is_database, is_file, job_if, backup_job, restore_job, apply_job, database_job}

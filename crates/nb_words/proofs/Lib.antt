@@ -13,3 +13,4 @@ pub mod Parts
 pub mod Table
 pub mod JobLemmas
 pub mod Sets
+pub mod Found

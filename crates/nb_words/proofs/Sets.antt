@@ -1,11 +1,11 @@
 -- How often each flag was given tells which set of flags was given.
-use Rattle.std.proofs.Common.{◌⊎◌, not, slice_index, cond, ◌≡◌, ◌∙◌, ◌+◌, ◌<◌, ◌≤◌, ℕ, ◌==◌, ◌&&◌, ◌||◌, Bool, true, false, min, List, [], ◌∷◌, length, cond, refl, ap, ap₂, sym, subst, inl, inr, codes, nat_eq, nat_lt, arith}
+use Rattle.std.proofs.Common.{◌⊎◌, slice_index, ◌≡◌, ◌∙◌, ◌+◌, ◌<◌, ℕ, ◌==◌, ◌&&◌, ◌||◌, Bool, true, false, min, List, [], ◌∷◌, length, refl, ap, ap₂, sym, subst, inl, inr, codes, nat_eq, nat_lt, arith}
 use Rattle.std.specs.List.{list_all, list_any, position_or_len}
 use Rattle.std.specs.Cmp.Lexicographic.{pointwise}
 use Rattle.std.proofs.lemmas.Slice.Eq.{bytes_eq-Decides}
 use Rattle.std.proofs.lemmas.Bool.{cases_Bool, and_parts, and_from, or_cases, eqb-true, eq-eqb, lt-ltb, ltb-true, true≢false}
 use Rattle.nb_model.specs.Words.{are_flags, is_flag}
-use Rattle.nb_words.specs.Choice.{row_at, row_of, sets}
+use Rattle.nb_words.specs.Choice.{row_at, row_of}
 use Rattle.nb_words.specs.Read.{times, counts_of}
 use Rattle.nb_words.proofs.UseLemmas.{times_hit, times_miss}
 use Rattle.nb_words.proofs.Looks.{turned}
@@ -161,9 +161,11 @@ module _ (flags : List ℕ) (len : length flags ≡ total flags) where
 -- the row of the counts is that of the flags
 eight : {a b c d e f g h k l m n o p q r : Bool} → a ≡ k → b ≡ l → c ≡ m → d ≡ n → e ≡ o → f ≡ p → g ≡ q → h ≡ r
     → position_or_len (λ t. t) (a ∷ b ∷ c ∷ d ∷ e ∷ f ∷ g ∷ h ∷ []) ≡ position_or_len (λ t. t) (k ∷ l ∷ m ∷ n ∷ o ∷ p ∷ q ∷ r ∷ [])
-eight e1 e2 e3 e4 e5 e6 e7 e8 = next e1 (next e2 (next e3 (next e4 (next e5 (next e6 (next e7 (next e8 refl))))))) where
-  next : {a b : Bool} {i j : ℕ} → a ≡ b → i ≡ j → cond (not a) (1 + i) 0 ≡ cond (not b) (1 + j) 0
-  next e f = ap₂ (λ (t : Bool) (n : ℕ). cond (not t) (1 + n) 0) e f
+eight e1 e2 e3 e4 e5 e6 e7 e8 = ap (position_or_len (λ t. t)) (next e1 (next e2 (next e3 (next e4 (next e5 (next e6 (next e7 (last e8)))))))) where
+  last : {a b : Bool} → a ≡ b → (a ∷ []) ≡ (b ∷ [])
+  last e = ap (λ (t : Bool). t ∷ []) e
+  next : {a b : Bool} {xs ys : List Bool} → a ≡ b → xs ≡ ys → (a ∷ xs) ≡ (b ∷ ys)
+  next e f = ap₂ (λ (t : Bool) (ts : List Bool). t ∷ ts) e f
 
 pub row_is : (flags : List ℕ) → list_all is_flag flags ≡ true → row_at (counts_of flags) ≡ row_of flags
 row_is flags all =

@@ -30,12 +30,11 @@ pub fn read_job(alloc: Global, words: &[String]) -> Result<Job, Fault>
     ensures job { IfOk result (λ job. job_of (map string_bytes words.now) ≡ Some job) }
     ensures refusal { IfErr result (λ fault. (fault ≡ Memory) ⊎ ((fault ≡ Refused Usage) × (job_of (map string_bytes words.now) ≡ None))) }
 {
-    let job = match line::read(alloc, words)? {
-        Some(found) => job_found(alloc, &found)?,
-        None => None,
-    };
-    match job {
-        Some(job) => Ok(job),
+    match line::read(alloc, words)? {
+        Some(found) => match job_found(alloc, &found)? {
+            Some(job) => Ok(job),
+            None => Err(Fault::Refused(Refusal::Usage)),
+        },
         None => Err(Fault::Refused(Refusal::Usage)),
     }
 }
