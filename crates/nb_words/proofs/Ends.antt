@@ -23,9 +23,6 @@ no_row id (r ∷ rs) none =
     let parts = or_parts (bytes_eq r.id id) (has_row id rs) none in
     first_later id r rs parts.0 ∙ no_row id rs parts.1
 
-
-
-
 -- the rows with that of a flag that wasn't given
 abbrev with_zero : ℕ → List Row → List Row
 with_zero x rows = with_values (x ∷ []) (reading_by (letter_rule x)) DefaultValue (codes "0" ∷ []) rows

@@ -75,6 +75,7 @@ levelled : (v d f : Bool) (db file : Word) (n l : ℕ) (p : Word × Word) → pa
 levelled true true true db file n l p e h = ap₂ (λ (k : ℕ) (q : Word × Word). Some (Backup k q.0 q.1)) (sym (inner_number n l h)) (sym (inner_names (db, file) p e)) where
   inner_number : (a b : ℕ) → Some a ≡ Some b → a ≡ b
   inner_number a b e = cc
+
   inner_names : (a b : Word × Word) → Some a ≡ Some b → a ≡ b
   inner_names a b e = cc
 levelled true true false db file n l p e h = absurd (cc)

@@ -66,16 +66,16 @@ looks_flags ls (x ∷ y ∷ ys) apart other flags u =
     elim (cases_Bool (y == 45)) [
       | inl f ↦ inl (looks_long ls x y ys apart e f other, long_letters ls y ys apart f)
       | inr f ↦ inr (record {
-          first = y;
-          others = ys;
-          bundle = record {
-            other = other;
-            long = long_by (x ∷ y ∷ ys) (Some (y ∷ ys)) (strip_dash x (y ∷ ys) e) ∙ ap (λ (p : Option Text). option_and_then long_of_rest p) (strip_other y ys f);
-            short = short_by (x ∷ y ∷ ys) (Some (y ∷ ys)) (strip_dash x (y ∷ ys) e) ∙ cond-false (y == 45) _ _ f;
-          };
-          is = refl;
-          text = rest_is_text x (y ∷ ys) (omega (arith, is)) u;
-        })
+        first = y;
+        others = ys;
+        bundle = record {
+          other = other;
+          long = long_by (x ∷ y ∷ ys) (Some (y ∷ ys)) (strip_dash x (y ∷ ys) e) ∙ ap (λ (p : Option Text). option_and_then long_of_rest p) (strip_other y ys f);
+          short = short_by (x ∷ y ∷ ys) (Some (y ∷ ys)) (strip_dash x (y ∷ ys) e) ∙ cond-false (y == 45) _ _ f;
+        };
+        is = refl;
+        text = rest_is_text x (y ∷ ys) (omega (arith, is)) u;
+      })
     ]
 
 -- ---- the letters of the definition

@@ -77,6 +77,6 @@ number_some w r e h =
     let digits = (and_parts (list_all (λ b. nat_le 48 b && nat_le b 57) w) c parts.1).0 in
     let some = ltb-true 0 (length w) parts.0 in
     let plain : OkIff r (IsNumeral 10 w × (digits_value 10 w < 2 ^ 64)) (digits_value 10 w) =
-        subst (λ (t : Word). OkIff r (IsNumeral 10 t × (digits_value 10 t < 2 ^ 64)) (digits_value 10 t)) (no_plus w some digits) h in
+    subst (λ (t : Word). OkIff r (IsNumeral 10 t × (digits_value 10 t < 2 ^ 64)) (digits_value 10 t)) (no_plus w some digits) h in
     parses w r plain (some, all_digits w digits)
     ∙ sym (ap (λ b. number_if b (digits_value 10 w)) (last_part (nat_lt 0 (length w)) (list_all (λ b. nat_le 48 b && nat_le b 57) w) c (fits w) e))

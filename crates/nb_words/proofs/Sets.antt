@@ -26,18 +26,25 @@ total_one : (x : ℕ) (xs : List ℕ) → is_flag x ≡ true → total (x ∷ xs
 total_one x xs h = one (or_cases (x == 66) _ h) where
   at : (k : ℕ) → total (k ∷ xs) ≡ total xs + 1 → (x == k) ≡ true → total (x ∷ xs) ≡ total xs + 1
   at k e same = subst (λ (n : ℕ). total (n ∷ xs) ≡ total xs + 1) (sym (eqb-true x k same)) e
+
   seven : ((x == 73) || false) ≡ true → total (x ∷ xs) ≡ total xs + 1
   seven h = elim (or_cases (x == 73) false h) [ inl e ↦ at 73 (omega arith) e | inr e ↦ absurd (true≢false (sym e)) ]
+
   six : ((x == 70) || ((x == 73) || false)) ≡ true → total (x ∷ xs) ≡ total xs + 1
   six h = elim (or_cases (x == 70) _ h) [ inl e ↦ at 70 (omega arith) e | inr e ↦ seven e ]
+
   five : ((x == 78) || ((x == 70) || ((x == 73) || false))) ≡ true → total (x ∷ xs) ≡ total xs + 1
   five h = elim (or_cases (x == 78) _ h) [ inl e ↦ at 78 (omega arith) e | inr e ↦ six e ]
+
   four : ((x == 83) || ((x == 78) || ((x == 70) || ((x == 73) || false)))) ≡ true → total (x ∷ xs) ≡ total xs + 1
   four h = elim (or_cases (x == 83) _ h) [ inl e ↦ at 83 (omega arith) e | inr e ↦ five e ]
+
   three : ((x == 76) || ((x == 83) || ((x == 78) || ((x == 70) || ((x == 73) || false))))) ≡ true → total (x ∷ xs) ≡ total xs + 1
   three h = elim (or_cases (x == 76) _ h) [ inl e ↦ at 76 (omega arith) e | inr e ↦ four e ]
+
   two : ((x == 82) || ((x == 76) || ((x == 83) || ((x == 78) || ((x == 70) || ((x == 73) || false)))))) ≡ true → total (x ∷ xs) ≡ total xs + 1
   two h = elim (or_cases (x == 82) _ h) [ inl e ↦ at 82 (omega arith) e | inr e ↦ three e ]
+
   one : ((x == 66) ≡ true) ⊎ (((x == 82) || ((x == 76) || ((x == 83) || ((x == 78) || ((x == 70) || ((x == 73) || false)))))) ≡ true) → total (x ∷ xs) ≡ total xs + 1
   one (inl e) = at 66 (omega arith) e
   one (inr e) = two e
@@ -103,20 +110,20 @@ set_is flags b r l s n f i q to from =
     let decides = bytes_eq-Decides mine (counts_of flags) in
     both_true (pointwise nat_eq mine (counts_of flags)) q
     (λ h.
-      let e : mine ≡ counts_of flags = decides.0 h in
-      to (record {
-        at_b = ap (λ (t : List ℕ). slice_index t 0) e;
-        at_r = ap (λ (t : List ℕ). slice_index t 1) e;
-        at_l = ap (λ (t : List ℕ). slice_index t 2) e;
-        at_s = ap (λ (t : List ℕ). slice_index t 3) e;
-        at_n = ap (λ (t : List ℕ). slice_index t 4) e;
-        at_f = ap (λ (t : List ℕ). slice_index t 5) e;
-        at_i = ap (λ (t : List ℕ). slice_index t 6) e;
-      }))
+    let e : mine ≡ counts_of flags = decides.0 h in
+    to (record {
+      at_b = ap (λ (t : List ℕ). slice_index t 0) e;
+      at_r = ap (λ (t : List ℕ). slice_index t 1) e;
+      at_l = ap (λ (t : List ℕ). slice_index t 2) e;
+      at_s = ap (λ (t : List ℕ). slice_index t 3) e;
+      at_n = ap (λ (t : List ℕ). slice_index t 4) e;
+      at_f = ap (λ (t : List ℕ). slice_index t 5) e;
+      at_i = ap (λ (t : List ℕ). slice_index t 6) e;
+    }))
     (λ h. let c = from h in decides.1 (all_same c.at_b c.at_r c.at_l c.at_s c.at_n c.at_f c.at_i)) where
-  all_same : {b r l s n f i x1 x2 x3 x4 x5 x6 x7 : ℕ} → b ≡ x1 → r ≡ x2 → l ≡ x3 → s ≡ x4 → n ≡ x5 → f ≡ x6 → i ≡ x7
-      → (b ∷ r ∷ l ∷ s ∷ n ∷ f ∷ i ∷ []) ≡ (x1 ∷ x2 ∷ x3 ∷ x4 ∷ x5 ∷ x6 ∷ x7 ∷ [])
-  all_same e1 e2 e3 e4 e5 e6 e7 = ap₂ (λ (x : ℕ) (t : List ℕ). x ∷ t) e1 (ap₂ (λ (x : ℕ) (t : List ℕ). x ∷ t) e2 (ap₂ (λ (x : ℕ) (t : List ℕ). x ∷ t) e3 (ap₂ (λ (x : ℕ) (t : List ℕ). x ∷ t) e4 (ap₂ (λ (x : ℕ) (t : List ℕ). x ∷ t) e5 (ap₂ (λ (x : ℕ) (t : List ℕ). x ∷ t) e6 (ap (λ (x : ℕ). x ∷ []) e7))))))
+      all_same : {b r l s n f i x1 x2 x3 x4 x5 x6 x7 : ℕ} → b ≡ x1 → r ≡ x2 → l ≡ x3 → s ≡ x4 → n ≡ x5 → f ≡ x6 → i ≡ x7
+          → (b ∷ r ∷ l ∷ s ∷ n ∷ f ∷ i ∷ []) ≡ (x1 ∷ x2 ∷ x3 ∷ x4 ∷ x5 ∷ x6 ∷ x7 ∷ [])
+      all_same e1 e2 e3 e4 e5 e6 e7 = ap₂ (λ (x : ℕ) (t : List ℕ). x ∷ t) e1 (ap₂ (λ (x : ℕ) (t : List ℕ). x ∷ t) e2 (ap₂ (λ (x : ℕ) (t : List ℕ). x ∷ t) e3 (ap₂ (λ (x : ℕ) (t : List ℕ). x ∷ t) e4 (ap₂ (λ (x : ℕ) (t : List ℕ). x ∷ t) e5 (ap₂ (λ (x : ℕ) (t : List ℕ). x ∷ t) e6 (ap (λ (x : ℕ). x ∷ []) e7))))))
 
 -- ---- the sets
 
@@ -125,8 +132,8 @@ module _ (flags : List ℕ) (len : length flags ≡ total flags) where
   no_flags = set_is flags 0 0 0 0 0 0 0 (are_flags flags (codes ""))
       (λ c. none_from flags (omega (arith, len, c.at_b, c.at_r, c.at_l, c.at_s, c.at_n, c.at_f, c.at_i)))
       (λ h.
-        let e = none_to flags h in
-        record { at_b = omega (arith, len, e); at_r = omega (arith, len, e); at_l = omega (arith, len, e); at_s = omega (arith, len, e); at_n = omega (arith, len, e); at_f = omega (arith, len, e); at_i = omega (arith, len, e) })
+      let e = none_to flags h in
+      record { at_b = omega (arith, len, e); at_r = omega (arith, len, e); at_l = omega (arith, len, e); at_s = omega (arith, len, e); at_n = omega (arith, len, e); at_f = omega (arith, len, e); at_i = omega (arith, len, e) })
 
   -- of a set of one flag
   single : (x b r l s n f i : ℕ) → (Counts flags b r l s n f i → (length flags ≡ 1) × (0 < times x flags)) → (length flags ≡ 1 → 0 < times x flags → Counts flags b r l s n f i)
@@ -164,6 +171,7 @@ eight : {a b c d e f g h k l m n o p q r : Bool} → a ≡ k → b ≡ l → c �
 eight e1 e2 e3 e4 e5 e6 e7 e8 = ap (position_or_len (λ t. t)) (next e1 (next e2 (next e3 (next e4 (next e5 (next e6 (next e7 (last e8)))))))) where
   last : {a b : Bool} → a ≡ b → (a ∷ []) ≡ (b ∷ [])
   last e = ap (λ (t : Bool). t ∷ []) e
+
   next : {a b : Bool} {xs ys : List Bool} → a ≡ b → xs ≡ ys → (a ∷ xs) ≡ (b ∷ ys)
   next e f = ap₂ (λ (t : Bool) (ts : List Bool). t ∷ ts) e f
 

@@ -120,7 +120,7 @@ seen_letter x rows flags plain s =
         | inl e ↦
             let same : x ≡ y = eqb-true x y e in
             let one : count_of (x ∷ []) (used (letter_rule x) [] rows) ≡ min (times x flags + 1) 255 =
-                count_written (x ∷ []) how CommandLine n (without (x ∷ []) rows) ∙ ap (λ k. min (k + 1) 255) (s.counts x) ∙ capped (times x flags) in
+            count_written (x ∷ []) how CommandLine n (without (x ∷ []) rows) ∙ ap (λ k. min (k + 1) 255) (s.counts x) ∙ capped (times x flags) in
             let more : times y (flags ++ x ∷ []) ≡ times y flags + 1 = more_hit y x flags e in
             subst (λ (k : ℕ). count_of (k ∷ []) (used (letter_rule x) [] rows) ≡ min (times k flags + 1) 255) same one ∙ sym (ap (λ k. min k 255) more)
         | inr e ↦
@@ -129,8 +129,8 @@ seen_letter x rows flags plain s =
             ap count_at (other_count (y ∷ []) (x ∷ []) how CommandLine n (without (x ∷ []) rows) other ∙ other_without (y ∷ []) (x ∷ []) rows other) ∙ s.counts y ∙ sym (ap (λ k. min k 255) more)
       ];
       words =
-        ap (λ o. unwrap_or (option_map (λ (r : Row). r.values) o) [] ++ []) (other_count words_id (x ∷ []) how CommandLine n (without (x ∷ []) rows) (letter_is_not_words x) ∙ other_without words_id (x ∷ []) rows (letter_is_not_words x))
-        ∙ s.words;
+          ap (λ o. unwrap_or (option_map (λ (r : Row). r.values) o) [] ++ []) (other_count words_id (x ∷ []) how CommandLine n (without (x ∷ []) rows) (letter_is_not_words x) ∙ other_without words_id (x ∷ []) rows (letter_is_not_words x))
+          ∙ s.words;
     }
 
 pub seen_word : (word : Text) (waiting : Option (List Text)) (rows : List Row) (flags : List ℕ) (plain : List Text) → Seen rows waiting flags plain → Seen rows (Some (unwrap_or waiting [] ++ word ∷ [])) flags (plain ++ word ∷ [])

@@ -23,9 +23,7 @@ fn place(sets: &[[u8; 7]], counts: &[u8; 7]) -> usize
     ensures first { result ≡ position_or_len (λ set. pointwise nat_eq set counts.now) sets.now }
     ensures within { result ≤ length sets.now }
 {
-    sets.iter()
-        .take_while(|set| *set != counts)
-        .count()
+    sets.iter().take_while(|set| *set != counts).count()
 }
 
 /// The row of flags that are given so often; any that name no job have the last one.

@@ -20,9 +20,7 @@ fn with_flag<'a>(
     requires { id.now ≡ letter ∷ [] }
     ensures { IfOk result (λ r. app_of r ≡ with_rule (app_of command.entry) (flag letter)) }
 {
-    let arg = Arg::new(alloc, id)
-        .short(letter)
-        .action(ArgAction::Count);
+    let arg = Arg::new(alloc, id).short(letter).action(ArgAction::Count);
     command.arg(arg)
 }
 

@@ -21,7 +21,11 @@ pub(crate) fn database(word: &str) -> Option<Name>
     ensures { result ≡ cond (is_database word.now) (Some word.now) None }
 {
     let name = file(word)?;
-    if word.len() <= MOST_BASE_NAME { Some(name) } else { None }
+    if word.len() <= MOST_BASE_NAME {
+        Some(name)
+    } else {
+        None
+    }
 }
 
 /// The names of a database and of a file.
