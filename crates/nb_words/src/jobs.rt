@@ -1,9 +1,9 @@
 // The job of each cell, of the plain words that it asks for.
-ghost use Rattle.std.specs.Prelude.{◌≡◌, [], ◌∷◌, length, Some, None, cond, IfOk, IfErr, IfSome};
+ghost use Rattle.std.specs.Prelude.{◌≡◌, [], ◌∷◌, Some, None, cond, IfOk, IfErr};
 ghost use Rattle.std.specs.List.{list_all};
 ghost use Rattle.nb_host.specs.declared.faults.Fault.TheVariants.{Memory};
 ghost use Rattle.nb_model.specs.declared.job.Job.TheVariants.{Lock, LockWithSize, Unlock, Fixup};
-ghost use Rattle.nb_model.specs.Words.{is_file, job_if, plain_job, backup_job, restore_job, apply_job, database_job};
+ghost use Rattle.nb_model.specs.Words.{is_file, plain_job, backup_job, restore_job, apply_job, database_job};
 ghost use Rattle.nb_words.specs.Choice.{job_in};
 ghost use Rattle.nb_words.specs.Parts.{one_database};
 ghost use Rattle.nb_words.specs.Read.{words_of};

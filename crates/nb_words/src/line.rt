@@ -1,6 +1,6 @@
 // The words, read by `clap`: which flags were given, how often, and the plain words.
 ghost use Rattle.std.specs.Prelude.{◌≡◌, [], ◌∷◌, map, None, IfOk, IfErr, OnOk, MatchOption, string_bytes, codes, unwrap_or, option_map};
-ghost use Rattle.clap.specs.Words.{app_of, rule_of, with_rule, rows_of, found_of, matches_of, fault_of, count_of, HasKind};
+ghost use Rattle.clap.specs.Words.{app_of, with_rule, rows_of, found_of, matches_of, fault_of, count_of, HasKind};
 ghost use Rattle.nb_host.specs.declared.faults.Fault.TheVariants.{Memory};
 ghost use Rattle.nb_model.specs.Words.{read_words};
 ghost use Rattle.nb_words.specs.Line.{bare, flag, line, plain, words_in};

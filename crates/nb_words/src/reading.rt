@@ -1,7 +1,8 @@
-ghost use Rattle.std.specs.Prelude.{◌≡◌, ◌⊎◌, map, string_bytes, Some, None, IfOk, IfErr, OnErr};
+// The job of the words: what `clap` finds in them, the cell that it chooses, and the names that the cell asks for.
+ghost use Rattle.std.specs.Prelude.{◌≡◌, ◌⊎◌, map, string_bytes, Some, None, IfOk, IfErr};
 ghost use Rattle.nb_host.specs.declared.faults.Fault.TheVariants.{Memory, Refused};
 ghost use Rattle.nb_host.specs.declared.refusals.Refusal.TheVariants.{Usage};
-ghost use Rattle.nb_model.specs.Words.{job_of, job_read};
+ghost use Rattle.nb_model.specs.Words.{job_of};
 ghost use Rattle.nb_words.specs.Read.{IsJobOf};
 
 use crate::{choice, jobs, line};
