@@ -176,7 +176,7 @@ pub owner-formed : (name bytes : List ℕ) (delta : File) → not_database bytes
 unfolding owner
 owner-formed name bytes delta none = rw (none, owner) refl
 
-owner_in-normal : (name bytes : List ℕ) (delta : File) → owner_in 0 name bytes delta ≡ Ok (base_of (image_in bytes))
+pub owner_in-normal : (name bytes : List ℕ) (delta : File) → owner_in 0 name bytes delta ≡ Ok (base_of (image_in bytes))
 unfolding owner_in
 owner_in-normal name bytes delta = refl
 
@@ -217,7 +217,7 @@ owned-state bytes delta table none =
     same-number (first_page (owned (size_of bytes) main delta table)) bytes front 22 2 (omega arith)
 
 -- why two files hold no database
-owner-none : (name : List ℕ) (delta : File) → owner name None delta ≡ Err (NoFile name)
+pub owner-none : (name : List ℕ) (delta : File) → owner name None delta ≡ Err (NoFile name)
 unfolding owner
 owner-none name delta = refl
 
@@ -225,7 +225,7 @@ pub owner-refused : (name bytes : List ℕ) (delta : File) (r : Refusal) → not
 unfolding owner
 owner-refused name bytes delta r e = rw (e, owner) refl
 
-ok_same : (a b : Base) (answer : Result Base Refusal) → answer ≡ Ok a → answer ≡ Ok b → a ≡ b
+pub ok_same : (a b : Base) (answer : Result Base Refusal) → answer ≡ Ok a → answer ≡ Ok b → a ≡ b
 ok_same a b answer e f = cc
 
 -- the image of a database whose difference file is there
