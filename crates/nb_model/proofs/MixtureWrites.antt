@@ -91,6 +91,10 @@ module _ (t : Trail) (b : Base) (left : IsLeft t b) (p : ℕ) (bytes : Page) (lo
   unfolding on_base
   diverted_same c is = ap (λ (u : Bool). elim u as (λ z. List ℕ) [ true ↦ noted p c.diverted | false ↦ c.diverted ]) is
 
+  -- the state stays, so in the merge state it was that state
+  merges_on : image_state later.base.image ≡ 2 → image_state t.base.image ≡ 2
+  merges_on is = sym (ap image_state now_image ∙ same-number (first_page (with_page p written t.base.image)) (first_page t.base.image) (with_page_front p written t.base.image low head) 22 2 (omega arith)) ∙ is
+
   none_before : images_of t ≡ [] → ⊥
   none_before e = absurd (omega (arith, ap length e, length-append t.earlier (t.base.image ∷ [])))
 
@@ -108,6 +112,7 @@ module _ (t : Trail) (b : Base) (left : IsLeft t b) (p : ℕ) (bytes : Page) (lo
       diverted_same t.base main ∙ left.diverted.1
           ∙ ap (λ (xs : List ℕ). xs ++ left.diverted.0) (sym (diverted_same b (ap (λ (n : ℕ). n == 1) (mixed_state (images_of t) t.base.image b.image left.mixed) ∙ main))),
     );
+    merging = λ is. diverted_same b (ap (λ (n : ℕ). n == 1) (mixed_state (images_of t) t.base.image b.image left.mixed) ∙ main) ∙ left.merging (merges_on is) ∙ sym (diverted_same t.base main);
     whole = λ none. absurd (none_before none);
   })
 
@@ -117,5 +122,6 @@ module _ (t : Trail) (b : Base) (left : IsLeft t b) (p : ℕ) (bytes : Page) (lo
     mixed = mixture_later b (mixture_lost (images_of t) t.base.image b.image left.mixed p written low head below plain);
     frozen = left.frozen ∙ sym (frozen_same t.base);
     diverted = (left.diverted.0, diverted_same t.base main ∙ left.diverted.1);
+    merging = λ is. left.merging (merges_on is) ∙ sym (diverted_same t.base main);
     whole = λ none. absurd (none_before none);
   })
