@@ -3,9 +3,9 @@ use Rattle.std.specs.Prelude.{◌≡◌, ℕ, List, [], ◌++◌}
 use Rattle.nb_host.specs.World.{World}
 
 -- these, in order
-pub record Gave (old new : World) (guids : List (List ℕ)) (times : List ℕ) : Type 0 where
-  pub guids : new.guids ≡ old.guids ++ guids
-  pub times : new.times ≡ old.times ++ times
+pub record Gave (old new : World) (given : List (List ℕ)) (ticks : List ℕ) : Type 0 where
+  pub guids : new.guids ≡ old.guids ++ given
+  pub times : new.times ≡ old.times ++ ticks
 
 -- nothing
 pub record GaveNothing (old new : World) : Type 0 where
