@@ -2,7 +2,7 @@
 use Rattle.std.specs.Prelude.{◌≡◌, ℕ, ◌<◌, List, [], ◌∷◌, ◌++◌, length, Contains, Bool, true, false, ◌||◌, ◌==◌, nat_le, Ok}
 use Rattle.nb_fields.specs.Places.{is_scn_place}
 use Rattle.nb_host.specs.Files.{File, Files}
-use Rattle.nb_model.specs.Image.{Page, Image, page_at, image_size, is_forced}
+use Rattle.nb_model.specs.Image.{Page, Image, page_at, image_size, image_state, is_forced}
 use Rattle.nb_model.specs.Account.{Base}
 use Rattle.nb_model.specs.Strokes.{Stroke, make, page, begin, ends, finish, fix, merge, on_base}
 use Rattle.nb_model.specs.Owner.{delta_name, owner}
@@ -62,12 +62,13 @@ pub record IsMixture (images : List Image) (now image : Image) : Type 0 where
   pub kept : (p : ℕ) → is_kept_place (image_size now) p ≡ true → page_at image p ≡ page_at now p
   pub each : (p : ℕ) → p < length image → HasPage images p (page_at image p)
 
--- What a stop may leave of the database: the frozen image stays, the last entries of the difference file may be missing, and where
--- nothing was written since the settled point it is the database itself.
+-- What a stop may leave of the database: the frozen image stays, the last entries of the difference file may be missing, but for the
+-- merge state, and where nothing was written since the settled point it is the database itself.
 pub record IsLeft (t : Trail) (b : Base) : Type 0 where
   pub mixed : IsMixture (images_of t) t.base.image b.image
   pub frozen : b.frozen ≡ t.base.frozen
   pub diverted : (rest : List ℕ) × (t.base.diverted ≡ b.diverted ++ rest)
+  pub merging : image_state t.base.image ≡ 2 → b.diverted ≡ t.base.diverted
   pub whole : t.earlier ≡ [] → b ≡ t.base
 
 -- its two files can be opened, and hold what a stop may leave
