@@ -1,0 +1,158 @@
+-- What a call does that may be refused before its strokes, and what it does of its turn.
+use Rattle.std.proofs.Common.{◌≡◌, List, [], ◌∷◌, ◌++◌, refl, sym, ap, subst, ◌∙◌}
+use Rattle.std.specs.Prelude.{Some, None, Result, Ok, Err, IfOk, IfErr}
+use Rattle.nb_host.specs.World.{World}
+use Rattle.nb_host.specs.declared.faults.Fault.{Fault}
+use Rattle.nb_host.specs.declared.faults.Fault.TheVariants.{Refused as RefusedFault, Device, Memory}
+use Rattle.nb_host.specs.declared.refusals.Refusal.{Refusal}
+use Rattle.nb_page.specs.Quiet.{Quiet}
+use Rattle.nb_page.proofs.QuietLemmas.{quiet_joined}
+use Rattle.nb_model.specs.declared.reply.Reply.{Reply}
+use Rattle.nb_model.specs.declared.reply.Reply.TheVariants.{Refused}
+use Rattle.nb_model.specs.Strokes.{Stroke}
+use Rattle.nb_model.specs.Trail.{Trail}
+use Rattle.nb_model.specs.Causes.{Cause}
+use Rattle.nb_model.specs.Outcomes.{Seen, Outcome, says, unless}
+use Rattle.nb_base.specs.Takes.{after_strokes, IsNoRefusal}
+use Rattle.nb_state.specs.Open.{Held, IsOpen}
+use Rattle.nb_state.specs.Does.{Tested, Answers, WhereRefused, Makes, Does}
+use Rattle.nb_state.proofs.MakesLaws.{makes_none, makes_not, makes_then, makes_front, makes_after}
+use Rattle.nb_engine.specs.Tries.{unless_by, Tries}
+
+-- the strokes by the cause
+pub unless_none : (cause : Cause) (xs : List Stroke) → cause ≡ None → unless_by cause xs ≡ xs
+unless_none cause xs none = ap (λ (c : Cause). unless_by c xs) none
+
+pub unless_some : (cause : Cause) (xs : List Stroke) (r : Refusal) → cause ≡ Some r → unless_by cause xs ≡ []
+unless_some cause xs r some = ap (λ (c : Cause). unless_by c xs) some
+
+pub unless_same : (cause : Cause) (xs ys : List Stroke) → (cause ≡ None → xs ≡ ys) → unless_by cause xs ≡ unless_by cause ys
+unless_same None xs ys same = same refl
+unless_same (Some r) xs ys same = refl
+
+-- what a test found is what this one finds, where each of its causes is one of this
+pub tested_as : (S T : Type 0) (fault : Fault) (found cause : Cause) → ((r : Refusal) → found ≡ Some r → cause ≡ Some r) → Tested {T = S} (Err fault) found → Tested {T = T} (Err fault) cause
+tested_as S T (RefusedFault r) found cause are tested = are r tested
+tested_as S T Device found cause are tested = tt
+tested_as S T Memory found cause are tested = tt
+
+tested_none : {T : Type 0} (result : Result T Fault) (cause : Cause) → cause ≡ None → IfErr result IsNoRefusal → Tested result cause
+tested_none (Ok value) cause none never = none
+tested_none (Err (RefusedFault r)) cause none never = absurd never
+tested_none (Err Device) cause none never = tt
+tested_none (Err Memory) cause none never = tt
+
+none_refused : {T : Type 0} (result : Result T Fault) (P : Type 0) → IfErr result IsNoRefusal → WhereRefused result P
+none_refused (Ok value) P never = tt
+none_refused (Err (RefusedFault r)) P never = absurd never
+none_refused (Err Device) P never = tt
+none_refused (Err Memory) P never = tt
+
+refused_more : {T : Type 0} (result : Result T Fault) (P Q : Type 0) → (P → Q) → WhereRefused result P → WhereRefused result Q
+refused_more (Ok value) P Q more is = tt
+refused_more (Err (RefusedFault r)) P Q more is = more is
+refused_more (Err Device) P Q more is = tt
+refused_more (Err Memory) P Q more is = tt
+
+-- a test ended the call before any stroke
+pub tries_failed : (T : Type 0) (fault : Fault) (old new : World) (held : Held) (t : Trail) (cause : Cause) (xs : List Stroke) → Tested {T = T} (Err fault) cause → Quiet old new → IsOpen old held t
+    → Tries {T = T} (Err fault) old new held held t cause xs
+tries_failed T (RefusedFault r) old new held t cause xs tested quiet is = record {
+  test = tested;
+  makes = subst (λ (ss : List Stroke). Makes {T = T} (Err (RefusedFault r)) old new held held t ss) (sym (unless_some cause xs r tested)) (makes_none (Err (RefusedFault r)) old new held t quiet is);
+  refused = quiet;
+}
+tries_failed T Device old new held t cause xs tested quiet is = record { test = tt; makes = makes_not T Device old new held t (unless_by cause xs) tt quiet is; refused = tt }
+tries_failed T Memory old new held t cause xs tested quiet is = record { test = tt; makes = makes_not T Memory old new held t (unless_by cause xs) tt quiet is; refused = tt }
+
+-- no cause applies, and the strokes are made
+pub tries_made : {T : Type 0} (result : Result T Fault) (old new : World) (a b : Held) (t : Trail) (cause : Cause) (xs : List Stroke) → cause ≡ None → IfErr result IsNoRefusal → Makes result old new a b t xs
+    → Tries result old new a b t cause xs
+tries_made result old new a b t cause xs none never makes = record {
+  test = tested_none result cause none never;
+  makes = subst (λ (ss : List Stroke). Makes result old new a b t ss) (sym (unless_none cause xs none)) makes;
+  refused = none_refused result _ never;
+}
+
+-- more strokes follow
+pub tries_then : {S T : Type 0} (value : S) (result : Result T Fault) (old mid new : World) (a b c : Held) (t : Trail) (cause : Cause) (xs ys : List Stroke) → Tries (Ok value) old mid a b t cause xs
+    → IfErr result IsNoRefusal → Makes result mid new b c (after_strokes t xs) ys → Tries result old new a c t cause (xs ++ ys)
+tries_then value result old mid new a b c t cause xs ys first never second =
+    tries_made result old new a c t cause (xs ++ ys) first.test never
+    (makes_then value result old mid new a b c t xs ys (subst (λ (ss : List Stroke). Makes (Ok value) old mid a b t ss) (unless_none cause xs first.test) first.makes) second)
+
+-- or would have followed, but the first ended the call
+pub tries_front : (S T : Type 0) (fault : Fault) (old new : World) (a b : Held) (t : Trail) (cause : Cause) (xs ys : List Stroke) → Tries {T = S} (Err fault) old new a b t cause xs
+    → Tries {T = T} (Err fault) old new a b t cause (xs ++ ys)
+tries_front S T fault old new a b t cause xs ys first = by fault first
+  where
+    failed : (f : Fault) (c : Cause) → IsNoRefusal f → Makes {T = S} (Err f) old new a b t (unless_by c xs) → Makes {T = T} (Err f) old new a b t (unless_by c (xs ++ ys))
+    failed f None fails makes = makes_front S T f old new a b t xs ys fails makes
+    failed f (Some r) fails makes = makes_front S T f old new a b t [] [] fails makes
+
+    by : (f : Fault) → Tries {T = S} (Err f) old new a b t cause xs → Tries {T = T} (Err f) old new a b t cause (xs ++ ys)
+    by (RefusedFault r) first =
+        let none : unless_by cause xs ≡ unless_by cause (xs ++ ys) = unless_some cause xs r first.test ∙ sym (unless_some cause (xs ++ ys) r first.test) in
+        record {
+          test = first.test;
+          makes = subst (λ (ss : List Stroke). Makes {T = T} (Err (RefusedFault r)) old new a b t ss) none
+              (record { left = first.makes.left; opened = first.makes.opened; goes = first.makes.goes; gave = first.makes.gave });
+          refused = first.refused;
+        }
+    by Device first = record { test = tt; makes = failed Device cause tt first.makes; refused = tt }
+    by Memory first = record { test = tt; makes = failed Memory cause tt first.makes; refused = tt }
+
+-- calls that change nothing before it
+pub tries_after : {T : Type 0} (result : Result T Fault) (old mid new : World) (a b : Held) (t : Trail) (cause : Cause) (xs : List Stroke) → Quiet old mid → IsOpen old a t → Tries result mid new a b t cause xs
+    → Tries result old new a b t cause xs
+tries_after result old mid new a b t cause xs quiet is tries = record {
+  test = tries.test;
+  makes = makes_after result old mid new a b t (unless_by cause xs) quiet is tries.makes;
+  refused = refused_more result _ _ (λ rest. quiet_joined old mid new quiet rest) tries.refused;
+}
+
+-- the same strokes, where no cause applies
+pub tries_these : {T : Type 0} (result : Result T Fault) (old new : World) (a b : Held) (t : Trail) (cause : Cause) (xs ys : List Stroke) → (cause ≡ None → xs ≡ ys) → Tries result old new a b t cause xs
+    → Tries result old new a b t cause ys
+tries_these result old new a b t cause xs ys same tries = record {
+  test = tries.test;
+  makes = subst (λ (ss : List Stroke). Makes result old new a b t ss) (unless_same cause xs ys same) tries.makes;
+  refused = tries.refused;
+}
+
+-- the strokes and the reply of a turn that is refused where there is a cause
+strokes_are : (s : Seen) (cause : Cause) (said : Reply) (xs : List Stroke) → unless_by cause xs ≡ (unless s cause (says s said xs)).strokes
+unfolding unless
+strokes_are s None said xs = refl
+strokes_are s (Some r) said xs = refl
+
+answer_is : {T : Type 0} (reply : T → Reply) (result : Result T Fault) (s : Seen) (cause : Cause) (said : Reply) (xs : List Stroke) → Tested result cause → IfOk result (λ value. reply value ≡ said)
+    → Answers reply result (unless s cause (says s said xs)).reply
+unfolding unless
+answer_is reply (Ok value) s cause said xs none is = ap (λ (c : Cause). (unless s c (says s said xs)).reply) none ∙ ap Some (sym is)
+answer_is reply (Err (RefusedFault r)) s cause said xs some is = ap (λ (c : Cause). (unless s c (says s said xs)).reply) some
+answer_is reply (Err Device) s cause said xs tested is = tt
+answer_is reply (Err Memory) s cause said xs tested is = tt
+
+-- so the call does that turn
+pub tries_does : {T : Type 0} (reply : T → Reply) (result : Result T Fault) (old new : World) (a b : Held) (t : Trail) (s : Seen) (turn : Outcome) (cause : Cause) (said : Reply) (xs : List Stroke)
+    → turn ≡ unless s cause (says s said xs) → IfOk result (λ value. reply value ≡ said) → Tries result old new a b t cause xs → Does reply result old new a b t turn
+tries_does reply result old new a b t s turn cause said xs e is tries = subst (λ (o : Outcome). Does reply result old new a b t o) (sym e) (record {
+  answer = answer_is reply result s cause said xs tries.test is;
+  makes = subst (λ (ss : List Stroke). Makes result old new a b t ss) (strokes_are s cause said xs) tries.makes;
+  refused = tries.refused;
+})
+
+-- the turn says this and has no stroke
+pub valued_does : {T : Type 0} (reply : T → Reply) (value : T) (old new : World) (held : Held) (t : Trail) (s : Seen) (turn : Outcome) → Quiet old new → IsOpen old held t → turn ≡ says s (reply value) [] → Does reply (Ok value) old new held held t turn
+valued_does reply value old new held t s turn quiet is e =
+    subst (λ (o : Outcome). Does reply (Ok value) old new held held t o) (sym e) (record { answer = refl; makes = makes_none (Ok value) old new held t quiet is; refused = tt })
+
+-- a test ended the call, and the turn is refused where the test has a cause
+pub tested_does : (S T : Type 0) (reply : T → Reply) (fault : Fault) (old new : World) (held : Held) (t : Trail) (s : Seen) (turn : Outcome) (found : Cause) → Quiet old new → IsOpen old held t
+    → Tested {T = S} (Err fault) found → ((r : Refusal) → found ≡ Some r → turn ≡ says s (Refused r) []) → Does reply (Err fault) old new held held t turn
+tested_does S T reply (RefusedFault r) old new held t s turn found quiet is tested refused =
+    subst (λ (o : Outcome). Does reply (Err (RefusedFault r)) old new held held t o) (sym (refused r tested))
+    (record { answer = refl; makes = makes_none (Err (RefusedFault r)) old new held t quiet is; refused = quiet })
+tested_does S T reply Device old new held t s turn found quiet is tested refused = record { answer = tt; makes = makes_not T Device old new held t turn.strokes tt quiet is; refused = tt }
+tested_does S T reply Memory old new held t s turn found quiet is tested refused = record { answer = tt; makes = makes_not T Memory old new held t turn.strokes tt quiet is; refused = tt }
