@@ -1,6 +1,6 @@
 -- What a call does that may be refused before its strokes, and what it does of its turn.
 use Rattle.std.proofs.Common.{◌≡◌, List, [], ◌∷◌, ◌++◌, refl, sym, ap, subst, ◌∙◌}
-use Rattle.std.specs.Prelude.{Some, None, Result, Ok, Err, IfOk, IfErr}
+use Rattle.std.specs.Prelude.{Some, None, Result, Ok, Err, OnOk, IfOk, IfErr, IsErr, IsErrAnd}
 use Rattle.nb_host.specs.World.{World}
 use Rattle.nb_host.specs.declared.faults.Fault.{Fault}
 use Rattle.nb_host.specs.declared.faults.Fault.TheVariants.{Refused as RefusedFault, Device, Memory}
@@ -16,7 +16,7 @@ use Rattle.nb_model.specs.Outcomes.{Seen, Outcome, says, unless}
 use Rattle.nb_base.specs.Takes.{after_strokes, IsNoRefusal}
 use Rattle.nb_state.specs.Open.{Held, IsOpen}
 use Rattle.nb_state.specs.Does.{Tested, Answers, WhereRefused, Makes, Does}
-use Rattle.nb_state.proofs.MakesLaws.{makes_none, makes_not, makes_then, makes_front, makes_after}
+use Rattle.nb_state.proofs.MakesLaws.{passed_on, makes_none, makes_not, makes_then, makes_front, makes_after}
 use Rattle.nb_engine.specs.Tries.{unless_by, Tries}
 
 -- the strokes by the cause
@@ -35,6 +35,18 @@ pub tested_as : (S T : Type 0) (fault : Fault) (found cause : Cause) → ((r : R
 tested_as S T (RefusedFault r) found cause are tested = are r tested
 tested_as S T Device found cause are tested = tt
 tested_as S T Memory found cause are tested = tt
+
+-- the same where `?` passes the fault on
+pub tested_on : (S T : Type 0) (result : Result T Fault) (fault : Fault) (found cause : Cause) → IsErr result × IsErrAnd result (λ f. f ≡ fault) → ((r : Refusal) → found ≡ Some r → cause ≡ Some r)
+    → Tested {T = S} (Err fault) found → Tested result cause
+tested_on S T result fault found cause passed are tested = subst (λ (x : Result T Fault). Tested x cause) (sym (passed_on result fault passed)) (tested_as S T fault found cause are tested)
+
+-- nothing is said under Ok
+pub on_err : {T : Type 0} (result : Result T Fault) (fault : Fault) (P : Type 0) → IsErr result × IsErrAnd result (λ f. f ≡ fault) → OnOk result P
+on_err {T = T} result fault P passed = subst (λ (x : Result T Fault). OnOk x P) (sym (passed_on result fault passed)) tt
+
+pub if_err : {T : Type 0} (result : Result T Fault) (fault : Fault) (P : T → Type 0) → IsErr result × IsErrAnd result (λ f. f ≡ fault) → IfOk result P
+if_err {T = T} result fault P passed = subst (λ (x : Result T Fault). IfOk x P) (sym (passed_on result fault passed)) tt
 
 tested_none : {T : Type 0} (result : Result T Fault) (cause : Cause) → cause ≡ None → IfErr result IsNoRefusal → Tested result cause
 tested_none (Ok value) cause none never = none
@@ -55,15 +67,24 @@ refused_more (Err Device) P Q more is = tt
 refused_more (Err Memory) P Q more is = tt
 
 -- a test ended the call before any stroke
-pub tries_failed : (T : Type 0) (fault : Fault) (old new : World) (held : Held) (t : Trail) (cause : Cause) (xs : List Stroke) → Tested {T = T} (Err fault) cause → Quiet old new → IsOpen old held t
-    → Tries {T = T} (Err fault) old new held held t cause xs
-tries_failed T (RefusedFault r) old new held t cause xs tested quiet is = record {
+pub tries_failed : (T : Type 0) (fault : Fault) (old new : World) (a b : Held) (t : Trail) (cause : Cause) (xs : List Stroke) → Tested {T = T} (Err fault) cause → b ≡ a → Quiet old new → IsOpen old a t
+    → Tries {T = T} (Err fault) old new a b t cause xs
+tries_failed T (RefusedFault r) old new a b t cause xs tested same quiet is = record {
   test = tested;
-  makes = subst (λ (ss : List Stroke). Makes {T = T} (Err (RefusedFault r)) old new held held t ss) (sym (unless_some cause xs r tested)) (makes_none (Err (RefusedFault r)) old new held t quiet is);
+  makes = subst (λ (ss : List Stroke). Makes {T = T} (Err (RefusedFault r)) old new a b t ss) (sym (unless_some cause xs r tested)) (makes_none (Err (RefusedFault r)) old new a b t same quiet is);
   refused = quiet;
 }
-tries_failed T Device old new held t cause xs tested quiet is = record { test = tt; makes = makes_not T Device old new held t (unless_by cause xs) tt quiet is; refused = tt }
-tries_failed T Memory old new held t cause xs tested quiet is = record { test = tt; makes = makes_not T Memory old new held t (unless_by cause xs) tt quiet is; refused = tt }
+tries_failed T Device old new a b t cause xs tested same quiet is = record { test = tt; makes = makes_not T Device old new a b t (unless_by cause xs) tt same quiet is; refused = tt }
+tries_failed T Memory old new a b t cause xs tested same quiet is = record { test = tt; makes = makes_not T Memory old new a b t (unless_by cause xs) tt same quiet is; refused = tt }
+
+-- the same where `?` passes the fault on
+pub tries_passed : {T : Type 0} (result : Result T Fault) (fault : Fault) (P : Result T Fault → Type 0) → IsErr result × IsErrAnd result (λ f. f ≡ fault) → P (Err fault) → P result
+tries_passed result fault P passed is = subst P (sym (passed_on result fault passed)) is
+
+pub tries_early : (S T : Type 0) (result : Result T Fault) (fault : Fault) (old new : World) (a b : Held) (t : Trail) (found cause : Cause) (xs : List Stroke) → IsErr result × IsErrAnd result (λ f. f ≡ fault)
+    → ((r : Refusal) → found ≡ Some r → cause ≡ Some r) → Tested {T = S} (Err fault) found → b ≡ a → Quiet old new → IsOpen old a t → Tries result old new a b t cause xs
+tries_early S T result fault old new a b t found cause xs passed are tested same quiet is =
+    tries_passed result fault (λ r. Tries r old new a b t cause xs) passed (tries_failed T fault old new a b t cause xs (tested_as S T fault found cause are tested) same quiet is)
 
 -- no cause applies, and the strokes are made
 pub tries_made : {T : Type 0} (result : Result T Fault) (old new : World) (a b : Held) (t : Trail) (cause : Cause) (xs : List Stroke) → cause ≡ None → IfErr result IsNoRefusal → Makes result old new a b t xs
@@ -73,6 +94,10 @@ tries_made result old new a b t cause xs none never makes = record {
   makes = subst (λ (ss : List Stroke). Makes result old new a b t ss) (sym (unless_none cause xs none)) makes;
   refused = none_refused result _ never;
 }
+
+-- what is open behind the strokes
+pub tries_opened : {T : Type 0} (value : T) (old new : World) (a b : Held) (t : Trail) (cause : Cause) (xs : List Stroke) → Tries (Ok value) old new a b t cause xs → IsOpen new b (after_strokes t xs)
+tries_opened value old new a b t cause xs tries = subst (λ (ss : List Stroke). IsOpen new b (after_strokes t ss)) (unless_none cause xs tries.test) tries.makes.opened
 
 -- more strokes follow
 pub tries_then : {S T : Type 0} (value : S) (result : Result T Fault) (old mid new : World) (a b c : Held) (t : Trail) (cause : Cause) (xs ys : List Stroke) → Tries (Ok value) old mid a b t cause xs
@@ -103,11 +128,11 @@ tries_front S T fault old new a b t cause xs ys first = by fault first
     by Memory first = record { test = tt; makes = failed Memory cause tt first.makes; refused = tt }
 
 -- calls that change nothing before it
-pub tries_after : {T : Type 0} (result : Result T Fault) (old mid new : World) (a b : Held) (t : Trail) (cause : Cause) (xs : List Stroke) → Quiet old mid → IsOpen old a t → Tries result mid new a b t cause xs
-    → Tries result old new a b t cause xs
-tries_after result old mid new a b t cause xs quiet is tries = record {
+pub tries_after : {T : Type 0} (result : Result T Fault) (old mid new : World) (a b c : Held) (t : Trail) (cause : Cause) (xs : List Stroke) → b ≡ a → Quiet old mid → IsOpen old a t → Tries result mid new b c t cause xs
+    → Tries result old new a c t cause xs
+tries_after result old mid new a b c t cause xs same quiet is tries = record {
   test = tries.test;
-  makes = makes_after result old mid new a b t (unless_by cause xs) quiet is tries.makes;
+  makes = makes_after result old mid new a b c t (unless_by cause xs) same quiet is tries.makes;
   refused = refused_more result _ _ (λ rest. quiet_joined old mid new quiet rest) tries.refused;
 }
 
@@ -144,15 +169,16 @@ tries_does reply result old new a b t s turn cause said xs e is tries = subst (�
 })
 
 -- the turn says this and has no stroke
-pub valued_does : {T : Type 0} (reply : T → Reply) (value : T) (old new : World) (held : Held) (t : Trail) (s : Seen) (turn : Outcome) → Quiet old new → IsOpen old held t → turn ≡ says s (reply value) [] → Does reply (Ok value) old new held held t turn
-valued_does reply value old new held t s turn quiet is e =
-    subst (λ (o : Outcome). Does reply (Ok value) old new held held t o) (sym e) (record { answer = refl; makes = makes_none (Ok value) old new held t quiet is; refused = tt })
+pub valued_does : {T : Type 0} (reply : T → Reply) (value : T) (old new : World) (a b : Held) (t : Trail) (s : Seen) (turn : Outcome) → b ≡ a → Quiet old new → IsOpen old a t → turn ≡ says s (reply value) []
+    → Does reply (Ok value) old new a b t turn
+valued_does reply value old new a b t s turn same quiet is e =
+    subst (λ (o : Outcome). Does reply (Ok value) old new a b t o) (sym e) (record { answer = refl; makes = makes_none (Ok value) old new a b t same quiet is; refused = tt })
 
 -- a test ended the call, and the turn is refused where the test has a cause
-pub tested_does : (S T : Type 0) (reply : T → Reply) (fault : Fault) (old new : World) (held : Held) (t : Trail) (s : Seen) (turn : Outcome) (found : Cause) → Quiet old new → IsOpen old held t
-    → Tested {T = S} (Err fault) found → ((r : Refusal) → found ≡ Some r → turn ≡ says s (Refused r) []) → Does reply (Err fault) old new held held t turn
-tested_does S T reply (RefusedFault r) old new held t s turn found quiet is tested refused =
-    subst (λ (o : Outcome). Does reply (Err (RefusedFault r)) old new held held t o) (sym (refused r tested))
-    (record { answer = refl; makes = makes_none (Err (RefusedFault r)) old new held t quiet is; refused = quiet })
-tested_does S T reply Device old new held t s turn found quiet is tested refused = record { answer = tt; makes = makes_not T Device old new held t turn.strokes tt quiet is; refused = tt }
-tested_does S T reply Memory old new held t s turn found quiet is tested refused = record { answer = tt; makes = makes_not T Memory old new held t turn.strokes tt quiet is; refused = tt }
+pub tested_does : (S T : Type 0) (reply : T → Reply) (fault : Fault) (old new : World) (a b : Held) (t : Trail) (s : Seen) (turn : Outcome) (found : Cause) → b ≡ a → Quiet old new → IsOpen old a t
+    → Tested {T = S} (Err fault) found → ((r : Refusal) → found ≡ Some r → turn ≡ says s (Refused r) []) → Does reply (Err fault) old new a b t turn
+tested_does S T reply (RefusedFault r) old new a b t s turn found same quiet is tested refused =
+    subst (λ (o : Outcome). Does reply (Err (RefusedFault r)) old new a b t o) (sym (refused r tested))
+    (record { answer = refl; makes = makes_none (Err (RefusedFault r)) old new a b t same quiet is; refused = quiet })
+tested_does S T reply Device old new a b t s turn found same quiet is tested refused = record { answer = tt; makes = makes_not T Device old new a b t turn.strokes tt same quiet is; refused = tt }
+tested_does S T reply Memory old new a b t s turn found same quiet is tested refused = record { answer = tt; makes = makes_not T Memory old new a b t turn.strokes tt same quiet is; refused = tt }

@@ -3,6 +3,8 @@ pub mod DoesLaws
 pub mod TestLaws
 pub mod PutLaws
 pub mod RaiseLaws
+pub mod MarkLaws
+pub mod PageLaws
 pub mod FindLaws
 pub mod PlaceTests
 pub mod RoundLaws

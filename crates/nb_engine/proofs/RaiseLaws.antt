@@ -1,6 +1,6 @@
 -- The bytes of the pages that a write of a raw page makes.
-use Rattle.std.proofs.Common.{◌≡◌, ℕ, ◌+◌, ◌*◌, ◌/◌, ◌%◌, ◌^◌, ◌<◌, ◌≤◌, inr, List, [], ◌∷◌, length, drop, refl, sym, ap, subst, ◌∙◌, arith, length-append}
-use Rattle.std.specs.Prelude.{false, ◌==◌, slice_index, Some, Result, Ok, Err, IsErr, IsErrAnd}
+use Rattle.std.proofs.Common.{◌≡◌, ℕ, ◌+◌, ◌*◌, ◌/◌, ◌%◌, ◌^◌, ◌<◌, ◌≤◌, inr, List, length, drop, refl, sym, ap, subst, ◌∙◌, arith, length-append}
+use Rattle.std.specs.Prelude.{false, ◌==◌, slice_index}
 use Rattle.nb_fields.specs.Bytes.{bytes_of, with_part, is_zeros}
 use Rattle.nb_fields.specs.Places.{entries_in, scn_place}
 use Rattle.nb_fields.specs.Page.{head_of, page_of, with_payload, stamped, generation_of}
@@ -8,12 +8,12 @@ use Rattle.nb_fields.specs.Payloads.{text_payload, entry_of}
 use Rattle.nb_fields.proofs.NumberLemmas.{length-bytes_of}
 use Rattle.nb_fields.proofs.PartLemmas.{length-with_part, number_in-with_part_other}
 use Rattle.nb_page.proofs.StampLemmas.{stamped-with_payload}
-use Rattle.nb_model.specs.Image.{Page, Image, page_at, image_size, image_scn, is_forced, is_read_only}
-use Rattle.nb_model.specs.Strokes.{Stroke, page, on_base, base_after}
+use Rattle.nb_model.specs.Image.{Page, Image, page_at, image_size, image_scn}
+use Rattle.nb_model.specs.Strokes.{page}
 use Rattle.nb_model.specs.Forms.{scn_page_of, entry_number, scn_entry}
 use Rattle.nb_scn.specs.Entries.{entries, entry_place}
 use Rattle.nb_scn.proofs.EntryLemmas.{get_or-entries}
-use Rattle.nb_engine.specs.Put.{raise_stroke, raise_strokes}
+use Rattle.nb_engine.specs.Put.{raise_stroke}
 
 -- a stamped page isn't all zeros, whatever it holds
 pub stamped-some : (old : Page) (kind : ℕ) (payload : List ℕ) (scn number : ℕ) → (kind == 0) ≡ false → is_zeros (stamped old kind payload scn number) ≡ false
@@ -43,7 +43,7 @@ stamped-over old other kind payload scn number long generation =
     ap (λ n. page_of n kind ((generation_of other + 1) % 2 ^ 32) scn number payload) long ∙ ap (λ g. page_of (length old) kind ((g + 1) % 2 ^ 32) scn number payload) generation
 
 -- the page that a raised entry and then a stamp make
-pub entered : (old raised new : Page) (index scn code place : ℕ) → raised ≡ with_part (32 + 4 * index) (bytes_of 4 scn) old → new ≡ stamped raised code (drop 16 raised) scn place → code ≡ 10
+pub entered : (old raised new : Page) (index scn code place : ℕ) → raised ≡ with_part (entry_place index) (bytes_of 4 scn) old → new ≡ stamped raised code (drop 16 raised) scn place → code ≡ 10
     → index < entries_in (length old) → new ≡ stamped old 10 (drop 16 (with_part (32 + 4 * index) (bytes_of 4 scn) old)) scn place
 entered old raised new index scn code place put stamp inventory inside =
     let with_entry : Page = with_part (32 + 4 * index) (bytes_of 4 scn) old in
@@ -68,19 +68,16 @@ entry-is image size p index old same number long inside is =
     ∙ ap (λ n. entry_of (page_at image (scn_page_of image p)) n) (number ∙ ap (λ n. p % entries_in n) same)
 
 -- so the raise is that of the stroke
-pub raise_stroke-is : (image : Image) (size p k index place scn code : ℕ) (old raised new : Page) → size ≡ image_size image → k ≡ p / entries_in size → index ≡ p % entries_in size → place ≡ scn_place size k
+pub raise_stroke-is : (image : Image) (size p k index place scn : ℕ) (old new : Page) → size ≡ image_size image → k ≡ p / entries_in size → index ≡ p % entries_in size → place ≡ scn_place size k
     → size ≡ length old → index < entries_in size → old ≡ page_at image (scn_page_of image p) → scn ≡ image_scn image → scn_entry image p < image_scn image
-    → (slice_index (entries old) index < scn → raised ≡ with_part (entry_place index) (bytes_of 4 scn) old) → new ≡ stamped raised code (drop 16 raised) scn place → code ≡ 10
-    → page place new ≡ raise_stroke image p
-raise_stroke-is image size p k index place scn code old raised new same cover number at long inside is now below put stamp inventory =
+    → (slice_index (entries old) index < scn → new ≡ stamped old 10 (drop 16 (with_part (32 + 4 * index) (bytes_of 4 scn) old)) scn place) → page place new ≡ raise_stroke image p
+raise_stroke-is image size p k index place scn old new same cover number at long inside is now below made =
     let q : ℕ = scn_page_of image p in
     let old_entry : slice_index (entries old) index ≡ scn_entry image p = entry-is image size p index old same number long inside is in
     let low : slice_index (entries old) index < scn = omega (arith, old_entry, below, now) in
-    let here : index < entries_in (length old) = subst (λ n. index < entries_in n) long inside in
-    let bytes : new ≡ stamped old 10 (drop 16 (with_part (32 + 4 * index) (bytes_of 4 scn) old)) scn place = entered old raised new index scn code place (put low) stamp inventory here in
     let there : place ≡ q = scn_page-is image size k p place same cover at in
     let entry : index ≡ p % entries_in (image_size image) = number ∙ ap (λ n. p % entries_in n) same in
-    ap (λ (x : Page). page place x) bytes
+    ap (λ (x : Page). page place x) (made low)
     ∙ ap (λ n. page n (stamped old 10 (drop 16 (with_part (32 + 4 * index) (bytes_of 4 scn) old)) scn n)) there
     ∙ ap (λ (x : Page). page q (stamped x 10 (drop 16 (with_part (32 + 4 * index) (bytes_of 4 scn) x)) scn q)) is
     ∙ ap (λ n. page q (stamped (page_at image q) 10 (drop 16 (with_part (32 + 4 * n) (bytes_of 4 scn) (page_at image q))) scn q)) entry

@@ -96,13 +96,7 @@ impl ScnPage {
         ensures some { is_zeros self.new ≡ false }
         ensures room { length self.new ≡ length self.old }
     {
-        nb_scn::raise(self.bytes.as_mut_slice(), index, scn);
-        stamp(
-            self.bytes.as_mut_slice(),
-            PageKind::ScnInventory.code(),
-            scn,
-            place,
-        );
+        put_entry(self.bytes.as_mut_slice(), index, scn, place);
     }
 }
 
@@ -179,13 +173,7 @@ impl InventoryPage {
         ensures some { is_zeros self.new ≡ false }
         ensures room { length self.new ≡ length self.old }
     {
-        set_bit(self.bytes.as_mut_slice(), index, free);
-        stamp(
-            self.bytes.as_mut_slice(),
-            PageKind::Inventory.code(),
-            scn,
-            place,
-        );
+        put_bit(self.bytes.as_mut_slice(), index, free, scn, place);
     }
 }
 
@@ -200,4 +188,26 @@ fn set_bit(map: &mut [u8], index: u32, free: bool)
     } else {
         nb_pip::take(map, index);
     }
+}
+
+/// Sets bit `index` of an inventory page, and stamps it.
+fn put_bit(map: &mut [u8], index: u32, free: bool, scn: u32, place: u32)
+    requires size { IsTrue (is_page_size (length map.old)) }
+    requires index { index < bits_in (length map.old) }
+    ensures page { map.new ≡ stamped map.old 2 (drop 16 (with_bit index (bit_for free) map.old)) scn place }
+    ensures some { is_zeros map.new ≡ false }
+{
+    set_bit(map, index, free);
+    stamp(map, PageKind::Inventory.code(), scn, place);
+}
+
+/// Raises entry `index` of an SCN inventory page, where it is below, to `scn`, and stamps it.
+fn put_entry(page: &mut [u8], index: u32, scn: u32, place: u32)
+    requires size { IsTrue (is_page_size (length page.old)) }
+    requires index { index < entries_in (length page.old) }
+    ensures page { slice_index (entries page.old) index < scn → page.new ≡ stamped page.old 10 (drop 16 (with_part (32 + 4 * index) (bytes_of 4 scn) page.old)) scn place }
+    ensures some { is_zeros page.new ≡ false }
+{
+    nb_scn::raise(page, index, scn);
+    stamp(page, PageKind::ScnInventory.code(), scn, place);
 }

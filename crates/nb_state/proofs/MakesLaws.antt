@@ -32,6 +32,10 @@ open_quiet old new held t quiet is = record {
   merged = λ state j low inside. subst (λ (f : Files). IsMerged held.files f j) (sym quiet.still.files) (is.merged state j low inside);
 }
 
+-- and so does what is held of it
+pub open_still : (old new : World) (a b : Held) (t : Trail) → b ≡ a → Quiet old new → IsOpen old a t → IsOpen new b t
+open_still old new a b t same quiet is = subst (λ (h : Held). IsOpen new h t) (sym same) (open_quiet old new a t quiet is)
+
 -- the database behind one stroke, as it is seen
 after_base_one : (t : Trail) (x : Stroke) → (after_stroke x t).base ≡ on_base x t.base
 unfolding after_stroke
@@ -85,8 +89,13 @@ goes_on a b c first second = record {
   merged = second.merged ∙ first.merged;
 }
 
-pub goes_nowhere : (held : Held) → Goes held held
-goes_nowhere held = record { name = refl; page_size = refl; running = refl; merged = refl }
+pub goes_nowhere : (a b : Held) → b ≡ a → Goes a b
+goes_nowhere a b same = record {
+  name = ap (λ (h : Held). name_of h) same;
+  page_size = ap (λ (h : Held). h.files.page_size) same;
+  running = ap (λ (h : Held). h.running) same;
+  merged = ap (λ (h : Held). h.merged) same;
+}
 
 -- calls that change nothing have made no stroke yet
 pub none_yet : (old new : World) (held : Held) (t : Trail) (xs : List Stroke) → Quiet old new → IsOpen old held t → Strikes old new (name_of held) t xs
@@ -97,20 +106,20 @@ pub gave_none : (old new : World) → Quiet old new → GaveNothing old new
 gave_none old new quiet = record { guids = quiet.guids; times = quiet.times }
 
 -- they make no stroke, whatever they answer
-pub makes_none : {T : Type 0} (result : Result T Fault) (old new : World) (held : Held) (t : Trail) → Quiet old new → IsOpen old held t → Makes result old new held held t []
-makes_none result old new held t quiet is = record {
-  left = none_yet old new held t [] quiet is;
-  opened = where_ended result _ (open_quiet old new held t quiet is);
-  goes = goes_nowhere held;
+pub makes_none : {T : Type 0} (result : Result T Fault) (old new : World) (a b : Held) (t : Trail) → b ≡ a → Quiet old new → IsOpen old a t → Makes result old new a b t []
+makes_none result old new a b t same quiet is = record {
+  left = none_yet old new a t [] quiet is;
+  opened = where_ended result _ (open_still old new a b t same quiet is);
+  goes = goes_nowhere a b same;
   gave = gave_none old new quiet;
 }
 
 -- and where they fail they fail any strokes
-pub makes_not : (T : Type 0) (fault : Fault) (old new : World) (held : Held) (t : Trail) (xs : List Stroke) → IsNoRefusal fault → Quiet old new → IsOpen old held t → Makes {T = T} (Err fault) old new held held t xs
-makes_not T fault old new held t xs fails quiet is = record {
-  left = none_yet old new held t xs quiet is;
+pub makes_not : (T : Type 0) (fault : Fault) (old new : World) (a b : Held) (t : Trail) (xs : List Stroke) → IsNoRefusal fault → b ≡ a → Quiet old new → IsOpen old a t → Makes {T = T} (Err fault) old new a b t xs
+makes_not T fault old new a b t xs fails same quiet is = record {
+  left = none_yet old new a t xs quiet is;
   opened = never_ended T fault _ fails;
-  goes = goes_nowhere held;
+  goes = goes_nowhere a b same;
   gave = gave_none old new quiet;
 }
 
@@ -136,11 +145,13 @@ makes_front S T fault old new a b t xs ys fails first = record {
 }
 
 -- calls that change nothing before it
-pub makes_after : {T : Type 0} (result : Result T Fault) (old mid new : World) (a b : Held) (t : Trail) (xs : List Stroke) → Quiet old mid → IsOpen old a t → Makes result mid new a b t xs → Makes result old new a b t xs
-makes_after result old mid new a b t xs quiet is makes = makes_then {S = Unit {0}} tt result old mid new a a b t [] xs (makes_none (Ok tt) old mid a t quiet is) makes
+pub makes_after : {T : Type 0} (result : Result T Fault) (old mid new : World) (a b c : Held) (t : Trail) (xs : List Stroke) → b ≡ a → Quiet old mid → IsOpen old a t → Makes result mid new b c t xs
+    → Makes result old new a c t xs
+makes_after result old mid new a b c t xs same quiet is makes = makes_then {S = Unit {0}} tt result old mid new a b c t [] xs (makes_none (Ok tt) old mid a b t same quiet is) makes
 
 -- and behind it
-pub makes_before : {S T : Type 0} (value : S) (result : Result T Fault) (old mid new : World) (a b : Held) (t : Trail) (xs : List Stroke) → Makes (Ok value) old mid a b t xs → Quiet mid new → Makes result old new a b t xs
-makes_before value result old mid new a b t xs makes quiet =
-    subst (λ (ss : List Stroke). Makes result old new a b t ss) (append-nil xs)
-    (makes_then value result old mid new a b b t xs [] makes (makes_none result mid new b (after_strokes t xs) quiet makes.opened))
+pub makes_before : {S T : Type 0} (value : S) (result : Result T Fault) (old mid new : World) (a b c : Held) (t : Trail) (xs : List Stroke) → Makes (Ok value) old mid a b t xs → c ≡ b → Quiet mid new
+    → Makes result old new a c t xs
+makes_before value result old mid new a b c t xs makes same quiet =
+    subst (λ (ss : List Stroke). Makes result old new a c t ss) (append-nil xs)
+    (makes_then value result old mid new a b c t xs [] makes (makes_none result mid new b c (after_strokes t xs) same quiet makes.opened))
