@@ -44,6 +44,13 @@ returns-clause-tries g c t tells is =
       | then-branch+in_ok-raise w ↦
           let must : must_raise image p ≡ true = sym told.value ∙ w.if-branch.true in
           let makes = w.in_ok-raise.ensures.makes t tells still told.test must (told.page w.if-branch.true) in
-          rw (w.host-is, w.store-is) ?
-      | else-branch w ↦ rw (w.host-is, w.store-is) ?
+          rw (w.host-is, w.store-is)
+          (tries_after {T = Unit {0}} (Ok tt) _ _ _ _ _ _ t _ _ asked.same asked.quiet is
+          (tries_made {T = Unit {0}} (Ok tt) _ _ _ _ t _ _ told.test tt
+          (subst (λ (ss : List Stroke). Makes {T = Unit {0}} (Ok tt) (g.H.Host.world c.must_raise.new.host) (g.H.Host.world w.raise.new.host) c.must_raise.new.store w.raise.new.store t ss) (sym (raised_once image p must)) makes)))
+      | else-branch w ↦
+          rw (w.host-is, w.store-is)
+          (tries_made {T = Unit {0}} (Ok tt) _ _ _ _ t _ _ told.test tt
+          (subst (λ (ss : List Stroke). Makes {T = Unit {0}} (Ok tt) (g.H.Host.world c.args.host.now) (g.H.Host.world c.must_raise.new.host) c.args.store.now c.must_raise.new.store t ss) (sym (raised_not image p (sym told.value ∙ w.if-branch.false)))
+          (makes_none (Ok tt) _ _ _ _ t asked.same asked.quiet is)))
     ]
