@@ -1,4 +1,4 @@
-ghost use Rattle.std.specs.Prelude.{◌≡◌, ◌≤◌, ◌<◌, ◌+◌, ℕ, List, ◌∷◌, [], length, IsTrue, IfErr, OnOk, Option, false};
+ghost use Rattle.std.specs.Prelude.{◌≡◌, ◌≤◌, ◌<◌, ◌+◌, ℕ, List, ◌∷◌, [], length, IsTrue, IfOk, IfErr, OnOk, Option, false};
 ghost use Rattle.nb_fields.specs.Bytes.{is_zeros};
 ghost use Rattle.nb_fields.specs.Places.{is_page_size};
 ghost use Rattle.nb_fields.specs.Fresh.{fresh};
@@ -242,6 +242,7 @@ impl Store {
         requires raw { raw ≤ 65535 }
         requires name { length name.now ≤ 94 }
         ensures creates { IsTrue H.tells → Creates result (H.world host.old) (H.world host.new) name.now (fresh page_size raw) }
+        ensures page_size { IfOk result (λ store. store.files.page_size ≡ page_size) }
         ensures cause { CountsDevice result (H.faults host.old) (H.faults host.new) }
     {
         Err(Fault::Memory)
