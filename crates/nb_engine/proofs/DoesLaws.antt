@@ -9,15 +9,16 @@ use Rattle.nb_page.specs.Quiet.{Quiet}
 use Rattle.nb_page.proofs.QuietLemmas.{quiet_joined}
 use Rattle.nb_model.specs.declared.reply.Reply.{Reply}
 use Rattle.nb_model.specs.declared.reply.Reply.TheVariants.{Refused}
+use Rattle.nb_model.specs.Account.{Base}
 use Rattle.nb_model.specs.Strokes.{Stroke}
 use Rattle.nb_model.specs.Trail.{Trail}
 use Rattle.nb_model.specs.Causes.{Cause}
 use Rattle.nb_model.specs.Outcomes.{Seen, Outcome, says, unless}
 use Rattle.nb_base.specs.Takes.{after_strokes, IsNoRefusal}
 use Rattle.nb_state.specs.Open.{Held, IsOpen}
-use Rattle.nb_state.specs.Does.{Tested, Answers, WhereRefused, Makes, Does}
+use Rattle.nb_state.specs.Does.{Tested, Answers, WhereRefused, unless_by, Makes, Does}
 use Rattle.nb_state.proofs.MakesLaws.{passed_on, makes_none, makes_not, makes_then, makes_front, makes_after}
-use Rattle.nb_engine.specs.Tries.{unless_by, Tries}
+use Rattle.nb_engine.specs.Tries.{Tries}
 
 -- the strokes by the cause
 pub unless_none : (cause : Cause) (xs : List Stroke) → cause ≡ None → unless_by cause xs ≡ xs
@@ -29,6 +30,10 @@ unless_some cause xs r some = ap (λ (c : Cause). unless_by c xs) some
 pub unless_same : (cause : Cause) (xs ys : List Stroke) → (cause ≡ None → xs ≡ ys) → unless_by cause xs ≡ unless_by cause ys
 unless_same None xs ys same = same refl
 unless_same (Some r) xs ys same = refl
+
+-- what is seen with another base that is the same
+pub seen_at : (s : Seen) (b : Base) → b ≡ s.base → record s { base = b } ≡ s
+seen_at s b same = ap (λ (x : Base). record s { base = x }) same
 
 -- what a test found is what this one finds, where each of its causes is one of this
 pub tested_as : (S T : Type 0) (fault : Fault) (found cause : Cause) → ((r : Refusal) → found ≡ Some r → cause ≡ Some r) → Tested {T = S} (Err fault) found → Tested {T = T} (Err fault) cause

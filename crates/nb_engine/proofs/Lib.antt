@@ -5,6 +5,8 @@ pub mod PutLaws
 pub mod RaiseLaws
 pub mod MarkLaws
 pub mod PageLaws
+pub mod WriteLaws
+pub mod FreeLaws
 pub mod FindLaws
 pub mod PlaceTests
 pub mod RoundLaws

@@ -1,0 +1,112 @@
+-- Why a raw page isn't written, and the turn that writes it.
+use Rattle.std.proofs.Common.{◌≡◌, ◌≢◌, inl, inr, ℕ, ◌<◌, List, [], ◌∷◌, ◌++◌, length, refl, sym, ap, ◌∙◌, arith}
+use Rattle.std.specs.Prelude.{Bool, true, false, not, ◌==◌, nat_le, Some, None}
+use Rattle.std.proofs.lemmas.Bool.{eqb-true}
+use Rattle.std.proofs.lemmas.Bool.Decides.{leb_tells}
+use Rattle.nb_fields.specs.Header.{is_header}
+use Rattle.nb_fields.specs.Places.{entries_in}
+use Rattle.nb_fields.specs.Page.{kind_of}
+use Rattle.nb_fields.specs.Payloads.{text_payload}
+use Rattle.nb_host.specs.declared.refusals.Refusal.{Refusal}
+use Rattle.nb_host.specs.declared.refusals.Refusal.TheVariants.{SystemPage}
+use Rattle.nb_model.specs.declared.reply.Reply.TheVariants.{Refused, Done}
+use Rattle.nb_model.specs.Image.{Image, first_page, page_at, image_size}
+use Rattle.nb_model.specs.Account.{Base}
+use Rattle.nb_model.specs.Strokes.{Stroke}
+use Rattle.nb_model.specs.Forms.{Draft, drafted, put, inventory_of}
+use Rattle.nb_model.specs.Causes.{Cause, first_cause, when, past_end, read_only, not_kind, not_raw, too_long, not_of_form, no_room}
+use Rattle.nb_model.specs.Outcomes.{Seen, says, unless}
+use Rattle.nb_model.specs.Pages.{write_turn}
+use Rattle.nb_model.proofs.HeaderLaws.{header-kind}
+use Rattle.nb_engine.specs.Put.{entry_cause, raise_strokes, raw_stroke}
+use Rattle.nb_engine.proofs.CauseLaws.{first_none, first_next, first_here, refused_by, judged_by, unless_these}
+use Rattle.nb_engine.proofs.PutLaws.{put_strokes, put_form, put_room, put_refused}
+
+-- no cause of a list applies
+no_causes : (c : Cause) (cs : List Cause) → first_cause (c ∷ cs) ≡ None → (c ≡ None) × (first_cause cs ≡ None)
+unfolding first_cause
+no_causes None cs e = (refl, e)
+no_causes (Some r) cs e = cc
+
+not_when : (t : Bool) (r : Refusal) → when t r ≡ None → t ≡ false
+not_when false r e = refl
+not_when true r e = cc
+
+-- what a taken raw page is
+pub record IsRaw (image : Image) (p : ℕ) : Type 0 where
+  pub low : p < length image
+  pub form : not_kind image 2 (inventory_of image p) ≡ None
+  pub kind : kind_of (page_at image p) ≡ 8
+  pub plain : kind_of (page_at image p) ≢ 10
+
+pub is_raw : (image : Image) (p : ℕ) → not_raw image p ≡ None → IsRaw image p
+unfolding not_raw
+is_raw image p none =
+    let first = no_causes (past_end image p) _ none in
+    let second = no_causes _ _ first.1 in
+    let third = no_causes _ _ second.1 in
+    let fourth = no_causes (when (not (kind_of (page_at image p) == 8)) (SystemPage p)) [] third.1 in
+    record {
+      low = below (not_when (nat_le (length image) p) _ first.0);
+      form = second.0;
+      kind = is_eight fourth.0;
+      plain = λ e. absurd (omega (arith, e, is_eight fourth.0));
+    }
+  where
+    true_false : true ≡ false → ⊥
+    true_false h = cc
+
+    below : nat_le (length image) p ≡ false → p < length image
+    below over = elim (leb_tells (length image) p) [ inl w ↦ absurd (true_false (sym w.0 ∙ over)) | inr w ↦ w.1 ]
+
+    is_true : (t : Bool) → not t ≡ false → t ≡ true
+    is_true true e = refl
+    is_true false e = absurd (true_false e)
+
+    is_eight : when (not (kind_of (page_at image p) == 8)) (SystemPage p) ≡ None → kind_of (page_at image p) ≡ 8
+    is_eight none = eqb-true (kind_of (page_at image p)) 8 (is_true (kind_of (page_at image p) == 8) (not_when _ (SystemPage p) none))
+
+-- page 0 of an open database is none, so no call goes on with it
+pub no_header : (image : Image) (p : ℕ) → is_header (first_page image) ≡ true → not_raw image p ≡ None → p ≡ 0 → ⊥
+no_header image p header none front =
+    let kind : kind_of (page_at image 0) ≡ 8 = (is_raw image 0 (ap (λ (n : ℕ). not_raw image n) (sym front) ∙ none)).kind in
+    absurd (omega (arith, kind, header-kind (page_at image 0) header))
+
+-- what the short form of a page finds is whether its entry may be raised
+pub put_cause : (b : Base) (p kind : ℕ) (payload : List ℕ) → first_cause (not_of_form (put p kind payload (drafted b.image)) ∷ no_room (put p kind payload (drafted b.image)) ∷ []) ≡ entry_cause b.image p
+put_cause b p kind payload = by (entry_cause b.image p) refl
+  where
+    abbrev_draft : Draft
+    abbrev_draft = put p kind payload (drafted b.image)
+
+    by : (c : Cause) → entry_cause b.image p ≡ c → first_cause (not_of_form abbrev_draft ∷ no_room abbrev_draft ∷ []) ≡ entry_cause b.image p
+    by None e = first_next (not_of_form abbrev_draft) _ (put_form b p kind payload e) ∙ first_next (no_room abbrev_draft) [] (put_room b p kind payload e) ∙ first_none ∙ sym e
+    by (Some r) e = first_here (not_of_form abbrev_draft) _ r (put_refused b p kind payload r e) ∙ sym e
+
+-- the turn, by its causes
+module _ (s : Seen) (p : ℕ) (text : List ℕ) where
+  abbrev image : Image
+  image = s.base.image
+
+  abbrev draft : Draft
+  draft = put p 8 (text_payload text) (drafted image)
+
+  abbrev own : List Cause
+  own = read_only image ∷ too_long text ∷ []
+
+  pub write_untaken : (r : Refusal) → not_raw image p ≡ Some r → write_turn s p text ≡ says s (Refused r) []
+  unfolding write_turn
+  write_untaken r e = refused_by s (not_raw image p ∷ own) draft Done r (first_here (not_raw image p) own r e)
+
+  module _ (raw : not_raw image p ≡ None) where
+    pub write_checked : (r : Refusal) → first_cause own ≡ Some r → write_turn s p text ≡ says s (Refused r) []
+    unfolding write_turn
+    write_checked r e = refused_by s (not_raw image p ∷ own) draft Done r (first_next (not_raw image p) own raw ∙ e)
+
+    -- then its SCN page alone refuses it
+    pub write_is : first_cause own ≡ None → 0 < entries_in (image_size image) → write_turn s p text ≡ unless s (entry_cause image p) (says s Done (raise_strokes image p ++ raw_stroke image p text ∷ []))
+    unfolding write_turn
+    write_is free some =
+        judged_by s (not_raw image p ∷ own) draft Done (first_next (not_raw image p) own raw ∙ free)
+        ∙ ap (λ (c : Cause). unless s c (says s Done draft.strokes)) (put_cause s.base p 8 (text_payload text))
+        ∙ unless_these s (entry_cause image p) Done draft.strokes _ (λ none. let is = is_raw image p raw in put_strokes s.base p 8 (text_payload text) is.low is.plain some none)
