@@ -1,0 +1,163 @@
+ghost use Rattle.std.specs.Prelude.{◌≡◌, ◌+◌, ◌<◌, ◌≤◌, IsTrue, OnOk, length};
+ghost use Rattle.nb_fields.specs.Places.{is_page_size};
+ghost use Rattle.nb_fields.specs.Fresh.{fresh};
+ghost use Rattle.nb_host.specs.Causes.{CountsFault};
+ghost use Rattle.nb_change.specs.Counts.{CountsDevice};
+ghost use Rattle.nb_page.specs.Quiet.{Quiet};
+ghost use Rattle.nb_model.specs.Image.{page_at};
+ghost use Rattle.nb_model.specs.Lines.{flag};
+ghost use Rattle.nb_model.specs.Trail.{Trail, settled};
+ghost use Rattle.nb_state.specs.Open.{IsOpen};
+ghost use Rattle.nb_state.specs.Beginnings.{Attaches, Creates};
+
+use crate::pages::{InventoryPage, ScnPage};
+use nb_host::{Fault, Host, HostFault, Name};
+use nb_state::Store;
+use std::alloc::Global;
+use std::marker::Model;
+
+/// An open database and the buffers of its pages. Contracts see what is held of the database.
+#[derive(Drop)]
+pub struct Engine {
+    pub(crate) store: Store,
+    /// Room for the page that a statement reads or changes.
+    pub(crate) page: Vec<u8>,
+    /// Room for the SCN inventory page that has its entry.
+    pub(crate) scn_page: ScnPage,
+    /// Room for the page inventory page that has its bit.
+    pub(crate) map: InventoryPage,
+}
+
+impl Model for Engine {
+    ghost use Rattle.std.specs.Prelude.{◌≡◌, IsTrue, length, vec_len};
+    ghost use Rattle.nb_fields.specs.Places.{is_page_size};
+    ghost use Rattle.nb_state.specs.Open.{Held};
+
+    ghost Value = { Held };
+
+    ghost view = { λ e. e.store };
+
+    ghost invariant = { λ e. IsTrue (is_page_size e.store.files.page_size) × (vec_len e.page ≡ e.store.files.page_size) × (length e.scn_page ≡ e.store.files.page_size) × (length e.map ≡ e.store.files.page_size) };
+}
+
+impl Engine {
+    /// Makes a new database with `raw` raw pages, and opens it. The refusal is `FileExists`, where the name is not free; then nothing
+    /// has changed. The memory for three of its pages is taken first.
+    pub fn create<H: Host>(
+        alloc: Global,
+        host: &mut H,
+        name: &Name,
+        page_size: u32,
+        raw: u32,
+    ) -> Result<Engine, Fault>
+        requires size { IsTrue (is_page_size page_size) }
+        requires raw { raw ≤ 65535 }
+        requires name { length name.now ≤ 94 }
+        ensures creates { IsTrue H.tells → Creates result (H.world host.old) (H.world host.new) name.now (fresh page_size raw) }
+        ensures cause { CountsDevice result (H.faults host.old) (H.faults host.new) }
+    {
+        let page = vec![in alloc; 0; page_size as usize]?;
+        let scn_page = ScnPage::new(alloc, page_size)?;
+        let map = InventoryPage::new(alloc, page_size)?;
+        let store = Store::create(alloc, host, name, page_size, raw)?;
+        Ok(Engine {
+            store,
+            page,
+            scn_page,
+            map,
+        })
+    }
+
+    /// Opens a database, and takes room for three of its pages. It changes nothing: its files are kept for good before it answers.
+    ///
+    /// The refusals are `NoFile`, `NotDatabase`, `Unfinished`, `NoFile` of the difference file and `BadDelta`, in this order.
+    pub fn attach<H: Host>(alloc: Global, host: &mut H, name: &Name) -> Result<Engine, Fault>
+        requires name { length name.now ≤ 94 }
+        ensures attaches { IsTrue H.tells → Attaches result (H.world host.old) (H.world host.new) name.now }
+        ensures quiet { Quiet (H.world host.old) (H.world host.new) }
+        ensures cause { CountsDevice result (H.faults host.old) (H.faults host.new) }
+    {
+        let store = Store::attach(alloc, host, name)?;
+        let page_size = store.page_size();
+        let page = vec![in alloc; 0; page_size as usize]?;
+        let scn_page = ScnPage::new(alloc, page_size)?;
+        let map = InventoryPage::new(alloc, page_size)?;
+        Ok(Engine {
+            store,
+            page,
+            scn_page,
+            map,
+        })
+    }
+
+    /// The database itself.
+    pub fn store(&self) -> &Store
+        ensures { result.now ≡ self.now }
+    {
+        &self.store
+    }
+
+    /// The size of each page, in bytes.
+    pub fn page_size(&self) -> u32
+        ensures value { result ≡ self.now.files.page_size }
+        ensures one_of { IsTrue (is_page_size result) }
+    {
+        self.store.page_size()
+    }
+
+    /// How many pages the database has.
+    pub fn count(&self) -> u32
+        ensures value { result ≡ self.now.files.count }
+        ensures most { result ≤ 1048576 }
+    {
+        self.store.count()
+    }
+
+    /// Whether each page write is kept for good before the next.
+    pub fn forced(&self) -> bool
+        ensures { result ≡ self.now.forced }
+    {
+        self.store.forced()
+    }
+
+    /// 1 where no statement may change a page, and 0 otherwise.
+    pub fn access(&self) -> u32
+        ensures { result ≡ flag self.now.read_only }
+    {
+        u32::from(self.store.is_read_only())
+    }
+
+    /// Says whose copy or merge runs.
+    pub fn set_running(&mut self, by: Option<u32>)
+        ensures { self.new ≡ record self.old { running = by } }
+    {
+        self.store.set_running(by);
+    }
+
+    /// Fills in page `number`.
+    pub fn read<H: Host>(
+        &mut self,
+        host: &mut H,
+        number: u32,
+        into: &mut [u8],
+    ) -> Result<(), HostFault>
+        requires size { length into.old ≡ self.old.files.page_size }
+        ensures page { (t : Trail) → IsTrue H.tells → IsOpen (H.world host.old) self.old t → number < length t.base.image → OnOk result (into.new ≡ page_at t.base.image number) }
+        ensures same { self.new ≡ self.old }
+        ensures quiet { Quiet (H.world host.old) (H.world host.new) }
+        ensures once { IsTrue H.tells → (H.world host.new).reads ≤ (H.world host.old).reads + 1 }
+        ensures cause { CountsFault result (H.faults host.old) (H.faults host.new) }
+    {
+        self.store.read(host, number, into)
+    }
+
+    /// Keeps the database for good. It changes nothing.
+    pub fn sync<H: Host>(&mut self, host: &mut H) -> Result<(), HostFault>
+        ensures settled { (t : Trail) → IsTrue H.tells → IsOpen (H.world host.old) self.old t → OnOk result (IsOpen (H.world host.new) self.new (settled t.base)) }
+        ensures same { self.new ≡ self.old }
+        ensures quiet { Quiet (H.world host.old) (H.world host.new) }
+        ensures cause { CountsFault result (H.faults host.old) (H.faults host.new) }
+    {
+        self.store.sync(host)
+    }
+}
