@@ -31,9 +31,9 @@ pub unless_same : (cause : Cause) (xs ys : List Stroke) → (cause ≡ None → 
 unless_same None xs ys same = same refl
 unless_same (Some r) xs ys same = refl
 
--- what is seen with another base that is the same
-pub seen_at : (s : Seen) (b : Base) → b ≡ s.base → record s { base = b } ≡ s
-seen_at s b same = ap (λ (x : Base). record s { base = x }) same
+-- what is seen, with this database
+abbrev pub seeing : Seen → Base → Seen
+seeing s b = record s { base = b }
 
 -- what a test found is what this one finds, where each of its causes is one of this
 pub tested_as : (S T : Type 0) (fault : Fault) (found cause : Cause) → ((r : Refusal) → found ≡ Some r → cause ≡ Some r) → Tested {T = S} (Err fault) found → Tested {T = T} (Err fault) cause
@@ -165,25 +165,37 @@ answer_is reply (Err Device) s cause said xs tested is = tt
 answer_is reply (Err Memory) s cause said xs tested is = tt
 
 -- so the call does that turn
-pub tries_does : {T : Type 0} (reply : T → Reply) (result : Result T Fault) (old new : World) (a b : Held) (t : Trail) (s : Seen) (turn : Outcome) (cause : Cause) (said : Reply) (xs : List Stroke)
-    → turn ≡ unless s cause (says s said xs) → IfOk result (λ value. reply value ≡ said) → Tries result old new a b t cause xs → Does reply result old new a b t turn
-tries_does reply result old new a b t s turn cause said xs e is tries = subst (λ (o : Outcome). Does reply result old new a b t o) (sym e) (record {
-  answer = answer_is reply result s cause said xs tries.test is;
-  makes = subst (λ (ss : List Stroke). Makes result old new a b t ss) (strokes_are s cause said xs) tries.makes;
-  refused = tries.refused;
-})
+pub tries_does : {T : Type 0} (reply : T → Reply) (result : Result T Fault) (old new : World) (a b : Held) (t : Trail) (s : Seen) (turn : Seen → Outcome) (cause : Cause) (said : Reply) (xs : List Stroke) → t.base ≡ s.base
+    → turn (seeing s t.base) ≡ unless (seeing s t.base) cause (says (seeing s t.base) said xs) → IfOk result (λ value. reply value ≡ said) → Tries result old new a b t cause xs → Does reply result old new a b t (turn s)
+tries_does reply result old new a b t s turn cause said xs same e is tries =
+    subst (λ (x : Base). Does reply result old new a b t (turn (seeing s x))) same (subst (λ (o : Outcome). Does reply result old new a b t o) (sym e) (record {
+      answer = answer_is reply result (seeing s t.base) cause said xs tries.test is;
+      makes = subst (λ (ss : List Stroke). Makes result old new a b t ss) (strokes_are (seeing s t.base) cause said xs) tries.makes;
+      refused = tries.refused;
+    }))
 
--- the turn says this and has no stroke
-pub valued_does : {T : Type 0} (reply : T → Reply) (value : T) (old new : World) (a b : Held) (t : Trail) (s : Seen) (turn : Outcome) → b ≡ a → Quiet old new → IsOpen old a t → turn ≡ says s (reply value) []
-    → Does reply (Ok value) old new a b t turn
-valued_does reply value old new a b t s turn same quiet is e =
-    subst (λ (o : Outcome). Does reply (Ok value) old new a b t o) (sym e) (record { answer = refl; makes = makes_none (Ok value) old new a b t same quiet is; refused = tt })
+-- calls that change nothing do a turn that says this and has no stroke
+pub valued_does : {T : Type 0} (reply : T → Reply) (value : T) (old new : World) (a b : Held) (t : Trail) (s : Seen) (turn : Seen → Outcome) → t.base ≡ s.base → b ≡ a → Quiet old new → IsOpen old a t
+    → turn (seeing s t.base) ≡ says (seeing s t.base) (reply value) [] → Does reply (Ok value) old new a b t (turn s)
+valued_does reply value old new a b t s turn same still quiet is e =
+    subst (λ (x : Base). Does reply (Ok value) old new a b t (turn (seeing s x))) same
+    (subst (λ (o : Outcome). Does reply (Ok value) old new a b t o) (sym e) (record { answer = refl; makes = makes_none (Ok value) old new a b t still quiet is; refused = tt }))
 
--- a test ended the call, and the turn is refused where the test has a cause
-pub tested_does : (S T : Type 0) (reply : T → Reply) (fault : Fault) (old new : World) (a b : Held) (t : Trail) (s : Seen) (turn : Outcome) (found : Cause) → b ≡ a → Quiet old new → IsOpen old a t
-    → Tested {T = S} (Err fault) found → ((r : Refusal) → found ≡ Some r → turn ≡ says s (Refused r) []) → Does reply (Err fault) old new a b t turn
-tested_does S T reply (RefusedFault r) old new a b t s turn found same quiet is tested refused =
-    subst (λ (o : Outcome). Does reply (Err (RefusedFault r)) old new a b t o) (sym (refused r tested))
-    (record { answer = refl; makes = makes_none (Err (RefusedFault r)) old new a b t same quiet is; refused = quiet })
-tested_does S T reply Device old new a b t s turn found same quiet is tested refused = record { answer = tt; makes = makes_not T Device old new a b t turn.strokes tt same quiet is; refused = tt }
-tested_does S T reply Memory old new a b t s turn found same quiet is tested refused = record { answer = tt; makes = makes_not T Memory old new a b t turn.strokes tt same quiet is; refused = tt }
+-- or one that is refused
+pub refused_does : {T : Type 0} (reply : T → Reply) (r : Refusal) (old new : World) (a b : Held) (t : Trail) (s : Seen) (turn : Seen → Outcome) → t.base ≡ s.base → b ≡ a → Quiet old new → IsOpen old a t
+    → turn (seeing s t.base) ≡ says (seeing s t.base) (Refused r) [] → Does reply (Err (RefusedFault r)) old new a b t (turn s)
+refused_does reply r old new a b t s turn same still quiet is e =
+    subst (λ (x : Base). Does reply (Err (RefusedFault r)) old new a b t (turn (seeing s x))) same
+    (subst (λ (o : Outcome). Does reply (Err (RefusedFault r)) old new a b t o) (sym e) (record { answer = refl; makes = makes_none (Err (RefusedFault r)) old new a b t still quiet is; refused = quiet }))
+
+-- A test ended the call, and `?` passed its fault on. The turn is refused where the test has a cause.
+pub tested_does : (S T : Type 0) (reply : T → Reply) (result : Result T Fault) (fault : Fault) (old new : World) (a b : Held) (t : Trail) (s : Seen) (turn : Seen → Outcome) (found : Cause)
+    → IsErr result × IsErrAnd result (λ f. f ≡ fault) → t.base ≡ s.base → b ≡ a → Quiet old new → IsOpen old a t → Tested {T = S} (Err fault) found
+    → ((r : Refusal) → found ≡ Some r → turn (seeing s t.base) ≡ says (seeing s t.base) (Refused r) []) → Does reply result old new a b t (turn s)
+tested_does S T reply result fault old new a b t s turn found passed same still quiet is tested refused =
+    subst (λ (x : Result T Fault). Does reply x old new a b t (turn s)) (sym (passed_on result fault passed)) (by fault tested)
+  where
+    by : (f : Fault) → Tested {T = S} (Err f) found → Does reply (Err f) old new a b t (turn s)
+    by (RefusedFault r) tested = refused_does reply r old new a b t s turn same still quiet is (refused r tested)
+    by Device tested = record { answer = tt; makes = makes_not T Device old new a b t (turn s).strokes tt still quiet is; refused = tt }
+    by Memory tested = record { answer = tt; makes = makes_not T Memory old new a b t (turn s).strokes tt still quiet is; refused = tt }

@@ -2,9 +2,11 @@
 #![tactic(auto)]
 
 mod engine;
+mod free;
 mod mark;
 mod pages;
 mod put;
 mod reads;
+mod write;
 
 pub use engine::Engine;

@@ -1,0 +1,66 @@
+use Rattle.std.proofs.Common.{◌≡◌, ◌<◌, List, [], ◌∷◌, ◌++◌, length, refl, sym, subst, ◌∙◌, arith}
+use Rattle.std.specs.Prelude.{Ok, Err}
+use Rattle.nb_model.specs.declared.reply.Reply.TheVariants.{Done}
+use Rattle.nb_model.specs.Image.{page_at}
+use Rattle.nb_model.specs.Account.{Base}
+use Rattle.nb_model.specs.Strokes.{Stroke}
+use Rattle.nb_model.specs.Outcomes.{Seen}
+use Rattle.nb_model.specs.Pages.{write_turn}
+use Rattle.nb_base.specs.Takes.{after_strokes}
+use Rattle.nb_state.specs.Open.{Held, IsOpen}
+use Rattle.nb_state.proofs.MakesLaws.{open_still}
+use Rattle.nb_engine.specs.Tries.{Tries}
+use Rattle.nb_engine.specs.Put.{entry_cause, raise_strokes, raw_stroke}
+use Rattle.nb_engine.specs.Replies.{done}
+use Rattle.nb_engine.proofs.TestLaws.{vec_whole}
+use Rattle.nb_engine.proofs.MarkLaws.{entries_some}
+use Rattle.nb_engine.proofs.DoesLaws.{seeing, tested_does, tries_does, if_err, tries_passed, tries_after, tries_front, tries_then, tries_opened}
+use Rattle.nb_engine.proofs.WriteLaws.{no_header, write_untaken, write_checked, write_is, is_raw}
+use Rattle.nb_engine.proofs.PageLaws.{Written, written, makes_one}
+use Rattle.nb_engine.proofs.engine.Engine.page_write.Goals as goal
+
+pub returns-in_err-take_raw-clause-turn : goal.returns-in_err-take_raw-clause-turn
+returns-in_err-take_raw-clause-turn g c s t tells same is =
+    let here = subst (λ (h : Held). IsOpen (g.H.Host.world c.args.host.now) h t) (sym c.self.view_is) is in
+    let raw = c.in_err-take_raw.ensures in
+    tested_does (Unit {0}) (Unit {0}) done _ _ _ _ _ _ t s (λ (x : Seen). write_turn x c.args.number c.args.text.now) _ c.from_residual.ensures same (raw.same ∙ c.self.view_is) raw.quiet is
+    (raw.reads t tells here).test (write_untaken (seeing s t.base) c.args.number c.args.text.now)
+
+pub returns-then-number-eq0-clause-turn : goal.returns-then-number-eq0-clause-turn
+returns-then-number-eq0-clause-turn g c s t tells same is =
+    let here = subst (λ (h : Held). IsOpen (g.H.Host.world c.args.host.now) h t) (sym c.self.view_is) is in
+    absurd (no_header t.base.image c.args.number is.files.agrees.header (c.in_ok-take_raw.ensures.reads t tells here).test c.if-number-eq0.true)
+
+pub returns-in_err-check_write-clause-turn : goal.returns-in_err-check_write-clause-turn
+returns-in_err-check_write-clause-turn g c s t tells same is =
+    let here = subst (λ (h : Held). IsOpen (g.H.Host.world c.args.host.now) h t) (sym c.self.view_is) is in
+    let raw = c.in_ok-take_raw.ensures in
+    let still = open_still _ _ _ _ t raw.same raw.quiet here in
+    tested_does (Unit {0}) (Unit {0}) done _ _ _ _ _ _ t s (λ (x : Seen). write_turn x c.args.number c.args.text.now) _ c.from_residual-in_err-check_write.ensures same (raw.same ∙ c.self.view_is) raw.quiet is
+    (c.in_err-check_write.ensures.test t.base.image (c.is_read_only.ensures ∙ still.agrees.read_only)) (write_checked (seeing s t.base) c.args.number c.args.text.now (raw.reads t tells here).test)
+
+pub returns-in_err-raise_entry-clause-turn : goal.returns-in_err-raise_entry-clause-turn
+returns-in_err-raise_entry-clause-turn g c s t tells same is =
+    let image = t.base.image in
+    let p = c.args.number in
+    let text = c.args.text.now in
+    let old = g.H.Host.world c.args.host.now in
+    let new = g.H.Host.world c.raise_entry.new.host in
+    let here = subst (λ (h : Held). IsOpen old h t) (sym c.self.view_is) is in
+    let raw = c.in_ok-take_raw.ensures in
+    let still = open_still _ _ _ _ t raw.same raw.quiet here in
+    let some = entries_some _ image c.self.invariant.0 here.files.agrees.page_size in
+    let turn = write_is (seeing s t.base) p text (raw.reads t tells here).test (c.in_ok-check_write.ensures.test image (c.is_read_only.ensures ∙ still.agrees.read_only)) some in
+    let both : List Stroke = raise_strokes image p ++ raw_stroke image p text ∷ [] in
+    let fault = c.in_err-raise_entry.field-0.0 in
+    let result = c.from_residual-in_err-raise_entry.result in
+    let tries = tries_passed result fault (λ r. Tries r old new c.args.self.now c.raise_entry.new.store t (entry_cause image p) both) c.from_residual-in_err-raise_entry.ensures
+    (tries_front (Unit {0}) (Unit {0}) fault _ _ _ _ t _ (raise_strokes image p) (raw_stroke image p text ∷ [])
+    (tries_after {T = Unit {0}} (Err fault) _ _ _ _ _ _ t _ _ (raw.same ∙ c.self.view_is) raw.quiet is (c.in_err-raise_entry.ensures.tries t tells still))) in
+    tries_does done result old new _ _ t s (λ (x : Seen). write_turn x p text) _ Done both same turn (if_err result fault _ c.from_residual-in_err-raise_entry.ensures) tries
+
+pub returns-in_err-write_raw-clause-turn : goal.returns-in_err-write_raw-clause-turn
+returns-in_err-write_raw-clause-turn g c s t tells same is = ?
+
+pub returns-clause-turn : goal.returns-clause-turn
+returns-clause-turn g c s t tells same is = ?
