@@ -1,20 +1,16 @@
-use Rattle.std.proofs.Common.{◌≡◌, ◌<◌, ℕ, ◌%◌, List, [], ◌∷◌, ◌++◌, length, sym, ap, subst, ◌∙◌, arith}
+use Rattle.std.proofs.Common.{◌≡◌, ℕ, ◌%◌, [], ◌∷◌, ap, subst, ◌∙◌, arith}
 use Rattle.std.specs.Prelude.{Ok, Err}
 use Rattle.nb_fields.specs.Places.{bits_in}
-use Rattle.nb_model.specs.Image.{page_at}
-use Rattle.nb_model.specs.Strokes.{Stroke}
-use Rattle.nb_model.specs.Account.{Base}
-use Rattle.nb_model.specs.Forms.{inventory_of}
+use Rattle.nb_model.specs.Image.{Image}
+use Rattle.nb_model.specs.Forms.{inventory_of, bit_number}
 use Rattle.nb_model.proofs.SoundLaws.{inventory_place_some}
-use Rattle.nb_base.specs.Takes.{after_strokes}
 use Rattle.nb_engine.specs.Tries.{Tries}
 use Rattle.nb_engine.specs.Put.{entry_cause, raise_strokes}
 use Rattle.nb_engine.specs.Mark.{bit_for, bit_stroke, mark_cause, mark_stroke, mark_strokes}
 use Rattle.nb_engine.proofs.TestLaws.{inventory_place_is}
-use Rattle.nb_engine.proofs.MarkLaws.{there, entries_some, mark_keeps, mark_stroke-after}
-use Rattle.nb_engine.proofs.PutLaws.{Keeps}
-use Rattle.nb_engine.proofs.DoesLaws.{tries_passed, tries_front, tries_then, tries_opened}
-use Rattle.nb_engine.proofs.PageLaws.{makes_one, seen_after, mark_tries}
+use Rattle.nb_engine.proofs.MarkLaws.{there, plain, entries_some, mark_stroke-after}
+use Rattle.nb_engine.proofs.DoesLaws.{tries_passed, tries_front}
+use Rattle.nb_engine.proofs.PageLaws.{then_page, bit_at, mark_tries}
 use Rattle.nb_engine.proofs.mark.put_map.Goals as goal
 
 pub write_bit-requires-clause-low : goal.write_bit-requires-clause-low
@@ -42,23 +38,17 @@ returns-in_err-write_bit-clause-tries g c t tells is form read =
     let old = g.H.Host.world c.args.host.now in
     let mid = g.H.Host.world c.raise_entry.new.host in
     let new = g.H.Host.world c.write_bit.new.host in
-    let fault = c.in_err-write_bit.field-0.0 in
     let size = c.page_size-page_size.ensures.value ∙ is.files.agrees.page_size in
     let some = entries_some _ image c.page_size-page_size.ensures.one_of size in
     let at = inventory_place_is image _ p _ _ c.place_of-place.ensures c.covers-k.ensures.number size in
     let number = c.covers-k.ensures.index ∙ ap (λ (n : ℕ). p % bits_in n) size in
-    let xs : List Stroke = raise_strokes image (inventory_of image p) in
     let first = subst (λ (q : ℕ). Tries {T = Unit {0}} (Ok tt) old mid c.args.store.now c.raise_entry.new.store t (entry_cause image q) (raise_strokes image q)) at (c.in_ok-raise_entry.ensures.tries t tells is) in
-    let keeps : Keeps image (inventory_of image p) (after_strokes t xs).base.image = seen_after t xs (λ (b : Base). Keeps image (inventory_of image p) b.image) (mark_keeps t.base p form first.test some) in
-    let low : c.place_of-place.result < length (after_strokes t xs).base.image = omega (arith, at, there t.base p form, keeps.long) in
-    let same = read ∙ sym keeps.same ∙ ap (λ (q : ℕ). page_at (after_strokes t xs).base.image q) (sym at) in
-    let stroke = ap (λ (q : ℕ). bit_stroke (after_strokes t xs).base.image q c.covers-k.result.1 bit) at ∙ ap (λ (n : ℕ). bit_stroke (after_strokes t xs).base.image (inventory_of image p) n bit) number
-    ∙ mark_stroke-after image (after_strokes t xs).base.image p bit keeps in
-    let second = makes_one {T = Unit {0}} (Err fault) mid new _ _ (after_strokes t xs) _ _ stroke
-    (c.in_err-write_bit.ensures.makes (after_strokes t xs) tells (tries_opened {T = Unit {0}} tt _ _ _ _ t _ xs first) low same) in
+    let bits = λ (x : Image). bit_stroke x (inventory_of image p) (bit_number image p) bit in
+    let fault = c.in_err-write_bit.field-0.0 in
     tries_passed c.from_residual-in_err-write_bit.result fault (λ r. Tries r old new c.args.store.now c.write_bit.new.store t (mark_cause image p) (mark_strokes image p bit)) c.from_residual-in_err-write_bit.ensures
     (mark_tries {T = Unit {0}} (Err fault) _ _ _ _ t p bit form some
-    (tries_then {S = Unit {0}} {T = Unit {0}} tt (Err fault) old mid new _ _ _ t _ xs (mark_stroke image p bit ∷ []) first c.in_err-write_bit.ensures.not_refused second))
+    (then_page old mid _ _ t (inventory_of image p) (plain t.base p form) some first {T = Unit {0}} (Err fault) new _ c.args.map.now bits (there t.base p form) read (mark_stroke-after image _ p bit) c.in_err-write_bit.ensures.not_refused
+    (bit_at {T = Unit {0}} (Err fault) mid new _ _ c.args.map.now c.place_of-place.result (inventory_of image p) c.covers-k.result.1 (bit_number image p) bit at number (λ u opened low is. c.in_err-write_bit.ensures.makes u tells opened low is))))
 
 pub returns-clause-tries : goal.returns-clause-tries
 returns-clause-tries g c t tells is form read =
@@ -72,13 +62,8 @@ returns-clause-tries g c t tells is form read =
     let some = entries_some _ image c.page_size-page_size.ensures.one_of size in
     let at = inventory_place_is image _ p _ _ c.place_of-place.ensures c.covers-k.ensures.number size in
     let number = c.covers-k.ensures.index ∙ ap (λ (n : ℕ). p % bits_in n) size in
-    let xs : List Stroke = raise_strokes image (inventory_of image p) in
     let first = subst (λ (q : ℕ). Tries {T = Unit {0}} (Ok tt) old mid c.args.store.now c.raise_entry.new.store t (entry_cause image q) (raise_strokes image q)) at (c.in_ok-raise_entry.ensures.tries t tells is) in
-    let keeps : Keeps image (inventory_of image p) (after_strokes t xs).base.image = seen_after t xs (λ (b : Base). Keeps image (inventory_of image p) b.image) (mark_keeps t.base p form first.test some) in
-    let low : c.place_of-place.result < length (after_strokes t xs).base.image = omega (arith, at, there t.base p form, keeps.long) in
-    let same = read ∙ sym keeps.same ∙ ap (λ (q : ℕ). page_at (after_strokes t xs).base.image q) (sym at) in
-    let stroke = ap (λ (q : ℕ). bit_stroke (after_strokes t xs).base.image q c.covers-k.result.1 bit) at ∙ ap (λ (n : ℕ). bit_stroke (after_strokes t xs).base.image (inventory_of image p) n bit) number
-    ∙ mark_stroke-after image (after_strokes t xs).base.image p bit keeps in
-    let second = makes_one {T = Unit {0}} (Ok tt) mid new _ _ (after_strokes t xs) _ _ stroke
-    (c.in_ok-write_bit.ensures.makes (after_strokes t xs) tells (tries_opened {T = Unit {0}} tt _ _ _ _ t _ xs first) low same) in
-    mark_tries {T = Unit {0}} (Ok tt) _ _ _ _ t p bit form some (tries_then {S = Unit {0}} {T = Unit {0}} tt (Ok tt) old mid new _ _ _ t _ xs (mark_stroke image p bit ∷ []) first tt second)
+    let bits = λ (x : Image). bit_stroke x (inventory_of image p) (bit_number image p) bit in
+    mark_tries {T = Unit {0}} (Ok tt) _ _ _ _ t p bit form some
+    (then_page old mid _ _ t (inventory_of image p) (plain t.base p form) some first {T = Unit {0}} (Ok tt) new _ c.args.map.now bits (there t.base p form) read (mark_stroke-after image _ p bit) tt
+    (bit_at {T = Unit {0}} (Ok tt) mid new _ _ c.args.map.now c.place_of-place.result (inventory_of image p) c.covers-k.result.1 (bit_number image p) bit at number (λ u opened low is. c.in_ok-write_bit.ensures.makes u tells opened low is)))

@@ -1,12 +1,11 @@
-use Rattle.std.proofs.Common.{◌≡◌, ◌<◌, List, [], ◌∷◌, ◌++◌, length, refl, sym, subst, ◌∙◌, arith}
+use Rattle.std.proofs.Common.{◌≡◌, List, [], ◌∷◌, ◌++◌, refl, sym, subst, ◌∙◌, arith}
 use Rattle.std.specs.Prelude.{Ok, Err}
+use Rattle.nb_fields.specs.Payloads.{text_payload}
 use Rattle.nb_model.specs.declared.reply.Reply.TheVariants.{Done}
-use Rattle.nb_model.specs.Image.{page_at}
-use Rattle.nb_model.specs.Account.{Base}
+use Rattle.nb_model.specs.Image.{Image, page_at}
 use Rattle.nb_model.specs.Strokes.{Stroke}
 use Rattle.nb_model.specs.Outcomes.{Seen}
 use Rattle.nb_model.specs.Pages.{write_turn}
-use Rattle.nb_base.specs.Takes.{after_strokes}
 use Rattle.nb_state.specs.Open.{Held, IsOpen}
 use Rattle.nb_state.proofs.MakesLaws.{open_still}
 use Rattle.nb_engine.specs.Tries.{Tries}
@@ -14,9 +13,10 @@ use Rattle.nb_engine.specs.Put.{entry_cause, raise_strokes, raw_stroke}
 use Rattle.nb_engine.specs.Replies.{done}
 use Rattle.nb_engine.proofs.TestLaws.{vec_whole}
 use Rattle.nb_engine.proofs.MarkLaws.{entries_some}
-use Rattle.nb_engine.proofs.DoesLaws.{seeing, tested_does, tries_does, if_err, tries_passed, tries_after, tries_front, tries_then, tries_opened}
+use Rattle.nb_engine.proofs.DoesLaws.{seeing, tested_does, tries_does, if_err, tries_passed, tries_after, tries_front}
+use Rattle.nb_engine.proofs.PutLaws.{put_stroke-after}
 use Rattle.nb_engine.proofs.WriteLaws.{no_header, write_untaken, write_checked, write_is, is_raw}
-use Rattle.nb_engine.proofs.PageLaws.{Written, written, makes_one}
+use Rattle.nb_engine.proofs.PageLaws.{then_page}
 use Rattle.nb_engine.proofs.engine.Engine.page_write.Goals as goal
 
 pub returns-in_err-take_raw-clause-turn : goal.returns-in_err-take_raw-clause-turn
@@ -60,7 +60,47 @@ returns-in_err-raise_entry-clause-turn g c s t tells same is =
     tries_does done result old new _ _ t s (λ (x : Seen). write_turn x p text) _ Done both same turn (if_err result fault _ c.from_residual-in_err-raise_entry.ensures) tries
 
 pub returns-in_err-write_raw-clause-turn : goal.returns-in_err-write_raw-clause-turn
-returns-in_err-write_raw-clause-turn g c s t tells same is = ?
+returns-in_err-write_raw-clause-turn g c s t tells same is =
+    let image = t.base.image in
+    let p = c.args.number in
+    let text = c.args.text.now in
+    let old = g.H.Host.world c.args.host.now in
+    let mid = g.H.Host.world c.raise_entry.new.host in
+    let new = g.H.Host.world c.write_raw.new.host in
+    let here = subst (λ (h : Held). IsOpen old h t) (sym c.self.view_is) is in
+    let raw = c.in_ok-take_raw.ensures in
+    let reads = raw.reads t tells here in
+    let still = open_still _ _ _ _ t raw.same raw.quiet here in
+    let some = entries_some _ image c.self.invariant.0 here.files.agrees.page_size in
+    let of_raw = is_raw image p reads.test in
+    let turn = write_is (seeing s t.base) p text reads.test (c.in_ok-check_write.ensures.test image (c.is_read_only.ensures ∙ still.agrees.read_only)) some in
+    let first = tries_after {T = Unit {0}} (Ok tt) old _ mid c.args.self.now _ c.raise_entry.new.store t _ _ (raw.same ∙ c.self.view_is) raw.quiet is (c.in_ok-raise_entry.ensures.tries t tells still) in
+    let read : c.deref_mut-2.result.now ≡ page_at image p = vec_whole _ c.take_raw.new.page _ _ c.deref_mut-2.ensures.value (omega (arith, c.take_raw.auto.page, c.deref_mut.ensures.len)) ∙ reads.page in
+    let fault = c.in_err-write_raw.field-0.0 in
+    let result = c.from_residual-in_err-write_raw.result in
+    let both : List Stroke = raise_strokes image p ++ raw_stroke image p text ∷ [] in
+    let tries = tries_passed result fault (λ r. Tries r old new c.args.self.now c.write_raw.new.store t (entry_cause image p) both) c.from_residual-in_err-write_raw.ensures
+    (then_page old mid _ _ t p of_raw.plain some first {T = Unit {0}} (Err fault) new _ c.deref_mut-2.result.now (λ (x : Image). raw_stroke x p text) of_raw.low read (put_stroke-after image _ p 8 (text_payload text))
+    c.in_err-write_raw.ensures.not_refused (λ u opened low is. c.in_err-write_raw.ensures.makes u tells opened low is)) in
+    tries_does done result old new _ _ t s (λ (x : Seen). write_turn x p text) _ Done both same turn (if_err result fault _ c.from_residual-in_err-write_raw.ensures) tries
 
 pub returns-clause-turn : goal.returns-clause-turn
-returns-clause-turn g c s t tells same is = ?
+returns-clause-turn g c s t tells same is =
+    let image = t.base.image in
+    let p = c.args.number in
+    let text = c.args.text.now in
+    let old = g.H.Host.world c.args.host.now in
+    let mid = g.H.Host.world c.raise_entry.new.host in
+    let new = g.H.Host.world c.write_raw.new.host in
+    let here = subst (λ (h : Held). IsOpen old h t) (sym c.self.view_is) is in
+    let raw = c.in_ok-take_raw.ensures in
+    let reads = raw.reads t tells here in
+    let still = open_still _ _ _ _ t raw.same raw.quiet here in
+    let some = entries_some _ image c.self.invariant.0 here.files.agrees.page_size in
+    let of_raw = is_raw image p reads.test in
+    let turn = write_is (seeing s t.base) p text reads.test (c.in_ok-check_write.ensures.test image (c.is_read_only.ensures ∙ still.agrees.read_only)) some in
+    let first = tries_after {T = Unit {0}} (Ok tt) old _ mid c.args.self.now _ c.raise_entry.new.store t _ _ (raw.same ∙ c.self.view_is) raw.quiet is (c.in_ok-raise_entry.ensures.tries t tells still) in
+    let read : c.deref_mut-2.result.now ≡ page_at image p = vec_whole _ c.take_raw.new.page _ _ c.deref_mut-2.ensures.value (omega (arith, c.take_raw.auto.page, c.deref_mut.ensures.len)) ∙ reads.page in
+    let tries = then_page old mid _ _ t p of_raw.plain some first {T = Unit {0}} (Ok tt) new _ c.deref_mut-2.result.now (λ (x : Image). raw_stroke x p text) of_raw.low read (put_stroke-after image _ p 8 (text_payload text))
+    tt (λ u opened low is. c.in_ok-write_raw.ensures.makes u tells opened low is) in
+    tries_does done (Ok tt) old new _ _ t s (λ (x : Seen). write_turn x p text) _ Done _ same turn refl tries
