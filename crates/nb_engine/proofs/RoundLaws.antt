@@ -109,7 +109,7 @@ put_keeps_map p kind payload d map fields is five there plain holds =
     let place : is_inventory_place (image_size x) q ≡ true = inventory_there (image_size x) (p / bits_in (image_size x)) fields.size in
     let other : q ≢ p = λ e. true≢false (sym place ∙ ap (is_inventory_place (image_size x)) e ∙ (plain_place (image_size x) p plain).0) in
     let low : q < length x = omega (arith, inventory_before (image_size x) p fields.size (omega (arith, five)), there) in
-    holds plain low ∙ sym (puts.others q other (map_apart x p q fields.size place)) ∙ ap (λ (s : ℕ). page_at y (inventory_place s (p / bits_in s))) (sym size)
+    (holds plain low).page ∙ sym (puts.others q other (map_apart x p q fields.size place)) ∙ ap (λ (s : ℕ). page_at y (inventory_place s (p / bits_in s))) (sym size)
 
 -- The system page of that place is there, and no inventory page has changed.
 pub record HasSystem (x y : Image) (p : ℕ) : Type 0 where

@@ -9,6 +9,7 @@
 
 mod backup;
 mod engine;
+mod find;
 mod flags;
 mod free;
 mod mark;

@@ -1,12 +1,12 @@
 // Room for the two kinds of inventory pages that statements read and change.
-ghost use Rattle.std.specs.Prelude.{◌≡◌, ◌≢◌, ◌↔◌, ◌+◌, ◌*◌, ◌<◌, ◌≤◌, IsTrue, IfOk, IfErr, false, length, drop, slice_index};
+ghost use Rattle.std.specs.Prelude.{◌≡◌, ◌≢◌, ◌↔◌, ◌+◌, ◌*◌, ◌<◌, ◌≤◌, IsTrue, IfOk, IfErr, MatchOption, false, length, drop, slice_index};
 ghost use Rattle.nb_fields.specs.Bytes.{bytes_of, with_part, is_zeros};
 ghost use Rattle.nb_fields.specs.Page.{stamped};
 ghost use Rattle.nb_fields.specs.Places.{is_page_size, entries_in, bits_in};
 ghost use Rattle.nb_host.specs.declared.faults.Fault.TheVariants.{Memory};
 ghost use Rattle.nb_change.specs.Counts.{CountsDevice};
 ghost use Rattle.nb_page.specs.Quiet.{Quiet};
-ghost use Rattle.nb_pip.specs.Bits.{bits};
+ghost use Rattle.nb_pip.specs.Bits.{bits, AreUsed, IsLowestFree};
 ghost use Rattle.nb_scn.specs.Entries.{entries};
 ghost use Rattle.nb_model.specs.Causes.{not_kind};
 ghost use Rattle.nb_model.specs.Forms.{with_bit};
@@ -164,6 +164,14 @@ impl InventoryPage {
         ensures { IsTrue result ↔ (slice_index (bits self.now) index ≡ 0) }
     {
         nb_pip::is_used(self.bytes.as_slice(), index)
+    }
+
+    /// The lowest bit from `from` on and below `below` that says free.
+    pub(crate) fn lowest_free(&self, from: u32, below: u32) -> Option<u32>
+        requires { below ≤ bits_in (length self.now) }
+        ensures { MatchOption result (AreUsed (bits self.now) from below) (IsLowestFree (bits self.now) from below) }
+    {
+        nb_pip::lowest_free(self.bytes.as_slice(), from, below)
     }
 
     /// Sets bit `index` to free, or to taken, and stamps the page, which stands at `place`.
