@@ -13,3 +13,6 @@ pub mod FindLaws
 pub mod PlaceTests
 pub mod RoundLaws
 pub mod FullLaws
+pub mod MakeLaws
+pub mod WhereLaws
+pub mod NewLaws

@@ -4,3 +4,4 @@ pub mod Mark
 pub mod Turns
 pub mod Replies
 pub mod Find
+pub mod Make

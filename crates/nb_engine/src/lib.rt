@@ -12,6 +12,7 @@ mod engine;
 mod find;
 mod flags;
 mod free;
+mod make;
 mod mark;
 mod pages;
 mod put;
