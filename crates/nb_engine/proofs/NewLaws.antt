@@ -29,12 +29,12 @@ use Rattle.nb_engine.specs.Tries.{Tries}
 use Rattle.nb_engine.specs.Put.{entry_cause}
 use Rattle.nb_engine.specs.Mark.{mark_cause, mark_strokes}
 use Rattle.nb_engine.specs.Find.{IsMap, HoldsMap}
-use Rattle.nb_engine.specs.Make.{IsWell, IsOnward, MakesWhere, new_raw, round, behind}
+use Rattle.nb_engine.specs.Make.{IsWell, IsOnward, MakesWhere, page_strokes, new_raw, round, behind}
 use Rattle.nb_engine.proofs.CauseLaws.{first_here}
 use Rattle.nb_engine.proofs.DoesLaws.{tries_passed}
 use Rattle.nb_engine.proofs.FindLaws.{finds}
 use Rattle.nb_engine.proofs.PageLaws.{seen_after}
-use Rattle.nb_engine.proofs.MakeLaws.{well, from_well, mark_none, mark_long}
+use Rattle.nb_engine.proofs.MakeLaws.{well, from_well, mark_none, mark_long, page_long, map_kept}
 use Rattle.nb_engine.proofs.WhereLaws.{makes_as, makes_valued, where_tries, where_front, where_then}
 
 -- The search goes on to a page up to the length.
@@ -55,6 +55,13 @@ form_of image p none = by (not_kind image 2 (inventory_of image p)) refl
 -- the inventory page of a page up to the length is there
 pub held_map : (image : Image) (p : ℕ) (map : Page) → IsTrue (is_page_size (image_size image)) → 5 ≤ p → p ≤ length image → is_system_place (image_size image) p ≡ false → HoldsMap image p map → IsMap image p map
 held_map image p map is five low plain holds = let before = inventory_before (image_size image) p is (omega (arith, five)) in holds plain (omega (arith, before, low))
+
+-- and where the page is made it stays so
+pub new_there : (b : Base) (p kind : ℕ) (payload : List ℕ) (map : Page) → entry_cause b.image p ≡ None → p ≤ length b.image → IsTrue (is_page_size (image_size b.image)) → 5 ≤ p → is_system_place (image_size b.image) p ≡ false
+    → HoldsMap b.image p map → (p < length (base_after b (page_strokes b.image p kind payload)).image) × IsMap (base_after b (page_strokes b.image p kind payload)).image p map
+new_there b p kind payload map none low is five plain holds =
+    let long = page_long b p kind payload none low in
+    (omega (arith, long), map_kept b p kind payload none low map is five (held_map b.image p map is five low plain holds))
 
 -- A page is made as a draft has it, and then taken.
 module _ (t : Trail) (p : ℕ) (e : Draft) (of : IsOf t.base e) where
