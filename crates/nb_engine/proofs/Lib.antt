@@ -16,3 +16,4 @@ pub mod FullLaws
 pub mod MakeLaws
 pub mod WhereLaws
 pub mod NewLaws
+pub mod NewTurn

@@ -21,7 +21,7 @@ use nb_pip::{covers, place_of};
 use nb_state::Store;
 
 /// The pages before it hold the header, the first inventories, the catalogue and the history: none of them is given out.
-const FIRST_TO_GIVE: u32 = 5;
+pub(crate) const FIRST_TO_GIVE: u32 = 5;
 
 /// As many pages as a database may have.
 pub(crate) const MOST_PAGES: u32 = 1048576;

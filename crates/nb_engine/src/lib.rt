@@ -14,6 +14,7 @@ mod flags;
 mod free;
 mod make;
 mod mark;
+mod new_page;
 mod pages;
 mod put;
 mod reads;

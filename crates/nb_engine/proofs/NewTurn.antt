@@ -1,0 +1,83 @@
+-- What making a new page does of its turn.
+use Rattle.std.proofs.Common.{◌≡◌, ◌<◌, ◌+◌, ℕ, List, [], ◌∷◌, length, refl, sym, ap, subst, ◌∙◌}
+use Rattle.std.specs.Prelude.{true, false, IsTrue, Some, None, Result, Ok, Err, IfOk, IfErr}
+use Rattle.nb_fields.specs.Places.{is_page_size}
+use Rattle.nb_fields.specs.Payloads.{text_payload}
+use Rattle.nb_host.specs.World.{World}
+use Rattle.nb_host.specs.declared.faults.Fault.{Fault}
+use Rattle.nb_host.specs.declared.refusals.Refusal.{Refusal}
+use Rattle.nb_host.specs.declared.refusals.Refusal.TheVariants.{Access}
+use Rattle.nb_model.specs.declared.reply.Reply.{Reply}
+use Rattle.nb_model.specs.declared.reply.Reply.TheVariants.{Refused, PageMade}
+use Rattle.nb_model.specs.Image.{Image, image_scn, is_read_only}
+use Rattle.nb_model.specs.Strokes.{Stroke}
+use Rattle.nb_model.specs.Trail.{Trail}
+use Rattle.nb_model.specs.Forms.{Draft}
+use Rattle.nb_model.specs.Causes.{Cause, first_cause, read_only, lowest_broken, not_of_form, no_room}
+use Rattle.nb_model.specs.Outcomes.{Seen, says}
+use Rattle.nb_model.specs.Pages.{new_turn}
+use Rattle.nb_model.specs.Sound.{IsSoundImage, HasHeader}
+use Rattle.nb_model.proofs.NewSound.{empty_text}
+use Rattle.nb_model.proofs.RoundLaws.{new_unbroken}
+use Rattle.nb_base.specs.Takes.{IsNoRefusal}
+use Rattle.nb_state.specs.Open.{Held, IsOpen}
+use Rattle.nb_state.specs.Does.{Makes, Does}
+use Rattle.nb_engine.specs.Make.{IsWell, new_raw}
+use Rattle.nb_engine.specs.Replies.{page_made}
+use Rattle.nb_engine.proofs.TestLaws.{applies, rests}
+use Rattle.nb_engine.proofs.CauseLaws.{unless_refused, unless_allowed, first_none, first_next, first_here, refused_by, judged_by, allowed}
+use Rattle.nb_engine.proofs.DoesLaws.{seeing, tries_made, tries_does}
+use Rattle.nb_engine.proofs.MakeLaws.{well}
+
+-- the facts of an open database that the laws of images ask for
+pub header_of : (w : World) (held : Held) (t : Trail) → IsOpen w held t → image_scn t.base.image < 4294967296 → HasHeader t.base.image
+header_of w held t is scn = record { header = is.files.agrees.header; scn = scn }
+
+pub well_of : (w : World) (held : Held) (t : Trail) → IsOpen w held t → IsTrue (is_page_size held.files.page_size) → image_scn t.base.image < 4294967296 → IsSoundImage t.base.image → IsWell t.base.image
+well_of w held t is size scn sound = record { sound = sound; size = subst (λ (n : ℕ). IsTrue (is_page_size n)) is.files.agrees.page_size size; scn = scn }
+
+-- the turn, by its causes
+module _ (s : Seen) where
+  abbrev image : Image
+  image = s.base.image
+
+  abbrev draft : Draft
+  draft = (new_raw image).0
+
+  abbrev reply : Reply
+  reply = PageMade (new_raw image).1
+
+  pub new_closed : is_read_only image ≡ true → new_turn s ≡ says s (Refused (Access 1)) []
+  unfolding new_turn
+  new_closed closed = refused_by s (read_only image ∷ []) draft reply (Access 1) (first_here (read_only image) [] (Access 1) (applies _ _ closed))
+
+  module _ (free : is_read_only image ≡ false) (is : IsWell image) where
+    open_to_change : first_cause (read_only image ∷ []) ≡ None
+    open_to_change = first_next (read_only image) [] (rests _ _ free) ∙ first_none
+
+    form : not_of_form draft ≡ None
+    unfolding lowest_broken
+    form = ap lowest_broken (new_unbroken (length image + 4) 8 (λ p. text_payload []) image (well image is) refl empty_text)
+
+    pub new_full : (r : Refusal) → no_room draft ≡ Some r → new_turn s ≡ says s (Refused r) []
+    unfolding new_turn
+    new_full r e =
+        judged_by s (read_only image ∷ []) draft reply open_to_change
+        ∙ unless_refused s _ (says s reply draft.strokes) r (first_next (not_of_form draft) (no_room draft ∷ []) form ∙ first_here (no_room draft) [] r e)
+
+    pub new_says : no_room draft ≡ None → new_turn s ≡ says s reply draft.strokes
+    unfolding new_turn
+    new_says room = allowed s (read_only image ∷ []) draft reply open_to_change form room
+
+-- what is said of a number is said of an equal one
+number_said : (result : Result ℕ Fault) (n : ℕ) → IfOk result (λ number. number ≡ n) → IfOk result (λ number. page_made number ≡ PageMade n)
+number_said (Ok number) n same = ap PageMade same
+number_said (Err fault) n same = tt
+
+-- a run of calls that made the strokes does the turn
+pub made_does : (result : Result ℕ Fault) (old new : World) (a b : Held) (t : Trail) (s : Seen) (n : ℕ) (strokes : List Stroke) → t.base ≡ s.base
+    → new_turn (seeing s t.base) ≡ says (seeing s t.base) (PageMade n) strokes → IfOk result (λ number. number ≡ n) → IfErr result IsNoRefusal → Makes result old new a b t strokes
+    → Does page_made result old new a b t (new_turn s)
+made_does result old new a b t s n strokes same turn number sure makes =
+    tries_does page_made result old new a b t s new_turn None (PageMade n) strokes same
+    (turn ∙ sym (unless_allowed (seeing s t.base) None (says (seeing s t.base) (PageMade n) strokes) refl)) (number_said result n number) (tries_made result old new a b t None strokes refl sure makes)
