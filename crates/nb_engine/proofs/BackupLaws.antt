@@ -1,17 +1,16 @@
 -- How a backup begins and ends by its turn.
 use Rattle.std.proofs.Common.{◌≡◌, ℕ, ◌+◌, List, [], ◌∷◌, refl, sym, ap, subst, ◌∙◌}
-use Rattle.std.specs.Prelude.{◌==◌, Option, Some, None, Result, Ok, Err}
+use Rattle.std.specs.Prelude.{Option, Some, None, Result, Ok, Err}
 use Rattle.nb_host.specs.World.{World}
 use Rattle.nb_host.specs.declared.faults.Fault.{Fault}
 use Rattle.nb_host.specs.declared.faults.Fault.TheVariants.{Refused as RefusedFault, Device, Memory}
 use Rattle.nb_host.specs.declared.refusals.Refusal.{Refusal}
-use Rattle.nb_host.specs.declared.refusals.Refusal.TheVariants.{WrongState}
 use Rattle.nb_page.specs.Quiet.{Quiet}
 use Rattle.nb_model.specs.declared.reply.Reply.TheVariants.{Refused, Scn}
-use Rattle.nb_model.specs.Image.{Image, image_scn, image_state}
+use Rattle.nb_model.specs.Image.{image_scn}
 use Rattle.nb_model.specs.Account.{Base}
 use Rattle.nb_model.specs.Strokes.{Stroke, begin}
-use Rattle.nb_model.specs.Causes.{Cause, first_cause, when, read_only, not_state, no_scn, runs_other}
+use Rattle.nb_model.specs.Causes.{Cause, read_only, not_state, no_scn}
 use Rattle.nb_model.specs.Outcomes.{Seen, Outcome, next_guid, without_guid, says, unless}
 use Rattle.nb_model.specs.Pages.{begin_turn, end_turn, end_strokes, end_scn, ends_by}
 use Rattle.nb_model.specs.Trail.{Trail}
@@ -19,7 +18,7 @@ use Rattle.nb_base.specs.Takes.{Strikes, after_strokes}
 use Rattle.nb_state.specs.Open.{Held, IsOpen, name_of}
 use Rattle.nb_state.specs.Does.{unless_by}
 use Rattle.nb_state.specs.Turns.{begin_cause, end_cause, Begins, Ends}
-use Rattle.nb_state.proofs.MakesLaws.{open_still, goes_nowhere, none_yet}
+use Rattle.nb_state.proofs.MakesLaws.{open_still, none_yet}
 use Rattle.nb_engine.specs.Replies.{scn_is}
 use Rattle.nb_engine.specs.Turns.{DoesBegin, DoesEnd}
 use Rattle.nb_engine.proofs.CauseLaws.{unless_refused, unless_allowed, first_next, first_here}

@@ -1,5 +1,5 @@
 use Rattle.std.proofs.Common.{◌≡◌, sym, subst, ◌∙◌}
-use Rattle.std.specs.Prelude.{true, false, None}
+use Rattle.std.specs.Prelude.{true, None}
 use Rattle.nb_page.proofs.QuietLemmas.{quiet_begun}
 use Rattle.nb_model.specs.Image.{is_read_only}
 use Rattle.nb_model.specs.Causes.{read_only}
