@@ -63,13 +63,7 @@ where_ended (Err (Refused refusal)) P is = is
 where_ended (Err Device) P is = tt
 where_ended (Err Memory) P is = tt
 
-pub where_refused : {T : Type 0} (result : Result T Fault) (P : Type 0) → P → WhereRefused result P
-where_refused (Ok value) P is = tt
-where_refused (Err (Refused refusal)) P is = is
-where_refused (Err Device) P is = tt
-where_refused (Err Memory) P is = tt
-
--- a failure promises nothing of the end
+-- where it failed, nothing is promised of its end, and it was not refused
 pub never_ended : (T : Type 0) (fault : Fault) (P : Type 0) → IsNoRefusal fault → WhereEnded {T = T} (Err fault) P
 never_ended T (Refused refusal) P is = absurd is
 never_ended T Device P is = tt
