@@ -169,7 +169,7 @@ fn merge_all(engine: &mut Engine, host: &mut MemHost, most: u32) -> Result<u32, 
             return Ok(merged);
         }
         if engine.merge_turn(host)? == Progress::More {
-            merged += 1;
+            merged = u32::saturating_add(merged, 1);
         }
     }
     Ok(merged)
