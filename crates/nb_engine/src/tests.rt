@@ -190,7 +190,7 @@ fn stalled(alloc: Global) -> Result<MemHost, Fail> {
 }
 
 #[test]
-fn what_was_changed_while_stalled_is_merged(rt: HostRuntime) -> Result<(), Fail> {
+fn what_was_changed_while_stalled_is_read(rt: HostRuntime) -> Result<(), Fail> {
     let mut host = stalled(rt.alloc())?;
     let mut engine = Engine::attach(rt.alloc(), &mut host, &name_of()?)?;
     // Its SCN page and the page itself.
@@ -198,11 +198,18 @@ fn what_was_changed_while_stalled_is_merged(rt: HostRuntime) -> Result<(), Fail>
         (engine.store().state(), engine.store().delta_count()),
         (1, 2)
     );
-    assert_eq!(rt; engine.end(&mut host, 1)?, 3);
-    assert_eq!(rt; merge_all(&mut engine, &mut host, 4)?, 2);
-    engine.set_running(None);
     let text = engine.page_read(&mut host, 6)?;
     assert_eq!(rt; text.as_slice(), b"while stalled".as_slice());
+    Ok(())
+}
+
+#[test]
+fn a_merge_takes_an_entry_a_turn(rt: HostRuntime) -> Result<(), Fail> {
+    let mut host = stalled(rt.alloc())?;
+    let mut engine = Engine::attach(rt.alloc(), &mut host, &name_of()?)?;
+    engine.set_running(None);
+    assert_eq!(rt; engine.end(&mut host, 1)?, 3);
+    assert_eq!(rt; merge_all(&mut engine, &mut host, 4)?, 2);
     Ok(())
 }
 
