@@ -1,17 +1,16 @@
 -- How a backup begins and ends by its turn.
 use Rattle.std.proofs.Common.{◌≡◌, ℕ, ◌+◌, List, [], ◌∷◌, refl, sym, ap, subst, ◌∙◌}
-use Rattle.std.specs.Prelude.{◌==◌, Option, Some, None, Result, Ok, Err}
+use Rattle.std.specs.Prelude.{Option, Some, None, Result, Ok, Err}
 use Rattle.nb_host.specs.World.{World}
 use Rattle.nb_host.specs.declared.faults.Fault.{Fault}
 use Rattle.nb_host.specs.declared.faults.Fault.TheVariants.{Refused as RefusedFault, Device, Memory}
 use Rattle.nb_host.specs.declared.refusals.Refusal.{Refusal}
-use Rattle.nb_host.specs.declared.refusals.Refusal.TheVariants.{WrongState}
 use Rattle.nb_page.specs.Quiet.{Quiet}
 use Rattle.nb_model.specs.declared.reply.Reply.TheVariants.{Refused, Scn}
-use Rattle.nb_model.specs.Image.{Image, image_scn, image_state}
+use Rattle.nb_model.specs.Image.{image_scn}
 use Rattle.nb_model.specs.Account.{Base}
 use Rattle.nb_model.specs.Strokes.{Stroke, begin}
-use Rattle.nb_model.specs.Causes.{Cause, first_cause, when, read_only, not_state, no_scn, runs_other}
+use Rattle.nb_model.specs.Causes.{Cause, read_only, not_state, no_scn}
 use Rattle.nb_model.specs.Outcomes.{Seen, Outcome, next_guid, without_guid, says, unless}
 use Rattle.nb_model.specs.Pages.{begin_turn, end_turn, end_strokes, end_scn, ends_by}
 use Rattle.nb_model.specs.Trail.{Trail}
@@ -19,8 +18,7 @@ use Rattle.nb_base.specs.Takes.{Strikes, after_strokes}
 use Rattle.nb_state.specs.Open.{Held, IsOpen, name_of}
 use Rattle.nb_state.specs.Does.{unless_by}
 use Rattle.nb_state.specs.Turns.{begin_cause, end_cause, Begins, Ends}
-use Rattle.nb_state.proofs.MakesLaws.{open_still, goes_nowhere, none_yet}
-use Rattle.nb_engine.specs.Replies.{scn_is}
+use Rattle.nb_state.proofs.MakesLaws.{open_still, none_yet}
 use Rattle.nb_engine.specs.Turns.{DoesBegin, DoesEnd}
 use Rattle.nb_engine.proofs.CauseLaws.{unless_refused, unless_allowed, first_next, first_here}
 use Rattle.nb_engine.proofs.DoesLaws.{seeing}
@@ -51,10 +49,10 @@ unfolding begin_turn
 begin_closed s r closed = unless_refused s _ (begun s) r (first_here (read_only s.base.image) _ r closed)
 
 -- it was refused before it began
-pub refused_begin : (r : Refusal) (old new : World) (a : Held) (t : Trail) (s : Seen) → t.base ≡ s.base → Quiet old new → IsOpen old a t → read_only t.base.image ≡ Some r → DoesBegin scn_is (Err (RefusedFault r)) old new a a t (next_guid s.given) (begin_turn s)
+pub refused_begin : (r : Refusal) (old new : World) (a : Held) (t : Trail) (s : Seen) → t.base ≡ s.base → Quiet old new → IsOpen old a t → read_only t.base.image ≡ Some r → DoesBegin (Err (RefusedFault r)) old new a a t (next_guid s.given) (begin_turn s)
 refused_begin r old new a t s same quiet is closed =
-    subst (λ (x : Base). DoesBegin scn_is (Err (RefusedFault r)) old new a a t (next_guid s.given) (begin_turn (seeing s x))) same
-    (subst (λ (o : Outcome). DoesBegin scn_is (Err (RefusedFault r)) old new a a t (next_guid s.given) o) (sym (begin_closed (seeing s t.base) r closed)) (record {
+    subst (λ (x : Base). DoesBegin (Err (RefusedFault r)) old new a a t (next_guid s.given) (begin_turn (seeing s x))) same
+    (subst (λ (o : Outcome). DoesBegin (Err (RefusedFault r)) old new a a t (next_guid s.given) o) (sym (begin_closed (seeing s t.base) r closed)) (record {
       answer = refl;
       left = none_yet old new a t [] quiet is;
       opened = open_still old new a a t refl quiet is;
@@ -70,10 +68,10 @@ module _ (old new : World) (a b : Held) (t : Trail) (s : Seen) (is : IsOpen old 
   here = seeing s t.base
 
   -- it begins as the store does
-  pub does_begin : (result : Result ℕ Fault) → t.base ≡ s.base → read_only t.base.image ≡ None → Begins result old new a b t (next_guid s.given) None → DoesBegin scn_is result old new a b t (next_guid s.given) (begin_turn s)
+  pub does_begin : (result : Result ℕ Fault) → t.base ≡ s.base → read_only t.base.image ≡ None → Begins result old new a b t (next_guid s.given) None → DoesBegin result old new a b t (next_guid s.given) (begin_turn s)
   does_begin result same free begins =
-      subst (λ (x : Base). DoesBegin scn_is result old new a b t (next_guid s.given) (begin_turn (seeing s x))) same
-      (subst (λ (o : Outcome). DoesBegin scn_is result old new a b t (next_guid s.given) o) (sym (begin_is here free)) (by result begins))
+      subst (λ (x : Base). DoesBegin result old new a b t (next_guid s.given) (begin_turn (seeing s x))) same
+      (subst (λ (o : Outcome). DoesBegin result old new a b t (next_guid s.given) o) (sym (begin_is here free)) (by result begins))
     where
       turn : Outcome
       turn = unless here (begin_cause t.base.image) (begun here)
@@ -82,7 +80,7 @@ module _ (old new : World) (a b : Held) (t : Trail) (s : Seen) (is : IsOpen old 
       left strokes struck e =
           subst (λ (ss : List Stroke). Strikes old new (name_of a) t ss) (ap (λ (ss : List Stroke). unless_by (begin_cause t.base.image) ss) e ∙ sym (strokes_by here (begin_cause t.base.image) (begun here))) struck
 
-      by : (r : Result ℕ Fault) → Begins r old new a b t (next_guid s.given) None → DoesBegin scn_is r old new a b t (next_guid s.given) turn
+      by : (r : Result ℕ Fault) → Begins r old new a b t (next_guid s.given) None → DoesBegin r old new a b t (next_guid s.given) turn
       by (Ok scn) is_begun =
           let o = unless_allowed here (begin_cause t.base.image) (begun here) is_begun.test in
           record {

@@ -1,5 +1,5 @@
 -- What a call does that may be refused before its strokes, and what it does of its turn.
-use Rattle.std.proofs.Common.{◌≡◌, List, [], ◌∷◌, ◌++◌, refl, sym, ap, subst, ◌∙◌}
+use Rattle.std.proofs.Common.{◌≡◌, List, [], ◌++◌, refl, sym, ap, subst, ◌∙◌}
 use Rattle.std.specs.Prelude.{Some, None, Result, Ok, Err, OnOk, IfOk, IfErr, IsErr, IsErrAnd}
 use Rattle.nb_host.specs.World.{World}
 use Rattle.nb_host.specs.declared.faults.Fault.{Fault}
@@ -17,7 +17,7 @@ use Rattle.nb_model.specs.Outcomes.{Seen, Outcome, says, unless}
 use Rattle.nb_base.specs.Takes.{after_strokes, IsNoRefusal}
 use Rattle.nb_state.specs.Open.{Held, IsOpen}
 use Rattle.nb_state.specs.Does.{Tested, Answers, WhereRefused, unless_by, Makes, Does}
-use Rattle.nb_state.proofs.MakesLaws.{passed_on, makes_none, makes_not, makes_then, makes_front, makes_after}
+use Rattle.nb_state.proofs.MakesLaws.{passed_on, never_refused, makes_none, makes_not, makes_then, makes_front, makes_after}
 use Rattle.nb_engine.specs.Tries.{Tries}
 
 -- the strokes by the cause
@@ -59,12 +59,6 @@ tested_none (Err (RefusedFault r)) cause none never = absurd never
 tested_none (Err Device) cause none never = tt
 tested_none (Err Memory) cause none never = tt
 
-none_refused : {T : Type 0} (result : Result T Fault) (P : Type 0) → IfErr result IsNoRefusal → WhereRefused result P
-none_refused (Ok value) P never = tt
-none_refused (Err (RefusedFault r)) P never = absurd never
-none_refused (Err Device) P never = tt
-none_refused (Err Memory) P never = tt
-
 refused_more : {T : Type 0} (result : Result T Fault) (P Q : Type 0) → (P → Q) → WhereRefused result P → WhereRefused result Q
 refused_more (Ok value) P Q more is = tt
 refused_more (Err (RefusedFault r)) P Q more is = more is
@@ -97,7 +91,7 @@ pub tries_made : {T : Type 0} (result : Result T Fault) (old new : World) (a b :
 tries_made result old new a b t cause xs none never makes = record {
   test = tested_none result cause none never;
   makes = subst (λ (ss : List Stroke). Makes result old new a b t ss) (sym (unless_none cause xs none)) makes;
-  refused = none_refused result _ never;
+  refused = never_refused result _ never;
 }
 
 -- what is open behind the strokes

@@ -1,7 +1,7 @@
 -- A flag in page 0: the bytes that are written, and the turns that write them.
 use mir.Val.{bool_byte}
-use Rattle.std.proofs.Common.{◌≡◌, ◌≢◌, ℕ, ◌+◌, ◌<◌, ◌≤◌, List, [], ◌∷◌, ◌++◌, length, take, drop, refl, sym, ap, subst, ◌∙◌, arith}
-use Rattle.std.specs.Prelude.{Bool, true, false, not, ◌==◌, Some, None}
+use Rattle.std.proofs.Common.{◌≡◌, ◌≢◌, ℕ, ◌+◌, ◌<◌, ◌≤◌, List, [], ◌∷◌, ◌++◌, length, take, drop, refl, ap, ◌∙◌, arith}
+use Rattle.std.specs.Prelude.{Bool, true, false, not, Some, None}
 use Rattle.std.proofs.lemmas.List.{take-append-le, take-take, length-take-le}
 use Rattle.nb_fields.specs.Bytes.{bytes_of, with_part, is_zeros}
 use Rattle.nb_fields.specs.Header.{is_header}
@@ -9,8 +9,8 @@ use Rattle.nb_host.specs.declared.refusals.Refusal.TheVariants.{WrongState}
 use Rattle.nb_model.specs.declared.reply.Reply.TheVariants.{Done}
 use Rattle.nb_model.specs.Image.{Page, Image, first_page, image_state}
 use Rattle.nb_model.specs.Lines.{flag}
-use Rattle.nb_model.specs.Strokes.{Stroke, page}
-use Rattle.nb_model.specs.Causes.{Cause, when, read_only, not_state}
+use Rattle.nb_model.specs.Strokes.{page}
+use Rattle.nb_model.specs.Causes.{read_only, not_state}
 use Rattle.nb_model.specs.Outcomes.{Seen, says, unless}
 use Rattle.nb_model.specs.Pages.{byte_strokes, forced_turn, access_turn}
 use Rattle.nb_model.proofs.HeaderLaws.{header-long, header-other, same-header}

@@ -12,7 +12,7 @@ use Rattle.nb_host.specs.declared.refusals.Refusal.TheVariants.{NotDatabase}
 use Rattle.nb_pip.specs.Bits.{with_bit as with_bit_at}
 use Rattle.nb_model.specs.Image.{Page, Image, page_at, image_size, image_scn}
 use Rattle.nb_model.specs.Account.{Base}
-use Rattle.nb_model.specs.Strokes.{Stroke, page, base_after}
+use Rattle.nb_model.specs.Strokes.{page, base_after}
 use Rattle.nb_model.specs.Forms.{Draft, drafted, put, set_bit, with_bit, is_kind, inventory_of, bit_number}
 use Rattle.nb_model.specs.Causes.{Cause, first_cause, not_kind, not_of_form, no_room}
 use Rattle.nb_model.proofs.BitLaws.{with_bit_length}

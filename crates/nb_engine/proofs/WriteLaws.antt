@@ -12,7 +12,6 @@ use Rattle.nb_host.specs.declared.refusals.Refusal.TheVariants.{SystemPage}
 use Rattle.nb_model.specs.declared.reply.Reply.TheVariants.{Refused, Done}
 use Rattle.nb_model.specs.Image.{Image, first_page, page_at, image_size}
 use Rattle.nb_model.specs.Account.{Base}
-use Rattle.nb_model.specs.Strokes.{Stroke}
 use Rattle.nb_model.specs.Forms.{Draft, drafted, put, inventory_of}
 use Rattle.nb_model.specs.Causes.{Cause, first_cause, when, past_end, read_only, not_kind, not_raw, too_long, not_of_form, no_room}
 use Rattle.nb_model.specs.Outcomes.{Seen, says, unless}

@@ -12,10 +12,11 @@ use Rattle.nb_model.specs.Trail.{Trail}
 use Rattle.nb_base.specs.Takes.{Strikes, after_strokes}
 use Rattle.nb_state.specs.Open.{Held, IsOpen, name_of}
 use Rattle.nb_state.specs.Does.{Answers, WhereEnded, WhereRefused}
+use Rattle.nb_engine.specs.Replies.{scn_is}
 
 -- A backup begins with this GUID, as its turn says; or it is refused, and changes nothing.
-pub record DoesBegin (reply : ℕ → Reply) (result : Result ℕ Fault) (old new : World) (before after : Held) (t : Trail) (guid : List ℕ) (turn : Outcome) : Type 0 where
-  pub answer : Answers reply result turn.reply
+pub record DoesBegin (result : Result ℕ Fault) (old new : World) (before after : Held) (t : Trail) (guid : List ℕ) (turn : Outcome) : Type 0 where
+  pub answer : Answers scn_is result turn.reply
   pub left : Strikes old new (name_of before) t turn.strokes
   pub opened : WhereEnded result (IsOpen new after (after_strokes t turn.strokes))
   pub gave : OnOk result (new.guids ≡ old.guids ++ guid ∷ [])

@@ -7,7 +7,6 @@ ghost use Rattle.nb_model.specs.Trail.{Trail};
 ghost use Rattle.nb_base.specs.Takes.{IsNoRefusal};
 ghost use Rattle.nb_state.specs.Open.{IsOpen};
 ghost use Rattle.nb_state.specs.Turns.{GaveAtMost, Merges};
-ghost use Rattle.nb_engine.specs.Replies.{scn_is};
 ghost use Rattle.nb_engine.specs.Turns.{DoesBegin, DoesEnd};
 
 use crate::Engine;
@@ -22,7 +21,7 @@ impl Engine {
     pub fn begin<H: Host>(&mut self, host: &mut H) -> Result<u32, Fault>
         ensures turn { (s : Seen) (t : Trail) → IsTrue H.tells → t.base ≡ s.base → IsOpen (H.world host.old) self.old t
             → GaveAtMost (H.world host.old) (H.world host.new) (next_guid s.given)
-            → DoesBegin scn_is result (H.world host.old) (H.world host.new) self.old self.new t (next_guid s.given) (begin_turn s) }
+            → DoesBegin result (H.world host.old) (H.world host.new) self.old self.new t (next_guid s.given) (begin_turn s) }
         ensures page_size { self.new.files.page_size ≡ self.old.files.page_size }
         ensures cause { CountsDevice result (H.faults host.old) (H.faults host.new) }
     {

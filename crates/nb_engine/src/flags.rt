@@ -64,7 +64,8 @@ fn put_flag<H: Host>(
 impl Engine {
     /// Forces writes from now on, or lets them wait for a sync. It is kept for good.
     ///
-    /// The refusal is `Access`, where no statement may change a page; then nothing changes.
+    /// The refusals are `Access`, where no statement may change a page, and `NotDatabase` of page 0, where the host gives another
+    /// page for it than the header that it was. A refused call changes nothing.
     pub fn set_forced<H: Host>(&mut self, host: &mut H, on: bool) -> Result<(), Fault>
         ensures turn { (s : Seen) (t : Trail) → IsTrue H.tells → t.base ≡ s.base → IsOpen (H.world host.old) self.old t
             → Does done result (H.world host.old) (H.world host.new) self.old self.new t (forced_turn s on) }
@@ -81,7 +82,8 @@ impl Engine {
 
     /// Lets no statement change a page from now on, or lets statements change pages again. It is kept for good.
     ///
-    /// The refusal is `WrongState`, where the backup state isn't 0; then nothing changes.
+    /// The refusals are `WrongState`, where the backup state isn't 0, and `NotDatabase` of page 0, where the host gives another page
+    /// for it than the header that it was. A refused call changes nothing.
     pub fn set_access<H: Host>(&mut self, host: &mut H, closed: bool) -> Result<(), Fault>
         ensures turn { (s : Seen) (t : Trail) → IsTrue H.tells → t.base ≡ s.base → IsOpen (H.world host.old) self.old t
             → Does done result (H.world host.old) (H.world host.new) self.old self.new t (access_turn s closed) }

@@ -63,13 +63,7 @@ where_ended (Err (Refused refusal)) P is = is
 where_ended (Err Device) P is = tt
 where_ended (Err Memory) P is = tt
 
-pub where_refused : {T : Type 0} (result : Result T Fault) (P : Type 0) → P → WhereRefused result P
-where_refused (Ok value) P is = tt
-where_refused (Err (Refused refusal)) P is = is
-where_refused (Err Device) P is = tt
-where_refused (Err Memory) P is = tt
-
--- a failure promises nothing of the end
+-- where it failed, nothing is promised of its end, and it was not refused
 pub never_ended : (T : Type 0) (fault : Fault) (P : Type 0) → IsNoRefusal fault → WhereEnded {T = T} (Err fault) P
 never_ended T (Refused refusal) P is = absurd is
 never_ended T Device P is = tt
@@ -85,6 +79,8 @@ pub goes_on : (a b c : Held) → Goes a b → Goes b c → Goes a c
 goes_on a b c first second = record {
   name = second.name ∙ first.name;
   page_size = second.page_size ∙ first.page_size;
+  state = second.state ∙ first.state;
+  entries = λ merging. second.entries (first.state ∙ merging) ∙ first.entries merging;
   running = second.running ∙ first.running;
   merged = second.merged ∙ first.merged;
 }
@@ -93,6 +89,8 @@ pub goes_nowhere : (a b : Held) → b ≡ a → Goes a b
 goes_nowhere a b same = record {
   name = ap (λ (h : Held). name_of h) same;
   page_size = ap (λ (h : Held). h.files.page_size) same;
+  state = ap (λ (h : Held). h.files.state) same;
+  entries = λ merging. ap (λ (h : Held). h.files.entries) same;
   running = ap (λ (h : Held). h.running) same;
   merged = ap (λ (h : Held). h.merged) same;
 }

@@ -21,10 +21,6 @@ Tested (Err (Refused refusal)) cause = cause ≡ Some refusal
 Tested (Err Device) cause = Unit {0}
 Tested (Err Memory) cause = Unit {0}
 
--- these strokes, or none where there is a cause
-abbrev pub unless_by : Cause → List Stroke → List Stroke
-unless_by cause strokes = elim cause [ Some refusal ↦ [] | None ↦ strokes ]
-
 -- what is answered is the reply; a failure says nothing of it
 abbrev pub Answers : {T : Type 0} → (T → Reply) → Result T Fault → Option Reply → Type 0
 Answers reply (Ok value) said = said ≡ Some (reply value)
@@ -46,10 +42,16 @@ WhereRefused (Err (Refused refusal)) P = P
 WhereRefused (Err Device) P = Unit {0}
 WhereRefused (Err Memory) P = Unit {0}
 
--- the name, whose copy or merge runs, and how far the merge has come, are as they were
+-- these strokes, or none where there is a cause
+abbrev pub unless_by : Cause → List Stroke → List Stroke
+unless_by cause strokes = elim cause [ Some refusal ↦ [] | None ↦ strokes ]
+
+-- the name, the state, whose copy or merge runs, and how far the merge has come, are as they were; in the merge state no entry is added
 pub record Goes (before after : Held) : Type 0 where
   pub name : name_of after ≡ name_of before
   pub page_size : after.files.page_size ≡ before.files.page_size
+  pub state : after.files.state ≡ before.files.state
+  pub entries : before.files.state ≡ 2 → after.files.entries ≡ before.files.entries
   pub running : after.running ≡ before.running
   pub merged : after.merged ≡ before.merged
 

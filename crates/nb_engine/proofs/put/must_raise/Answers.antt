@@ -1,5 +1,5 @@
 use Rattle.std.proofs.Common.{◌≡◌, ℕ, length, sym, ap, ◌∙◌, arith}
-use Rattle.std.specs.Prelude.{Bool, false, nat_lt, Some}
+use Rattle.std.specs.Prelude.{Bool, false, nat_lt}
 use Rattle.nb_model.specs.Image.{page_at}
 use Rattle.nb_model.specs.Forms.{scn_entry, has_entry}
 use Rattle.nb_model.specs.Causes.{not_kind}

@@ -1,13 +1,10 @@
-use Rattle.std.proofs.Common.{◌≡◌, List, [], ◌∷◌, sym, subst, ◌∙◌}
-use Rattle.std.specs.Prelude.{Bool, true, Result, Ok, Err}
-use Rattle.nb_host.specs.World.{World}
-use Rattle.nb_host.specs.declared.faults.Fault.{Fault}
+use Rattle.std.proofs.Common.{◌≡◌, List, sym, subst, ◌∙◌}
+use Rattle.std.specs.Prelude.{Bool, true, Ok, Err}
 use Rattle.nb_model.specs.Strokes.{Stroke}
-use Rattle.nb_state.specs.Open.{Held}
 use Rattle.nb_state.specs.Does.{Makes}
-use Rattle.nb_state.proofs.MakesLaws.{open_still, makes_after, makes_none}
+use Rattle.nb_state.proofs.MakesLaws.{open_still, makes_none}
 use Rattle.nb_engine.specs.Tries.{Tries}
-use Rattle.nb_engine.specs.Put.{must_raise, raise_stroke, raise_strokes, entry_cause}
+use Rattle.nb_engine.specs.Put.{must_raise, raise_strokes, entry_cause}
 use Rattle.nb_engine.proofs.PutLaws.{raised_not, raised_once}
 use Rattle.nb_engine.proofs.DoesLaws.{tries_early, tries_passed, tries_made, tries_after}
 use Rattle.nb_engine.proofs.put.raise_entry.Goals.{then-branch+in_ok-raise, else-branch}

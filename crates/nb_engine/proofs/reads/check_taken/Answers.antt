@@ -1,5 +1,4 @@
-use Rattle.std.proofs.Common.{◌≡◌, ℕ, length, sym, ap, ◌∙◌, refl, arith, subst}
-use Rattle.std.specs.Prelude.{Err}
+use Rattle.std.proofs.Common.{◌≡◌, ℕ, length, sym, ap, ◌∙◌, refl, arith}
 use Rattle.nb_model.specs.Forms.{inventory_of}
 use Rattle.nb_model.specs.Causes.{not_kind}
 use Rattle.nb_engine.proofs.DoesLaws.{tested_on}

@@ -1,12 +1,11 @@
 use Rattle.std.proofs.Common.{◌≡◌, sym, subst, ◌∙◌}
-use Rattle.std.specs.Prelude.{true, false, None}
+use Rattle.std.specs.Prelude.{true, None}
 use Rattle.nb_page.proofs.QuietLemmas.{quiet_begun}
 use Rattle.nb_model.specs.Image.{is_read_only}
 use Rattle.nb_model.specs.Causes.{read_only}
 use Rattle.nb_model.specs.Outcomes.{next_guid}
 use Rattle.nb_model.specs.Pages.{begin_turn}
 use Rattle.nb_state.specs.Open.{Held, IsOpen}
-use Rattle.nb_engine.specs.Replies.{scn_is}
 use Rattle.nb_engine.specs.Turns.{DoesBegin}
 use Rattle.nb_engine.proofs.FreeLaws.{closed_cause, open_cause}
 use Rattle.nb_engine.proofs.BackupLaws.{does_begin, refused_begin}
@@ -25,5 +24,5 @@ returns-clause-turn g c s t tells same is given =
     let new = g.H.Host.world c.begin.new.host in
     let here = subst (λ (h : Held). IsOpen old h t) (sym c.self.view_is) is in
     let free : read_only t.base.image ≡ None = open_cause t.base.image (sym here.agrees.read_only ∙ sym c.is_read_only.ensures ∙ c.if-is_read_only.false) in
-    subst (λ (h : Held). DoesBegin scn_is c.begin.result old new h c.begin.new.self t (next_guid s.given) (begin_turn s)) c.self.view_is
+    subst (λ (h : Held). DoesBegin c.begin.result old new h c.begin.new.self t (next_guid s.given) (begin_turn s)) c.self.view_is
     (does_begin old new c.self.inside.store c.begin.new.self t s here c.begin.result same free (c.begin.ensures.begins t (next_guid s.given) None tells here given))

@@ -1,5 +1,5 @@
 use Rattle.std.proofs.Common.{◌≡◌, refl, sym, subst, ◌∙◌}
-use Rattle.std.specs.Prelude.{Ok, Err, true, false, None}
+use Rattle.std.specs.Prelude.{Ok, Err, true, None}
 use Rattle.nb_model.specs.declared.reply.Reply.TheVariants.{Done}
 use Rattle.nb_model.specs.Image.{is_read_only}
 use Rattle.nb_model.specs.Causes.{read_only}

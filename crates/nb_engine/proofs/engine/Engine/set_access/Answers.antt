@@ -1,9 +1,8 @@
 use Rattle.std.proofs.Common.{◌≡◌, ℕ, ◌∙◌, refl, sym, ap, subst}
-use Rattle.std.specs.Prelude.{true, false, None, Some, Ok, Err}
+use Rattle.std.specs.Prelude.{None, Some, Ok, Err}
 use Rattle.nb_host.specs.declared.refusals.Refusal.TheVariants.{WrongState}
 use Rattle.nb_page.proofs.QuietLemmas.{quiet_begun}
 use Rattle.nb_model.specs.declared.reply.Reply.TheVariants.{Done}
-use Rattle.nb_model.specs.Image.{is_read_only}
 use Rattle.nb_model.specs.Lines.{flag}
 use Rattle.nb_model.specs.Causes.{Cause, not_state}
 use Rattle.nb_model.specs.Outcomes.{Seen}

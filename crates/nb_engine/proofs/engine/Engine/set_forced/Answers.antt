@@ -1,5 +1,5 @@
 use Rattle.std.proofs.Common.{◌≡◌, ℕ, ◌∙◌, refl, sym, ap, subst}
-use Rattle.std.specs.Prelude.{true, false, None, Some, Ok, Err}
+use Rattle.std.specs.Prelude.{true, None, Ok, Err}
 use Rattle.nb_page.proofs.QuietLemmas.{quiet_begun}
 use Rattle.nb_model.specs.declared.reply.Reply.TheVariants.{Done}
 use Rattle.nb_model.specs.Image.{is_read_only}
