@@ -11,9 +11,9 @@ pub mod FlagLaws
 pub mod BackupLaws
 pub mod FindLaws
 pub mod PlaceTests
+pub mod MakeLaws
 pub mod RoundLaws
 pub mod FullLaws
-pub mod MakeLaws
 pub mod WhereLaws
 pub mod NewLaws
 pub mod NewTurn

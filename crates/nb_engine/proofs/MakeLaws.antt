@@ -5,7 +5,7 @@ use Rattle.nb_fields.specs.Kinds.{code_of}
 use Rattle.nb_fields.specs.declared.kinds.PageKind.{PageKind}
 use Rattle.nb_fields.specs.declared.kinds.PageKind.TheVariants.{Header, Inventory, Data, Raw, ScnInventory}
 use Rattle.nb_fields.specs.Header.{size_of}
-use Rattle.nb_fields.specs.Places.{is_page_size, bits_in, entries_in, inventory_place, is_inventory_place}
+use Rattle.nb_fields.specs.Places.{is_page_size, bits_in, entries_in, inventory_place, is_inventory_place, is_scn_place}
 use Rattle.nb_fields.specs.Payloads.{inventory_payload, scn_payload}
 use Rattle.nb_fields.proofs.SizeLemmas.{SizeFacts, size_facts}
 use Rattle.nb_fields.proofs.PageLemmas.{padded_whole}
@@ -23,9 +23,9 @@ use Rattle.nb_model.specs.Trail.{Trail}
 use Rattle.nb_model.specs.Forms.{Draft, drafted, old_page, raised, put, inventory_of, has_entry, scn_page_of, is_kind, system_kind, system_payload, system_page}
 use Rattle.nb_model.specs.Causes.{Cause, when, not_kind}
 use Rattle.nb_model.proofs.StrokeLaws.{base_after-append, stroke_page, stroke_other}
-use Rattle.nb_model.proofs.SoundLaws.{with_page_length, inventory_there, inventory_place_some, scn_place_some}
+use Rattle.nb_model.proofs.SoundLaws.{with_page_length, inventory_there, inventory_place_some, scn_page_there, scn_place_some}
 use Rattle.nb_model.proofs.PutSound.{IsPlace}
-use Rattle.nb_model.proofs.NewSound.{inventory_before}
+use Rattle.nb_model.proofs.NewSound.{inventory_before, places_apart}
 use Rattle.nb_model.proofs.ReadLaws.{lt_no, lt_yes}
 use Rattle.nb_model.proofs.FreshSound.{inventory_length, scn_length}
 use Rattle.nb_model.proofs.RoundLaws as rounds
@@ -43,7 +43,6 @@ use Rattle.nb_engine.proofs.DoesLaws.{tries_opened, tries_passed, tries_failed, 
 use Rattle.nb_engine.proofs.PutLaws.{stroke_long, is_kind-parts, none_of, may_raise, raised_once, raised_not, no_entry_cause, entry_cause-is, Raises, draft_raised}
 use Rattle.nb_engine.proofs.MarkLaws.{there, marked-is, mark_cause-is, entries_some}
 use Rattle.nb_engine.proofs.PageLaws.{fits, makes_one, seen_after}
-use Rattle.nb_engine.proofs.RoundLaws.{map_apart}
 use Rattle.nb_engine.proofs.TestLaws.{kind_is}
 
 -- its image as the model's laws see it
@@ -70,6 +69,10 @@ mark_none image p is two low =
     let kind : kind_of (page_at image i) ≡ 2 = is.sound.sound.system.inventories i there (inventory_there (image_size image) (p / bits_in (image_size image)) is.size) in
     let at : IsPlace image i = record { behind = inventory_place_some (image_size image) (p / bits_in (image_size image)) is.size; there = omega (arith, there); most = let most = is.sound.most in omega (arith, there, most) } in
     first_next (not_kind image 2 i) (entry_cause image i ∷ []) (kind_is image 2 i there kind) ∙ first_next (entry_cause image i) [] (entry_none image i is at) ∙ first_none
+
+-- no inventory page is the SCN page of a page
+map_apart : (x : Image) (p q : ℕ) → IsTrue (is_page_size (image_size x)) → is_inventory_place (image_size x) q ≡ true → q ≢ scn_page_of x p
+map_apart x p q size at e = places_apart (image_size x) q size at (ap (is_scn_place (image_size x)) e ∙ scn_page_there (image_size x) (p / entries_in (image_size x)) size)
 
 -- a read failed before any stroke, and `?` passed it on
 pub tries_fault : {T : Type 0} (result : Result T Fault) (old new : World) (a b : Held) (t : Trail) (cause : Cause) (xs : List Stroke) → IsErr result × IsErrAnd result (λ f. f ≡ Device) → b ≡ a → Quiet old new → IsOpen old a t

@@ -124,9 +124,6 @@ not_full true r e = cc
 pub all_left : (image : Image) (place : ℕ) → IsWell image → place ≡ lowest_free image → no_room (new_raw image).0 ≡ None → Rest image place (new_raw image).0.strokes (new_raw image).1
 all_left image place is at room = record { left = length image + 4; is_well = is; at = sym at; room = not_full (new_raw image).0.full (Full 1048576) room; strokes_are = refl; number_is = refl }
 
-pub rest_at : (image : Image) (place : ℕ) (strokes : List Stroke) (number : ℕ) (rest : Rest image place strokes number) → IsFound image rest.left place
-rest_at image place strokes number rest = subst (λ (n : ℕ). IsFound image rest.left n) rest.at (found image (well image rest.is_well) 8 empty rest.left rest.room)
-
 -- a round at a system place
 pub record Onward (image : Image) (place : ℕ) (strokes : List Stroke) (number : ℕ) : Type 0 where
   pub rest_strokes : List Stroke
