@@ -1,6 +1,6 @@
 -- Making a page: its strokes and what they leave, whatever is in the database, and what they are where its inventories agree with its pages.
 use Rattle.std.proofs.Common.{◌≡◌, ◌≢◌, ℕ, ◌+◌, ◌-◌, ◌/◌, ◌<◌, ◌≤◌, List, [], ◌∷◌, ◌++◌, length, take, drop, replicate, refl, sym, ap, subst, ◌∙◌, arith}
-use Rattle.std.specs.Prelude.{Bool, true, false, not, ◌&&◌, ◌==◌, IsTrue, None, Result, Ok, Err, IsErr, IsErrAnd, IfErr, max}
+use Rattle.std.specs.Prelude.{Bool, true, false, not, ◌&&◌, ◌==◌, IsTrue, None, Result, Ok, IsErr, IsErrAnd, IfErr, max}
 use Rattle.nb_fields.specs.Kinds.{code_of}
 use Rattle.nb_fields.specs.declared.kinds.PageKind.{PageKind}
 use Rattle.nb_fields.specs.declared.kinds.PageKind.TheVariants.{Header, Inventory, Data, Raw, ScnInventory}
@@ -20,7 +20,7 @@ use Rattle.nb_model.specs.Image.{Page, Image, page_at, image_size, image_scn}
 use Rattle.nb_model.specs.Account.{Base}
 use Rattle.nb_model.specs.Strokes.{Stroke, page, on_base, base_after, merged_page}
 use Rattle.nb_model.specs.Trail.{Trail}
-use Rattle.nb_model.specs.Forms.{Draft, drafted, old_page, raised, put, inventory_of, has_entry, scn_page_of, is_kind, system_kind, system_payload, system_page}
+use Rattle.nb_model.specs.Forms.{Draft, drafted, old_page, put, inventory_of, has_entry, scn_page_of, is_kind, system_kind, system_payload, system_page}
 use Rattle.nb_model.specs.Causes.{Cause, when, not_kind}
 use Rattle.nb_model.proofs.StrokeLaws.{base_after-append, stroke_page, stroke_other}
 use Rattle.nb_model.proofs.SoundLaws.{with_page_length, inventory_there, inventory_place_some, scn_page_there, scn_place_some}
@@ -40,7 +40,7 @@ use Rattle.nb_engine.specs.Find.{IsMap}
 use Rattle.nb_engine.specs.Make.{IsWell, page_strokes, system_strokes, system_cause}
 use Rattle.nb_engine.proofs.CauseLaws.{first_none, first_next}
 use Rattle.nb_engine.proofs.DoesLaws.{tries_opened, tries_passed, tries_failed, tries_then}
-use Rattle.nb_engine.proofs.PutLaws.{stroke_long, is_kind-parts, none_of, may_raise, raised_once, raised_not, no_entry_cause, entry_cause-is, Raises, draft_raised}
+use Rattle.nb_engine.proofs.PutLaws.{stroke_long, is_kind-parts, none_of, may_raise, raised_once, raised_not, no_entry_cause, entry_cause-is, draft_raised}
 use Rattle.nb_engine.proofs.MarkLaws.{there, marked-is, mark_cause-is, entries_some}
 use Rattle.nb_engine.proofs.PageLaws.{fits, makes_one, seen_after}
 use Rattle.nb_engine.proofs.TestLaws.{kind_is}

@@ -1,6 +1,6 @@
 -- A new page: its rounds, each on the database that the round before left.
 use Rattle.std.proofs.Common.{◌≡◌, ℕ, ◌+◌, ◌-◌, ◌<◌, ◌≤◌, List, [], ◌∷◌, ◌++◌, length, refl, sym, ap, subst, ◌∙◌, arith, append_assoc}
-use Rattle.std.specs.Prelude.{Bool, true, false, Some, None, Result, Ok, Err, IsErr, IsErrAnd, IfOk, IsTrue}
+use Rattle.std.specs.Prelude.{Bool, true, false, Some, None, Result, Ok, Err, IsErr, IsErrAnd, IsTrue}
 use Rattle.std.proofs.lemmas.Bool.{or_parts}
 use Rattle.nb_fields.specs.Places.{is_page_size, is_system_place}
 use Rattle.nb_fields.specs.Payloads.{text_payload}
@@ -15,7 +15,7 @@ use Rattle.nb_model.specs.Account.{Base}
 use Rattle.nb_model.specs.Strokes.{Stroke, base_after}
 use Rattle.nb_model.specs.Trail.{Trail, after_stroke}
 use Rattle.nb_model.specs.Forms.{Draft, drafted, put, take_page, system_page, free_from, lowest_free, new_within, inventory_of}
-use Rattle.nb_model.specs.Causes.{Cause, first_cause, when, not_kind, no_room}
+use Rattle.nb_model.specs.Causes.{Cause, when, not_kind, no_room}
 use Rattle.nb_model.proofs.DraftLaws.{IsOf, drafts_are, drafted_is, put_keeps, set_bit_keeps, system_keeps}
 use Rattle.nb_model.proofs.DraftJoin.{joined_new, join_set_bit}
 use Rattle.nb_model.proofs.NewSound.{inventory_before}

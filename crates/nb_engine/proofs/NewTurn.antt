@@ -13,7 +13,7 @@ use Rattle.nb_model.specs.Image.{Image, image_scn, is_read_only}
 use Rattle.nb_model.specs.Strokes.{Stroke}
 use Rattle.nb_model.specs.Trail.{Trail}
 use Rattle.nb_model.specs.Forms.{Draft}
-use Rattle.nb_model.specs.Causes.{Cause, first_cause, read_only, lowest_broken, not_of_form, no_room}
+use Rattle.nb_model.specs.Causes.{first_cause, read_only, lowest_broken, not_of_form, no_room}
 use Rattle.nb_model.specs.Outcomes.{Seen, says}
 use Rattle.nb_model.specs.Pages.{new_turn}
 use Rattle.nb_model.specs.Sound.{IsSoundImage, HasHeader}

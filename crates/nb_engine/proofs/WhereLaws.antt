@@ -1,11 +1,10 @@
 -- Calls that make some strokes, and these where something holds: how they go on.
-use Rattle.std.proofs.Common.{◌≡◌, List, [], ◌++◌, refl, sym, ap, subst, ◌∙◌}
-use Rattle.std.specs.Prelude.{Some, None, Result, Ok, Err, IsErr, IsErrAnd, OnOk, IfOk, IfErr}
+use Rattle.std.proofs.Common.{◌≡◌, List, [], ◌++◌, sym, ap, subst, ◌∙◌}
+use Rattle.std.specs.Prelude.{Some, None, Result, Ok, Err, IsErr, IsErrAnd, IfOk, IfErr}
 use Rattle.std.proofs.lemmas.List.{append-nil}
 use Rattle.nb_host.specs.World.{World}
 use Rattle.nb_host.specs.declared.faults.Fault.{Fault}
 use Rattle.nb_host.specs.declared.faults.Fault.TheVariants.{Refused, Device, Memory}
-use Rattle.nb_host.specs.declared.refusals.Refusal.{Refusal}
 use Rattle.nb_page.specs.Quiet.{Quiet}
 use Rattle.nb_change.proofs.ReachedLaws.{after_all-joined}
 use Rattle.nb_change.proofs.ResultLaws.{on_ok, on_ok_then}
@@ -18,7 +17,7 @@ use Rattle.nb_state.specs.Open.{Held}
 use Rattle.nb_state.specs.Does.{Tested, WhereEnded, unless_by, Makes}
 use Rattle.nb_state.proofs.MakesLaws.{makes_then, makes_front, makes_before}
 use Rattle.nb_engine.specs.Tries.{Tries}
-use Rattle.nb_engine.specs.Make.{MakesSome, MakesThese, MakesWhere}
+use Rattle.nb_engine.specs.Make.{MakesWhere}
 use Rattle.nb_engine.proofs.DoesLaws.{unless_none, tries_passed}
 
 -- a failure is the same of a result of another type

@@ -1,5 +1,5 @@
 -- What making a new page does of an open database.
-use Rattle.std.specs.Prelude.{◌≡◌, ◌<◌, ◌≤◌, ℕ, ◌+◌, ◌-◌, List, [], ◌∷◌, ◌++◌, length, Bool, true, false, None, Result, OnOk, IfOk, IfErr, IsTrue}
+use Rattle.std.specs.Prelude.{◌≡◌, ◌<◌, ◌≤◌, ℕ, ◌+◌, ◌-◌, List, [], ◌∷◌, ◌++◌, length, true, false, None, Result, OnOk, IfOk, IfErr, IsTrue}
 use Rattle.nb_fields.specs.Places.{is_page_size}
 use Rattle.nb_fields.specs.Page.{stamped}
 use Rattle.nb_fields.specs.Payloads.{text_payload}

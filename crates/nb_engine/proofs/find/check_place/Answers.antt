@@ -1,7 +1,6 @@
 use Rattle.std.proofs.Common.{sym, subst, ◌∙◌, ap}
 use Rattle.nb_model.specs.Causes.{Cause}
 use Rattle.nb_change.proofs.ResultLaws.{on_ok}
-use Rattle.nb_page.proofs.QuietLemmas.{quiet_joined}
 use Rattle.nb_state.specs.Does.{Tested}
 use Rattle.nb_state.proofs.MakesLaws.{open_still}
 use Rattle.nb_engine.specs.Find.{no_entry_page}

@@ -1,8 +1,7 @@
 use Rattle.std.proofs.Common.{ℕ, subst, sym, ◌<◌, ◌≤◌, ap, length, ◌∙◌, arith}
-use Rattle.nb_model.specs.Image.{page_at}
-use Rattle.nb_model.specs.Causes.{Cause, not_kind}
+use Rattle.nb_model.specs.Causes.{Cause}
 use Rattle.nb_state.specs.Does.{Tested}
-use Rattle.nb_engine.specs.Find.{IsMap, not_there}
+use Rattle.nb_engine.specs.Find.{not_there}
 use Rattle.nb_engine.proofs.TestLaws.{inventory_place_is}
 use Rattle.nb_engine.proofs.PlaceTests.{map_tested, there_past, there_below, map_held}
 use Rattle.nb_engine.proofs.find.hold_map.Goals as goal

@@ -1,16 +1,15 @@
-use Rattle.std.proofs.Common.{◌≡◌, ◌<◌, ◌≤◌, ◌+◌, ℕ, List, length, refl, sym, ap, subst, ◌∙◌, arith}
+use Rattle.std.proofs.Common.{◌≡◌, ◌<◌, ℕ, length, refl, sym, ap, ◌∙◌, arith}
 use Rattle.std.specs.Prelude.{true, false, None, Ok, Err}
 use Rattle.nb_fields.specs.Places.{is_system_place}
 use Rattle.nb_page.proofs.QuietLemmas.{quiet_begun}
-use Rattle.nb_model.specs.Image.{Image, image_size}
-use Rattle.nb_model.specs.Strokes.{Stroke}
+use Rattle.nb_model.specs.Image.{image_size}
 use Rattle.nb_model.specs.Causes.{no_room}
 use Rattle.nb_model.specs.Trail.{Trail}
 use Rattle.nb_base.specs.Takes.{after_strokes}
 use Rattle.nb_state.proofs.MakesLaws.{goes_on, goes_nowhere}
-use Rattle.nb_engine.specs.Make.{IsWell, IsOnward, MakesWhere, new_raw, round}
+use Rattle.nb_engine.specs.Make.{IsWell, IsOnward, new_raw}
 use Rattle.nb_engine.proofs.WhereLaws.{where_passed, where_valued}
-use Rattle.nb_engine.proofs.NewLaws.{so_far_begun, Rounds, round_failed, round_done, last_number, last_round}
+use Rattle.nb_engine.proofs.NewLaws.{so_far_begun, round_failed, round_done, last_number, last_round}
 use Rattle.nb_engine.proofs.make.make_new.Goals as goal
 
 pub loop-store-init : goal.loop-store-init

@@ -1,5 +1,5 @@
-use Rattle.std.proofs.Common.{◌≡◌, ◌≤◌, ◌+◌, ℕ, List, length, ap, sym, ◌∙◌, arith, []}
-use Rattle.std.specs.Prelude.{Some, None, Ok, Err}
+use Rattle.std.proofs.Common.{◌≡◌, ◌≤◌, ◌+◌, ℕ, List, length, ap, ◌∙◌, arith, []}
+use Rattle.std.specs.Prelude.{Ok, Err}
 use Rattle.nb_fields.specs.Page.{with_payload}
 use Rattle.nb_fields.specs.Payloads.{text_payload}
 use Rattle.nb_fields.proofs.SizeLemmas.{size_facts}

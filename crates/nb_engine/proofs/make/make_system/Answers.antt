@@ -1,17 +1,14 @@
 use Rattle.std.proofs.Common.{◌≡◌, ◌≤◌, ◌+◌, ℕ, List, [], length, refl, ap, sym, subst, ◌∙◌, arith}
-use Rattle.std.specs.Prelude.{Bool, true, false, IsTrue, Ok, Err}
+use Rattle.std.specs.Prelude.{true, false, IsTrue, Ok, Err}
 use Rattle.nb_fields.specs.Kinds.{code_of}
 use Rattle.nb_fields.specs.Page.{with_payload}
 use Rattle.nb_fields.specs.Places.{is_page_size}
 use Rattle.nb_fields.proofs.SizeLemmas.{size_facts}
 use Rattle.nb_model.specs.Image.{Page, image_size}
-use Rattle.nb_model.specs.Strokes.{Stroke}
-use Rattle.nb_model.specs.Causes.{Cause}
 use Rattle.nb_model.specs.Forms.{old_page, is_kind, system_kind, system_payload}
 use Rattle.nb_state.specs.Open.{Held}
 use Rattle.nb_state.proofs.MakesLaws.{open_still, makes_none}
 use Rattle.nb_engine.specs.Tries.{Tries}
-use Rattle.nb_engine.specs.Put.{entry_cause}
 use Rattle.nb_engine.specs.Make.{page_strokes, system_cause, system_strokes}
 use Rattle.nb_engine.proofs.DoesLaws.{tries_passed, tries_made, tries_after}
 use Rattle.nb_engine.proofs.MakeLaws.{tries_fault, tries_named, payload_whole, system_made, system_unmade, system_free, system_asks}

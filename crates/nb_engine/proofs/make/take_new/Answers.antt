@@ -1,10 +1,9 @@
-use Rattle.std.proofs.Common.{◌≡◌, ◌≤◌, ◌<◌, ◌+◌, ℕ, List, [], length, refl, sym, subst, ◌∙◌, ap, arith}
-use Rattle.std.specs.Prelude.{IsTrue, None, Ok, Err, max}
+use Rattle.std.proofs.Common.{◌<◌, ℕ, List, [], length, refl, sym, subst, ◌∙◌, arith}
+use Rattle.std.specs.Prelude.{IsTrue, Ok, Err}
 use Rattle.nb_fields.specs.Places.{is_page_size}
 use Rattle.nb_fields.specs.Payloads.{text_payload}
-use Rattle.nb_model.specs.Image.{Image, image_size}
+use Rattle.nb_model.specs.Image.{image_size}
 use Rattle.nb_model.specs.Account.{Base}
-use Rattle.nb_model.specs.Strokes.{base_after}
 use Rattle.nb_model.specs.Forms.{Draft, drafted, put, take_page}
 use Rattle.nb_model.proofs.PutSound.{IsPlace}
 use Rattle.nb_model.proofs.NewSound.{empty_text}
@@ -15,9 +14,9 @@ use Rattle.nb_engine.specs.Find.{IsMap}
 use Rattle.nb_engine.specs.Make.{IsWell, MakesWhere, page_strokes}
 use Rattle.nb_engine.proofs.DoesLaws.{tries_passed}
 use Rattle.nb_engine.proofs.PageLaws.{seen_after}
-use Rattle.nb_engine.proofs.MakeLaws.{well, entry_none, page_long, map_kept, put_strokes_are}
+use Rattle.nb_engine.proofs.MakeLaws.{well, entry_none, put_strokes_are}
 use Rattle.nb_engine.proofs.WhereLaws.{where_tries}
-use Rattle.nb_engine.proofs.NewLaws.{take_not, take_after, put_of, held_map, new_there}
+use Rattle.nb_engine.proofs.NewLaws.{take_not, take_after, put_of, new_there}
 use Rattle.nb_engine.proofs.make.take_new.Goals as goal
 
 pub returns-in_err-make_raw-clause-makes : goal.returns-in_err-make_raw-clause-makes

@@ -1,7 +1,7 @@
-use Rattle.std.proofs.Common.{◌≡◌, ◌≤◌, ◌<◌, ℕ, length, sym, subst, ◌∙◌, ap, arith}
+use Rattle.std.proofs.Common.{◌<◌, ℕ, length, sym, subst, ◌∙◌, arith}
 use Rattle.std.specs.Prelude.{IsTrue, Ok, Err}
 use Rattle.nb_fields.specs.Places.{is_page_size}
-use Rattle.nb_model.specs.Image.{Image, image_size}
+use Rattle.nb_model.specs.Image.{image_size}
 use Rattle.nb_model.specs.Account.{Base}
 use Rattle.nb_model.specs.Forms.{Draft, drafted, system_page}
 use Rattle.nb_model.proofs.PutSound.{IsPlace}
