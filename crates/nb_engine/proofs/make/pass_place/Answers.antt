@@ -41,8 +41,8 @@ returns-in_err-next-clause-makes g c t tells is low system =
     (where_quiet tt (IsWell image) (IsWell image × (behind image p < 1048576)) (λ value x. p < length x) (λ next x. IsOnward x p next c.next_free.new.map) (Err fault) _ _ _ _ _ _ t (round image p).strokes first
     c.in_err-next.ensures.same c.in_err-next.ensures.quiet (λ r. r.0)
     (λ r same.
-        let sound : IsSoundImage u.base.image = subst IsSoundImage (sym (image_is t p (round image p) (round_is t.base p) first.some.made same)) (round_well image (well image r.0) p at system (omega (arith, c.requires.low))).sound in
-        sure_of {T = ℕ} (Err fault) None refl (c.in_err-next.ensures.sound u tells first.some.makes.opened sound)) tt)
+    let sound : IsSoundImage u.base.image = subst IsSoundImage (sym (image_is t p (round image p) (round_is t.base p) first.some.made same)) (round_well image (well image r.0) p at system (omega (arith, c.requires.low))).sound in
+    sure_of {T = ℕ} (Err fault) None refl (c.in_err-next.ensures.sound u tells first.some.makes.opened sound)) tt)
 
 pub returns-then-next-ge-MOST_PAGES-clause-makes : goal.returns-then-next-ge-MOST_PAGES-clause-makes
 returns-then-next-ge-MOST_PAGES-clause-makes g c t tells is low system =
@@ -53,10 +53,10 @@ returns-then-next-ge-MOST_PAGES-clause-makes g c t tells is low system =
     where_quiet tt (IsWell image) (IsWell image × (behind image p < 1048576)) (λ value x. p < length x) (λ next x. IsOnward x p next c.next_free.new.map) (Err (Refused (Full 1048576))) _ _ _ _ _ _ t (round image p).strokes first
     c.in_ok-next.ensures.same c.in_ok-next.ensures.quiet (λ r. r.0)
     (λ r same.
-        let next : c.in_ok-next.next ≡ behind image p =
-        c.in_ok-next.ensures.value u tells first.some.makes.opened ∙ ap (λ (y : Image). free_from (length y - (p + 1)) (p + 1) y) (image_is t p (round image p) (round_is t.base p) first.some.made same) in
-        let below = r.1 in
-        absurd (omega (arith, next, below, c.if-next-ge-MOST_PAGES.true))) tt
+    let next : c.in_ok-next.next ≡ behind image p =
+    c.in_ok-next.ensures.value u tells first.some.makes.opened ∙ ap (λ (y : Image). free_from (length y - (p + 1)) (p + 1) y) (image_is t p (round image p) (round_is t.base p) first.some.made same) in
+    let below = r.1 in
+    absurd (omega (arith, next, below, c.if-next-ge-MOST_PAGES.true))) tt
 
 pub returns-in_err-hold_map-clause-makes : goal.returns-in_err-hold_map-clause-makes
 returns-in_err-hold_map-clause-makes g c t tells is low system =
@@ -76,11 +76,11 @@ returns-in_err-hold_map-clause-makes g c t tells is low system =
     (where_quiet tt (IsWell image) (IsWell image × (behind image p < 1048576)) (λ value x. p < length x) (λ next x. IsOnward x p next c.hold_map.new.map) (Err fault) _ _ _ _ _ _ t (round image p).strokes first
     (c.in_err-hold_map.ensures.same ∙ search.same) (quiet_joined _ _ _ search.quiet c.in_err-hold_map.ensures.quiet) (λ r. r.0)
     (λ r same.
-        let after = round_well image (well image r.0) p at system (omega (arith, c.requires.low)) in
-        let back = sym (image_is t p (round image p) (round_is t.base p) first.some.made same) in
-        let sound : IsSoundImage u.base.image = subst IsSoundImage back after.sound in
-        let size : IsTrue (is_page_size (image_size u.base.image)) = subst (λ (y : Image). IsTrue (is_page_size (image_size y))) back after.fields.size in
-        sure_of {T = Unit {0}} (Err fault) (not_there u.base.image 2 (inventory_of u.base.image c.in_ok-next.next)) (map_sound u.base.image c.in_ok-next.next size sound) (c.in_err-hold_map.ensures.test u tells then ends)) tt)
+    let after = round_well image (well image r.0) p at system (omega (arith, c.requires.low)) in
+    let back = sym (image_is t p (round image p) (round_is t.base p) first.some.made same) in
+    let sound : IsSoundImage u.base.image = subst IsSoundImage back after.sound in
+    let size : IsTrue (is_page_size (image_size u.base.image)) = subst (λ (y : Image). IsTrue (is_page_size (image_size y))) back after.fields.size in
+    sure_of {T = Unit {0}} (Err fault) (not_there u.base.image 2 (inventory_of u.base.image c.in_ok-next.next)) (map_sound u.base.image c.in_ok-next.next size sound) (c.in_err-hold_map.ensures.test u tells then ends)) tt)
 
 pub returns-clause-makes : goal.returns-clause-makes
 returns-clause-makes g c t tells is low system =
