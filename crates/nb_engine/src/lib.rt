@@ -4,7 +4,8 @@
 //! and that each call that writes makes its one stroke. It rests on `nb_page` and the inventories for the bytes of pages, and on the
 //! table of turns of `nb_model`. A layer above may rely on this: each call answers what its turn says and makes the turn's strokes
 //! in order, in every backup state; at each moment a stop leaves what may be left of what was seen behind a front of them, and once
-//! the call has answered a value or a refusal the database is open behind all of them.
+//! the call has answered a value or a refusal the database is open behind all of them. A new page does so where the inventories agree
+//! with the pages; of any other database it says that it makes some strokes.
 #![tactic(auto)]
 
 mod backup;
