@@ -1,0 +1,7 @@
+pub mod StopLaws
+pub mod PlayLaws
+pub mod EventLaws
+pub mod SaysLaws
+pub mod DoesLaws
+pub mod TurnLaws
+pub mod SessionLemmas

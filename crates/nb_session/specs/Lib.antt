@@ -1,0 +1,5 @@
+pub mod Causes
+pub mod Stops
+pub mod Todo
+pub mod Replies
+pub mod Says
