@@ -41,5 +41,6 @@ pub mod TakenLaws
 pub mod FreeLaws
 pub mod FrontLaws
 pub mod TrailLaws
+pub mod FitLaws
 pub mod MixtureLaws
 pub mod EarlierLaws
