@@ -1,4 +1,5 @@
 pub mod Causes
+pub mod Ready
 pub mod Stops
 pub mod Todo
 pub mod Replies
