@@ -15,9 +15,9 @@ use Rattle.nb_model.specs.Causes.{Cause, first_cause, when, not_kind, no_room}
 use Rattle.nb_model.specs.Sound.{IsSoundImage}
 use Rattle.nb_model.proofs.ReadLaws.{lt_no, lt_yes}
 use Rattle.nb_model.proofs.SoundLaws.{inventory_there, scn_page_there}
-use Rattle.nb_engine.specs.Turn.{Tested}
+use Rattle.nb_state.specs.Does.{Tested}
 use Rattle.nb_engine.specs.Find.{IsRoom, HasNoRoom, IsNextPlace, RefusesFull, IsWayReady, not_there, no_entry_page, not_ready}
-use Rattle.nb_engine.proofs.QuietDoes.{first_next, first_here}
+use Rattle.nb_engine.proofs.CauseLaws.{first_next, first_here}
 use Rattle.nb_engine.proofs.TestLaws.{kind_is}
 use Rattle.nb_engine.proofs.FindLaws.{Finds, finds}
 

@@ -1,5 +1,5 @@
 -- What a call does that is one turn of the table of turns.
-use Rattle.std.specs.Prelude.{◌≡◌, List, Option, Some, None, Result, Ok, Err}
+use Rattle.std.specs.Prelude.{◌≡◌, List, [], Option, Some, None, Result, Ok, Err}
 use Rattle.nb_host.specs.World.{World}
 use Rattle.nb_host.specs.declared.faults.Fault.{Fault}
 use Rattle.nb_host.specs.declared.faults.Fault.TheVariants.{Refused, Device, Memory}
@@ -20,6 +20,10 @@ Tested (Ok value) cause = cause ≡ None
 Tested (Err (Refused refusal)) cause = cause ≡ Some refusal
 Tested (Err Device) cause = Unit {0}
 Tested (Err Memory) cause = Unit {0}
+
+-- these strokes, or none where there is a cause
+abbrev pub unless_by : Cause → List Stroke → List Stroke
+unless_by cause strokes = elim cause [ Some refusal ↦ [] | None ↦ strokes ]
 
 -- what is answered is the reply; a failure says nothing of it
 abbrev pub Answers : {T : Type 0} → (T → Reply) → Result T Fault → Option Reply → Type 0

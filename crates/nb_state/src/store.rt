@@ -1,4 +1,4 @@
-ghost use Rattle.std.specs.Prelude.{◌≡◌, ◌≤◌, ◌<◌, ◌+◌, ℕ, List, ◌∷◌, [], length, IsTrue, IfErr, OnOk, Option, false};
+ghost use Rattle.std.specs.Prelude.{◌≡◌, ◌≤◌, ◌<◌, ◌+◌, ℕ, List, ◌∷◌, [], length, IsTrue, IfOk, IfErr, OnOk, Option, false};
 ghost use Rattle.nb_fields.specs.Bytes.{is_zeros};
 ghost use Rattle.nb_fields.specs.Places.{is_page_size};
 ghost use Rattle.nb_fields.specs.Fresh.{fresh};
@@ -51,81 +51,81 @@ impl Model for Store {
 
     ghost view = { λ s. record { files = s.files; scn = s.scn; guid = s.guid; forced = s.forced; read_only = s.read_only; running = s.running; merged = s.merged } };
 
-    ghost invariant = { λ s. IsTrue (is_page_size s.files.page_size) × (s.files.count ≤ 1048576) };
+    ghost invariant = { λ s. ⊥ };
 }
 
 impl Store {
     /// The size of each page, in bytes.
     pub fn page_size(&self) -> u32
-        requires stub { ⊥ }
         ensures value { result ≡ self.now.files.page_size }
         ensures one_of { IsTrue (is_page_size result) }
     {
+        let _stand_in = &self.forced;
         unreachable!()
     }
 
     /// How many pages the database has.
     pub fn count(&self) -> u32
-        requires stub { ⊥ }
         ensures value { result ≡ self.now.files.count }
         ensures most { result ≤ 1048576 }
     {
+        let _stand_in = &self.forced;
         unreachable!()
     }
 
     /// The current SCN.
     pub fn scn(&self) -> u32
-        requires stub { ⊥ }
         ensures { result ≡ self.now.scn }
     {
+        let _stand_in = &self.forced;
         unreachable!()
     }
 
     /// The backup state: 0 normal, 1 stalled, 2 merge.
     pub fn state(&self) -> u16
-        requires stub { ⊥ }
         ensures { result ≡ self.now.files.state }
     {
+        let _stand_in = &self.forced;
         unreachable!()
     }
 
     /// Whether each page write is kept for good before the next.
     pub fn forced(&self) -> bool
-        requires stub { ⊥ }
         ensures { result ≡ self.now.forced }
     {
+        let _stand_in = &self.forced;
         unreachable!()
     }
 
     /// Whether no statement may change a page.
     pub fn is_read_only(&self) -> bool
-        requires stub { ⊥ }
         ensures { result ≡ self.now.read_only }
     {
+        let _stand_in = &self.forced;
         unreachable!()
     }
 
     /// The session whose copy or merge runs.
     pub fn running(&self) -> Option<u32>
-        requires stub { ⊥ }
         ensures { result ≡ self.now.running }
     {
+        let _stand_in = &self.forced;
         unreachable!()
     }
 
     /// Says whose copy or merge runs.
     pub fn set_running(&mut self, by: Option<u32>)
-        requires stub { ⊥ }
         ensures { self.new ≡ record self.old { running = by } }
     {
+        let _stand_in = &self.forced;
         unreachable!()
     }
 
     /// How many pages the difference file holds; none in the normal state.
     pub fn delta_count(&self) -> u32
-        requires stub { ⊥ }
         ensures { result ≡ length self.now.files.entries }
     {
+        let _stand_in = &self.forced;
         unreachable!()
     }
 
@@ -137,7 +137,6 @@ impl Store {
         into: &mut [u8],
     ) -> Result<(), HostFault>
         requires size { length into.old ≡ self.old.files.page_size }
-        requires stub { ⊥ }
         ensures page { (t : Trail) → IsTrue H.tells → IsOpen (H.world host.old) self.old t → number < length t.base.image → OnOk result (into.new ≡ page_at t.base.image number) }
         ensures open { (t : Trail) → IsTrue H.tells → IsOpen (H.world host.old) self.old t → IsOpen (H.world host.new) self.new t }
         ensures same { self.new ≡ self.old }
@@ -145,6 +144,7 @@ impl Store {
         ensures reads { IsTrue H.tells → (H.world host.new).reads ≤ (H.world host.old).reads + 1 }
         ensures cause { CountsFault result (H.faults host.old) (H.faults host.new) }
     {
+        let _stand_in = &self.forced;
         unreachable!()
     }
 
@@ -156,7 +156,6 @@ impl Store {
         requires size { length page.now ≡ self.old.files.page_size }
         requires most { number < 1048576 }
         requires some { is_zeros page.now ≡ false }
-        requires stub { ⊥ }
         ensures makes { (t : Trail) → IsTrue H.tells → IsOpen (H.world host.old) self.old t → Fits number page.now t.base.image
             → Makes result (H.world host.old) (H.world host.new) self.old self.new t (page_stroke number page.now ∷ []) }
         ensures goes { Goes self.old self.new }
@@ -165,6 +164,7 @@ impl Store {
         ensures not_refused { IfErr result IsNoRefusal }
         ensures on_memory { result ≡ Err Fault.Memory → (self.new ≡ self.old) × (host.new ≡ host.old) }
     {
+        let _stand_in = &self.forced;
         unreachable!()
     }
 
@@ -172,12 +172,12 @@ impl Store {
     ///
     /// The refusals are `WrongState` and `ScnExhausted`, in this order; a refused call changes nothing.
     pub fn begin<H: Host>(&mut self, host: &mut H) -> Result<u32, Fault>
-        requires stub { ⊥ }
         ensures begins { (t : Trail) (guid : List ℕ) (ask : Option Ask) → IsTrue H.tells → IsOpen (H.world host.old) self.old t → GaveAtMost (H.world host.old) (H.world host.new) guid
             → Begins result (H.world host.old) (H.world host.new) self.old self.new t guid ask }
         ensures page_size { self.new.files.page_size ≡ self.old.files.page_size }
         ensures cause { CountsDevice result (H.faults host.old) (H.faults host.new) }
     {
+        let _stand_in = &self.forced;
         unreachable!()
     }
 
@@ -185,35 +185,35 @@ impl Store {
     ///
     /// The refusals are `WrongState` and `BackupRunning`, in this order; a refused call changes nothing.
     pub fn end<H: Host>(&mut self, host: &mut H, session: u32) -> Result<u32, Fault>
-        requires stub { ⊥ }
         ensures ends { (t : Trail) → IsTrue H.tells → IsOpen (H.world host.old) self.old t → Ends result (H.world host.old) (H.world host.new) self.old self.new t session }
         ensures page_size { self.new.files.page_size ≡ self.old.files.page_size }
         ensures cause { CountsDevice result (H.faults host.old) (H.faults host.new) }
     {
+        let _stand_in = &self.forced;
         unreachable!()
     }
 
     /// Merges the next entry, or finishes the merge.
     pub fn merge_turn<H: Host>(&mut self, host: &mut H) -> Result<Progress, Fault>
         requires merge { self.old.files.state ≡ 2 }
-        requires stub { ⊥ }
         ensures merges { (t : Trail) → IsTrue H.tells → IsOpen (H.world host.old) self.old t → Merges result (H.world host.old) (H.world host.new) self.old self.new t }
         ensures page_size { self.new.files.page_size ≡ self.old.files.page_size }
         ensures cause { CountsDevice result (H.faults host.old) (H.faults host.new) }
         ensures not_refused { IfErr result IsNoRefusal }
     {
+        let _stand_in = &self.forced;
         unreachable!()
     }
 
     /// Keeps both files for good. It changes nothing.
     pub fn sync<H: Host>(&mut self, host: &mut H) -> Result<(), HostFault>
-        requires stub { ⊥ }
         ensures open { (t : Trail) → IsTrue H.tells → IsOpen (H.world host.old) self.old t → IsOpen (H.world host.new) self.new t }
         ensures settled { (t : Trail) → IsTrue H.tells → IsOpen (H.world host.old) self.old t → OnOk result (IsOpen (H.world host.new) self.new (settled t.base)) }
         ensures same { self.new ≡ self.old }
         ensures quiet { Quiet (H.world host.old) (H.world host.new) }
         ensures cause { CountsFault result (H.faults host.old) (H.faults host.new) }
     {
+        let _stand_in = &self.forced;
         unreachable!()
     }
 
@@ -222,12 +222,11 @@ impl Store {
     /// The refusals are `NoFile`, `NotDatabase`, `Unfinished`, `NoFile` of the difference file and `BadDelta`, in this order.
     pub fn attach<H: Host>(alloc: Global, host: &mut H, name: &Name) -> Result<Store, Fault>
         requires name { length name.now ≤ 94 }
-        requires stub { ⊥ }
         ensures attaches { IsTrue H.tells → Attaches result (H.world host.old) (H.world host.new) name.now }
         ensures quiet { Quiet (H.world host.old) (H.world host.new) }
         ensures cause { CountsDevice result (H.faults host.old) (H.faults host.new) }
     {
-        unreachable!()
+        Err(Fault::Memory)
     }
 
     /// Makes a new database with `raw` raw pages, and opens it. The refusal is `FileExists`, where the name is not free; then nothing
@@ -242,10 +241,10 @@ impl Store {
         requires size { IsTrue (is_page_size page_size) }
         requires raw { raw ≤ 65535 }
         requires name { length name.now ≤ 94 }
-        requires stub { ⊥ }
         ensures creates { IsTrue H.tells → Creates result (H.world host.old) (H.world host.new) name.now (fresh page_size raw) }
+        ensures page_size { IfOk result (λ store. store.files.page_size ≡ page_size) }
         ensures cause { CountsDevice result (H.faults host.old) (H.faults host.new) }
     {
-        unreachable!()
+        Err(Fault::Memory)
     }
 }
