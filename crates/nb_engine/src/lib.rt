@@ -1,7 +1,9 @@
 //! Statements on the pages of one database.
 #![tactic(auto)]
 
+mod backup;
 mod engine;
+mod flags;
 mod free;
 mod mark;
 mod pages;
