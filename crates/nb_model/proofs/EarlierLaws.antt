@@ -95,8 +95,8 @@ pub trail_goes_on : (s : Stroke) (t : Trail) → IsSoundTrail t → IsEarlier t.
 trail_goes_on s t trail earlier sound = record {
   size = subst (λ (n : ℕ). IsTrue (is_page_size n)) (earlier.size ∙ ap image_size (sym image)) trail.size;
   each = images_after (IsSoundBefore (after_stroke s t).base.image) s t
-  (λ m there. let old = trail.each m there in behind m old.sound (earlier_joins m t.base.image (on_base s t.base).image old.earlier earlier))
-  (behind (on_base s t.base).image sound (earlier_itself (on_base s t.base).image));
+      (λ m there. let old = trail.each m there in behind m old.sound (earlier_joins m t.base.image (on_base s t.base).image old.earlier earlier))
+      (behind (on_base s t.base).image sound (earlier_itself (on_base s t.base).image));
 }
   where
     image : (after_stroke s t).base.image ≡ (on_base s t.base).image

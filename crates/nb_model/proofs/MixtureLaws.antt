@@ -173,5 +173,5 @@ module _ (images : List Image) (now image : Image) (wide : IsTrue (is_page_size 
     least = omega (arith, mixed.long, sound.least);
     most = omega (arith, mixed.long, sound.most);
     sizes = all_from (λ (x : Page). length x ≡ image_size image) image (each_page (λ (x : Page). length x ≡ image_size image)
-    (λ p low. all_at (λ (x : Page). length x ≡ image_size (of_ p low)) (of_ p low) (before (of_ p low) (mixed.each p low).there).sound.sizes p (below p low) ∙ size_of_ p low));
+        (λ p low. all_at (λ (x : Page). length x ≡ image_size (of_ p low)) (of_ p low) (before (of_ p low) (mixed.each p low).there).sound.sizes p (below p low) ∙ size_of_ p low));
   }
