@@ -12,3 +12,4 @@ pub mod BackupLaws
 pub mod FindLaws
 pub mod PlaceTests
 pub mod RoundLaws
+pub mod FullLaws

@@ -15,8 +15,8 @@ use nb_host::{Fault, Host, Refusal};
 use nb_state::Progress;
 
 impl Engine {
-    /// Begins a backup: the main file is frozen, and pages that are changed go to the difference file. It answers the new SCN, and is
-    /// kept for good.
+    /// Begins a backup: what the database holds now is frozen for a copy, and statements go on changing it. It answers the new SCN, and
+    /// is kept for good.
     ///
     /// The refusals are `Access`, `WrongState` and `ScnExhausted`, in this order; a refused call changes nothing.
     pub fn begin<H: Host>(&mut self, host: &mut H) -> Result<u32, Fault>
@@ -25,6 +25,7 @@ impl Engine {
             → DoesBegin scn_is result (H.world host.old) (H.world host.new) self.old self.new t (next_guid s.given) (begin_turn s) }
         ensures asks { IsTrue H.tells → (guid : List ℕ) × GaveAtMost (H.world host.old) (H.world host.new) guid }
         ensures stays { self.old.files.state ≡ 2 → self.new ≡ self.old }
+        ensures page_size { self.new.files.page_size ≡ self.old.files.page_size }
         ensures cause { CountsDevice result (H.faults host.old) (H.faults host.new) }
     {
         if self.store.is_read_only() {
@@ -34,7 +35,7 @@ impl Engine {
     }
 
     /// Ends the stalled state, for the session that asks for it, or begins anew a merge that was stopped. It answers the SCN, and is
-    /// kept for good.
+    /// kept for good. What was frozen is gone then, and merge turns are left to take.
     ///
     /// The refusals are `WrongState` and `BackupRunning`, in this order; a refused call changes nothing.
     pub fn end<H: Host>(&mut self, host: &mut H, session: u32) -> Result<u32, Fault>
@@ -42,16 +43,18 @@ impl Engine {
             → DoesEnd result (H.world host.old) (H.world host.new) self.old self.new t (end_scn t.base.image) (end_turn s session) }
         ensures stays { (other : ℕ) → self.old.running ≡ Some other → other ≢ session → self.new ≡ self.old }
         ensures merge { OnOk result ((self.new.files.state ≡ 2) × (self.new.running ≡ Some session) × (self.new.merged ≡ 0)) }
+        ensures page_size { self.new.files.page_size ≡ self.old.files.page_size }
         ensures cause { CountsDevice result (H.faults host.old) (H.faults host.new) }
     {
         self.store.end(host, session)
     }
 
-    /// Merges the next entry, or finishes the merge.
+    /// Merges one page that was changed in the stalled state, or finishes the merge once all are.
     pub fn merge_turn<H: Host>(&mut self, host: &mut H) -> Result<Progress, Fault>
         requires merge { self.old.files.state ≡ 2 }
         ensures merges { (t : Trail) → IsTrue H.tells → IsOpen (H.world host.old) self.old t → Merges result (H.world host.old) (H.world host.new) self.old self.new t }
         ensures goes { IfOk result (λ progress. GoesOn progress self.old self.new) }
+        ensures page_size { self.new.files.page_size ≡ self.old.files.page_size }
         ensures cause { CountsDevice result (H.faults host.old) (H.faults host.new) }
         ensures not_refused { IfErr result IsNoRefusal }
     {
