@@ -4,3 +4,6 @@ pub mod Stops
 pub mod Todo
 pub mod Replies
 pub mod Says
+pub mod Askers
+pub mod Acts
+pub mod Steps

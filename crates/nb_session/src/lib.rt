@@ -1,7 +1,16 @@
-//! x
+//! Sessions: the statements of a script on one database, taken in turns, and the line of each reply.
+//!
+//! It rests on the engine for what a statement does, on `nb_sched` for the order of turns, and on `nb_lines` for the text of a reply. A
+//! layer above may rely on this: `take_turns` plays a script as the model does, turn by turn. At each moment a front of the lines was
+//! said, and a stop leaves what may be left of the database behind some of the steps, each acknowledged one among them.
 #![tactic(auto)]
 
-mod stop;
+mod answer;
+mod merges;
+mod session;
 mod sessions;
-pub use stop::Stop;
+mod statement;
+mod stop;
+
 pub use sessions::take_turns;
+pub use stop::Stop;

@@ -1,4 +1,5 @@
-ghost use Rattle.std.specs.Prelude.{◌≡◌, IsTrue, List, None};
+// The sessions of a script take their turns.
+ghost use Rattle.std.specs.Prelude.{◌≡◌, IsTrue, None, list_any};
 ghost use Rattle.nb_model.specs.Gifts.{Foretells};
 ghost use Rattle.nb_model.specs.Run.{Now, begun};
 ghost use Rattle.nb_model.specs.Trail.{Trail};
@@ -8,25 +9,65 @@ ghost use Rattle.nb_session.specs.Ready.{IsReady, IsCalm};
 ghost use Rattle.nb_session.specs.Todo.{PlaysWhole};
 
 use crate::Stop;
-use nb_host::Host;
+use crate::session::Session;
+use nb_engine::Engine;
+use nb_host::{Fault, Host};
 use nb_script::Script;
-use nb_state::Store;
 use std::alloc::Global;
+
+/// All sessions of a script, the first of which is session 1.
+fn sessions_of<'a>(alloc: Global, script: &'a Script) -> [Session<'a>; 16]
+{
+    [
+        Session::new(alloc, 1, script.statements(1)),
+        Session::new(alloc, 2, script.statements(2)),
+        Session::new(alloc, 3, script.statements(3)),
+        Session::new(alloc, 4, script.statements(4)),
+        Session::new(alloc, 5, script.statements(5)),
+        Session::new(alloc, 6, script.statements(6)),
+        Session::new(alloc, 7, script.statements(7)),
+        Session::new(alloc, 8, script.statements(8)),
+        Session::new(alloc, 9, script.statements(9)),
+        Session::new(alloc, 10, script.statements(10)),
+        Session::new(alloc, 11, script.statements(11)),
+        Session::new(alloc, 12, script.statements(12)),
+        Session::new(alloc, 13, script.statements(13)),
+        Session::new(alloc, 14, script.statements(14)),
+        Session::new(alloc, 15, script.statements(15)),
+        Session::new(alloc, 16, script.statements(16)),
+    ]
+}
+
+/// Whether a statement of one of the sessions was refused.
+fn any_refused<'a>(sessions: &[Session<'a>]) -> bool
+{
+    for session in sessions {
+        if session.refused() {
+            return true;
+        }
+    }
+    false
+}
 
 /// Plays a script on the open database, all but its first statement, to the end of every session. Answers whether a statement was
 /// refused. Where a call of the host fails or memory runs out, it ends at once.
 pub fn take_turns<H: Host>(
     alloc: Global,
     host: &mut H,
-    engine: &mut Store,
+    engine: &mut Engine,
     script: &Script,
 ) -> Result<bool, Stop>
     requires askable { IsAskable script.now }
-    requires stub { ⊥ }
     ensures plays { (now : Now) (t : Trail) → IsTrue H.tells → IsReady (H.world host.old) engine.old t now → now.todo ≡ begun script.now.sessions → now.running ≡ None
         → Foretells now.given (H.world host.old) (H.world host.new) → IsCalm now
         → PlaysWhole result (H.world host.old) (H.world host.new) engine.old engine.new t now script.now.schedule }
     ensures cause { CountsStop result (H.faults host.old) (H.faults host.new) }
 {
-    unreachable!()
+    let mut sessions = sessions_of(alloc, script);
+    match nb_sched::take_turns(&mut sessions, host, engine, script.schedule()) {
+        Ok(()) => Ok(any_refused(&sessions)),
+        Err(Fault::Device) => Err(Stop::Device),
+        Err(Fault::Memory) => Err(Stop::Memory),
+        Err(Fault::Refused(_)) => unreachable!(),
+    }
 }

@@ -1,0 +1,67 @@
+// A statement and the line of its reply.
+ghost use Rattle.std.specs.Prelude.{◌≡◌, ◌≢◌, ℕ, IsTrue, IfErr};
+ghost use Rattle.nb_change.specs.Counts.{CountsDevice};
+ghost use Rattle.nb_model.specs.declared.statement.Statement.TheVariants.{PageNew, EndBackup};
+ghost use Rattle.nb_model.specs.Lines.{line_text};
+ghost use Rattle.nb_model.specs.Outcomes.{Begins};
+ghost use Rattle.nb_model.specs.Run.{Now};
+ghost use Rattle.nb_model.specs.Sound.{IsSoundImage};
+ghost use Rattle.nb_model.specs.Trail.{Trail};
+ghost use Rattle.nb_base.specs.Takes.{IsNoRefusal};
+ghost use Rattle.nb_script.specs.Asked.{IsFurther};
+ghost use Rattle.nb_session.specs.Askers.{KeepsOthers};
+ghost use Rattle.nb_session.specs.Ready.{IsReady};
+ghost use Rattle.nb_session.specs.Replies.{is_refusal};
+ghost use Rattle.nb_session.specs.Says.{SaysLine};
+ghost use Rattle.nb_session.specs.Steps.{Turns};
+
+use crate::statement::{do_statement, reply_to};
+use nb_engine::Engine;
+use nb_host::{Fault, Host};
+use nb_lines::render;
+use nb_model::{Reply, Statement};
+use std::alloc::Global;
+
+/// Says the line of a reply.
+pub fn say<H: Host>(alloc: Global, host: &mut H, session: u32, reply: &Reply) -> Result<(), Fault>
+    ensures line { IsTrue H.tells → SaysLine result (H.world host.old) (H.world host.new) (line_text session reply.now) }
+    ensures cause { CountsDevice result (H.faults host.old) (H.faults host.new) }
+    ensures not_refused { IfErr result IsNoRefusal }
+{
+    let line = match render(alloc, session, reply) {
+        Ok(line) => line,
+        Err(_) => return Err(Fault::Memory),
+    };
+    host.say(&line)?;
+    Ok(())
+}
+
+fn is_refusal(reply: &Reply) -> bool
+    ensures { result ≡ is_refusal reply.now }
+{
+    match reply {
+        Reply::Refused { .. } => true,
+        _ => false,
+    }
+}
+
+/// Does a statement in one turn and says its reply, and answers whether it was refused.
+pub fn answer<H: Host>(
+    alloc: Global,
+    host: &mut H,
+    engine: &mut Engine,
+    session: u32,
+    statement: &Statement,
+) -> Result<bool, Fault>
+    requires asked { IsFurther statement.now }
+    requires single { statement.now ≢ EndBackup }
+    ensures turn { (now : Now) (t : Trail) → IsTrue H.tells → IsReady (H.world host.old) engine.old t now → (statement.now ≡ PageNew → IsSoundImage t.base.image)
+        → Turns (λ refused. refused) result (H.world host.old) (H.world host.new) engine.old engine.new t now session (Begins statement.now) }
+    ensures others { (number : ℕ) → KeepsOthers number engine.old engine.new }
+    ensures cause { CountsDevice result (H.faults host.old) (H.faults host.new) }
+    ensures not_refused { IfErr result IsNoRefusal }
+{
+    let reply = reply_to(do_statement(alloc, host, engine, statement))?;
+    say(alloc, host, session, &reply)?;
+    Ok(is_refusal(&reply))
+}

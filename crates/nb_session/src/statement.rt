@@ -1,0 +1,89 @@
+// A statement that is done in one turn.
+ghost use Rattle.std.specs.Prelude.{◌≡◌, ◌≢◌, ℕ, IsTrue, IfErr, OnOk, IfOk, Option, Some};
+ghost use Rattle.nb_change.specs.Counts.{CountsDevice};
+ghost use Rattle.nb_model.specs.declared.reply.Reply.{Reply};
+ghost use Rattle.nb_model.specs.declared.statement.Statement.TheVariants.{PageNew, EndBackup};
+ghost use Rattle.nb_model.specs.Outcomes.{Begins};
+ghost use Rattle.nb_model.specs.Run.{Now};
+ghost use Rattle.nb_model.specs.Sound.{IsSoundImage};
+ghost use Rattle.nb_model.specs.Trail.{Trail};
+ghost use Rattle.nb_base.specs.Takes.{IsNoRefusal};
+ghost use Rattle.nb_script.specs.Asked.{IsFurther};
+ghost use Rattle.nb_session.specs.Acts.{Says, MayAct};
+ghost use Rattle.nb_session.specs.Askers.{KeepsOthers};
+ghost use Rattle.nb_session.specs.Ready.{IsReady};
+ghost use Rattle.nb_session.specs.Replies.{some_said, HasEnded};
+
+use nb_engine::Engine;
+use nb_host::{Fault, Host};
+use nb_model::{Reply, Statement, Text};
+use std::alloc::Global;
+
+/// Does one statement that isn't the first of its script, in one turn.
+pub fn do_statement<H: Host>(
+    alloc: Global,
+    host: &mut H,
+    engine: &mut Engine,
+    statement: &Statement,
+) -> Result<Reply, Fault>
+    requires asked { IsFurther statement.now }
+    requires single { statement.now ≢ EndBackup }
+    ensures turn { (now : Now) (t : Trail) (session : ℕ) → IsTrue H.tells → IsReady (H.world host.old) engine.old t now → (statement.now ≡ PageNew → IsSoundImage t.base.image)
+        → MayAct some_said result (H.world host.old) (H.world host.new) engine.old engine.new t now session (Begins statement.now) }
+    ensures others { (session : ℕ) → KeepsOthers session engine.old engine.new }
+    ensures cause { CountsDevice result (H.faults host.old) (H.faults host.new) }
+{
+    match statement {
+        Statement::Write { page, text } => {
+            engine.page_write(host, *page, text.as_slice())?;
+            Ok(Reply::Done)
+        }
+        Statement::Read { page } => {
+            let text = engine.page_read(host, *page)?;
+            Ok(Reply::Value {
+                text: Text::new(alloc, text.as_slice())?,
+            })
+        }
+        Statement::PageNew => {
+            let page = engine.page_new(host)?;
+            Ok(Reply::PageMade { page })
+        }
+        Statement::Free { page } => {
+            engine.page_free(host, *page)?;
+            Ok(Reply::Done)
+        }
+        Statement::BeginBackup => {
+            let scn = engine.begin(host)?;
+            Ok(Reply::Scn { scn })
+        }
+        Statement::Forced { on } => {
+            engine.set_forced(host, *on)?;
+            Ok(Reply::Done)
+        }
+        Statement::Access { read_only } => {
+            engine.set_access(host, *read_only)?;
+            Ok(Reply::Done)
+        }
+        Statement::Sync => {
+            engine.sync(host)?;
+            Ok(Reply::Done)
+        }
+        _ => unreachable!(),
+    }
+}
+
+/// The reply to a statement: what it answered, or its refusal. A failure is passed on.
+pub fn reply_to(answer: Result<Reply, Fault>) -> Result<Reply, Fault>
+    ensures said { (said : Option Reply) → Says some_said answer said → IfOk result (λ reply. said ≡ Some reply) }
+    ensures ended { OnOk result (HasEnded answer) }
+    ensures failed { IfErr result (λ fault. answer ≡ Err fault) }
+    ensures not_refused { IfErr result IsNoRefusal }
+    ensures cause { (before after : ℕ) → CountsDevice answer before after → CountsDevice result before after }
+{
+    match answer {
+        Ok(reply) => Ok(reply),
+        Err(Fault::Refused(refusal)) => Ok(Reply::Refused { refusal }),
+        Err(Fault::Device) => Err(Fault::Device),
+        Err(Fault::Memory) => Err(Fault::Memory),
+    }
+}
