@@ -239,3 +239,18 @@ acked_steps_behind es fs said =
       ap (λ (xs : List Event). length (steps_of xs)) cut,
       steps_length es (take turns fs),
     )
+
+-- a front of the strokes of one turn is one of its steps
+pub strokes_within : (e : Event) → length e.strokes ≤ length (steps_of (e ∷ []))
+strokes_within e =
+    let tail : List Step = elim e.syncs as (λ z. List Step) [ true ↦ settles ∷ [] | false ↦ [] ] in
+    omega (arith, ap length (steps_one e), length-append (made e.strokes) tail, made_length e.strokes)
+
+pub strokes_front : (e : Event) (count : ℕ) → count ≤ length e.strokes → take count (steps_of (e ∷ [])) ≡ made (take count e.strokes)
+strokes_front e count low =
+    let tail : List Step = elim e.syncs as (λ z. List Step) [ true ↦ settles ∷ [] | false ↦ [] ] in
+    ap (take count) (steps_one e) ∙ take-append-le count (made e.strokes) tail (omega (arith, low, made_length e.strokes)) ∙ made_front count e.strokes
+
+-- one turn that waits for nothing
+pub steps_plain : (e : Event) → e.syncs ≡ false → steps_in e ≡ made e.strokes
+steps_plain e plain = ap (λ (b : Bool). made e.strokes ++ elim b as (λ z. List Step) [ true ↦ settles ∷ [] | false ↦ [] ]) plain ∙ append-nil (made e.strokes)

@@ -1,1 +1,6 @@
 pub mod SaysLaws
+pub mod GiftLaws
+pub mod StopLaws
+pub mod PlayLaws
+pub mod EventLaws
+pub mod TurnLaws

@@ -45,7 +45,7 @@ left_of asker = (length asker.statements, merge_left asker.merge)
 pub record IsMerging (session left : ℕ) (held : Held) : Type 0 where
   pub state : held.files.state ≡ 2
   pub running : held.running ≡ Some session
-  pub left : length held.files.entries ≡ held.merged + left
+  pub rest : length held.files.entries ≡ held.merged + left
 
 -- the merge of this session, if one is under way, is as the session left it
 abbrev pub MergeFits : (session : ℕ) → Option Merging → Held → Type 0
