@@ -4,3 +4,5 @@ pub mod StopLaws
 pub mod PlayLaws
 pub mod EventLaws
 pub mod TurnLaws
+pub mod KeepLaws
+pub mod ActLaws

@@ -1,6 +1,6 @@
 -- One turn, by what it made of the database and by its line.
 use Rattle.std.proofs.Common.{◌≡◌, ◌≢◌, ℕ, List, [], ◌∷◌, ◌++◌, Bool, true, false, refl, sym, ap, subst, ◌∙◌}
-use Rattle.std.specs.Prelude.{Result, Ok, Err, IsErr, Option, Some, None, if◌then◌else◌}
+use Rattle.std.specs.Prelude.{Result, Ok, Err, IsErr, Option, Some, None, IsTrue, if◌then◌else◌}
 use Rattle.nb_host.specs.World.{World}
 use Rattle.nb_host.specs.declared.faults.Fault.{Fault}
 use Rattle.nb_host.specs.declared.faults.Fault.TheVariants.{Refused, Device, Memory}
@@ -16,7 +16,7 @@ use Rattle.nb_model.specs.Run.{Now, Played, base_now, outcome, take_turn}
 use Rattle.nb_model.specs.Trail.{Trail}
 use Rattle.nb_model.specs.Turns.{first_turn, turn}
 use Rattle.nb_model.proofs.TodoLaws.{built_never_usage, status_plain}
-use Rattle.nb_script.specs.Asked.{IsFurther}
+use Rattle.nb_model.specs.Built.{is_built}
 use Rattle.nb_state.specs.Open.{Held}
 use Rattle.nb_session.specs.declared.stop.Stop.{Stop}
 use Rattle.nb_session.specs.declared.stop.Stop.TheVariants.{Device as DeviceStop, Memory as MemoryStop}
@@ -93,6 +93,6 @@ unfolding outcome turn
 outcome_is session statement now = refl
 
 -- the status behind a statement is 1 where it was refused
-pub status_told : (session : ℕ) (statement : Statement) (now : Now) (r : Reply) → IsFurther statement → (outcome session (Begins statement) now).reply ≡ Some r → status_after r ≡ (if is_refusal r then 1 else 0)
-status_told session statement now r further is =
-    status_plain r (λ usage. built_never_usage statement further.is_built (seen_now now) session (sym (ap (λ o. o.reply) (outcome_is session statement now)) ∙ is ∙ ap Some usage))
+pub status_told : (session : ℕ) (statement : Statement) (now : Now) (r : Reply) → IsTrue (is_built statement) → (outcome session (Begins statement) now).reply ≡ Some r → status_after r ≡ (if is_refusal r then 1 else 0)
+status_told session statement now r can is =
+    status_plain r (λ usage. built_never_usage statement can (seen_now now) session (sym (ap (λ o. o.reply) (outcome_is session statement now)) ∙ is ∙ ap Some usage))

@@ -21,4 +21,4 @@ returns-clause-turn g c now t tells ready sound =
     turns_said some_said _ (λ refused. refused) (g.H.Host.world c.args.host.now) (g.H.Host.world c.do_statement.new.host) (g.H.Host.world c.say.new.host) _ _ t now c.args.session _
     (c.do_statement.ensures.turn now t c.args.session tells ready sound) c.in_ok-reply.ensures.ended c.in_ok-reply.reply c.in_ok-reply.ensures.said c.say.result (c.say.ensures.line tells)
     c.is_refusal.result ready (c.in_ok-say.ensures.line tells).said
-    (λ is. subst (λ (b : Bool). status_after c.in_ok-reply.reply ≡ (if b then 1 else 0)) (sym c.is_refusal.ensures) (status_told c.args.session c.args.statement.now now c.in_ok-reply.reply c.requires.asked is))
+    (λ is. subst (λ (b : Bool). status_after c.in_ok-reply.reply ≡ (if b then 1 else 0)) (sym c.is_refusal.ensures) (status_told c.args.session c.args.statement.now now c.in_ok-reply.reply c.requires.asked.is_built is))
