@@ -82,7 +82,7 @@ module _ {T S : Type 0} (reply : T → Option Reply) (other : S → Option Reply
   }
 
 -- the trail behind a turn that waits for nothing
-trail_plain : (t : Trail) (e : Event) → e.syncs ≡ false → after_strokes t e.strokes ≡ after_steps t (steps_in e)
+pub trail_plain : (t : Trail) (e : Event) → e.syncs ≡ false → after_strokes t e.strokes ≡ after_steps t (steps_in e)
 trail_plain t e plain = strokes_are_steps t e.strokes ∙ ap (after_steps t) (sym (steps_plain e plain))
 
 -- A statement that is done in one turn, for which nothing is given.

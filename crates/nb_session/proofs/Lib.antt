@@ -6,3 +6,4 @@ pub mod EventLaws
 pub mod TurnLaws
 pub mod KeepLaws
 pub mod ActLaws
+pub mod MergeLaws

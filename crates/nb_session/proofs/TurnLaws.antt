@@ -48,12 +48,13 @@ module _ {T S : Type 0} (reply : T → Option Reply) (result : Result T Fault) (
   }
 
   -- it has nothing to say
-  pub turns_quiet : (value : S) → HasEnded result → refused value ≡ false → IsReady old e0 t now → ((outcome session turn now).reply ≡ None) → Turns refused (Ok value) old mid e0 e1 t now session turn
+  pub turns_quiet : (value : S) → HasEnded result → refused value ≡ false → IsReady old e0 t now → ((said : Option Reply) → Says reply result said → said ≡ None) → Turns refused (Ok value) old mid e0 e1 t now session turn
   turns_quiet value has not_refused ready quiet = record {
     grows = may.grows;
     plays = λ rest told.
+        let acts = may.acts told in
         subst (λ (b : Bool). Plays (Ok b) old mid e0 e1 t now (take_turn session (turn ∷ rest) now)) (sym not_refused)
-        (event_quiet old mid mid e0 e1 t now session turn rest result reply (may.acts told) has quiet ready);
+        (event_quiet old mid mid e0 e1 t now session turn rest result reply acts has (quiet _ acts.says) ready);
   }
 
   module _ (has : HasEnded result) (r : Reply) (is_said : (said : Option Reply) → Says reply result said → said ≡ Some r) {V E : Type 0} (told_line : Result V E) (says : SaysLine told_line mid new (line_text session r)) where
