@@ -7,3 +7,5 @@ pub mod TurnLaws
 pub mod KeepLaws
 pub mod ActLaws
 pub mod MergeLaws
+pub mod StepLaws
+pub mod SceneLaws

@@ -1,11 +1,11 @@
 -- What is open is the database as it stands between two turns.
-use Rattle.std.specs.Prelude.{◌≡◌, ◌⊎◌, ℕ, List, [], ◌∷◌, Option, true}
+use Rattle.std.specs.Prelude.{◌≡◌, ◌⊎◌, ℕ, List, ◌++◌}
 use Rattle.std.specs.List.{AllByRecursion}
 use Rattle.nb_host.specs.World.{World}
 use Rattle.nb_model.specs.declared.statement.Statement.{Statement}
 use Rattle.nb_model.specs.declared.statement.Statement.TheVariants.{PageNew}
-use Rattle.nb_model.specs.Outcomes.{Turn, Begins}
-use Rattle.nb_model.specs.Run.{Now, base_now}
+use Rattle.nb_model.specs.Outcomes.{Turn, Begins, Given}
+use Rattle.nb_model.specs.Run.{Now, base_now, play}
 use Rattle.nb_model.specs.Sound.{IsSoundImage}
 use Rattle.nb_model.specs.Trail.{Trail}
 use Rattle.nb_state.specs.Open.{Held, IsOpen, name_of}
@@ -23,3 +23,7 @@ MakesNoPage t = t ≡ Begins PageNew → ⊥
 -- The inventories of the database agree with its pages, or nobody asks for a new page.
 abbrev pub IsCalm : Now → Type 0
 IsCalm now = IsSoundImage (base_now now).image ⊎ AllByRecursion (AllByRecursion MakesNoPage) now.todo
+
+-- Whatever the outside gives, it is so at each moment of an order of turns.
+abbrev pub StaysCalm : (order : List ℕ) → Now → Type 0
+StaysCalm order now = (given : Given) (front rest : List ℕ) → front ++ rest ≡ order → IsCalm (play front (record now { given = given })).1

@@ -111,17 +111,21 @@ impl<'a, H: Host> Agent<H, Engine> for Session<'a> {
     ghost keeps_others = { λ mover other host engine moved host' engine' apart fits also made. keeps_fit mover.number other engine engine' apart made.others also };
 
     fn turn(&mut self, host: &mut H, engine: &mut Engine) -> Result<(), Fault> {
-        let taken = match self.merge {
-            Some(merge) => merge_on(self.alloc, host, engine, self.number, merge)?,
+        match self.merge {
+            Some(merge) => {
+                let taken = merge_on(self.alloc, host, engine, self.number, merge)?;
+                self.merge = taken.merge;
+                Ok(())
+            }
             None => {
                 let statement = &self.statements[self.next];
+                let taken = begin_statement(self.alloc, host, engine, self.number, statement)?;
                 self.next += 1;
-                begin_statement(self.alloc, host, engine, self.number, statement)?
+                self.merge = taken.merge;
+                self.refused |= taken.refused;
+                Ok(())
             }
-        };
-        self.merge = taken.merge;
-        self.refused |= taken.refused;
-        Ok(())
+        }
     }
 
     fn finished(&self) -> bool {

@@ -1,0 +1,25 @@
+use Rattle.std.proofs.Common.{◌≡◌, refl, ap, sym, subst, ◌∙◌}
+use Rattle.std.proofs.lemmas.List.{drop_more}
+use Rattle.std.specs.Prelude.{Some, None}
+use Rattle.nb_session.specs.Askers.{Asker, KeepsOthers}
+use Rattle.nb_session.proofs.StepLaws.{merge_failed, merge_taken, begin_failed, begin_taken}
+use Rattle.nb_session.proofs.session.SessionAgentEngine.turn.Goals as goal
+
+pub returns-in_err-taken-in-Some-clause-step : goal.returns-in_err-taken-in-Some-clause-step
+returns-in_err-taken-in-Some-clause-step g c =
+    rw (← c.self.view_is)
+    (merge_failed g.H.Host.tells (g.H.Host.world c.args.host.now) (g.H.Host.world c.merge_on.new.host) _ _ c.args.engine.now c.merge_on.new.engine _ _ c.in-Some.merge c.in-Some.is c.merge_on.ensures.others
+    c.in_err-taken-in-Some.field-0.0 c.from_residual.result c.from_residual.ensures c.in_err-taken-in-Some.ensures.turn c.in_err-taken-in-Some.ensures.cause c.in_err-taken-in-Some.ensures.not_refused)
+
+pub returns-in_ok-taken-in-Some-clause-step : goal.returns-in_ok-taken-in-Some-clause-step
+returns-in_ok-taken-in-Some-clause-step g c =
+    rw (← c.self.view_is)
+    (merge_taken g.H.Host.tells (g.H.Host.world c.args.host.now) (g.H.Host.world c.merge_on.new.host) _ _ c.args.engine.now c.merge_on.new.engine _ _ c.in-Some.merge c.in-Some.is c.merge_on.ensures.others
+    c.in_ok-taken-in-Some.taken c.in_ok-taken-in-Some.ensures.behind.1 c.in_ok-taken-in-Some.ensures.behind.0 refl c.in_ok-taken-in-Some.ensures.turn c.in_ok-taken-in-Some.ensures.cause)
+
+pub returns-in_err-taken-in-None-clause-step : goal.returns-in_err-taken-in-None-clause-step
+returns-in_err-taken-in-None-clause-step g c =
+    rw (← c.self.view_is)
+    (begin_failed g.H.Host.tells (g.H.Host.world c.args.host.now) (g.H.Host.world c.begin_statement.new.host) _ _ c.args.engine.now c.begin_statement.new.engine _ _ c.index-statement-self.result.now _ c.in-None.is
+    (drop_more _ _ _ _ ∙ _) c.begin_statement.ensures.others
+    c.in_err-taken-in-None.field-0.0 c.from_residual-in_err-taken-in-None.result c.from_residual-in_err-taken-in-None.ensures c.in_err-taken-in-None.ensures.turn c.in_err-taken-in-None.ensures.cause c.in_err-taken-in-None.ensures.not_refused)
