@@ -1,7 +1,10 @@
 -- A turn of a session is the next that it has to do.
-use Rattle.std.proofs.Common.{◌≡◌, inl, inr, ℕ, zero, suc, ◌+◌, ◌-◌, ◌<◌, List, [], ◌∷◌, ◌++◌, length, map, drop, get_or, set, refl, sym, ap, subst, ◌∙◌, arith, get_or-set_same}
+use Rattle.std.proofs.Common.{◌≡◌, inl, inr, ℕ, zero, suc, ◌+◌, ◌-◌, ◌<◌, List, [], ◌∷◌, ◌++◌, length, map, drop, get_or, set, refl, sym, ap, subst, ◌∙◌, arith, get_or-set_same, drop_of_length-le}
 use Rattle.std.specs.Prelude.{Bool, true, false, ◌||◌, IsTrue, Result, Ok, Err, IsErr, IsErrAnd, IfOk, IfErr, Option, Some, None, slice_set}
 use Rattle.std.specs.List.{AllByRecursion, slice_index_or}
+use Rattle.std.proofs.lemmas.Bool.{cases_lt}
+use Rattle.std.proofs.lemmas.List.{drop_more}
+use Rattle.nb_sched.specs.Turns.{IsDone}
 use Rattle.nb_host.specs.World.{World}
 use Rattle.nb_host.specs.declared.faults.Fault.{Fault}
 use Rattle.nb_host.specs.declared.faults.Fault.TheVariants.{Refused, Device, Memory}
@@ -21,7 +24,7 @@ use Rattle.nb_state.specs.Open.{Held}
 use Rattle.nb_session.specs.declared.merges.Merging.{Merging}
 use Rattle.nb_session.specs.declared.merges.Taken.{Taken}
 use Rattle.nb_session.specs.declared.stop.Stop.{Stop}
-use Rattle.nb_session.specs.Askers.{Asker, merge_todo, todo_of, HasTodo, KeepsOthers, first_merging, IsBehind}
+use Rattle.nb_session.specs.Askers.{Asker, merge_todo, merge_left, left_of, todo_of, HasTodo, KeepsOthers, first_merging, IsBehind}
 use Rattle.nb_session.specs.Ready.{IsReady, MakesNoPage, IsCalm}
 use Rattle.nb_session.specs.Steps.{as_played, Turns, TakesNext, Steps}
 use Rattle.nb_session.specs.Stops.{Plays}
@@ -230,3 +233,15 @@ module _ (tells : Bool) (old new : World) (faults faults' : ℕ) (a b : Held) (a
     cause = counts;
     not_refused = tt;
   }
+
+-- a session that has not finished, with no merge under way, has a statement left
+pub begun_within : (asker : Asker) (all : List Statement) (next : ℕ) → (IsDone (left_of asker) → ⊥) → asker.statements ≡ drop next all → asker.merge ≡ None → next < length all
+begun_within asker all next unfinished left none = elim (cases_lt next (length all)) [
+  | inl within ↦ within
+  | inr past ↦ absurd (unfinished
+      (ap (λ (ss : List Statement). (length ss, merge_left asker.merge)) (left ∙ drop_of_length-le all past) ∙ ap (λ (m : Option Merging). (0, merge_left m)) none))
+]
+
+-- and that is its first
+pub first_left : (all : List Statement) (next : ℕ) (statement : Statement) → next < length all → statement ≡ get_or all next statement → drop next all ≡ statement ∷ drop (next + 1) all
+first_left all next statement within is = drop_more all next statement within ∙ ap (λ (s : Statement). s ∷ drop (next + 1) all) (sym is)
