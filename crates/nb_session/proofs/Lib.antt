@@ -9,3 +9,5 @@ pub mod ActLaws
 pub mod MergeLaws
 pub mod StepLaws
 pub mod SceneLaws
+pub mod AnyLaws
+pub mod WholeLaws

@@ -1,7 +1,7 @@
 -- What holds while sessions take their turns.
 use Rattle.std.proofs.Common.{◌≡◌, ◌≢◌, ◌⊎◌, inl, inr, ℕ, zero, suc, ◌+◌, ◌-◌, ◌<◌, ◌≤◌, List, [], ◌∷◌, ◌++◌, length, map, get_or, set, refl, sym, ap, subst, ◌∙◌, arith, append_assoc, get_or-set_other, length-set}
 use Rattle.std.specs.Prelude.{Bool, true, false, ◌||◌, IsTrue, Result, Ok, Err, Option, Some, None, slice_get, slice_set}
-use Rattle.std.specs.List.{AllByRecursion, list_any, slice_index_or}
+use Rattle.std.specs.List.{AllByRecursion, slice_index_or}
 use Rattle.std.proofs.lemmas.List.{append-nil}
 use Rattle.nb_host.specs.World.{World}
 use Rattle.nb_host.specs.Moments.{IsTimely}
@@ -13,22 +13,18 @@ use Rattle.nb_model.specs.Run.{Event, Now, Played, outcome, stands_then, take_tu
 use Rattle.nb_model.specs.Trail.{Trail}
 use Rattle.nb_model.proofs.RunLaws.{play-append}
 use Rattle.nb_model.proofs.TodoLaws.{one_turn_idle}
-use Rattle.nb_sched.specs.Turns.{Scene, Kind, kind, agent_of, Rests, Moves}
+use Rattle.nb_sched.specs.Turns.{Scene, scene, Kind, kind, agent_of, Rests, Moves}
 use Rattle.nb_sched.proofs.AgentLaws.{agent_there, agent_of_set}
 use Rattle.nb_script.specs.Fits.{IsSession}
 use Rattle.nb_state.specs.Open.{Held}
 use Rattle.nb_session.specs.declared.merges.Merging.{Merging}
 use Rattle.nb_session.specs.Acts.{Grows}
-use Rattle.nb_session.specs.Askers.{Asker, merge_todo, merge_left, todo_of, HasTodo, left_of, IsFit}
+use Rattle.nb_session.specs.Askers.{Asker, merge_todo, merge_left, todo_of, HasTodo, left_of, IsFit, any_refused}
 use Rattle.nb_session.specs.Ready.{IsReady, StaysCalm}
 use Rattle.nb_session.specs.Steps.{as_played, Steps, TakesNext}
 use Rattle.nb_session.specs.Stops.{Plays}
 use Rattle.nb_session.proofs.GiftLaws.{foretold_first, foretold_then, foretold_itself, grows_none, grows_joined}
 use Rattle.nb_session.proofs.PlayLaws.{behind, trail_after, plays_none, plays_then}
-
--- whether a statement of one of the sessions was refused
-abbrev pub any_refused : List Asker → Bool
-any_refused askers = list_any (λ (a : Asker). a.refused) askers
 
 -- the sessions of a script as agents
 abbrev pub sessions_kind : {H : Type 0} (tells : Bool) (world : H → World) (faults : H → ℕ) → Kind Asker H Held
@@ -96,11 +92,11 @@ pub done_todo : (asker : Asker) → left_of asker ≡ (0, 0) → todo_of asker �
 done_todo asker done = done_parts asker.merge asker.statements (ap (λ (p : ℕ × ℕ). p.0) done) (ap (λ (p : ℕ × ℕ). p.1) done)
 
 -- a number that stands somewhere in an order
-at_place : (P : ℕ → Type 0) (front rest : List ℕ) (n : ℕ) → AllByRecursion P (front ++ (n ∷ rest)) → P n
+pub at_place : (P : ℕ → Type 0) (front rest : List ℕ) (n : ℕ) → AllByRecursion P (front ++ (n ∷ rest)) → P n
 at_place P [] rest n all = all.0
 at_place P (x ∷ front) rest n all = at_place P front rest n all.1
 
-agent_some : (askers : List Asker) (session : ℕ) → 1 ≤ session → session ≤ length askers → (asker : Asker) × (agent_of askers session ≡ Some asker)
+pub agent_some : (askers : List Asker) (session : ℕ) → 1 ≤ session → session ≤ length askers → (asker : Asker) × (agent_of askers session ≡ Some asker)
 agent_some askers zero low high = absurd (omega arith)
 agent_some askers (suc place) low high = there askers place (omega arith)
   where
@@ -237,19 +233,17 @@ module _ {H : Type 0} (tells : Bool) (told : IsTrue tells) (world : H → World)
       turn_holds front rest session s s' on (holds (session ∷ rest) on) (is_session front rest session on) move.agent move.moved move.there move.agents move.same_session move.made (λ n a at. move.still_ready.placed n a at)
 
   -- before the first turn
-  pub none_hold : (s : Scene Asker H Held) → world s.host ≡ world old → s.shared ≡ before → IsTimely (world old) → IsReady (world old) before t now → length s.agents ≡ 16 → any_refused s.agents ≡ false
-      → ((session : ℕ) (asker : Asker) → agent_of s.agents session ≡ Some asker → asker.number ≡ session)
-      → ((session : ℕ) (asker : Asker) → agent_of s.agents session ≡ Some asker → HasTodo asker now) → Holds [] s
+  pub none_hold : (agents : List Asker) → IsTimely (world old) → IsReady (world old) before t now → length agents ≡ 16 → any_refused agents ≡ false
+      → ((session : ℕ) (asker : Asker) → agent_of agents session ≡ Some asker → asker.number ≡ session)
+      → ((session : ℕ) (asker : Asker) → agent_of agents session ≡ Some asker → HasTodo asker now) → Holds [] (scene agents old before)
   unfolding play
-  none_hold s same held timely ready sixteen none placed todo rest is = record {
-    grown = subst (λ (w : World). Grows (world old) w) (sym same) (grows_none (world old) (world old) (record { guids = refl; times = refl }));
+  none_hold agents timely ready sixteen none placed todo rest is = record {
+    grown = grows_none (world old) (world old) (record { guids = refl; times = refl });
     sixteen = sixteen;
     placed = placed;
     so_far = λ given foretold. record {
-      plays = subst (λ (w : World). Plays (Ok (any_refused s.agents)) (world old) w before s.shared t (giving now given) ([], giving now given)) (sym same)
-          (subst (λ (h : Held). Plays (Ok (any_refused s.agents)) (world old) (world old) before h t (giving now given) ([], giving now given)) (sym held)
-          (subst (λ (r : Bool). Plays (Ok r) (world old) (world old) before before t (giving now given) ([], giving now given)) (sym none)
-          (plays_none (world old) before t (giving now given) timely (record { opened = ready.opened; base = ready.base; named = ready.named; running = ready.running }))));
+      plays = subst (λ (r : Bool). Plays (Ok r) (world old) (world old) before before t (giving now given) ([], giving now given)) (sym none)
+          (plays_none (world old) before t (giving now given) timely (record { opened = ready.opened; base = ready.base; named = ready.named; running = ready.running }));
       todo = todo;
     };
   }

@@ -9,6 +9,7 @@ use Rattle.nb_host.specs.World.{World}
 use Rattle.nb_host.specs.Moments.{IsTimely}
 use Rattle.nb_host.specs.declared.faults.Fault.{Fault}
 use Rattle.nb_host.specs.declared.faults.Fault.TheVariants.{Refused, Device, Memory}
+use Rattle.nb_host.specs.declared.refusals.Refusal.{Refusal}
 use Rattle.nb_change.specs.Counts.{CountsDevice}
 use Rattle.nb_model.specs.Gifts.{Foretells}
 use Rattle.nb_model.specs.Outcomes.{Turn, Begins, Given}
@@ -85,7 +86,7 @@ module _ {H : Type 0} (tells : Bool) (told : IsTrue tells) (world : H → World)
   start = scene (first_askers plan) old before
 
   begun_holds : Holds tells told world faults old before t now order numbers calm [] start
-  begun_holds = none_hold tells told world faults old before t now order numbers calm start refl refl timely ready refl refl (first_number plan) (λ session asker there. first_todo plan now session asker begins there)
+  begun_holds = none_hold tells told world faults old before t now order numbers calm (first_askers plan) timely ready refl refl (first_number plan) (λ session asker there. first_todo plan now session asker begins there)
 
   ends : (after : Scene Asker H Held) (answer : Result (Unit {0}) Fault) → TakesTurns (sessions_kind tells world faults) order start answer after
       → EndsWith (sessions_kind tells world faults) (Holds tells told world faults old before t now order numbers calm) order answer after
@@ -128,7 +129,7 @@ module _ {H : Type 0} (tells : Bool) (told : IsTrue tells) (world : H → World)
       (sym (play-append (front ++ session ∷ []) rest now) ∙ ap (λ (xs : List ℕ). play xs now) (append_assoc front (session ∷ []) rest ∙ sym is)) cut
 
   -- or until one ended early
-  pub whole_failed : (after : Scene Asker H Held) (fault : Fault) (stop : Stop) → ({T : Type 0} (refused : T → Bool) → as_played refused (Err fault) ≡ Err stop) → TakesTurns (sessions_kind tells world faults) order start (Err fault) after
+  pub whole_failed : (after : Scene Asker H Held) (fault : Fault) (stop : Stop) → ((refused : Unit {0} → Bool) → as_played refused (Err fault) ≡ Err stop) → TakesTurns (sessions_kind tells world faults) order start (Err fault) after
       → Foretells now.given (world old) (world after.host) → Plays (Err stop) (world old) (world after.host) before after.shared t now (play order now)
   whole_failed after fault stop same turns foretold =
       let e = ends after (Err fault) turns in
@@ -165,5 +166,5 @@ module _ {H : Type 0} (tells : Bool) (world : H → World) (faults : H → ℕ) 
       let e = stays (Err fault) turns in
       subst (λ (n : ℕ). CountsDevice {T = Unit {0}} (Err fault) n (faults after.host)) e.holds e.move.made.cause
 
-  pub never_refused : (refusal : _) → TakesTurns (sessions_kind tells world faults) order start (Err (Refused refusal)) after → ⊥
+  pub never_refused : (refusal : Refusal) → TakesTurns (sessions_kind tells world faults) order start (Err (Refused refusal)) after → ⊥
   never_refused refusal turns = (stays (Err (Refused refusal)) turns).move.made.not_refused

@@ -1,11 +1,12 @@
 -- A session of a script between two of its turns.
-use Rattle.std.specs.Prelude.{◌≡◌, ◌≢◌, ℕ, zero, suc, ◌+◌, ◌-◌, Bool, List, [], ◌∷◌, ◌++◌, length, map, replicate, Option, Some, None}
-use Rattle.std.specs.List.{AllByRecursion, slice_index_or}
+use Rattle.std.specs.Prelude.{◌≡◌, ◌≢◌, ℕ, zero, suc, ◌+◌, ◌-◌, Bool, false, List, [], ◌∷◌, ◌++◌, length, map, replicate, Option, Some, None}
+use Rattle.std.specs.List.{AllByRecursion, list_any, slice_index_or}
 use Rattle.nb_model.specs.declared.statement.Statement.{Statement}
 use Rattle.nb_model.specs.declared.reply.Reply.TheVariants.{Scn}
 use Rattle.nb_model.specs.Outcomes.{Turn, Begins, Merges, Finishes}
-use Rattle.nb_model.specs.Run.{Now}
+use Rattle.nb_model.specs.Run.{Now, all_sessions}
 use Rattle.nb_script.specs.Asked.{IsFurther}
+use Rattle.nb_script.specs.Scripts.{Plan, statements_of}
 use Rattle.nb_state.specs.Open.{Held}
 use Rattle.nb_session.specs.declared.merges.Merging.{Merging}
 
@@ -78,3 +79,15 @@ first_merging (suc left) scn = Merges
 abbrev pub IsBehind : (left scn : ℕ) → Option Merging → Type 0
 IsBehind zero scn merge = merge ≡ None
 IsBehind (suc left) scn merge = merge ≡ Some (record { left = left; scn = scn })
+
+-- a session that has all of its statements to do
+abbrev pub fresh_asker : Plan → (session : ℕ) → Asker
+fresh_asker plan session = record { number = session; statements = statements_of plan session; merge = None; refused = false }
+
+-- the sessions of a script before their first turns
+abbrev pub first_askers : Plan → List Asker
+first_askers plan = map (fresh_asker plan) all_sessions
+
+-- whether a statement of one of the sessions was refused
+abbrev pub any_refused : List Asker → Bool
+any_refused askers = list_any (λ (a : Asker). a.refused) askers

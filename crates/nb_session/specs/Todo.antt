@@ -1,5 +1,5 @@
 -- What sessions have still to do.
-use Rattle.std.specs.Prelude.{◌≡◌, ℕ, List, ◌++◌, Bool, Result}
+use Rattle.std.specs.Prelude.{◌≡◌, ℕ, List, ◌++◌, Bool, Result, OnOk}
 use Rattle.nb_model.specs.Run.{Now, play, rounds, AreFinished}
 use Rattle.nb_model.specs.Trail.{Trail}
 use Rattle.nb_host.specs.World.{World}
@@ -12,4 +12,4 @@ use Rattle.nb_session.specs.Stops.{Plays}
 pub record PlaysWhole (result : Result Bool Stop) (old new : World) (before after : Held) (t : Trail) (now : Now) (schedule : List ℕ) : Type 0 where
   pub how_often : ℕ
   pub plays : Plays result old new before after t now (play (schedule ++ rounds how_often) now)
-  pub finished : AreFinished (play (schedule ++ rounds how_often) now).1.todo
+  pub finished : OnOk result (AreFinished (play (schedule ++ rounds how_often) now).1.todo)

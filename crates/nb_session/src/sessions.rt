@@ -1,11 +1,12 @@
 // The sessions of a script take their turns.
-ghost use Rattle.std.specs.Prelude.{◌≡◌, IsTrue, None, list_any};
+ghost use Rattle.std.specs.Prelude.{◌≡◌, ◌++◌, ℕ, IsTrue, None};
 ghost use Rattle.nb_model.specs.Gifts.{Foretells};
-ghost use Rattle.nb_model.specs.Run.{Now, begun};
+ghost use Rattle.nb_model.specs.Run.{Now, begun, rounds};
 ghost use Rattle.nb_model.specs.Trail.{Trail};
 ghost use Rattle.nb_script.specs.Asked.{IsAskable};
+ghost use Rattle.nb_session.specs.Askers.{first_askers, any_refused as some_refused};
 ghost use Rattle.nb_session.specs.Causes.{CountsStop};
-ghost use Rattle.nb_session.specs.Ready.{IsReady, IsCalm};
+ghost use Rattle.nb_session.specs.Ready.{IsReady, StaysCalm};
 ghost use Rattle.nb_session.specs.Todo.{PlaysWhole};
 
 use crate::Stop;
@@ -17,6 +18,7 @@ use std::alloc::Global;
 
 /// All sessions of a script, the first of which is session 1.
 fn sessions_of<'a>(alloc: Global, script: &'a Script) -> [Session<'a>; 16]
+    ensures { result ≡ first_askers script.now }
 {
     [
         Session::new(alloc, 1, script.statements(1)),
@@ -40,13 +42,13 @@ fn sessions_of<'a>(alloc: Global, script: &'a Script) -> [Session<'a>; 16]
 
 /// Whether a statement of one of the sessions was refused.
 fn any_refused<'a>(sessions: &[Session<'a>]) -> bool
+    ensures { result ≡ some_refused sessions.now }
 {
+    let mut any = false;
     for session in sessions {
-        if session.refused() {
-            return true;
-        }
+        any |= session.refused();
     }
-    false
+    any
 }
 
 /// Plays a script on the open database, all but its first statement, to the end of every session. Answers whether a statement was
@@ -59,7 +61,7 @@ pub fn take_turns<H: Host>(
 ) -> Result<bool, Stop>
     requires askable { IsAskable script.now }
     ensures plays { (now : Now) (t : Trail) → IsTrue H.tells → IsReady (H.world host.old) engine.old t now → now.todo ≡ begun script.now.sessions → now.running ≡ None
-        → Foretells now.given (H.world host.old) (H.world host.new) → IsCalm now
+        → Foretells now.given (H.world host.old) (H.world host.new) → ((how_often : ℕ) → StaysCalm (script.now.schedule ++ rounds how_often) now)
         → PlaysWhole result (H.world host.old) (H.world host.new) engine.old engine.new t now script.now.schedule }
     ensures cause { CountsStop result (H.faults host.old) (H.faults host.new) }
 {
