@@ -197,7 +197,7 @@ module _ {H : Type 0} (tells : Bool) (told : IsTrue tells) (world : H → World)
           let now' : Now = (play front (giving now given)).1 in
           let first = foretold_first (world old) (world s.host) (world s'.host) given here.grown (turn_grows (Ok tt) made) foretold in
           let low : 0 < session = omega (arith, number.0) in
-          elim (agent_of_set s.agents session n moved a low (subst (λ (as : List Asker). agent_of as n ≡ Some a) agents at)) [
+          elim (agent_of_set s.agents session n moved a low (subst (λ (list : List Asker). agent_of list n ≡ Some a) agents at)) [
             | inl this ↦ subst (λ (x : Asker). HasTodo x (one_turn session now').1) (sym this.1) (subst (λ (k : ℕ). HasTodo moved (one_turn k now').1) mine (took (Ok tt) made given first).todo)
             | inr other ↦ (
               let its : a.number ≡ n = here.placed n a other.1 in

@@ -3,7 +3,6 @@ use Rattle.std.proofs.Common.{◌≡◌, inl, inr, ℕ, zero, suc, ◌+◌, ◌-
 use Rattle.std.specs.Prelude.{Bool, true, false, ◌||◌, IsTrue, Result, Ok, Err, IsErr, IsErrAnd, IfOk, IfErr, Option, Some, None, slice_set}
 use Rattle.std.specs.List.{AllByRecursion, slice_index_or}
 use Rattle.std.proofs.lemmas.Bool.{cases_lt}
-use Rattle.std.proofs.lemmas.List.{drop_more}
 use Rattle.nb_sched.specs.Turns.{IsDone}
 use Rattle.nb_host.specs.World.{World}
 use Rattle.nb_host.specs.declared.faults.Fault.{Fault}
@@ -241,7 +240,3 @@ begun_within asker all next unfinished left none = elim (cases_lt next (length a
   | inr past ↦ absurd (unfinished
       (ap (λ (ss : List Statement). (length ss, merge_left asker.merge)) (left ∙ drop_of_length-le all past) ∙ ap (λ (m : Option Merging). (0, merge_left m)) none))
 ]
-
--- and that is its first
-pub first_left : (all : List Statement) (next : ℕ) (statement : Statement) → next < length all → statement ≡ get_or all next statement → drop next all ≡ statement ∷ drop (next + 1) all
-first_left all next statement within is = drop_more all next statement within ∙ ap (λ (s : Statement). s ∷ drop (next + 1) all) (sym is)

@@ -149,7 +149,7 @@ pub turns_as : {H : Type 0} (tells : Bool) (world : H → World) (faults : H →
     → TakesTurns (sessions_kind tells world faults) (schedule ++ rounds n) (scene agents host held) answer after
 turns_as tells world faults schedule other agents others n host held answer after same these turns =
     subst (λ (xs : List ℕ). TakesTurns (sessions_kind tells world faults) (xs ++ rounds n) (scene agents host held) answer after) same
-    (subst (λ (as : List Asker). TakesTurns (sessions_kind tells world faults) (other ++ rounds n) (scene as host held) answer after) these turns)
+    (subst (λ (list : List Asker). TakesTurns (sessions_kind tells world faults) (other ++ rounds n) (scene list host held) answer after) these turns)
 
 -- The count of faults, and refusals.
 module _ {H : Type 0} (tells : Bool) (world : H → World) (faults : H → ℕ) (order : List ℕ) (start after : Scene Asker H Held) where

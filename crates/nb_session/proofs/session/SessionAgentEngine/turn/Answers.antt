@@ -1,6 +1,6 @@
 use Rattle.std.proofs.Common.{◌≡◌, refl, ap, sym, ◌∙◌}
 use Rattle.nb_session.specs.Askers.{Asker}
-use Rattle.nb_session.proofs.StepLaws.{merge_failed, merge_taken, begin_failed, begin_taken, begun_within, first_left}
+use Rattle.nb_session.proofs.StepLaws.{merge_failed, merge_taken, begin_failed, begin_taken, begun_within}
 use Rattle.nb_session.proofs.session.SessionAgentEngine.turn.Goals as goal
 
 pub returns-in_err-taken-in-Some-clause-step : goal.returns-in_err-taken-in-Some-clause-step
@@ -19,14 +19,14 @@ pub returns-in_err-taken-in-None-clause-step : goal.returns-in_err-taken-in-None
 returns-in_err-taken-in-None-clause-step g c =
     let within = begun_within c.args.self.now c.self.inside.statements.now c.self.inside.next c.requires.unfinished (sym (ap (λ (a : Asker). a.statements) c.self.view_is)) (sym (ap (λ (a : Asker). a.merge) c.self.view_is) ∙ c.in-None.is) in
     rw (← c.self.view_is)
-    (begin_failed g.H.Host.tells (g.H.Host.world c.args.host.now) (g.H.Host.world c.begin_statement.new.host) _ _ c.args.engine.now c.begin_statement.new.engine _ _ c.index-self-self.result _ c.in-None.is
-    (first_left c.self.inside.statements.now c.self.inside.next c.index-self-self.result within c.index-self-self.is) c.begin_statement.ensures.others
+    (begin_failed g.H.Host.tells (g.H.Host.world c.args.host.now) (g.H.Host.world c.begin_statement.new.host) _ _ c.args.engine.now c.begin_statement.new.engine _ _ (get_or c.self.inside.statements.now c.self.inside.next c.index-self-self.result) _ c.in-None.is
+    (drop_more c.self.inside.statements.now c.self.inside.next c.index-self-self.result within) c.begin_statement.ensures.others
     c.in_err-taken-in-None.field-0.0 c.from_residual-in_err-taken-in-None.result c.from_residual-in_err-taken-in-None.ensures c.in_err-taken-in-None.ensures.turn c.in_err-taken-in-None.ensures.cause c.in_err-taken-in-None.ensures.not_refused)
 
 pub returns-in_ok-taken-in-None-clause-step : goal.returns-in_ok-taken-in-None-clause-step
 returns-in_ok-taken-in-None-clause-step g c =
     let within = begun_within c.args.self.now c.self.inside.statements.now c.self.inside.next c.requires.unfinished (sym (ap (λ (a : Asker). a.statements) c.self.view_is)) (sym (ap (λ (a : Asker). a.merge) c.self.view_is) ∙ c.in-None.is) in
     rw (← c.self.view_is)
-    (begin_taken g.H.Host.tells (g.H.Host.world c.args.host.now) (g.H.Host.world c.begin_statement.new.host) _ _ c.args.engine.now c.begin_statement.new.engine _ _ c.index-self-self.result _ c.in-None.is
-    (first_left c.self.inside.statements.now c.self.inside.next c.index-self-self.result within c.index-self-self.is) c.begin_statement.ensures.others
+    (begin_taken g.H.Host.tells (g.H.Host.world c.args.host.now) (g.H.Host.world c.begin_statement.new.host) _ _ c.args.engine.now c.begin_statement.new.engine _ _ (get_or c.self.inside.statements.now c.self.inside.next c.index-self-self.result) _ c.in-None.is
+    (drop_more c.self.inside.statements.now c.self.inside.next c.index-self-self.result within) c.begin_statement.ensures.others
     c.in_ok-taken-in-None.taken refl c.in_ok-taken-in-None.ensures.turn c.in_ok-taken-in-None.ensures.next c.in_ok-taken-in-None.ensures.cause)
