@@ -7,6 +7,9 @@ pub mod MarkLaws
 pub mod PageLaws
 pub mod WriteLaws
 pub mod FreeLaws
+pub mod FlagLaws
+pub mod BackupLaws
 pub mod FindLaws
 pub mod PlaceTests
 pub mod RoundLaws
+pub mod FullLaws

@@ -68,9 +68,10 @@ impl Engine {
         })
     }
 
-    /// Opens a database, and takes room for three of its pages. It changes nothing: its files are kept for good before it answers.
+    /// Opens a database, and takes the memory for three of its pages. It changes nothing: what it opens is kept for good before it
+    /// answers.
     ///
-    /// The refusals are `NoFile`, `NotDatabase`, `Unfinished`, `NoFile` of the difference file and `BadDelta`, in this order.
+    /// The refusals are those of `Store::attach`: `NoFile`, `NotDatabase`, `Unfinished` and `BadDelta`.
     pub fn attach<H: Host>(alloc: Global, host: &mut H, name: &Name) -> Result<Engine, Fault>
         requires name { length name.now ≤ 94 }
         ensures attaches { IsTrue H.tells → Attaches result (H.world host.old) (H.world host.new) name.now }

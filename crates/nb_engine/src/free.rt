@@ -25,13 +25,7 @@ impl Engine {
         ensures goes { Goes self.old self.new }
         ensures cause { CountsDevice result (H.faults host.old) (H.faults host.new) }
     {
-        take_raw(
-            &mut self.store,
-            host,
-            number,
-            &mut self.page,
-            &mut self.map,
-        )?;
+        take_raw(&mut self.store, host, number, &mut self.page, &mut self.map)?;
         // Page 0 is the header, whatever the host gave for it.
         if number == 0 {
             return Err(Fault::Refused(Refusal::SystemPage { page: number }));

@@ -1,7 +1,15 @@
-//! Statements on the pages of one database.
+//! Statements on the pages of one database, and the events of its backups.
+//!
+//! It rests on the store (`nb_state`), of which it knows three things: what is open, that a read gives the page and changes nothing,
+//! and that each call that writes makes its one stroke. It rests on `nb_page` and the inventories for the bytes of pages, and on the
+//! table of turns of `nb_model`. A layer above may rely on this: each call answers what its turn says and makes the turn's strokes
+//! in order, in every backup state; at each moment a stop leaves what may be left of what was seen behind a front of them, and once
+//! the call has answered a value or a refusal the database is open behind all of them.
 #![tactic(auto)]
 
+mod backup;
 mod engine;
+mod flags;
 mod free;
 mod mark;
 mod pages;
@@ -10,3 +18,6 @@ mod reads;
 mod write;
 
 pub use engine::Engine;
+
+#[cfg(test)]
+mod tests;

@@ -54,13 +54,7 @@ impl Engine {
         ensures goes { Goes self.old self.new }
         ensures cause { CountsDevice result (H.faults host.old) (H.faults host.new) }
     {
-        take_raw(
-            &mut self.store,
-            host,
-            number,
-            &mut self.page,
-            &mut self.map,
-        )?;
+        take_raw(&mut self.store, host, number, &mut self.page, &mut self.map)?;
         // Page 0 is the header, whatever the host gave for it.
         if number == 0 {
             return Err(Fault::Refused(Refusal::SystemPage { page: number }));
@@ -87,13 +81,7 @@ impl Engine {
         ensures cause { CountsDevice result (H.faults host.old) (H.faults host.new) }
         ensures takes_none { IfErr result (λ fault. fault ≢ Memory) }
     {
-        take_raw(
-            &mut self.store,
-            host,
-            number,
-            &mut self.page,
-            &mut self.map,
-        )?;
+        take_raw(&mut self.store, host, number, &mut self.page, &mut self.map)?;
         let Some(text) = raw_text(&self.page) else {
             return Err(Fault::Refused(Refusal::NotDatabase { page: number }));
         };

@@ -1,7 +1,7 @@
 -- How runs of calls that make strokes go on.
 use Rattle.std.proofs.Common.{◌≡◌, ℕ, List, [], ◌∷◌, ◌++◌, refl, sym, ◌∙◌, subst, ap}
 use Rattle.std.proofs.lemmas.List.{append-nil}
-use Rattle.std.specs.Prelude.{Bool, true, false, Result, Ok, Err, IsErr, IsErrAnd, IfErr}
+use Rattle.std.specs.Prelude.{Bool, true, false, Option, Result, Ok, Err, IsErr, IsErrAnd, IfErr}
 use Rattle.nb_host.specs.Files.{Files}
 use Rattle.nb_host.specs.World.{World}
 use Rattle.nb_host.specs.declared.faults.Fault.{Fault}
@@ -155,3 +155,7 @@ pub makes_before : {S T : Type 0} (value : S) (result : Result T Fault) (old mid
 makes_before value result old mid new a b c t xs makes same quiet =
     subst (λ (ss : List Stroke). Makes result old new a c t ss) (append-nil xs)
     (makes_then value result old mid new a b c t xs [] makes (makes_none result mid new b c (after_strokes t xs) same quiet makes.opened))
+
+-- whose copy or merge runs is no matter of what is open
+pub open_running : (w : World) (held : Held) (t : Trail) (by : Option ℕ) → IsOpen w held t → IsOpen w (record held { running = by }) t
+open_running w held t by is = record { files = is.files; agrees = record { scn = is.agrees.scn; guid = is.agrees.guid; forced = is.agrees.forced; read_only = is.agrees.read_only }; merged = is.merged }
