@@ -1,12 +1,12 @@
 // A backup begins and ends, and what was changed meanwhile is merged.
-ghost use Rattle.std.specs.Prelude.{◌≡◌, IsTrue, IfErr, Option};
+ghost use Rattle.std.specs.Prelude.{◌≡◌, ◌≢◌, ℕ, List, IsTrue, IfErr, IfOk, OnOk, Some, Option};
 ghost use Rattle.nb_change.specs.Counts.{CountsDevice};
 ghost use Rattle.nb_model.specs.Outcomes.{Seen, next_guid};
 ghost use Rattle.nb_model.specs.Pages.{begin_turn, end_turn, end_scn};
 ghost use Rattle.nb_model.specs.Trail.{Trail};
 ghost use Rattle.nb_base.specs.Takes.{IsNoRefusal};
 ghost use Rattle.nb_state.specs.Open.{IsOpen};
-ghost use Rattle.nb_state.specs.Turns.{GaveAtMost, Merges};
+ghost use Rattle.nb_state.specs.Turns.{GaveAtMost, Merges, GoesOn};
 ghost use Rattle.nb_engine.specs.Replies.{scn_is};
 ghost use Rattle.nb_engine.specs.Turns.{DoesBegin, DoesEnd};
 
@@ -23,6 +23,8 @@ impl Engine {
         ensures turn { (s : Seen) (t : Trail) → IsTrue H.tells → t.base ≡ s.base → IsOpen (H.world host.old) self.old t
             → GaveAtMost (H.world host.old) (H.world host.new) (next_guid s.given)
             → DoesBegin scn_is result (H.world host.old) (H.world host.new) self.old self.new t (next_guid s.given) (begin_turn s) }
+        ensures asks { IsTrue H.tells → (guid : List ℕ) × GaveAtMost (H.world host.old) (H.world host.new) guid }
+        ensures stays { self.old.files.state ≡ 2 → self.new ≡ self.old }
         ensures page_size { self.new.files.page_size ≡ self.old.files.page_size }
         ensures cause { CountsDevice result (H.faults host.old) (H.faults host.new) }
     {
@@ -39,6 +41,8 @@ impl Engine {
     pub fn end<H: Host>(&mut self, host: &mut H, session: u32) -> Result<u32, Fault>
         ensures turn { (s : Seen) (t : Trail) → IsTrue H.tells → t.base ≡ s.base → self.old.running ≡ s.running → IsOpen (H.world host.old) self.old t
             → DoesEnd result (H.world host.old) (H.world host.new) self.old self.new t (end_scn t.base.image) (end_turn s session) }
+        ensures stays { (other : ℕ) → self.old.running ≡ Some other → other ≢ session → self.new ≡ self.old }
+        ensures merge { OnOk result ((self.new.files.state ≡ 2) × (self.new.running ≡ Some session) × (self.new.merged ≡ 0)) }
         ensures page_size { self.new.files.page_size ≡ self.old.files.page_size }
         ensures cause { CountsDevice result (H.faults host.old) (H.faults host.new) }
     {
@@ -49,6 +53,7 @@ impl Engine {
     pub fn merge_turn<H: Host>(&mut self, host: &mut H) -> Result<Progress, Fault>
         requires merge { self.old.files.state ≡ 2 }
         ensures merges { (t : Trail) → IsTrue H.tells → IsOpen (H.world host.old) self.old t → Merges result (H.world host.old) (H.world host.new) self.old self.new t }
+        ensures goes { IfOk result (λ progress. GoesOn progress self.old self.new) }
         ensures page_size { self.new.files.page_size ≡ self.old.files.page_size }
         ensures cause { CountsDevice result (H.faults host.old) (H.faults host.new) }
         ensures not_refused { IfErr result IsNoRefusal }

@@ -12,6 +12,7 @@ mod engine;
 mod flags;
 mod free;
 mod mark;
+mod new_page;
 mod pages;
 mod put;
 mod reads;

@@ -42,6 +42,7 @@ pub mod TakenLaws
 pub mod FreeLaws
 pub mod FrontLaws
 pub mod TrailLaws
+pub mod StepsLaws
 pub mod FitLaws
 pub mod MixtureLaws
 pub mod MixtureWrites

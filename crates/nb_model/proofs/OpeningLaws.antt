@@ -1,9 +1,8 @@
 -- The first statement of a run: whether its name is free, what it makes, and what a run leaves of the other files and records.
 use Rattle.std.proofs.Common.{◌≡◌, ◌≢◌, inl, inr, ℕ, ◌+◌, length, ◌-◌, List, [], ◌∷◌, ◌++◌, map, take, get_or, refl, sym, ap, subst, ◌∙◌}
-use Rattle.std.specs.Prelude.{IsTrue, Bool, true, false, not, ◌&&◌, ◌||◌, ◌==◌, Option, Some, None, Result, Ok, Err, is_some, is_none}
+use Rattle.std.specs.Prelude.{Bool, true, false, not, ◌&&◌, ◌||◌, ◌==◌, Option, Some, None, Result, Ok, Err, is_some, is_none}
 use Rattle.std.specs.List.{AllByRecursion, slice_index_or}
 use Rattle.std.specs.Cmp.Lexicographic.{told_text}
-use Rattle.std.proofs.lemmas.Bool.{true≢false}
 use Rattle.std.proofs.lemmas.Bool.Decides.{eqb_tells}
 use Rattle.std.proofs.lemmas.List.{append-nil}
 use Rattle.std.proofs.Math.ListN.{get_or-map}
@@ -25,7 +24,6 @@ use Rattle.nb_model.specs.Image.{Image}
 use Rattle.nb_model.specs.Account.{Base, base_of, Kept, Entry, Missing, Plain, IsBase, Account, with_entry}
 use Rattle.nb_model.specs.Strokes.{Stroke, make, page, begin, ends, finish, fix, merge, on_base, records_of, base_in, base_after, records_after}
 use Rattle.nb_model.specs.Forms.{Draft, drafted, put, give_page, new_page}
-use Rattle.nb_model.specs.Built.{is_built}
 use Rattle.nb_model.specs.Causes.{Cause, not_database, when, is_free_entry}
 use Rattle.nb_model.specs.Owner.{delta_name, owner, owner_in, entry_of_files}
 use Rattle.nb_model.specs.Outcomes.{Turn, Begins, Copies, ClosesBackup, ClosesCopy, Ends, Merges, Finishes, Given, Seen, Outcome, says, unless, changes}
@@ -272,17 +270,6 @@ sync_paged s session = record { made = refl; pages = tt; next = refl }
 pub header_paged : IsPaged ShowHeader
 unfolding first_turn header_turn
 header_paged s session = record { made = refl; pages = tt; next = refl }
-
--- So does each statement that the program does today.
-pub built_paged : (statement : Statement) → IsTrue (is_built statement) → IsPaged statement
-unfolding first_turn
-built_paged (CreateDb name size raw cache) h = λ s k. record { made = refl; pages = tt; next = refl }
-built_paged (OpenDb name cache) h = λ s k. record { made = refl; pages = tt; next = refl }
-built_paged PageNew h = new_paged
-built_paged (Write p text) h = write_paged p text
-built_paged (Read p) h = read_paged p
-built_paged (Free p) h = free_paged p
-built_paged other h = absurd (true≢false (sym h))
 
 -- what sessions have to do writes pages alone
 abbrev pub IsPagedTurn : Turn → Type 0

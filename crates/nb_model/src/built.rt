@@ -13,7 +13,12 @@ pub fn is_built(statement: &Statement) -> bool
         | Statement::PageNew
         | Statement::Write { .. }
         | Statement::Read { .. }
-        | Statement::Free { .. } => true,
+        | Statement::Free { .. }
+        | Statement::BeginBackup
+        | Statement::EndBackup
+        | Statement::Forced { .. }
+        | Statement::Access { .. }
+        | Statement::Sync => true,
         _ => false,
     }
 }

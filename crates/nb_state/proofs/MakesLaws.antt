@@ -85,6 +85,8 @@ pub goes_on : (a b c : Held) → Goes a b → Goes b c → Goes a c
 goes_on a b c first second = record {
   name = second.name ∙ first.name;
   page_size = second.page_size ∙ first.page_size;
+  state = second.state ∙ first.state;
+  entries = λ two. second.entries (first.state ∙ two) ∙ first.entries two;
   running = second.running ∙ first.running;
   merged = second.merged ∙ first.merged;
 }
@@ -93,6 +95,8 @@ pub goes_nowhere : (a b : Held) → b ≡ a → Goes a b
 goes_nowhere a b same = record {
   name = ap (λ (h : Held). name_of h) same;
   page_size = ap (λ (h : Held). h.files.page_size) same;
+  state = ap (λ (h : Held). h.files.state) same;
+  entries = λ two. ap (λ (h : Held). h.files.entries) same;
   running = ap (λ (h : Held). h.running) same;
   merged = ap (λ (h : Held). h.merged) same;
 }

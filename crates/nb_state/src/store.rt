@@ -1,4 +1,4 @@
-ghost use Rattle.std.specs.Prelude.{◌≡◌, ◌≤◌, ◌<◌, ◌+◌, ℕ, List, ◌∷◌, [], length, IsTrue, IfOk, IfErr, OnOk, Option, false};
+ghost use Rattle.std.specs.Prelude.{◌≡◌, ◌≢◌, ◌≤◌, ◌<◌, ◌+◌, ℕ, List, ◌∷◌, [], length, IsTrue, IfOk, IfErr, OnOk, Option, Some, false};
 ghost use Rattle.nb_fields.specs.Bytes.{is_zeros};
 ghost use Rattle.nb_fields.specs.Places.{is_page_size};
 ghost use Rattle.nb_fields.specs.Fresh.{fresh};
@@ -14,7 +14,7 @@ ghost use Rattle.nb_base.specs.Takes.{IsNoRefusal};
 ghost use Rattle.nb_state.specs.Open.{IsOpen};
 ghost use Rattle.nb_state.specs.Does.{Makes, Goes};
 ghost use Rattle.nb_state.specs.Beginnings.{Attaches, Creates};
-ghost use Rattle.nb_state.specs.Turns.{Begins, Ends, Merges, GaveAtMost};
+ghost use Rattle.nb_state.specs.Turns.{Begins, Ends, Merges, GaveAtMost, GoesOn};
 
 use nb_base::TwoFiles;
 use nb_host::{Fault, Host, HostFault, Name};
@@ -55,6 +55,14 @@ impl Model for Store {
 }
 
 impl Store {
+    /// Stands in for what isn't there yet.
+    pub fn stand_in(&self)
+        ensures nothing { ⊥ }
+    {
+        let _stand_in = &self.forced;
+        unreachable!()
+    }
+
     /// The size of each page, in bytes.
     pub fn page_size(&self) -> u32
         ensures value { result ≡ self.now.files.page_size }
@@ -174,6 +182,8 @@ impl Store {
     pub fn begin<H: Host>(&mut self, host: &mut H) -> Result<u32, Fault>
         ensures begins { (t : Trail) (guid : List ℕ) (ask : Option Ask) → IsTrue H.tells → IsOpen (H.world host.old) self.old t → GaveAtMost (H.world host.old) (H.world host.new) guid
             → Begins result (H.world host.old) (H.world host.new) self.old self.new t guid ask }
+        ensures asks { IsTrue H.tells → (guid : List ℕ) × GaveAtMost (H.world host.old) (H.world host.new) guid }
+        ensures stays { self.old.files.state ≡ 2 → self.new ≡ self.old }
         ensures page_size { self.new.files.page_size ≡ self.old.files.page_size }
         ensures cause { CountsDevice result (H.faults host.old) (H.faults host.new) }
     {
@@ -186,6 +196,8 @@ impl Store {
     /// The refusals are `WrongState` and `BackupRunning`, in this order; a refused call changes nothing.
     pub fn end<H: Host>(&mut self, host: &mut H, session: u32) -> Result<u32, Fault>
         ensures ends { (t : Trail) → IsTrue H.tells → IsOpen (H.world host.old) self.old t → Ends result (H.world host.old) (H.world host.new) self.old self.new t session }
+        ensures stays { (other : ℕ) → self.old.running ≡ Some other → other ≢ session → self.new ≡ self.old }
+        ensures merge { OnOk result ((self.new.files.state ≡ 2) × (self.new.running ≡ Some session) × (self.new.merged ≡ 0)) }
         ensures page_size { self.new.files.page_size ≡ self.old.files.page_size }
         ensures cause { CountsDevice result (H.faults host.old) (H.faults host.new) }
     {
@@ -197,6 +209,7 @@ impl Store {
     pub fn merge_turn<H: Host>(&mut self, host: &mut H) -> Result<Progress, Fault>
         requires merge { self.old.files.state ≡ 2 }
         ensures merges { (t : Trail) → IsTrue H.tells → IsOpen (H.world host.old) self.old t → Merges result (H.world host.old) (H.world host.new) self.old self.new t }
+        ensures goes { IfOk result (λ progress. GoesOn progress self.old self.new) }
         ensures page_size { self.new.files.page_size ≡ self.old.files.page_size }
         ensures cause { CountsDevice result (H.faults host.old) (H.faults host.new) }
         ensures not_refused { IfErr result IsNoRefusal }
