@@ -19,7 +19,7 @@ use Rattle.nb_model.proofs.HeadSound.{all_zeros}
 use Rattle.nb_model.proofs.HeaderLaws.{header-long, header-other}
 use Rattle.nb_model.proofs.MainLaws.{main_of_owner}
 use Rattle.nb_model.proofs.OpeningLaws.{opened_in_use}
-use Rattle.nb_model.proofs.StandsLaws.{names_tell, not_level, header_no_level, StandsUnder, stands_with_entry, stands_with_database}
+use Rattle.nb_model.proofs.StandsLaws.{names_tell, not_level, header_no_level, StandsUnder, stands_with_both, stands_with_database}
 
 -- The file becomes that of a well database, whatever stood under the name before.
 pub stands_with_well : (old new : Files) (account : Account) (name : List ℕ) (image : Image)
@@ -115,11 +115,11 @@ free_under files kept name not_nil free alone = record {
 
 -- The files stand for the account with what they give under a free name, as a creation leaves it that was stopped.
 pub stands_free : (old new : Files) (account : Account) (name : List ℕ)
-    → Stands old account → is_delta name ≡ false → ((m : List ℕ) → m ≢ name → new m ≡ old m)
+    → Stands old account → is_delta name ≡ false → ((m : List ℕ) → m ≢ name → m ≢ delta_name name → new m ≡ old m)
     → is_free_file (new name) ≡ true → new (delta_name name) ≡ None
     → Stands new (with_entry name (entry_in new name) account)
 stands_free old new account name stands plain others free alone =
-    stands_with_entry old new account name (entry_in new name) stands plain others (free_under new account.kept name stands.kept_records.not_nil free alone)
+    stands_with_both old new account name (entry_in new name) stands plain others (free_under new account.kept name stands.kept_records.not_nil free alone)
 
 -- Files that are the same stand for the same.
 pub stands_files : (old new : Files) (account : Account) → Stands old account → ((m : List ℕ) → new m ≡ old m) → Stands new account

@@ -27,7 +27,7 @@ use Rattle.nb_model.proofs.HeaderLaws.{header-long, header-size, same-header, sa
 use Rattle.nb_model.proofs.ImageLaws.{AreZeros, joined-append, length-joined, joined-zeros, zeros-are, trimmed-no_zeros, trimmed-append_zeros, all-append, all-replicate}
 use Rattle.nb_model.proofs.MainLaws.{IsLaid, laid, laid-front, some_page, image_in-is, main_facts, owned-front, owned-first, diverted-image, IsDiverted, owner_cases, base_told}
 use Rattle.nb_model.proofs.OverLaws.{owner_over}
-use Rattle.nb_model.proofs.StandsLaws.{header_no_level, applying_state, opened_entry, StandsUnder, StandsBeside, stands_with_both}
+use Rattle.nb_model.proofs.StandsLaws.{header_no_level, applying_state, opened_entry, StandsUnder, stands_with_both}
 use Rattle.nb_model.proofs.WellTrailLaws.{settled_well, left_well}
 
 -- zeros behind zeros
@@ -151,7 +151,7 @@ module _ (files : Files) (account : Account) (name : List ℕ) (b : Base) (stand
       let form : Formed main.bytes = main_form b (files name) main in
       let one : state_of main.bytes ≡ 1 = sym state ∙ stalled in
       let whole : length main.bytes % size_of main.bytes ≡ 0 = ap (λ (n : ℕ). n % size_of main.bytes) form.whole ∙ mul-mod_left form.count (size_of main.bytes) in
-      let copy : IsCopyOf r main.bytes = (stands.kept_records.levels name main.bytes main.there).copy r form.header one whole (subst (λ (g : List ℕ). IsKeptAs account.kept g r) (same_guid b (files name) main) kept) in
+      let copy : IsCopyOf r main.bytes = (stands.kept_records.levels name main.bytes plain main.there).copy r form.header one whole (subst (λ (g : List ℕ). IsKeptAs account.kept g r) (same_guid b (files name) main) kept) in
       record {
         backup = r;
         kept_as = kept;
@@ -234,15 +234,15 @@ module _ (files : Files) (kept : List Kept) (name : List ℕ) (b : Base) (opens 
 -- So the files go on to stand for an account with a well database that they hold, in whatever state.
 pub stands_with_well_in : (old new : Files) (account : Account) (name : List ℕ) (b : Base)
     → Stands old account → is_delta name ≡ false → ((m : List ℕ) → m ≢ name → m ≢ delta_name name → new m ≡ old m)
-    → owner name (new name) (new (delta_name name)) ≡ Ok b → IsWellBaseIn account.kept b → StandsBeside new account name
+    → owner name (new name) (new (delta_name name)) ≡ Ok b → IsWellBaseIn account.kept b
     → Stands new (with_entry name (IsBase b) account)
-stands_with_well_in old new account name b stands plain others opens w along =
-    stands_with_both old new account name (IsBase b) stands plain others (well_under new account.kept name b opens w stands.kept_records.distinct) along
+stands_with_well_in old new account name b stands plain others opens w =
+    stands_with_both old new account name (IsBase b) stands plain others (well_under new account.kept name b opens w stands.kept_records.distinct)
 
 -- So do they where a stop left them of a well trail.
 pub stood_stands : (old new : Files) (account : Account) (name : List ℕ) (t : Trail)
     → Stands old account → is_delta name ≡ false → ((m : List ℕ) → m ≢ name → m ≢ delta_name name → new m ≡ old m)
-    → IsWellTrail account.kept t → (s : StandsIn name t new) → StandsBeside new account name
+    → IsWellTrail account.kept t → (s : StandsIn name t new)
     → Stands new (with_entry name (IsBase s.base) account)
-stood_stands old new account name t stands plain others w s along =
-    stands_with_well_in old new account name s.base stands plain others s.opens (left_well account.kept t s.base w s.left) along
+stood_stands old new account name t stands plain others w s =
+    stands_with_well_in old new account name s.base stands plain others s.opens (left_well account.kept t s.base w s.left)

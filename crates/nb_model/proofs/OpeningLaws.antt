@@ -107,7 +107,7 @@ free_entry files account name same no_stray plain =
       where
         by : (t : Bool) → is_some (files (delta_name name)) ≡ t → is_some (files (delta_name name)) ≡ false
         by false is = is
-        by true is = elim (no_stray name is) [
+        by true is = elim (no_stray name plain is) [
           | inl base ↦ absurd (not_both (account.entry name) base.0 base.1 (same name plain ∙ ap (λ (f : File). entry_of_files name f (files (delta_name name))) none ∙ missing_entry name (files (delta_name name))))
           | inr standby ↦ absurd (not_some (files name) standby.0 standby.1 none)
         ]
@@ -195,11 +195,11 @@ not_created account given sessions session name size raw cache taken =
 -- The run of a script whose first statement is done, and of one whose first is refused.
 pub run_on : (account : Account) (given : Given) (session : ℕ) (first : Statement) (schedule : List ℕ) (sessions : List (List Statement)) (now last : Now) (rest : List Event)
     → (opening account given sessions session first).now ≡ Some now → IsPlayed schedule now rest last
-    → IsRun account given session first schedule sessions ((opening account given sessions session first).event ∷ rest) last.account
+    → IsRun account given session first schedule sessions ((opening account given sessions session first).event ∷ rest) last.account last.given
 run_on account given session first schedule sessions now last rest goes_on played = record {
   rest = rest;
   is = refl;
-  goes_on = subst (λ (n : Option Now). IsRest schedule (record { event = o.event; account = o.account; now = n }) rest last.account) (sym goes_on) (last, played, refl);
+  goes_on = subst (λ (n : Option Now). IsRest schedule (record { event = o.event; account = o.account; now = n }) given rest last.account last.given) (sym goes_on) (last, played, refl, refl);
 }
   where
     o : Opening
@@ -207,11 +207,11 @@ run_on account given session first schedule sessions now last rest goes_on playe
 
 pub run_ends : (account : Account) (given : Given) (session : ℕ) (first : Statement) (schedule : List ℕ) (sessions : List (List Statement)) (reply : Reply)
     → opening account given sessions session first ≡ refused_opening session reply account
-    → IsRun account given session first schedule sessions ((refused_opening session reply account).event ∷ []) account
+    → IsRun account given session first schedule sessions ((refused_opening session reply account).event ∷ []) account given
 run_ends account given session first schedule sessions reply refused = record {
   rest = [];
   is = ap (λ (o : Opening). o.event ∷ []) (sym refused);
-  goes_on = subst (λ (o : Opening). IsRest schedule o [] account) (sym refused) (refl, refl);
+  goes_on = subst (λ (o : Opening). IsRest schedule o given [] account given) (sym refused) (refl, refl, refl);
 }
 
 -- A turn that writes pages and makes no file, and behind which nothing is left to do.

@@ -136,7 +136,7 @@ behind_line_most line said n = by (nat_le line said)
     by true = omega arith
     by false = omega arith
 
-turns_none : (said : ℕ) → acked_turns [] said ≡ 0
+pub turns_none : (said : ℕ) → acked_turns [] said ≡ 0
 unfolding acked_turns
 turns_none said = refl
 
@@ -161,7 +161,7 @@ turns_most (e ∷ es) said = by (turns_most es) e.reply refl
         omega (arith, turns_line e es said r is, behind_line_most line said (acked_turns es (said - line)), later (said - line))
 
 -- none before anything is said, as no line is empty,
-turns_before : (es : List Event) → acked_turns es 0 ≡ 0
+pub turns_before : (es : List Event) → acked_turns es 0 ≡ 0
 turns_before [] = turns_none 0
 turns_before (e ∷ es) = by (turns_before es) e.reply refl
   where
@@ -172,7 +172,7 @@ turns_before (e ∷ es) = by (turns_before es) e.reply refl
         ∙ ap (λ (t : Bool). elim t as (λ z. ℕ) [ true ↦ suc (acked_turns es (0 - length (line_text e.session r))) | false ↦ 0 ]) (lt-leb (length (line_text e.session r)) 0 (line-some e.session r))
 
 -- and of a second run none as long as no more is said than the lines of the first.
-turns_front : (es fs : List Event) (said : ℕ) → said ≤ length (output es) → acked_turns (es ++ fs) said ≡ acked_turns es said
+pub turns_front : (es fs : List Event) (said : ℕ) → said ≤ length (output es) → acked_turns (es ++ fs) said ≡ acked_turns es said
 turns_front [] fs said low =
     let none : said ≡ 0 = omega (arith, ap length output_no_event, low) in
     ap (acked_turns fs) none ∙ turns_before fs ∙ sym (turns_none said)
@@ -190,7 +190,7 @@ turns_front (e ∷ es) fs said low = by (turns_front es fs) e.reply refl
         ∙ sym (turns_line e es said r is)
 
 -- Behind all lines of the first no more are acknowledged than its turns and those of the second.
-turns_behind : (es fs : List Event) (said : ℕ) → acked_turns (es ++ fs) (length (output es) + said) ≤ length es + acked_turns fs said
+pub turns_behind : (es fs : List Event) (said : ℕ) → acked_turns (es ++ fs) (length (output es) + said) ≤ length es + acked_turns fs said
 turns_behind [] fs said =
     let same : acked_turns fs (length (output []) + said) ≡ acked_turns fs said = ap (acked_turns fs) (omega (arith, ap length output_no_event)) in
     omega (arith, same)

@@ -29,6 +29,7 @@ pub mod Waiting
 pub mod Pagewise
 pub mod Trail
 pub mod Steps
+pub mod NewGuids
 pub mod Gifts
 pub mod Earlier
 pub mod Words

@@ -18,6 +18,12 @@ unfoldable pub after_steps : Trail → List Step → Trail
 after_steps t [] = t
 after_steps t (s ∷ ss) = after_steps (after_step s t) ss
 
+-- the strokes among steps
+unfoldable pub strokes_in : List Step → List Stroke
+strokes_in [] = []
+strokes_in (makes s ∷ ss) = s ∷ strokes_in ss
+strokes_in (settles ∷ ss) = strokes_in ss
+
 unfoldable pub made : List Stroke → List Step
 made [] = []
 made (s ∷ ss) = makes s ∷ made ss
