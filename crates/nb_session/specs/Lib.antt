@@ -1,3 +1,4 @@
+pub mod Acts
 pub mod Causes
 pub mod Ready
 pub mod Stops

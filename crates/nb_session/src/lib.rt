@@ -1,7 +1,9 @@
 //! x
 #![tactic(auto)]
 
-mod stop;
+mod answer;
 mod sessions;
-pub use stop::Stop;
+mod stop;
+pub use answer::say;
 pub use sessions::take_turns;
+pub use stop::Stop;
