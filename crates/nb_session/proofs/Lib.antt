@@ -1,1 +1,5 @@
 pub mod SaysLaws
+pub mod GiftLaws
+pub mod StopLaws
+pub mod PlayLaws
+pub mod EventLaws
