@@ -33,7 +33,6 @@ pub mod NormalLaws
 pub mod StandsLaws
 pub mod OutputLaws
 pub mod TodoLaws
-pub mod FinishLaws
 pub mod OpeningLaws
 pub mod ReopenLaws
 pub mod PagesFit

@@ -6,7 +6,7 @@ use Rattle.std.proofs.Math.ListN.{get_or-map}
 use Rattle.nb_model.specs.declared.statement.Statement.{Statement}
 use Rattle.nb_model.specs.Outcomes.{Turn, Begins}
 use Rattle.nb_model.specs.Run.{Now, begun, AreFinished}
-use Rattle.nb_model.proofs.FinishLaws.{IsPlainTurn, ArePlain, order_ends}
+use Rattle.nb_top.proofs.FinishLaws.{IsPlainTurn, ArePlain, order_ends}
 use Rattle.nb_script.specs.Asked.{IsFurther, IsAskable}
 use Rattle.nb_script.specs.Scripts.{Plan}
 use Rattle.nb_top.proofs.FirstLaws.{turns}

@@ -1,6 +1,7 @@
 pub mod QuietRuns
 pub mod RefusedRuns
 pub mod LeftLaws
+pub mod FinishLaws
 pub mod EndLaws
 pub mod FirstLaws
 pub mod OpenedSaid
@@ -11,6 +12,9 @@ pub mod CreatingRuns
 pub mod ReopeningRuns
 pub mod ScriptRead
 pub mod ScriptRuns
+pub mod WorldLaws
+pub mod RecordLaws
+pub mod SteadyLaws
 pub mod SureRuns
 pub mod JobRuns
 pub mod JobLemmas

@@ -5,6 +5,7 @@ use Rattle.std.specs.Result.{IsErr}
 use Rattle.std.proofs.lemmas.List.{take_all}
 use Rattle.nb_host.specs.Files.{Files}
 use Rattle.nb_host.specs.World.{World}
+use Rattle.nb_host.specs.Calls.{IsStill}
 use Rattle.nb_host.specs.Crash.{Untouched}
 use Rattle.nb_host.specs.Moments.{AtEachMoment}
 use Rattle.nb_change.specs.Changes.{Other}
@@ -45,6 +46,10 @@ opened_err (Ok x) P is plays = absurd (no_err is)
     no_err : IsErr {T = Bool} {E = Stop} (Ok x) → ⊥
     no_err h = cc
 opened_err (Err e) P is plays = plays e
+
+-- what stands ready stays so while something is said
+pub ready_still : (old mid : World) (held : Held) (now : Now) → IsStill old mid → IsReady old held (settled (base_now now)) now → IsReady mid held (settled (base_now now)) now
+ready_still old mid held now still ready = record { opened = open_stays old mid held (settled (base_now now)) still ready.opened; base = ready.base; named = ready.named; running = ready.running }
 
 module _ (old mid new : World) (held after : Held) (start : Base) (now : Now) (plan : Plan) (askable : IsAskable plan) (ready : IsReady old held (settled (base_now now)) now) (todo : now.todo ≡ begun plan.sessions)
     (strokes : List Stroke) (reply : Reply) (trail : after_steps (settled start) (steps_in (first_event plan.first_session strokes reply)) ≡ settled (base_now now))
@@ -97,7 +102,7 @@ module _ (old mid new : World) (held after : Held) (start : Base) (now : Now) (p
       }
 
   pub ready_mid : IsReady mid held (settled (base_now now)) now
-  ready_mid = record { opened = open_stays old mid held (settled (base_now now)) says.still ready.opened; base = ready.base; named = ready.named; running = ready.running }
+  ready_mid = ready_still old mid held now says.still ready
 
   -- it was
   reply_said : status_after reply ≡ 0 → mid.said ≡ old.said ++ line → Plays (Ok false) old mid held held (settled start) now one

@@ -1,5 +1,5 @@
 -- A run that begins with calls that change nothing.
-use Rattle.std.proofs.Common.{◌≡◌, ℕ, List, ◌++◌, sym, ap, subst, ◌∙◌, refl}
+use Rattle.std.proofs.Common.{◌≡◌, ℕ, List, [], ◌++◌, sym, ap, subst, ◌∙◌, refl}
 use Rattle.std.specs.Prelude.{Result, Ok, Err, IfOk, Option}
 use Rattle.nb_host.specs.Files.{Files}
 use Rattle.nb_host.specs.World.{World}
@@ -19,6 +19,10 @@ use Rattle.nb_session.proofs.GiftLaws.{given_nothing, given_joined}
 use Rattle.nb_top.specs.declared.status.Status.{Status}
 use Rattle.nb_top.specs.Performed.{RunLeft, RunsTo, Finished, IsUnasked, Knows, Target, target_of}
 use Rattle.nb_top.proofs.LeftLaws.{left_first, left_before_all}
+
+-- nothing may be given
+abbrev pub no_given : Given
+no_given = record { guids = []; times = []; holds = [] }
 
 -- nothing was given
 pub quiet_gave : (old mid : World) → Quiet old mid → GaveNothing old mid

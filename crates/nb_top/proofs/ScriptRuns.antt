@@ -6,6 +6,7 @@ use Rattle.nb_fields.specs.Fresh.{fresh}
 use Rattle.nb_host.specs.World.{World}
 use Rattle.nb_host.specs.declared.faults.Fault.{Fault}
 use Rattle.nb_host.specs.declared.refusals.Refusal.{Refusal}
+use Rattle.nb_change.specs.Gave.{GaveNothing}
 use Rattle.nb_page.specs.Quiet.{Quiet}
 use Rattle.nb_model.specs.declared.statement.Statement.{Statement}
 use Rattle.nb_model.specs.declared.statement.Statement.TheVariants.{CreateDb, OpenDb}
@@ -19,6 +20,7 @@ use Rattle.nb_session.specs.declared.stop.Stop.{Stop}
 use Rattle.nb_top.specs.declared.status.Status.{Status}
 use Rattle.nb_top.specs.Performed.{RunsTo, Knows, KnowsFirst}
 use Rattle.nb_top.proofs.Beginnings.{Beginning}
+use Rattle.nb_top.proofs.QuietRuns.{quiet_gave}
 use Rattle.nb_top.proofs.CreatingRuns.{creates_begins, creating_unbegun}
 use Rattle.nb_top.proofs.ReopeningRuns.{attaches_begins, open_fails}
 
@@ -62,7 +64,17 @@ module _ (old : World) (account : Account) (given : Given) (plan : Plan) (askabl
       by (creates name size raw cache is) = creating_unbegun old account given plan askable name size raw cache is (knows_first (CreateDb name size raw cache) is) new e quiet
       by (opens name cache is) = open_fails old account given plan askable name cache is (knows_first (OpenDb name cache) is) new e quiet
 
-  -- the call of the first statement
+  -- the call of the first statement asks for no GUID and no time
+  pub first_gave : (mid : World) (result : Result Held Fault)
+      → ((name : List ℕ) (size raw cache : ℕ) → plan.first ≡ CreateDb name size raw cache → Creates result old mid name (fresh size raw))
+      → ((name : List ℕ) (cache : ℕ) → plan.first ≡ OpenDb name cache → Quiet old mid) → GaveNothing old mid
+  first_gave mid result creating quiet = by (first_opens plan.first askable.first)
+    where
+      by : Opens plan.first → GaveNothing old mid
+      by (creates name size raw cache is) = (creating name size raw cache is).gave
+      by (opens name cache is) = quiet_gave old mid (quiet name cache is)
+
+  -- what it gives to the run
   pub script_begins : (mid : World) (result : Result Held Fault)
       → ((name : List ℕ) (size raw cache : ℕ) → plan.first ≡ CreateDb name size raw cache → Creates result old mid name (fresh size raw))
       → ((name : List ℕ) (cache : ℕ) → plan.first ≡ OpenDb name cache → Attaches result old mid name)

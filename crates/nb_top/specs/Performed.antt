@@ -153,12 +153,12 @@ pub record HoldsKept (files : Files) (kept : List Kept) : Type 0 where
   pub stands : Stands files account
   pub same : account.kept ≡ kept
 
--- The files stand for the account, and whatever a stop now leaves stands for an account with the same records. Beside a free name a
--- stop brings no difference file back.
+-- The files stand for the account, and whatever a stop now leaves stands for an account with the same records. Where a name is free and no
+-- difference file stands beside it, a stop brings none back.
 pub record StandsFor (w : World) (account : Account) : Type 0 where
   pub now : Stands w.files account
   pub left : (files : Files) → LeavesAll w files → HoldsKept files account.kept
-  pub free : (name : List ℕ) → is_delta name ≡ false → is_free_name w.files name ≡ true → (d : File) → Leaves w (delta_name name) d → d ≡ None
+  pub free : (name : List ℕ) → is_delta name ≡ false → is_free_file (w.files name) ≡ true → w.files (delta_name name) ≡ None → (d : File) → Leaves w (delta_name name) d → d ≡ None
 
 -- The files stand for the account as the run begins, and the GUIDs that its backups take are new. Those are the GUIDs that were given in
 -- the call, and where it ended early also those that may still come.
