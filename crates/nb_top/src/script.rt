@@ -51,11 +51,9 @@ fn say_line<H: Host>(alloc: Global, host: &mut H, session: u32, reply: &Reply) -
     ensures gave { GaveNothing (H.world host.old) (H.world host.new) }
     ensures cause { CountsStop result (H.faults host.old) (H.faults host.new) }
 {
-    match say(alloc, host, session, reply) {
+    match settled(say(alloc, host, session, reply))? {
         Ok(()) => Ok(()),
-        Err(Fault::Device) => Err(Stop::Device),
-        Err(Fault::Memory) => Err(Stop::Memory),
-        Err(Fault::Refused(_)) => unreachable!(),
+        Err(_) => unreachable!(),
     }
 }
 
