@@ -1,9 +1,10 @@
 -- A merge is under way of one session at most, and then the database is in the merge state: so it stays from turn to turn, and each turn
 -- keeps what was seen well.
-use Rattle.std.proofs.Common.{◌≡◌, ◌≢◌, inl, inr, ⊎_elim, ◌⊎◌, ℕ, zero, suc, ◌+◌, ◌-◌, ◌≤◌, List, [], ◌∷◌, ◌++◌, length, take, replicate, get_or, set, refl, sym, ap, subst, ◌∙◌, arith}
-use Rattle.std.specs.Prelude.{Bool, Option, Some, None, true, false, Contains, ◌==◌, nat_lt, not, nat_eq}
+use Rattle.std.proofs.Common.{◌≡◌, ◌≢◌, inl, inr, ⊎_elim, ◌⊎◌, ℕ, zero, suc, ◌+◌, ◌-◌, ◌<◌, ◌≤◌, List, [], ◌∷◌, ◌++◌, length, take, replicate, get_or, set, refl, sym, ap, subst, ◌∙◌, arith}
+use Rattle.std.specs.Prelude.{Bool, Option, Some, None, true, false, Contains, ◌==◌, ◌&&◌, ◌||◌, nat_le, nat_lt, not}
 use Rattle.std.specs.List.{AllByRecursion}
 use Rattle.std.proofs.lemmas.Bool.Decides.{eqb_tells, ltb_tells, leb_tells}
+use Rattle.std.proofs.lemmas.Bool.{eqb-true, true≢false, and_from, le-leb}
 use Rattle.std.proofs.lemmas.List.{append-nil, take_all, get_or_past, get_or-set_same, get_or-set_other}
 use Rattle.std.proofs.lemmas.List.Elements.{Contains-append_left, Contains-append_right}
 use Rattle.nb_host.specs.declared.refusals.Refusal.{Refusal}
@@ -15,17 +16,27 @@ use Rattle.nb_model.specs.declared.statement.Statement.TheVariants.{CreateDb, Op
 use Rattle.nb_model.specs.Account.{Kept, Base}
 use Rattle.nb_model.specs.Built.{is_built}
 use Rattle.nb_model.specs.Causes.{Cause, first_cause, when, read_only, not_state, no_scn, runs_other}
-use Rattle.nb_model.specs.Image.{Image, image_state, image_scn}
+use Rattle.nb_fields.specs.Places.{is_page_size}
+use Rattle.nb_fields.proofs.PartLemmas.{length-part}
+use Rattle.nb_model.specs.Image.{Image, first_page, image_size, image_state, image_scn, image_guid}
 use Rattle.nb_model.specs.NewGuids.{guids_in}
-use Rattle.nb_model.specs.Outcomes.{Turn, Begins, Copies, ClosesBackup, ClosesCopy, Ends, Merges, Finishes, Seen, Outcome, next_guid, says, unless, without_guid}
-use Rattle.nb_model.specs.Pages.{begin_turn, end_turn, ends_by, end_scn, end_strokes}
+use Rattle.nb_model.specs.Outcomes.{Turn, Begins, Copies, ClosesBackup, ClosesCopy, Ends, Merges, Finishes, Seen, Outcome, next_guid, says, unless, changes, without_guid}
+use Rattle.nb_model.specs.Pages.{new_turn, write_turn, read_turn, free_turn, forced_turn, access_turn, begin_turn, end_turn, ends_by, end_scn, end_strokes}
 use Rattle.nb_model.specs.Run.{Event, Now, Played, base_now, event_of, outcome, stands_then, take_turn, one_turn, play, strokes_of}
 use Rattle.nb_model.specs.Steps.{Step, after_steps, made, steps_in, steps_of}
-use Rattle.nb_model.specs.Strokes.{Stroke, begin, ends, finish, base_after}
+use Rattle.nb_model.specs.Strokes.{Stroke, begin, ends, finish, on_base, base_after}
 use Rattle.nb_model.specs.Trail.{Trail}
 use Rattle.nb_model.specs.Turns.{first_turn, turn}
-use Rattle.nb_model.specs.Well.{is_on_pages}
+use Rattle.nb_model.specs.Well.{IsWellBaseIn, is_on_pages}
 use Rattle.nb_model.specs.WellTrail.{IsWellTrail}
+use Rattle.nb_model.specs.Sound.{HasHeader, IsSoundImage}
+use Rattle.nb_model.proofs.ControlSound.{new_state}
+use Rattle.nb_model.proofs.HeaderLaws.{header-long, header-size, header-room}
+use Rattle.nb_model.proofs.FitLaws.{AreFitting, front_keeps}
+use Rattle.nb_model.proofs.PagesFit.{HasNoRows, pages_fit}
+use Rattle.nb_model.proofs.SoundLaws.{state_stays}
+use Rattle.nb_model.proofs.TodoLaws.{new_single, write_single, read_single, free_single, forced_single, access_single, sync_single}
+use Rattle.nb_model.proofs.WellTrailLaws.{base_whole}
 use Rattle.nb_top.proofs.SteadyLaws.{WellAlong, pages_along, begin_along, ends_along, finish_along, settling_along, along_append}
 
 -- the turn begins a statement that can be asked today
@@ -61,28 +72,254 @@ pub record IsMergeOf (now : Now) (place : ℕ) : Type 0 where
 abbrev pub IsSteady : Now → Type 0
 IsSteady now = (place : ℕ) → AllByRecursion IsBeginning (get_or now.todo place []) ⊎ IsMergeOf now place
 
+false_true : false ≡ true → ⊥
+false_true h = cc
+
 merge_turns : (n : ℕ) (reply : Reply) (rest : List Turn) → AllByRecursion IsBeginning rest → AreMerging ((replicate n Merges ++ Finishes reply ∷ []) ++ rest)
 merge_turns zero reply rest all = all
 merge_turns (suc n) reply rest all = merge_turns n reply rest all
 
+-- no cause applies, so the first doesn't and none of the others
+first_parts : (c : Cause) (cs : List Cause) → first_cause (c ∷ cs) ≡ None → (c ≡ None) × (first_cause cs ≡ None)
+unfolding first_cause
+first_parts None cs h = (refl, h)
+first_parts (Some r) cs h = absurd (some_none h)
+  where
+    some_none : Some r ≡ None → ⊥
+    some_none e = cc
+
+when_not : (test : Bool) (r : Refusal) → when test r ≡ None → test ≡ false
+when_not true r h = absurd (some_none h)
+  where
+    some_none : Some r ≡ None → ⊥
+    some_none e = cc
+when_not false r h = refl
+
+is_true : (b : Bool) → not b ≡ false → b ≡ true
+is_true true h = refl
+is_true false h = cc
+
 -- where a backup may begin
 begin_facts : (image : Image) → first_cause (read_only image ∷ not_state 0 image ∷ no_scn image ∷ []) ≡ None → (image_state image ≡ 0) × (image_scn image ≤ 4294967293)
-unfolding first_cause
-begin_facts image none = by_read (read_only image) none
+begin_facts image none =
+    let state = first_parts (not_state 0 image) (no_scn image ∷ []) (first_parts (read_only image) (not_state 0 image ∷ no_scn image ∷ []) none).1 in
+    let scn = first_parts (no_scn image) [] state.1 in
+    (eqb-true (image_state image) 0 (is_true (image_state image == 0) (when_not (not (image_state image == 0)) _ state.0)),
+    not_less 4294967293 (image_scn image) (when_not (nat_lt 4294967293 (image_scn image)) _ scn.0))
   where
-    some_none : (r : Refusal) → Some r ≡ None → ⊥
-    some_none r h = cc
+    not_less : (m n : ℕ) → nat_lt m n ≡ false → n ≤ m
+    not_less m n is = elim (ltb_tells m n) [ inl w ↦ absurd (true≢false (sym w.0 ∙ is)) | inr w ↦ omega (arith, w.1) ]
 
-    by_scn : (test : Bool) → nat_lt 4294967293 (image_scn image) ≡ test → when test (ScnExhausted (image_scn image)) ≡ None → image_scn image ≤ 4294967293
-    by_scn true is h = absurd (some_none _ h)
-    by_scn false is h = elim (ltb_tells 4294967293 (image_scn image)) [ inl w ↦ absurd (true_false (sym w.0 ∙ is)) | inr w ↦ omega (arith, w.1) ]
-      where
-        true_false : true ≡ false → ⊥
-        true_false e = cc
+-- where a merge may begin: in the stalled or the merge state, and no other session's runs
+end_facts : (image : Image) (running : Option ℕ) (session : ℕ) → first_cause (when (image_state image == 0) (WrongState 0) ∷ runs_other running session ∷ []) ≡ None → (image_state image ≢ 0) × (runs_other running session ≡ None)
+end_facts image running session none =
+    let state = first_parts (when (image_state image == 0) (WrongState 0)) (runs_other running session ∷ []) none in
+    (λ e. true≢false (sym (ap (λ (n : ℕ). n == 0) e) ∙ when_not (image_state image == 0) _ state.0), (first_parts (runs_other running session) [] state.1).0)
 
-    by_state : (test : Bool) → (image_state image == 0) ≡ test → first_cause (when (not test) (WrongState (image_state image)) ∷ no_scn image ∷ []) ≡ None → (image_state image ≡ 0) × (image_scn image ≤ 4294967293)
-    by_state = ?
+not_equal : (m n : ℕ) → (m == n) ≡ false → m ≢ n
+not_equal m n is = elim (eqb_tells m n) [ inl w ↦ absurd (true≢false (sym w.0 ∙ is)) | inr w ↦ w.1 ]
 
-    by_read : (c : Cause) → first_cause (c ∷ not_state 0 image ∷ no_scn image ∷ []) ≡ None → (image_state image ≡ 0) × (image_scn image ≤ 4294967293)
-    by_read (Some r) h = absurd (some_none r h)
-    by_read None h = by_state (image_state image == 0) refl h
+its_own : (other session : ℕ) → runs_other (Some other) session ≡ None → other ≡ session
+its_own other session none = eqb-true other session (is_true (other == session) (when_not (not (other == session)) _ none))
+
+-- What a turn does where it comes: it keeps what was seen well, leaves turns of its session as they may be, and a merge of another
+-- session as it is.
+record IsTurn (kept : List Kept) (t : Trail) (now : Now) (session : ℕ) (o : Outcome) (rest : List Turn) : Type 0 where
+  along : WellAlong kept t (made o.strokes)
+  own : AllByRecursion IsBeginning (o.next ++ rest) ⊎ (AreMerging (o.next ++ rest) × (by : ℕ) × (o.running ≡ Some by) × (by - 1 ≡ session - 1) × (image_state (base_after t.base o.strokes).image ≡ 2))
+  others : (other : ℕ) → other - 1 ≢ session - 1 → now.running ≡ Some other → image_state t.base.image ≡ 2 → (o.running ≡ Some other) × (image_state (base_after t.base o.strokes).image ≡ 2)
+
+-- it does nothing
+none_after : (b : Base) → base_after b [] ≡ b
+unfolding base_after
+none_after b = refl
+
+unless_running : (s : Seen) (c : Cause) (o : Outcome) → o.running ≡ s.running → (unless s c o).running ≡ s.running
+unfolding unless
+unless_running s None o h = h
+unless_running s (Some r) o h = refl
+
+pages_running : (statement : Statement) → is_built statement ≡ true → is_on_pages statement ≡ true → (s : Seen) (session : ℕ) → (first_turn s session statement).running ≡ s.running
+unfolding first_turn new_turn write_turn read_turn free_turn forced_turn access_turn changes
+pages_running (CreateDb name size raw cache) is on s session = refl
+pages_running (OpenDb name cache) is on s session = refl
+pages_running PageNew is on s session = unless_running s _ _ refl
+pages_running (Write p text) is on s session = unless_running s _ _ refl
+pages_running (Read p) is on s session = unless_running s _ _ refl
+pages_running (Free p) is on s session = unless_running s _ _ refl
+pages_running (Forced forced) is on s session = unless_running s _ _ refl
+pages_running (Access closed) is on s session = unless_running s _ _ refl
+pages_running Sync is on s session = refl
+pages_running other is on s session = absurd (false_true is)
+
+pages_single : (statement : Statement) → is_built statement ≡ true → is_on_pages statement ≡ true → (s : Seen) (session : ℕ) → (first_turn s session statement).next ≡ []
+unfolding first_turn
+pages_single (CreateDb name size raw cache) is on s session = refl
+pages_single (OpenDb name cache) is on s session = refl
+pages_single PageNew is on s session = new_single s session
+pages_single (Write p text) is on s session = write_single p text s session
+pages_single (Read p) is on s session = read_single p s session
+pages_single (Free p) is on s session = free_single p s session
+pages_single (Forced forced) is on s session = forced_single forced s session
+pages_single (Access closed) is on s session = access_single closed s session
+pages_single Sync is on s session = sync_single s session
+pages_single other is on s session = absurd (false_true is)
+
+pages_state : (statement : Statement) → is_on_pages statement ≡ true → (s : Seen) (session : ℕ) (kept : List Kept) (t : Trail) → s.base ≡ t.base → IsWellTrail kept t
+    → image_state (base_after t.base (first_turn s session statement).strokes).image ≡ image_state t.base.image
+pages_state statement on s session kept t is w =
+    let header : HasHeader s.base.image = subst (λ (b : Base). HasHeader b.image) (sym is) (record { header = w.base.well.header; scn = w.base.well.scn }) in
+    let sound : IsSoundImage s.base.image = subst (λ (b : Base). IsSoundImage b.image) (sym is) w.base.well.sound in
+    let ss : List Stroke = (first_turn s session statement).strokes in
+    let front = front_keeps (λ image. image_state image ≡ image_state t.base.image) HasNoRows (λ image p bytes fields sound fits none same. state_stays image p bytes fields sound fits ∙ same) ss t.base
+    (subst (λ (b : Base). AreFitting HasNoRows b ss) is (pages_fit statement on s session header sound)) (base_whole kept t.base w.base) refl (length ss) in
+    subst (λ (xs : List Stroke). image_state (base_after t.base xs).image ≡ image_state t.base.image) (take_all (length ss) ss (omega arith)) front
+
+-- the GUIDs of these strokes have 16 bytes
+abbrev pub AreSixteen : List Stroke → Type 0
+AreSixteen ss = (guid : List ℕ) → Contains (guids_in ss) guid → length guid ≡ 16
+
+-- the header that the end of the stalled state writes
+ends_state : (kept : List Kept) (b : Base) → IsWellBaseIn kept b → image_state b.image ≡ 1 → image_state (base_after b (ends ∷ [])).image ≡ 2
+unfolding base_after on_base
+ends_state kept b w stalled = new_state 2 (image_scn b.image + 1) (image_guid b.image) b.image header w.well.sound (record {
+  sixteen = length-part 32 16 (first_page b.image) (omega (arith, header-long (first_page b.image) w.well.header));
+  four = omega (arith, room);
+  later = omega arith;
+  known = omega arith;
+  sound = and_from (nat_le 2 3 && is_page_size (image_size b.image) && nat_le 1 (image_scn b.image + 1)) (not (2 == 1) || nat_lt (image_scn b.image + 1) 4294967295)
+      (and_from (nat_le 2 3 && is_page_size (image_size b.image)) (nat_le 1 (image_scn b.image + 1)) (header-size (first_page b.image) w.well.header) (le-leb 1 (image_scn b.image + 1) (omega arith))) refl;
+})
+  where
+    header : HasHeader b.image
+    header = record { header = w.well.header; scn = w.well.scn }
+
+    room : image_scn b.image < 4294967295
+    room = header-room (first_page b.image) w.well.header stalled
+
+module _ (kept : List Kept) (t : Trail) (now : Now) (session : ℕ) (rest : List Turn) (base : t.base ≡ base_now now) (w : IsWellTrail kept t) where
+  abbrev s : Seen
+  s = record { base = base_now now; cache = now.cache; running = now.running; entry = now.account.entry; given = now.given }
+
+  -- it is refused
+  refused_turn : (r : Refusal) → AllByRecursion IsBeginning rest → IsTurn kept t now session (says s (Refused r) []) rest
+  unfolding made base_after
+  refused_turn r all = record { along = w; own = inl all; others = λ other off running state. (running, state) }
+
+  pages_turn : (statement : Statement) → is_built statement ≡ true → is_on_pages statement ≡ true → AllByRecursion IsBeginning rest → IsTurn kept t now session (first_turn s session statement) rest
+  pages_turn statement is on all = record {
+    along = pages_along kept statement on s session t (sym base) w;
+    own = inl (subst (λ (xs : List Turn). AllByRecursion IsBeginning (xs ++ rest)) (sym (pages_single statement is on s session)) all);
+    others = λ other off running state. (pages_running statement is on s session ∙ running, pages_state statement on s session kept t (sym base) w ∙ state);
+  }
+
+  begin_turn_is : AllByRecursion IsBeginning rest → AreSixteen (begin_turn s).strokes → IsTurn kept t now session (begin_turn s) rest
+  unfolding begin_turn unless
+  begin_turn_is all sixteen = by (first_cause (read_only s.base.image ∷ not_state 0 s.base.image ∷ no_scn s.base.image ∷ [])) refl sixteen
+    where
+      abbrev begun : Outcome
+      begun = record {
+        strokes = begin (next_guid s.given) None ∷ [];
+        reply = Some (Scn (image_scn s.base.image + 1));
+        next = [];
+        running = s.running;
+        made = None;
+        given = without_guid s.given;
+      }
+
+      by : (c : Cause) → first_cause (read_only s.base.image ∷ not_state 0 s.base.image ∷ no_scn s.base.image ∷ []) ≡ c
+          → AreSixteen (elim c as (λ z. Outcome) [ Some refusal ↦ says s (Refused refusal) [] | None ↦ begun ]).strokes
+          → IsTurn kept t now session (elim c as (λ z. Outcome) [ Some refusal ↦ says s (Refused refusal) [] | None ↦ begun ]) rest
+      by (Some r) is sixteen = refused_turn r all
+      by None is sixteen =
+          let facts = begin_facts s.base.image is in
+          let normal : image_state t.base.image ≡ 0 = ap (λ (b : Base). image_state b.image) base ∙ facts.0 in
+          record {
+            along = begin_along kept t (next_guid s.given) w normal (sixteen (next_guid s.given) (first_guid (next_guid s.given))) (omega (arith, ap (λ (b : Base). image_scn b.image) base, facts.1));
+            own = inl all;
+            others = λ other off running state. absurd (omega (arith, normal, state));
+          }
+        where
+          first_guid : (guid : List ℕ) → Contains (guids_in (begin guid None ∷ [])) guid
+          unfolding guids_in
+          first_guid guid = (0, omega arith, refl)
+
+  end_turn_is : AllByRecursion IsBeginning rest → IsTurn kept t now session (end_turn s session) rest
+  unfolding end_turn unless ends_by end_strokes made base_after
+  end_turn_is all = by (first_cause (when (image_state s.base.image == 0) (WrongState 0) ∷ runs_other s.running session ∷ [])) refl
+    where
+      by : (c : Cause) → first_cause (when (image_state s.base.image == 0) (WrongState 0) ∷ runs_other s.running session ∷ []) ≡ c
+          → IsTurn kept t now session (elim c as (λ z. Outcome) [ Some refusal ↦ says s (Refused refusal) [] | None ↦ ends_by s session (Scn (end_scn s.base.image)) ]) rest
+      by (Some r) is = refused_turn r all
+      by None is = strokes (image_state s.base.image == 1) refl
+        where
+          facts = end_facts s.base.image s.running session is
+
+          abbrev o : List Stroke → Outcome
+          o ss = record { strokes = ss; reply = None; next = replicate (length s.base.diverted) Merges ++ Finishes (Scn (end_scn s.base.image)) ∷ []; running = Some session; made = None; given = s.given }
+
+          off_own : (other : ℕ) → other - 1 ≢ session - 1 → now.running ≡ Some other → ⊥
+          off_own other off running = off (ap (λ (n : ℕ). n - 1) (its_own other session (sym (ap (λ (r : Option ℕ). runs_other r session) running) ∙ facts.1)))
+
+          with_strokes : (ss : List Stroke) → WellAlong kept t (made ss) → image_state (base_after t.base ss).image ≡ 2 → IsTurn kept t now session (o ss) rest
+          with_strokes ss along state = record {
+            along = along;
+            own = inr (merge_turns (length s.base.diverted) (Scn (end_scn s.base.image)) rest all, session, refl, refl, state);
+            others = λ other off running before. absurd (off_own other off running);
+          }
+
+          same_state : image_state t.base.image ≡ image_state s.base.image
+          same_state = ap (λ (b : Base). image_state b.image) base
+
+          strokes : (test : Bool) → (image_state s.base.image == 1) ≡ test → IsTurn kept t now session (o (elim test as (λ z. List Stroke) [ true ↦ ends ∷ [] | false ↦ [] ])) rest
+          strokes true is =
+              let stalled : image_state t.base.image ≡ 1 = same_state ∙ eqb-true (image_state s.base.image) 1 is in
+              with_strokes (ends ∷ []) (ends_along kept t w stalled) (ends_state kept t.base w.base stalled)
+          strokes false is =
+              let state : image_state t.base.image ≡ 2 = omega (arith, same_state, w.base.state, facts.0, not_equal (image_state s.base.image) 1 is) in
+              with_strokes [] w state
+
+  merges_turn : AreMerging rest → (by : ℕ) → now.running ≡ Some by → by - 1 ≡ session - 1 → image_state t.base.image ≡ 2 → IsTurn kept t now session (outcome session Merges now) rest
+  unfolding outcome turn made base_after
+  merges_turn turns by running its state = record { along = w; own = inr (turns, by, running, its, state); others = λ other off run before. (run, before) }
+
+  finishes_turn : (reply : Reply) → AllByRecursion IsBeginning rest → (by : ℕ) → now.running ≡ Some by → by - 1 ≡ session - 1 → image_state t.base.image ≡ 2 → IsTurn kept t now session (outcome session (Finishes reply) now) rest
+  unfolding outcome turn
+  finishes_turn reply all by running its state = record {
+    along = finish_along kept t w state;
+    own = inl all;
+    others = λ other off run before. absurd (off (ap (λ (n : ℕ). n - 1) (same by other (sym running ∙ run)) ∙ its));
+  }
+    where
+      same : (m n : ℕ) → Some m ≡ Some n → n ≡ m
+      same m n e = cc
+
+-- what comes to a session's turn
+module _ (kept : List Kept) (t : Trail) (now : Now) (session : ℕ) (base : t.base ≡ base_now now) (w : IsWellTrail kept t) (steady : IsSteady now) (u : Turn) (rest : List Turn) (is : get_or now.todo (session - 1) [] ≡ u ∷ rest) where
+  turn_is : AreSixteen (outcome session u now).strokes → IsTurn kept t now session (outcome session u now) rest
+  turn_is sixteen = ⊎_elim (λ all. begins u (subst (AllByRecursion IsBeginning) is all) sixteen) (λ merge. merges u (subst AreMerging is merge.turns) merge) (steady (session - 1))
+    where
+      begins : (x : Turn) → AllByRecursion IsBeginning (x ∷ rest) → AreSixteen (outcome session x now).strokes → IsTurn kept t now session (outcome session x now) rest
+      unfolding outcome turn
+      begins (Begins statement) all sixteen = by statement all.0 sixteen
+        where
+          by : (statement : Statement) → is_built statement ≡ true → AreSixteen (first_turn (s kept t now session rest base w) session statement).strokes → IsTurn kept t now session (first_turn (s kept t now session rest base w) session statement) rest
+          unfolding first_turn
+          by BeginBackup built sixteen = begin_turn_is kept t now session rest base w all.1 sixteen
+          by EndBackup built sixteen = end_turn_is kept t now session rest base w all.1
+          by (CreateDb name size raw cache) built sixteen = pages_turn kept t now session rest base w (CreateDb name size raw cache) built refl all.1
+          by (OpenDb name cache) built sixteen = pages_turn kept t now session rest base w (OpenDb name cache) built refl all.1
+          by PageNew built sixteen = pages_turn kept t now session rest base w PageNew built refl all.1
+          by (Write p text) built sixteen = pages_turn kept t now session rest base w (Write p text) built refl all.1
+          by (Read p) built sixteen = pages_turn kept t now session rest base w (Read p) built refl all.1
+          by (Free p) built sixteen = pages_turn kept t now session rest base w (Free p) built refl all.1
+          by (Forced on) built sixteen = pages_turn kept t now session rest base w (Forced on) built refl all.1
+          by (Access closed) built sixteen = pages_turn kept t now session rest base w (Access closed) built refl all.1
+          by Sync built sixteen = pages_turn kept t now session rest base w Sync built refl all.1
+          by other built sixteen = absurd (false_true built)
+      begins other all sixteen = absurd all.0
+
+      merges : (x : Turn) → AreMerging (x ∷ rest) → IsMergeOf now (session - 1) → IsTurn kept t now session (outcome session x now) rest
+      merges Merges turns merge = merges_turn kept t now session rest base w turns merge.by merge.running merge.its (ap (λ (b : Base). image_state b.image) base ∙ merge.state)
+      merges (Finishes reply) turns merge = finishes_turn kept t now session rest base w reply turns merge.by merge.running merge.its (ap (λ (b : Base). image_state b.image) base ∙ merge.state)
+      merges other turns merge = absurd turns
