@@ -47,7 +47,7 @@ use Rattle.nb_session.specs.declared.stop.Stop.{Stop}
 use Rattle.nb_session.specs.Stops.{IsSaid}
 use Rattle.nb_top.specs.Performed.{RunLeft, RunsTo, IsPerformed, KnowsFirst, opened_reply, refused_at, seen_after, target_of}
 use Rattle.nb_top.proofs.QuietRuns.{left_quietly, quiet_gave}
-use Rattle.nb_top.proofs.FirstLaws.{First, first_created, created_base}
+use Rattle.nb_top.proofs.FirstLaws.{First, first_created, created_base, turns}
 use Rattle.nb_top.proofs.BegunRuns.{Left, events, first_one, first_fails}
 use Rattle.nb_top.proofs.Beginnings.{Beginning, FirstRefused, FirstDone}
 
@@ -93,18 +93,21 @@ module _ (old : World) (account : Account) (given : Given) (plan : Plan) (askabl
     abbrev first : First account given plan
     first = first_created account given plan name size raw cache first_is free
 
+    abbrev es : ℕ → List Event
+    es n = events old account given plan askable first n
+
+    abbrev one : Event
+    one = first_one old account given plan askable first
+
+    abbrev later : ℕ → List Event
+    later n = (turns plan first.now n).0
+
     -- while it is created
     left_creating : (n : ℕ) (files : Files) (said : List ℕ) → ChangedLeft old (Only name) (CreateLeft old name image) files said → Left old account given plan askable first n files said
     unfolding first_created
     left_creating n files said left = ⊎_elim was (⊎_elim unfinished whole) left.has
       where
-        abbrev es : List Event
-        es = events old account given plan askable first n
-
-        abbrev one : Event
-        one = first_one old account given plan askable first
-
-        out : IsSaid old es said
+        out : IsSaid old (es n) said
         out = record { part = []; is = left.output ∙ sym (append-nil old.said); front = refl }
 
         unasked : (m : List ℕ) → (OfFiles name m → ⊥) → Leaves old m (files m)
@@ -117,8 +120,8 @@ module _ (old : World) (account : Account) (given : Given) (plan : Plan) (askabl
         was is = record {
           out = out;
           count = 0;
-          front = record { most = omega arith; acknowledged = omega (arith, acked_steps_none es) };
-          database = inr (record { none = refl; unsaid = turns_before es; main = inl is; delta = beside });
+          front = record { most = omega arith; acknowledged = omega (arith, acked_steps_none (es n)) };
+          database = inr (record { none = refl; unsaid = turns_before (es n); main = inl is; delta = beside });
           others = unasked;
         }
 
@@ -126,18 +129,18 @@ module _ (old : World) (account : Account) (given : Given) (plan : Plan) (askabl
         unfinished is = record {
           out = out;
           count = 0;
-          front = record { most = omega arith; acknowledged = omega (arith, acked_steps_none es) };
-          database = inr (record { none = refl; unsaid = turns_before es; main = inr (refl, is); delta = beside });
+          front = record { most = omega arith; acknowledged = omega (arith, acked_steps_none (es n)) };
+          database = inr (record { none = refl; unsaid = turns_before (es n); main = inr (refl, is); delta = beside });
           others = unasked;
         }
 
         -- all steps of the creation
-        cut : take (length (steps_in one)) (steps_of es) ≡ steps_in one
+        cut : take (length (steps_in one)) (steps_of (es n)) ≡ steps_in one
         cut =
-            ap (take (length (steps_in one))) (steps_append (one ∷ []) (Rattle.nb_top.proofs.FirstLaws.turns plan first.now n).0 ∙ ap (λ (ss : List Step). ss ++ steps_of (Rattle.nb_top.proofs.FirstLaws.turns plan first.now n).0) (steps_one one))
-            ∙ take-append-le (length (steps_in one)) (steps_in one) (steps_of (Rattle.nb_top.proofs.FirstLaws.turns plan first.now n).0) (omega arith) ∙ take_all (length (steps_in one)) (steps_in one) (omega arith)
+            ap (take (length (steps_in one))) (steps_append (one ∷ []) (later n) ∙ ap (λ (ss : List Step). ss ++ steps_of (later n)) (steps_one one))
+            ∙ take-append-le (length (steps_in one)) (steps_in one) (steps_of (later n)) (omega arith) ∙ take_all (length (steps_in one)) (steps_in one) (omega arith)
 
-        seen : seen_after account name (take (length (steps_in one)) (steps_of es)) ≡ settled (base_of image)
+        seen : seen_after account name (take (length (steps_in one)) (steps_of (es n))) ≡ settled (base_of image)
         seen = ap (seen_after account name) cut ∙ first.trail ∙ ap settled (created_base account given plan name size raw cache first_is free)
 
         whole : ShowsIn name (base_of image) files → Left old account given plan askable first n files said
@@ -145,8 +148,8 @@ module _ (old : World) (account : Account) (given : Given) (plan : Plan) (askabl
           out = out;
           count = length (steps_in one);
           front = record {
-            most = omega (arith, steps_length (one ∷ []) (Rattle.nb_top.proofs.FirstLaws.turns plan first.now n).0, ap length (steps_one one));
-            acknowledged = omega (arith, acked_steps_none es);
+            most = omega (arith, steps_length (one ∷ []) (later n), ap length (steps_one one));
+            acknowledged = omega (arith, acked_steps_none (es n));
           };
           database = inl (subst (λ (t : Trail). StandsIn name t files) (sym seen) (shows_settled name (base_of image) (files name) (files (delta_name name)) is));
           others = unasked;

@@ -32,7 +32,7 @@ IsPlainTurn Merges = Unit {0}
 IsPlainTurn (Finishes reply) = Unit {0}
 
 -- how many statements are still to begin
-pub begins_in : List Turn → ℕ
+abbrev pub begins_in : List Turn → ℕ
 begins_in [] = 0
 begins_in (Begins statement ∷ ts) = suc (begins_in ts)
 begins_in (Copies ∷ ts) = begins_in ts
@@ -43,8 +43,8 @@ begins_in (Merges ∷ ts) = begins_in ts
 begins_in (Finishes reply ∷ ts) = begins_in ts
 
 begins_append : (xs ys : List Turn) → begins_in (xs ++ ys) ≡ begins_in xs + begins_in ys
-begins_append [] ys = refl
-begins_append (Begins statement ∷ xs) ys = ap suc (begins_append xs ys)
+begins_append [] ys = omega arith
+begins_append (Begins statement ∷ xs) ys = omega (arith, begins_append xs ys)
 begins_append (Copies ∷ xs) ys = begins_append xs ys
 begins_append (ClosesBackup backing ∷ xs) ys = begins_append xs ys
 begins_append (ClosesCopy name ∷ xs) ys = begins_append xs ys
@@ -256,7 +256,7 @@ play_keeps [] now plain = keeps_still now plain
 play_keeps (x ∷ xs) now plain =
     let one : Keeps (one_turn x now).1 now = one_keeps x now plain in
     let rest : Keeps (play xs (one_turn x now).1).1 (one_turn x now).1 = play_keeps xs (one_turn x now).1 one.plain in
-    record { no_more = no_more_then _ _ _ rest.no_more one.no_more; plain = rest.plain; same = rest.same ∙ one.same }
+    record { no_more = no_more_then (play xs (one_turn x now).1).1 (one_turn x now).1 now rest.no_more one.no_more; plain = rest.plain; same = rest.same ∙ one.same }
 
 -- and less, unless each of their sessions had finished
 play_tells : (order : List ℕ) (now : Now) → ArePlain now → AllByRecursion (λ (x : ℕ). get_or now.todo (x - 1) [] ≡ []) order ⊎ IsLess (play order now).1 now
@@ -265,16 +265,13 @@ play_tells [] now plain = inl tt
 play_tells (x ∷ xs) now plain = elim (one_tells x now plain) [
   | inl idle ↦
       ⊎_elim (λ all. inl (idle.0, all)) (λ less. inr (subst (λ (p : Played). IsLess (play xs p.1).1 now) (sym idle.1) less)) (play_tells xs now plain)
-  | inr steps ↦ inr (less_more _ _ _ (play_keeps xs (one_turn x now).1 steps.plain).no_more steps.less)
+  | inr steps ↦ inr (less_more (play xs (one_turn x now).1).1 (one_turn x now).1 now (play_keeps xs (one_turn x now).1 steps.plain).no_more steps.less)
 ]
 
 -- the sessions from one on
-from : (first count : ℕ) → List ℕ
+abbrev from : (first count : ℕ) → List ℕ
 from first zero = []
 from first (suc count) = first ∷ from (suc first) count
-
-sessions_are : all_sessions ≡ from 1 16
-sessions_are = refl
 
 finished_from : (count first : ℕ) (now : Now) → AllByRecursion (λ (x : ℕ). get_or now.todo (x - 1) [] ≡ []) (from (suc first) count) → (i : ℕ) → i < count → get_or now.todo (first + i) [] ≡ []
 finished_from zero first now all i low = absurd (omega arith)
@@ -285,11 +282,11 @@ finished_from (suc count) first now all (suc i) low =
 
 all_finished : (todo : List (List Turn)) → ((i : ℕ) → i < length todo → get_or todo i [] ≡ []) → AreFinished todo
 all_finished [] each = tt
-all_finished (ts ∷ todo) each = by ts (each 0 (omega arith))
+all_finished (ts ∷ todo) each = by (all_finished todo (λ i low. each (suc i) (omega (arith, low)))) ts (each 0 (omega arith))
   where
-    by : (us : List Turn) → us ≡ [] → AreFinished (us ∷ todo)
-    by [] e = all_finished todo (λ i low. each (suc i) (omega arith))
-    by (u ∷ us) e = absurd (let long = ap length e in omega arith)
+    by : AreFinished todo → (us : List Turn) → us ≡ [] → AreFinished (us ∷ todo)
+    by rest [] e = rest
+    by rest (u ∷ us) e = absurd (let long = ap length e in omega arith)
 
 -- after so many rounds every session has finished
 pub record HasRounds (now : Now) : Type 0 where
@@ -309,8 +306,8 @@ unfolding rounds play
 no_round now is = record { count = 0; finished = is }
 
 -- where few enough are to come, rounds end
-abbrev Ends : (statements turns : ℕ) → Type 0
-Ends statements turns = (now : Now) → ArePlain now → length now.todo ≤ 16 → statements_left now ≤ statements → turns_left now ≤ turns → HasRounds now
+abbrev EndsWithin : (statements turns : ℕ) → Type 0
+EndsWithin statements turns = (now : Now) → ArePlain now → length now.todo ≤ 16 → statements_left now ≤ statements → turns_left now ≤ turns → HasRounds now
 
 module _ (now : Now) (plain : ArePlain now) (few : length now.todo ≤ 16) where
   abbrev next : Now
@@ -320,13 +317,13 @@ module _ (now : Now) (plain : ArePlain now) (few : length now.todo ≤ 16) where
   round_keeps = play_keeps all_sessions now plain
 
   idle_ends : AllByRecursion (λ (x : ℕ). get_or now.todo (x - 1) [] ≡ []) all_sessions → HasRounds now
-  idle_ends all = no_round now (all_finished now.todo (λ i low. finished_from 16 0 now all i (omega (arith, low, few))))
+  idle_ends all = no_round now (all_finished now.todo (λ i low. let same : 0 + i ≡ i = omega arith in subst (λ (k : ℕ). get_or now.todo k [] ≡ []) same (finished_from 16 0 now all i (omega (arith, low, few)))))
 
   fewer : length next.todo ≤ 16
   fewer = omega (arith, few, round_keeps.same)
 
 -- fewer statements are to come behind each round in which one begins
-within : (statements : ℕ) → ((fewer : ℕ) → fewer < statements → (turns : ℕ) → Ends fewer turns) → (turns : ℕ) → Ends statements turns
+within : (statements : ℕ) → ((fewer : ℕ) → fewer < statements → (turns : ℕ) → EndsWithin fewer turns) → (turns : ℕ) → EndsWithin statements turns
 within statements before zero now plain few s l = elim (play_tells all_sessions now plain) [
   | inl all ↦ idle_ends now plain few all
   | inr less ↦ round_more now (elim less [
@@ -342,7 +339,7 @@ within statements before (suc turns) now plain few s l = elim (play_tells all_se
   ])
 ]
 
-below : (bound statements : ℕ) → statements < bound → (turns : ℕ) → Ends statements turns
+below : (bound statements : ℕ) → statements < bound → (turns : ℕ) → EndsWithin statements turns
 below zero statements low turns = absurd (omega arith)
 below (suc bound) statements low turns = within statements (λ fewer less. below bound fewer (omega (arith, less, low))) turns
 

@@ -50,11 +50,11 @@ with_first : (account : Account) (given : Given) (plan : Plan) (first : Statemen
 with_first account given plan first is events last left runs = subst (λ (s : Statement). IsRun account given plan.first_session s plan.schedule plan.sessions events last left) (sym is) runs
 
 -- a creation and no stroke leave a settled point
-made_trail : (b : Base) (image : Image) (session : ℕ) (reply : Reply) → after_steps (settled b) (steps_in (first_event session (make image ∷ []) reply)) ≡ settled (base_of image)
+pub made_trail : (b : Base) (image : Image) (session : ℕ) (reply : Reply) → after_steps (settled b) (steps_in (first_event session (make image ∷ []) reply)) ≡ settled (base_of image)
 unfolding after_steps after_step made after_stroke settles_at on_base
 made_trail b image session reply = refl
 
-kept_trail : (b : Base) (session : ℕ) (reply : Reply) → after_steps (settled b) (steps_in (first_event session [] reply)) ≡ settled b
+pub kept_trail : (b : Base) (session : ℕ) (reply : Reply) → after_steps (settled b) (steps_in (first_event session [] reply)) ≡ settled b
 unfolding after_steps after_step made
 kept_trail b session reply = refl
 
@@ -64,7 +64,7 @@ module _ (account : Account) (given : Given) (plan : Plan) (name : List ℕ) whe
     abbrev new_one : IsCreated account given plan.sessions plan.first_session name size raw cache (opening account given plan.sessions plan.first_session (CreateDb name size raw cache))
     new_one = created account given plan.sessions plan.first_session name size raw cache free
 
-    created_performed : (n : ℕ) → AreFinished (turns plan new_one.now n).1.todo
+    pub created_performed : (n : ℕ) → AreFinished (turns plan new_one.now n).1.todo
         → IsPerformed (Ok plan) account given (first_event plan.first_session (make (fresh size raw) ∷ []) (Pages (fresh_count size raw)) ∷ (turns plan new_one.now n).0) (turns plan new_one.now n).1.account (turns plan new_one.now n).1.given
     created_performed n finished =
         let played : Played = turns plan new_one.now n in
@@ -98,7 +98,7 @@ module _ (account : Account) (given : Given) (plan : Plan) (name : List ℕ) whe
     abbrev again : IsReopened account given plan.sessions plan.first_session name b (opening account given plan.sessions plan.first_session (OpenDb name cache))
     again = reopened account given plan.sessions plan.first_session name cache b there
 
-    opened_performed : (n : ℕ) → AreFinished (turns plan again.now n).1.todo
+    pub opened_performed : (n : ℕ) → AreFinished (turns plan again.now n).1.todo
         → IsPerformed (Ok plan) account given (first_event plan.first_session [] (Opened (length b.image) (image_state b.image)) ∷ (turns plan again.now n).0) (turns plan again.now n).1.account (turns plan again.now n).1.given
     opened_performed n finished =
         let played : Played = turns plan again.now n in

@@ -14,7 +14,9 @@ pub mod ScriptRead
 pub mod ScriptRuns
 pub mod WorldLaws
 pub mod RecordLaws
+pub mod GrownLaws
 pub mod SteadyLaws
+pub mod SteadyTurns
 pub mod SureRuns
 pub mod JobRuns
 pub mod JobLemmas

@@ -29,7 +29,7 @@ abbrev pub kept_step : List Kept → Trail → Step → List Kept
 kept_step kept t (makes s) = kept ++ records_of s t.base
 kept_step kept t settles = kept
 
-pub kept_along : List Kept → Trail → List Step → List Kept
+abbrev pub kept_along : List Kept → Trail → List Step → List Kept
 kept_along kept t [] = kept
 kept_along kept t (s ∷ ss) = kept_along (kept_step kept t s) (after_step s t) ss
 
@@ -39,7 +39,7 @@ KeepsGood t (makes (begin guid ask)) = IsBegun (record { guid = guid; scn = imag
 KeepsGood t other = Unit {0}
 
 -- What was seen is well before each step and behind all, with the records kept until then.
-pub WellAlong : List Kept → Trail → List Step → Type 0
+abbrev pub WellAlong : List Kept → Trail → List Step → Type 0
 WellAlong kept t [] = IsWellTrail kept t
 WellAlong kept t (s ∷ ss) = IsWellTrail kept t × KeepsGood t s × WellAlong (kept_step kept t s) (after_step s t) ss
 

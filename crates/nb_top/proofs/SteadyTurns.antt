@@ -23,7 +23,7 @@ use Rattle.nb_model.specs.NewGuids.{guids_in}
 use Rattle.nb_model.specs.Outcomes.{Turn, Begins, Copies, ClosesBackup, ClosesCopy, Ends, Merges, Finishes, Seen, Outcome, next_guid, says, unless, changes, without_guid}
 use Rattle.nb_model.specs.Pages.{new_turn, write_turn, read_turn, free_turn, forced_turn, access_turn, begin_turn, end_turn, ends_by, end_scn, end_strokes}
 use Rattle.nb_model.specs.Run.{Event, Now, Played, base_now, event_of, outcome, stands_then, take_turn, one_turn, play, strokes_of}
-use Rattle.nb_model.specs.Steps.{Step, after_steps, made, steps_in, steps_of}
+use Rattle.nb_model.specs.Steps.{Step, settles, after_steps, made, steps_in, steps_of}
 use Rattle.nb_model.specs.Strokes.{Stroke, begin, ends, finish, on_base, base_after}
 use Rattle.nb_model.specs.Trail.{Trail}
 use Rattle.nb_model.specs.Turns.{first_turn, turn}
@@ -34,10 +34,13 @@ use Rattle.nb_model.proofs.ControlSound.{new_state}
 use Rattle.nb_model.proofs.HeaderLaws.{header-long, header-size, header-room}
 use Rattle.nb_model.proofs.FitLaws.{AreFitting, front_keeps}
 use Rattle.nb_model.proofs.PagesFit.{HasNoRows, pages_fit}
+use Rattle.nb_model.proofs.OutputLaws.{strokes_one}
+use Rattle.nb_model.proofs.RunLaws.{nothing_taken, strokes_of-append, taken_is}
+use Rattle.nb_model.proofs.StepsLaws.{steps_none, steps_one, steps_append, steps_seen, after_no_step}
 use Rattle.nb_model.proofs.SoundLaws.{state_stays}
 use Rattle.nb_model.proofs.TodoLaws.{new_single, write_single, read_single, free_single, forced_single, access_single, sync_single}
 use Rattle.nb_model.proofs.WellTrailLaws.{base_whole}
-use Rattle.nb_top.proofs.SteadyLaws.{WellAlong, pages_along, begin_along, ends_along, finish_along, settling_along, along_append}
+use Rattle.nb_top.proofs.SteadyLaws.{WellAlong, kept_along, pages_along, begin_along, ends_along, finish_along, settling_along, along_append, along_last}
 
 -- the turn begins a statement that can be asked today
 abbrev pub IsBeginning : Turn → Type 0
@@ -50,7 +53,7 @@ IsBeginning Merges = ⊥
 IsBeginning (Finishes reply) = ⊥
 
 -- the turns of a merge, and then such
-pub AreMerging : List Turn → Type 0
+abbrev pub AreMerging : List Turn → Type 0
 AreMerging [] = ⊥
 AreMerging (Begins statement ∷ ts) = ⊥
 AreMerging (Copies ∷ ts) = ⊥
@@ -213,20 +216,24 @@ module _ (kept : List Kept) (t : Trail) (now : Now) (session : ℕ) (rest : List
     others = λ other off running state. (pages_running statement is on s session ∙ running, pages_state statement on s session kept t (sym base) w ∙ state);
   }
 
+  abbrev begun : Outcome
+  begun = record {
+    strokes = begin (next_guid s.given) None ∷ [];
+    reply = Some (Scn (image_scn s.base.image + 1));
+    next = [];
+    running = s.running;
+    made = None;
+    given = without_guid s.given;
+  }
+
+  first_guid : (guid : List ℕ) → Contains (guids_in (begin guid None ∷ [])) guid
+  unfolding guids_in
+  first_guid guid = (0, omega arith, refl)
+
   begin_turn_is : AllByRecursion IsBeginning rest → AreSixteen (begin_turn s).strokes → IsTurn kept t now session (begin_turn s) rest
   unfolding begin_turn unless
   begin_turn_is all sixteen = by (first_cause (read_only s.base.image ∷ not_state 0 s.base.image ∷ no_scn s.base.image ∷ [])) refl sixteen
     where
-      abbrev begun : Outcome
-      begun = record {
-        strokes = begin (next_guid s.given) None ∷ [];
-        reply = Some (Scn (image_scn s.base.image + 1));
-        next = [];
-        running = s.running;
-        made = None;
-        given = without_guid s.given;
-      }
-
       by : (c : Cause) → first_cause (read_only s.base.image ∷ not_state 0 s.base.image ∷ no_scn s.base.image ∷ []) ≡ c
           → AreSixteen (elim c as (λ z. Outcome) [ Some refusal ↦ says s (Refused refusal) [] | None ↦ begun ]).strokes
           → IsTurn kept t now session (elim c as (λ z. Outcome) [ Some refusal ↦ says s (Refused refusal) [] | None ↦ begun ]) rest
@@ -239,10 +246,9 @@ module _ (kept : List Kept) (t : Trail) (now : Now) (session : ℕ) (rest : List
             own = inl all;
             others = λ other off running state. absurd (omega (arith, normal, state));
           }
-        where
-          first_guid : (guid : List ℕ) → Contains (guids_in (begin guid None ∷ [])) guid
-          unfolding guids_in
-          first_guid guid = (0, omega arith, refl)
+
+  abbrev ended : List Stroke → Outcome
+  ended ss = record { strokes = ss; reply = None; next = replicate (length s.base.diverted) Merges ++ Finishes (Scn (end_scn s.base.image)) ∷ []; running = Some session; made = None; given = s.given }
 
   end_turn_is : AllByRecursion IsBeginning rest → IsTurn kept t now session (end_turn s session) rest
   unfolding end_turn unless ends_by end_strokes made base_after
@@ -253,15 +259,13 @@ module _ (kept : List Kept) (t : Trail) (now : Now) (session : ℕ) (rest : List
       by (Some r) is = refused_turn r all
       by None is = strokes (image_state s.base.image == 1) refl
         where
+          facts : (image_state s.base.image ≢ 0) × (runs_other s.running session ≡ None)
           facts = end_facts s.base.image s.running session is
-
-          abbrev o : List Stroke → Outcome
-          o ss = record { strokes = ss; reply = None; next = replicate (length s.base.diverted) Merges ++ Finishes (Scn (end_scn s.base.image)) ∷ []; running = Some session; made = None; given = s.given }
 
           off_own : (other : ℕ) → other - 1 ≢ session - 1 → now.running ≡ Some other → ⊥
           off_own other off running = off (ap (λ (n : ℕ). n - 1) (its_own other session (sym (ap (λ (r : Option ℕ). runs_other r session) running) ∙ facts.1)))
 
-          with_strokes : (ss : List Stroke) → WellAlong kept t (made ss) → image_state (base_after t.base ss).image ≡ 2 → IsTurn kept t now session (o ss) rest
+          with_strokes : (ss : List Stroke) → WellAlong kept t (made ss) → image_state (base_after t.base ss).image ≡ 2 → IsTurn kept t now session (ended ss) rest
           with_strokes ss along state = record {
             along = along;
             own = inr (merge_turns (length s.base.diverted) (Scn (end_scn s.base.image)) rest all, session, refl, refl, state);
@@ -271,7 +275,7 @@ module _ (kept : List Kept) (t : Trail) (now : Now) (session : ℕ) (rest : List
           same_state : image_state t.base.image ≡ image_state s.base.image
           same_state = ap (λ (b : Base). image_state b.image) base
 
-          strokes : (test : Bool) → (image_state s.base.image == 1) ≡ test → IsTurn kept t now session (o (elim test as (λ z. List Stroke) [ true ↦ ends ∷ [] | false ↦ [] ])) rest
+          strokes : (test : Bool) → (image_state s.base.image == 1) ≡ test → IsTurn kept t now session (ended (elim test as (λ z. List Stroke) [ true ↦ ends ∷ [] | false ↦ [] ])) rest
           strokes true is =
               let stalled : image_state t.base.image ≡ 1 = same_state ∙ eqb-true (image_state s.base.image) 1 is in
               with_strokes (ends ∷ []) (ends_along kept t w stalled) (ends_state kept t.base w.base stalled)
@@ -323,3 +327,129 @@ module _ (kept : List Kept) (t : Trail) (now : Now) (session : ℕ) (base : t.ba
       merges Merges turns merge = merges_turn kept t now session rest base w turns merge.by merge.running merge.its (ap (λ (b : Base). image_state b.image) base ∙ merge.state)
       merges (Finishes reply) turns merge = finishes_turn kept t now session rest base w reply turns merge.by merge.running merge.its (ap (λ (b : Base). image_state b.image) base ∙ merge.state)
       merges other turns merge = absurd turns
+
+-- What one turn leaves: it stays so, and what was seen is well along its steps.
+record StaysSteady (kept : List Kept) (t : Trail) (p : Played) : Type 0 where
+  steady : IsSteady p.1
+  along : WellAlong kept t (steps_of p.0)
+  base : (after_steps t (steps_of p.0)).base ≡ base_now p.1
+
+module _ (kept : List Kept) (t : Trail) (now : Now) (session : ℕ) (base : t.base ≡ base_now now) (w : IsWellTrail kept t) (steady : IsSteady now) (u : Turn) (rest : List Turn) (is : get_or now.todo (session - 1) [] ≡ u ∷ rest)
+    (sixteen : AreSixteen (outcome session u now).strokes) where
+  abbrev o : Outcome
+  o = outcome session u now
+
+  abbrev then : Now
+  then = stands_then session rest o now
+
+  abbrev one : IsTurn kept t now session o rest
+  one = turn_is kept t now session base w steady u rest is sixteen
+
+  todo_is : then.todo ≡ set now.todo (session - 1) (o.next ++ rest)
+  unfolding stands_then
+  todo_is = refl
+
+  running_is : then.running ≡ o.running
+  unfolding stands_then
+  running_is = refl
+
+  taken : take_turn session (u ∷ rest) now ≡ (event_of session u o ∷ [], then)
+  unfolding take_turn
+  taken = refl
+
+  base_then : base_now then ≡ base_after t.base o.strokes
+  base_then =
+      ap (λ (p : Played). base_now p.1) (sym taken) ∙ taken_is session (u ∷ rest) now ∙ ap (λ (p : Played). base_after (base_now now) (strokes_of p.0)) taken
+      ∙ ap (base_after (base_now now)) (strokes_one (event_of session u o)) ∙ ap (λ (b : Base). base_after b o.strokes) (sym base)
+
+  inside : session - 1 < length now.todo
+  inside = elim (leb_tells (length now.todo) (session - 1)) [
+    | inl low ↦ absurd (none_some (sym (get_or_past now.todo (session - 1) [] low.1) ∙ is))
+    | inr low ↦ omega (arith, low.1)
+  ]
+    where
+      none_some : [] ≡ u ∷ rest → ⊥
+      none_some e = absurd (let long = ap length e in omega arith)
+
+  here : get_or then.todo (session - 1) [] ≡ o.next ++ rest
+  here = ap (λ (todo : List (List Turn)). get_or todo (session - 1) []) todo_is ∙ get_or-set_same now.todo (session - 1) (o.next ++ rest) [] inside
+
+  there : (place : ℕ) → place ≢ session - 1 → get_or then.todo place [] ≡ get_or now.todo place []
+  there place off = ap (λ (todo : List (List Turn)). get_or todo place []) todo_is ∙ get_or-set_other now.todo (session - 1) place (o.next ++ rest) [] off
+
+  steady_then : IsSteady then
+  steady_then place = elim (eqb_tells place (session - 1)) [
+    | inl w ↦ subst (λ (k : ℕ). AllByRecursion IsBeginning (get_or then.todo k []) ⊎ IsMergeOf then k) (sym w.1) (⊎_elim
+        (λ all. inl (subst (AllByRecursion IsBeginning) (sym here) all))
+        (λ merge. inr (record {
+          turns = subst AreMerging (sym here) merge.0;
+          by = merge.1;
+          running = running_is ∙ merge.2;
+          its = merge.3;
+          state = ap (λ (b : Base). image_state b.image) base_then ∙ merge.4;
+        })) one.own)
+    | inr w ↦ ⊎_elim
+        (λ all. inl (subst (AllByRecursion IsBeginning) (sym (there place w.1)) all))
+        (λ merge.
+        let keeps = one.others merge.by (λ e. w.1 (sym merge.its ∙ e)) merge.running (ap (λ (b : Base). image_state b.image) base ∙ merge.state) in
+        inr (record {
+          turns = subst AreMerging (sym (there place w.1)) merge.turns;
+          by = merge.by;
+          running = running_is ∙ keeps.0;
+          its = merge.its;
+          state = ap (λ (b : Base). image_state b.image) base_then ∙ keeps.1;
+        })) (steady place)
+  ]
+
+  taken_steady : StaysSteady kept t (take_turn session (u ∷ rest) now)
+  taken_steady = subst (StaysSteady kept t) (sym taken) (record {
+    steady = steady_then;
+    along = subst (WellAlong kept t) (sym (steps_one (event_of session u o)))
+        (along_append kept t (made o.strokes) (elim (event_of session u o).syncs as (λ z. List Step) [ true ↦ settles ∷ [] | false ↦ [] ]) one.along
+        (settling_along (kept_along kept t (made o.strokes)) (after_steps t (made o.strokes)) (event_of session u o).syncs (along_last kept t (made o.strokes) one.along)));
+    base = steps_seen t (event_of session u o ∷ []) ∙ ap (base_after t.base) (strokes_one (event_of session u o)) ∙ sym base_then;
+  })
+
+-- no turn
+still_steady : (kept : List Kept) (t : Trail) (now : Now) → t.base ≡ base_now now → IsWellTrail kept t → IsSteady now → StaysSteady kept t ([], now)
+still_steady kept t now base w steady = record {
+  steady = steady;
+  along = subst (WellAlong kept t) (sym steps_none) w;
+  base = ap (λ (ss : List Step). (after_steps t ss).base) steps_none ∙ ap (λ (u : Trail). u.base) (after_no_step t) ∙ base;
+}
+
+one_steady : (kept : List Kept) (t : Trail) (now : Now) (session : ℕ) → t.base ≡ base_now now → IsWellTrail kept t → IsSteady now → AreSixteen (strokes_of (one_turn session now).0) → StaysSteady kept t (one_turn session now)
+unfolding one_turn
+one_steady kept t now session base w steady sixteen = by (get_or now.todo (session - 1) []) refl sixteen
+  where
+    by : (ts : List Turn) → get_or now.todo (session - 1) [] ≡ ts → AreSixteen (strokes_of (take_turn session ts now).0) → StaysSteady kept t (take_turn session ts now)
+    by [] is sixteen = subst (StaysSteady kept t) (sym (nothing_taken session now)) (still_steady kept t now base w steady)
+    by (u ∷ rest) is sixteen = taken_steady kept t now session base w steady u rest is (subst AreSixteen (taken_strokes u rest) sixteen)
+      where
+        taken_strokes : (x : Turn) (xs : List Turn) → strokes_of (take_turn session (x ∷ xs) now).0 ≡ (outcome session x now).strokes
+        unfolding take_turn
+        taken_strokes x xs = strokes_one (event_of session x (outcome session x now))
+
+guids_append : (xs ys : List Stroke) → guids_in (xs ++ ys) ≡ guids_in xs ++ guids_in ys
+unfolding guids_in
+guids_append [] ys = refl
+guids_append (begin guid ask ∷ xs) ys = ap (λ (l : List (List ℕ)). guid ∷ l) (guids_append xs ys)
+guids_append (other ∷ xs) ys = guids_append xs ys
+
+sixteen_parts : (xs ys : List Stroke) → AreSixteen (xs ++ ys) → AreSixteen xs × AreSixteen ys
+sixteen_parts xs ys all =
+    (λ guid there. all guid (subst (λ (l : List (List ℕ)). Contains l guid) (sym (guids_append xs ys)) (Contains-append_left (guids_in xs) (guids_in ys) guid there)),
+    λ guid there. all guid (subst (λ (l : List (List ℕ)). Contains l guid) (sym (guids_append xs ys)) (Contains-append_right (guids_in xs) (guids_in ys) guid there)))
+
+-- Turns in an order: what was seen is well along all of their steps.
+pub play_along : (order : List ℕ) (kept : List Kept) (t : Trail) (now : Now) → t.base ≡ base_now now → IsWellTrail kept t → IsSteady now → AreSixteen (strokes_of (play order now).0) → WellAlong kept t (steps_of (play order now).0)
+unfolding play
+play_along [] kept t now base w steady sixteen = subst (WellAlong kept t) (sym steps_none) w
+play_along (x ∷ xs) kept t now base w steady sixteen =
+    let es : List Event = (one_turn x now).0 in
+    let later : Played = play xs (one_turn x now).1 in
+    let parts = sixteen_parts (strokes_of es) (strokes_of later.0) (subst AreSixteen (strokes_of-append es later.0) sixteen) in
+    let one : StaysSteady kept t (one_turn x now) = one_steady kept t now x base w steady parts.0 in
+    subst (WellAlong kept t) (sym (steps_append es later.0))
+    (along_append kept t (steps_of es) (steps_of later.0) one.along
+    (play_along xs (kept_along kept t (steps_of es)) (after_steps t (steps_of es)) (one_turn x now).1 one.base (along_last kept t (steps_of es) one.along) one.steady parts.1))
