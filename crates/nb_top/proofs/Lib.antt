@@ -17,6 +17,7 @@ pub mod RecordLaws
 pub mod GrownLaws
 pub mod SteadyLaws
 pub mod SteadyTurns
+pub mod SureLaws
 pub mod SureRuns
 pub mod JobRuns
 pub mod JobLemmas
