@@ -206,7 +206,7 @@ module _ (old : World) (account : Account) (given : Given) (plan : Plan) (askabl
                 named = answer.named ∙ sym one.name_is;
                 running = answer.nothing_runs ∙ sym one.running;
               };
-              calm = inl (subst (λ (b : Base). Rattle.nb_model.specs.Sound.IsSoundImage b.image) (sym base) (fresh_well_base [] size raw fits.1 fits.2.0).well.sound);
+              calm = inl (subst (λ (b : Base). Rattle.nb_model.specs.Sound.IsSoundImage b.image) (sym base) (fresh_well_base [] size raw fits.1 fits.2).well.sound);
               named = answer.named;
               alone = untouched_fewer old mid _ _ creates.left.others (λ m other e. other (inl e));
               read = λ m other. creates.left.others_read m (λ e. other (inl e));

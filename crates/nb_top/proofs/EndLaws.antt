@@ -29,5 +29,5 @@ pub record HasEnd (plan : Plan) (now : Now) : Type 0 where
 
 pub turns_end : (plan : Plan) → IsAskable plan → (now : Now) → now.todo ≡ begun plan.sessions → HasEnd plan now
 turns_end plan askable now todo =
-    let end = order_ends plan.schedule now (begun_plain plan askable now todo) (omega (arith, ap length todo, length-map (map Begins) plan.sessions, askable.sixteen)) in
+    let end = order_ends plan.schedule now (begun_plain plan askable now todo) (omega (arith, ap length todo, length-map plan.sessions (map Begins), askable.sixteen)) in
     record { how_often = end.0; finished = end.1 }

@@ -301,14 +301,13 @@ module _ (kept : List Kept) (t : Trail) (now : Now) (session : ℕ) (rest : List
 -- what comes to a session's turn
 module _ (kept : List Kept) (t : Trail) (now : Now) (session : ℕ) (base : t.base ≡ base_now now) (w : IsWellTrail kept t) (steady : IsSteady now) (u : Turn) (rest : List Turn) (is : get_or now.todo (session - 1) [] ≡ u ∷ rest) where
   turn_is : AreSixteen (outcome session u now).strokes → IsTurn kept t now session (outcome session u now) rest
+  unfolding outcome turn first_turn
   turn_is sixteen = ⊎_elim (λ all. begins u (subst (AllByRecursion IsBeginning) is all) sixteen) (λ merge. merges u (subst AreMerging is merge.turns) merge) (steady (session - 1))
     where
       begins : (x : Turn) → AllByRecursion IsBeginning (x ∷ rest) → AreSixteen (outcome session x now).strokes → IsTurn kept t now session (outcome session x now) rest
-      unfolding outcome turn
       begins (Begins statement) all sixteen = by statement all.0 sixteen
         where
           by : (statement : Statement) → is_built statement ≡ true → AreSixteen (first_turn (s kept t now session rest base w) session statement).strokes → IsTurn kept t now session (first_turn (s kept t now session rest base w) session statement) rest
-          unfolding first_turn
           by BeginBackup built sixteen = begin_turn_is kept t now session rest base w all.1 sixteen
           by EndBackup built sixteen = end_turn_is kept t now session rest base w all.1
           by (CreateDb name size raw cache) built sixteen = pages_turn kept t now session rest base w (CreateDb name size raw cache) built refl all.1
