@@ -40,3 +40,6 @@ pub mod PlayLaws
 pub mod TakenLaws
 pub mod FreeLaws
 pub mod FrontLaws
+pub mod TrailLaws
+pub mod MixtureLaws
+pub mod EarlierLaws

@@ -27,6 +27,7 @@ pub mod Well
 pub mod Waiting
 pub mod Pagewise
 pub mod Trail
+pub mod Earlier
 pub mod Words
 pub mod Jobs
 pub mod Line
