@@ -6,6 +6,8 @@
 //! holds a page.
 #![tactic(auto)]
 
+mod beginnings;
+mod control;
 mod files;
 
 pub use files::TwoFiles;

@@ -1,0 +1,3 @@
+pub mod CreateLaws
+pub mod MakingLaws
+pub mod CreatedLaws
