@@ -27,6 +27,7 @@ left_itself t = record {
   mixed = mixture_itself (images_of t) t.base.image (last_there t.earlier t.base.image);
   frozen = refl;
   diverted = ([], sym (append-nil t.base.diverted));
+  merging = λ is. refl;
   whole = λ none. refl;
 }
 
