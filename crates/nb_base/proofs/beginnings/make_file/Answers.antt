@@ -1,10 +1,10 @@
 use Rattle.std.proofs.Common.{length, ◌∙◌, ap, arith}
 use Rattle.nb_fields.specs.Fresh.{fresh_page}
+use Rattle.nb_change.proofs.GaveLaws.{silent_gave, nothing_joined}
 use Rattle.nb_model.proofs.FreshImageLaws.{fresh_count-least}
-use Rattle.nb_engine.proofs.CreateLaws.{named, rest_begun, far_behind, rest_more}
-use Rattle.nb_engine.proofs.MakingLaws.{made, making_begun, page_more, synced, synced_whole, rest_kept, first_page, settled}
-use Rattle.nb_engine.proofs.ApartLaws.{none_yet, then_page, then_made, then_synced}
-use Rattle.nb_engine.proofs.create.make_file.Goals as goal
+use Rattle.nb_base.proofs.CreateLaws.{named, rest_begun, far_behind, rest_more}
+use Rattle.nb_base.proofs.MakingLaws.{made, making_begun, page_more, synced, synced_whole, rest_kept, first_page, settled}
+use Rattle.nb_base.proofs.beginnings.make_file.Goals as goal
 
 pub returns-in_err-make-clause-left : goal.returns-in_err-make-clause-left
 returns-in_err-make-clause-left g c tells = let make = c.make.ensures in made _ _ _ _ _ _ tells (g.met.H.Host.timely _) make.files make.log make.time
@@ -15,7 +15,7 @@ loop-number-init g c =
     record {
       making = λ tells. making_begun _ _ _ _ _ _ tells (g.met.H.Host.timely _) make.files make.log make.time;
       pages = λ tells. rest_begun _ _ _ (named _ _ c.args.name.now _ (make.files.files tells));
-      alone = λ tells. then_made g.H.Host.tells tells _ _ _ _ _ _ (none_yet _ _ (g.met.H.Host.timely _)) make.files make.time make.log;
+      gave = silent_gave _ _ make.log;
       cause = make.cause;
     }
 
@@ -35,7 +35,7 @@ loop-number-preserved g c =
     record {
       making = λ tells. page_more _ _ _ _ _ _ _ _ _ tells far (c.loop-number.invariant.making tells) write.files write.log write.time;
       pages = λ tells. rest_more _ _ c.requires.size number _ _ _ page_is (c.loop-number.invariant.pages tells) (named _ _ c.args.name.now _ (write.files.files tells));
-      alone = λ tells. then_page g.H.Host.tells tells _ _ _ _ _ _ _ (c.loop-number.invariant.alone tells) write.files write.time write.log;
+      gave = nothing_joined _ _ _ c.loop-number.invariant.gave (silent_gave _ _ write.log);
       cause = write.cause ∙ c.loop-number.invariant.cause;
     }
 
@@ -70,34 +70,3 @@ returns-clause-made g c tells =
     let kept = rest_kept _ _ _ _ _ _ _ _ _ _ _ _ tells c.requires.size c.requires.few c.requires.count c.loop-number-test.false loop.auto.number-end loop.invariant sync.files sync.log sync.time in
     let page_is = c.fresh-2.ensures.image ∙ ap (λ size. fresh_page size c.args.raw 0) loop.auto.page in
     settled _ _ _ _ _ _ _ _ _ _ tells page_is kept (c.in_ok-write_page-2.ensures.files.files tells) c.sync-2.ensures.files
-
-pub returns-in_err-make-clause-apart : goal.returns-in_err-make-clause-apart
-returns-in_err-make-clause-apart g c tells =
-    let make = c.make.ensures in
-    (then_made g.H.Host.tells tells c.make.result _ _ _ _ _ (none_yet _ _ (g.met.H.Host.timely _)) make.files make.time make.log).apart
-
-pub returns-in_err-write_page-clause-apart : goal.returns-in_err-write_page-clause-apart
-returns-in_err-write_page-clause-apart g c tells =
-    let write = c.write_page.ensures in
-    (then_page g.H.Host.tells tells c.write_page.result _ _ _ _ _ _ (c.loop-number.invariant.alone tells) write.files write.time write.log).apart
-
-pub returns-in_err-sync-clause-apart : goal.returns-in_err-sync-clause-apart
-returns-in_err-sync-clause-apart g c tells =
-    let sync = c.sync.ensures in
-    (then_synced g.H.Host.tells c.sync.result _ _ _ _ (c.loop-number.invariant.alone tells) sync.files sync.time sync.log).apart
-
-pub returns-in_err-write_page-2-clause-apart : goal.returns-in_err-write_page-2-clause-apart
-returns-in_err-write_page-2-clause-apart g c tells =
-    let sync = c.sync.ensures in
-    let write = c.write_page-2.ensures in
-    let kept = then_synced g.H.Host.tells c.sync.result _ _ _ _ (c.loop-number.invariant.alone tells) sync.files sync.time sync.log in
-    (then_page g.H.Host.tells tells c.write_page-2.result _ _ _ _ _ _ kept write.files write.time write.log).apart
-
-pub returns-clause-apart : goal.returns-clause-apart
-returns-clause-apart g c tells =
-    let sync = c.sync.ensures in
-    let write = c.write_page-2.ensures in
-    let last = c.sync-2.ensures in
-    let kept = then_synced g.H.Host.tells c.sync.result _ _ _ _ (c.loop-number.invariant.alone tells) sync.files sync.time sync.log in
-    let whole = then_page g.H.Host.tells tells c.write_page-2.result _ _ _ _ _ _ kept write.files write.time write.log in
-    (then_synced g.H.Host.tells c.sync-2.result _ _ _ _ whole last.files last.time last.log).apart
