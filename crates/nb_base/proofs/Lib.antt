@@ -1,3 +1,4 @@
 pub mod CreateLaws
 pub mod MakingLaws
 pub mod CreatedLaws
+pub mod AttachLaws

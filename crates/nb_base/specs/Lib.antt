@@ -1,3 +1,4 @@
 pub mod Open
 pub mod Takes
 pub mod Beginnings
+pub mod Attach

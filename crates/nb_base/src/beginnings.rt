@@ -12,6 +12,7 @@ ghost use Rattle.nb_model.specs.Account.{base_of};
 ghost use Rattle.nb_base.specs.Beginnings.{CreateLeft, CreatesFile, Attaches, Creates, IsSettled};
 
 use crate::TwoFiles;
+use crate::attach::{attach_delta, count_with, find_length, keep_files, read_start};
 use nb_delta::Delta;
 use nb_host::{Fault, Host, HostFault, Name, Refusal};
 use nb_page::{fresh, fresh_count, is_free};
@@ -77,12 +78,25 @@ impl TwoFiles {
     /// The refusals are `NoFile`, `NotDatabase`, `Unfinished`, `NoFile` of the difference file and `BadDelta`, in this order.
     pub fn attach<H: Host>(alloc: Global, host: &mut H, name: &Name) -> Result<TwoFiles, Fault>
         requires name { length name.now ≤ 94 }
-        requires stub { ⊥ }
         ensures attaches { IsTrue H.tells → Attaches result (H.world host.old) (H.world host.new) name.now }
         ensures quiet { Quiet (H.world host.old) (H.world host.new) }
         ensures cause { CountsDevice result (H.faults host.old) (H.faults host.new) }
     {
-        unreachable!()
+        let start = read_start(host, name)?;
+        let mut page = vec![in alloc; 0; start.page_size as usize]?;
+        let beside = name.delta();
+        let mut delta = attach_delta(alloc, host, &beside, start)?;
+        let main_count = find_length(host, name, start.pages, &mut page)?;
+        let count = count_with(host, &mut delta, main_count)?;
+        keep_files(host, name, &beside, start.state)?;
+        Ok(TwoFiles {
+            name: name.copied(),
+            state: start.state,
+            count,
+            main_count,
+            delta,
+            page,
+        })
     }
 
     /// Makes a new database with `raw` raw pages, and opens it. The refusal is `FileExists`, where the name is not free; then nothing

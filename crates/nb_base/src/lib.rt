@@ -6,6 +6,7 @@
 //! holds a page.
 #![tactic(auto)]
 
+mod attach;
 mod beginnings;
 mod control;
 mod files;
