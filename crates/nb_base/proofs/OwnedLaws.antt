@@ -1,25 +1,23 @@
 -- What two files hold of a database, in each backup state, and what a change of one of them makes of its image.
-use Rattle.std.proofs.Common.{◌≡◌, ◌≢◌, ◌⊎◌, inl, inr, ℕ, zero, suc, ◌+◌, ◌-◌, ◌*◌, ◌<◌, ◌≤◌, List, [], ◌∷◌, ◌++◌, length, get_or, take, drop, replicate, refl, sym, ap, subst, ◌∙◌, arith, length-append}
-use Rattle.std.specs.Prelude.{Bool, true, false, IsTrue, ◌==◌, Option, Some, None, Result, Ok, Err, max, nat_lt}
-use Rattle.std.proofs.lemmas.Bool.{true≢false}
+use Rattle.std.proofs.Common.{◌≡◌, ◌≢◌, inl, inr, ℕ, zero, suc, ◌+◌, ◌<◌, ◌≤◌, List, [], ◌∷◌, ◌++◌, length, get_or, take, drop, refl, sym, ap, subst, ◌∙◌, arith}
+use Rattle.std.specs.Prelude.{Bool, true, false, ◌==◌, Option, Some, None, Result, Ok, Err, max}
 use Rattle.std.proofs.lemmas.Bool.Decides.{leb_tells, eqb_tells}
-use Rattle.std.proofs.lemmas.List.{ext_get_or, take_at, length-take-le, get_or_append_left, get_or-append_right}
-use Rattle.nb_fields.specs.Bytes.{is_zeros}
-use Rattle.nb_fields.specs.Places.{is_page_size}
+use Rattle.std.proofs.lemmas.List.{ext_get_or}
 use Rattle.nb_fields.specs.Header.{is_header, state_of, size_of}
 use Rattle.nb_fields.specs.Table.{table_of, page_in, slot_place}
 use Rattle.nb_host.specs.Files.{File, bytes_of}
 use Rattle.nb_host.specs.declared.refusals.Refusal.{Refusal}
-use Rattle.nb_host.specs.declared.refusals.Refusal.TheVariants.{NoFile, BadDelta, Unfinished}
+use Rattle.nb_host.specs.declared.refusals.Refusal.TheVariants.{BadDelta, Unfinished}
 use Rattle.nb_delta.specs.Slots.{HasTable}
 use Rattle.nb_model.specs.Image.{Page, Image, page_at, first_page, image_size, image_state, image_in, with_page, written_at}
 use Rattle.nb_model.specs.Causes.{Cause, not_database}
 use Rattle.nb_model.specs.Account.{Base, base_of}
 use Rattle.nb_model.specs.Strokes.{merged_page}
-use Rattle.nb_model.specs.Owner.{delta_name, entry_for, behind_entries, slot_page, main_page, owned_page, owned_from, owned, diverted_base, owner_with, owner_in, owner}
-use Rattle.nb_model.proofs.HeaderLaws.{header-long, same-header, same-number}
-use Rattle.nb_model.proofs.MainLaws.{IsLaid, laid, laid-front, some_page, owner-none, owner-refused, owner-formed, owner_in-normal, owned-first, owned-front, ok_same}
-use Rattle.nb_model.proofs.OwnerLaws.{main_here, main_past, other_page, written_length, named}
+use Rattle.nb_model.specs.Owner.{entry_for, behind_entries, slot_page, main_page, owned_page, owned_from, owned, diverted_base, owner_with, owner_in, owner}
+use Rattle.nb_model.proofs.FormLaws.{formed}
+use Rattle.nb_model.proofs.HeaderLaws.{header-long, header-state, same-header, same-number}
+use Rattle.nb_model.proofs.MainLaws.{laid, laid-front, some_page, owner-none, owner-refused, owner-formed, owner_in-normal, owned-first, owned-front, ok_same}
+use Rattle.nb_model.proofs.OwnerLaws.{main_here, other_page, written_length, named}
 use Rattle.nb_model.proofs.SoundLaws.{with_page_length}
 use Rattle.nb_model.proofs.StrokeLaws.{with_page_same, with_page_other}
 use Rattle.nb_base.proofs.WrittenLaws.{HasMain, laid_formed, laid_image, written_same}
@@ -310,3 +308,194 @@ pub record Holds (b : Base) (m d : File) : Type 0 where
   pub entries : HasEntries (image_state main) (image_size main) d b.diverted
   pub image : b.image ≡ owned (image_size main) main (bytes_of d) b.diverted
   pub frozen : IsFrozen (image_state main) main b.frozen
+
+-- From the bytes of the main file.
+module _ (bytes : List ℕ) (formed : not_database bytes ≡ None) where
+  pub bytes-state : image_state (image_in bytes) ≡ state_of bytes
+  bytes-state = sym (same-number bytes (first_page (image_in bytes)) (laid-front (image_in bytes) bytes (laid bytes formed)) 22 2 (omega arith))
+
+  pub bytes-size : image_size (image_in bytes) ≡ size_of bytes
+  bytes-size = sym (same-number bytes (first_page (image_in bytes)) (laid-front (image_in bytes) bytes (laid bytes formed)) 24 4 (omega arith))
+
+err_ok : {r : Refusal} {b : Base} → Err r ≡ Ok b → ⊥
+err_ok h = cc
+
+-- the frozen image by a test of the state
+frozen_in : (state : ℕ) (main : Image) → IsFrozen state main (elim (state == 1) as (λ z. Image) [ true ↦ main | false ↦ [] ])
+frozen_in state main = elim (eqb_tells state 1) [
+  | inl w ↦ record { stalled = λ e. ap (λ (t : Bool). elim t as (λ z. Image) [ true ↦ main | false ↦ [] ]) w.0; other = λ ne. absurd (ne w.1) }
+  | inr w ↦ record { stalled = λ e. absurd (w.1 e); other = λ ne. ap (λ (t : Bool). elim t as (λ z. Image) [ true ↦ main | false ↦ [] ]) w.0 }
+]
+
+one_frozen : (state : ℕ) (main x y : Image) → IsFrozen state main x → IsFrozen state main y → x ≡ y
+one_frozen state main x y a b = elim (eqb_tells state 1) [
+  | inl w ↦ a.stalled w.1 ∙ sym (b.stalled w.1)
+  | inr w ↦ a.other w.1 ∙ sym (b.other w.1)
+]
+
+-- two databases with the same parts
+same_base : (x y : Base) → x.image ≡ y.image → x.frozen ≡ y.frozen → x.diverted ≡ y.diverted → x ≡ y
+same_base x y image frozen diverted = λ i. record { image = image i; frozen = frozen i; diverted = diverted i }
+
+-- A database whose difference file has that table.
+module _ (bytes delta table : List ℕ) where
+  diverted-parts : (diverted_base bytes delta table).image ≡ owned (size_of bytes) (image_in bytes) delta table
+  unfolding diverted_base
+  diverted-parts = refl
+
+  diverted-table : (diverted_base bytes delta table).diverted ≡ table
+  unfolding diverted_base
+  diverted-table = refl
+
+  diverted-frozen : IsFrozen (state_of bytes) (image_in bytes) (diverted_base bytes delta table).frozen
+  unfolding diverted_base
+  diverted-frozen = frozen_in (state_of bytes) (image_in bytes)
+
+module _ (name : List ℕ) (b : Base) (bytes : List ℕ) (d : File) (formed : not_database bytes ≡ None) where
+  abbrev main_ : Image
+  main_ = image_in bytes
+
+  has_bytes : HasMain main_ (Some bytes)
+  has_bytes = record { bytes = bytes; there = refl; laid = laid bytes formed }
+
+  -- the normal state
+  holds_normal : state_of bytes ≡ 0 → base_of main_ ≡ b → Holds b (Some bytes) d
+  holds_normal normal is =
+      let state : image_state main_ ≡ 0 = bytes-state bytes formed ∙ normal in
+      let table : b.diverted ≡ [] = sym (ap (λ (x : Base). x.diverted) is) in
+      record {
+        main = main_;
+        has = has_bytes;
+        opened = omega (arith, state);
+        entries = record { none = λ e. table; some = λ some. absurd (omega (arith, some, state)) };
+        image = sym (ap (λ (x : Base). x.image) is) ∙ owned-alone (image_size main_) main_ (bytes_of d) ∙ ap (λ (t : List ℕ). owned (image_size main_) main_ (bytes_of d) t) (sym table);
+        frozen = record { stalled = λ e. absurd (omega (arith, e, state)); other = λ ne. sym (ap (λ (x : Base). x.frozen) is) };
+      }
+
+  -- the stalled and the merge state
+  holds_diverted : 0 < state_of bytes → state_of bytes ≤ 2 → (delta table : List ℕ) → d ≡ Some delta → table_of (size_of bytes) delta ≡ Ok table → diverted_base bytes delta table ≡ b → Holds b (Some bytes) d
+  holds_diverted diverts opened delta table there has is =
+      let state : image_state main_ ≡ state_of bytes = bytes-state bytes formed in
+      let size : image_size main_ ≡ size_of bytes = bytes-size bytes formed in
+      let same : table ≡ b.diverted = sym (diverted-table bytes delta table) ∙ ap (λ (x : Base). x.diverted) is in
+      record {
+        main = main_;
+        has = has_bytes;
+        opened = omega (arith, state, opened);
+        entries = record {
+          none = λ e. absurd (omega (arith, e, state, diverts));
+          some = λ some. subst (λ (f : File). HasTable (image_size main_) f b.diverted) (sym there) (ap (λ n. table_of n delta) size ∙ has ∙ ap (λ (t : List ℕ). Ok t) same);
+        };
+        image = sym (ap (λ (x : Base). x.image) is) ∙ diverted-parts bytes delta table ∙ ap (λ n. owned n main_ delta table) (sym size)
+            ∙ ap (λ (t : List ℕ). owned (image_size main_) main_ delta t) same ∙ ap (λ (f : File). owned (image_size main_) main_ (bytes_of f) b.diverted) (sym there);
+        frozen = subst (λ n. IsFrozen n main_ b.frozen) (sym state) (subst (λ (x : Base). IsFrozen (state_of bytes) main_ x.frozen) is (diverted-frozen bytes delta table));
+      }
+
+  -- what the owner of the files says
+  table_holds : 0 < state_of bytes → state_of bytes ≤ 2 → (delta : List ℕ) → d ≡ Some delta → (found : Result (List ℕ) ℕ) → table_of (size_of bytes) delta ≡ found
+      → elim found as (λ z. Result Base Refusal) [ Err page ↦ Err (BadDelta page) | Ok table ↦ Ok (diverted_base bytes delta table) ] ≡ Ok b → Holds b (Some bytes) d
+  table_holds diverts opened delta there (Err page) has is = absurd (err_ok is)
+  table_holds diverts opened delta there (Ok table) has is = holds_diverted diverts opened delta table there has (ok_same (diverted_base bytes delta table) b (Ok (diverted_base bytes delta table)) refl is)
+
+  with_holds : 0 < state_of bytes → state_of bytes ≤ 2 → (f : File) → d ≡ f → owner_with name bytes f ≡ Ok b → Holds b (Some bytes) d
+  unfolding owner_with
+  with_holds diverts opened None there is = absurd (err_ok is)
+  with_holds diverts opened (Some delta) there is = table_holds diverts opened delta there (table_of (size_of bytes) delta) refl is
+
+  in_holds : state_of bytes ≤ 3 → (state : ℕ) → state_of bytes ≡ state → owner_in state name bytes d ≡ Ok b → Holds b (Some bytes) d
+  unfolding owner_in
+  in_holds most zero at is = holds_normal at (ok_same (base_of main_) b (owner_in 0 name bytes d) (owner_in-normal name bytes d) is)
+  in_holds most (suc k) at is = elim (eqb_tells k 2) [
+    | inl w ↦ absurd (err_ok (sym (ap (λ (t : Bool). elim t as (λ z. Result Base Refusal) [ true ↦ Err Unfinished | false ↦ owner_with name bytes d ]) w.0) ∙ is))
+    | inr w ↦ with_holds (omega (arith, at)) (low k at w.1) d refl (sym (ap (λ (t : Bool). elim t as (λ z. Result Base Refusal) [ true ↦ Err Unfinished | false ↦ owner_with name bytes d ]) w.0) ∙ is)
+  ]
+    where
+      low : (k : ℕ) → state_of bytes ≡ suc k → k ≢ 2 → state_of bytes ≤ 2
+      low k at ne = elim (leb_tells 2 k) [
+        | inl v ↦ absurd (ne (let e : k ≡ 2 = omega (arith, most, at, v.1) in e))
+        | inr v ↦ omega (arith, at, v.1)
+      ]
+
+-- Files that show a database hold it.
+pub holds : (name : List ℕ) (b : Base) (m d : File) → owner name m d ≡ Ok b → Holds b m d
+holds name b None d is = absurd (err_ok (sym (owner-none name d) ∙ is))
+holds name b (Some bytes) d is = by (not_database bytes) refl
+  where
+    by : (cause : Cause) → not_database bytes ≡ cause → Holds b (Some bytes) d
+    by (Some r) e = absurd (err_ok (sym (owner-refused name bytes d r e) ∙ is))
+    by None e = in_holds name b bytes d e (header-state bytes (formed bytes e).header) (state_of bytes) refl (sym (owner-formed name bytes d e) ∙ is)
+
+-- And files that hold it show it.
+owner_in-diverted : (k : ℕ) (name bytes delta table : List ℕ) → k ≢ 2 → table_of (size_of bytes) delta ≡ Ok table → owner_in (suc k) name bytes (Some delta) ≡ Ok (diverted_base bytes delta table)
+unfolding owner_in owner_with
+owner_in-diverted k name bytes delta table other has = elim (eqb_tells k 2) [
+  | inl w ↦ absurd (other w.1)
+  | inr w ↦ rw (w.0, owner_in) (rw (has, owner_with) refl)
+]
+
+pub shows : (name : List ℕ) (b : Base) (m d : File) → Holds b m d → owner name m d ≡ Ok b
+shows name b m d h = ap (λ (f : File). owner name f d) h.has.there ∙ owner-formed name bytes d none ∙ by (state_of bytes) refl d refl
+  where
+    bytes : List ℕ
+    bytes = h.has.bytes
+
+    none : not_database bytes ≡ None
+    none = laid_formed h.main bytes h.has.laid
+
+    image_is : image_in bytes ≡ h.main
+    image_is = laid_image h.main bytes h.has.laid
+
+    state : image_state h.main ≡ state_of bytes
+    state = ap image_state (sym image_is) ∙ bytes-state bytes none
+
+    size : image_size h.main ≡ size_of bytes
+    size = ap image_size (sym image_is) ∙ bytes-size bytes none
+
+    frozen : IsFrozen (state_of bytes) (image_in bytes) b.frozen
+    frozen = subst (λ n. IsFrozen n (image_in bytes) b.frozen) state (subst (λ (x : Image). IsFrozen (image_state h.main) x b.frozen) (sym image_is) h.frozen)
+
+    diverts : (k : ℕ) → state_of bytes ≡ suc k → (f : File) → d ≡ f → HasTable (image_size h.main) f b.diverted → owner_in (suc k) name bytes d ≡ Ok b
+    diverts k at None there has = absurd has
+    diverts k at (Some delta) there has =
+        let table : table_of (size_of bytes) delta ≡ Ok b.diverted = ap (λ n. table_of n delta) (sym size) ∙ has in
+        let low : k ≢ 2 = λ e. absurd (omega (arith, h.opened, state, at, e)) in
+        let parts : (diverted_base bytes delta b.diverted).image ≡ b.image =
+        diverted-parts bytes delta b.diverted ∙ ap (λ n. owned n (image_in bytes) delta b.diverted) (sym size) ∙ ap (λ (x : Image). owned (image_size h.main) x delta b.diverted) image_is
+        ∙ ap (λ (f : File). owned (image_size h.main) h.main (bytes_of f) b.diverted) (sym there) ∙ sym h.image in
+        ap (owner_in (suc k) name bytes) there ∙ owner_in-diverted k name bytes delta b.diverted low table
+        ∙ ap (λ (x : Base). Ok x) (same_base (diverted_base bytes delta b.diverted) b parts (one_frozen (state_of bytes) (image_in bytes) _ _ (diverted-frozen bytes delta b.diverted) frozen) (diverted-table bytes delta b.diverted))
+
+    by : (s : ℕ) → state_of bytes ≡ s → (f : File) → d ≡ f → owner_in (state_of bytes) name bytes d ≡ Ok b
+    by zero at f there =
+        let normal : image_state h.main ≡ 0 = state ∙ at in
+        let image : image_in bytes ≡ b.image = image_is ∙ owned-alone (image_size h.main) h.main (bytes_of d) ∙ ap (λ (t : List ℕ). owned (image_size h.main) h.main (bytes_of d) t) (sym (h.entries.none normal)) ∙ sym h.image in
+        ap (λ n. owner_in n name bytes d) at ∙ owner_in-normal name bytes d
+        ∙ ap (λ (x : Base). Ok x) (same_base (base_of (image_in bytes)) b image (sym (h.frozen.other (λ e. absurd (omega (arith, e, normal))))) (sym (h.entries.none normal)))
+    by (suc k) at f there = ap (λ n. owner_in n name bytes d) at ∙ diverts k at f there (subst (λ (x : File). HasTable (image_size h.main) x b.diverted) there (h.entries.some (omega (arith, state, at))))
+
+-- Page 0 of the image has the main file's header.
+module _ (b : Base) (m d : File) (h : Holds b m d) where
+  pub main-some : 1 ≤ length h.main
+  main-some = some_page h.main h.has.laid.header
+
+  pub main-long : 64 ≤ length (page_at h.main 0)
+  main-long = header-long (page_at h.main 0) h.has.laid.header
+
+  pub base-front : take 64 (first_page b.image) ≡ take 64 (first_page h.main)
+  base-front = ap (λ (x : Image). take 64 (first_page x)) h.image ∙ ap (take 64) (owned-first (image_size h.main) h.main (bytes_of d) b.diverted main-some)
+      ∙ owned-front (image_size h.main) h.main (bytes_of d) b.diverted main-some main-long
+
+  pub base-header : is_header (first_page b.image) ≡ true
+  base-header = same-header (first_page b.image) (first_page h.main) base-front ∙ h.has.laid.header
+
+  pub base-state : image_state b.image ≡ image_state h.main
+  base-state = same-number (first_page b.image) (first_page h.main) base-front 22 2 (omega arith)
+
+  pub base-size : image_size b.image ≡ image_size h.main
+  base-size = same-number (first_page b.image) (first_page h.main) base-front 24 4 (omega arith)
+
+  pub base-length : length b.image ≡ max (length h.main) (behind_entries b.diverted)
+  base-length = ap length h.image ∙ owned-length (image_size h.main) h.main (bytes_of d) b.diverted
+
+  pub base-page : (p : ℕ) → p < length b.image → page_at b.image p ≡ owned_page (image_size h.main) h.main (bytes_of d) b.diverted p
+  base-page p low = ap (λ (x : Image). page_at x p) h.image ∙ owned-page (image_size h.main) h.main (bytes_of d) b.diverted p (omega (arith, low, ap length h.image))

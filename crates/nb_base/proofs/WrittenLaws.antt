@@ -1,9 +1,9 @@
 -- A page written into a main file, in any backup state: what the file holds then, and what a stop leaves of it.
-use Rattle.std.proofs.Common.{◌≡◌, ◌≢◌, ◌⊎◌, inl, inr, ℕ, zero, suc, ◌+◌, ◌-◌, ◌*◌, ◌<◌, ◌≤◌, List, [], ◌∷◌, ◌++◌, length, get_or, take, drop, replicate, refl, sym, ap, subst, ◌∙◌, arith, length-append, append_assoc, add-mul, suc-mul, mul-le-mul_right, le_of_mul-le-mul_right, set, get_or-set_same}
+use Rattle.std.proofs.Common.{◌≡◌, ◌⊎◌, inl, inr, ℕ, zero, suc, ◌+◌, ◌-◌, ◌*◌, ◌<◌, ◌≤◌, List, [], ◌∷◌, ◌++◌, length, take, drop, replicate, refl, sym, ap, subst, ◌∙◌, arith, length-append, append_assoc, add-mul, suc-mul, mul-le-mul_right, le_of_mul-le-mul_right, get_or-set_same}
 use Rattle.std.specs.Prelude.{true, false, ◌==◌, IsTrue, Some, max}
 use Rattle.std.proofs.lemmas.Bool.{true≢false, and_parts}
 use Rattle.std.proofs.lemmas.Bool.Decides.{leb_tells, eqb_tells}
-use Rattle.std.proofs.lemmas.List.{take-append-le, take_all, drop_all, get_or_append_left, get_or-append_right, length-take-le, length-drop, length-replicate, replicate-append-replicate}
+use Rattle.std.proofs.lemmas.List.{drop_all, get_or_append_left, get_or-append_right, length-take-le, length-drop, length-replicate, replicate-append-replicate}
 use Rattle.nb_fields.specs.Bytes.{is_zeros}
 use Rattle.nb_fields.specs.Places.{is_page_size}
 use Rattle.nb_fields.specs.Header.{is_header, size_of}
@@ -14,11 +14,10 @@ use Rattle.nb_model.specs.Causes.{not_database}
 use Rattle.nb_model.specs.Levels.{joined}
 use Rattle.nb_model.specs.Sound.{IsOfSize}
 use Rattle.nb_model.proofs.FormLaws.{no_cause}
-use Rattle.nb_model.proofs.HeaderLaws.{same-header, same-number, header-other}
+use Rattle.nb_model.proofs.HeaderLaws.{same-header, same-number}
 use Rattle.nb_model.proofs.ImageLaws.{AreZeros, IsTrimmed, length-joined, trimmed-append_zeros, trimmed-before, trimmed-drop, all-append, all-left, all-right, all-take, all-drop, trimmed-nothing}
-use Rattle.nb_model.proofs.MainLaws.{IsLaid, laid, laid-front, laid-wide, image_in-is, some_page}
-use Rattle.nb_model.proofs.OwnerLaws.{tail_length, written_length, other_page, main_here}
-use Rattle.nb_model.proofs.PutLaws.{MayPut, laid_put, laid_grown, put-joined, put-first}
+use Rattle.nb_model.proofs.MainLaws.{IsLaid, laid-front, laid-wide, image_in-is, some_page}
+use Rattle.nb_model.proofs.PutLaws.{laid_put, laid_grown, put-joined, put-first}
 
 -- a file that is laid so has the form of a database, and holds the image
 pub laid_formed : (image : Image) (bytes : List ℕ) → IsLaid image bytes → not_database bytes ≡ Rattle.std.specs.Prelude.None
