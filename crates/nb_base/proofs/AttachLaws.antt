@@ -1,10 +1,10 @@
 -- Why a file isn't opened, and what is held of one that is.
-use Rattle.std.proofs.Common.{◌≡◌, ◌≢◌, inl, inr, ⊎_elim, ℕ, zero, suc, ◌+◌, ◌-◌, ◌*◌, ◌/◌, ◌%◌, ◌<◌, ◌≤◌, List, [], ◌∷◌, ◌++◌, length, take, drop, refl, sym, ap, subst, ◌∙◌, arith, length-append, mul-le-mul_right, suc-mul}
-use Rattle.std.specs.Prelude.{Bool, true, false, not, ◌==◌, ◌||◌, IsTrue, Option, Some, None, option_map, min, nat_lt, Result, Ok, Err, IsErr, IsErrAnd}
+use Rattle.std.proofs.Common.{◌≡◌, ◌≢◌, inl, inr, ⊎_elim, ℕ, zero, suc, ◌+◌, ◌-◌, ◌*◌, ◌/◌, ◌%◌, ◌<◌, ◌≤◌, List, [], ◌∷◌, ◌++◌, length, get_or, take, drop, refl, sym, ap, subst, ◌∙◌, arith, length-append, mul-le-mul_right, suc-mul}
+use Rattle.std.specs.Prelude.{Bool, true, false, not, ◌==◌, ◌||◌, IsTrue, Option, Some, None, option_map, min, max, nat_lt, Result, Ok, Err, IsErr, IsErrAnd, IfOk, IfErr}
 use Rattle.std.proofs.Math.Nat.{div-eq_of_lt}
 use Rattle.std.proofs.lemmas.Bool.{cases_Bool}
 use Rattle.std.proofs.lemmas.Bool.Decides.{leb_tells}
-use Rattle.std.proofs.lemmas.List.{get_or-append_right, get_or_append_left, take-take}
+use Rattle.std.proofs.lemmas.List.{get_or-append_right, get_or_append_left, take-take, take_more}
 use Rattle.nb_fields.specs.Bytes.{is_zeros, number_in}
 use Rattle.nb_fields.specs.Header.{is_header, state_of, size_of, scn_of}
 use Rattle.nb_fields.specs.Places.{is_page_size}
@@ -28,7 +28,10 @@ use Rattle.nb_model.proofs.SoundLaws.{all_at}
 use Rattle.nb_model.proofs.ImageLaws.{IsTrimmed, page-joined, length-joined, trimmed-drop, trimmed-zeros}
 use Rattle.nb_model.proofs.MainLaws.{IsLaid, MainFacts, laid, laid-front, laid-wide, some_page, main_facts, owner_main, page_read}
 use Rattle.nb_model.proofs.ReadLaws.{lt_no, lt_yes, eq_no, eq_yes}
-use Rattle.nb_base.specs.Attach.{Tested, length_cause, start_cause, main_cause}
+use Rattle.nb_delta.specs.Known.{Known}
+use Rattle.nb_model.specs.Owner.{behind_entries}
+use Rattle.nb_base.proofs.OwnedLaws.{behind-added}
+use Rattle.nb_base.specs.Attach.{IsBlank, Tested, length_cause, start_cause, main_cause}
 use Rattle.nb_page.specs.Header.{header_in}
 use Rattle.nb_page.specs.declared.header.Header.{Header}
 
@@ -266,3 +269,20 @@ refusal_passed S T (Err e) fault cause is tested = subst (λ (f : Fault). Tested
     on (Refused r) t = t
     on Device t = tt
     on Memory t = tt
+
+-- a difference file that isn't looked at has no entries
+pub blank_for : (result : Result Known Fault) (name : List ℕ) (size : ℕ) → IfOk result (λ known. known ≡ record { name = name; page_size = size; entries = []; drafted = 0 }) → IfErr result (λ fault. fault ≡ Memory) → IsBlank result
+blank_for (Ok known) name size is only = ap (λ (k : Known). k.entries) is
+blank_for (Err (Refused r)) name size is only = absurd (other only)
+  where
+    other : Refused r ≡ Memory → ⊥
+    other e = cc
+blank_for (Err Device) name size is only = absurd (other only)
+  where
+    other : Device ≡ Memory → ⊥
+    other e = cc
+blank_for (Err Memory) name size is only = tt
+
+-- one entry more
+pub behind-next : (entries : List ℕ) (k : ℕ) → k < length entries → behind_entries (take (k + 1) entries) ≡ max (behind_entries (take k entries)) (get_or entries k 0 + 1)
+behind-next entries k low = ap behind_entries (take_more entries k 0 low) ∙ behind-added (get_or entries k 0) (take k entries)

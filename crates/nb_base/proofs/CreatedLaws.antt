@@ -72,6 +72,7 @@ created size raw is few long same old new name held named sized normal none file
             state = normal ∙ sym (fresh_state size raw);
             opened = omega (arith, normal);
             count = makes.answer.1;
+            main_count = λ stalled. absurd (omega (arith, normal, stalled));
             entries = none;
           };
         },

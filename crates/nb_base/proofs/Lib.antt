@@ -1,3 +1,5 @@
+pub mod WrittenLaws
+pub mod OwnedLaws
 pub mod CreateLaws
 pub mod MakingLaws
 pub mod CreatedLaws

@@ -1,10 +1,10 @@
 -- Opening a database: what its main file says first, and what is read of both files.
-use Rattle.std.specs.Prelude.{◌≡◌, ℕ, ◌*◌, ◌/◌, ◌%◌, ◌≤◌, List, [], ◌∷◌, length, Some, None, Result, Ok, Err, not, ◌||◌, ◌==◌, nat_lt, min}
+use Rattle.std.specs.Prelude.{◌≡◌, ℕ, ◌*◌, ◌/◌, ◌%◌, ◌<◌, ◌≤◌, List, [], ◌∷◌, length, Some, None, Result, Ok, Err, not, ◌||◌, ◌==◌, nat_lt, min}
 use Rattle.nb_fields.specs.Header.{state_of, size_of}
 use Rattle.nb_host.specs.Files.{File}
 use Rattle.nb_host.specs.declared.faults.Fault.{Fault}
 use Rattle.nb_host.specs.declared.faults.Fault.TheVariants.{Refused, Device, Memory}
-use Rattle.nb_host.specs.declared.refusals.Refusal.TheVariants.{NoFile, NotDatabase, Unfinished, BadDelta}
+use Rattle.nb_host.specs.declared.refusals.Refusal.TheVariants.{NoFile, NotDatabase, Unfinished}
 use Rattle.nb_delta.specs.Known.{Known}
 use Rattle.nb_delta.specs.Attaching.{Attaches as AttachesDelta}
 use Rattle.nb_model.specs.Causes.{Cause, first_cause, when, not_database}
@@ -41,10 +41,14 @@ pub record IsStart (bytes : List ℕ) (start : Start) : Type 0 where
   pub page_size : start.page_size ≡ size_of bytes
   pub pages : length bytes ≡ start.pages * start.page_size
 
--- The difference file that goes with a state: in the normal state none is looked at, and there are no entries.
-abbrev pub AttachesFor : (state size : ℕ) → (name : List ℕ) → File → Result Known Fault → Type 0
-AttachesFor 0 size name file (Ok known) = known.entries ≡ []
-AttachesFor 0 size name file (Err (Refused refusal)) = ⊥
-AttachesFor 0 size name file (Err Device) = Unit {0}
-AttachesFor 0 size name file (Err Memory) = Unit {0}
-AttachesFor (suc state) size name file result = AttachesDelta size name file result
+-- no file was looked at, and there are no entries
+abbrev pub IsBlank : Result Known Fault → Type 0
+IsBlank (Ok known) = known.entries ≡ []
+IsBlank (Err (Refused refusal)) = ⊥
+IsBlank (Err Device) = ⊥
+IsBlank (Err Memory) = Unit {0}
+
+-- The difference file that goes with a state. In the normal state none is looked at.
+pub record AttachesFor (state size : ℕ) (name : List ℕ) (file : File) (result : Result Known Fault) : Type 0 where
+  pub normal : state ≡ 0 → IsBlank result
+  pub other : 0 < state → AttachesDelta size name file result

@@ -1,5 +1,5 @@
 -- A trail stays sound: what was before stays before, and a page write that lowers no entry goes on.
-use Rattle.std.proofs.Common.{◌≡◌, inl, inr, ℕ, zero, suc, ◌/◌, ◌%◌, ◌<◌, ◌≤◌, List, [], ◌∷◌, ◌++◌, length, take, refl, sym, ap, subst, ◌∙◌, arith}
+use Rattle.std.proofs.Common.{◌≡◌, inl, inr, ℕ, zero, suc, ◌/◌, ◌%◌, ◌≤◌, [], ◌∷◌, length, take, refl, sym, ap, subst, ◌∙◌, arith}
 use Rattle.std.specs.Prelude.{Bool, true, false, Contains, IsTrue}
 use Rattle.std.proofs.lemmas.Bool.Decides.{eqb_tells}
 use Rattle.std.proofs.lemmas.List.Elements.{Contains-append_cases}
@@ -7,7 +7,7 @@ use Rattle.nb_fields.specs.Places.{is_page_size, scn_place, entries_in}
 use Rattle.nb_fields.specs.Payloads.{entry_of}
 use Rattle.nb_model.specs.Image.{Page, Image, page_at, first_page, image_size, image_scn, with_page}
 use Rattle.nb_model.specs.Account.{Base}
-use Rattle.nb_model.specs.Forms.{scn_page_of, entry_number, scn_entry, has_entry}
+use Rattle.nb_model.specs.Forms.{scn_page_of, entry_number, scn_entry}
 use Rattle.nb_model.specs.Sound.{IsSoundImage}
 use Rattle.nb_model.specs.Strokes.{Stroke, on_base}
 use Rattle.nb_model.specs.Trail.{Trail, settled, images_of, settles_at, after_stroke, IsLeft}

@@ -1,5 +1,5 @@
 -- Laws of mixtures: what they share with what was seen last, and that a mixture of sound images is sound.
-use Rattle.std.proofs.Common.{◌≡◌, ◌≢◌, inl, inr, ℕ, zero, suc, ◌/◌, ◌%◌, ◌<◌, ◌≤◌, List, [], ◌∷◌, length, take, drop, refl, sym, ap, subst, ◌∙◌, arith}
+use Rattle.std.proofs.Common.{◌≡◌, ℕ, ◌/◌, ◌%◌, ◌<◌, ◌≤◌, List, length, take, drop, refl, sym, ap, subst, ◌∙◌, arith}
 use Rattle.std.specs.Prelude.{Bool, true, false, IsTrue, not, ◌==◌, ◌||◌, Contains}
 use Rattle.std.proofs.lemmas.Bool.{or_right}
 use Rattle.nb_fields.specs.Bytes.{is_zeros, number_in}

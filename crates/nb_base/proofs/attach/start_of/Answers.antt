@@ -8,8 +8,8 @@ use Rattle.nb_base.specs.Attach.{Tested, length_cause}
 use Rattle.nb_base.proofs.AttachLaws.{refusal_passed, unheaded, headed, start_broken, start_unfinished, start_is, start_short, first_number, first_header, block_size, block_state, length_refused}
 use Rattle.nb_base.proofs.attach.start_of.Goals as goal
 
-pub returns-then-first-lt-START_LENGTH-clause-test : goal.returns-then-first-lt-START_LENGTH-clause-test
-returns-then-first-lt-START_LENGTH-clause-test c bytes long read = start_short bytes (omega (arith, c.if-first-lt-START_LENGTH.true, ap length read, length-take 64 bytes))
+pub returns-then-first-lt-LENGTH-clause-test : goal.returns-then-first-lt-LENGTH-clause-test
+returns-then-first-lt-LENGTH-clause-test c bytes long read = start_short bytes (omega (arith, c.if-first-lt-LENGTH.true, ap length read, length-take 64 bytes))
 
 pub returns-in_default-clause-test : goal.returns-in_default-clause-test
 returns-in_default-clause-test c bytes long read = start_broken bytes _ (unheaded bytes (sym (first_header c.args.first.now bytes read) ∙ sym c.in_default.ensures.exact))
@@ -23,13 +23,13 @@ returns-in_err-pages-clause-test c bytes long read =
     (length_refused bytes c.in-Some.block.page_size c.in_err-pages.field-0.0 header size
     (subst (λ (n : ℕ). Tested {T = ℕ} (Err c.in_err-pages.field-0.0) (length_cause n c.in-Some.block.page_size)) (sym long) c.in_err-pages.ensures.test))
 
-pub returns-then-block-eq3-clause-test : goal.returns-then-block-eq3-clause-test
-returns-then-block-eq3-clause-test c bytes long read =
+pub returns-then-block-eq-APPLYING-clause-test : goal.returns-then-block-eq-APPLYING-clause-test
+returns-then-block-eq-APPLYING-clause-test c bytes long read =
     let header : is_header bytes ≡ true = sym (first_header c.args.first.now bytes read) ∙ sym c.in-Some.ensures.exact in
     let size = block_size c.args.first.now bytes read c.in-Some.block c.in-Some.ensures.value in
     let state = block_state c.args.first.now bytes read c.in-Some.block c.in-Some.ensures.value in
     let formed : not_database bytes ≡ None = headed bytes header ∙ ap (λ (n : ℕ). length_cause n (size_of bytes)) long ∙ ap (length_cause c.args.len) (sym size) ∙ c.in_ok-pages.ensures.test in
-    start_unfinished bytes formed (sym state ∙ ?)
+    start_unfinished bytes formed (sym state ∙ c.if-block-eq-APPLYING.true)
 
 pub returns-clause-test : goal.returns-clause-test
 returns-clause-test c bytes long read =
@@ -37,7 +37,7 @@ returns-clause-test c bytes long read =
     let size = block_size c.args.first.now bytes read c.in-Some.block c.in-Some.ensures.value in
     let state = block_state c.args.first.now bytes read c.in-Some.block c.in-Some.ensures.value in
     let formed : not_database bytes ≡ None = headed bytes header ∙ ap (λ (n : ℕ). length_cause n (size_of bytes)) long ∙ ap (length_cause c.args.len) (sym size) ∙ c.in_ok-pages.ensures.test in
-    start_is bytes formed ?
+    start_is bytes formed (λ e. c.if-block-eq-APPLYING.false (state ∙ e))
 
 pub returns-clause-start : goal.returns-clause-start
 returns-clause-start c bytes long read =
@@ -47,7 +47,7 @@ returns-clause-start c bytes long read =
     record {
       formed = headed bytes header ∙ ap (λ (n : ℕ). length_cause n (size_of bytes)) long ∙ ap (length_cause c.args.len) (sym size) ∙ c.in_ok-pages.ensures.test;
       state = block_state first bytes read c.in-Some.block c.in-Some.ensures.value;
-      opened = ?;
+      opened = omega (arith, c.if-block-eq-APPLYING.false, c.in-Some.ensures.form.state);
       page_size = size;
       pages = long ∙ c.in_ok-pages.ensures.whole;
     }
