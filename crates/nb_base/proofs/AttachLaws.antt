@@ -3,7 +3,7 @@ use Rattle.std.proofs.Common.{◌≡◌, ◌≢◌, inl, inr, ⊎_elim, ℕ, zer
 use Rattle.std.specs.Prelude.{Bool, true, false, not, ◌==◌, ◌||◌, IsTrue, Option, Some, None, option_map, min, max, nat_lt, Result, Ok, Err, IsErr, IsErrAnd, IfOk, IfErr}
 use Rattle.std.proofs.Math.Nat.{div-eq_of_lt}
 use Rattle.std.proofs.lemmas.Bool.{cases_Bool}
-use Rattle.std.proofs.lemmas.Bool.Decides.{leb_tells}
+use Rattle.std.proofs.lemmas.Bool.Decides.{leb_tells, eqb_tells}
 use Rattle.std.proofs.lemmas.List.{get_or-append_right, get_or_append_left, take-take, take_more}
 use Rattle.nb_fields.specs.Bytes.{is_zeros, number_in}
 use Rattle.nb_fields.specs.Header.{is_header, state_of, size_of, scn_of}
@@ -102,7 +102,20 @@ module _ (bytes : List ℕ) where
   pub start_is : not_database bytes ≡ None → state_of bytes ≢ 3 → start_cause bytes ≡ None
   start_is e other = first_next _ _ e ∙ first_next _ _ (rests _ _ (eq_no (state_of bytes) 3 other)) ∙ first_none
 
-  -- a file that is shorter than a page has none
+  -- behind a form the state decides
+  pub start_rest : (r : Refusal) → not_database bytes ≡ None → start_cause bytes ≡ Some r → (state_of bytes ≡ 3) × (r ≡ Unfinished)
+  start_rest r none e = elim (eqb_tells (state_of bytes) 3) [
+    | inl w ↦ (w.1, some_same (sym e ∙ start_unfinished none w.1))
+    | inr w ↦ absurd (none_some (sym (start_is none w.1) ∙ e))
+  ]
+    where
+      some_same : {a b : Refusal} → Some a ≡ Some b → a ≡ b
+      some_same h = cc
+
+      none_some : None ≡ Some r → ⊥
+      none_some h = cc
+
+  -- a file that is shorter than a header has none
   pub start_short : length bytes < 64 → start_cause bytes ≡ Some (NotDatabase 0)
   start_short short = start_broken _ (elim (cases_Bool (is_header bytes)) [ inl w ↦ headed bytes w ∙ none (size_of bytes) (header-size bytes w) | inr w ↦ unheaded bytes w ])
     where
@@ -286,3 +299,12 @@ blank_for (Err Memory) name size is only = tt
 -- one entry more
 pub behind-next : (entries : List ℕ) (k : ℕ) → k < length entries → behind_entries (take (k + 1) entries) ≡ max (behind_entries (take k entries)) (get_or entries k 0 + 1)
 behind-next entries k low = ap behind_entries (take_more entries k 0 low) ∙ behind-added (get_or entries k 0) (take k entries)
+
+pub counted-next : {E : Type 0} (entries kept : List ℕ) (k page count main next : ℕ) → kept ≡ entries → ◌≡◌ {A = Result ℕ E} (Ok page) (Ok (get_or kept k 0)) → k < length entries → next ≡ max count (page + 1) → count ≡ max main (behind_entries (take k entries))
+    → next ≡ max main (behind_entries (take (k + 1) entries))
+counted-next {E} entries kept k page count main next same told low is so_far =
+    let named : page ≡ get_or entries k 0 = ok_same told ∙ ap (λ (l : List ℕ). get_or l k 0) same in
+    omega (arith, named, is, so_far, behind-next entries k low)
+  where
+    ok_same : {a b : ℕ} → ◌≡◌ {A = Result ℕ E} (Ok a) (Ok b) → a ≡ b
+    ok_same e = cc

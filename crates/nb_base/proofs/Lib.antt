@@ -4,3 +4,4 @@ pub mod CreateLaws
 pub mod MakingLaws
 pub mod CreatedLaws
 pub mod AttachLaws
+pub mod OpenedLaws
