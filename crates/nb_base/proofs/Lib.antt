@@ -5,3 +5,5 @@ pub mod MakingLaws
 pub mod CreatedLaws
 pub mod AttachLaws
 pub mod OpenedLaws
+pub mod ControlLaws
+pub mod BlockLaws
