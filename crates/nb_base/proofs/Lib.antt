@@ -1,3 +1,4 @@
 pub mod WrittenLaws
 pub mod OwnedLaws
 pub mod LeftLaws
+pub mod StepLaws
