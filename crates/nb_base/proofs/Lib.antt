@@ -2,3 +2,4 @@ pub mod WrittenLaws
 pub mod OwnedLaws
 pub mod LeftLaws
 pub mod StepLaws
+pub mod OutcomeLaws

@@ -152,7 +152,7 @@ module _ (t : Trail) (p : ℕ) (bytes : Page) (is : IsWrite t p bytes) where
         ]
 
     -- no entry names it here where none does in what was seen
-    none_left : entry_for p t.base.diverted ≡ None → entry_for p b.diverted ≡ None
+    pub none_left : entry_for p t.base.diverted ≡ None → entry_for p b.diverted ≡ None
     none_left none = by (entry_for p b.diverted) refl
       where
         by : (x : Option ℕ) → entry_for p b.diverted ≡ x → entry_for p b.diverted ≡ None
