@@ -3,3 +3,4 @@ pub mod OwnedLaws
 pub mod LeftLaws
 pub mod StepLaws
 pub mod OutcomeLaws
+pub mod WriteLaws

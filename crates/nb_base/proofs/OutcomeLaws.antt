@@ -12,9 +12,10 @@ use Rattle.nb_model.specs.Owner.{entry_for, owned, owner}
 use Rattle.nb_model.specs.Trail.{Trail, after_stroke, is_synced, IsLeft, StandsOn}
 use Rattle.nb_model.proofs.TrailLaws.{left_itself, trail_base}
 use Rattle.nb_base.specs.Open.{Fits}
+use Rattle.nb_base.specs.Seen.{IsWrite}
 use Rattle.nb_base.proofs.OwnedLaws.{Holds, holds, shows, main-some, main-long, base-state, base-size, base-length, entry_shows, entry-front, entry-behind, entry_at}
 use Rattle.nb_base.proofs.LeftLaws.{merged_fits, stroke-image, stroke-frozen, stroke-stalled, stroke-other, noted-there, noted-new, later_size, later_state, later_length, later_front, state_left, size_left, put_left, stay_left}
-use Rattle.nb_base.proofs.StepLaws.{IsWrite, delta_moved, main-state, main-size, holds_main, left_main, hidden_main, holds_slots, holds_slot, none_left}
+use Rattle.nb_base.proofs.StepLaws.{delta_moved, main-state, main-size, holds_main, left_main, hidden_main, holds_slots, holds_slot, none_left}
 
 some_same : {j k : ℕ} → Some j ≡ Some k → j ≡ k
 some_same h = cc

@@ -15,6 +15,7 @@ use Rattle.nb_model.specs.Trail.{Trail, after_stroke, is_synced, IsLeft, StandsO
 use Rattle.nb_model.proofs.HeaderLaws.{same-header, same-number}
 use Rattle.nb_model.proofs.TrailLaws.{left_itself, trail_base}
 use Rattle.nb_base.specs.Open.{Fits}
+use Rattle.nb_base.specs.Seen.{IsWrite}
 use Rattle.nb_base.proofs.WrittenLaws.{HasMain, MayWrite, main_put, main_written}
 use Rattle.nb_base.proofs.OwnedLaws.{Holds, holds, shows, HasEntries, IsFrozen, main-some, main-long, base-front, base-state, base-size, front_stays, main_shows, main_hidden, slots_stay, slot_shows, entry_shows, entry-front, entry-behind}
 use Rattle.nb_base.proofs.LeftLaws.{merged_fits, stroke-image, stroke-frozen, stroke-stalled, stroke-other, noted-there, noted-new, fits_left, state_left, size_left, put_is, put_left, stay_left}
@@ -54,13 +55,6 @@ delta_moved b new m d c h diverts table frozen image = record {
   image = image;
   frozen = record { stalled = λ e. frozen ∙ h.frozen.stalled e; other = λ ne. frozen ∙ h.frozen.other ne };
 }
-
--- A page that is written where a trail is seen.
-pub record IsWrite (t : Trail) (p : ℕ) (bytes : Page) : Type 0 where
-  pub fits : Fits p bytes t.base.image
-  pub long : length bytes ≡ image_size t.base.image
-  pub below : p < 1048576
-  pub other : is_zeros bytes ≡ false
 
 module _ (t : Trail) (p : ℕ) (bytes : Page) (is : IsWrite t p bytes) where
   abbrev s : Stroke
