@@ -7,3 +7,8 @@ pub mod AttachLaws
 pub mod OpenedLaws
 pub mod ControlLaws
 pub mod BlockLaws
+pub mod LeftLaws
+pub mod StepLaws
+pub mod OutcomeLaws
+pub mod PlaceLaws
+pub mod WriteLaws

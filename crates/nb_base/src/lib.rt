@@ -10,5 +10,6 @@ mod attach;
 mod beginnings;
 mod control;
 mod files;
+mod writes;
 
 pub use files::TwoFiles;
