@@ -12,3 +12,4 @@ pub mod StepLaws
 pub mod OutcomeLaws
 pub mod PlaceLaws
 pub mod WriteLaws
+pub mod StateLaws
