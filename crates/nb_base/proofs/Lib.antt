@@ -13,3 +13,4 @@ pub mod OutcomeLaws
 pub mod PlaceLaws
 pub mod WriteLaws
 pub mod StateLaws
+pub mod StrokeLaws

@@ -20,7 +20,7 @@ use Rattle.nb_base.proofs.OwnedLaws.{Holds, owned-alone, main-some, main-long, b
 use Rattle.nb_base.proofs.WrittenLaws.{HasMain}
 
 -- another file with the same image
-pub same_main : (b : Base) (m d c : File) (h : Holds b m d) → HasMain h.main c → Holds b c d
+abbrev pub same_main : (b : Base) (m d c : File) (h : Holds b m d) → HasMain h.main c → Holds b c d
 same_main b m d c h has = record { main = h.main; has = has; opened = h.opened; entries = h.entries; image = h.image; frozen = h.frozen }
 
 -- in the normal state the image is the main file's

@@ -18,6 +18,13 @@ use crate::TwoFiles;
 use nb_fields::layouts::{head, header};
 use nb_host::{Host, HostFault, Name};
 
+/// The backup states.
+const NORMAL: u16 = 0;
+
+const STALLED: u16 = 1;
+
+const MERGE: u16 = 2;
+
 /// Sets the control block of page 0. Its generation rises by one, and the SCN is its stamp.
 fn set_block(page: &mut [u8], state: u16, scn: u32, guid: &[u8; 16])
     requires { 64 ≤ length page.old }
@@ -75,15 +82,19 @@ impl TwoFiles {
     /// then 1, and its SCN one higher.
     pub fn begin<H: Host>(&mut self, host: &mut H, guid: &[u8; 16]) -> Result<(), HostFault>
         requires normal { self.old.state ≡ 0 }
-        requires stub { ⊥ }
-        ensures takes { (t : Trail) (ask : Option Ask) → IsTrue H.tells → IsOpen (H.world host.old) self.old t → image_scn t.base.image < 4294967295
+        ensures takes { (t : Trail) (ask : Option Ask) → IsTrue H.tells → IsOpen (H.world host.old) self.old t → image_scn t.base.image < 4294967294
             → Takes result (H.world host.old) (H.world host.new) self.old.name (IsOpen (H.world host.new) self.new) t (begin_stroke guid.now ask ∷ []) }
         ensures gave { GaveNothing (H.world host.old) (H.world host.new) }
         ensures name { self.new.name ≡ self.old.name }
         ensures page_size { self.new.page_size ≡ self.old.page_size }
         ensures cause { CountsFault result (H.faults host.old) (H.faults host.new) }
     {
-        unreachable!()
+        host.sync(&self.name)?;
+        self.delta.make(host)?;
+        control_block(host, &self.name, &mut self.page, STALLED, Some(*guid))?;
+        self.state = STALLED;
+        self.main_count = self.count;
+        Ok(())
     }
 
     /// Ends the stalled state: from now on the pages of the difference file may be merged back. Its state is then 2, and its SCN one
