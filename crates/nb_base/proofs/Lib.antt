@@ -14,3 +14,5 @@ pub mod PlaceLaws
 pub mod WriteLaws
 pub mod StateLaws
 pub mod StrokeLaws
+pub mod MergeLaws
+pub mod EndLaws

@@ -33,16 +33,16 @@ begin-settles : (t : Trail) (guid : List ℕ) (ask : Option Ask) → settles_at 
 unfolding settles_at
 begin-settles t guid ask = refl
 
-ends-settles : (t : Trail) → settles_at t ends ≡ true
+pub ends-settles : (t : Trail) → settles_at t ends ≡ true
 unfolding settles_at
 ends-settles t = refl
 
-finish-settles : (t : Trail) → settles_at t finish ≡ true
+pub finish-settles : (t : Trail) → settles_at t finish ≡ true
 unfolding settles_at
 finish-settles t = refl
 
 -- files that hold the database after a stroke that settles
-stands_after : (name : List ℕ) (s : Stroke) (t : Trail) (m d : File) → settles_at t s ≡ true → Holds (on_base s t.base) m d → StandsOn name (after_stroke s t) m d
+pub stands_after : (name : List ℕ) (s : Stroke) (t : Trail) (m d : File) → settles_at t s ≡ true → Holds (on_base s t.base) m d → StandsOn name (after_stroke s t) m d
 stands_after name s t m d settles h = subst (λ (x : Trail). StandsOn name x m d) (sym (settles_after s t settles)) (shows_settled name (on_base s t.base) m d (shows name (on_base s t.base) m d h))
 
 -- The files while nothing is changed yet, also where a sync failed.
@@ -93,7 +93,7 @@ module _ (old : World) (held : Held) (t : Trail) (is : IsOpen old held t) where
   abbrev pub h0 : Holds t.base (old.files held.name) (old.files (delta_name held.name))
   h0 = holds held.name t.base (old.files held.name) (old.files (delta_name held.name)) is.shows
 
-  main_state : image_state h0.main ≡ held.state
+  pub main_state : image_state h0.main ≡ held.state
   main_state = sym (base-state t.base m0 d0 h0) ∙ sym is.agrees.state
 
   main_scn : image_scn t.base.image ≡ image_scn h0.main

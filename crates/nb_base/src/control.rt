@@ -101,8 +101,7 @@ impl TwoFiles {
     /// higher.
     pub fn end<H: Host>(&mut self, host: &mut H) -> Result<(), HostFault>
         requires stalled { self.old.state ≡ 1 }
-        requires stub { ⊥ }
-        ensures takes { (t : Trail) → IsTrue H.tells → IsOpen (H.world host.old) self.old t → image_scn t.base.image < 4294967295
+        ensures takes { (t : Trail) → IsTrue H.tells → IsOpen (H.world host.old) self.old t
             → Takes result (H.world host.old) (H.world host.new) self.old.name (IsOpen (H.world host.new) self.new) t (ends ∷ []) }
         ensures gave { GaveNothing (H.world host.old) (H.world host.new) }
         ensures name { self.new.name ≡ self.old.name }
@@ -110,7 +109,10 @@ impl TwoFiles {
         ensures entries { self.new.entries ≡ self.old.entries }
         ensures cause { CountsFault result (H.faults host.old) (H.faults host.new) }
     {
-        unreachable!()
+        host.sync(&self.name.delta())?;
+        control_block(host, &self.name, &mut self.page, MERGE, None)?;
+        self.state = MERGE;
+        Ok(())
     }
 
     /// Writes the page of entry `k` from its slot into the main file. It changes no page of the database.
@@ -134,14 +136,17 @@ impl TwoFiles {
     /// Ends the merge, once every entry is equal in both files: its state is 0 again, and the difference file is removed.
     pub fn finish<H: Host>(&mut self, host: &mut H) -> Result<(), HostFault>
         requires merge { self.old.state ≡ 2 }
-        requires stub { ⊥ }
-        ensures takes { (t : Trail) → IsTrue H.tells → IsOpen (H.world host.old) self.old t → AreMerged (H.world host.old) self.old (length self.old.entries)
+        ensures takes { (t : Trail) → IsTrue H.tells → IsOpen (H.world host.old) self.old t → HasNoZeros t.base.image → AreMerged (H.world host.old) self.old (length self.old.entries)
             → Takes result (H.world host.old) (H.world host.new) self.old.name (IsOpen (H.world host.new) self.new) t (finish_stroke ∷ []) }
         ensures gave { GaveNothing (H.world host.old) (H.world host.new) }
         ensures name { self.new.name ≡ self.old.name }
         ensures page_size { self.new.page_size ≡ self.old.page_size }
         ensures cause { CountsFault result (H.faults host.old) (H.faults host.new) }
     {
-        unreachable!()
+        host.sync(&self.name)?;
+        control_block(host, &self.name, &mut self.page, NORMAL, None)?;
+        self.state = NORMAL;
+        self.main_count = self.count;
+        self.delta.clear(host)
     }
 }
