@@ -5,3 +5,4 @@ pub mod StepLaws
 pub mod OutcomeLaws
 pub mod PlaceLaws
 pub mod WriteLaws
+pub mod AgreeLaws

@@ -252,9 +252,9 @@ module _ (t : Trail) (p : ℕ) (bytes : Page) where
   entry_later merges k at = ap (λ (b : Base). entry_for p b.diverted) (trail_base (page p bytes) t) ∙ ap (entry_for p) (stroke-other t.base p bytes (λ e. absurd (omega (arith, e, merges)))) ∙ at
 
 -- What a call took, passed on as a failure, and from a world that is the same.
-pub takes_passed : {T E U F : Type 0} (result : Result T E) (passed : Result U F) (old mid new : World) (name : List ℕ) (opened : Trail → Type 0) (t : Trail) (strokes : List Stroke)
-    → mid ≡ old → Takes result mid new name opened t strokes → IsErr passed → Takes passed old new name opened t strokes
-takes_passed result passed old mid new name opened t strokes same takes failed = record {
+pub takes_passed : {T E U F : Type 0} (result : Result T E) (passed : Result U F) (old mid new : World) (name : List ℕ) (opened other : Trail → Type 0) (t : Trail) (strokes : List Stroke)
+    → mid ≡ old → Takes result mid new name opened t strokes → IsErr passed → Takes passed old new name other t strokes
+takes_passed result passed old mid new name opened other t strokes same takes failed = record {
   left = subst (λ (w : World). Strikes w new name t strokes) same takes.left;
   done = not_done passed _ failed;
 }
