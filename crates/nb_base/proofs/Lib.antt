@@ -16,3 +16,4 @@ pub mod StateLaws
 pub mod StrokeLaws
 pub mod MergeLaws
 pub mod EndLaws
+pub mod AgreeLaws
