@@ -17,3 +17,4 @@ pub mod StrokeLaws
 pub mod MergeLaws
 pub mod EndLaws
 pub mod AgreeLaws
+pub mod MergedLaws
