@@ -18,3 +18,4 @@ pub mod MergeLaws
 pub mod EndLaws
 pub mod AgreeLaws
 pub mod MergedLaws
+pub mod PageReads

@@ -10,6 +10,7 @@ mod attach;
 mod beginnings;
 mod control;
 mod files;
+mod reads;
 mod writes;
 
 pub use files::TwoFiles;
