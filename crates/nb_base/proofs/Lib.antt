@@ -4,5 +4,7 @@ pub mod LeftLaws
 pub mod StepLaws
 pub mod OutcomeLaws
 pub mod PlaceLaws
+pub mod PageReads
+pub mod SyncLaws
 pub mod WriteLaws
 pub mod AgreeLaws

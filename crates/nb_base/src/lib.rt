@@ -7,6 +7,8 @@
 #![tactic(auto)]
 
 mod files;
+mod reads;
+mod sync;
 mod writes;
 
 pub use files::TwoFiles;
