@@ -11,6 +11,8 @@ pub mod LeftLaws
 pub mod StepLaws
 pub mod OutcomeLaws
 pub mod PlaceLaws
+pub mod PageReads
+pub mod SyncLaws
 pub mod WriteLaws
 pub mod StateLaws
 pub mod StrokeLaws
@@ -18,4 +20,3 @@ pub mod MergeLaws
 pub mod EndLaws
 pub mod AgreeLaws
 pub mod MergedLaws
-pub mod PageReads

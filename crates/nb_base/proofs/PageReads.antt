@@ -6,7 +6,8 @@ use Rattle.std.proofs.lemmas.List.{take_all, get_or_append_left, get_or-append_r
 use Rattle.nb_fields.specs.Bytes.{is_zeros}
 use Rattle.nb_fields.specs.Header.{size_of}
 use Rattle.nb_fields.specs.Table.{page_in, slot_place}
-use Rattle.nb_host.specs.Files.{File, bytes_of}
+use Rattle.nb_host.specs.Files.{File, Files, bytes_of}
+use Rattle.nb_delta.specs.Known.{Known}
 use Rattle.nb_host.specs.Calls.{ReadsPage, ReadsBytes}
 use Rattle.nb_model.specs.Image.{Page, Image, page_at, image_size, image_state, image_in}
 use Rattle.nb_model.specs.Causes.{not_database}
@@ -145,3 +146,17 @@ open_reads w held t o =
           let is : b.frozen ≡ h.main = h.frozen.stalled state in
           ap (λ (x : Image). main_page held.page_size x p) image ∙ main_here held.page_size h.main p (omega (arith, low, ap length is)) ∙ sym (ap (λ (x : Image). page_at x p) is);
     }
+
+-- what was read of a slot, by what the object of the difference file knows
+pub got_slot : (size : ℕ) (name : List ℕ) (files now : Files) (known k_ : Known) (k : ℕ) (got : List ℕ) → now ≡ files → k_ ≡ known → size ≡ known.page_size → known.name ≡ delta_name name
+    → got ≡ page_in k_.page_size (bytes_of (now k_.name)) (slot_place k_.page_size k) → got ≡ page_in size (bytes_of (files (delta_name name))) (slot_place size k)
+got_slot size name files now known k_ k got same knows size_is named is =
+    is ∙ ap (λ (x : Known). page_in x.page_size (bytes_of (now x.name)) (slot_place x.page_size k)) knows ∙ ap (λ n. page_in n (bytes_of (now known.name)) (slot_place n k)) (sym size_is)
+    ∙ ap (λ (x : List ℕ). page_in size (bytes_of (now x)) (slot_place size k)) named ∙ ap (λ (f : Files). page_in size (bytes_of (f (delta_name name))) (slot_place size k)) same
+
+-- the same at an equal page size
+pub sized_owned : (a b : ℕ) (main : Image) (delta entries : List ℕ) (p : ℕ) (got : List ℕ) → a ≡ b → got ≡ owned_page a main delta entries p → got ≡ owned_page b main delta entries p
+sized_owned a b main delta entries p got same is = is ∙ ap (λ n. owned_page n main delta entries p) same
+
+pub sized_main : (a b : ℕ) (main : Image) (p : ℕ) (got : List ℕ) → a ≡ b → got ≡ main_page a main p → got ≡ main_page b main p
+sized_main a b main p got same is = is ∙ ap (λ n. main_page n main p) same

@@ -11,6 +11,7 @@ mod beginnings;
 mod control;
 mod files;
 mod reads;
+mod sync;
 mod writes;
 
 pub use files::TwoFiles;
