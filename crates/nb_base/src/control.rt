@@ -49,7 +49,11 @@ fn change_block(page: &mut [u8], state: u16, guid: Option<[u8; 16]>)
     ensures long { length page.new ≡ length page.old }
 {
     let old = header::Scn::get(page) as u32;
-    let scn = if state == 0 { old } else { old.saturating_add(1) };
+    let scn = if state == 0 {
+        old
+    } else {
+        old.saturating_add(1)
+    };
     let guid = guid.unwrap_or(header::Guid::get(page));
     set_block(page, state, scn, &guid);
 }

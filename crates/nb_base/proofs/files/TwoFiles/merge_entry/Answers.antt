@@ -1,6 +1,6 @@
-use Rattle.std.proofs.Common.{◌≡◌, ℕ, ◌+◌, ◌*◌, ◌<◌, List, [], length, refl, sym, ap, subst, ◌∙◌, arith}
+use Rattle.std.proofs.Common.{◌≡◌, ◌+◌, ◌*◌, ◌<◌, [], length, refl, sym, ap, subst, ◌∙◌, arith}
 use Rattle.std.proofs.lemmas.List.{take_at}
-use Rattle.nb_host.specs.Files.{File, Files, bytes_of, with_file, with_page}
+use Rattle.nb_host.specs.Files.{Files, bytes_of, with_file, with_page}
 use Rattle.nb_host.specs.World.{World}
 use Rattle.nb_delta.specs.Known.{Known}
 use Rattle.nb_model.specs.Image.{image_in}
