@@ -53,6 +53,31 @@ impl TwoFiles {
         self.count
     }
 
+    /// In bytes.
+    pub fn page_size(&self) -> u32
+        requires stub { ⊥ }
+        ensures value { result ≡ self.now.page_size }
+        ensures one_of { IsTrue (is_page_size result) }
+    {
+        unreachable!()
+    }
+
+    /// The backup state: 0 normal, 1 stalled, 2 merge.
+    pub fn state(&self) -> u16
+        ensures { result ≡ self.now.state }
+    {
+        self.state
+    }
+
+    /// How many pages the difference file holds; none in the normal state.
+    pub fn delta_count(&self) -> u32
+        requires stub { ⊥ }
+        ensures value { result ≡ length self.now.entries }
+        ensures most { result ≤ 1048576 }
+    {
+        unreachable!()
+    }
+
     /// How many pages the main file has.
     pub fn main_count(&self) -> u32
         ensures { result ≡ self.now.main_count }

@@ -14,8 +14,8 @@ use Rattle.nb_model.specs.Trail.{Trail}
 use Rattle.nb_base.specs.Takes.{Strikes, after_strokes}
 use Rattle.nb_state.specs.Open.{Held, IsOpen, name_of}
 use Rattle.nb_state.specs.Does.{Tested, WhereRefused}
-use Rattle.nb_state.specs.declared.store.Progress.{Progress}
-use Rattle.nb_state.specs.declared.store.Progress.TheVariants.{More, Finished}
+use Rattle.nb_state.specs.declared.turns.Progress.{Progress}
+use Rattle.nb_state.specs.declared.turns.Progress.TheVariants.{More, Finished}
 
 -- why no backup begins
 abbrev pub begin_cause : Image → Cause
