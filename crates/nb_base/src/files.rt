@@ -125,6 +125,8 @@ impl TwoFiles {
             → AreMerged (H.world host.old) self.old k → OnOk result (AreMerged (H.world host.new) self.new k) }
         ensures gave { GaveNothing (H.world host.old) (H.world host.new) }
         ensures reads { (H.world host.new).reads ≡ (H.world host.old).reads }
+        ensures state { self.new.state ≡ self.old.state }
+        ensures entries { self.old.state ≡ 2 → self.new.entries ≡ self.old.entries }
         ensures name { self.new.name ≡ self.old.name }
         ensures page_size { self.new.page_size ≡ self.old.page_size }
         ensures cause { CountsDevice result (H.faults host.old) (H.faults host.new) }

@@ -4,3 +4,9 @@ pub mod ChangeLaws
 pub mod ApartLaws
 pub mod StrokeLaws
 pub mod ResultLaws
+pub mod ChangesLaws
+pub mod CallLaws
+pub mod MovedLaws
+pub mod SettledLaws
+pub mod ReachedLaws
+pub mod GaveLaws

@@ -17,6 +17,10 @@ Other names m = names m → ⊥
 abbrev pub Only : List ℕ → Names
 Only name m = m ≡ name
 
+-- no name
+abbrev pub NoNames : Names
+NoNames m = ⊥
+
 -- At one moment: the files have P, of each name that isn't touched a stop leaves what it would have left before, and nothing was said.
 pub record ChangedLeft (old : World) (names : Names) (P : Files → Type 0) (files : Files) (said : List ℕ) : Type 0 where
   pub has : P files
@@ -46,3 +50,7 @@ pub record Moved (old : World) (name : List ℕ) (step : File → File → Type 
   pub before : File
   pub was : Leaves old name before
   pub by : step before (files name)
+
+-- of the file a stop leaves what it would have left before, or such a file as was made
+abbrev pub Remade : (old : World) (name : List ℕ) (made : File → Type 0) → Files → Type 0
+Remade old name made files = Leaves old name (files name) ⊎ made (files name)

@@ -40,3 +40,7 @@ pub mod PlayLaws
 pub mod TakenLaws
 pub mod FreeLaws
 pub mod FrontLaws
+pub mod TrailLaws
+pub mod FitLaws
+pub mod MixtureLaws
+pub mod EarlierLaws

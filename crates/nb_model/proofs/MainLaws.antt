@@ -58,7 +58,7 @@ laid-wide image bytes laid = (size_facts (image_size image) laid.size).at_least
 times-one : (n size : ℕ) → 0 < size → n ≤ n * size
 times-one n size h = let low : n * 1 ≤ n * size = mul-le-mul_left n h in omega (arith, low)
 
-image_in-is : (bytes : List ℕ) (size : ℕ) (ps : List Page) → size_of bytes ≡ size → bytes ≡ joined ps → IsOfSize size ps → 0 < size → image_in bytes ≡ trimmed ps
+pub image_in-is : (bytes : List ℕ) (size : ℕ) (ps : List Page) → size_of bytes ≡ size → bytes ≡ joined ps → IsOfSize size ps → 0 < size → image_in bytes ≡ trimmed ps
 unfolding image_in
 image_in-is bytes size ps same is sizes some =
     let long : length bytes ≡ length ps * size = ap length is ∙ length-joined size ps sizes in
@@ -175,7 +175,7 @@ pub owner-formed : (name bytes : List ℕ) (delta : File) → not_database bytes
 unfolding owner
 owner-formed name bytes delta none = rw (none, owner) refl
 
-owner_in-normal : (name bytes : List ℕ) (delta : File) → owner_in 0 name bytes delta ≡ Ok (base_of (image_in bytes))
+pub owner_in-normal : (name bytes : List ℕ) (delta : File) → owner_in 0 name bytes delta ≡ Ok (base_of (image_in bytes))
 unfolding owner_in
 owner_in-normal name bytes delta = refl
 
@@ -186,7 +186,7 @@ owner_main name image m d h =
     ∙ owner_in-normal name h.bytes d ∙ ap (λ (x : Image). Ok (base_of x)) h.is
 
 -- page 0 of the image of two files has the first 64 bytes of the main file's
-owned-front : (size : ℕ) (main : Image) (delta table : List ℕ) → 1 ≤ length main → 64 ≤ length (page_at main 0) → take 64 (owned_page size main delta table 0) ≡ take 64 (page_at main 0)
+pub owned-front : (size : ℕ) (main : Image) (delta table : List ℕ) → 1 ≤ length main → 64 ≤ length (page_at main 0) → take 64 (owned_page size main delta table 0) ≡ take 64 (page_at main 0)
 unfolding owned_page slot_page main_page
 owned-front size main delta table some long = by (entry_for 0 table)
   where
@@ -197,7 +197,7 @@ owned-front size main delta table some long = by (entry_for 0 table)
     by (Some k) = take_at (take 64 (page_at main 0)) _ 64 (length-take-le 64 (page_at main 0) long)
     by None = here
 
-owned-first : (size : ℕ) (main : Image) (delta table : List ℕ) → 1 ≤ length main → first_page (owned size main delta table) ≡ owned_page size main delta table 0
+pub owned-first : (size : ℕ) (main : Image) (delta table : List ℕ) → 1 ≤ length main → first_page (owned size main delta table) ≡ owned_page size main delta table 0
 unfolding owned owned_from
 owned-first size main delta table some = by (max (length main) (behind_entries table)) (omega arith)
   where
@@ -216,7 +216,7 @@ owned-state bytes delta table none =
     same-number (first_page (owned (size_of bytes) main delta table)) bytes front 22 2 (omega arith)
 
 -- why two files hold no database
-owner-none : (name : List ℕ) (delta : File) → owner name None delta ≡ Err (NoFile name)
+pub owner-none : (name : List ℕ) (delta : File) → owner name None delta ≡ Err (NoFile name)
 unfolding owner
 owner-none name delta = refl
 
@@ -224,14 +224,14 @@ pub owner-refused : (name bytes : List ℕ) (delta : File) (r : Refusal) → not
 unfolding owner
 owner-refused name bytes delta r e = rw (e, owner) refl
 
-ok_same : (a b : Base) (answer : Result Base Refusal) → answer ≡ Ok a → answer ≡ Ok b → a ≡ b
+pub ok_same : (a b : Base) (answer : Result Base Refusal) → answer ≡ Ok a → answer ≡ Ok b → a ≡ b
 ok_same a b answer e f = cc
 
 -- the image of a database whose difference file is there
 abbrev by_table : (bytes delta : List ℕ) → Result (List ℕ) ℕ → Result Base Refusal
 by_table bytes delta found = elim found [ Err page ↦ Err (BadDelta page) | Ok table ↦ Ok (diverted_base bytes delta table) ]
 
-diverted-image : (bytes delta table : List ℕ) → (diverted_base bytes delta table).image ≡ owned (size_of bytes) (image_in bytes) delta table
+pub diverted-image : (bytes delta table : List ℕ) → (diverted_base bytes delta table).image ≡ owned (size_of bytes) (image_in bytes) delta table
 unfolding diverted_base
 diverted-image bytes delta table = refl
 

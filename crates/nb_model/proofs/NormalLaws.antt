@@ -14,7 +14,8 @@ use Rattle.nb_model.specs.Causes.{not_raw}
 use Rattle.nb_model.specs.Pages.{byte_strokes}
 use Rattle.nb_model.specs.Sound.{IsSoundImage, HasHeader}
 use Rattle.nb_model.proofs.SoundLaws.{HasFields, FitsAt, state_stays}
-use Rattle.nb_model.proofs.PutSound.{Throughout, Held, text_holds}
+use Rattle.nb_model.proofs.FitLaws.{Held, Throughout}
+use Rattle.nb_model.proofs.PutSound.{text_holds}
 use Rattle.nb_model.proofs.HeadSound.{byte_holds}
 use Rattle.nb_model.proofs.BitSound.{give_holds}
 use Rattle.nb_model.proofs.NewSound.{new_raw_holds}

@@ -7,20 +7,20 @@ use Rattle.nb_fields.specs.Table.{slot_place, page_in}
 use Rattle.nb_model.specs.Image.{Page, Image, page_at, written_at}
 use Rattle.nb_model.specs.Owner.{entry_for, behind_entries, slot_page, main_page, owned_page, owned_from, owned}
 
-zeros_there : (n k : ℕ) (zeros page : Page) → k < n → get_or (replicate n zeros ++ page ∷ []) k [] ≡ zeros
+pub zeros_there : (n k : ℕ) (zeros page : Page) → k < n → get_or (replicate n zeros ++ page ∷ []) k [] ≡ zeros
 zeros_there zero k zeros page h = absurd (omega arith)
 zeros_there (suc n) zero zeros page h = refl
 zeros_there (suc n) (suc k) zeros page h = zeros_there n k zeros page (omega arith)
 
-tail_length : (n : ℕ) (zeros page : Page) → length (replicate n zeros ++ page ∷ []) ≡ n + 1
+pub tail_length : (n : ℕ) (zeros page : Page) → length (replicate n zeros ++ page ∷ []) ≡ n + 1
 tail_length zero zeros page = refl
 tail_length (suc n) zeros page = let h = tail_length n zeros page in omega (arith, h)
 
-main_here : (size : ℕ) (main : Image) (q : ℕ) → q < length main → main_page size main q ≡ page_at main q
+pub main_here : (size : ℕ) (main : Image) (q : ℕ) → q < length main → main_page size main q ≡ page_at main q
 unfolding main_page
 main_here size main q h = elim (leb_tells (suc q) (length main)) [ inl w ↦ rw (w.0, main_page) refl | inr w ↦ absurd (omega (arith, w.1)) ]
 
-main_past : (size : ℕ) (main : Image) (q : ℕ) → length main ≤ q → main_page size main q ≡ replicate size 0
+pub main_past : (size : ℕ) (main : Image) (q : ℕ) → length main ≤ q → main_page size main q ≡ replicate size 0
 unfolding main_page
 main_past size main q h = elim (leb_tells (suc q) (length main)) [ inl w ↦ absurd (omega (arith, w.1)) | inr w ↦ rw (w.0, main_page) refl ]
 
@@ -48,14 +48,14 @@ set_main size n page main q ne = elim (leb_tells (suc q) (length main)) [
 ]
 
 -- another page of the main file stays as it was
-other_page : (size n : ℕ) (page : Page) (main : Image) (q : ℕ) → q ≢ n → main_page size (written_at size (n, page) main) q ≡ main_page size main q
+pub other_page : (size n : ℕ) (page : Page) (main : Image) (q : ℕ) → q ≢ n → main_page size (written_at size (n, page) main) q ≡ main_page size main q
 unfolding written_at
 other_page size n page main q ne = elim (leb_tells (suc n) (length main)) [
   | inl w ↦ rw (w.0, written_at) (set_main size n page main q ne)
   | inr w ↦ rw (w.0, written_at) (grown_main size n page main q (omega (arith, w.1)) ne)
 ]
 
-written_length : (size n : ℕ) (page : Page) (main : Image) → length (written_at size (n, page) main) ≡ max (length main) (n + 1)
+pub written_length : (size n : ℕ) (page : Page) (main : Image) → length (written_at size (n, page) main) ≡ max (length main) (n + 1)
 unfolding written_at
 written_length size n page main = elim (leb_tells (suc n) (length main)) [
   | inl w ↦ rw (w.0, written_at) (omega (arith, w.1, length-set main n page))
@@ -89,7 +89,7 @@ slot_kept size k n zero j main delta some long = ap (λ (front : List ℕ). fron
 slot_kept size k n (suc q) j main delta some long = refl
 
 -- which page is an entry's
-named : (p : ℕ) (table : List ℕ) (k : ℕ) → entry_for p table ≡ Some k → p + 1 ≤ behind_entries table
+pub named : (p : ℕ) (table : List ℕ) (k : ℕ) → entry_for p table ≡ Some k → p + 1 ≤ behind_entries table
 unfolding entry_for
 named p [] k e = absurd (none_some e)
   where

@@ -93,7 +93,7 @@ put-front (suc p) page image may = ap (take 64) (with_page_other (suc p) 0 page 
     none : (p : ℕ) → 0 ≡ suc p → ⊥
     none p e = omega arith
 
-laid_put : (p : ℕ) (page : Page) (image : Image) (bytes : List ℕ) → MayPut p page image → IsLaid image bytes → IsLaid (with_page p page image) (put_at bytes (p * image_size image) page)
+pub laid_put : (p : ℕ) (page : Page) (image : Image) (bytes : List ℕ) → MayPut p page image → IsLaid image bytes → IsLaid (with_page p page image) (put_at bytes (p * image_size image) page)
 laid_put p page image bytes may laid =
     let size : ℕ = image_size image in
     let new : Image = take p image ++ page ∷ drop (suc p) image in
@@ -135,7 +135,7 @@ main_put p page image m may h =
 abbrev pub with_zeros : File → ℕ → File
 with_zeros file n = Some (bytes_of file ++ replicate n 0)
 
-laid_grown : (k : ℕ) (image : Image) (bytes : List ℕ) (laid : IsLaid image bytes) → length (image ++ laid.rest) + k ≤ 1048576 → IsLaid image (bytes ++ replicate (k * image_size image) 0)
+pub laid_grown : (k : ℕ) (image : Image) (bytes : List ℕ) (laid : IsLaid image bytes) → length (image ++ laid.rest) + k ≤ 1048576 → IsLaid image (bytes ++ replicate (k * image_size image) 0)
 laid_grown k image bytes laid most =
     let size : ℕ = image_size image in
     let zeros : List Page = replicate k (replicate {A = ℕ} size 0) in

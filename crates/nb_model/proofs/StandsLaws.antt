@@ -18,7 +18,7 @@ use Rattle.nb_model.specs.Levels.{Contents, first_fault, begins_level, read_leve
 use Rattle.nb_model.specs.Owner.{delta_name, owner, entry_of_files, entry_in}
 use Rattle.nb_model.specs.Main.{HoldsMain}
 use Rattle.nb_model.specs.Sound.{IsSoundImage}
-use Rattle.nb_model.specs.Stands.{nil, IsKeptAs, GoesOnFrom, Belongs, to_base, to_record, IsRaised, IsSameImage, IsFrozenMain, HasSoundImages, HoldsItsRecord, KeepsRecords, NamesItsPast, FollowsHistory, is_applying, HasNoStrayDelta, IsStopped, HasApplyingStandbys, Stands}
+use Rattle.nb_model.specs.Stands.{nil, IsKeptAs, GoesOnFrom, Belongs, to_base, to_record, IsStalled, IsSameImage, IsFrozenMain, HasSoundImages, HoldsItsRecord, KeepsRecords, NamesItsPast, FollowsHistory, is_applying, HasNoStrayDelta, IsStopped, HasApplyingStandbys, Stands}
 use Rattle.nb_model.proofs.SoundLaws.{header_kind}
 use Rattle.nb_model.proofs.RunLaws.{same_self, entry_same}
 
@@ -98,7 +98,7 @@ opened_entry name main delta bytes b there opens = ap (λ (f : File). entry_of_f
 -- What is asked of the files of one name, and of the entry that they give.
 pub record StandsUnder (files : Files) (kept : List Kept) (name : List ℕ) (entry : Entry) : Type 0 where
   pub same : entry ≡ entry_in files name
-  pub frozen : (b : Base) → entry ≡ IsBase b → image_state b.image ≡ 1 → IsRaised b.image b.diverted
+  pub frozen : (b : Base) → entry ≡ IsBase b → image_state b.image ≡ 1 → IsStalled b
   pub sound : (b : Base) → entry ≡ IsBase b → IsSoundImage b.image
   pub stalled : (b : Base) → entry ≡ IsBase b → image_state b.image ≡ 1 → (r : Kept) × IsKeptAs kept (image_guid b.image) r
   pub past : (b : Base) → entry ≡ IsBase b → NamesItsPast kept b.image

@@ -66,6 +66,12 @@ stroke_same b p bytes h = ap (λ (x : Image). page_at x p) (stroke_page b p byte
 pub stroke_other : (b : Base) (p q : ℕ) (bytes : Page) → p ≤ length b.image → q ≢ p → page_at (on_base (page p bytes) b).image q ≡ page_at b.image q
 stroke_other b p q bytes h ne = ap (λ (x : Image). page_at x q) (stroke_page b p bytes) ∙ with_page_other p q (merged_page p bytes b.image) b.image h ne
 
+-- a page that isn't page 0 is written whole
+pub whole_page : (p : ℕ) (bytes : Page) (image : Image) → 1 ≤ p → merged_page p bytes image ≡ bytes
+unfolding merged_page
+whole_page zero bytes image some = absurd (omega arith)
+whole_page (suc p) bytes image some = refl
+
 -- a fixup writes two bytes
 pub fixed_page : (p : Page) (ps : Image) → fixed (p ∷ ps) ≡ (take 22 p ++ 0 ∷ 0 ∷ drop 24 p) ∷ ps
 unfolding fixed bytes_of

@@ -27,7 +27,8 @@ use Rattle.nb_model.proofs.MainLaws.{main_facts}
 use Rattle.nb_model.proofs.FreshImageLaws.{fresh_state, fresh_scn, fresh_main}
 use Rattle.nb_model.proofs.FreshSound.{fresh_sound, fresh_past}
 use Rattle.nb_model.proofs.SoundLaws.{HasFields, FitsAt, header_stays, state_stays, fields_stay, page_sound}
-use Rattle.nb_model.proofs.PutSound.{Held, Throughout, no_first, not_when, text_holds}
+use Rattle.nb_model.proofs.FitLaws.{Held, Throughout}
+use Rattle.nb_model.proofs.PutSound.{no_first, not_when, text_holds}
 use Rattle.nb_model.proofs.PastLaws.{no_history, page_past}
 use Rattle.nb_model.proofs.HeadSound.{byte_holds}
 use Rattle.nb_model.proofs.BitSound.{give_holds}

@@ -27,6 +27,9 @@ pub mod Well
 pub mod Waiting
 pub mod Pagewise
 pub mod Trail
+pub mod Steps
+pub mod Gifts
+pub mod Earlier
 pub mod Words
 pub mod Jobs
 pub mod Line

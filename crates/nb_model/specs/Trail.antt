@@ -1,5 +1,5 @@
 -- What was seen of a database since its last settled point, behind which nothing can be lost, and what a stop may leave of it.
-use Rattle.std.specs.Prelude.{◌≡◌, ℕ, ◌<◌, List, [], ◌∷◌, ◌++◌, length, Contains, Bool, true, false, ◌||◌, ◌==◌, nat_le, Ok}
+use Rattle.std.specs.Prelude.{◌≡◌, ℕ, ◌<◌, ◌≤◌, List, [], ◌∷◌, ◌++◌, length, Contains, Bool, true, false, ◌||◌, ◌==◌, nat_le, Ok}
 use Rattle.nb_fields.specs.Places.{is_scn_place}
 use Rattle.nb_host.specs.Files.{File, Files}
 use Rattle.nb_model.specs.Image.{Page, Image, page_at, image_size, image_state, is_forced}
@@ -48,6 +48,21 @@ after_stroke s t = elim (settles_at t s) [
   | true ↦ settled (on_base s t.base)
   | false ↦ record { base = on_base s t.base; earlier = images_of t }
 ]
+
+-- strokes later, in order
+unfoldable pub after_strokes : List Stroke → Trail → Trail
+after_strokes [] t = t
+after_strokes (s ∷ ss) t = after_strokes ss (after_stroke s t)
+
+-- each of these strokes ends in a settled point
+abbrev pub AreSynced : Trail → List Stroke → Type 0
+AreSynced t [] = Unit {0}
+AreSynced t (s ∷ ss) = (settles_at t s ≡ true) × AreSynced (after_stroke s t) ss
+
+-- a write of a page that isn't page 0
+abbrev pub IsBehindFirst : Stroke → Type 0
+IsBehindFirst (page p bytes) = 1 ≤ p
+IsBehindFirst other = ⊥
 
 -- some of the images has this page there
 pub record HasPage (images : List Image) (p : ℕ) (page : Page) : Type 0 where

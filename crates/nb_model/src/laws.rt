@@ -1,26 +1,31 @@
 // Laws: each is a public function with an empty body, whose contract is the law. They show that the definitions mean what
 // they say.
 ghost use Rattle.nb_model.specs.Account.{Account, Base, Kept};
+ghost use Rattle.nb_model.specs.Earlier.{IsEarlier, IsSoundTrail, LowersNone};
 ghost use Rattle.nb_model.specs.Follows.{Follows, IsMixed};
 ghost use Rattle.nb_model.specs.Forms.{drafted, give_page, new_page, put, take_page};
-ghost use Rattle.nb_model.specs.Image.{Image, Numbered, Page, image_size, overwritten, page_at, with_page, written_at};
+ghost use Rattle.nb_model.specs.Image.{Image, Numbered, Page, first_page, image_guid, image_scn, image_size, image_state, is_forced, is_read_only, overwritten, page_at, with_page, written_at};
 ghost use Rattle.nb_model.specs.Levels.{Head, IsLevel, read_level, taken};
 ghost use Rattle.nb_model.specs.Line.{AreZeroPages, HoldLine, HoldsFirst, IsLine, first_file, last_in, next_files};
 ghost use Rattle.nb_model.specs.Outcomes.{DoesNothing, Seen};
 ghost use Rattle.nb_model.specs.Output.{acked};
-ghost use Rattle.nb_model.specs.Owner.{entry_for, owned, slot_page};
+ghost use Rattle.nb_model.specs.Owner.{entry_for, owned, owner, slot_page};
+ghost use Rattle.nb_model.specs.Pagewise.{AgreesWith, IsPagewise};
 ghost use Rattle.nb_model.specs.Restoring.{applied, verdict};
 ghost use Rattle.nb_model.specs.Run.{Event, IsPlayed, Now, base_now, play, rounds, strokes_of};
-ghost use Rattle.nb_model.specs.Sound.{HasNoZeros};
+ghost use Rattle.nb_model.specs.Sound.{HasNoZeros, IsSoundImage, SoundInventory};
+ghost use Rattle.nb_model.specs.Stands.{IsRaised};
 ghost use Rattle.nb_model.specs.Strokes.{Stroke, after, base_after, fixed, merged_page, on_base, page as page_stroke, records_after};
+ghost use Rattle.nb_model.specs.Trail.{AreSynced, IsBehindFirst, IsLeft, IsMixture, ShowsIn, StandsIn, StandsOn, Trail, after_stroke, after_strokes, images_of, is_kept_place, settled};
 ghost use Rattle.nb_model.specs.Turns.{first_turn};
 ghost use Rattle.nb_model.specs.declared.reply.Reply.TheVariants.{Refused};
 ghost use Rattle.nb_model.specs.declared.statement.Statement.{Statement};
 ghost use Rattle.nb_fields.specs.Page.{stamp_of};
-ghost use Rattle.nb_host.specs.Files.{Files};
+ghost use Rattle.nb_fields.specs.Places.{is_page_size};
+ghost use Rattle.nb_host.specs.Files.{File, Files};
 ghost use Rattle.nb_host.specs.declared.refusals.Refusal.{Refusal};
-ghost use Rattle.std.specs.Prelude.{Contains, List, Ok, Some, [], ◌++◌, ◌+◌, ◌<◌, ◌∷◌, ◌≡◌, ◌≢◌, ◌≤◌, drop, length, replicate, slice_set, take, ℕ};
-ghost use Rattle.std.specs.List.{slice_index_or};
+ghost use Rattle.std.specs.Prelude.{Contains, IsTrue, List, Ok, Some, true, [], ◌++◌, ◌+◌, ◌<◌, ◌∷◌, ◌≡◌, ◌≢◌, ◌≤◌, drop, length, replicate, slice_set, take, ℕ};
+ghost use Rattle.std.specs.List.{AllByRecursion, slice_index_or};
 
 /// Lineage goes on: an image follows each one that it followed step by step, at the lowest SCN.
 pub fn lineage_goes_on()
@@ -128,4 +133,54 @@ pub fn a_session_alone_goes_in_order()
 /// What is acknowledged never falls as more is said.
 pub fn acknowledged_never_falls()
     ensures { (events : List Event) (said later : ℕ) → said ≤ later → acked events said ≤ acked events later }
+{}
+
+/// At a settled point a stop leaves the database and nothing else. Of each trail it may leave what was seen last.
+pub fn a_settled_trail_is_its_database()
+    ensures shows { (name : List ℕ) (b : Base) (m d : File) → StandsOn name (settled b) m d → owner name m d ≡ Ok b }
+    ensures stands { (name : List ℕ) (b : Base) (m d : File) → owner name m d ≡ Ok b → StandsOn name (settled b) m d }
+    ensures last { (name : List ℕ) (t : Trail) (files : Files) → ShowsIn name t.base files → StandsIn name t files }
+{}
+
+/// Of strokes that are synced a stop leaves a front, and nothing in between: so it is with forced writes on, and of a write of
+/// page 0 or of an SCN page in any case.
+pub fn synced_strokes_leave_a_front()
+    ensures settled { (b : Base) (strokes : List Stroke) (k : ℕ) → AreSynced (settled b) strokes → after_strokes (take k strokes) (settled b) ≡ settled (base_after b (take k strokes)) }
+    ensures shows { (name : List ℕ) (b : Base) (strokes : List Stroke) (k : ℕ) (files : Files) → AreSynced (settled b) strokes → StandsIn name (after_strokes (take k strokes) (settled b)) files
+        → ShowsIn name (base_after b (take k strokes)) files }
+    ensures forced { (b : Base) (strokes : List Stroke) → is_forced b.image ≡ true → AllByRecursion IsBehindFirst strokes → AreSynced (settled b) strokes }
+    ensures one { (b : Base) (p : ℕ) (bytes : Page) → is_forced b.image ≡ true → AreSynced (settled b) (page_stroke p bytes ∷ []) }
+    ensures kept { (b : Base) (p : ℕ) (bytes : Page) → is_kept_place (image_size b.image) p ≡ true → AreSynced (settled b) (page_stroke p bytes ∷ []) }
+{}
+
+/// Whatever a stop leaves of a trail has the header's fields of what was seen last.
+pub fn mixtures_keep_the_header()
+    ensures size { (t : Trail) (b : Base) → IsLeft t b → image_size b.image ≡ image_size t.base.image }
+    ensures state { (t : Trail) (b : Base) → IsLeft t b → image_state b.image ≡ image_state t.base.image }
+    ensures scn { (t : Trail) (b : Base) → IsLeft t b → image_scn b.image ≡ image_scn t.base.image }
+    ensures guid { (t : Trail) (b : Base) → IsLeft t b → image_guid b.image ≡ image_guid t.base.image }
+    ensures forced { (t : Trail) (b : Base) → IsLeft t b → is_forced b.image ≡ is_forced t.base.image }
+    ensures read_only { (t : Trail) (b : Base) → IsLeft t b → is_read_only b.image ≡ is_read_only t.base.image }
+{}
+
+/// Whatever a stop leaves of a sound trail is sound.
+pub fn mixtures_are_sound()
+    ensures { (t : Trail) (b : Base) → IsSoundTrail t → IsLeft t b → IsSoundImage b.image }
+{}
+
+/// A trail of a sound database is sound, and stays so where a page is written that lowers no entry.
+pub fn trails_stay_sound()
+    ensures settled { (b : Base) → IsTrue (is_page_size (image_size b.image)) → IsSoundImage b.image → IsSoundTrail (settled b) }
+    ensures write { (p : ℕ) (page : Page) (image : Image) → p ≤ length image → (p ≡ 0 → take 64 page ≡ take 64 (first_page image)) → LowersNone p page image → IsEarlier image (with_page p page image) }
+    ensures stroke { (s : Stroke) (t : Trail) → IsSoundTrail t → IsEarlier t.base.image (on_base s t.base).image → IsSoundImage (on_base s t.base).image → IsSoundTrail (after_stroke s t) }
+    ensures itself { (a : Image) → IsEarlier a a }
+    ensures joins { (a b c : Image) → IsEarlier a b → IsEarlier b c → IsEarlier a c }
+{}
+
+/// A mixture is pagewise of the images, agrees with what was seen last, and goes on from what all of them go on from.
+pub fn mixtures_are_pagewise()
+    ensures pagewise { (images : List Image) (now image : Image) (diverted : List ℕ) → IsMixture images now image → Contains images now → SoundInventory image
+        → (image_state image ≡ 1 → IsRaised image diverted) → IsPagewise images image diverted }
+    ensures agrees { (images : List Image) (now image : Image) → IsMixture images now image → AgreesWith image now }
+    ensures lineage { (images : List Image) (s : ℕ) (now image : Image) → IsMixture images now image → Contains images now → s < stamp_of (first_page now) → IsMixed images s image }
 {}

@@ -1,5 +1,1 @@
-pub mod Causes
-pub mod Stops
-pub mod Todo
-pub mod Replies
-pub mod Says
+pub mod Turns

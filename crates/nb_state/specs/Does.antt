@@ -42,10 +42,12 @@ WhereRefused (Err (Refused refusal)) P = P
 WhereRefused (Err Device) P = Unit {0}
 WhereRefused (Err Memory) P = Unit {0}
 
--- the name, whose copy or merge runs, and how far the merge has come, are as they were
+-- the name, the state, whose copy or merge runs, and how far the merge has come, are as they were; in the merge state no entry is added
 pub record Goes (before after : Held) : Type 0 where
   pub name : name_of after ≡ name_of before
   pub page_size : after.files.page_size ≡ before.files.page_size
+  pub state : after.files.state ≡ before.files.state
+  pub entries : before.files.state ≡ 2 → after.files.entries ≡ before.files.entries
   pub running : after.running ≡ before.running
   pub merged : after.merged ≡ before.merged
 

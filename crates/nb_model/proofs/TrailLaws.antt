@@ -1,0 +1,126 @@
+-- Laws of trails: what a stop may leave of one that is settled, and that writes that are synced keep it settled.
+use Rattle.std.proofs.Common.{◌≡◌, ℕ, zero, suc, ◌≤◌, List, [], ◌∷◌, ◌++◌, length, take, refl, sym, ap, subst, ◌∙◌, set, arith}
+use Rattle.std.specs.Prelude.{Bool, true, false, ◌||◌, nat_le, nat_lt, Ok, Contains}
+use Rattle.std.specs.List.{AllByRecursion}
+use Rattle.std.proofs.lemmas.Bool.{true≢false}
+use Rattle.std.proofs.lemmas.List.{append-nil}
+use Rattle.std.proofs.lemmas.List.Elements.{Contains-append_right}
+use Rattle.nb_fields.specs.Bytes.{number_of, number_in}
+use Rattle.nb_host.specs.Files.{File, Files}
+use Rattle.nb_model.specs.Image.{Page, Image, image_size, is_forced, with_page}
+use Rattle.nb_model.specs.Account.{Base}
+use Rattle.nb_model.specs.Owner.{owner}
+use Rattle.nb_model.specs.Strokes.{Stroke, make, page, begin, ends, finish, fix, merge, on_base, base_after}
+use Rattle.nb_model.specs.Trail.{Trail, settled, images_of, is_kept_place, settles_at, after_stroke, after_strokes, AreSynced, IsBehindFirst, IsMixture, IsLeft, StandsOn, StandsIn, ShowsIn}
+use Rattle.nb_model.proofs.StrokeLaws.{whole_page, stroke_page}
+
+-- one of the images is a mixture of them
+pub mixture_itself : (images : List Image) (now : Image) → Contains images now → IsMixture images now now
+mixture_itself images now there = record { long = refl; kept = λ p is. refl; each = λ p low. record { image = now; there = there; below = low; same = refl } }
+
+pub last_there : (images : List Image) (image : Image) → Contains (images ++ image ∷ []) image
+last_there images image = Contains-append_right images (image ∷ []) image (0, omega arith, refl)
+
+-- A stop may leave what was seen last.
+pub left_itself : (t : Trail) → IsLeft t t.base
+left_itself t = record {
+  mixed = mixture_itself (images_of t) t.base.image (last_there t.earlier t.base.image);
+  frozen = refl;
+  diverted = ([], sym (append-nil t.base.diverted));
+  merging = λ is. refl;
+  whole = λ none. refl;
+}
+
+pub shows_stands : (name : List ℕ) (t : Trail) (files : Files) → ShowsIn name t.base files → StandsIn name t files
+shows_stands name t files shows = record { base = t.base; opens = shows; left = left_itself t }
+
+-- At a settled point it leaves nothing else.
+pub settled_shows : (name : List ℕ) (b : Base) (m d : File) → StandsOn name (settled b) m d → owner name m d ≡ Ok b
+settled_shows name b m d s = s.opens ∙ ap (λ (c : Base). Ok c) (s.left.whole refl)
+
+pub shows_settled : (name : List ℕ) (b : Base) (m d : File) → owner name m d ≡ Ok b → StandsOn name (settled b) m d
+shows_settled name b m d opens = record { base = b; opens = opens; left = left_itself (settled b) }
+
+-- a trail that is settled is its database, settled
+pub settled_is : (t : Trail) → t.earlier ≡ [] → t ≡ settled t.base
+settled_is t none = λ i. record { base = t.base; earlier = none i }
+
+-- the database of a trail goes on by the strokes, settled or not
+pub trail_base : (s : Stroke) (t : Trail) → (after_stroke s t).base ≡ on_base s t.base
+unfolding after_stroke
+trail_base s t = by (settles_at t s)
+  where
+    by : (u : Bool) → (elim u as (λ z. Trail) [ true ↦ settled (on_base s t.base) | false ↦ record { base = on_base s t.base; earlier = images_of t } ]).base ≡ on_base s t.base
+    by true = refl
+    by false = refl
+
+pub trail_bases : (ss : List Stroke) (t : Trail) → (after_strokes ss t).base ≡ base_after t.base ss
+unfolding after_strokes base_after
+trail_bases [] t = refl
+trail_bases (s ∷ ss) t = trail_bases ss (after_stroke s t) ∙ ap (λ (b : Base). base_after b ss) (trail_base s t)
+
+-- a stroke that settles
+pub settles_after : (s : Stroke) (t : Trail) → settles_at t s ≡ true → after_stroke s t ≡ settled (on_base s t.base)
+unfolding after_stroke
+settles_after s t is = ap (λ (u : Bool). elim u as (λ z. Trail) [ true ↦ settled (on_base s t.base) | false ↦ record { base = on_base s t.base; earlier = images_of t } ]) is
+
+-- and one that doesn't
+pub waits_after : (s : Stroke) (t : Trail) → settles_at t s ≡ false → after_stroke s t ≡ record { base = on_base s t.base; earlier = images_of t }
+unfolding after_stroke
+waits_after s t is = ap (λ (u : Bool). elim u as (λ z. Trail) [ true ↦ settled (on_base s t.base) | false ↦ record { base = on_base s t.base; earlier = images_of t } ]) is
+
+-- Behind strokes that settle the trail is settled.
+pub synced_front : (ss : List Stroke) (b : Base) → AreSynced (settled b) ss → (k : ℕ) → after_strokes (take k ss) (settled b) ≡ settled (base_after b (take k ss))
+unfolding after_strokes base_after
+synced_front ss b synced zero = refl
+synced_front [] b synced (suc k) = refl
+synced_front (s ∷ ss) b synced (suc k) =
+    let one : after_stroke s (settled b) ≡ settled (on_base s b) = settles_after s (settled b) synced.0 in
+    ap (after_strokes (take k ss)) one ∙ synced_front ss (on_base s b) (subst (λ (t : Trail). AreSynced t ss) one synced.1) k
+
+-- So files that stand for it show the database after a front of the strokes.
+pub synced_shows : (name : List ℕ) (ss : List Stroke) (b : Base) → AreSynced (settled b) ss → (k : ℕ) (m d : File) → StandsOn name (after_strokes (take k ss) (settled b)) m d → owner name m d ≡ Ok (base_after b (take k ss))
+synced_shows name ss b synced k m d s = settled_shows name (base_after b (take k ss)) m d (subst (λ (t : Trail). StandsOn name t m d) (synced_front ss b synced k) s)
+
+-- a page write on a settled database with forced writes on
+pub forced_settles : (b : Base) (p : ℕ) (bytes : Page) → is_forced b.image ≡ true → settles_at (settled b) (page p bytes) ≡ true
+unfolding settles_at
+forced_settles b p bytes forced = ap (λ (u : Bool). u || is_kept_place (image_size b.image) p || nat_le (length b.image) p) forced
+
+-- page 0, the SCN pages, and growth
+pub kept_settles : (b : Base) (p : ℕ) (bytes : Page) → is_kept_place (image_size b.image) p ≡ true → settles_at (settled b) (page p bytes) ≡ true
+unfolding settles_at
+kept_settles b p bytes kept = middle (is_forced b.image) (is_kept_place (image_size b.image) p) (nat_le (length b.image) p) kept
+  where
+    middle : (x y z : Bool) → y ≡ true → (x || y || z) ≡ true
+    middle true y z is = refl
+    middle false true z is = refl
+    middle false false z is = absurd (true≢false (sym is))
+
+-- A write of a page that isn't page 0 keeps forced writes on.
+forced_stays : (p : ℕ) (bytes : Page) (image : Image) → 1 ≤ p → is_forced image ≡ true → is_forced (with_page p bytes image) ≡ true
+unfolding with_page number_in number_of
+forced_stays zero bytes image some forced = absurd (omega arith)
+forced_stays (suc p) bytes [] some forced = absurd (true≢false (sym forced))
+forced_stays (suc p) bytes (x ∷ xs) some forced = by (nat_lt (suc p) (length (x ∷ xs)))
+  where
+    by : (u : Bool) → is_forced (elim u as (λ z. Image) [ true ↦ set (x ∷ xs) (suc p) bytes | false ↦ (x ∷ xs) ++ bytes ∷ [] ]) ≡ true
+    by true = forced
+    by false = forced
+
+-- So with forced writes on each such write is synced.
+pub forced_synced : (ss : List Stroke) (b : Base) → is_forced b.image ≡ true → AllByRecursion IsBehindFirst ss → AreSynced (settled b) ss
+forced_synced [] b forced pages = tt
+forced_synced (page p bytes ∷ ss) b forced pages =
+    let one : settles_at (settled b) (page p bytes) ≡ true = forced_settles b p bytes forced in
+    let image : (on_base (page p bytes) b).image ≡ with_page p bytes b.image = stroke_page b p bytes ∙ ap (λ (x : Page). with_page p x b.image) (whole_page p bytes b.image pages.0) in
+    let still : is_forced (on_base (page p bytes) b).image ≡ true = ap is_forced image ∙ forced_stays p bytes b.image pages.0 forced in (
+      one,
+      subst (λ (t : Trail). AreSynced t ss) (sym (settles_after (page p bytes) (settled b) one)) (forced_synced ss (on_base (page p bytes) b) still pages.1),
+    )
+forced_synced (make image ∷ ss) b forced pages = absurd pages.0
+forced_synced (begin guid ask ∷ ss) b forced pages = absurd pages.0
+forced_synced (ends ∷ ss) b forced pages = absurd pages.0
+forced_synced (finish ∷ ss) b forced pages = absurd pages.0
+forced_synced (fix ∷ ss) b forced pages = absurd pages.0
+forced_synced (merge records ∷ ss) b forced pages = absurd pages.0
