@@ -67,6 +67,7 @@ impl Store {
         requires raw { raw ≤ 65535 }
         requires name { length name.now ≤ 94 }
         ensures creates { IsTrue H.tells → Creates result (H.world host.old) (H.world host.new) name.now (fresh page_size raw) }
+        ensures page_size { IfOk result (λ store. store.files.page_size ≡ page_size) }
         ensures cause { CountsDevice result (H.faults host.old) (H.faults host.new) }
     {
         let files = TwoFiles::create(alloc, host, name, page_size, raw)?;
