@@ -1,3 +1,4 @@
 pub mod Open
+pub mod Seen
 pub mod Takes
 pub mod Beginnings

@@ -36,6 +36,8 @@ pub record Agrees (held : Held) (b : Base) : Type 0 where
   pub state : held.state ≡ image_state b.image
   pub opened : held.state ≤ 2
   pub count : held.count ≡ length b.image
+  -- in the stalled state the main file is frozen
+  pub main_count : held.state ≡ 1 → held.main_count ≡ length b.frozen
   pub entries : held.entries ≡ b.diverted
 
 -- Whatever a stop now leaves is what may be left of what was seen, what reads is what was seen last, and what is held agrees with it.

@@ -34,15 +34,16 @@ pub struct TwoFiles {
 }
 
 impl Model for TwoFiles {
-    ghost use Rattle.std.specs.Prelude.{◌≡◌, ◌≤◌, IsTrue, vec_len};
+    ghost use Rattle.std.specs.Prelude.{◌≡◌, ◌≤◌, IsTrue, length, vec_len};
     ghost use Rattle.nb_fields.specs.Places.{is_page_size};
+    ghost use Rattle.nb_model.specs.Owner.{delta_name};
     ghost use Rattle.nb_base.specs.Open.{Held};
 
     ghost Value = { Held };
 
     ghost view = { λ f. record { name = f.name; page_size = f.delta.page_size; state = f.state; count = f.count; main_count = f.main_count; entries = f.delta.entries } };
 
-    ghost invariant = { λ f. IsTrue (is_page_size f.delta.page_size) × (f.count ≤ 1048576) × (f.main_count ≤ 1048576) × (vec_len f.page ≡ f.delta.page_size) };
+    ghost invariant = { λ f. IsTrue (is_page_size f.delta.page_size) × (f.count ≤ 1048576) × (f.main_count ≤ 1048576) × (vec_len f.page ≡ f.delta.page_size) × (length f.name ≤ 94) × (f.delta.name ≡ delta_name f.name) × (f.delta.drafted ≡ 0) };
 }
 
 impl TwoFiles {

@@ -7,5 +7,6 @@
 #![tactic(auto)]
 
 mod files;
+mod writes;
 
 pub use files::TwoFiles;

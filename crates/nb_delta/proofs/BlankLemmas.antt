@@ -1,11 +1,16 @@
 -- A difference file without entries.
-use Rattle.std.proofs.Common.{◌≡◌, ◌⊎◌, inl, inr, ℕ, ◌+◌, ◌*◌, ◌≤◌, List, [], ◌++◌, length, drop, replicate, refl, sym, ap, ◌∙◌, subst, arith, IsTrue}
-use Rattle.std.specs.Prelude.{Some}
+use Rattle.std.proofs.Common.{◌≡◌, ◌⊎◌, inl, inr, ℕ, Bool, ◌+◌, ◌*◌, ◌≤◌, List, [], ◌++◌, length, drop, replicate, refl, sym, ap, ◌∙◌, subst, arith, IsTrue}
+use Rattle.std.specs.Prelude.{Some, Result}
 use Rattle.std.proofs.lemmas.Bool.{cases_lt}
 use Rattle.std.proofs.lemmas.List.{length-replicate, drop_all, append-nil}
 use Rattle.std.proofs.Math.Nat.{mul-le-mul_right}
 use Rattle.nb_host.specs.Files.{File, bytes_of, with_page, put_at, padded}
+use Rattle.nb_host.specs.World.{World}
 use Rattle.nb_host.specs.Crash.{PageLeft}
+use Rattle.nb_host.specs.Calls.{Remakes, WritesPage}
+use Rattle.nb_host.specs.Moments.{IsTimely, Passes}
+use Rattle.nb_change.specs.Changes.{Only, Changes, Remade}
+use Rattle.nb_change.proofs.CallLaws.{page_others, remade_alone, remade_step}
 use Rattle.nb_fields.specs.Bytes.{number_in}
 use Rattle.nb_fields.specs.Places.{is_page_size, slots_in}
 use Rattle.nb_fields.specs.Table.{page_in, alloc_place}
@@ -81,3 +86,12 @@ module _ (size : ℕ) (is_size : IsTrue (is_page_size size)) where
           | inr m ↦ let one : k * length page ≡ 1 * length page = ap (λ (n : ℕ). n * length page) (let e : k ≡ 1 = omega arith in e) in let page_long : k * length page ≡ size = omega (arith, one, long) in inr (is_zeros ∙ ap (λ (n : ℕ). Some (replicate n 0)) page_long)
         ]
       ]
+
+  -- the file is made, and a page of zeros is put into it
+  pub blank_made : {T E U V : Type 0} (tells : Bool) (first : Result T E) (second : Result U V) (old mid new : World) (name page : List ℕ) → page ≡ replicate size 0 → IsTrue tells → IsTimely old
+      → Remakes tells first old mid name (Some []) → mid.said ≡ old.said → Passes old mid → ((c : File) → mid.now name c → c ≡ Some [])
+      → WritesPage tells second mid new name (0 * length page) page → new.said ≡ mid.said → Passes mid new → Changes old new (Only name) (Remade old name (IsBlank size))
+  blank_made tells first second old mid new name page zeros told timely remakes silent time done writes still later =
+      remade_step old mid new name (IsBlank size) (λ c. c ≡ Some []) (IsBlank size) (PageLeft (0 * length page) page)
+      (remade_alone tells first old mid name (Some []) (IsBlank size) told timely remakes silent time (inl refl))
+      later writes.left (page_others tells second mid new name (0 * length page) page told writes) still done (λ c is. is) (λ c d is left. blank_left page zeros c d is left)

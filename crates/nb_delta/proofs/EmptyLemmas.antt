@@ -8,7 +8,9 @@ use Rattle.nb_host.specs.Crash.{PageLeft}
 use Rattle.nb_fields.specs.Places.{is_page_size, slots_in}
 use Rattle.nb_fields.specs.Table.{page_in, slot_place, alloc_place}
 use Rattle.nb_delta.specs.Slots.{slot_page}
-use Rattle.nb_delta.specs.Groups.{GroupStep, GroupPut, Stays, Empties}
+use Rattle.nb_delta.specs.Waiting.{Stays}
+use Rattle.nb_delta.specs.Groups.{GroupStep, GroupPut, Empties}
+use Rattle.nb_delta.proofs.ZeroLemmas.{zeros_same}
 use Rattle.nb_delta.proofs.PlaceLemmas.{alloc_other, alloc_other_slot}
 use Rattle.nb_delta.proofs.SpellLemmas.{put_step, page_step, spells_behind}
 use Rattle.nb_delta.proofs.StepLemmas.{some_slots, there_after, has_told, has_read, has_there}
@@ -28,9 +30,6 @@ module _ (size : ℕ) (is_size : IsTrue (is_page_size size)) where
       there = is ∙ ap (λ (f : File). Some (bytes_of f)) (sym is);
     }
 
-  pub group_none : (g : ℕ) (page : List ℕ) (file : File) → GroupStep size g page file file
-  group_none g page file = record { pages = record { pages = inl (λ j. refl); longer = omega arith; grows = inl refl }; there = λ is. is }
-
   pub group_step : (g : ℕ) (page : List ℕ) (before after : File) → GroupPut size g page before after → GroupStep size g page before after
   group_step g page before after put = record { pages = record { pages = inr put.pages.pages; longer = put.pages.longer; grows = put.pages.grows }; there = λ is. put.there }
 
@@ -43,11 +42,12 @@ module _ (size : ℕ) (is_size : IsTrue (is_page_size size)) where
   group_others g page before after step h ne = ⊎_elim (λ all. all (alloc_place size h)) (λ put. put.others (alloc_place size h) (alloc_other size h g ne)) step.pages.pages
 
   pub stays_none : (n : ℕ) (file : File) → Stays size n file file
-  stays_none n file = record { tables = λ entries few has. has; slots = λ k. refl; no_shorter = omega arith }
+  stays_none n file = record { tables = λ entries few has. has; zeros = λ m few has. has; slots = λ k. refl; no_shorter = omega arith }
 
   pub stays_joined : (n : ℕ) (b d c : File) → Stays size n b d → Stays size n d c → Stays size n b c
   stays_joined n b d c first second = record {
     tables = λ entries few has. second.tables entries few (first.tables entries few has);
+    zeros = λ m few has. second.zeros m few (first.zeros m few has);
     slots = λ k. second.slots k ∙ first.slots k;
     no_shorter = let a = first.no_shorter in let b = second.no_shorter in omega arith;
   }
@@ -58,6 +58,7 @@ module _ (size : ℕ) (is_size : IsTrue (is_page_size size)) where
     tables = λ entries few has.
         has_told size is_size after entries (step.there (has_there size is_size before entries has))
         (spells_behind size (some_slots size is_size) g page (bytes_of before) (bytes_of after) entries (has_read size is_size before entries has) (omega arith) step.pages);
+    zeros = λ m few. zeros_same size m before after (λ h inside. group_others g page before after step h (λ e. absurd (let same = ap (λ (x : ℕ). x * slots_in size) e in omega (arith, same, inside, few, low))));
     slots = group_slots g page before after step;
     no_shorter = step.pages.longer;
   }

@@ -1,5 +1,5 @@
 -- Where the allocation pages of some groups are written, the table has a front of the entries.
-use Rattle.std.proofs.Common.{◌≡◌, inl, inr, ⊎_elim, ℕ, zero, suc, ◌+◌, ◌-◌, ◌*◌, ◌/◌, ◌<◌, ◌≤◌, List, [], ◌∷◌, ◌++◌, length, get_or, take, drop, refl, sym, ap, ◌∙◌, subst, arith, IsTrue, length-append, length-take-le, take-append-drop}
+use Rattle.std.proofs.Common.{◌≡◌, inl, inr, ⊎_elim, ℕ, zero, suc, ◌+◌, ◌-◌, ◌*◌, ◌/◌, ◌<◌, ◌≤◌, List, [], ◌∷◌, ◌++◌, length, get_or, take, drop, replicate, refl, sym, ap, ◌∙◌, subst, arith, IsTrue, length-append, length-take-le, take-append-drop}
 use Rattle.std.specs.Prelude.{Some, min, nat_eq}
 use Rattle.std.specs.List.{list_any, IsDistinct, AllByRecursion}
 use Rattle.std.proofs.lemmas.Bool.{cases_eq, cases_lt, or_left}
@@ -11,11 +11,14 @@ use Rattle.nb_fields.specs.Bytes.{number_in}
 use Rattle.nb_fields.specs.Places.{is_page_size, slots_in}
 use Rattle.nb_fields.specs.Table.{page_in, slot_place, alloc_place}
 use Rattle.nb_delta.specs.Entries.{AreEntries}
-use Rattle.nb_delta.specs.Slots.{HasTable}
-use Rattle.nb_delta.specs.Waiting.{Waits, HasFront, FrontStep, HasAll}
-use Rattle.nb_delta.specs.Groups.{Stays, Empties, IsOfGroup, NotesSome, NotesAll}
+use Rattle.nb_fields.proofs.SizeLemmas.{size_facts}
+use Rattle.nb_delta.specs.Slots.{HasTable, HasZeros}
+use Rattle.nb_delta.specs.Waiting.{Waits, HasFront, Fronts, HasAll}
+use Rattle.nb_delta.specs.Groups.{Empties, IsOfGroup, NotesSome, NotesAll}
 use Rattle.nb_delta.proofs.GroupLemmas.{zeros_count}
-use Rattle.nb_delta.proofs.TableLemmas.{count_at, number_at, Spells}
+use Rattle.nb_delta.proofs.TableLemmas.{count_at, number_at, Spells, SamePlace, same_place}
+use Rattle.nb_delta.proofs.ZeroLemmas.{zeros_all, zeros_none}
+use Rattle.nb_delta.proofs.PageLemmas.{length-page_in}
 use Rattle.nb_delta.proofs.PlaceLemmas.{slot_at}
 use Rattle.nb_delta.proofs.StepLemmas.{some_slots, some_bytes, has_told, has_read, has_there}
 
@@ -112,9 +115,6 @@ groups_inside room entries found_room found g same again some waits low =
 pub waits_long : (size : ℕ) (entries : List ℕ) (drafted : ℕ) (table waiting : List ℕ) (file : File) → Waits size entries drafted table waiting file → length entries ≡ length table + drafted
 waits_long size entries drafted table waiting file waits = ap (λ (xs : List ℕ). length xs) waits.all ∙ length-append table waiting ∙ ap (λ (n : ℕ). length table + n) waits.many
 
-pub front_stays : (size : ℕ) (table waiting : List ℕ) (before after : File) → Stays size (length table) before after → FrontStep size table waiting before after
-front_stays size table waiting before after stays = record { tables = inl stays.tables; slots = stays.slots; no_shorter = stays.no_shorter }
-
 module _ (size : ℕ) (is_size : IsTrue (is_page_size size)) (entries table waiting : List ℕ) (drafted first last end : ℕ) (old ready new : File) (are : AreEntries entries) (waits : Waits size entries drafted table waiting old)
     (places : Places (slots_in size) (length table) (length entries) first last end) (empties : Empties size first last old ready) (notes : NotesSome size entries first end ready new) where
   some : 0 < slots_in size
@@ -165,6 +165,10 @@ module _ (size : ℕ) (is_size : IsTrue (is_page_size size)) (entries table wait
         count = ap (λ (p : List ℕ). number_in 0 4 p) same ∙ spells.full g (omega (arith, full, begins))
             ∙ (let all : slots_in size ≡ min (slots_in size) (length entries - g * slots_in size) = omega (arith, full, begins, more) in all);
         numbers = λ i inside. ap (λ (p : List ℕ). number_in (4 + 4 * i) 4 p) same ∙ number_before g i (omega arith) (omega (arith, full, begins, inside));
+        behind =
+            let facts = size_facts size is_size in
+            zeros_none size (4 + 4 * min (slots_in size) (length entries - g * slots_in size)) (page_in size (bytes_of new) (alloc_place size g)) (length-page_in size (bytes_of new) (alloc_place size g))
+            (let fills : size ≤ 4 + 4 * min (slots_in size) (length entries - g * slots_in size) = omega (arith, facts.in_fours, facts.at_least, full, begins, more) in fills);
       }
 
   -- nothing of the waiting entries is named
@@ -275,9 +279,35 @@ module _ (size : ℕ) (is_size : IsTrue (is_page_size size)) (entries table wait
         | inr ne ↦ all_front end order (named_below end named) entries [] split refl (let high = places.ends in omega arith) places.inside
       ])
 
+  -- zeros stand behind the last of the numbers, or in the empty allocation page behind a full group
+  pub zeros : ((h : ℕ) → first ≤ h → h < end → IsOfGroup size entries h (page_in size (bytes_of new) (alloc_place size h))) → HasZeros size new (length entries)
+  zeros named h j low at = elim (cases_lt h end) [
+    | inl l ↦
+        let from : first ≤ h = elim (cases_lt h first) [
+          | inl m ↦ let high : (h + 1) * slots_in size ≤ first * slots_in size = mul-le-mul_right (slots_in size) (omega arith) in let begins = places.begins in let more = more_than in absurd (omega (arith, high, begins, more, at, low))
+          | inr m ↦ m
+        ] in
+        let so_many : min (slots_in size) (length entries - h * slots_in size) ≡ j = omega (arith, at, low) in
+        subst (λ (n : ℕ). drop (4 + 4 * n) (page_in size (bytes_of new) (alloc_place size h)) ≡ replicate (size - (4 + 4 * n)) 0) so_many (named h from l).behind
+    | inr l ↦
+        let order = places.order in
+        let more : first < h = omega (arith, order, l) in
+        zeros_all size (4 + 4 * j) (page_in size (bytes_of new) (alloc_place size h)) (notes.others h (inr l) ∙ empties.empty h more (empty_behind h more (omega (arith, at))))
+  ]
+
+  -- and they stay where nothing of the waiting entries is named
+  first_zeros : HasZeros size old (length table) → page_in size (bytes_of new) (alloc_place size first) ≡ page_in size (bytes_of ready) (alloc_place size first) → HasZeros size new (length table + 0)
+  first_zeros was here h j low at =
+      let begins = places.begins in
+      let within = places.within in
+      let same : SamePlace first (length table - first * slots_in size) h j = same_place (slots_in size) first (length table - first * slots_in size) h j (omega (arith, begins, within)) low (omega (arith, at, begins)) in
+      let ready_has : HasZeros size ready (length table) = (empties.stays (length table) places.within).zeros (length table) (omega arith) was in
+      subst (λ (n : ℕ). drop (4 + 4 * j) (page_in size (bytes_of new) (alloc_place size n)) ≡ replicate (size - (4 + 4 * j)) 0) (sym same.group)
+      (ap (λ (p : List ℕ). drop (4 + 4 * j) p) here ∙ subst (λ (n : ℕ). drop (4 + 4 * j) (page_in size (bytes_of ready) (alloc_place size n)) ≡ replicate (size - (4 + 4 * j)) 0) same.group (ready_has h j low (omega (arith, at))))
+
   -- the groups before g are named, and group g isn't
   stopped : (g : ℕ) → first < g → g < end → ((h : ℕ) → first ≤ h → h < g → IsOfGroup size entries h (page_in size (bytes_of new) (alloc_place size h)))
-      → page_in size (bytes_of new) (alloc_place size g) ≡ page_in size (bytes_of ready) (alloc_place size g) → HasFront size table waiting new
+      → page_in size (bytes_of new) (alloc_place size g) ≡ page_in size (bytes_of ready) (alloc_place size g) → HasFront size table waiting old new
   stopped g more less named here =
       let inside = places.inside g less in
       let behind : (first + 1) * slots_in size ≤ g * slots_in size = mul-le-mul_right (slots_in size) (omega arith) in
@@ -293,15 +323,21 @@ module _ (size : ℕ) (is_size : IsTrue (is_page_size size)) (entries table wait
         rest = drop n waiting;
         split = parts;
         has = has_told size is_size new (table ++ take n waiting) there (full_front g more (named_below g named) (table ++ take n waiting) (drop n waiting) split long_front here);
+        zeros = λ was h j low at.
+            let sum : length table + length (take n waiting) ≡ g * slots_in size = omega (arith, length-take-le n waiting few, behind, within) in
+            let same : SamePlace g 0 h j = same_place (slots_in size) g 0 h j some low (omega (arith, at, sum)) in
+            zeros_all size (4 + 4 * j) (page_in size (bytes_of new) (alloc_place size h))
+            (ap (λ (k : ℕ). page_in size (bytes_of new) (alloc_place size k)) same.group ∙ here ∙ empties.empty g more (empty_behind g more (omega (arith, inside))));
       }
 
   -- the first group that isn't named
-  find : (left g : ℕ) → g + left ≡ end → first ≤ g → ((h : ℕ) → first ≤ h → h < g → IsOfGroup size entries h (page_in size (bytes_of new) (alloc_place size h))) → HasFront size table waiting new
+  find : (left g : ℕ) → g + left ≡ end → first ≤ g → ((h : ℕ) → first ≤ h → h < g → IsOfGroup size entries h (page_in size (bytes_of new) (alloc_place size h))) → HasFront size table waiting old new
   find zero g at order named = record {
     front = waiting;
     rest = [];
     split = sym (append-nil waiting);
     has = subst (λ (xs : List ℕ). HasTable size new xs) waits.all (all_named (λ h low high. named h low (omega arith)));
+    zeros = λ was. subst (λ (n : ℕ). HasZeros size new n) many (zeros (λ h low high. named h low (omega arith)));
   }
   find (suc left) g at order named = ⊎_elim
       (λ same. elim (cases_eq g first) [
@@ -311,6 +347,7 @@ module _ (size : ℕ) (is_size : IsTrue (is_page_size size)) (entries table wait
           split = refl;
           has = subst (λ (xs : List ℕ). HasTable size new xs) (sym (append-nil table))
               (has_told size is_size new table there (none_named (subst (λ (n : ℕ). page_in size (bytes_of new) (alloc_place size n) ≡ page_in size (bytes_of ready) (alloc_place size n)) e same)));
+          zeros = λ was. first_zeros was (subst (λ (n : ℕ). page_in size (bytes_of new) (alloc_place size n) ≡ page_in size (bytes_of ready) (alloc_place size n)) e same);
         }
         | inr ne ↦ stopped g (omega arith) (omega arith) named same
       ])
@@ -323,9 +360,9 @@ module _ (size : ℕ) (is_size : IsTrue (is_page_size size)) (entries table wait
   all_slots : (k : ℕ) → page_in size (bytes_of new) (slot_place size k) ≡ page_in size (bytes_of old) (slot_place size k)
   all_slots k = notes.slots k ∙ (empties.stays (length table) places.within).slots k
 
-  pub front_step : FrontStep size table waiting old new
-  front_step = let order = places.order in record {
-    tables = inr (find (end - first) first (omega arith) (omega arith) (λ h low high. absurd (omega arith)));
+  pub fronts : Fronts size table waiting old new
+  fronts = let order = places.order in record {
+    tables = find (end - first) first (omega arith) (omega arith) (λ h low high. absurd (omega arith));
     slots = all_slots;
     no_shorter = long;
   }

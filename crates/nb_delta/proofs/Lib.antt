@@ -14,3 +14,5 @@ pub mod KnownLemmas
 pub mod EmptyLemmas
 pub mod NotingLemmas
 pub mod FrontLemmas
+pub mod ZeroLemmas
+pub mod NoteLemmas

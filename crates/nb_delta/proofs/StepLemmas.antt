@@ -1,5 +1,5 @@
 -- What a page write leaves of a difference file, by its table and its slots.
-use Rattle.std.proofs.Common.{◌≡◌, ◌≢◌, inl, inr, ⊎_elim, ℕ, ◌+◌, ◌-◌, ◌*◌, ◌/◌, ◌<◌, ◌≤◌, false, List, [], ◌∷◌, ◌++◌, length, replicate, refl, sym, ap, ◌∙◌, subst, arith, IsTrue, length-append}
+use Rattle.std.proofs.Common.{◌≡◌, ◌≢◌, inl, inr, ⊎_elim, ℕ, ◌+◌, ◌-◌, ◌*◌, ◌/◌, ◌<◌, ◌≤◌, false, List, [], ◌∷◌, ◌++◌, length, drop, replicate, refl, sym, ap, ◌∙◌, subst, arith, IsTrue, length-append}
 use Rattle.std.specs.Prelude.{Some, None, nat_eq, min}
 use Rattle.std.specs.List.{list_any}
 use Rattle.std.proofs.lemmas.List.{length-replicate}
@@ -9,11 +9,13 @@ use Rattle.nb_host.specs.Crash.{PageLeft}
 use Rattle.nb_fields.specs.Places.{is_page_size, slots_in}
 use Rattle.nb_fields.specs.Table.{page_in, slot_place, alloc_place}
 use Rattle.nb_fields.proofs.SizeLemmas.{size_facts}
-use Rattle.nb_delta.specs.Slots.{HasTable, slot_page, HasSlot, Keeps, SlotStep, SlotPut, Adds, AddStep}
+use Rattle.nb_delta.specs.Slots.{HasTable, slot_page, HasSlot, HasZeros, Keeps, SlotStep, SlotPut, Adds, AddStep}
 use Rattle.nb_delta.specs.Noting.{IsAllocation, HasRoom, MakesRoom, Prepared, IsReady, IsNewest, Notes, NoteStep}
-use Rattle.nb_delta.proofs.TableLemmas.{Spells}
+use Rattle.nb_delta.proofs.TableLemmas.{Spells, same_place}
+use Rattle.nb_delta.proofs.ZeroLemmas.{zeros_all, zeros_same}
+use Rattle.std.proofs.lemmas.Bool.{cases_eq}
 use Rattle.nb_delta.proofs.TellLemmas.{table_read, table_told}
-use Rattle.nb_delta.proofs.PlaceLemmas.{in_group, group_is, slot_at, slot_other, alloc_other_slot}
+use Rattle.nb_delta.proofs.PlaceLemmas.{in_group, group_is, slot_at, slot_other, alloc_other, alloc_other_slot}
 use Rattle.nb_delta.specs.Pages.{WithPage, Put}
 use Rattle.nb_delta.proofs.SpellLemmas.{put_step, from_put, page_step, spells_slot, spells_behind, spells_same, spells_more}
 
@@ -64,6 +66,7 @@ module _ (size : ℕ) (is_size : IsTrue (is_page_size size)) where
           table = λ table has. after_left (slot_place size k * size) page table before after left (λ spells. spells_slot size (some_slots size is_size) k page (bytes_of before) (bytes_of after) table spells step) has;
           slot = ⊎_elim (λ all. inl (all (slot_place size k))) (λ put. inr put.here) step.pages;
           others = λ j other. ⊎_elim (λ all. all (slot_place size j)) (λ put. put.others (slot_place size j) (slot_other size (some_slots size is_size) j k other)) step.pages;
+          zeros = λ m. zeros_same size m before after (λ g low. ⊎_elim (λ all. all (alloc_place size g)) (λ put. put.others (alloc_place size g) (alloc_other_slot size (some_slots size is_size) g k)) step.pages);
           no_shorter = step.longer;
         }
 
@@ -76,24 +79,25 @@ module _ (size : ℕ) (is_size : IsTrue (is_page_size size)) where
           slot = put.pages.here;
           whole = put.whole;
           others = λ j other. put.pages.others (slot_place size j) (slot_other size (some_slots size is_size) j k other);
+          zeros = λ m. zeros_same size m before after (λ g low. put.pages.others (alloc_place size g) (alloc_other_slot size (some_slots size is_size) g k));
           no_shorter = put.longer;
         }
 
   pub slot_none : (k : ℕ) (page : List ℕ) (file : File) → SlotStep size k page file file
-  slot_none k page file = record { table = λ table has. has; slot = inl refl; others = λ j other. refl; no_shorter = omega arith }
+  slot_none k page file = record { table = λ table has. has; slot = inl refl; others = λ j other. refl; zeros = λ m has. has; no_shorter = omega arith }
 
   -- what a write of slot n keeps
   pub keeps_slot : (n : ℕ) (page : List ℕ) (before after : File) → SlotStep size n page before after → Keeps size n before after
-  keeps_slot n page before after step = record { table = λ table few has. step.table table has; slots = λ k low. step.others k (λ e. absurd (omega arith)) }
+  keeps_slot n page before after step = record { table = λ table few has. step.table table has; slots = λ k low. step.others k (λ e. absurd (omega arith)); zeros = λ m few has. step.zeros m has }
 
   pub keeps_put : (n : ℕ) (page : List ℕ) (before after : File) → SlotPut size n page before after → Keeps size n before after
-  keeps_put n page before after put = record { table = λ table few has. put.table table has; slots = λ k low. put.others k (λ e. absurd (omega arith)) }
+  keeps_put n page before after put = record { table = λ table few has. put.table table has; slots = λ k low. put.others k (λ e. absurd (omega arith)); zeros = λ m few has. put.zeros m has }
 
   pub keeps_none : (n : ℕ) (file : File) → Keeps size n file file
-  keeps_none n file = record { table = λ table few has. has; slots = λ k low. refl }
+  keeps_none n file = record { table = λ table few has. has; slots = λ k low. refl; zeros = λ m few has. has }
 
   pub keeps_joined : (n : ℕ) (b d c : File) → Keeps size n b d → Keeps size n d c → Keeps size n b c
-  keeps_joined n b d c first second = record { table = λ table few has. second.table table few (first.table table few has); slots = λ k low. second.slots k low ∙ first.slots k low }
+  keeps_joined n b d c first second = record { table = λ table few has. second.table table few (first.table table few has); slots = λ k low. second.slots k low ∙ first.slots k low; zeros = λ m few has. second.zeros m few (first.zeros m few has) }
 
   -- the next allocation page is written, behind entry n
   module _ (n h : ℕ) (low : n < h * slots_in size) (page : List ℕ) (long : length page ≡ size) where
@@ -103,6 +107,7 @@ module _ (size : ℕ) (is_size : IsTrue (is_page_size size)) where
         record {
           table = λ table few has. after_left (alloc_place size h * size) page table before after left (λ spells. spells_behind size (some_slots size is_size) h page (bytes_of before) (bytes_of after) table spells (omega arith) step) has;
           slots = λ k lower. ⊎_elim (λ all. all (slot_place size k)) (λ put. put.others (slot_place size k) (λ e. alloc_other_slot size (some_slots size is_size) h k (sym e))) step.pages;
+          zeros = λ m few. zeros_same size m before after (λ g inside. ⊎_elim (λ all. all (alloc_place size g)) (λ put. put.others (alloc_place size g) (alloc_other size g h (λ e. absurd (let same = ap (λ (x : ℕ). x * slots_in size) e in omega (arith, same, inside, few, low))))) step.pages);
         }
 
     -- and the slot of entry n keeps its page
@@ -130,11 +135,27 @@ module _ (size : ℕ) (is_size : IsTrue (is_page_size size)) where
     page_whole : alloc_place size g * size + size ≤ length (bytes_of before)
     page_whole = let m : (alloc_place size g + 1) * size ≤ (alloc_place size g + 2 + i) * size = mul-le-mul_right size (omega arith) in let w = slot_whole in omega (arith, m)
 
+    -- zeros stand behind the numbers, or the entry is the last of its group and the next allocation page is one of zeros
+    zeros_then : (after : File) → WithPage size (alloc_place size g) page (bytes_of before) (bytes_of after) → HasZeros size after (length table + 1)
+    zeros_then after put h j low_j at = elim (cases_eq (i + 1) (slots_in size)) [
+      | inl e ↦
+          let next : h * slots_in size + j ≡ (g + 1) * slots_in size + 0 = omega (arith, at, many, e) in
+          let same = same_place (slots_in size) (g + 1) 0 h j (some_slots size is_size) low_j next in
+          let ne : h ≢ g = λ w. absurd (omega (arith, w, same.group)) in
+          zeros_all size (4 + 4 * j) (page_in size (bytes_of after) (alloc_place size h))
+          (put.others (alloc_place size h) (alloc_other size h g ne) ∙ ap (λ (n : ℕ). page_in size (bytes_of before) (alloc_place size n)) same.group ∙ (next_room e).0)
+      | inr ne ↦
+          let same = same_place (slots_in size) g (i + 1) h j (omega arith) low_j (omega (arith, at, many)) in
+          ap (λ (n : ℕ). drop (4 + 4 * j) (page_in size (bytes_of after) (alloc_place size n))) same.group ∙ ap (λ (p : List ℕ). drop (4 + 4 * j) p) put.here
+          ∙ ap (λ (n : ℕ). drop (4 + 4 * n) page) same.index ∙ is.behind ∙ ap (λ (n : ℕ). replicate (size - (4 + 4 * n)) 0) (sym same.index)
+    ]
+
     noted : (after : File) → after ≡ Some (bytes_of after) → WithPage size (alloc_place size g) page (bytes_of before) (bytes_of after) → length (bytes_of before) ≤ length (bytes_of after) → Notes size table number before after
     noted after there put longer = record {
       table = has_told after (table ++ number ∷ []) there
           (spells_more size (some_slots size is_size) g i number page (bytes_of before) (bytes_of after) table (has_read before table has) low many fresh below (let large = some_bytes size is_size in omega arith) slot_whole next_room is put longer);
       slots = λ k lower. put.others (slot_place size k) (λ e. alloc_other_slot size (some_slots size is_size) g k (sym e));
+      zeros = zeros_then after put;
     }
 
     pub note_put : (after : File) → after ≡ with_page before (alloc_place size g * size) page → Notes size table number before after
@@ -150,6 +171,7 @@ module _ (size : ℕ) (is_size : IsTrue (is_page_size size)) where
         (λ all. inl (record {
           table = λ entries few had. after_left (alloc_place size g * size) page entries before after left (λ spells. spells_same size (some_slots size is_size) (alloc_place size g) page (bytes_of before) (bytes_of after) entries spells all step.longer step.grows inside) had;
           slots = λ k lower. all (slot_place size k);
+          zeros = λ m few. zeros_same size m before after (λ h inside. all (alloc_place size h));
         }))
         (λ put. inr (noted after (left_there size (alloc_place size g * size) page table before has after left) put step.longer))
         step.pages
@@ -195,18 +217,17 @@ module _ (size : ℕ) (is_size : IsTrue (is_page_size size)) where
     table = notes.table;
     slot = notes.slots (length table) (omega arith) ∙ ready.slot;
     others = λ k low. notes.slots k (omega arith) ∙ ready.keeps.slots k low;
+    zeros = notes.zeros;
   }
 
-  pub add_step : (table : List ℕ) (number : ℕ) (page : List ℕ) (before mid after : File) → Prepared size (length table) page before mid → NoteStep size table number mid after → AddStep size table number page before after
-  add_step table number page before mid after ready (inr notes) = inr (added table number page before mid after ready notes)
-  add_step table number page before mid after ready (inl keeps) = inl (record {
-    table = λ entries few has. keeps.table entries (omega arith) (ready.keeps.table entries few has);
-    slots = λ k low. keeps.slots k (omega arith) ∙ ready.keeps.slots k low;
+  -- the table names it, or what a stop would have left before the call is kept
+  pub add_step : (table : List ℕ) (number : ℕ) (page : List ℕ) (reads mid before after : File) → Prepared size (length table) page reads mid → Keeps size (length table) before mid → NoteStep size table number mid after → AddStep size table number page reads before after
+  add_step table number page reads mid before after ready kept (inr notes) = inr (added table number page reads mid after ready notes)
+  add_step table number page reads mid before after ready kept (inl keeps) = inl (record {
+    table = λ entries few has. keeps.table entries (omega arith) (kept.table entries few has);
+    slots = λ k low. keeps.slots k (omega arith) ∙ kept.slots k low;
+    zeros = λ m few has. keeps.zeros m (omega arith) (kept.zeros m few has);
   })
-
-  -- the slot is written, and then room is made
-  pub slot_then_room : (n room : ℕ) (page : List ℕ) → room ≡ size → (b d c : File) → SlotStep size n page b d → Keeps room n d c → Keeps size n b c
-  slot_then_room n room page same b d c step keeps = keeps_joined n b d c (keeps_slot n page b d step) (subst (λ (m : ℕ). Keeps m n d c) same keeps)
 
   -- a prepared entry is ready to be noted
   pub ready : (entries before : List ℕ) (number place group : ℕ) (bytes page : List ℕ) (old file : File) → IsNewest entries before number → HasTable size old before → place ≡ length entries - 1 → group ≡ place / slots_in size
@@ -252,9 +273,10 @@ module _ (size : ℕ) (is_size : IsTrue (is_page_size size)) where
     pub added_again : (new : File) → Notes second before number mid new → Adds size before number bytes old new
     added_again new notes = added before number bytes old mid new prepared_newest (subst (λ (n : ℕ). Notes n before number mid new) again notes)
 
-    pub add_step_again : (new : File) → NoteStep second before number mid new → AddStep size before number bytes old new
-    add_step_again new step = add_step before number bytes old mid new prepared_newest (subst (λ (n : ℕ). NoteStep n before number mid new) again step)
+    pub add_step_again : (b new : File) → Keeps size place b mid → NoteStep second before number mid new → AddStep size before number bytes old b new
+    add_step_again b new keeps step =
+        add_step before number bytes old mid b new prepared_newest (subst (λ (n : ℕ). Keeps size n b mid) (newest_place entries before number place newest at) keeps) (subst (λ (n : ℕ). NoteStep n before number mid new) again step)
 
   -- while the slot is written
-  pub newest_keeps : (entries before : List ℕ) (number place : ℕ) (bytes : List ℕ) (b d : File) → IsNewest entries before number → place ≡ length entries - 1 → Keeps size place b d → AddStep size before number bytes b d
-  newest_keeps entries before number place bytes b d newest at keeps = inl (subst (λ (n : ℕ). Keeps size n b d) (newest_place entries before number place newest at) keeps)
+  pub newest_keeps : (entries before : List ℕ) (number place : ℕ) (bytes : List ℕ) (reads b d : File) → IsNewest entries before number → place ≡ length entries - 1 → Keeps size place b d → AddStep size before number bytes reads b d
+  newest_keeps entries before number place bytes reads b d newest at keeps = inl (subst (λ (n : ℕ). Keeps size n b d) (newest_place entries before number place newest at) keeps)

@@ -6,7 +6,7 @@ use Rattle.nb_fields.specs.Table.{page_in, alloc_place}
 use Rattle.nb_delta.specs.Pages.{PageStep, Put}
 use Rattle.nb_delta.specs.Slots.{slot_page}
 use Rattle.nb_delta.specs.Noting.{IsAllocation}
-use Rattle.nb_delta.specs.Waiting.{KeepsTables}
+use Rattle.nb_delta.specs.Waiting.{Stays}
 
 -- the allocation page of group g is this one, or every page is as it was
 pub record GroupStep (size g : ℕ) (page : List ℕ) (before after : File) : Type 0 where
@@ -17,12 +17,6 @@ pub record GroupStep (size g : ℕ) (page : List ℕ) (before after : File) : Ty
 pub record GroupPut (size g : ℕ) (page : List ℕ) (before after : File) : Type 0 where
   pub pages : Put size (alloc_place size g) page (bytes_of before) (bytes_of after)
   pub there : after ≡ Some (bytes_of after)
-
--- a table of at most n entries stays, and every slot holds what it held
-pub record Stays (size n : ℕ) (before after : File) : Type 0 where
-  pub tables : KeepsTables size n before after
-  pub slots : (k : ℕ) → slot_page size after k ≡ slot_page size before k
-  pub no_shorter : length (bytes_of before) ≤ length (bytes_of after)
 
 -- the allocation pages behind group `first`, up to that of group `last`, are pages of zeros
 pub record Empties (size first last : ℕ) (before after : File) : Type 0 where

@@ -1,16 +1,17 @@
 -- A new entry on its way: its slot is written, and the table doesn't name it yet.
-use Rattle.std.specs.Prelude.{◌≡◌, ◌⊎◌, ℕ, ◌+◌, ◌*◌, ◌<◌, ◌≤◌, List, [], ◌∷◌, ◌++◌, length, replicate, None, slice_index}
+use Rattle.std.specs.Prelude.{◌≡◌, ◌⊎◌, ℕ, ◌+◌, ◌-◌, ◌*◌, ◌<◌, ◌≤◌, List, [], ◌∷◌, ◌++◌, length, drop, replicate, None, slice_index}
 use Rattle.nb_host.specs.Files.{File, bytes_of}
 use Rattle.nb_fields.specs.Bytes.{number_in}
 use Rattle.nb_fields.specs.Places.{slots_in}
 use Rattle.nb_fields.specs.Table.{page_in, alloc_place}
 use Rattle.nb_delta.specs.Entries.{place_of}
-use Rattle.nb_delta.specs.Slots.{HasTable, HasSlot, slot_page, Keeps}
+use Rattle.nb_delta.specs.Slots.{HasTable, HasSlot, HasZeros, slot_page, Keeps}
 
--- the page is the allocation page of group g, with the first n entries of the group
+-- the page is the allocation page of group g, with the first n entries of the group and zeros behind their numbers
 pub record IsAllocation (size : ℕ) (page entries : List ℕ) (g n : ℕ) : Type 0 where
   pub count : number_in 0 4 page ≡ n
   pub numbers : (i : ℕ) → i < n → number_in (4 + 4 * i) 4 page ≡ slice_index entries (g * slots_in size + i)
+  pub behind : drop (4 + 4 * n) page ≡ replicate (size - (4 + 4 * n)) 0
 
 -- where entry n is the last of its group, the next allocation page is one of zeros
 abbrev pub HasRoom : (size : ℕ) → File → (n : ℕ) → Type 0
@@ -35,6 +36,7 @@ pub record Prepared (size n : ℕ) (page : List ℕ) (before after : File) : Typ
 pub record Notes (size : ℕ) (entries : List ℕ) (number : ℕ) (before after : File) : Type 0 where
   pub table : HasTable size after (entries ++ number ∷ [])
   pub slots : (k : ℕ) → k < length entries + 1 → slot_page size after k ≡ slot_page size before k
+  pub zeros : HasZeros size after (length entries + 1)
 
 -- the table has the entry, or nothing of it and its slots has changed
 abbrev pub NoteStep : (size : ℕ) (entries : List ℕ) (number : ℕ) (before after : File) → Type 0

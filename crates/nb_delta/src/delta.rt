@@ -1,5 +1,5 @@
-ghost use Rattle.std.specs.Prelude.{◌≡◌, ◌≢◌, ℕ, ◌+◌, ◌/◌, ◌<◌, ◌≤◌, IsTrue, List, [], ◌∷◌, ◌++◌, length, replicate, Some, None, Ok, Err, OnOk, OnErr, IfOk, IfErr, IsOk, slice_index, option_map};
-ghost use Rattle.nb_host.specs.declared.faults.Fault.TheVariants.{Memory};
+ghost use Rattle.std.specs.Prelude.{◌≡◌, ℕ, ◌+◌, ◌/◌, ◌<◌, ◌≤◌, IsTrue, List, [], ◌∷◌, ◌++◌, length, replicate, Some, None, Ok, Err, OnOk, OnErr, IfOk, IfErr, IsOk, slice_index, option_map};
+ghost use Rattle.nb_host.specs.declared.faults.Fault.TheVariants.{Device, Memory};
 ghost use Rattle.nb_host.specs.Crash.{IsDurable};
 ghost use Rattle.nb_host.specs.Calls.{IsSilent};
 ghost use Rattle.nb_host.specs.Causes.{CountsFault};
@@ -7,10 +7,10 @@ ghost use Rattle.nb_fields.specs.Places.{is_page_size, slots_in};
 ghost use Rattle.nb_fields.specs.Table.{slot_place};
 ghost use Rattle.nb_page.specs.Quiet.{Quiet};
 ghost use Rattle.nb_delta.specs.Entries.{place_of};
-ghost use Rattle.nb_change.specs.Change.{Advances};
+ghost use Rattle.nb_change.specs.Changes.{Only, Changes, Moved, Remade};
 ghost use Rattle.nb_change.specs.Counts.{CountsDevice};
 ghost use Rattle.nb_delta.specs.Causes.{IsNoRefusal};
-ghost use Rattle.nb_delta.specs.Slots.{HasTable, HasSlot, slot_page, StepLeft, SlotStep, SlotPut, Adds, AddStep, IsBlank, MadeLeft};
+ghost use Rattle.nb_delta.specs.Slots.{HasTable, HasZeros, slot_page, SlotStep, SlotPut, Adds, AddStep, IsBlank};
 ghost use Rattle.nb_delta.specs.Waiting.{Waits, FrontStep, HasAll};
 ghost use Rattle.nb_delta.specs.Attaching.{IsFor, Attaches};
 
@@ -125,7 +125,8 @@ impl Delta {
     }
 
     /// Adds an entry for a page that has none, with its bytes, and answers its slot. The slot is kept for good before the
-    /// table names it, and the table too where writes are forced. Where it wants memory nothing has changed.
+    /// table names it, and the table too where writes are forced. Where it wants memory nothing has changed. After a fault of
+    /// the device the entry is known, and the file's table may lack it.
     pub fn add<H: Host>(
         &mut self,
         host: &mut H,
@@ -139,12 +140,14 @@ impl Delta {
         requires none_waits { self.old.drafted ≡ 0 }
         ensures slot { IfOk result (λ slot. slot ≡ slot_place self.old.page_size (length self.old.entries)) }
         ensures known { OnOk result (self.new ≡ record self.old { entries = self.old.entries ++ page ∷ [] }) }
+        ensures on_device { result ≡ Err Device → self.new ≡ record self.old { entries = self.old.entries ++ page ∷ [] } }
         ensures added { IsTrue H.tells → HasTable self.old.page_size ((H.world host.old).files self.old.name) self.old.entries
             → OnOk result (Adds self.old.page_size self.old.entries page bytes.now ((H.world host.old).files self.old.name) ((H.world host.new).files self.old.name)) }
 
-        // At each moment a stop leaves the entry with its page, or the table and the pages of its slots as they were.
-        ensures moves { IsTrue H.tells → HasTable self.old.page_size ((H.world host.old).files self.old.name) self.old.entries → (other : List ℕ) → other ≢ self.old.name
-            → Advances (H.world host.old) (H.world host.new) other self.old.name (StepLeft (H.world host.old) other self.old.name (AddStep self.old.page_size self.old.entries page bytes.now)) }
+        // At each moment a stop leaves the entry with its page and the slots before it as they read, or the table and its slots as
+        // it would have left them before.
+        ensures changes { IsTrue H.tells → HasTable self.old.page_size ((H.world host.old).files self.old.name) self.old.entries
+            → Changes (H.world host.old) (H.world host.new) (Only self.old.name) (Moved (H.world host.old) self.old.name (AddStep self.old.page_size self.old.entries page bytes.now ((H.world host.old).files self.old.name))) }
         ensures durable { IsTrue H.tells → IsTrue forced → OnOk result (IsDurable (H.world host.new) self.old.name ((H.world host.new).files self.old.name)) }
         ensures on_memory { result ≡ Err Memory → (self.new ≡ self.old) × (host.new ≡ host.old) }
         ensures log { IsSilent (H.world host.old) (H.world host.new) }
@@ -178,8 +181,8 @@ impl Delta {
             → OnOk result (SlotPut self.old.page_size k bytes.now ((H.world host.old).files self.old.name) ((H.world host.new).files self.old.name)) }
 
         // At each moment a stop leaves the slot with this page or as it was, and the table and every other slot as they were.
-        ensures moves { IsTrue H.tells → (k : ℕ) → slot ≡ slot_place self.old.page_size k → (other : List ℕ) → other ≢ self.old.name
-            → Advances (H.world host.old) (H.world host.new) other self.old.name (StepLeft (H.world host.old) other self.old.name (SlotStep self.old.page_size k bytes.now)) }
+        ensures changes { IsTrue H.tells → (k : ℕ) → slot ≡ slot_place self.old.page_size k
+            → Changes (H.world host.old) (H.world host.new) (Only self.old.name) (Moved (H.world host.old) self.old.name (SlotStep self.old.page_size k bytes.now)) }
         ensures durable { IsTrue H.tells → IsTrue forced → OnOk result (IsDurable (H.world host.new) self.old.name ((H.world host.new).files self.old.name)) }
         ensures log { IsSilent (H.world host.old) (H.world host.new) }
         ensures cause { CountsFault result (H.faults host.old) (H.faults host.new) }
@@ -188,7 +191,7 @@ impl Delta {
         Ok(())
     }
 
-    /// Fills in the page of an entry, from its slot.
+    /// Fills in the page of an entry, from its slot. Where the file ends before the slot does, zeros stand for the rest.
     pub fn read_slot<H: Host>(
         &mut self,
         host: &mut H,
@@ -197,13 +200,14 @@ impl Delta {
     ) -> Result<(), HostFault>
         requires size { length into.old ≡ self.old.page_size }
         ensures same { self.new ≡ self.old }
-        ensures page { IsTrue H.tells → (k : ℕ) → slot ≡ slot_place self.old.page_size k → HasSlot self.old.page_size ((H.world host.old).files self.old.name) k
+        ensures page { IsTrue H.tells → (k : ℕ) → slot ≡ slot_place self.old.page_size k
             → OnOk result (into.new ≡ slot_page self.old.page_size ((H.world host.old).files self.old.name) k) }
         ensures quiet { Quiet (H.world host.old) (H.world host.new) }
         ensures reads { IsTrue H.tells → OnOk result ((H.world host.new).reads ≡ (H.world host.old).reads + 1) }
         ensures cause { CountsFault result (H.faults host.old) (H.faults host.new) }
     {
-        host.read_page(&self.name, slot, into)?;
+        into.fill(0);
+        host.read_at(&self.name, slot as u64 * self.page_size as u64, into)?;
         Ok(())
     }
 
@@ -213,8 +217,8 @@ impl Delta {
         ensures made { IsTrue H.tells → OnOk result ((H.world host.new).files self.old.name ≡ Some (replicate self.old.page_size 0)) }
         ensures table { IsTrue H.tells → OnOk result (HasTable self.old.page_size ((H.world host.new).files self.old.name) []) }
         ensures durable { IsTrue H.tells → OnOk result (IsDurable (H.world host.new) self.old.name ((H.world host.new).files self.old.name)) }
-        ensures moves { IsTrue H.tells → (other : List ℕ) → other ≢ self.old.name
-            → Advances (H.world host.old) (H.world host.new) other self.old.name (MadeLeft (H.world host.old) other self.old.name (IsBlank self.old.page_size)) }
+        ensures changes { IsTrue H.tells
+            → Changes (H.world host.old) (H.world host.new) (Only self.old.name) (Remade (H.world host.old) self.old.name (IsBlank self.old.page_size)) }
         ensures log { IsSilent (H.world host.old) (H.world host.new) }
         ensures cause { CountsFault result (H.faults host.old) (H.faults host.new) }
     {
@@ -227,8 +231,8 @@ impl Delta {
     pub fn clear<H: Host>(&mut self, host: &mut H) -> Result<(), HostFault>
         ensures known { self.new ≡ record self.old { entries = []; drafted = 0 } }
         ensures gone { IsTrue H.tells → OnOk result ((H.world host.new).files self.old.name ≡ None) }
-        ensures moves { IsTrue H.tells → (other : List ℕ) → other ≢ self.old.name
-            → Advances (H.world host.old) (H.world host.new) other self.old.name (MadeLeft (H.world host.old) other self.old.name (λ file. file ≡ None)) }
+        ensures changes { IsTrue H.tells
+            → Changes (H.world host.old) (H.world host.new) (Only self.old.name) (Remade (H.world host.old) self.old.name (λ file. file ≡ None)) }
         ensures log { IsSilent (H.world host.old) (H.world host.new) }
         ensures cause { CountsFault result (H.faults host.old) (H.faults host.new) }
     {
@@ -269,10 +273,13 @@ impl Delta {
         ensures none { self.old.drafted ≡ 0 → IsOk result × (host.new ≡ host.old) }
         ensures written { IsTrue H.tells → (table : List ℕ) → (waiting : List ℕ) → Waits self.old.page_size self.old.entries self.old.drafted table waiting ((H.world host.old).files self.old.name)
             → OnOk result (HasAll self.old.page_size self.old.entries ((H.world host.old).files self.old.name) ((H.world host.new).files self.old.name)) }
+        ensures zeros { IsTrue H.tells → 0 < self.old.drafted → (table : List ℕ) → (waiting : List ℕ) → Waits self.old.page_size self.old.entries self.old.drafted table waiting ((H.world host.old).files self.old.name)
+            → OnOk result (HasZeros self.old.page_size ((H.world host.new).files self.old.name) (length self.old.entries)) }
 
-        // At each moment a stop leaves the old table or one with the first of the drafted entries too, and every slot as it was.
-        ensures moves { IsTrue H.tells → (table : List ℕ) → (waiting : List ℕ) → Waits self.old.page_size self.old.entries self.old.drafted table waiting ((H.world host.old).files self.old.name) → (other : List ℕ) → other ≢ self.old.name
-            → Advances (H.world host.old) (H.world host.new) other self.old.name (StepLeft (H.world host.old) other self.old.name (FrontStep self.old.page_size table waiting)) }
+        // At each moment a stop leaves the table with the first of the drafted entries too and every slot as it reads, or the table
+        // and every slot as it would have left them before.
+        ensures changes { IsTrue H.tells → (table : List ℕ) → (waiting : List ℕ) → Waits self.old.page_size self.old.entries self.old.drafted table waiting ((H.world host.old).files self.old.name)
+            → Changes (H.world host.old) (H.world host.new) (Only self.old.name) (Moved (H.world host.old) self.old.name (FrontStep self.old.page_size table waiting ((H.world host.old).files self.old.name))) }
         ensures durable { IsTrue H.tells → 0 < self.old.drafted → OnOk result (IsDurable (H.world host.new) self.old.name ((H.world host.new).files self.old.name)) }
         ensures log { IsSilent (H.world host.old) (H.world host.new) }
         ensures cause { CountsFault result (H.faults host.old) (H.faults host.new) }

@@ -1,14 +1,14 @@
 // The entries that wait come into the table together. First there is room behind all of their groups, and what stands in
 // their slots is kept for good. Only then the allocation pages name them.
-ghost use Rattle.std.specs.Prelude.{◌≡◌, ◌≢◌, ℕ, ◌+◌, ◌-◌, ◌*◌, ◌/◌, ◌<◌, ◌≤◌, IsTrue, List, length, replicate, OnOk};
+ghost use Rattle.std.specs.Prelude.{◌≡◌, ℕ, ◌+◌, ◌-◌, ◌*◌, ◌/◌, ◌<◌, ◌≤◌, IsTrue, List, length, replicate, OnOk};
 ghost use Rattle.nb_host.specs.Crash.{IsDurable};
 ghost use Rattle.nb_host.specs.Calls.{IsSilent};
 ghost use Rattle.nb_host.specs.Causes.{CountsFault};
 ghost use Rattle.nb_fields.specs.Places.{is_page_size, slots_in};
-ghost use Rattle.nb_change.specs.Change.{Advances};
-ghost use Rattle.nb_delta.specs.Slots.{StepLeft};
-ghost use Rattle.nb_delta.specs.Waiting.{Waits, FrontStep, HasAll};
-ghost use Rattle.nb_delta.specs.Groups.{GroupStep, GroupPut, Stays, Empties, NotesSome, NotesAll};
+ghost use Rattle.nb_change.specs.Changes.{Only, Changes, Moved};
+ghost use Rattle.nb_delta.specs.Slots.{HasZeros};
+ghost use Rattle.nb_delta.specs.Waiting.{Waits, Stays, FrontStep, HasAll};
+ghost use Rattle.nb_delta.specs.Groups.{GroupStep, GroupPut, Empties, NotesSome, NotesAll};
 
 use crate::entries::Entries;
 use crate::places::{alloc_page_of, slots_in};
@@ -20,8 +20,8 @@ fn write_group<H: Host>(host: &mut H, name: &Name, group: u32, page: &[u8]) -> R
     requires size { IsTrue (is_page_size (length page.now)) }
     requires group { group ≤ 4113 }
     ensures put { IsTrue H.tells → OnOk result (GroupPut (length page.now) group page.now ((H.world host.old).files name.now) ((H.world host.new).files name.now)) }
-    ensures moves { IsTrue H.tells → (other : List ℕ) → other ≢ name.now
-        → Advances (H.world host.old) (H.world host.new) other name.now (StepLeft (H.world host.old) other name.now (GroupStep (length page.now) group page.now)) }
+    ensures changes { IsTrue H.tells
+        → Changes (H.world host.old) (H.world host.new) (Only name.now) (Moved (H.world host.old) name.now (GroupStep (length page.now) group page.now)) }
     ensures log { IsSilent (H.world host.old) (H.world host.new) }
     ensures cause { CountsFault result (H.faults host.old) (H.faults host.new) }
 {
@@ -42,8 +42,8 @@ fn empty_groups<H: Host>(
     requires order { first ≤ last }
     requires last { last ≤ 4113 }
     ensures emptied { IsTrue H.tells → OnOk result (Empties (length zeros.now) first last ((H.world host.old).files name.now) ((H.world host.new).files name.now)) }
-    ensures moves { IsTrue H.tells → (n : ℕ) → n < (first + 1) * slots_in (length zeros.now) → (other : List ℕ) → other ≢ name.now
-        → Advances (H.world host.old) (H.world host.new) other name.now (StepLeft (H.world host.old) other name.now (Stays (length zeros.now) n)) }
+    ensures changes { IsTrue H.tells → (n : ℕ) → n < (first + 1) * slots_in (length zeros.now)
+        → Changes (H.world host.old) (H.world host.new) (Only name.now) (Moved (H.world host.old) name.now (Stays (length zeros.now) n)) }
     ensures log { IsSilent (H.world host.old) (H.world host.new) }
     ensures cause { CountsFault result (H.faults host.old) (H.faults host.new) }
 {
@@ -67,8 +67,8 @@ fn make_ready<H: Host>(
     requires last { last ≤ 4113 }
     ensures emptied { IsTrue H.tells → OnOk result (Empties (length page.old) first last ((H.world host.old).files name.now) ((H.world host.new).files name.now)) }
     ensures durable { IsTrue H.tells → OnOk result (IsDurable (H.world host.new) name.now ((H.world host.new).files name.now)) }
-    ensures moves { IsTrue H.tells → (n : ℕ) → n < (first + 1) * slots_in (length page.old) → (other : List ℕ) → other ≢ name.now
-        → Advances (H.world host.old) (H.world host.new) other name.now (StepLeft (H.world host.old) other name.now (Stays (length page.old) n)) }
+    ensures changes { IsTrue H.tells → (n : ℕ) → n < (first + 1) * slots_in (length page.old)
+        → Changes (H.world host.old) (H.world host.new) (Only name.now) (Moved (H.world host.old) name.now (Stays (length page.old) n)) }
     ensures log { IsSilent (H.world host.old) (H.world host.new) }
     ensures cause { CountsFault result (H.faults host.old) (H.faults host.new) }
 {
@@ -90,8 +90,8 @@ fn note_group<H: Host>(
     requires few { group ≤ 4113 }
     requires group { group * slots_in (length page.old) < length entries.now }
     ensures noted { IsTrue H.tells → OnOk result (NotesAll (length page.old) entries.now group (group + 1) ((H.world host.old).files name.now) ((H.world host.new).files name.now)) }
-    ensures moves { IsTrue H.tells → (other : List ℕ) → other ≢ name.now
-        → Advances (H.world host.old) (H.world host.new) other name.now (StepLeft (H.world host.old) other name.now (NotesSome (length page.old) entries.now group (group + 1))) }
+    ensures changes { IsTrue H.tells
+        → Changes (H.world host.old) (H.world host.new) (Only name.now) (Moved (H.world host.old) name.now (NotesSome (length page.old) entries.now group (group + 1))) }
     ensures log { IsSilent (H.world host.old) (H.world host.new) }
     ensures cause { CountsFault result (H.faults host.old) (H.faults host.new) }
 {
@@ -114,8 +114,8 @@ fn note_groups<H: Host>(
     requires few { end ≤ 4113 }
     requires inside { (g : ℕ) → g < end → g * slots_in (length page.old) < length entries.now }
     ensures noted { IsTrue H.tells → OnOk result (NotesAll (length page.old) entries.now first end ((H.world host.old).files name.now) ((H.world host.new).files name.now)) }
-    ensures moves { IsTrue H.tells → (other : List ℕ) → other ≢ name.now
-        → Advances (H.world host.old) (H.world host.new) other name.now (StepLeft (H.world host.old) other name.now (NotesSome (length page.old) entries.now first end)) }
+    ensures changes { IsTrue H.tells
+        → Changes (H.world host.old) (H.world host.new) (Only name.now) (Moved (H.world host.old) name.now (NotesSome (length page.old) entries.now first end)) }
     ensures log { IsSilent (H.world host.old) (H.world host.new) }
     ensures cause { CountsFault result (H.faults host.old) (H.faults host.new) }
 {
@@ -139,8 +139,8 @@ fn note_all<H: Host>(
     requires few { end ≤ 4113 }
     requires inside { (g : ℕ) → g < end → g * slots_in (length page.old) < length entries.now }
     ensures noted { IsTrue H.tells → OnOk result (NotesAll (length page.old) entries.now first end ((H.world host.old).files name.now) ((H.world host.new).files name.now)) }
-    ensures moves { IsTrue H.tells → (other : List ℕ) → other ≢ name.now
-        → Advances (H.world host.old) (H.world host.new) other name.now (StepLeft (H.world host.old) other name.now (NotesSome (length page.old) entries.now first end)) }
+    ensures changes { IsTrue H.tells
+        → Changes (H.world host.old) (H.world host.new) (Only name.now) (Moved (H.world host.old) name.now (NotesSome (length page.old) entries.now first end)) }
     ensures durable { IsTrue H.tells → OnOk result (IsDurable (H.world host.new) name.now ((H.world host.new).files name.now)) }
     ensures log { IsSilent (H.world host.old) (H.world host.new) }
     ensures cause { CountsFault result (H.faults host.old) (H.faults host.new) }
@@ -162,8 +162,10 @@ pub fn put_waiting<H: Host>(
     requires few { drafted ≤ length entries.now }
     ensures written { IsTrue H.tells → (table : List ℕ) → (waiting : List ℕ) → Waits (length page.old) entries.now drafted table waiting ((H.world host.old).files name.now)
         → OnOk result (HasAll (length page.old) entries.now ((H.world host.old).files name.now) ((H.world host.new).files name.now)) }
-    ensures moves { IsTrue H.tells → (table : List ℕ) → (waiting : List ℕ) → Waits (length page.old) entries.now drafted table waiting ((H.world host.old).files name.now) → (other : List ℕ) → other ≢ name.now
-        → Advances (H.world host.old) (H.world host.new) other name.now (StepLeft (H.world host.old) other name.now (FrontStep (length page.old) table waiting)) }
+    ensures zeros { IsTrue H.tells → (table : List ℕ) → (waiting : List ℕ) → Waits (length page.old) entries.now drafted table waiting ((H.world host.old).files name.now)
+        → OnOk result (HasZeros (length page.old) ((H.world host.new).files name.now) (length entries.now)) }
+    ensures changes { IsTrue H.tells → (table : List ℕ) → (waiting : List ℕ) → Waits (length page.old) entries.now drafted table waiting ((H.world host.old).files name.now)
+        → Changes (H.world host.old) (H.world host.new) (Only name.now) (Moved (H.world host.old) name.now (FrontStep (length page.old) table waiting ((H.world host.old).files name.now))) }
     ensures durable { IsTrue H.tells → OnOk result (IsDurable (H.world host.new) name.now ((H.world host.new).files name.now)) }
     ensures log { IsSilent (H.world host.old) (H.world host.new) }
     ensures cause { CountsFault result (H.faults host.old) (H.faults host.new) }

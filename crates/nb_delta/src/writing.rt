@@ -1,14 +1,14 @@
 // Pages are written in an order that a stop can't harm: a slot is kept for good before the table names it.
-ghost use Rattle.std.specs.Prelude.{◌≡◌, ◌≢◌, ℕ, ◌+◌, ◌*◌, ◌-◌, ◌<◌, ◌≤◌, IsTrue, List, [], ◌∷◌, ◌++◌, length, replicate, min, Some, None, OnOk};
-ghost use Rattle.nb_host.specs.Crash.{IsDurable};
+ghost use Rattle.std.specs.Prelude.{◌≡◌, ℕ, ◌+◌, ◌*◌, ◌-◌, ◌<◌, ◌≤◌, IsTrue, List, [], ◌∷◌, ◌++◌, length, replicate, min, Some, None, OnOk};
+ghost use Rattle.nb_host.specs.Crash.{LeavesAll, IsDurable};
 ghost use Rattle.nb_host.specs.Calls.{IsStill, IsSilent, CountsRead};
 ghost use Rattle.nb_host.specs.Moments.{Passes};
 ghost use Rattle.nb_host.specs.Causes.{CountsFault};
 ghost use Rattle.nb_fields.specs.Places.{is_page_size, slots_in};
 ghost use Rattle.nb_fields.specs.Table.{slot_place};
-ghost use Rattle.nb_change.specs.Change.{Advances};
+ghost use Rattle.nb_change.specs.Changes.{Only, NoNames, Changes, Moved, Remade};
 ghost use Rattle.nb_delta.specs.Entries.{place_of};
-ghost use Rattle.nb_delta.specs.Slots.{HasTable, StepLeft, Keeps, SlotStep, SlotPut, Adds, AddStep, IsBlank, MadeLeft};
+ghost use Rattle.nb_delta.specs.Slots.{HasTable, Keeps, SlotStep, SlotPut, Adds, AddStep, IsBlank};
 ghost use Rattle.nb_delta.specs.Noting.{IsAllocation, MakesRoom, Prepared, IsReady, IsNewest, Notes, NoteStep};
 
 use crate::entries::Entries;
@@ -26,8 +26,8 @@ pub fn write_slot<H: Host>(
     requires { IsTrue (is_page_size (length bytes.now)) }
     ensures put { IsTrue H.tells → (k : ℕ) → slot ≡ slot_place (length bytes.now) k
         → OnOk result (SlotPut (length bytes.now) k bytes.now ((H.world host.old).files name.now) ((H.world host.new).files name.now)) }
-    ensures moves { IsTrue H.tells → (k : ℕ) → slot ≡ slot_place (length bytes.now) k → (other : List ℕ) → other ≢ name.now
-        → Advances (H.world host.old) (H.world host.new) other name.now (StepLeft (H.world host.old) other name.now (SlotStep (length bytes.now) k bytes.now)) }
+    ensures changes { IsTrue H.tells → (k : ℕ) → slot ≡ slot_place (length bytes.now) k
+        → Changes (H.world host.old) (H.world host.new) (Only name.now) (Moved (H.world host.old) name.now (SlotStep (length bytes.now) k bytes.now)) }
     ensures log { IsSilent (H.world host.old) (H.world host.new) }
     ensures cause { CountsFault result (H.faults host.old) (H.faults host.new) }
 {
@@ -39,7 +39,7 @@ pub fn write_slot<H: Host>(
 pub fn sync_if<H: Host>(host: &mut H, name: &Name, wanted: bool) -> Result<(), HostFault>
     ensures still { IsStill (H.world host.old) (H.world host.new) }
     ensures durable { IsTrue H.tells → IsTrue wanted → OnOk result (IsDurable (H.world host.new) name.now ((H.world host.new).files name.now)) }
-    ensures moves { (other : List ℕ) → other ≢ name.now → Advances (H.world host.old) (H.world host.new) other name.now (StepLeft (H.world host.old) other name.now (λ before after. after ≡ before)) }
+    ensures changes { Changes (H.world host.old) (H.world host.new) NoNames (LeavesAll (H.world host.old)) }
     ensures log { IsSilent (H.world host.old) (H.world host.new) }
     ensures cause { CountsFault result (H.faults host.old) (H.faults host.new) }
 {
@@ -59,8 +59,8 @@ fn make_room<H: Host>(
     requires size { IsTrue (is_page_size (length page.old)) }
     requires place { place < 1048576 }
     ensures room { IsTrue H.tells → OnOk result (MakesRoom (length page.old) place ((H.world host.old).files name.now) ((H.world host.new).files name.now)) }
-    ensures moves { IsTrue H.tells → (other : List ℕ) → other ≢ name.now
-        → Advances (H.world host.old) (H.world host.new) other name.now (StepLeft (H.world host.old) other name.now (Keeps (length page.old) place)) }
+    ensures changes { IsTrue H.tells
+        → Changes (H.world host.old) (H.world host.new) (Only name.now) (Moved (H.world host.old) name.now (Keeps (length page.old) place)) }
     ensures log { IsSilent (H.world host.old) (H.world host.new) }
     ensures cause { CountsFault result (H.faults host.old) (H.faults host.new) }
 {
@@ -87,8 +87,8 @@ fn put_slot<H: Host>(
     requires place { place < 1048576 }
     ensures prepared { IsTrue H.tells → OnOk result (Prepared (length bytes.now) place bytes.now ((H.world host.old).files name.now) ((H.world host.new).files name.now)) }
     ensures durable { IsTrue H.tells → OnOk result (IsDurable (H.world host.new) name.now ((H.world host.new).files name.now)) }
-    ensures moves { IsTrue H.tells → (other : List ℕ) → other ≢ name.now
-        → Advances (H.world host.old) (H.world host.new) other name.now (StepLeft (H.world host.old) other name.now (Keeps (length bytes.now) place)) }
+    ensures changes { IsTrue H.tells
+        → Changes (H.world host.old) (H.world host.new) (Only name.now) (Moved (H.world host.old) name.now (Keeps (length bytes.now) place)) }
     ensures log { IsSilent (H.world host.old) (H.world host.new) }
     ensures cause { CountsFault result (H.faults host.old) (H.faults host.new) }
 {
@@ -132,9 +132,9 @@ fn note<H: Host>(
     requires group { group ≤ 4113 }
     ensures noted { IsTrue H.tells → (entries : List ℕ) → (number : ℕ) → IsReady (length page.now) entries number group page.now ((H.world host.old).files name.now)
         → OnOk result (Notes (length page.now) entries number ((H.world host.old).files name.now) ((H.world host.new).files name.now)) }
-    ensures moves { IsTrue H.tells → (entries : List ℕ) → (number : ℕ) → IsReady (length page.now) entries number group page.now ((H.world host.old).files name.now)
-        → IsDurable (H.world host.old) name.now ((H.world host.old).files name.now) → (other : List ℕ) → other ≢ name.now
-        → Advances (H.world host.old) (H.world host.new) other name.now (StepLeft (H.world host.old) other name.now (NoteStep (length page.now) entries number)) }
+    ensures changes { IsTrue H.tells → (entries : List ℕ) → (number : ℕ) → IsReady (length page.now) entries number group page.now ((H.world host.old).files name.now)
+        → IsDurable (H.world host.old) name.now ((H.world host.old).files name.now)
+        → Changes (H.world host.old) (H.world host.new) (Only name.now) (Moved (H.world host.old) name.now (NoteStep (length page.now) entries number)) }
     ensures durable { IsTrue H.tells → IsTrue forced → OnOk result (IsDurable (H.world host.new) name.now ((H.world host.new).files name.now)) }
     ensures log { IsSilent (H.world host.old) (H.world host.new) }
     ensures cause { CountsFault result (H.faults host.old) (H.faults host.new) }
@@ -159,8 +159,8 @@ pub fn put_entry<H: Host>(
     requires some { 0 < length entries.now }
     ensures added { IsTrue H.tells → (before : List ℕ) → (number : ℕ) → IsNewest entries.now before number → HasTable (length bytes.now) ((H.world host.old).files name.now) before
         → OnOk result (Adds (length bytes.now) before number bytes.now ((H.world host.old).files name.now) ((H.world host.new).files name.now)) }
-    ensures moves { IsTrue H.tells → (before : List ℕ) → (number : ℕ) → IsNewest entries.now before number → HasTable (length bytes.now) ((H.world host.old).files name.now) before → (other : List ℕ) → other ≢ name.now
-        → Advances (H.world host.old) (H.world host.new) other name.now (StepLeft (H.world host.old) other name.now (AddStep (length bytes.now) before number bytes.now)) }
+    ensures changes { IsTrue H.tells → (before : List ℕ) → (number : ℕ) → IsNewest entries.now before number → HasTable (length bytes.now) ((H.world host.old).files name.now) before
+        → Changes (H.world host.old) (H.world host.new) (Only name.now) (Moved (H.world host.old) name.now (AddStep (length bytes.now) before number bytes.now ((H.world host.old).files name.now))) }
     ensures durable { IsTrue H.tells → IsTrue forced → OnOk result (IsDurable (H.world host.new) name.now ((H.world host.new).files name.now)) }
     ensures log { IsSilent (H.world host.old) (H.world host.new) }
     ensures cause { CountsFault result (H.faults host.old) (H.faults host.new) }
@@ -184,8 +184,8 @@ pub fn rewrite_slot<H: Host>(
     requires { IsTrue (is_page_size (length bytes.now)) }
     ensures put { IsTrue H.tells → (k : ℕ) → slot ≡ slot_place (length bytes.now) k
         → OnOk result (SlotPut (length bytes.now) k bytes.now ((H.world host.old).files name.now) ((H.world host.new).files name.now)) }
-    ensures moves { IsTrue H.tells → (k : ℕ) → slot ≡ slot_place (length bytes.now) k → (other : List ℕ) → other ≢ name.now
-        → Advances (H.world host.old) (H.world host.new) other name.now (StepLeft (H.world host.old) other name.now (SlotStep (length bytes.now) k bytes.now)) }
+    ensures changes { IsTrue H.tells → (k : ℕ) → slot ≡ slot_place (length bytes.now) k
+        → Changes (H.world host.old) (H.world host.new) (Only name.now) (Moved (H.world host.old) name.now (SlotStep (length bytes.now) k bytes.now)) }
     ensures durable { IsTrue H.tells → IsTrue forced → OnOk result (IsDurable (H.world host.new) name.now ((H.world host.new).files name.now)) }
     ensures log { IsSilent (H.world host.old) (H.world host.new) }
     ensures cause { CountsFault result (H.faults host.old) (H.faults host.new) }
@@ -201,8 +201,8 @@ pub fn make_file<H: Host>(host: &mut H, name: &Name, page: &mut [u8]) -> Result<
     ensures made { IsTrue H.tells → OnOk result ((H.world host.new).files name.now ≡ Some (replicate (length page.old) 0)) }
     ensures table { IsTrue H.tells → OnOk result (HasTable (length page.old) ((H.world host.new).files name.now) []) }
     ensures durable { IsTrue H.tells → OnOk result (IsDurable (H.world host.new) name.now ((H.world host.new).files name.now)) }
-    ensures moves { IsTrue H.tells → (other : List ℕ) → other ≢ name.now
-        → Advances (H.world host.old) (H.world host.new) other name.now (MadeLeft (H.world host.old) other name.now (IsBlank (length page.old))) }
+    ensures changes { IsTrue H.tells
+        → Changes (H.world host.old) (H.world host.new) (Only name.now) (Remade (H.world host.old) name.now (IsBlank (length page.old))) }
     ensures log { IsSilent (H.world host.old) (H.world host.new) }
     ensures cause { CountsFault result (H.faults host.old) (H.faults host.new) }
 {
@@ -216,8 +216,8 @@ pub fn make_file<H: Host>(host: &mut H, name: &Name, page: &mut [u8]) -> Result<
 /// Takes the file away.
 pub fn remove_file<H: Host>(host: &mut H, name: &Name) -> Result<(), HostFault>
     ensures gone { IsTrue H.tells → OnOk result ((H.world host.new).files name.now ≡ None) }
-    ensures moves { IsTrue H.tells → (other : List ℕ) → other ≢ name.now
-        → Advances (H.world host.old) (H.world host.new) other name.now (MadeLeft (H.world host.old) other name.now (λ file. file ≡ None)) }
+    ensures changes { IsTrue H.tells
+        → Changes (H.world host.old) (H.world host.new) (Only name.now) (Remade (H.world host.old) name.now (λ file. file ≡ None)) }
     ensures log { IsSilent (H.world host.old) (H.world host.new) }
     ensures cause { CountsFault result (H.faults host.old) (H.faults host.new) }
 {

@@ -36,6 +36,14 @@ module _ (p : Page) (h : is_header p ≡ true) where
       second true false c d k = absurd (true≢false (sym k))
       second false b c d k = absurd (true≢false (sym k))
 
+  -- the state is one of the four
+  pub header-state : state_of p ≤ 3
+  header-state = elim (leb_tells (state_of p) 3) [ inl w ↦ w.1 | inr w ↦ absurd (true≢false (sym (first _ _ _ _ (and_parts (is_marked p) _ form).1) ∙ w.0)) ]
+    where
+      first : (a b c d : Bool) → (a && b && c && d) ≡ true → a ≡ true
+      first true b c d k = refl
+      first false b c d k = absurd (true≢false (sym k))
+
   -- the first byte is the kind
   pub header-kind : number_in 0 1 p ≡ 1
   header-kind = elim (eqb_tells (number_in 0 1 p) 1) [

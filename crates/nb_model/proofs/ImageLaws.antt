@@ -24,6 +24,10 @@ module _ (P : Page → Type 0) where
   all-left [] ys h = tt
   all-left (x ∷ xs) ys h = (h.0, all-left xs ys h.1)
 
+  pub all-right : (xs ys : List Page) → AllByRecursion P (xs ++ ys) → AllByRecursion P ys
+  all-right [] ys h = h
+  all-right (x ∷ xs) ys h = all-right xs ys h.1
+
   pub all-take : (n : ℕ) (xs : List Page) → AllByRecursion P xs → AllByRecursion P (take n xs)
   all-take zero xs h = tt
   all-take (suc n) [] h = tt
@@ -153,6 +157,9 @@ kept-zero p h = ap (λ (t : Bool). elim t as (λ z. Image) [ true ↦ [] | false
 -- nothing is cut off
 abbrev pub IsTrimmed : Image → Type 0
 IsTrimmed image = trimmed image ≡ image
+
+pub trimmed-nothing : IsTrimmed []
+trimmed-nothing = trimmed-none
 
 -- a page that isn't zeros stays, and so does each before it
 pub trimmed-other : (p : Page) (ps : List Page) → is_zeros p ≡ false → trimmed (p ∷ ps) ≡ p ∷ trimmed ps

@@ -1,11 +1,11 @@
-use Rattle.std.proofs.Common.{◌≡◌, ◌≢◌, ℕ, ◌+◌, ◌*◌, ◌<◌, List, length, replicate, sym, ap, ◌∙◌, subst, IsTrue}
+use Rattle.std.proofs.Common.{◌≡◌, ℕ, ◌+◌, ◌*◌, ◌<◌, List, length, replicate, sym, ap, ◌∙◌, subst, IsTrue}
 use Rattle.std.proofs.lemmas.List.{length-replicate}
-use Rattle.nb_host.specs.Files.{File, Files}
+use Rattle.nb_host.specs.Files.{Files}
 use Rattle.nb_fields.specs.Places.{is_page_size, slots_in}
-use Rattle.nb_change.specs.Change.{Advances}
-use Rattle.nb_delta.specs.Slots.{StepLeft}
-use Rattle.nb_delta.specs.Groups.{Stays, Empties}
-use Rattle.nb_delta.proofs.MoveLemmas.{step_joined}
+use Rattle.nb_change.specs.Changes.{Only, Changes, Moved}
+use Rattle.nb_change.proofs.ChangesLaws.{kept_on}
+use Rattle.nb_delta.specs.Waiting.{Stays}
+use Rattle.nb_delta.specs.Groups.{Empties}
 use Rattle.nb_delta.proofs.waiting.make_ready.Goals as goal
 
 pub empty_groups-requires-clause-size : goal.empty_groups-requires-clause-size
@@ -19,30 +19,27 @@ empty_groups-requires-clause-zeros g c =
     let long : length c.fill.new.self ≡ length c.args.page.now = ap (λ (xs : List ℕ). length xs) zeros ∙ length-replicate {A = ℕ} (length c.args.page.now) 0 in
     zeros ∙ ap (λ (n : ℕ). replicate n 0) (sym long)
 
-pub returns-in_err-empty_groups-clause-moves : goal.returns-in_err-empty_groups-clause-moves
-returns-in_err-empty_groups-clause-moves g c tells =
+pub returns-in_err-empty_groups-clause-changes : goal.returns-in_err-empty_groups-clause-changes
+returns-in_err-empty_groups-clause-changes g c tells =
     let long : length c.fill.new.self ≡ length c.args.page.now = ap (λ (xs : List ℕ). length xs) (c.fill.ensures.after (λ y e. e)) ∙ length-replicate {A = ℕ} (length c.args.page.now) 0 in
-    subst (λ (m : ℕ). (n : ℕ) → n < (c.args.first + 1) * slots_in m → (other : List ℕ) → other ≢ c.args.name.now
-    → Advances (g.H.Host.world c.args.host.now) (g.H.Host.world c.empty_groups.new.host) other c.args.name.now (StepLeft (g.H.Host.world c.args.host.now) other c.args.name.now (Stays m n)))
-    long (c.empty_groups.ensures.moves tells)
+    subst (λ (m : ℕ). (k : ℕ) → k < (c.args.first + 1) * slots_in m → Changes (g.H.Host.world c.args.host.now) (g.H.Host.world c.empty_groups.new.host) (Only c.args.name.now) (Moved (g.H.Host.world c.args.host.now) c.args.name.now (Stays m k)))
+    long (c.empty_groups.ensures.changes tells)
 
-pub returns-in_err-sync_if-clause-moves : goal.returns-in_err-sync_if-clause-moves
-returns-in_err-sync_if-clause-moves g c tells n low other apart =
+pub returns-in_err-sync_if-clause-changes : goal.returns-in_err-sync_if-clause-changes
+returns-in_err-sync_if-clause-changes g c tells n low =
     let long : length c.fill.new.self ≡ length c.args.page.now = ap (λ (xs : List ℕ). length xs) (c.fill.ensures.after (λ y e. e)) ∙ length-replicate {A = ℕ} (length c.args.page.now) 0 in
-    step_joined other c.args.name.now apart (g.H.Host.world c.args.host.now) (g.H.Host.world c.empty_groups.new.host) (g.H.Host.world c.sync_if.new.host) (Stays (length c.args.page.now) n) (λ before after. after ≡ before) (Stays (length c.args.page.now) n)
-    (subst (λ (m : ℕ). (k : ℕ) → k < (c.args.first + 1) * slots_in m
-    → Advances (g.H.Host.world c.args.host.now) (g.H.Host.world c.empty_groups.new.host) other c.args.name.now (StepLeft (g.H.Host.world c.args.host.now) other c.args.name.now (Stays m k)))
-    long (λ k less. c.empty_groups.ensures.moves tells k less other apart) n low)
-    (c.sync_if.ensures.moves other apart) (λ b d stays. stays) (λ b d x stays same. subst (λ (f : File). Stays (length c.args.page.now) n b f) (sym same) stays)
+    kept_on (g.H.Host.world c.args.host.now) (g.H.Host.world c.empty_groups.new.host) (g.H.Host.world c.sync_if.new.host) (Only c.args.name.now) (Moved (g.H.Host.world c.args.host.now) c.args.name.now (Stays (length c.args.page.now) n))
+    (subst (λ (m : ℕ). (k : ℕ) → k < (c.args.first + 1) * slots_in m → Changes (g.H.Host.world c.args.host.now) (g.H.Host.world c.empty_groups.new.host) (Only c.args.name.now) (Moved (g.H.Host.world c.args.host.now) c.args.name.now (Stays m k)))
+    long (c.empty_groups.ensures.changes tells) n low)
+    c.sync_if.ensures.changes
 
-pub returns-clause-moves : goal.returns-clause-moves
-returns-clause-moves g c tells n low other apart =
+pub returns-clause-changes : goal.returns-clause-changes
+returns-clause-changes g c tells n low =
     let long : length c.fill.new.self ≡ length c.args.page.now = ap (λ (xs : List ℕ). length xs) (c.fill.ensures.after (λ y e. e)) ∙ length-replicate {A = ℕ} (length c.args.page.now) 0 in
-    step_joined other c.args.name.now apart (g.H.Host.world c.args.host.now) (g.H.Host.world c.empty_groups.new.host) (g.H.Host.world c.sync_if.new.host) (Stays (length c.args.page.now) n) (λ before after. after ≡ before) (Stays (length c.args.page.now) n)
-    (subst (λ (m : ℕ). (k : ℕ) → k < (c.args.first + 1) * slots_in m
-    → Advances (g.H.Host.world c.args.host.now) (g.H.Host.world c.empty_groups.new.host) other c.args.name.now (StepLeft (g.H.Host.world c.args.host.now) other c.args.name.now (Stays m k)))
-    long (λ k less. c.empty_groups.ensures.moves tells k less other apart) n low)
-    (c.sync_if.ensures.moves other apart) (λ b d stays. stays) (λ b d x stays same. subst (λ (f : File). Stays (length c.args.page.now) n b f) (sym same) stays)
+    kept_on (g.H.Host.world c.args.host.now) (g.H.Host.world c.empty_groups.new.host) (g.H.Host.world c.sync_if.new.host) (Only c.args.name.now) (Moved (g.H.Host.world c.args.host.now) c.args.name.now (Stays (length c.args.page.now) n))
+    (subst (λ (m : ℕ). (k : ℕ) → k < (c.args.first + 1) * slots_in m → Changes (g.H.Host.world c.args.host.now) (g.H.Host.world c.empty_groups.new.host) (Only c.args.name.now) (Moved (g.H.Host.world c.args.host.now) c.args.name.now (Stays m k)))
+    long (c.empty_groups.ensures.changes tells) n low)
+    c.sync_if.ensures.changes
 
 pub returns-clause-emptied : goal.returns-clause-emptied
 returns-clause-emptied g c tells =

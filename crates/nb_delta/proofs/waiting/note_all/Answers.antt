@@ -1,14 +1,15 @@
-use Rattle.std.proofs.Common.{◌≡◌, ℕ, length, sym, subst}
-use Rattle.nb_host.specs.Files.{File, Files}
+use Rattle.std.proofs.Common.{length, sym, subst}
+use Rattle.nb_host.specs.Files.{Files}
+use Rattle.nb_change.specs.Changes.{Only, Moved}
+use Rattle.nb_change.proofs.ChangesLaws.{kept_on}
 use Rattle.nb_delta.specs.Groups.{NotesSome, NotesAll}
-use Rattle.nb_delta.proofs.MoveLemmas.{step_joined, on_any}
+use Rattle.nb_delta.proofs.MoveLemmas.{on_any}
 use Rattle.nb_delta.proofs.waiting.note_all.Goals as goal
 
-pub returns-clause-moves : goal.returns-clause-moves
-returns-clause-moves g c tells other apart =
-    let size : ℕ = length c.args.page.now in
-    step_joined other c.args.name.now apart (g.H.Host.world c.args.host.now) (g.H.Host.world c.note_groups.new.host) (g.H.Host.world c.sync_if.new.host) (NotesSome size c.args.entries.now c.args.first c.args.end) (λ before after. after ≡ before) (NotesSome size c.args.entries.now c.args.first c.args.end)
-    (c.note_groups.ensures.moves tells other apart) (c.sync_if.ensures.moves other apart) (λ b d some. some) (λ b d x some same. subst (λ (f : File). NotesSome size c.args.entries.now c.args.first c.args.end b f) (sym same) some)
+pub returns-clause-changes : goal.returns-clause-changes
+returns-clause-changes g c tells =
+    kept_on (g.H.Host.world c.args.host.now) (g.H.Host.world c.note_groups.new.host) (g.H.Host.world c.sync_if.new.host) (Only c.args.name.now) (Moved (g.H.Host.world c.args.host.now) c.args.name.now (NotesSome (length c.args.page.now) c.args.entries.now c.args.first c.args.end))
+    (c.note_groups.ensures.changes tells) c.sync_if.ensures.changes
 
 pub returns-clause-noted : goal.returns-clause-noted
 returns-clause-noted g c tells =

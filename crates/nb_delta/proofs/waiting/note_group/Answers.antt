@@ -1,27 +1,28 @@
 use Rattle.std.proofs.Common.{◌≡◌, ℕ, ◌+◌, List, length, subst}
 use Rattle.nb_host.specs.Files.{File}
 use Rattle.nb_delta.specs.Groups.{GroupStep, GroupPut, NotesSome}
-use Rattle.nb_delta.proofs.MoveLemmas.{step_weakened}
+use Rattle.nb_change.specs.Changes.{Only}
+use Rattle.nb_change.proofs.MovedLaws.{moved_weaker}
 use Rattle.nb_delta.proofs.NotingLemmas.{group_some, group_all}
 use Rattle.nb_delta.proofs.waiting.note_group.Goals as goal
 
-pub returns-in_err-write_group-clause-moves : goal.returns-in_err-write_group-clause-moves
-returns-in_err-write_group-clause-moves g c tells other apart =
+pub returns-in_err-write_group-clause-changes : goal.returns-in_err-write_group-clause-changes
+returns-in_err-write_group-clause-changes g c tells =
     let size : ℕ = length c.args.page.now in
     let page : List ℕ = c.fill_group.new.page in
     let same : length page ≡ size = c.fill_group.auto.page in
-    step_weakened other c.args.name.now apart (g.H.Host.world c.args.host.now) (g.H.Host.world c.write_group.new.host) (GroupStep (length page) c.args.group page) (NotesSome size c.args.entries.now c.args.group (c.args.group + 1))
-    (c.write_group.ensures.moves tells other apart)
-    (λ b d step. group_some size c.requires.size c.args.entries.now c.args.group page c.fill_group.ensures b d (subst (λ (n : ℕ). GroupStep n c.args.group page b d) same step))
+    moved_weaker (g.H.Host.world c.args.host.now) (g.H.Host.world c.write_group.new.host) (Only c.args.name.now) c.args.name.now (GroupStep (length page) c.args.group page) (NotesSome size c.args.entries.now c.args.group (c.args.group + 1))
+    (c.write_group.ensures.changes tells)
+    (λ b d was step. group_some size c.requires.size c.args.entries.now c.args.group page c.fill_group.ensures b d (subst (λ (n : ℕ). GroupStep n c.args.group page b d) same step))
 
-pub returns-clause-moves : goal.returns-clause-moves
-returns-clause-moves g c tells other apart =
+pub returns-clause-changes : goal.returns-clause-changes
+returns-clause-changes g c tells =
     let size : ℕ = length c.args.page.now in
     let page : List ℕ = c.fill_group.new.page in
     let same : length page ≡ size = c.fill_group.auto.page in
-    step_weakened other c.args.name.now apart (g.H.Host.world c.args.host.now) (g.H.Host.world c.write_group.new.host) (GroupStep (length page) c.args.group page) (NotesSome size c.args.entries.now c.args.group (c.args.group + 1))
-    (c.write_group.ensures.moves tells other apart)
-    (λ b d step. group_some size c.requires.size c.args.entries.now c.args.group page c.fill_group.ensures b d (subst (λ (n : ℕ). GroupStep n c.args.group page b d) same step))
+    moved_weaker (g.H.Host.world c.args.host.now) (g.H.Host.world c.write_group.new.host) (Only c.args.name.now) c.args.name.now (GroupStep (length page) c.args.group page) (NotesSome size c.args.entries.now c.args.group (c.args.group + 1))
+    (c.write_group.ensures.changes tells)
+    (λ b d was step. group_some size c.requires.size c.args.entries.now c.args.group page c.fill_group.ensures b d (subst (λ (n : ℕ). GroupStep n c.args.group page b d) same step))
 
 pub returns-clause-noted : goal.returns-clause-noted
 returns-clause-noted g c tells =

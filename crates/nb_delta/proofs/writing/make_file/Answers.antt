@@ -1,51 +1,47 @@
 use Rattle.std.proofs.Common.{◌≡◌, ℕ, ◌*◌, List, [], length, replicate, inl, inr, refl, ap, ◌∙◌}
 use Rattle.std.specs.Prelude.{Some}
 use Rattle.nb_host.specs.Files.{Files}
-use Rattle.nb_host.specs.Crash.{PageLeft}
-use Rattle.nb_change.proofs.NameLaws.{whole-other, with_file-same}
+use Rattle.nb_change.specs.Changes.{Only, Remade}
+use Rattle.nb_change.proofs.NameLaws.{with_file-same}
+use Rattle.nb_change.proofs.ChangesLaws.{still_more}
+use Rattle.nb_change.proofs.CallLaws.{remade_alone}
 use Rattle.nb_delta.specs.Slots.{IsBlank}
-use Rattle.nb_delta.proofs.MoveLemmas.{made_moves, made_more, made_still, written, durable_now}
-use Rattle.nb_delta.proofs.BlankLemmas.{blank_left, blank_put, blank_table}
+use Rattle.nb_delta.proofs.MoveLemmas.{written, durable_now}
+use Rattle.nb_delta.proofs.BlankLemmas.{blank_put, blank_table, blank_made}
 use Rattle.nb_delta.proofs.writing.make_file.Goals as goal
 
-pub returns-in_err-make-clause-moves : goal.returns-in_err-make-clause-moves
-returns-in_err-make-clause-moves g c tells other apart =
-    made_moves other c.args.name.now apart g.H.Host.tells c.make.result (g.H.Host.world c.args.host.now) (g.H.Host.world c.make.new.self) (Some []) (IsBlank (length c.args.page.now)) tells (g.met.H.Host.timely c.args.host.now)
-    c.make.ensures.files c.make.ensures.log c.make.ensures.time (inl refl)
+pub returns-in_err-make-clause-changes : goal.returns-in_err-make-clause-changes
+returns-in_err-make-clause-changes g c tells =
+    remade_alone g.H.Host.tells c.make.result (g.H.Host.world c.args.host.now) (g.H.Host.world c.make.new.self) c.args.name.now (Some []) (IsBlank (length c.args.page.now)) tells (g.met.H.Host.timely c.args.host.now)
+    c.make.ensures.files c.make.ensures.log.said c.make.ensures.time (inl refl)
 
-pub returns-in_err-write_page-clause-moves : goal.returns-in_err-write_page-clause-moves
-returns-in_err-write_page-clause-moves g c tells other apart =
+pub returns-in_err-write_page-clause-changes : goal.returns-in_err-write_page-clause-changes
+returns-in_err-write_page-clause-changes g c tells =
     let size : ℕ = length c.args.page.now in
     let page : List ℕ = c.fill.new.self in
     let zeros : page ≡ replicate size 0 = c.fill.ensures.after (λ y e. e) in
-    made_more other c.args.name.now apart (g.H.Host.world c.args.host.now) (g.H.Host.world c.make.new.self) (g.H.Host.world c.write_page.new.self) (PageLeft (0 * length page) page) (IsBlank size) (λ d. d ≡ Some []) (IsBlank size)
-    (made_moves other c.args.name.now apart g.H.Host.tells c.make.result (g.H.Host.world c.args.host.now) (g.H.Host.world c.make.new.self) (Some []) (IsBlank size) tells (g.met.H.Host.timely c.args.host.now) c.make.ensures.files c.make.ensures.log c.make.ensures.time (inl refl))
-    c.write_page.ensures.time c.write_page.ensures.files.left (λ n is. whole-other c.write_page.result (g.H.Host.world c.make.new.self).files (g.H.Host.world c.write_page.new.self).files c.args.name.now _ (c.write_page.ensures.files.files tells) n is) c.write_page.ensures.log
-    (λ d now. c.in_ok-make.ensures.files.done d now) (λ d is. is) (λ d x is left. blank_left size c.requires page zeros d x is left)
+    blank_made size c.requires g.H.Host.tells c.make.result c.write_page.result (g.H.Host.world c.args.host.now) (g.H.Host.world c.make.new.self) (g.H.Host.world c.write_page.new.self) c.args.name.now page zeros tells (g.met.H.Host.timely c.args.host.now)
+    c.make.ensures.files c.make.ensures.log.said c.make.ensures.time c.in_ok-make.ensures.files.done c.write_page.ensures.files c.write_page.ensures.log.said c.write_page.ensures.time
 
-pub returns-in_err-sync-clause-moves : goal.returns-in_err-sync-clause-moves
-returns-in_err-sync-clause-moves g c tells other apart =
+pub returns-in_err-sync-clause-changes : goal.returns-in_err-sync-clause-changes
+returns-in_err-sync-clause-changes g c tells =
     let size : ℕ = length c.args.page.now in
     let page : List ℕ = c.fill.new.self in
     let zeros : page ≡ replicate size 0 = c.fill.ensures.after (λ y e. e) in
-    made_still other c.args.name.now apart (g.H.Host.world c.args.host.now) (g.H.Host.world c.write_page.new.self) (g.H.Host.world c.sync.new.self) (IsBlank size)
-    (made_more other c.args.name.now apart (g.H.Host.world c.args.host.now) (g.H.Host.world c.make.new.self) (g.H.Host.world c.write_page.new.self) (PageLeft (0 * length page) page) (IsBlank size) (λ d. d ≡ Some []) (IsBlank size)
-    (made_moves other c.args.name.now apart g.H.Host.tells c.make.result (g.H.Host.world c.args.host.now) (g.H.Host.world c.make.new.self) (Some []) (IsBlank size) tells (g.met.H.Host.timely c.args.host.now) c.make.ensures.files c.make.ensures.log c.make.ensures.time (inl refl))
-    c.write_page.ensures.time c.write_page.ensures.files.left (λ n is. whole-other c.write_page.result (g.H.Host.world c.make.new.self).files (g.H.Host.world c.write_page.new.self).files c.args.name.now _ (c.write_page.ensures.files.files tells) n is) c.write_page.ensures.log
-    (λ d now. c.in_ok-make.ensures.files.done d now) (λ d is. is) (λ d x is left. blank_left size c.requires page zeros d x is left))
-    c.sync.ensures.time c.sync.ensures.files.still c.sync.ensures.log
+    still_more (g.H.Host.world c.args.host.now) (g.H.Host.world c.write_page.new.self) (g.H.Host.world c.sync.new.self) (Only c.args.name.now) (Remade (g.H.Host.world c.args.host.now) c.args.name.now (IsBlank size))
+    (blank_made size c.requires g.H.Host.tells c.make.result c.write_page.result (g.H.Host.world c.args.host.now) (g.H.Host.world c.make.new.self) (g.H.Host.world c.write_page.new.self) c.args.name.now page zeros tells (g.met.H.Host.timely c.args.host.now)
+    c.make.ensures.files c.make.ensures.log.said c.make.ensures.time c.in_ok-make.ensures.files.done c.write_page.ensures.files c.write_page.ensures.log.said c.write_page.ensures.time)
+    c.sync.ensures.time c.sync.ensures.files.still c.sync.ensures.log.said
 
-pub returns-clause-moves : goal.returns-clause-moves
-returns-clause-moves g c tells other apart =
+pub returns-clause-changes : goal.returns-clause-changes
+returns-clause-changes g c tells =
     let size : ℕ = length c.args.page.now in
     let page : List ℕ = c.fill.new.self in
     let zeros : page ≡ replicate size 0 = c.fill.ensures.after (λ y e. e) in
-    made_still other c.args.name.now apart (g.H.Host.world c.args.host.now) (g.H.Host.world c.write_page.new.self) (g.H.Host.world c.sync.new.self) (IsBlank size)
-    (made_more other c.args.name.now apart (g.H.Host.world c.args.host.now) (g.H.Host.world c.make.new.self) (g.H.Host.world c.write_page.new.self) (PageLeft (0 * length page) page) (IsBlank size) (λ d. d ≡ Some []) (IsBlank size)
-    (made_moves other c.args.name.now apart g.H.Host.tells c.make.result (g.H.Host.world c.args.host.now) (g.H.Host.world c.make.new.self) (Some []) (IsBlank size) tells (g.met.H.Host.timely c.args.host.now) c.make.ensures.files c.make.ensures.log c.make.ensures.time (inl refl))
-    c.write_page.ensures.time c.write_page.ensures.files.left (λ n is. whole-other c.write_page.result (g.H.Host.world c.make.new.self).files (g.H.Host.world c.write_page.new.self).files c.args.name.now _ (c.write_page.ensures.files.files tells) n is) c.write_page.ensures.log
-    (λ d now. c.in_ok-make.ensures.files.done d now) (λ d is. is) (λ d x is left. blank_left size c.requires page zeros d x is left))
-    c.sync.ensures.time c.sync.ensures.files.still c.sync.ensures.log
+    still_more (g.H.Host.world c.args.host.now) (g.H.Host.world c.write_page.new.self) (g.H.Host.world c.sync.new.self) (Only c.args.name.now) (Remade (g.H.Host.world c.args.host.now) c.args.name.now (IsBlank size))
+    (blank_made size c.requires g.H.Host.tells c.make.result c.write_page.result (g.H.Host.world c.args.host.now) (g.H.Host.world c.make.new.self) (g.H.Host.world c.write_page.new.self) c.args.name.now page zeros tells (g.met.H.Host.timely c.args.host.now)
+    c.make.ensures.files c.make.ensures.log.said c.make.ensures.time c.in_ok-make.ensures.files.done c.write_page.ensures.files c.write_page.ensures.log.said c.write_page.ensures.time)
+    c.sync.ensures.time c.sync.ensures.files.still c.sync.ensures.log.said
 
 pub returns-clause-made : goal.returns-clause-made
 returns-clause-made g c tells =

@@ -5,12 +5,15 @@ use Rattle.nb_host.specs.Crash.{PageLeft}
 use Rattle.nb_fields.specs.Places.{slots_in}
 use Rattle.nb_fields.specs.Table.{alloc_place}
 use Rattle.nb_delta.specs.Slots.{Keeps}
-use Rattle.nb_delta.proofs.MoveLemmas.{page_moves, step_begun, written}
+use Rattle.nb_change.specs.Changes.{Only}
+use Rattle.nb_change.proofs.CallLaws.{page_alone}
+use Rattle.nb_change.proofs.MovedLaws.{moved_begun}
+use Rattle.nb_delta.proofs.MoveLemmas.{written}
 use Rattle.nb_delta.proofs.StepLemmas.{next_left, keeps_none, room_inner, room_last}
 use Rattle.nb_delta.proofs.writing.make_room.Goals as goal
 
-pub returns-in_err-write_page-clause-moves : goal.returns-in_err-write_page-clause-moves
-returns-in_err-write_page-clause-moves g c tells other apart =
+pub returns-in_err-write_page-clause-changes : goal.returns-in_err-write_page-clause-changes
+returns-in_err-write_page-clause-changes g c tells =
     let size : ℕ = length c.args.page.now in
     let next : ℕ = (c.args.place + 1) / c.slots_in-room.result in
     let page : List ℕ = c.fill.new.self in
@@ -18,14 +21,13 @@ returns-in_err-write_page-clause-moves g c tells other apart =
     let long : length page ≡ size = ap (λ (xs : List ℕ). length xs) zeros ∙ length-replicate {A = ℕ} size 0 in
     let room : c.slots_in-room.result ≡ slots_in size = c.slots_in-room.ensures.value in
     let last : c.args.place + 1 ≡ next * slots_in size = sym c.if-next-room.true ∙ ap (λ (n : ℕ). next * n) room in
-    page_moves other c.args.name.now apart g.H.Host.tells c.write_page.result (g.H.Host.world c.args.host.now) (g.H.Host.world c.write_page.new.self) (c.alloc_page_of.result * length page) page (Keeps size c.args.place)
-    tells (g.met.H.Host.timely c.args.host.now) c.write_page.ensures.files c.write_page.ensures.log c.write_page.ensures.time
-    (λ d ld. keeps_none size c.requires.size c.args.place d)
-    (λ d x ld left. next_left size c.requires.size c.args.place next (omega arith) page long d x
+    page_alone g.H.Host.tells c.write_page.result (g.H.Host.world c.args.host.now) (g.H.Host.world c.write_page.new.self) c.args.name.now (c.alloc_page_of.result * length page) page (Keeps size c.args.place)
+    tells (g.met.H.Host.timely c.args.host.now) c.write_page.ensures.files c.write_page.ensures.log.said c.write_page.ensures.time
+    (λ d x was left. next_left size c.requires.size c.args.place next (omega arith) page long d x
     (subst (λ (n : ℕ). PageLeft (n * size) page d x) c.alloc_page_of.ensures.value (subst (λ (n : ℕ). PageLeft (c.alloc_page_of.result * n) page d x) long left)))
 
-pub returns-in_ok-write_page-clause-moves : goal.returns-in_ok-write_page-clause-moves
-returns-in_ok-write_page-clause-moves g c tells other apart =
+pub returns-in_ok-write_page-clause-changes : goal.returns-in_ok-write_page-clause-changes
+returns-in_ok-write_page-clause-changes g c tells =
     let size : ℕ = length c.args.page.now in
     let next : ℕ = (c.args.place + 1) / c.slots_in-room.result in
     let page : List ℕ = c.fill.new.self in
@@ -33,10 +35,9 @@ returns-in_ok-write_page-clause-moves g c tells other apart =
     let long : length page ≡ size = ap (λ (xs : List ℕ). length xs) zeros ∙ length-replicate {A = ℕ} size 0 in
     let room : c.slots_in-room.result ≡ slots_in size = c.slots_in-room.ensures.value in
     let last : c.args.place + 1 ≡ next * slots_in size = sym c.if-next-room.true ∙ ap (λ (n : ℕ). next * n) room in
-    page_moves other c.args.name.now apart g.H.Host.tells c.write_page.result (g.H.Host.world c.args.host.now) (g.H.Host.world c.write_page.new.self) (c.alloc_page_of.result * length page) page (Keeps size c.args.place)
-    tells (g.met.H.Host.timely c.args.host.now) c.write_page.ensures.files c.write_page.ensures.log c.write_page.ensures.time
-    (λ d ld. keeps_none size c.requires.size c.args.place d)
-    (λ d x ld left. next_left size c.requires.size c.args.place next (omega arith) page long d x
+    page_alone g.H.Host.tells c.write_page.result (g.H.Host.world c.args.host.now) (g.H.Host.world c.write_page.new.self) c.args.name.now (c.alloc_page_of.result * length page) page (Keeps size c.args.place)
+    tells (g.met.H.Host.timely c.args.host.now) c.write_page.ensures.files c.write_page.ensures.log.said c.write_page.ensures.time
+    (λ d x was left. next_left size c.requires.size c.args.place next (omega arith) page long d x
     (subst (λ (n : ℕ). PageLeft (n * size) page d x) c.alloc_page_of.ensures.value (subst (λ (n : ℕ). PageLeft (c.alloc_page_of.result * n) page d x) long left)))
 
 pub returns-in_ok-write_page-clause-room : goal.returns-in_ok-write_page-clause-room
@@ -54,9 +55,9 @@ returns-in_ok-write_page-clause-room g c tells =
     (written old new c.args.name.now page (c.alloc_page_of.result * length page) (c.in_ok-write_page.ensures.files.files tells)
     ∙ ap (λ (n : ℕ). with_page (old c.args.name.now) (n * length page) page) c.alloc_page_of.ensures.value ∙ ap (λ (n : ℕ). with_page (old c.args.name.now) (alloc_place size next * n) page) long)
 
-pub returns-else-next-room-clause-moves : goal.returns-else-next-room-clause-moves
-returns-else-next-room-clause-moves g c tells other apart =
-    step_begun other c.args.name.now apart (g.H.Host.world c.args.host.now) (Keeps (length c.args.page.now) c.args.place) (g.met.H.Host.timely c.args.host.now) (λ d ld. keeps_none (length c.args.page.now) c.requires.size c.args.place d)
+pub returns-else-next-room-clause-changes : goal.returns-else-next-room-clause-changes
+returns-else-next-room-clause-changes g c tells =
+    moved_begun (g.H.Host.world c.args.host.now) (Only c.args.name.now) c.args.name.now (Keeps (length c.args.page.now) c.args.place) (g.met.H.Host.timely c.args.host.now) (λ d was. keeps_none (length c.args.page.now) c.requires.size c.args.place d)
 
 pub returns-else-next-room-clause-room : goal.returns-else-next-room-clause-room
 returns-else-next-room-clause-room g c tells =

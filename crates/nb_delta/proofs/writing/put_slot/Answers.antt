@@ -1,45 +1,42 @@
-use Rattle.std.proofs.Common.{◌≡◌, ℕ, List, length, sym, subst}
+use Rattle.std.proofs.Common.{ℕ, List, length, sym, subst}
 use Rattle.nb_host.specs.Files.{File, Files}
+use Rattle.nb_change.specs.Changes.{Only, Moved}
+use Rattle.nb_change.proofs.ChangesLaws.{kept_on}
+use Rattle.nb_change.proofs.MovedLaws.{moved_weaker}
 use Rattle.nb_delta.specs.Slots.{Keeps, SlotStep}
 use Rattle.nb_delta.specs.Noting.{MakesRoom, Prepared}
-use Rattle.nb_delta.proofs.MoveLemmas.{step_weakened, step_joined}
-use Rattle.nb_delta.proofs.StepLemmas.{keeps_slot, slot_then_room, prepared}
+use Rattle.nb_delta.proofs.StepLemmas.{keeps_slot, prepared}
+use Rattle.nb_delta.proofs.NoteLemmas.{slot_then_room}
 use Rattle.nb_delta.proofs.writing.put_slot.Goals as goal
 
-pub returns-in_err-write_slot-clause-moves : goal.returns-in_err-write_slot-clause-moves
-returns-in_err-write_slot-clause-moves g c tells other apart =
+pub returns-in_err-write_slot-clause-changes : goal.returns-in_err-write_slot-clause-changes
+returns-in_err-write_slot-clause-changes g c tells =
     let bytes : List ℕ = c.args.bytes.now in
-    step_weakened other c.args.name.now apart (g.H.Host.world c.args.host.now) (g.H.Host.world c.write_slot.new.host) (SlotStep (length bytes) c.args.place bytes) (Keeps (length bytes) c.args.place)
-    (c.write_slot.ensures.moves tells c.args.place c.slot_of.ensures.value other apart)
-    (λ b d step. keeps_slot (length bytes) c.requires.size c.args.place bytes b d step)
+    moved_weaker (g.H.Host.world c.args.host.now) (g.H.Host.world c.write_slot.new.host) (Only c.args.name.now) c.args.name.now (SlotStep (length bytes) c.args.place bytes) (Keeps (length bytes) c.args.place)
+    (c.write_slot.ensures.changes tells c.args.place c.slot_of.ensures.value)
+    (λ b d was step. keeps_slot (length bytes) c.requires.size c.args.place bytes b d step)
 
-pub returns-in_err-make_room-clause-moves : goal.returns-in_err-make_room-clause-moves
-returns-in_err-make_room-clause-moves g c tells other apart =
+pub returns-in_err-make_room-clause-changes : goal.returns-in_err-make_room-clause-changes
+returns-in_err-make_room-clause-changes g c tells =
     let bytes : List ℕ = c.args.bytes.now in
-    step_joined other c.args.name.now apart (g.H.Host.world c.args.host.now) (g.H.Host.world c.write_slot.new.host) (g.H.Host.world c.make_room.new.host) (SlotStep (length bytes) c.args.place bytes) (Keeps (length c.args.page.now) c.args.place) (Keeps (length bytes) c.args.place)
-    (c.write_slot.ensures.moves tells c.args.place c.slot_of.ensures.value other apart) (c.make_room.ensures.moves tells other apart)
-    (λ b d step. keeps_slot (length bytes) c.requires.size c.args.place bytes b d step)
-    (λ b d x step keeps. slot_then_room (length bytes) c.requires.size c.args.place (length c.args.page.now) bytes c.requires.room b d x step keeps)
+    slot_then_room (g.H.Host.world c.args.host.now) (g.H.Host.world c.write_slot.new.host) (g.H.Host.world c.make_room.new.host) c.args.name.now (length bytes) c.requires.size c.args.place (length c.args.page.now) bytes c.requires.room
+    (c.write_slot.ensures.changes tells c.args.place c.slot_of.ensures.value) (c.make_room.ensures.changes tells)
 
-pub returns-in_err-sync_if-clause-moves : goal.returns-in_err-sync_if-clause-moves
-returns-in_err-sync_if-clause-moves g c tells other apart =
+pub returns-in_err-sync_if-clause-changes : goal.returns-in_err-sync_if-clause-changes
+returns-in_err-sync_if-clause-changes g c tells =
     let bytes : List ℕ = c.args.bytes.now in
-    step_joined other c.args.name.now apart (g.H.Host.world c.args.host.now) (g.H.Host.world c.make_room.new.host) (g.H.Host.world c.sync_if.new.host) (Keeps (length bytes) c.args.place) (λ before after. after ≡ before) (Keeps (length bytes) c.args.place)
-    (step_joined other c.args.name.now apart (g.H.Host.world c.args.host.now) (g.H.Host.world c.write_slot.new.host) (g.H.Host.world c.make_room.new.host) (SlotStep (length bytes) c.args.place bytes) (Keeps (length c.args.page.now) c.args.place) (Keeps (length bytes) c.args.place)
-    (c.write_slot.ensures.moves tells c.args.place c.slot_of.ensures.value other apart) (c.make_room.ensures.moves tells other apart)
-    (λ b d step. keeps_slot (length bytes) c.requires.size c.args.place bytes b d step)
-    (λ b d x step keeps. slot_then_room (length bytes) c.requires.size c.args.place (length c.args.page.now) bytes c.requires.room b d x step keeps))
-    (c.sync_if.ensures.moves other apart) (λ b d keeps. keeps) (λ b d x keeps same. subst (λ (f : File). Keeps (length bytes) c.args.place b f) (sym same) keeps)
+    kept_on (g.H.Host.world c.args.host.now) (g.H.Host.world c.make_room.new.host) (g.H.Host.world c.sync_if.new.host) (Only c.args.name.now) (Moved (g.H.Host.world c.args.host.now) c.args.name.now (Keeps (length bytes) c.args.place))
+    (slot_then_room (g.H.Host.world c.args.host.now) (g.H.Host.world c.write_slot.new.host) (g.H.Host.world c.make_room.new.host) c.args.name.now (length bytes) c.requires.size c.args.place (length c.args.page.now) bytes c.requires.room
+    (c.write_slot.ensures.changes tells c.args.place c.slot_of.ensures.value) (c.make_room.ensures.changes tells))
+    c.sync_if.ensures.changes
 
-pub returns-clause-moves : goal.returns-clause-moves
-returns-clause-moves g c tells other apart =
+pub returns-clause-changes : goal.returns-clause-changes
+returns-clause-changes g c tells =
     let bytes : List ℕ = c.args.bytes.now in
-    step_joined other c.args.name.now apart (g.H.Host.world c.args.host.now) (g.H.Host.world c.make_room.new.host) (g.H.Host.world c.sync_if.new.host) (Keeps (length bytes) c.args.place) (λ before after. after ≡ before) (Keeps (length bytes) c.args.place)
-    (step_joined other c.args.name.now apart (g.H.Host.world c.args.host.now) (g.H.Host.world c.write_slot.new.host) (g.H.Host.world c.make_room.new.host) (SlotStep (length bytes) c.args.place bytes) (Keeps (length c.args.page.now) c.args.place) (Keeps (length bytes) c.args.place)
-    (c.write_slot.ensures.moves tells c.args.place c.slot_of.ensures.value other apart) (c.make_room.ensures.moves tells other apart)
-    (λ b d step. keeps_slot (length bytes) c.requires.size c.args.place bytes b d step)
-    (λ b d x step keeps. slot_then_room (length bytes) c.requires.size c.args.place (length c.args.page.now) bytes c.requires.room b d x step keeps))
-    (c.sync_if.ensures.moves other apart) (λ b d keeps. keeps) (λ b d x keeps same. subst (λ (f : File). Keeps (length bytes) c.args.place b f) (sym same) keeps)
+    kept_on (g.H.Host.world c.args.host.now) (g.H.Host.world c.make_room.new.host) (g.H.Host.world c.sync_if.new.host) (Only c.args.name.now) (Moved (g.H.Host.world c.args.host.now) c.args.name.now (Keeps (length bytes) c.args.place))
+    (slot_then_room (g.H.Host.world c.args.host.now) (g.H.Host.world c.write_slot.new.host) (g.H.Host.world c.make_room.new.host) c.args.name.now (length bytes) c.requires.size c.args.place (length c.args.page.now) bytes c.requires.room
+    (c.write_slot.ensures.changes tells c.args.place c.slot_of.ensures.value) (c.make_room.ensures.changes tells))
+    c.sync_if.ensures.changes
 
 pub returns-clause-prepared : goal.returns-clause-prepared
 returns-clause-prepared g c tells =

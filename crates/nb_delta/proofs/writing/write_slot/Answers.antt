@@ -2,17 +2,17 @@ use Rattle.std.proofs.Common.{ℕ, ◌*◌, List, length, refl, ap, ◌∙◌, s
 use Rattle.nb_host.specs.Files.{Files, with_page}
 use Rattle.nb_host.specs.Crash.{PageLeft}
 use Rattle.nb_delta.specs.Slots.{SlotStep}
-use Rattle.nb_delta.proofs.MoveLemmas.{page_moves, written}
-use Rattle.nb_delta.proofs.StepLemmas.{slot_left, slot_put, slot_none}
+use Rattle.nb_change.proofs.CallLaws.{page_alone}
+use Rattle.nb_delta.proofs.MoveLemmas.{written}
+use Rattle.nb_delta.proofs.StepLemmas.{slot_left, slot_put}
 use Rattle.nb_delta.proofs.writing.write_slot.Goals as goal
 
-pub returns-in_err-write_page-clause-moves : goal.returns-in_err-write_page-clause-moves
-returns-in_err-write_page-clause-moves g c tells k at other apart =
+pub returns-in_err-write_page-clause-changes : goal.returns-in_err-write_page-clause-changes
+returns-in_err-write_page-clause-changes g c tells k at =
     let bytes : List ℕ = c.args.bytes.now in
-    page_moves other c.args.name.now apart g.H.Host.tells c.write_page.result (g.H.Host.world c.args.host.now) (g.H.Host.world c.write_page.new.self) (c.args.slot * length bytes) bytes (SlotStep (length bytes) k bytes)
-    tells (g.met.H.Host.timely c.args.host.now) c.write_page.ensures.files c.write_page.ensures.log c.write_page.ensures.time
-    (λ d ld. slot_none (length bytes) c.requires k bytes d)
-    (λ d x ld left. slot_left (length bytes) c.requires k bytes refl d x (subst (λ (n : ℕ). PageLeft (n * length bytes) bytes d x) at left))
+    page_alone g.H.Host.tells c.write_page.result (g.H.Host.world c.args.host.now) (g.H.Host.world c.write_page.new.self) c.args.name.now (c.args.slot * length bytes) bytes (SlotStep (length bytes) k bytes)
+    tells (g.met.H.Host.timely c.args.host.now) c.write_page.ensures.files c.write_page.ensures.log.said c.write_page.ensures.time
+    (λ b x was left. slot_left (length bytes) c.requires k bytes refl b x (subst (λ (n : ℕ). PageLeft (n * length bytes) bytes b x) at left))
 
 pub returns-clause-put : goal.returns-clause-put
 returns-clause-put g c tells k at =
@@ -22,10 +22,9 @@ returns-clause-put g c tells k at =
     slot_put (length bytes) c.requires k bytes refl (old c.args.name.now) (new c.args.name.now)
     (written old new c.args.name.now bytes (c.args.slot * length bytes) (c.in_ok-write_page.ensures.files.files tells) ∙ ap (λ (n : ℕ). with_page (old c.args.name.now) (n * length bytes) bytes) at)
 
-pub returns-clause-moves : goal.returns-clause-moves
-returns-clause-moves g c tells k at other apart =
+pub returns-clause-changes : goal.returns-clause-changes
+returns-clause-changes g c tells k at =
     let bytes : List ℕ = c.args.bytes.now in
-    page_moves other c.args.name.now apart g.H.Host.tells c.write_page.result (g.H.Host.world c.args.host.now) (g.H.Host.world c.write_page.new.self) (c.args.slot * length bytes) bytes (SlotStep (length bytes) k bytes)
-    tells (g.met.H.Host.timely c.args.host.now) c.write_page.ensures.files c.write_page.ensures.log c.write_page.ensures.time
-    (λ d ld. slot_none (length bytes) c.requires k bytes d)
-    (λ d x ld left. slot_left (length bytes) c.requires k bytes refl d x (subst (λ (n : ℕ). PageLeft (n * length bytes) bytes d x) at left))
+    page_alone g.H.Host.tells c.write_page.result (g.H.Host.world c.args.host.now) (g.H.Host.world c.write_page.new.self) c.args.name.now (c.args.slot * length bytes) bytes (SlotStep (length bytes) k bytes)
+    tells (g.met.H.Host.timely c.args.host.now) c.write_page.ensures.files c.write_page.ensures.log.said c.write_page.ensures.time
+    (λ b x was left. slot_left (length bytes) c.requires k bytes refl b x (subst (λ (n : ℕ). PageLeft (n * length bytes) bytes b x) at left))

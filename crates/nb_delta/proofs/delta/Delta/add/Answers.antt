@@ -1,16 +1,16 @@
-use Rattle.nb_delta.proofs.KnownLemmas.{add_moves, add_begun}
+use Rattle.nb_delta.proofs.KnownLemmas.{add_changes, add_begun}
 use Rattle.nb_delta.proofs.delta.Delta.add.Goals as goal
 
-pub returns-in_err-add-clause-moves : goal.returns-in_err-add-clause-moves
-returns-in_err-add-clause-moves g c tells =
+pub returns-in_err-add-clause-changes : goal.returns-in_err-add-clause-changes
+returns-in_err-add-clause-changes g c tells =
     add_begun (g.H.Host.world c.args.host.now) c.args.page c.args.bytes.now _ c.args.self.now c.self.view_is c.self.invariant.0 (g.met.H.Host.timely c.args.host.now)
 
-pub returns-in_err-put_entry-clause-moves : goal.returns-in_err-put_entry-clause-moves
-returns-in_err-put_entry-clause-moves g c tells =
-    add_moves (g.H.Host.world c.args.host.now) (g.H.Host.world c.put_entry.new.host) c.args.page c.args.bytes.now c.add.new.self _ c.args.self.now c.self.view_is c.requires.size c.requires.fresh c.requires.below c.in_ok-add.ensures.ok
-    (c.put_entry.ensures.moves tells)
+pub returns-in_err-put_entry-clause-changes : goal.returns-in_err-put_entry-clause-changes
+returns-in_err-put_entry-clause-changes g c tells =
+    add_changes (g.H.Host.world c.args.host.now) (g.H.Host.world c.put_entry.new.host) c.args.page c.args.bytes.now c.add.new.self _ c.args.self.now c.self.view_is c.requires.size c.requires.fresh c.requires.below c.in_ok-add.ensures.ok
+    (c.put_entry.ensures.changes tells)
 
-pub returns-clause-moves : goal.returns-clause-moves
-returns-clause-moves g c tells =
-    add_moves (g.H.Host.world c.args.host.now) (g.H.Host.world c.put_entry.new.host) c.args.page c.args.bytes.now c.add.new.self _ c.args.self.now c.self.view_is c.requires.size c.requires.fresh c.requires.below c.in_ok-add.ensures.ok
-    (c.put_entry.ensures.moves tells)
+pub returns-clause-changes : goal.returns-clause-changes
+returns-clause-changes g c tells =
+    add_changes (g.H.Host.world c.args.host.now) (g.H.Host.world c.put_entry.new.host) c.args.page c.args.bytes.now c.add.new.self _ c.args.self.now c.self.view_is c.requires.size c.requires.fresh c.requires.below c.in_ok-add.ensures.ok
+    (c.put_entry.ensures.changes tells)
