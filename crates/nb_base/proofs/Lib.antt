@@ -1,7 +1,12 @@
-pub mod WrittenLaws
-pub mod OwnedLaws
+pub mod AttachLaws
+pub mod CreateLaws
+pub mod CreatedLaws
 pub mod LeftLaws
-pub mod StepLaws
+pub mod MakingLaws
+pub mod OpenedLaws
 pub mod OutcomeLaws
+pub mod OwnedLaws
 pub mod PlaceLaws
+pub mod StepLaws
 pub mod WriteLaws
+pub mod WrittenLaws

@@ -2,3 +2,4 @@ pub mod Open
 pub mod Seen
 pub mod Takes
 pub mod Beginnings
+pub mod Attach
