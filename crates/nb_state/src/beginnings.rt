@@ -1,9 +1,13 @@
 // A database is created or opened.
-ghost use Rattle.std.specs.Prelude.{◌≡◌, ◌≤◌, IsTrue, length};
+ghost use Rattle.std.specs.Prelude.{◌≡◌, ◌<◌, ◌≤◌, None, IsTrue, IfOk, length};
 ghost use Rattle.nb_fields.specs.Places.{is_page_size};
 ghost use Rattle.nb_fields.specs.Fresh.{fresh};
 ghost use Rattle.nb_change.specs.Counts.{CountsDevice};
+ghost use Rattle.nb_host.specs.Causes.{CountsFault};
 ghost use Rattle.nb_page.specs.Quiet.{Quiet};
+ghost use Rattle.nb_model.specs.Trail.{Trail};
+ghost use Rattle.nb_base.specs.Open.{IsOpen as AreOpen};
+ghost use Rattle.nb_state.specs.Open.{IsOpen};
 ghost use Rattle.nb_state.specs.Beginnings.{Attaches, Creates};
 
 use crate::Store;

@@ -10,25 +10,13 @@ use Rattle.nb_state.specs.Does.{Tested}
 use Rattle.nb_state.specs.Turns.{Begins, Ends, Merges, GaveAtMost, begin_cause, end_cause}
 use Rattle.nb_state.proofs.store.Store.begin.Goals as goal
 
--- src/turns.rt:75:20
-pub returns-in_err-guid-clause-begins : goal.returns-in_err-guid-clause-begins
-returns-in_err-guid-clause-begins g c = ?
-
 -- src/turns.rt:76:9
 pub begin-requires-clause-stub : goal.begin-requires-clause-stub
 begin-requires-clause-stub g c = ?
 
 -- src/turns.rt:76:9
-pub invariant_of-self : goal.invariant_of-self
-invariant_of-self g c = c.begin.auto.self
-
--- src/turns.rt:76:9
 pub returns-in_err-begin-clause-begins : goal.returns-in_err-begin-clause-begins
 returns-in_err-begin-clause-begins g c = ?
-
--- src/turns.rt:68:5
-pub invariant_of-self-2 : goal.invariant_of-self-2
-invariant_of-self-2 g c = ?
 
 -- src/turns.rt:68:5
 pub returns-clause-begins : goal.returns-clause-begins
