@@ -1,5 +1,5 @@
--- What taking a page and giving it back keep: each front of their strokes leaves a sound image.
-use Rattle.std.proofs.Common.{◌≡◌, inl, inr, ℕ, ◌+◌, ◌/◌, ◌%◌, ◌<◌, ◌≤◌, List, length, take, drop, refl, sym, ap, subst, ◌∙◌, arith, length-drop}
+-- Each stroke that takes a page or gives it back fits at its point.
+use Rattle.std.proofs.Common.{◌≡◌, inl, inr, ℕ, ◌+◌, ◌/◌, ◌%◌, ◌<◌, ◌≤◌, length, drop, refl, sym, ap, subst, ◌∙◌, arith, length-drop}
 use Rattle.std.specs.Prelude.{Bool, true, false, not, ◌==◌, nat_lt, None}
 use Rattle.std.proofs.lemmas.Bool.{true≢false, and_parts, ltb-true}
 use Rattle.std.proofs.lemmas.Bool.Decides.{eqb_tells}
@@ -8,17 +8,14 @@ use Rattle.nb_fields.specs.Page.{kind_of, stamped}
 use Rattle.nb_fields.specs.Payloads.{bit_of}
 use Rattle.nb_fields.proofs.SizeLemmas.{SizeFacts, size_facts}
 use Rattle.nb_fields.proofs.PlaceLemmas.{bits-least}
-use Rattle.nb_model.specs.Image.{Page, Image, page_at, image_size, image_scn, with_page}
-use Rattle.nb_model.specs.Account.{Base, base_of, Kept}
-use Rattle.nb_model.specs.Strokes.{base_after}
+use Rattle.nb_model.specs.Image.{Page, Image, page_at, image_size, image_scn}
+use Rattle.nb_model.specs.Account.{Base}
 use Rattle.nb_model.specs.Forms.{Draft, drafted, old_page, needs, is_kind, inventory_of, scn_page_of, bit_number, is_free_page, with_bit, set_bit, give_page}
 use Rattle.nb_model.specs.Causes.{not_raw, not_kind}
 use Rattle.nb_model.specs.Sound.{IsSoundImage, HasHeader}
-use Rattle.nb_model.specs.Stands.{NamesItsPast, is_history_page}
-use Rattle.nb_model.proofs.SoundLaws.{all_at, inventory_there, inventory_place_some, scn_page_there, HasFields, FitsAt, page_sound}
-use Rattle.nb_model.proofs.FitLaws.{IsWhole, Held, Fits, fits_first, fits_needs, Throughout, held_throughout}
-use Rattle.nb_model.proofs.PutSound.{IsPlace, Raises, IsPut, header_fields, header_whole, needs_image, old_length, now_length, now_some, now_stamp, now_kind, put_fits, raw_facts, no_first, not_when}
-use Rattle.nb_model.proofs.PastLaws.{no_history, page_past}
+use Rattle.nb_model.proofs.SoundLaws.{all_at, inventory_there, inventory_place_some, scn_page_there, HasFields, FitsAt}
+use Rattle.nb_model.proofs.FitLaws.{IsWhole, Fits, fits_first, fits_needs}
+use Rattle.nb_model.proofs.PutSound.{IsPlace, Raises, IsPut, header_whole, needs_image, old_length, now_length, now_some, now_stamp, now_kind, put_fits, raw_facts, no_first, not_when}
 use Rattle.nb_model.proofs.BitLaws.{bit_else, with_bit_length, bit_behind, one_bit}
 
 -- The inventory page of page p with its bit written, once the entry of that inventory page is raised.
@@ -149,26 +146,3 @@ module _ (K : Page → Type 0) (scn_pages : (bytes : Page) → kind_of bytes ≡
   -- a page is given back
   pub give_fits : (p : ℕ) → HasHeader b.image → IsSoundImage b.image → not_raw b.image p ≡ None → Fits K b (give_page p (drafted b.image))
   give_fits p h is none = (bit_put 1 p (drafted b.image) (omega arith) (fits_first K b (header_whole b.image h is)) (raw_facts b.image p none).0 (raw_inventory b.image p none)).fits
-
--- and Q is kept
-pub give_holds : (Q : Image → Type 0) (K : Page → Type 0) → ((bytes : Page) → kind_of bytes ≡ 10 → K bytes) → ((bytes : Page) → kind_of bytes ≡ 2 → K bytes)
-    → ((image : Image) (p : ℕ) (bytes : Page) → HasFields image → IsSoundImage image → FitsAt image p bytes → K bytes → Q image → Q (with_page p bytes image))
-    → (image : Image) (p : ℕ) → HasHeader image → IsSoundImage image → Q image → not_raw image p ≡ None → Throughout (Held Q) (base_of image) (give_page p (drafted image))
-give_holds Q K scn_pages inventories step image p h is also none =
-    held_throughout Q K step (base_of image) _ (give_fits K scn_pages inventories (base_of image) p h is none) (record { fields = header_fields image h; sound = is; also = also })
-
--- each front of the strokes of a page given back leaves a sound image
-pub give_sound : (image : Image) (p : ℕ) → HasHeader image → IsSoundImage image → not_raw image p ≡ None → (k : ℕ) → IsSoundImage (base_after (base_of image) (take k (give_page p (drafted image)).strokes)).image
-give_sound image p h is none k =
-    let through : Throughout (Held IsSoundImage) (base_of image) (give_page p (drafted image)) =
-    give_holds IsSoundImage (λ bytes. Unit {0}) (λ bytes e. tt) (λ bytes e. tt) (λ x q bytes fields sound fits any also. page_sound x q bytes fields sound fits) image p h is is none in
-    (through.each k).sound
-
--- and one that names the same backups
-pub give_past : (kept : List Kept) (image : Image) (p : ℕ) → HasHeader image → IsSoundImage image → NamesItsPast kept image → not_raw image p ≡ None
-    → (k : ℕ) → NamesItsPast kept (base_after (base_of image) (take k (give_page p (drafted image)).strokes)).image
-give_past kept image p h is past none k =
-    let through : Throughout (Held (NamesItsPast kept)) (base_of image) (give_page p (drafted image)) =
-    give_holds (NamesItsPast kept) (λ bytes. is_history_page bytes ≡ false) (λ bytes e. no_history bytes (omega (arith, e))) (λ bytes e. no_history bytes (omega (arith, e)))
-    (λ x q bytes fields sound fits no_rows before. page_past kept x q bytes fields sound fits no_rows before) image p h is past none in
-    (through.each k).also

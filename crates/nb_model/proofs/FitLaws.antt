@@ -15,12 +15,6 @@ pub record IsWhole (image : Image) : Type 0 where
   pub fields : HasFields image
   pub sound : IsSoundImage image
 
--- one of which Q holds too
-pub record Held (Q : Image → Type 0) (image : Image) : Type 0 where
-  pub fields : HasFields image
-  pub sound : IsSoundImage image
-  pub also : Q image
-
 -- a page that fits keeps an image whole
 pub whole_with : (image : Image) (p : ℕ) (bytes : Page) → IsWhole image → FitsAt image p bytes → IsWhole (with_page p bytes image)
 whole_with image p bytes h fits = record { fields = fields_stay image p bytes h.fields h.sound fits; sound = page_sound image p bytes h.fields h.sound fits }
@@ -46,7 +40,7 @@ fitting_front K [] ys b h = tt
 fitting_front K (x ∷ xs) ys b h = (h.0, fitting_front K xs ys (on_base x b) h.1)
 
 -- The image stays whole.
-whole_one : (K : Page → Type 0) (s : Stroke) (b : Base) → IsFitting K b.image s → IsWhole b.image → IsWhole (on_base s b).image
+pub whole_one : (K : Page → Type 0) (s : Stroke) (b : Base) → IsFitting K b.image s → IsWhole b.image → IsWhole (on_base s b).image
 unfolding on_base
 whole_one K (page p bytes) b fits h = whole_with b.image p (merged_page p bytes b.image) h fits.0
 whole_one K other b fits h = absurd fits
@@ -96,31 +90,17 @@ fits_more K b p kind payload d behind h fits of_kind = record {
     fitting : IsFitting K d.image (page p bytes)
     fitting = subst (λ (x : Page). FitsAt d.image p x × K x) (sym (whole_page p bytes d.image behind)) (fits, of_kind)
 
--- after each front of the strokes of a draft the image has Q
-pub record Throughout (Q : Image → Type 0) (b : Base) (d : Draft) : Type 0 where
-  pub is : IsOf b d
-  pub each : (k : ℕ) → Q (base_after b (take k d.strokes)).image
-
--- Q is kept by each page that fits and that K holds of
+-- Q is kept by each page that fits and that K holds of: so it holds after each front of the strokes.
 module _ (Q : Image → Type 0) (K : Page → Type 0)
     (step : (image : Image) (p : ℕ) (bytes : Page) → HasFields image → IsSoundImage image → FitsAt image p bytes → K bytes → Q image → Q (with_page p bytes image)) where
-  stepped : (s : Stroke) (b : Base) → IsFitting K b.image s → Held Q b.image → Held Q (on_base s b).image
+  one_keeps : (s : Stroke) (b : Base) → IsFitting K b.image s → IsWhole b.image → Q b.image → Q (on_base s b).image
   unfolding on_base
-  stepped (page p bytes) b fits h =
-      let kept : Page = merged_page p bytes b.image in
-      record {
-        fields = fields_stay b.image p kept h.fields h.sound fits.0;
-        sound = page_sound b.image p kept h.fields h.sound fits.0;
-        also = step b.image p kept h.fields h.sound fits.0 fits.1 h.also;
-      }
-  stepped other b fits h = absurd fits
+  one_keeps (page p bytes) b fits h also = step b.image p (merged_page p bytes b.image) h.fields h.sound fits.0 fits.1 also
+  one_keeps other b fits h also = absurd fits
 
-  pub held_front : (ss : List Stroke) (b : Base) → AreFitting K b ss → Held Q b.image → (k : ℕ) → Held Q (base_after b (take k ss)).image
+  pub front_keeps : (ss : List Stroke) (b : Base) → AreFitting K b ss → IsWhole b.image → Q b.image → (k : ℕ) → Q (base_after b (take k ss)).image
   unfolding base_after
-  held_front [] b fits h zero = h
-  held_front [] b fits h (suc k) = h
-  held_front (s ∷ ss) b fits h zero = h
-  held_front (s ∷ ss) b fits h (suc k) = held_front ss (on_base s b) fits.1 (stepped s b fits.0 h) k
-
-  pub held_throughout : (b : Base) (d : Draft) → Fits K b d → Held Q b.image → Throughout (Held Q) b d
-  held_throughout b d fits h = record { is = fits.is; each = held_front d.strokes b fits.each h }
+  front_keeps [] b fits h also zero = also
+  front_keeps [] b fits h also (suc k) = also
+  front_keeps (s ∷ ss) b fits h also zero = also
+  front_keeps (s ∷ ss) b fits h also (suc k) = front_keeps ss (on_base s b) fits.1 (whole_one K s b fits.0 h) (one_keeps s b fits.0 h also) k

@@ -1,4 +1,4 @@
--- What a write of page 0 keeps, whose first 64 bytes stay.
+-- A write of page 0 fits: its first 64 bytes stay.
 use Rattle.std.proofs.Common.{◌≡◌, ◌≢◌, ℕ, zero, suc, ◌+◌, ◌-◌, ◌<◌, ◌≤◌, ◌/◌, List, [], ◌∷◌, length, take, drop, replicate, refl, sym, ap, ◌∙◌, arith, length-append, length-drop}
 use Rattle.std.specs.Prelude.{true, false, ◌==◌}
 use Rattle.std.proofs.lemmas.Bool.{true≢false, and_parts, eqb-true, false_from_ne_true}
@@ -9,17 +9,15 @@ use Rattle.nb_fields.specs.Places.{entries_in, bits_in}
 use Rattle.nb_fields.specs.Page.{kind_of}
 use Rattle.nb_fields.proofs.PartLemmas.{number_in-take, length-with_part}
 use Rattle.nb_fields.proofs.SizeLemmas.{SizeFacts, size_facts}
-use Rattle.nb_model.specs.Image.{Page, Image, first_page, image_size, with_page}
-use Rattle.nb_model.specs.Account.{Base, base_of, Kept}
-use Rattle.nb_model.specs.Strokes.{base_after, merged_page}
+use Rattle.nb_model.specs.Image.{Page, Image, first_page, image_size}
+use Rattle.nb_model.specs.Account.{Base}
+use Rattle.nb_model.specs.Strokes.{merged_page}
 use Rattle.nb_model.specs.Forms.{has_entry}
 use Rattle.nb_model.specs.Pages.{byte_strokes}
 use Rattle.nb_model.specs.Sound.{IsSoundImage, HasHeader}
-use Rattle.nb_model.specs.Stands.{NamesItsPast, is_history_page}
-use Rattle.nb_model.proofs.SoundLaws.{all_at, inventory_behind, inventory_place_some, scn_page_behind, scn_place_some, HasFields, FitsAt, header_kind, page_sound}
-use Rattle.nb_model.proofs.FitLaws.{Held, AreFitting, held_front}
+use Rattle.nb_model.proofs.SoundLaws.{all_at, inventory_behind, inventory_place_some, scn_page_behind, scn_place_some, HasFields, FitsAt, header_kind}
+use Rattle.nb_model.proofs.FitLaws.{AreFitting}
 use Rattle.nb_model.proofs.PutSound.{header_fields}
-use Rattle.nb_model.proofs.PastLaws.{no_history, page_past}
 
 -- bytes of zeros spell 0
 pub all_zeros : (bytes : List ℕ) → is_zeros bytes ≡ true → bytes ≡ replicate (length bytes) 0
@@ -106,22 +104,3 @@ byte_fits K headers b at value h is inside =
     let fields : HasFields b.image = header_fields b.image h in
     let long : length (with_part at (value ∷ []) (first_page b.image)) ≡ image_size b.image = changed_length b.image at value fields is inside in
     ((head_fits b.image (with_part at (value ∷ []) (first_page b.image)) fields is long, headers _ (head_kind b.image (with_part at (value ∷ []) (first_page b.image)) fields is long h.header)), tt)
-
--- and Q is kept
-pub byte_holds : (Q : Image → Type 0) (K : Page → Type 0) → ((bytes : Page) → kind_of bytes ≡ 1 → K bytes)
-    → ((image : Image) (p : ℕ) (bytes : Page) → HasFields image → IsSoundImage image → FitsAt image p bytes → K bytes → Q image → Q (with_page p bytes image))
-    → (image : Image) (at value : ℕ) → HasHeader image → IsSoundImage image → at < 1024 → Q image → (k : ℕ) → Held Q (base_after (base_of image) (take k (byte_strokes at value image))).image
-byte_holds Q K headers step image at value h is inside also =
-    held_front Q K step (byte_strokes at value image) (base_of image) (byte_fits K headers (base_of image) at value h is inside) (record { fields = header_fields image h; sound = is; also = also })
-
--- each front of that stroke leaves a sound image
-pub byte_sound : (image : Image) (at value : ℕ) → HasHeader image → IsSoundImage image → at < 1024 → (k : ℕ) → IsSoundImage (base_after (base_of image) (take k (byte_strokes at value image))).image
-byte_sound image at value h is inside k =
-    (byte_holds IsSoundImage (λ bytes. Unit {0}) (λ bytes e. tt) (λ x q bytes fields sound fits any also. page_sound x q bytes fields sound fits) image at value h is inside is k).sound
-
--- and one that names the same backups
-pub byte_past : (kept : List Kept) (image : Image) (at value : ℕ) → HasHeader image → IsSoundImage image → NamesItsPast kept image → at < 1024
-    → (k : ℕ) → NamesItsPast kept (base_after (base_of image) (take k (byte_strokes at value image))).image
-byte_past kept image at value h is past inside k =
-    (byte_holds (NamesItsPast kept) (λ bytes. is_history_page bytes ≡ false) (λ bytes e. no_history bytes (omega (arith, e)))
-    (λ x q bytes fields sound fits no_rows before. page_past kept x q bytes fields sound fits no_rows before) image at value h is inside past k).also

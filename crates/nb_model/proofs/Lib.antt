@@ -35,6 +35,7 @@ pub mod OutputLaws
 pub mod TodoLaws
 pub mod OpeningLaws
 pub mod ReopenLaws
+pub mod PagesFit
 pub mod WellLaws
 pub mod PlayLaws
 pub mod TakenLaws
@@ -43,4 +44,14 @@ pub mod FrontLaws
 pub mod TrailLaws
 pub mod FitLaws
 pub mod MixtureLaws
+pub mod MixtureWrites
 pub mod EarlierLaws
+pub mod EntryLaws
+pub mod StalledLaws
+pub mod OverLaws
+pub mod LineageLaws
+pub mod WellTrailLaws
+pub mod OpenedLaws
+pub mod ControlLaws
+pub mod ControlSound
+pub mod ControlWell

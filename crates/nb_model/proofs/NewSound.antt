@@ -1,5 +1,5 @@
--- What a new page keeps: each front of its strokes leaves a sound image, also where system pages are made on the way.
-use Rattle.std.proofs.Common.{◌≡◌, ◌≢◌, inl, inr, ℕ, zero, suc, ◌+◌, ◌-◌, ◌*◌, ◌/◌, ◌%◌, ◌^◌, ◌<◌, ◌≤◌, List, [], length, take, refl, sym, ap, subst, ◌∙◌, arith}
+-- Each stroke of a new page fits at its point, also where system pages are made on the way.
+use Rattle.std.proofs.Common.{◌≡◌, inl, inr, ℕ, zero, suc, ◌+◌, ◌-◌, ◌*◌, ◌/◌, ◌%◌, ◌^◌, ◌<◌, ◌≤◌, List, [], length, refl, sym, ap, subst, ◌∙◌, arith}
 use Rattle.std.specs.Prelude.{Bool, true, false, ◌==◌, nat_lt, IsTrue, max}
 use Rattle.std.proofs.lemmas.Bool.{true≢false, and_parts, and_from, or_parts, or_cases, ltb-true, eq-eqb, eqb-false}
 use Rattle.std.proofs.lemmas.Bool.Decides.{leb_tells}
@@ -13,17 +13,14 @@ use Rattle.nb_fields.proofs.FreshLaws.{taken_bits-free, bit_of-inventory, entry_
 use Rattle.nb_fields.proofs.PageLemmas.{kind_of-page_of}
 use Rattle.nb_fields.proofs.SizeLemmas.{SizeFacts, size_facts}
 use Rattle.nb_fields.proofs.PlaceLemmas.{bits-least, entries-least}
-use Rattle.nb_model.specs.Image.{Page, Image, page_at, image_size, image_scn, with_page}
-use Rattle.nb_model.specs.Account.{Base, base_of, Kept}
-use Rattle.nb_model.specs.Strokes.{base_after}
+use Rattle.nb_model.specs.Image.{Page, Image, page_at, image_size, image_scn}
+use Rattle.nb_model.specs.Account.{Base}
 use Rattle.nb_model.specs.Forms.{Draft, drafted, old_page, is_kind, put, scn_page_of, bit_number, entry_number, scn_entry, has_entry, is_free_page, take_page, free_from, lowest_free, needs_inventories, searched, system_kind, system_payload, system_page, no_page, new_within, new_page}
 use Rattle.nb_model.specs.Sound.{IsSoundImage, HasHeader}
-use Rattle.nb_model.specs.Stands.{NamesItsPast, is_history_page}
-use Rattle.nb_model.proofs.SoundLaws.{inventory_there, scn_page_there, HasFields, FitsAt, scn_no_entry, with_page_length, page_sound}
+use Rattle.nb_model.proofs.SoundLaws.{inventory_there, scn_page_there, HasFields, FitsAt, scn_no_entry, with_page_length}
 use Rattle.nb_model.proofs.FreshSound.{kind_inventory, kind_scn, inventory_length, scn_length}
-use Rattle.nb_model.proofs.FitLaws.{IsWhole, Held, Fits, fits_first, fits_full, fits_needs, Throughout, held_throughout}
-use Rattle.nb_model.proofs.PutSound.{IsPlace, Raises, IsPut, header_fields, header_whole, needs_image, old_length, now_length, now_some, now_stamp, now_kind, put_fits, plain_put}
-use Rattle.nb_model.proofs.PastLaws.{no_history, page_past}
+use Rattle.nb_model.proofs.FitLaws.{IsWhole, Fits, fits_first, fits_full, fits_needs}
+use Rattle.nb_model.proofs.PutSound.{IsPlace, Raises, IsPut, header_whole, needs_image, old_length, now_length, now_some, now_stamp, now_kind, put_fits, plain_put}
 use Rattle.nb_model.proofs.BitSound.{bit_put}
 
 -- no page is of both kinds of inventory
@@ -334,27 +331,3 @@ pub new_raw_fits : (K : Page → Type 0) → HoldsOfKinds K → ((bytes : Page) 
     → Fits K b (new_page 8 (λ p. text_payload []) (drafted b.image)).0
 new_raw_fits K kinds raw_pages b h is =
     new_fits K kinds b (length b.image + 4) 8 (λ p. text_payload []) (drafted b.image) refl empty_text raw_pages (fits_first K b (header_whole b.image h is))
-
--- and Q is kept
-pub new_raw_holds : (Q : Image → Type 0) (K : Page → Type 0) → HoldsOfKinds K → ((bytes : Page) → kind_of bytes ≡ 8 → K bytes)
-    → ((image : Image) (p : ℕ) (bytes : Page) → HasFields image → IsSoundImage image → FitsAt image p bytes → K bytes → Q image → Q (with_page p bytes image))
-    → (image : Image) → HasHeader image → IsSoundImage image → Q image → Throughout (Held Q) (base_of image) (new_page 8 (λ p. text_payload []) (drafted image)).0
-new_raw_holds Q K kinds raw_pages step image h is also =
-    held_throughout Q K step (base_of image) _ (new_raw_fits K kinds raw_pages (base_of image) h is) (record { fields = header_fields image h; sound = is; also = also })
-
--- each front of the strokes of a new raw page leaves a sound image
-pub new_sound : (image : Image) → HasHeader image → IsSoundImage image → (k : ℕ) → IsSoundImage (base_after (base_of image) (take k (new_page 8 (λ p. text_payload []) (drafted image)).0.strokes)).image
-new_sound image h is k =
-    let through : Throughout (Held IsSoundImage) (base_of image) (new_page 8 (λ p. text_payload []) (drafted image)).0 =
-    new_raw_holds IsSoundImage (λ bytes. Unit {0}) (record { inventories = λ bytes e. tt; scn_pages = λ bytes e. tt }) (λ bytes e. tt) (λ x q bytes fields sound fits any also. page_sound x q bytes fields sound fits) image h is is in
-    (through.each k).sound
-
--- and one that names the same backups
-pub new_past : (kept : List Kept) (image : Image) → HasHeader image → IsSoundImage image → NamesItsPast kept image
-    → (k : ℕ) → NamesItsPast kept (base_after (base_of image) (take k (new_page 8 (λ p. text_payload []) (drafted image)).0.strokes)).image
-new_past kept image h is past k =
-    let other : (kind : ℕ) → kind ≢ 5 → (bytes : Page) → kind_of bytes ≡ kind → is_history_page bytes ≡ false = λ kind ne bytes e. no_history bytes (λ five. ne (sym e ∙ five)) in
-    let through : Throughout (Held (NamesItsPast kept)) (base_of image) (new_page 8 (λ p. text_payload []) (drafted image)).0 =
-    new_raw_holds (NamesItsPast kept) (λ bytes. is_history_page bytes ≡ false) (record { inventories = other 2 (omega arith); scn_pages = other 10 (omega arith) }) (other 8 (omega arith))
-    (λ x q bytes fields sound fits no_rows before. page_past kept x q bytes fields sound fits no_rows before) image h is past in
-    (through.each k).also

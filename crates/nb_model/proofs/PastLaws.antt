@@ -1,28 +1,23 @@
--- What a write of a raw page keeps: after each front of its strokes the image names the same backups.
-use Rattle.std.proofs.Common.{◌≡◌, ◌≢◌, inl, inr, ℕ, suc, ◌<◌, ◌≤◌, List, [], ◌∷◌, length, take, refl, sym, ap, subst, ◌∙◌, arith, set}
-use Rattle.std.specs.Prelude.{true, false, ◌==◌, None}
+-- Where a page is written that fits, the image names the same backups.
+use Rattle.std.proofs.Common.{◌≡◌, ◌≢◌, inl, inr, ℕ, suc, ◌<◌, ◌≤◌, List, [], ◌∷◌, ◌++◌, length, refl, sym, ap, subst, ◌∙◌, arith, set}
+use Rattle.std.specs.Prelude.{true, false, ◌==◌}
 use Rattle.std.specs.List.{AllByRecursion}
 use Rattle.std.proofs.lemmas.Bool.{true≢false, and_left, ne_eqb}
 use Rattle.std.proofs.lemmas.Bool.Decides.{eqb_tells, leb_tells}
+use Rattle.std.proofs.lemmas.List.Elements.{Contains-append_left}
 use Rattle.nb_fields.specs.Page.{kind_of, stamp_of}
-use Rattle.nb_fields.specs.Payloads.{text_payload}
-use Rattle.nb_model.specs.Image.{Page, Image, page_at, image_size, with_page}
-use Rattle.nb_model.specs.Account.{base_of, Kept}
-use Rattle.nb_model.specs.Strokes.{base_after}
-use Rattle.nb_model.specs.Forms.{drafted, put}
-use Rattle.nb_model.specs.Causes.{not_raw}
-use Rattle.nb_model.specs.Sound.{IsSoundImage, HasHeader}
-use Rattle.nb_model.specs.Chains.{Slot, is_used, slots_in}
+use Rattle.nb_model.specs.Image.{Page, Image, page_at, image_size, image_guid, with_page}
+use Rattle.nb_model.specs.Account.{Kept}
+use Rattle.nb_model.specs.Sound.{IsSoundImage}
+use Rattle.nb_model.specs.Chains.{Slot, is_used, slots_in, guid_in}
 use Rattle.nb_model.specs.Follows.{Follows}
 use Rattle.nb_model.specs.Stands.{IsKeptAs, is_history_page, GoesOn, IsRemembered, HasRows, NamesPast, NamesItsPast}
 use Rattle.nb_model.proofs.StrokeLaws.{with_page_same}
 use Rattle.nb_model.proofs.FollowsLaws.{follows_set, follows_add}
 use Rattle.nb_model.proofs.SoundLaws.{written_other, with_page_length, HasFields, FitsAt, size_stays, scn_stays, guid_stays}
-use Rattle.nb_model.proofs.FitLaws.{Held, Throughout}
-use Rattle.nb_model.proofs.PutSound.{text_holds}
 
 -- what holds of each row
-all_rows : (P R : Slot → Type 0) (rows : List Slot) → ((row : Slot) → P row → R row) → AllByRecursion P rows → AllByRecursion R rows
+pub all_rows : (P R : Slot → Type 0) (rows : List Slot) → ((row : Slot) → P row → R row) → AllByRecursion P rows → AllByRecursion R rows
 all_rows P R [] goes h = tt
 all_rows P R (row ∷ rows) goes h = (goes row h.0, all_rows P R rows goes h.1)
 
@@ -78,6 +73,20 @@ module _ (kept : List Kept) (P R : Kept → Type 0) (goes : (r : Kept) → P r �
         (old.0, subst (λ (guid : List ℕ). IsKeptAs kept guid old.0) (sym (guid_stays image p bytes fields is fits)) old.1, goes old.0 old.2);
   }
 
+-- More records may be kept.
+module _ (kept more : List Kept) where
+  pub kept_more : (guid : List ℕ) (r : Kept) → IsKeptAs kept guid r → IsKeptAs (kept ++ more) guid r
+  kept_more guid r h = record { there = Contains-append_left kept more r h.there; named = h.named }
+
+  pub past_more : (P : Kept → Type 0) (image : Image) → NamesPast kept P image → NamesPast (kept ++ more) P image
+  past_more P image past = record {
+    rows = λ p low history.
+        all_rows (λ row. is_used row ≡ true → IsRemembered kept P row) (λ row. is_used row ≡ true → IsRemembered (kept ++ more) P row) (slots_in (page_at image p))
+        (λ row h used. let old : IsRemembered kept P row = h used in record { backup = old.backup; kept_as = kept_more (guid_in row) old.backup old.kept_as; scn = old.scn; level = old.level; passes = old.passes })
+        (past.rows p low history);
+    last = λ some. let old = past.last some in (old.0, kept_more (image_guid image) old.0 old.1, old.2);
+  }
+
 -- a page without rows has none that fail
 pub no_rows_pass : (kept : List Kept) (R : Kept → Type 0) (bytes : Page) → is_history_page bytes ≡ false → HasRows kept R bytes
 no_rows_pass kept R bytes none history = absurd (true≢false (sym history ∙ none))
@@ -88,12 +97,3 @@ pub page_past : (kept : List Kept) (image : Image) (p : ℕ) (bytes : Page) → 
 page_past kept image p bytes fields is fits none past =
     past_written kept (λ r. GoesOn r image) (λ r. GoesOn r (with_page p bytes image)) (goes_on_still image p bytes fields is fits) image p bytes fields is fits
     (no_rows_pass kept (λ r. GoesOn r (with_page p bytes image)) bytes none) past
-
--- each front of the strokes of a write names the same backups
-pub put_past : (kept : List Kept) (image : Image) (p : ℕ) (text : List ℕ) → HasHeader image → IsSoundImage image → NamesItsPast kept image → not_raw image p ≡ None → length text ≤ 200
-    → (k : ℕ) → NamesItsPast kept (base_after (base_of image) (take k (put p 8 (text_payload text) (drafted image)).strokes)).image
-put_past kept image p text h is past none short k =
-    let through : Throughout (Held (NamesItsPast kept)) (base_of image) (put p 8 (text_payload text) (drafted image)) =
-    text_holds (NamesItsPast kept) (λ bytes. is_history_page bytes ≡ false) (λ bytes e. no_history bytes (omega (arith, e))) (λ bytes e. no_history bytes (omega (arith, e)))
-    (λ x q bytes fields sound fits no_rows before. page_past kept x q bytes fields sound fits no_rows before) image p text h is past none short in
-    (through.each k).also

@@ -1,4 +1,4 @@
--- What `put` keeps: after each front of its strokes the image is sound.
+-- Each stroke of `put` fits at its point.
 use Rattle.std.proofs.Common.{◌≡◌, ◌≢◌, inl, inr, ℕ, suc, ◌+◌, ◌-◌, ◌*◌, ◌/◌, ◌%◌, ◌^◌, ◌<◌, ◌≤◌, List, ◌∷◌, ◌++◌, length, take, drop, refl, sym, ap, subst, ◌∙◌, arith, length-drop}
 use Rattle.std.specs.Prelude.{Bool, true, false, not, ◌==◌, nat_le, Some, None}
 use Rattle.std.proofs.lemmas.Bool.{true≢false, cases_lt}
@@ -15,15 +15,14 @@ use Rattle.nb_fields.proofs.SizeLemmas.{SizeFacts, size_facts}
 use Rattle.nb_fields.proofs.PlaceLemmas.{entries-least}
 use Rattle.nb_host.specs.declared.refusals.Refusal.{Refusal}
 use Rattle.nb_model.specs.Image.{Page, Image, page_at, first_page, image_size, image_scn, with_page}
-use Rattle.nb_model.specs.Account.{Base, base_of}
-use Rattle.nb_model.specs.Strokes.{base_after}
+use Rattle.nb_model.specs.Account.{Base}
 use Rattle.nb_model.specs.Forms.{Draft, drafted, old_page, needs, is_kind, inventory_of, scn_page_of, entry_number, scn_entry, has_entry, entry_written, entry_raised, raised, put}
 use Rattle.nb_model.specs.Causes.{Cause, first_cause, when, not_raw}
 use Rattle.nb_model.specs.Sound.{IsSoundImage, HasHeader}
 use Rattle.nb_model.proofs.DraftLaws.{either}
-use Rattle.nb_model.proofs.FitLaws.{IsWhole, Held, Fits, fits_first, fits_needs, form_page, written_image, fits_more, Throughout, held_throughout}
+use Rattle.nb_model.proofs.FitLaws.{IsWhole, Fits, fits_first, fits_needs, form_page, written_image, fits_more}
 use Rattle.nb_model.proofs.HeaderLaws.{header-size}
-use Rattle.nb_model.proofs.SoundLaws.{all_at, page_no_zeros, inventory_there, scn_page_there, scn_place_some, scn_place_before, with_page_length, HasFields, FitsAt, scn_no_entry, size_stays, scn_stays, entry_here, header_kind, written_other, page_sound}
+use Rattle.nb_model.proofs.SoundLaws.{all_at, page_no_zeros, inventory_there, scn_page_there, scn_place_some, scn_place_before, with_page_length, HasFields, FitsAt, scn_no_entry, size_stays, scn_stays, entry_here, header_kind, written_other}
 
 -- page p may be written: it isn't page 0, and stands below the length or at it
 pub record IsPlace (image : Image) (p : ℕ) : Type 0 where
@@ -382,19 +381,3 @@ text_fits K scn_pages raw_pages b p text h is none short =
     let fields : HasFields b.image = header_fields b.image h in
     let facts : SizeFacts (image_size b.image) = size_facts (image_size b.image) fields.size in
     (plain_put K scn_pages b p 8 (text_payload text) (drafted b.image) (fits_first K b (header_whole b.image h is)) (raw_plain b.image p h is none) refl (omega (arith, facts.at_least, text_room text short)) raw_pages).fits
-
--- and Q is kept
-pub text_holds : (Q : Image → Type 0) (K : Page → Type 0) → ((bytes : Page) → kind_of bytes ≡ 10 → K bytes) → ((bytes : Page) → kind_of bytes ≡ 8 → K bytes)
-    → ((image : Image) (p : ℕ) (bytes : Page) → HasFields image → IsSoundImage image → FitsAt image p bytes → K bytes → Q image → Q (with_page p bytes image))
-    → (image : Image) (p : ℕ) (text : List ℕ) → HasHeader image → IsSoundImage image → Q image → not_raw image p ≡ None → length text ≤ 200
-    → Throughout (Held Q) (base_of image) (put p 8 (text_payload text) (drafted image))
-text_holds Q K scn_pages raw_pages step image p text h is also none short =
-    held_throughout Q K step (base_of image) _ (text_fits K scn_pages raw_pages (base_of image) p text h is none short) (record { fields = header_fields image h; sound = is; also = also })
-
--- each front of the strokes of a write leaves a sound image
-pub put_sound : (image : Image) (p : ℕ) (text : List ℕ) → HasHeader image → IsSoundImage image → not_raw image p ≡ None → length text ≤ 200
-    → (k : ℕ) → IsSoundImage (base_after (base_of image) (take k (put p 8 (text_payload text) (drafted image)).strokes)).image
-put_sound image p text h is none short k =
-    let through : Throughout (Held IsSoundImage) (base_of image) (put p 8 (text_payload text) (drafted image)) =
-    text_holds IsSoundImage (λ bytes. Unit {0}) (λ bytes e. tt) (λ bytes e. tt) (λ x q bytes fields sound fits any also. page_sound x q bytes fields sound fits) image p text h is is none short in
-    (through.each k).sound

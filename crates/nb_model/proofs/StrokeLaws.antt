@@ -3,7 +3,7 @@ use Rattle.std.proofs.Common.{◌≡◌, ◌≢◌, inl, inr, ℕ, zero, suc, �
 use Rattle.std.proofs.lemmas.List.{get_or_append_left}
 use Rattle.std.proofs.lemmas.Bool.Decides.{leb_tells}
 use Rattle.nb_fields.specs.Bytes.{bytes_of}
-use Rattle.nb_model.specs.Image.{Page, Image, page_at, with_page}
+use Rattle.nb_model.specs.Image.{Page, Image, page_at, first_page, with_page}
 use Rattle.nb_model.specs.Account.{Base, Kept}
 use Rattle.nb_model.specs.Strokes.{Stroke, page, on_base, records_of, base_after, records_after, merged_page, fixed}
 
@@ -54,6 +54,11 @@ with_page_same p bytes image low = elim (leb_tells (suc p) (length image)) [
     added [] (suc n) e = absurd (omega arith)
     added (x ∷ xs) zero e = absurd (omega arith)
     added (x ∷ xs) (suc n) e = added xs n (omega arith)
+
+-- page 0 keeps its first 64 bytes
+pub with_page_front : (p : ℕ) (bytes : Page) (image : Image) → p ≤ length image → (p ≡ 0 → take 64 bytes ≡ take 64 (first_page image)) → take 64 (first_page (with_page p bytes image)) ≡ take 64 (first_page image)
+with_page_front zero bytes image low head = ap (take 64) (with_page_same 0 bytes image low) ∙ head refl
+with_page_front (suc p) bytes image low head = ap (take 64) (with_page_other (suc p) 0 bytes image low (omega arith))
 
 -- a page stroke changes one page
 pub stroke_page : (b : Base) (p : ℕ) (bytes : Page) → (on_base (page p bytes) b).image ≡ with_page p (merged_page p bytes b.image) b.image

@@ -24,6 +24,7 @@ pub mod Restoring
 pub mod InPlace
 pub mod Stands
 pub mod Well
+pub mod WellTrail
 pub mod Waiting
 pub mod Pagewise
 pub mod Trail

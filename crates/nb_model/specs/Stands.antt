@@ -45,21 +45,17 @@ pub record IsRaised (image : Image) (diverted : List ℕ) : Type 0 where
 abbrev pub HasOldEntries : Image → Type 0
 HasOldEntries image = (p : ℕ) → has_entry image p ≡ true → scn_page_of image p < length image → scn_entry image p < image_scn image
 
--- What is diverted since the begin is raised. The begin raised the SCN, so the frozen image has no entry that is current.
-pub record IsStalled (b : Base) : Type 0 where
-  pub raised : IsRaised b.image b.diverted
-  pub old : HasOldEntries b.frozen
-
--- 2. So it is in the stalled state. (That the main file is the frozen image is part of the first.)
+-- 2. What is diverted since a begin is raised. (That the main file is the frozen image is part of the first.)
 abbrev pub IsFrozenMain : Account → Type 0
-IsFrozenMain account = (name : List ℕ) (b : Base) → account.entry name ≡ IsBase b → image_state b.image ≡ 1 → IsStalled b
+IsFrozenMain account = (name : List ℕ) (b : Base) → account.entry name ≡ IsBase b → image_state b.image ≡ 1 → IsRaised b.image b.diverted
 
--- the image as the begin of its backup left it
+-- The image as the begin of its backup left it. The begin raised the SCN, so no entry is current.
 pub record IsBegun (r : Kept) : Type 0 where
   pub header : IsTrue (is_header (first_page r.image))
   pub state : image_state r.image ≡ 1
   pub guid : image_guid r.image ≡ r.guid
   pub scn : image_scn r.image ≡ r.scn + 1
+  pub old : HasOldEntries r.image
 
 -- 3. Images are sound, and those of records are as a begin leaves them.
 pub record HasSoundImages (account : Account) : Type 0 where

@@ -1,12 +1,12 @@
 -- Agents in a list, by their sessions.
 use Rattle.std.proofs.Common.{◌≡◌, ◌≢◌, ◌<◌, ◌≤◌, ◌+◌, ◌-◌, ◌*◌, ◌^◌, ℕ, zero, suc, List, [], ◌∷◌, length, get_or, ◌⊎◌, inl, inr, Some, Result, Ok, Err, OnOk, slice_get, slice_set, refl, ap, sym, ◌∙◌, subst, arith, add-one}
-use Rattle.std.specs.List.{sum_by, AllByRecursion, range_with_len}
+use Rattle.std.specs.List.{AllByRecursion, range_with_len}
 use Rattle.std.proofs.lemmas.Bool.{cases_lt}
 use Rattle.std.proofs.lemmas.List.Sums.{sum_by-set}
 use Rattle.std.proofs.lemmas.Option.{slice_get-get_or, slice_get_read, slice_get_within, get_or_from_slice_get}
 use Rattle.nb_host.specs.declared.faults.Fault.{Fault}
 use Rattle.nb_model.specs.Run.{all_sessions}
-use Rattle.nb_sched.specs.Turns.{Scene, scene, Kind, agent_of, IsDone, IsLower, Rests, AllDone, IsReady, total}
+use Rattle.nb_sched.specs.Turns.{scene, Kind, agent_of, IsDone, IsLower, Rests, AllDone, IsReady, total}
 
 -- an agent has the session after its place
 pub agent_there : {A : Type 0} (agents : List A) (session : ℕ) (agent : A) → agent_of agents session ≡ Some agent → (0 < session) × (slice_get agents (session - 1) ≡ Some agent)

@@ -1,2 +1,3 @@
 pub mod AgentLaws
 pub mod TurnLaws
+pub mod WithinLaws

@@ -1,11 +1,11 @@
 -- Turns behind turns, and what holds while they are taken.
-use Rattle.std.proofs.Common.{◌≡◌, ◌<◌, ◌+◌, ℕ, zero, suc, List, [], ◌∷◌, ◌++◌, ◌⊎◌, inl, inr, Result, Ok, Err, IsErr, IsErrAnd, refl, ap, sym, ◌∙◌, subst, arith, append_assoc, length, take, drop, get_or, drop-cons, take-append-drop, add-one}
+use Rattle.std.proofs.Common.{◌≡◌, ◌<◌, ◌+◌, ℕ, List, [], ◌∷◌, ◌++◌, ◌⊎◌, inl, inr, Result, Ok, Err, IsErrAnd, refl, sym, subst, arith, append_assoc, length, take, drop, get_or, take-append-drop}
 use Rattle.std.specs.List.{AllByRecursion}
 use Rattle.std.proofs.lemmas.List.{append-nil, take_more}
 use Rattle.nb_host.specs.declared.faults.Fault.{Fault}
 use Rattle.nb_model.specs.Run.{rounds, all_sessions}
 use Rattle.nb_model.proofs.TodoLaws.{rounds_more}
-use Rattle.nb_sched.specs.Turns.{Scene, Kind, Rests, IsReady, Moves, TakesTurns, EndsAt, total}
+use Rattle.nb_sched.specs.Turns.{Scene, Kind, Rests, IsReady, Moves, TakesTurns, EndsWith, total}
 use Rattle.nb_sched.proofs.AgentLaws.{total_falls}
 
 module _ {A H C : Type 0} (of : Kind A H C) where
@@ -28,29 +28,34 @@ module _ {A H C : Type 0} (of : Kind A H C) where
   turns_stop (x ∷ xs) ys before after fault (inr (inl go)) = inr (inl (go.0, go.1, turns_stop xs ys go.0 after fault go.2))
   turns_stop (x ∷ xs) ys before after fault (inr (inr stop)) = inr (inr stop)
 
-  -- What each turn that answers Ok keeps holds at the end, or where the turn began that answered an error.
-  pub turns_hold : (P : Scene A H C → Type 0) → ((session : ℕ) (before after : Scene A H C) → P before → Moves of session before (Ok tt) after → P after)
-      → (order : List ℕ) (before after : Scene A H C) (answer : Result (Unit {0}) Fault) → P before → TakesTurns of order before answer after → EndsAt of P answer after
-  turns_hold P keeps [] before after answer holds turns =
-      subst (λ (a : Result (Unit {0}) Fault). EndsAt of P a after) (sym turns.0) (subst P (sym turns.1) holds)
-  turns_hold P keeps (x ∷ order) before after answer holds (inl rest) = turns_hold P keeps order before after answer holds rest.1
-  turns_hold P keeps (x ∷ order) before after answer holds (inr (inl go)) = turns_hold P keeps order go.0 after answer (keeps x before go.0 holds go.1) go.2
-  turns_hold P keeps (x ∷ order) before after (Ok done) holds (inr (inr stop)) = absurd (cc (stop.0))
-  turns_hold P keeps (x ∷ order) before after (Err fault) holds (inr (inr stop)) = (x, (before, holds, stop.1))
+  hold_behind : (P : List ℕ → Scene A H C → Type 0)
+      → ((front : List ℕ) (session : ℕ) (s : Scene A H C) → P front s → Rests of.left s.agents session → P (front ++ session ∷ []) s)
+      → ((front : List ℕ) (session : ℕ) (before after : Scene A H C) → P front before → Moves of session before (Ok tt) after → P (front ++ session ∷ []) after)
+      → (front order : List ℕ) (before after : Scene A H C) (answer : Result (Unit {0}) Fault) → P front before → TakesTurns of order before answer after → EndsWith of P (front ++ order) answer after
+  hold_behind P rests moves front [] before after answer holds turns =
+      subst (λ (a : Result (Unit {0}) Fault). EndsWith of P (front ++ []) a after) (sym turns.0) (subst (P (front ++ [])) (sym turns.1) (rw (append-nil front) holds))
+  hold_behind P rests moves front (x ∷ order) before after answer holds (inl rest) =
+      subst (λ (xs : List ℕ). EndsWith of P xs answer after) (append_assoc front (x ∷ []) order)
+      (hold_behind P rests moves (front ++ x ∷ []) order before after answer (rests front x before holds rest.0) rest.1)
+  hold_behind P rests moves front (x ∷ order) before after answer holds (inr (inl go)) =
+      subst (λ (xs : List ℕ). EndsWith of P xs answer after) (append_assoc front (x ∷ []) order)
+      (hold_behind P rests moves (front ++ x ∷ []) order go.0 after answer (moves front x before go.0 holds go.1) go.2)
+  hold_behind P rests moves front (x ∷ order) before after (Ok done) holds (inr (inr stop)) = absurd (cc (stop.0))
+  hold_behind P rests moves front (x ∷ order) before after (Err fault) holds (inr (inr stop)) =
+      record { front = front; session = x; rest = order; is = refl; last = before; holds = holds; move = stop.1 }
 
-  -- turns over a longer order are turns over its front and then over the rest, unless one over the front answered an error
-  pub turns_cut : (xs ys : List ℕ) (before after : Scene A H C) (answer : Result (Unit {0}) Fault) → TakesTurns of (xs ++ ys) before answer after
-      → ((mid : Scene A H C) × TakesTurns of xs before (Ok tt) mid × TakesTurns of ys mid answer after) ⊎ (IsErr answer × TakesTurns of xs before answer after)
-  turns_cut [] ys before after answer turns = inl (before, (refl, refl), turns)
-  turns_cut (x ∷ xs) ys before after answer (inl rest) =
-      elim (turns_cut xs ys before after answer rest.1) [ inl on ↦ inl (on.0, inl (rest.0, on.1), on.2) | inr end ↦ inr (end.0, inl (rest.0, end.1)) ]
-  turns_cut (x ∷ xs) ys before after answer (inr (inl go)) =
-      elim (turns_cut xs ys go.0 after answer go.2) [ inl on ↦ inl (on.0, inr (inl (go.0, go.1, on.1)), on.2) | inr end ↦ inr (end.0, inr (inl (go.0, go.1, end.1))) ]
-  turns_cut (x ∷ xs) ys before after answer (inr (inr stop)) = inr (stop.0, inr (inr stop))
+  -- P tells what holds once a front of the order was gone through. Where each number that rests and each turn that answers Ok keeps it,
+  -- it holds of the whole order at its end, or of the numbers before the turn that answered an error.
+  pub turns_hold : (P : List ℕ → Scene A H C → Type 0)
+      → ((front : List ℕ) (session : ℕ) (s : Scene A H C) → P front s → Rests of.left s.agents session → P (front ++ session ∷ []) s)
+      → ((front : List ℕ) (session : ℕ) (before after : Scene A H C) → P front before → Moves of session before (Ok tt) after → P (front ++ session ∷ []) after)
+      → (order : List ℕ) (before after : Scene A H C) (answer : Result (Unit {0}) Fault) → P [] before → TakesTurns of order before answer after → EndsWith of P order answer after
+  turns_hold P rests moves = hold_behind P rests moves []
 
   -- all are ready after turns that answered Ok
   pub turns_ready : (order : List ℕ) (before after : Scene A H C) → IsReady of before → TakesTurns of order before (Ok tt) after → IsReady of after
-  turns_ready order before after = turns_hold (IsReady of) (λ session s t ready move. move.still_ready) order before after (Ok tt)
+  turns_ready order before after =
+      turns_hold (λ front s. IsReady of s) (λ front session s ready rests. ready) (λ front session s t ready move. move.still_ready) order before after (Ok tt)
 
   move_falls : (session : ℕ) (before after : Scene A H C) → Moves of session before (Ok tt) after → total of.left after.agents < total of.left before.agents
   move_falls session before after move = rw move.agents (total_falls of.left before.agents session move.agent move.moved move.there move.falls)

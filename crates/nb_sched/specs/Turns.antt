@@ -1,5 +1,5 @@
 -- Turns of several agents, one after another.
-use Rattle.std.specs.Prelude.{◌≡◌, ◌<◌, ◌+◌, ◌-◌, ◌*◌, ◌^◌, ℕ, zero, suc, List, [], ◌∷◌, ◌⊎◌, Option, Some, None, Result, Ok, Err, IsErr, OnOk, slice_get, slice_set}
+use Rattle.std.specs.Prelude.{◌≡◌, ◌<◌, ◌+◌, ◌-◌, ◌*◌, ◌^◌, ℕ, zero, suc, List, [], ◌∷◌, ◌++◌, ◌⊎◌, Option, Some, None, Result, Ok, Err, IsErr, OnOk, slice_get, slice_set}
 use Rattle.std.specs.List.{sum_by}
 use Rattle.nb_host.specs.declared.faults.Fault.{Fault}
 
@@ -72,10 +72,20 @@ TakesTurns {A} {H} {C} of (session ∷ order) before answer after =
     ⊎ (((mid : Scene A H C) × Moves of session before (Ok tt) mid × TakesTurns of order mid answer after)
     ⊎ (IsErr answer × Moves of session before answer after))
 
--- where turns end of which each keeps P: with Ok at a scene of P, and with an error behind a turn that began at one
-abbrev pub EndsAt : {A H C : Type 0} → Kind A H C → (Scene A H C → Type 0) → Result (Unit {0}) Fault → (after : Scene A H C) → Type 0
-EndsAt of P (Ok done) after = P after
-EndsAt {A} {H} {C} of P (Err fault) after = (session : ℕ) × ((last : Scene A H C) × P last × Moves of session last (Err fault) after)
+-- A turn of an order answers an error. P holds of the numbers before it and of the scene at which it began.
+pub record FailsBehind {A H C : Type 0} (of : Kind A H C) (P : List ℕ → Scene A H C → Type 0) (order : List ℕ) (fault : Fault) (after : Scene A H C) : Type 0 where
+  pub front : List ℕ
+  pub session : ℕ
+  pub rest : List ℕ
+  pub is : order ≡ front ++ (session ∷ rest)
+  pub last : Scene A H C
+  pub holds : P front last
+  pub move : Moves of session last (Err fault) after
+
+-- turns end: with Ok where P holds of the whole order and of what stands after it, and with an error as just said
+abbrev pub EndsWith : {A H C : Type 0} → Kind A H C → (List ℕ → Scene A H C → Type 0) → (order : List ℕ) → Result (Unit {0}) Fault → (after : Scene A H C) → Type 0
+EndsWith of P order (Ok done) after = P order after
+EndsWith of P order (Err fault) after = FailsBehind of P order fault after
 
 -- what is left of all agents, as one number
 abbrev pub total : {A : Type 0} → (A → ℕ × ℕ) → List A → ℕ

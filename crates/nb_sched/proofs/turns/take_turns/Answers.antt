@@ -1,4 +1,4 @@
-use Rattle.std.proofs.Common.{◌+◌, ◌++◌, ◌∙◌, inl, inr, arith, length}
+use Rattle.std.proofs.Common.{◌+◌, ◌++◌, inl, inr, arith}
 use Rattle.nb_model.specs.Run.{rounds, all_sessions}
 use Rattle.nb_sched.specs.Turns.{kind}
 use Rattle.nb_sched.proofs.AgentLaws.{done_round}

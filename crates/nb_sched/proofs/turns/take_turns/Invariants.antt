@@ -7,7 +7,7 @@ abbrev pub invariant-loop-agents : goal.invariant-loop-agents
 invariant-loop-agents g l =
     let a = g.A.Agent in
     (how_often : ℕ) × TakesTurns (kind a.left a.session a.fits a.step) (l.schedule ++ rounds how_often) (scene l.fn.agents l.fn.host l.fn.shared) (Ok tt)
-        (scene l.agents l.host l.shared)
+    (scene l.agents l.host l.shared)
 
 abbrev pub decreases-loop-agents : goal.decreases-loop-agents
 decreases-loop-agents g l = total g.A.Agent.left l.agents
