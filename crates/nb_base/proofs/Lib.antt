@@ -1,3 +1,4 @@
+pub mod AgreeLaws
 pub mod AttachLaws
 pub mod CreateLaws
 pub mod CreatedLaws

@@ -1,5 +1,5 @@
 -- A page is written: what a stop leaves at each moment, and what is seen once the call has answered Ok.
-use Rattle.std.proofs.Common.{◌≡◌, ◌≢◌, ◌⊎◌, inl, inr, ⊎_elim, ℕ, ◌+◌, ◌*◌, ◌<◌, ◌≤◌, List, [], ◌∷◌, ◌++◌, length, refl, sym, ap, subst, ◌∙◌, arith, length-append}
+use Rattle.std.proofs.Common.{◌≡◌, ◌≢◌, ◌⊎◌, inl, inr, ⊎_elim, ℕ, zero, suc, ◌+◌, ◌*◌, ◌<◌, ◌≤◌, List, [], ◌∷◌, ◌++◌, length, refl, sym, ap, subst, ◌∙◌, arith, length-append}
 use Rattle.std.specs.Prelude.{Bool, true, false, IsTrue, Option, Some, None, Result, Ok, Err, IsErr, OnOk}
 use Rattle.nb_fields.specs.Table.{slot_place}
 use Rattle.nb_host.specs.Files.{File, Files, with_file, with_page as with_page_at}
@@ -22,7 +22,7 @@ use Rattle.nb_model.specs.Owner.{delta_name, entry_for, owner}
 use Rattle.nb_model.specs.Trail.{Trail, after_stroke, is_synced, StandsOn, StandsIn, ShowsIn}
 use Rattle.nb_base.specs.Open.{OfFiles}
 use Rattle.nb_base.specs.Seen.{IsSeen, IsWrite}
-use Rattle.nb_base.specs.Takes.{Strikes}
+use Rattle.nb_base.specs.Takes.{Strikes, Takes}
 use Rattle.nb_delta.specs.Entries.{place_of}
 use Rattle.nb_model.proofs.TrailLaws.{trail_base}
 use Rattle.nb_base.proofs.OwnedLaws.{Holds, holds, base-state, base-size}
@@ -250,3 +250,40 @@ module _ (t : Trail) (p : ℕ) (bytes : Page) where
 
   pub entry_later : image_state t.base.image ≡ 2 → (k : ℕ) → entry_for p t.base.diverted ≡ Some k → entry_for p (after_stroke (page p bytes) t).base.diverted ≡ Some k
   entry_later merges k at = ap (λ (b : Base). entry_for p b.diverted) (trail_base (page p bytes) t) ∙ ap (entry_for p) (stroke-other t.base p bytes (λ e. absurd (omega (arith, e, merges)))) ∙ at
+
+-- What a call took, passed on as a failure, and from a world that is the same.
+pub takes_passed : {T E U F : Type 0} (result : Result T E) (passed : Result U F) (old mid new : World) (name : List ℕ) (opened other : Trail → Type 0) (t : Trail) (strokes : List Stroke)
+    → mid ≡ old → Takes result mid new name opened t strokes → IsErr passed → Takes passed old new name other t strokes
+takes_passed result passed old mid new name opened other t strokes same takes failed = record {
+  left = subst (λ (w : World). Strikes w new name t strokes) same takes.left;
+  done = not_done passed _ failed;
+}
+
+pub takes_done : {T E U F : Type 0} (x : T) (y : U) (old mid new : World) (name : List ℕ) (opened : Trail → Type 0) (t : Trail) (strokes : List Stroke)
+    → mid ≡ old → Takes {T = T} {E = E} (Ok x) mid new name opened t strokes → Takes {T = U} {E = F} (Ok y) old new name opened t strokes
+takes_done x y old mid new name opened t strokes same takes = record {
+  left = subst (λ (w : World). Strikes w new name t strokes) same takes.left;
+  done = takes.done;
+}
+
+entry_none : (p : ℕ) → entry_for p [] ≡ None
+unfolding entry_for
+entry_none p = refl
+
+none_some : {k : ℕ} → None ≡ Some k → ⊥
+none_some e = cc
+
+-- where an entry names a page, but not in the stalled state, the state is the merge state
+pub merges_where : (name : List ℕ) (t : Trail) (w : World) → IsSeen w name t → image_state t.base.image ≢ 1 → (p k : ℕ) → entry_for p t.base.diverted ≡ Some k → image_state t.base.image ≡ 2
+merges_where name t w seen other p k at =
+    let h : Holds t.base (w.files name) (w.files (delta_name name)) = holds name t.base (w.files name) (w.files (delta_name name)) seen.shows in
+    let state : image_state t.base.image ≡ image_state h.main = base-state t.base (w.files name) (w.files (delta_name name)) h in
+    by (image_state h.main) h.opened h.entries.none state
+  where
+    last : (s : ℕ) → s ≤ 2 → s ≢ 0 → s ≢ 1 → s ≡ 2
+    last zero low a b = absurd (a refl)
+    last (suc zero) low a b = absurd (b refl)
+    last (suc (suc s)) low a b = omega (arith, low)
+
+    by : (s : ℕ) → s ≤ 2 → (s ≡ 0 → t.base.diverted ≡ []) → image_state t.base.image ≡ s → image_state t.base.image ≡ 2
+    by s opened none is = is ∙ last s opened (λ e. none_some (sym (entry_none p) ∙ ap (entry_for p) (sym (none e)) ∙ at)) (λ e. other (is ∙ e))

@@ -2,6 +2,7 @@ ghost use Rattle.std.specs.Prelude.{◌≡◌, ◌<◌, ◌≤◌, ◌+◌, ℕ,
 ghost use Rattle.nb_fields.specs.Bytes.{is_zeros};
 ghost use Rattle.nb_fields.specs.Places.{is_page_size};
 ghost use Rattle.nb_fields.specs.Fresh.{fresh};
+ghost use Rattle.nb_host.specs.Calls.{IsSilent};
 ghost use Rattle.nb_host.specs.Causes.{CountsFault};
 ghost use Rattle.nb_change.specs.Counts.{CountsDevice};
 ghost use Rattle.nb_change.specs.Gave.{GaveNothing};
@@ -9,11 +10,13 @@ ghost use Rattle.nb_page.specs.Quiet.{Quiet};
 ghost use Rattle.nb_model.specs.Account.{Ask};
 ghost use Rattle.nb_model.specs.Image.{page_at, image_scn, is_forced};
 ghost use Rattle.nb_model.specs.Strokes.{page as page_stroke, begin as begin_stroke, ends, finish as finish_stroke};
-ghost use Rattle.nb_model.specs.Trail.{Trail, settled};
+ghost use Rattle.nb_model.specs.Trail.{Trail, settled, is_synced as must_sync};
 ghost use Rattle.nb_base.specs.Open.{IsOpen, Fits, AreMerged};
+ghost use Rattle.nb_base.specs.Seen.{IsSeen, IsWrite, noted_in};
 ghost use Rattle.nb_base.specs.Takes.{Takes, IsNoRefusal};
 ghost use Rattle.nb_base.specs.Beginnings.{Attaches, Creates};
 
+use crate::writes::{is_synced, write_plain, write_stalled};
 use nb_delta::Delta;
 use nb_host::{Fault, Host, HostFault, Name};
 use std::alloc::Global;
@@ -119,7 +122,6 @@ impl TwoFiles {
         requires size { length page.now ≡ self.old.page_size }
         requires most { number < 1048576 }
         requires some { is_zeros page.now ≡ false }
-        requires stub { ⊥ }
         ensures takes { (t : Trail) → IsTrue H.tells → IsOpen (H.world host.old) self.old t → Fits number page.now t.base.image → forced ≡ is_forced t.base.image
             → Takes result (H.world host.old) (H.world host.new) self.old.name (IsOpen (H.world host.new) self.new) t (page_stroke number page.now ∷ []) }
         ensures merged { (t : Trail) (k : ℕ) → IsTrue H.tells → IsOpen (H.world host.old) self.old t → Fits number page.now t.base.image → self.old.state ≡ 2
@@ -134,7 +136,39 @@ impl TwoFiles {
         ensures not_refused { IfErr result IsNoRefusal }
         ensures on_memory { result ≡ Err Fault.Memory → (self.new ≡ self.old) × (host.new ≡ host.old) }
     {
-        unreachable!()
+        let synced = is_synced(forced, self.page.len() as u32, self.count, number);
+        self.put(host, number, page, synced)?;
+        self.count = self.count.max(number + 1);
+        Ok(())
+    }
+
+    /// Writes a page by the state, and keeps it for good where it is to be synced.
+    fn put<H: Host>(
+        &mut self,
+        host: &mut H,
+        number: u32,
+        page: &[u8],
+        synced: bool,
+    ) -> Result<(), Fault>
+        requires size { length page.now ≡ self.old.page_size }
+        requires most { number < 1048576 }
+        ensures takes { (t : Trail) → IsTrue H.tells → IsOpen (H.world host.old) self.old t → IsWrite t number page.now → synced ≡ must_sync t.base.image number
+            → Takes result (H.world host.old) (H.world host.new) self.old.name (IsSeen (H.world host.new) self.old.name) t (page_stroke number page.now ∷ []) }
+        ensures known { OnOk result (self.new ≡ record self.old { entries = noted_in self.old.state number self.old.entries }) }
+        ensures name { self.new.name ≡ self.old.name }
+        ensures page_size { self.new.page_size ≡ self.old.page_size }
+        ensures log { IsSilent (H.world host.old) (H.world host.new) }
+        ensures cause { CountsDevice result (H.faults host.old) (H.faults host.new) }
+        ensures not_refused { IfErr result IsNoRefusal }
+        ensures on_memory { result ≡ Err Fault.Memory → (self.new ≡ self.old) × (host.new ≡ host.old) }
+    {
+        if self.state == 1 {
+            write_stalled(host, &mut self.delta, number, page, synced)?;
+            Ok(())
+        } else {
+            write_plain(host, &self.name, &mut self.delta, number, page, synced)?;
+            Ok(())
+        }
     }
 
     /// Keeps both files for good. It changes nothing.

@@ -1,5 +1,5 @@
 // A page is written into the file that owns it, or into both.
-ghost use Rattle.std.specs.Prelude.{◌≡◌, ◌≢◌, ◌++◌, ◌<◌, ◌||◌, ℕ, List, [], ◌∷◌, length, IsTrue, IfErr, OnOk, Some, None, nat_le};
+ghost use Rattle.std.specs.Prelude.{◌≡◌, ◌≢◌, ◌⊎◌, ◌++◌, ◌<◌, ◌||◌, ℕ, List, [], ◌∷◌, length, IsTrue, IfErr, OnOk, Some, None, nat_le};
 ghost use Rattle.nb_fields.specs.Bytes.{is_zeros};
 ghost use Rattle.nb_fields.specs.Places.{is_page_size};
 ghost use Rattle.nb_fields.specs.Table.{slot_place};
@@ -8,7 +8,7 @@ ghost use Rattle.nb_host.specs.Causes.{CountsFault};
 ghost use Rattle.nb_change.specs.Counts.{CountsDevice};
 ghost use Rattle.nb_delta.specs.Entries.{place_of};
 ghost use Rattle.nb_model.specs.Image.{image_size, image_state};
-ghost use Rattle.nb_model.specs.Strokes.{page as page_stroke};
+ghost use Rattle.nb_model.specs.Strokes.{page as page_stroke, noted};
 ghost use Rattle.nb_model.specs.Owner.{delta_name, entry_for};
 ghost use Rattle.nb_model.specs.Trail.{Trail, is_kept_place, is_synced as must_sync};
 ghost use Rattle.nb_base.specs.Seen.{IsSeen, IsWrite};
@@ -135,4 +135,67 @@ pub fn write_both<H: Host>(
     write_slot(host, delta, slot, page, synced)?;
     write_hidden(host, name, number, page)?;
     Ok(())
+}
+
+/// Writes a page in the stalled state: into the difference file, where it gets an entry unless it has one.
+pub fn write_stalled<H: Host>(
+    host: &mut H,
+    delta: &mut Delta,
+    number: u32,
+    page: &[u8],
+    synced: bool,
+) -> Result<(), Fault>
+    requires size { length page.now ≡ delta.old.page_size }
+    requires below { number < 1048576 }
+    requires none_waits { delta.old.drafted ≡ 0 }
+    ensures takes { (t : Trail) (name : List ℕ) → IsTrue H.tells → IsSeen (H.world host.old) name t → IsWrite t number page.now → image_state t.base.image ≡ 1 → t.base.diverted ≡ delta.old.entries
+        → delta.old.name ≡ delta_name name → synced ≡ must_sync t.base.image number
+        → Takes result (H.world host.old) (H.world host.new) name (IsSeen (H.world host.new) name) t (page_stroke number page.now ∷ []) }
+    ensures known { OnOk result (delta.new ≡ record delta.old { entries = noted number delta.old.entries }) }
+    ensures as_it_is { (delta.new ≡ delta.old) ⊎ (delta.new ≡ record delta.old { entries = delta.old.entries ++ number ∷ [] }) }
+    ensures on_memory { result ≡ Err Fault.Memory → (delta.new ≡ delta.old) × (host.new ≡ host.old) }
+    ensures log { IsSilent (H.world host.old) (H.world host.new) }
+    ensures cause { CountsDevice result (H.faults host.old) (H.faults host.new) }
+    ensures not_refused { IfErr result IsNoRefusal }
+{
+    match delta.slot_of(host, number)? {
+        Some(slot) => {
+            write_slot(host, delta, slot, page, synced)?;
+            Ok(())
+        }
+        None => {
+            add_entry(host, delta, number, page, synced)?;
+            Ok(())
+        }
+    }
+}
+
+/// Writes a page in the normal or the merge state: into the main file, and into the slot of its entry before, where it has one.
+pub fn write_plain<H: Host>(
+    host: &mut H,
+    name: &Name,
+    delta: &mut Delta,
+    number: u32,
+    page: &[u8],
+    synced: bool,
+) -> Result<(), HostFault>
+    requires size { length page.now ≡ delta.old.page_size }
+    requires page { IsTrue (is_page_size (length page.now)) }
+    ensures takes { (t : Trail) → IsTrue H.tells → IsSeen (H.world host.old) name.now t → IsWrite t number page.now → image_state t.base.image ≢ 1 → t.base.diverted ≡ delta.old.entries
+        → delta.old.name ≡ delta_name name.now → synced ≡ must_sync t.base.image number
+        → Takes result (H.world host.old) (H.world host.new) name.now (IsSeen (H.world host.new) name.now) t (page_stroke number page.now ∷ []) }
+    ensures same { delta.new ≡ delta.old }
+    ensures log { IsSilent (H.world host.old) (H.world host.new) }
+    ensures cause { CountsFault result (H.faults host.old) (H.faults host.new) }
+{
+    match delta.slot_of(host, number)? {
+        Some(slot) => {
+            write_both(host, name, delta, slot, number, page, synced)?;
+            Ok(())
+        }
+        None => {
+            write_main(host, name, number, page, synced)?;
+            Ok(())
+        }
+    }
 }
