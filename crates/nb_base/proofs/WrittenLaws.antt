@@ -105,7 +105,7 @@ put-padded n at bytes page low =
     (drop_all (at + length page) (bytes ++ replicate n 0) (omega (arith, long, low)) ∙ sym (drop_all (at + length page) bytes (omega (arith, low))))
 
 -- bytes that are all zeros
-zeros_is : (bytes : List ℕ) → is_zeros bytes ≡ true → bytes ≡ replicate (length bytes) 0
+pub zeros_is : (bytes : List ℕ) → is_zeros bytes ≡ true → bytes ≡ replicate (length bytes) 0
 zeros_is [] e = refl
 zeros_is (b ∷ bs) e =
     let parts = and_parts (b == 0) (is_zeros bs) e in

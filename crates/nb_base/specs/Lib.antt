@@ -3,3 +3,4 @@ pub mod Seen
 pub mod Takes
 pub mod Beginnings
 pub mod Attach
+pub mod Control
