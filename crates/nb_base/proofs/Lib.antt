@@ -12,9 +12,11 @@ pub mod MergedLaws
 pub mod OpenedLaws
 pub mod OutcomeLaws
 pub mod OwnedLaws
+pub mod PageReads
 pub mod PlaceLaws
 pub mod StateLaws
 pub mod StepLaws
 pub mod StrokeLaws
+pub mod SyncLaws
 pub mod WriteLaws
 pub mod WrittenLaws

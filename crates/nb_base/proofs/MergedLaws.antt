@@ -1,6 +1,6 @@
 -- The page of an entry is written into the main file: what a stop leaves, and that the entry is equal in both files then.
 use Rattle.std.proofs.Common.{◌≡◌, ◌≢◌, inl, inr, ℕ, zero, suc, ◌+◌, ◌*◌, ◌<◌, ◌≤◌, List, [], ◌∷◌, ◌++◌, length, get_or, take, drop, refl, sym, ap, subst, ◌∙◌, arith}
-use Rattle.std.specs.Prelude.{false, nat_eq, Option, Some, None, max, Result}
+use Rattle.std.specs.Prelude.{false, nat_eq, Option, Some, None, max, Result, Ok}
 use Rattle.std.specs.List.{IsDistinct}
 use Rattle.std.proofs.lemmas.Bool.Decides.{eqb_tells}
 use Rattle.std.proofs.lemmas.List.{drop_at, length-take-le}
@@ -20,6 +20,7 @@ use Rattle.nb_delta.proofs.TellLemmas.{apart_at}
 use Rattle.nb_page.specs.Quiet.{Quiet}
 use Rattle.nb_model.specs.Image.{Page, Image, page_at, first_page, image_size, image_state, image_in, written_at}
 use Rattle.nb_model.specs.Account.{Base}
+use Rattle.nb_model.specs.Causes.{not_database}
 use Rattle.nb_model.specs.Sound.{HasNoZeros}
 use Rattle.nb_model.specs.Owner.{delta_name, entry_for, behind_entries, slot_page, main_page, owned_page}
 use Rattle.nb_model.specs.Trail.{Trail, StandsIn, ShowsIn}
@@ -30,10 +31,10 @@ use Rattle.nb_base.specs.Open.{Held, OfFiles, Agrees, IsOpen, IsMerged, AreMerge
 use Rattle.nb_base.specs.Seen.{IsSeen, IsWrite}
 use Rattle.nb_base.specs.Takes.{Strikes}
 use Rattle.nb_base.proofs.MergeLaws.{page_in-main}
-use Rattle.nb_base.proofs.OwnedLaws.{Holds, holds, entry-first, entry-later, later, owned-entry, base-length, base-page, main-some, main-long}
+use Rattle.nb_base.proofs.OwnedLaws.{Holds, holds, entry-first, entry-later, later, owned-entry, base-length, base-page, base-size, bytes-size, main-some, main-long}
 use Rattle.nb_base.proofs.StepLaws.{may, main-size}
 use Rattle.nb_base.proofs.StrokeLaws.{h0, main_state}
-use Rattle.nb_base.proofs.WrittenLaws.{HasMain, main_put, written_same, laid_image}
+use Rattle.nb_base.proofs.WrittenLaws.{HasMain, main_put, written_same, laid_formed, laid_image}
 use Rattle.nb_base.proofs.WriteLaws.{delta_apart}
 
 -- no page is named twice, so that each entry is its page's
@@ -81,6 +82,18 @@ module _ (old : World) (held : Held) (t : Trail) (is : IsOpen old held t) (merge
 
   pub two : image_state t.base.image ≡ 2
   two = sym is.agrees.state ∙ merges
+
+  -- what was read of it
+  pub read_as : (wide : ℕ) → wide ≡ held.page_size → page ≡ owned_page wide (image_in (h0 old held t is).has.bytes) (bytes_of (old.files (delta_name held.name))) held.entries number
+      → page ≡ owned_page (image_size (h0 old held t is).main) (h0 old held t is).main (bytes_of (old.files (delta_name held.name))) held.entries number
+  read_as wide same read =
+      read ∙ ap (λ n. owned_page n (image_in g.has.bytes) delta held.entries number) (same ∙ is.agrees.page_size ∙ base-size t.base _ _ g) ∙ ap (λ (x : Image). owned_page (image_size g.main) x delta held.entries number) (laid_image g.main g.has.bytes g.has.laid)
+
+  pub read_formed : not_database (h0 old held t is).has.bytes ≡ None
+  read_formed = laid_formed g.main g.has.bytes g.has.laid
+
+  pub read_size : size_of (h0 old held t is).has.bytes ≡ held.page_size
+  read_size = sym (bytes-size g.has.bytes read_formed) ∙ ap image_size (laid_image g.main g.has.bytes g.has.laid) ∙ sym (base-size t.base _ _ g) ∙ sym is.agrees.page_size
 
   module _ (read : page ≡ owned_page (image_size (h0 old held t is).main) (h0 old held t is).main (bytes_of (old.files (delta_name held.name))) held.entries number) where
     page_is : page ≡ page_at t.base.image number
@@ -177,3 +190,7 @@ module _ (old : World) (held : Held) (t : Trail) (is : IsOpen old held t) (merge
         | inl e ↦ subst (λ n. IsMerged held new n) (sym e.1) merged_here
         | inr ne ↦ merged_other j fits ne.1 (so_far j (omega (arith, low, ne.1)) fits)
       ])
+
+-- the number of an entry that was looked up
+pub number_is : {E : Type 0} (a b : ℕ) → ◌≡◌ {A = Result ℕ E} (Ok a) (Ok b) → a ≡ b
+number_is a b e = cc

@@ -15,6 +15,7 @@ ghost use Rattle.nb_base.specs.Open.{IsOpen, AreMerged};
 ghost use Rattle.nb_base.specs.Takes.{Takes};
 
 use crate::TwoFiles;
+use crate::reads::read_owned;
 use nb_fields::layouts::{head, header};
 use nb_host::{Host, HostFault, Name};
 
@@ -119,10 +120,9 @@ impl TwoFiles {
     pub fn merge_entry<H: Host>(&mut self, host: &mut H, k: u32) -> Result<(), HostFault>
         requires merge { self.old.state ≡ 2 }
         requires inside { k < length self.old.entries }
-        requires stub { ⊥ }
-        ensures takes { (t : Trail) → IsTrue H.tells → IsOpen (H.world host.old) self.old t
+        ensures takes { (t : Trail) → IsTrue H.tells → IsOpen (H.world host.old) self.old t → HasNoZeros t.base.image
             → Takes result (H.world host.old) (H.world host.new) self.old.name (IsOpen (H.world host.new) self.new) t [] }
-        ensures merged { (t : Trail) → IsTrue H.tells → IsOpen (H.world host.old) self.old t → AreMerged (H.world host.old) self.old k
+        ensures merged { (t : Trail) → IsTrue H.tells → IsOpen (H.world host.old) self.old t → HasNoZeros t.base.image → AreMerged (H.world host.old) self.old k
             → OnOk result (AreMerged (H.world host.new) self.new (k + 1)) }
         ensures gave { GaveNothing (H.world host.old) (H.world host.new) }
         ensures name { self.new.name ≡ self.old.name }
@@ -130,7 +130,10 @@ impl TwoFiles {
         ensures entries { self.new.entries ≡ self.old.entries }
         ensures cause { CountsFault result (H.faults host.old) (H.faults host.new) }
     {
-        unreachable!()
+        let number = self.delta.entry(host, k)?;
+        read_owned(host, &self.name, &mut self.delta, number, &mut self.page)?;
+        host.write_page(&self.name, number, &self.page)?;
+        Ok(())
     }
 
     /// Ends the merge, once every entry is equal in both files: its state is 0 again, and the difference file is removed.

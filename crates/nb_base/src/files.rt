@@ -16,6 +16,8 @@ ghost use Rattle.nb_base.specs.Seen.{IsSeen, IsWrite, noted_in};
 ghost use Rattle.nb_base.specs.Takes.{Takes, IsNoRefusal};
 ghost use Rattle.nb_base.specs.Beginnings.{Attaches, Creates};
 
+use crate::reads::{read_owned, read_page};
+use crate::sync::sync_both;
 use crate::writes::{is_synced, write_plain, write_stalled};
 use nb_delta::Delta;
 use nb_host::{Fault, Host, HostFault, Name};
@@ -89,7 +91,8 @@ impl TwoFiles {
         self.main_count
     }
 
-    /// Fills in page `number` of the database, from the file that holds it.
+    /// Fills in page `number` of the database, from the file that holds it. Page 0 has its first 64 bytes from the main file, so it may
+    /// take two reads; every other page takes one.
     pub fn read<H: Host>(
         &mut self,
         host: &mut H,
@@ -97,15 +100,16 @@ impl TwoFiles {
         into: &mut [u8],
     ) -> Result<(), HostFault>
         requires size { length into.old ≡ self.old.page_size }
-        requires stub { ⊥ }
         ensures page { (t : Trail) → IsTrue H.tells → IsOpen (H.world host.old) self.old t → number < length t.base.image → OnOk result (into.new ≡ page_at t.base.image number) }
         ensures open { (t : Trail) → IsTrue H.tells → IsOpen (H.world host.old) self.old t → IsOpen (H.world host.new) self.new t }
         ensures same { self.new ≡ self.old }
         ensures quiet { Quiet (H.world host.old) (H.world host.new) }
-        ensures reads { IsTrue H.tells → (H.world host.new).reads ≤ (H.world host.old).reads + 1 }
+        ensures reads { IsTrue H.tells → 0 < number → (H.world host.new).reads ≤ (H.world host.old).reads + 1 }
+        ensures first_reads { IsTrue H.tells → (H.world host.new).reads ≤ (H.world host.old).reads + 2 }
         ensures cause { CountsFault result (H.faults host.old) (H.faults host.new) }
     {
-        unreachable!()
+        read_owned(host, &self.name, &mut self.delta, number, into)?;
+        Ok(())
     }
 
     /// Replaces page `number` of the database, or adds it at the end. It is kept for good where writes are forced, where it makes the
@@ -173,7 +177,6 @@ impl TwoFiles {
 
     /// Keeps both files for good. It changes nothing.
     pub fn sync<H: Host>(&mut self, host: &mut H) -> Result<(), HostFault>
-        requires stub { ⊥ }
         ensures open { (t : Trail) → IsTrue H.tells → IsOpen (H.world host.old) self.old t → IsOpen (H.world host.new) self.new t }
         ensures settled { (t : Trail) → IsTrue H.tells → IsOpen (H.world host.old) self.old t → OnOk result (IsOpen (H.world host.new) self.new (settled t.base)) }
         ensures merged { (k : ℕ) → AreMerged (H.world host.old) self.old k → AreMerged (H.world host.new) self.new k }
@@ -181,7 +184,8 @@ impl TwoFiles {
         ensures quiet { Quiet (H.world host.old) (H.world host.new) }
         ensures cause { CountsFault result (H.faults host.old) (H.faults host.new) }
     {
-        unreachable!()
+        sync_both(host, &self.name, &self.name.delta(), self.state != 0)?;
+        Ok(())
     }
 
     /// Fills in page `number` of the main file as it is frozen, in the stalled state.
@@ -192,7 +196,6 @@ impl TwoFiles {
         into: &mut [u8],
     ) -> Result<(), HostFault>
         requires size { length into.old ≡ self.old.page_size }
-        requires stub { ⊥ }
         ensures page { (t : Trail) → IsTrue H.tells → IsOpen (H.world host.old) self.old t → self.old.state ≡ 1 → number < length t.base.frozen → OnOk result (into.new ≡ page_at t.base.frozen number) }
         ensures open { (t : Trail) → IsTrue H.tells → IsOpen (H.world host.old) self.old t → IsOpen (H.world host.new) self.new t }
         ensures same { self.new ≡ self.old }
@@ -200,6 +203,7 @@ impl TwoFiles {
         ensures reads { IsTrue H.tells → (H.world host.new).reads ≤ (H.world host.old).reads + 1 }
         ensures cause { CountsFault result (H.faults host.old) (H.faults host.new) }
     {
-        unreachable!()
+        read_page(host, &self.name, number, into)?;
+        Ok(())
     }
 }

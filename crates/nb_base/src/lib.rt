@@ -10,6 +10,8 @@ mod attach;
 mod beginnings;
 mod control;
 mod files;
+mod reads;
+mod sync;
 mod writes;
 
 pub use files::TwoFiles;

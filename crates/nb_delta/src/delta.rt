@@ -205,6 +205,7 @@ impl Delta {
             → OnOk result (into.new ≡ slot_page self.old.page_size ((H.world host.old).files self.old.name) k) }
         ensures quiet { Quiet (H.world host.old) (H.world host.new) }
         ensures reads { IsTrue H.tells → OnOk result ((H.world host.new).reads ≡ (H.world host.old).reads + 1) }
+        ensures most_reads { IsTrue H.tells → (H.world host.new).reads ≤ (H.world host.old).reads + 1 }
         ensures cause { CountsFault result (H.faults host.old) (H.faults host.new) }
     {
         into.fill(0);
