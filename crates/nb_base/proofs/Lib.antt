@@ -6,5 +6,6 @@ pub mod OutcomeLaws
 pub mod PlaceLaws
 pub mod PageReads
 pub mod SyncLaws
+pub mod MergedLaws
 pub mod WriteLaws
 pub mod AgreeLaws

@@ -69,15 +69,15 @@ some_same : {j k : ℕ} → Some j ≡ Some k → j ≡ k
 some_same h = cc
 
 -- behind the first entry
-abbrev later : Option ℕ → Option ℕ
+abbrev pub later : Option ℕ → Option ℕ
 later None = None
 later (Some k) = Some (suc k)
 
-entry-first : (p q : ℕ) (qs : List ℕ) → p ≡ q → entry_for p (q ∷ qs) ≡ Some 0
+pub entry-first : (p q : ℕ) (qs : List ℕ) → p ≡ q → entry_for p (q ∷ qs) ≡ Some 0
 unfolding entry_for
 entry-first p q qs same = elim (eqb_tells p q) [ inl w ↦ rw (w.0, entry_for) refl | inr w ↦ absurd (w.1 same) ]
 
-entry-later : (p q : ℕ) (qs : List ℕ) → p ≢ q → entry_for p (q ∷ qs) ≡ later (entry_for p qs)
+pub entry-later : (p q : ℕ) (qs : List ℕ) → p ≢ q → entry_for p (q ∷ qs) ≡ later (entry_for p qs)
 unfolding entry_for
 entry-later p q qs other = elim (eqb_tells p q) [ inl w ↦ absurd (other w.1) | inr w ↦ rw (w.0, entry_for) (by (entry_for p qs)) ]
   where

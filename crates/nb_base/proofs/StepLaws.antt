@@ -74,7 +74,7 @@ module _ (t : Trail) (p : ℕ) (bytes : Page) (is : IsWrite t p bytes) where
     front_main : p ≡ 0 → take 64 bytes ≡ take 64 (page_at h.main 0)
     front_main e = (fits_left t p bytes is.fits b left).front e ∙ base-front b m d h
 
-    may : MayWrite p bytes h.main
+    pub may : MayWrite p bytes h.main
     may = record {
       below = is.below;
       long = is.long ∙ sym main-size;
