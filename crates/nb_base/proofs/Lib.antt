@@ -20,3 +20,4 @@ pub mod StrokeLaws
 pub mod SyncLaws
 pub mod WriteLaws
 pub mod WrittenLaws
+pub mod MergingLaws

@@ -156,6 +156,8 @@ impl TwoFiles {
         requires most { number < 1048576 }
         ensures takes { (t : Trail) → IsTrue H.tells → IsOpen (H.world host.old) self.old t → IsWrite t number page.now → synced ≡ must_sync t.base.image number
             → Takes result (H.world host.old) (H.world host.new) self.old.name (IsSeen (H.world host.new) self.old.name) t (page_stroke number page.now ∷ []) }
+        ensures merged { (t : Trail) (k : ℕ) → IsTrue H.tells → IsOpen (H.world host.old) self.old t → IsWrite t number page.now → self.old.state ≡ 2
+            → AreMerged (H.world host.old) self.old k → OnOk result (AreMerged (H.world host.new) self.old k) }
         ensures known { OnOk result (self.new ≡ record self.old { entries = noted_in self.old.state number self.old.entries }) }
         ensures state { self.new.state ≡ self.old.state }
         ensures entries { self.old.state ≡ 2 → self.new.entries ≡ self.old.entries }

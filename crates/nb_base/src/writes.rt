@@ -1,16 +1,19 @@
 // A page is written into the file that owns it, or into both.
-ghost use Rattle.std.specs.Prelude.{◌≡◌, ◌≢◌, ◌⊎◌, ◌++◌, ◌<◌, ◌||◌, ℕ, List, [], ◌∷◌, length, IsTrue, IfErr, OnOk, Some, None, nat_le};
+ghost use Rattle.std.specs.Prelude.{◌≡◌, ◌≢◌, ◌⊎◌, ◌++◌, ◌*◌, ◌<◌, ◌||◌, ℕ, List, [], ◌∷◌, length, IsTrue, IfErr, OnOk, Some, None, nat_le};
 ghost use Rattle.nb_fields.specs.Bytes.{is_zeros};
 ghost use Rattle.nb_fields.specs.Places.{is_page_size};
 ghost use Rattle.nb_fields.specs.Table.{slot_place};
 ghost use Rattle.nb_host.specs.Calls.{IsSilent};
+ghost use Rattle.nb_host.specs.Files.{with_file, with_page};
 ghost use Rattle.nb_host.specs.Causes.{CountsFault};
 ghost use Rattle.nb_change.specs.Counts.{CountsDevice};
 ghost use Rattle.nb_delta.specs.Entries.{place_of};
+ghost use Rattle.nb_delta.specs.Slots.{SlotPut};
 ghost use Rattle.nb_model.specs.Image.{image_size, image_state};
 ghost use Rattle.nb_model.specs.Strokes.{page as page_stroke, noted};
 ghost use Rattle.nb_model.specs.Owner.{delta_name, entry_for};
 ghost use Rattle.nb_model.specs.Trail.{Trail, is_kept_place, is_synced as must_sync};
+ghost use Rattle.nb_base.specs.Open.{Held, AreMerged};
 ghost use Rattle.nb_base.specs.Seen.{IsSeen, IsWrite};
 ghost use Rattle.nb_base.specs.Takes.{Takes, IsNoRefusal};
 
@@ -40,6 +43,7 @@ pub fn write_main<H: Host>(
     ensures takes { (t : Trail) → IsTrue H.tells → IsSeen (H.world host.old) name.now t → IsWrite t number page.now → image_state t.base.image ≢ 1 → entry_for number t.base.diverted ≡ None
         → synced ≡ must_sync t.base.image number
         → Takes result (H.world host.old) (H.world host.new) name.now (IsSeen (H.world host.new) name.now) t (page_stroke number page.now ∷ []) }
+    ensures put { IsTrue H.tells → OnOk result ((H.world host.new).files ≡ with_file (H.world host.old).files name.now (with_page ((H.world host.old).files name.now) (number * length page.now) page.now)) }
     ensures log { IsSilent (H.world host.old) (H.world host.new) }
     ensures cause { CountsFault result (H.faults host.old) (H.faults host.new) }
 {
@@ -60,6 +64,7 @@ pub fn write_hidden<H: Host>(
     requires size { IsTrue (is_page_size (length page.now)) }
     ensures takes { (t : Trail) (k : ℕ) → IsTrue H.tells → IsSeen (H.world host.old) name.now t → IsWrite t number page.now → image_state t.base.image ≡ 2 → entry_for number t.base.diverted ≡ Some k
         → Takes result (H.world host.old) (H.world host.new) name.now (IsSeen (H.world host.new) name.now) t [] }
+    ensures put { IsTrue H.tells → OnOk result ((H.world host.new).files ≡ with_file (H.world host.old).files name.now (with_page ((H.world host.old).files name.now) (number * length page.now) page.now)) }
     ensures log { IsSilent (H.world host.old) (H.world host.new) }
     ensures cause { CountsFault result (H.faults host.old) (H.faults host.new) }
 {
@@ -79,6 +84,9 @@ pub fn write_slot<H: Host>(
     ensures takes { (t : Trail) (name : List ℕ) (number k : ℕ) → IsTrue H.tells → IsSeen (H.world host.old) name t → IsWrite t number page.now → 0 < image_state t.base.image → entry_for number t.base.diverted ≡ Some k
         → delta.old.name ≡ delta_name name → slot ≡ slot_place delta.old.page_size k → synced ≡ must_sync t.base.image number
         → Takes result (H.world host.old) (H.world host.new) name (IsSeen (H.world host.new) name) t (page_stroke number page.now ∷ []) }
+    ensures put { IsTrue H.tells → (k : ℕ) → slot ≡ slot_place delta.old.page_size k
+        → OnOk result (SlotPut delta.old.page_size k page.now ((H.world host.old).files delta.old.name) ((H.world host.new).files delta.old.name)) }
+    ensures others { IsTrue H.tells → (k : ℕ) → slot ≡ slot_place delta.old.page_size k → (m : List ℕ) → m ≢ delta.old.name → (H.world host.new).files m ≡ (H.world host.old).files m }
     ensures same { delta.new ≡ delta.old }
     ensures log { IsSilent (H.world host.old) (H.world host.new) }
     ensures cause { CountsFault result (H.faults host.old) (H.faults host.new) }
@@ -128,6 +136,9 @@ pub fn write_both<H: Host>(
     ensures takes { (t : Trail) (k : ℕ) → IsTrue H.tells → IsSeen (H.world host.old) name.now t → IsWrite t number page.now → image_state t.base.image ≡ 2 → entry_for number t.base.diverted ≡ Some k
         → delta.old.name ≡ delta_name name.now → slot ≡ slot_place delta.old.page_size k → synced ≡ must_sync t.base.image number
         → Takes result (H.world host.old) (H.world host.new) name.now (IsSeen (H.world host.new) name.now) t (page_stroke number page.now ∷ []) }
+    // Entries that are equal in both files stay so.
+    ensures merged { (t : Trail) (held : Held) (n : ℕ) (k : ℕ) → IsTrue H.tells → IsSeen (H.world host.old) held.name t → IsWrite t number page.now → image_state t.base.image ≡ 2 → t.base.diverted ≡ held.entries
+        → held.name ≡ name.now → held.page_size ≡ delta.old.page_size → delta.old.name ≡ delta_name name.now → entry_for number held.entries ≡ Some k → slot ≡ slot_place delta.old.page_size k → AreMerged (H.world host.old) held n → OnOk result (AreMerged (H.world host.new) held n) }
     ensures same { delta.new ≡ delta.old }
     ensures log { IsSilent (H.world host.old) (H.world host.new) }
     ensures cause { CountsFault result (H.faults host.old) (H.faults host.new) }
@@ -184,6 +195,9 @@ pub fn write_plain<H: Host>(
     ensures takes { (t : Trail) → IsTrue H.tells → IsSeen (H.world host.old) name.now t → IsWrite t number page.now → image_state t.base.image ≢ 1 → t.base.diverted ≡ delta.old.entries
         → delta.old.name ≡ delta_name name.now → synced ≡ must_sync t.base.image number
         → Takes result (H.world host.old) (H.world host.new) name.now (IsSeen (H.world host.new) name.now) t (page_stroke number page.now ∷ []) }
+    // Entries that are equal in both files stay so.
+    ensures merged { (t : Trail) (held : Held) (n : ℕ) → IsTrue H.tells → IsSeen (H.world host.old) held.name t → IsWrite t number page.now → image_state t.base.image ≡ 2 → t.base.diverted ≡ held.entries
+        → held.name ≡ name.now → held.page_size ≡ delta.old.page_size → delta.old.name ≡ delta_name name.now → held.entries ≡ delta.old.entries → AreMerged (H.world host.old) held n → OnOk result (AreMerged (H.world host.new) held n) }
     ensures same { delta.new ≡ delta.old }
     ensures log { IsSilent (H.world host.old) (H.world host.new) }
     ensures cause { CountsFault result (H.faults host.old) (H.faults host.new) }

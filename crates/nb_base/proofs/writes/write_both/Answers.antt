@@ -4,6 +4,7 @@ use Rattle.nb_model.specs.Strokes.{page}
 use Rattle.nb_model.specs.Trail.{after_stroke, StandsIn}
 use Rattle.nb_base.specs.Open.{OfFiles}
 use Rattle.nb_base.proofs.OutcomeLaws.{write_later}
+use Rattle.nb_base.proofs.MergedLaws.{both_after}
 use Rattle.nb_base.proofs.WriteLaws.{not_done, merges_later, entry_later}
 use Rattle.nb_base.proofs.writes.write_both.Goals as goal
 
@@ -36,3 +37,8 @@ returns-clause-takes g c t k tells seen is merges at named slot must =
       done = (c.in_ok-write_hidden.ensures.takes (after_stroke (page c.args.number c.args.page.now) t) k tells done (write_later c.args.name.now t c.args.number c.args.page.now is)
           (merges_later t c.args.number c.args.page.now is merges) (entry_later t c.args.number c.args.page.now merges k at)).done;
     }
+
+pub returns-clause-merged : goal.returns-clause-merged
+returns-clause-merged g c t held n k tells seen is merges entries named sized beside at slot merged =
+    both_after (g.H.Host.world c.args.host.now) held t c.args.number c.args.page.now is seen merges entries c.args.name.now c.args.delta.now.name c.args.delta.now.page_size named sized beside c.requires.size c.requires.page
+    (g.H.Host.world c.write_slot.new.host) (g.H.Host.world c.write_hidden.new.host) k at (c.write_slot.ensures.others tells k slot) (c.in_ok-write_slot.ensures.put tells k slot) (c.in_ok-write_hidden.ensures.put tells) n merged

@@ -3,7 +3,9 @@ use Rattle.nb_host.specs.World.{World}
 use Rattle.nb_fields.specs.Table.{slot_place}
 use Rattle.nb_delta.specs.Known.{Known}
 use Rattle.nb_model.specs.Owner.{entry_for}
+use Rattle.nb_base.specs.Open.{Held, AreMerged}
 use Rattle.nb_base.specs.Seen.{IsSeen}
+use Rattle.nb_base.proofs.MergedLaws.{plain_after}
 use Rattle.nb_base.proofs.PlaceLaws.{slot_answered, none_found}
 use Rattle.nb_base.proofs.WriteLaws.{takes_passed, takes_done, merges_where}
 use Rattle.nb_base.proofs.writes.write_plain.Goals as goal
@@ -41,3 +43,18 @@ returns-in_ok-write_main-in-None-clause-takes g c t tells seen is other entries 
     let none = ap (entry_for c.args.number) entries ∙ none_found c.args.number c.args.delta.now.entries (c.in_ok-slot.ensures.none c.in-None.is) in
     takes_done _ _ (g.H.Host.world c.args.host.now) (g.H.Host.world c.slot_of.new._host) (g.H.Host.world c.write_main.new.host) c.args.name.now _ t _ same
     (c.in_ok-write_main-in-None.ensures.takes t tells (subst (λ (w : World). IsSeen w c.args.name.now t) (sym same) seen) is other none must)
+
+pub returns-in_ok-write_both-in-Some-clause-merged : goal.returns-in_ok-write_both-in-Some-clause-merged
+returns-in_ok-write_both-in-Some-clause-merged g c t held n tells seen is merges entries named sized beside knows merged =
+    let same = ap g.H.Host.world c.slot_of.ensures.no_call in
+    let slot = slot_answered c.slot_of.result c.args.delta.now.page_size c.in-Some.slot c.args.number c.args.delta.now.entries c.in_ok-slot.field-0 c.in_ok-slot.was c.slot_of.ensures.slot c.in-Some.is in
+    c.in_ok-write_both-in-Some.ensures.merged t held n slot.k tells (subst (λ (w : World). IsSeen w held.name t) (sym same) seen) is merges entries named
+    (sized ∙ ap (λ (k : Known). k.page_size) (sym c.slot_of.ensures.same)) (ap (λ (k : Known). k.name) c.slot_of.ensures.same ∙ beside) (ap (entry_for c.args.number) knows ∙ slot.at)
+    (slot.place ∙ ap (λ (k : Known). slot_place k.page_size slot.k) (sym c.slot_of.ensures.same)) (subst (λ (w : World). AreMerged w held n) (sym same) merged)
+
+pub returns-in_ok-write_main-in-None-clause-merged : goal.returns-in_ok-write_main-in-None-clause-merged
+returns-in_ok-write_main-in-None-clause-merged g c t held n tells seen is merges entries named sized beside knows merged =
+    let same = ap g.H.Host.world c.slot_of.ensures.no_call in
+    let none = ap (entry_for c.args.number) knows ∙ none_found c.args.number c.args.delta.now.entries (c.in_ok-slot.ensures.none c.in-None.is) in
+    plain_after (g.H.Host.world c.slot_of.new._host) held t c.args.number c.args.page.now is (subst (λ (w : World). IsSeen w held.name t) (sym same) seen) merges entries c.args.name.now c.args.delta.now.name c.args.delta.now.page_size
+    named sized beside c.requires.size c.requires.page (g.H.Host.world c.write_main.new.host) none (c.in_ok-write_main-in-None.ensures.put tells) n (subst (λ (w : World). AreMerged w held n) (sym same) merged)

@@ -3,7 +3,8 @@ use Rattle.std.specs.Prelude.{max, ◌||◌, nat_le}
 use Rattle.nb_model.specs.Strokes.{page}
 use Rattle.nb_model.specs.Trail.{after_stroke, is_kept_place}
 use Rattle.nb_base.specs.Open.{Held, IsOpen}
-use Rattle.nb_base.specs.Seen.{IsWrite}
+use Rattle.nb_base.specs.Seen.{IsWrite, noted_in}
+use Rattle.nb_base.proofs.MergedLaws.{merged_held}
 use Rattle.nb_base.proofs.AgreeLaws.{written_held, agrees_later, seen_open, synced_is}
 use Rattle.nb_base.proofs.files.TwoFiles.write.Goals as goal
 
@@ -24,3 +25,14 @@ returns-clause-takes g c t tells open_ fits forced =
       done = subst (λ (h : Held). IsOpen new h (after_stroke (page number c.args.page.now) t)) (sym held_is)
           (seen_open new (written_held held number) (after_stroke (page number c.args.page.now) t) takes.done (agrees_later held t number c.args.page.now fits open_.agrees));
     }
+
+pub returns-clause-merged : goal.returns-clause-merged
+returns-clause-merged g c t k tells open_ fits merges merged =
+    let new = g.H.Host.world c.put.new.host in
+    let held = c.args.self.now in
+    let number = c.args.number in
+    let is : IsWrite t number c.args.page.now = record { fits = fits; long = c.requires.size ∙ open_.agrees.page_size; below = c.requires.most; other = c.requires.some } in
+    let put_is = c.self-2.view_is ∙ c.in_ok-put.ensures.known in
+    merged_held new held _ k (ap (λ (h : Held). h.name) (sym put_is)) (ap (λ (h : Held). h.page_size) (sym put_is))
+    (ap (λ n. noted_in n number held.entries) (sym merges) ∙ ap (λ (h : Held). h.entries) (sym put_is))
+    (c.in_ok-put.ensures.merged t k tells open_ is merges merged)
