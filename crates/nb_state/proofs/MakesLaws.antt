@@ -1,7 +1,7 @@
 -- How runs of calls that make strokes go on.
 use Rattle.std.proofs.Common.{◌≡◌, ℕ, List, [], ◌∷◌, ◌++◌, refl, sym, ◌∙◌, subst, ap}
 use Rattle.std.proofs.lemmas.List.{append-nil}
-use Rattle.std.specs.Prelude.{Bool, true, false, Result, Ok, Err, IsErr, IsErrAnd, IfErr}
+use Rattle.std.specs.Prelude.{Bool, true, false, Option, Result, Ok, Err, IsErr, IsErrAnd, IfErr}
 use Rattle.nb_host.specs.Files.{Files}
 use Rattle.nb_host.specs.World.{World}
 use Rattle.nb_host.specs.declared.faults.Fault.{Fault}
@@ -30,6 +30,7 @@ open_quiet old new held t quiet is = record {
   };
   agrees = is.agrees;
   merged = λ state j low inside. subst (λ (f : Files). IsMerged held.files f j) (sym quiet.still.files) (is.merged state j low inside);
+  most = is.most;
 }
 
 -- and so does what is held of it
@@ -63,13 +64,7 @@ where_ended (Err (Refused refusal)) P is = is
 where_ended (Err Device) P is = tt
 where_ended (Err Memory) P is = tt
 
-pub where_refused : {T : Type 0} (result : Result T Fault) (P : Type 0) → P → WhereRefused result P
-where_refused (Ok value) P is = tt
-where_refused (Err (Refused refusal)) P is = is
-where_refused (Err Device) P is = tt
-where_refused (Err Memory) P is = tt
-
--- a failure promises nothing of the end
+-- where it failed, nothing is promised of its end, and it was not refused
 pub never_ended : (T : Type 0) (fault : Fault) (P : Type 0) → IsNoRefusal fault → WhereEnded {T = T} (Err fault) P
 never_ended T (Refused refusal) P is = absurd is
 never_ended T Device P is = tt
@@ -85,6 +80,8 @@ pub goes_on : (a b c : Held) → Goes a b → Goes b c → Goes a c
 goes_on a b c first second = record {
   name = second.name ∙ first.name;
   page_size = second.page_size ∙ first.page_size;
+  state = second.state ∙ first.state;
+  entries = λ merging. second.entries (first.state ∙ merging) ∙ first.entries merging;
   running = second.running ∙ first.running;
   merged = second.merged ∙ first.merged;
 }
@@ -93,6 +90,8 @@ pub goes_nowhere : (a b : Held) → b ≡ a → Goes a b
 goes_nowhere a b same = record {
   name = ap (λ (h : Held). name_of h) same;
   page_size = ap (λ (h : Held). h.files.page_size) same;
+  state = ap (λ (h : Held). h.files.state) same;
+  entries = λ merging. ap (λ (h : Held). h.files.entries) same;
   running = ap (λ (h : Held). h.running) same;
   merged = ap (λ (h : Held). h.merged) same;
 }
@@ -155,3 +154,7 @@ pub makes_before : {S T : Type 0} (value : S) (result : Result T Fault) (old mid
 makes_before value result old mid new a b c t xs makes same quiet =
     subst (λ (ss : List Stroke). Makes result old new a c t ss) (append-nil xs)
     (makes_then value result old mid new a b c t xs [] makes (makes_none result mid new b c (after_strokes t xs) same quiet makes.opened))
+
+-- whose copy or merge runs is no matter of what is open
+pub open_running : (w : World) (held : Held) (t : Trail) (by : Option ℕ) → IsOpen w held t → IsOpen w (record held { running = by }) t
+open_running w held t by is = record { files = is.files; agrees = record { scn = is.agrees.scn; guid = is.agrees.guid; forced = is.agrees.forced; read_only = is.agrees.read_only }; merged = is.merged; most = is.most }

@@ -1,5 +1,5 @@
 -- A database that is open.
-use Rattle.std.specs.Prelude.{◌≡◌, ℕ, List, Option, Bool}
+use Rattle.std.specs.Prelude.{◌≡◌, ◌≤◌, ℕ, List, length, Option, Bool}
 use Rattle.nb_host.specs.World.{World}
 use Rattle.nb_model.specs.Account.{Base}
 use Rattle.nb_model.specs.Image.{image_scn, image_guid, is_forced, is_read_only}
@@ -38,3 +38,4 @@ pub record IsOpen (w : World) (held : Held) (t : Trail) : Type 0 where
   pub files : AreOpen w held.files t
   pub agrees : AgreesWith held t.base
   pub merged : held.files.state ≡ 2 → AreMerged w held.files held.merged
+  pub most : held.files.state ≡ 2 → held.merged ≤ length held.files.entries

@@ -1,5 +1,5 @@
-ghost use Rattle.std.specs.Prelude.{◌≡◌, ◌≤◌, ◌<◌, ◌+◌, ℕ, List, ◌∷◌, [], length, IsTrue, IfErr, OnOk, Option, false};
-ghost use Rattle.nb_fields.specs.Bytes.{is_zeros};
+ghost use Rattle.std.specs.Prelude.{◌≡◌, ◌≤◌, ◌<◌, ◌+◌, ℕ, List, ◌∷◌, [], length, IsTrue, IfErr, OnOk, Option, false, not, ◌==◌};
+ghost use Rattle.nb_fields.specs.Bytes.{is_zeros, number_in};
 ghost use Rattle.nb_fields.specs.Places.{is_page_size};
 ghost use Rattle.nb_fields.specs.Fresh.{fresh};
 ghost use Rattle.nb_host.specs.Causes.{CountsFault};
@@ -65,6 +65,13 @@ impl Store {
         self.scn
     }
 
+    /// The GUID of the last backup, zeros where there was none.
+    pub fn guid(&self) -> [u8; 16]
+        ensures { result ≡ self.now.guid }
+    {
+        self.guid
+    }
+
     /// The backup state: 0 normal, 1 stalled, 2 merge.
     pub fn state(&self) -> u16
         ensures { result ≡ self.now.files.state }
@@ -107,7 +114,14 @@ impl Store {
         self.files.delta_count()
     }
 
-    /// Fills in page `number`.
+    /// How many pages the main file has.
+    pub fn main_count(&self) -> u32
+        ensures { result ≡ self.now.files.main_count }
+    {
+        self.files.main_count()
+    }
+
+    /// Fills in page `number`. Page 0 may take two reads; every other page takes one.
     pub fn read<H: Host>(
         &mut self,
         host: &mut H,
@@ -119,10 +133,29 @@ impl Store {
         ensures open { (t : Trail) → IsTrue H.tells → IsOpen (H.world host.old) self.old t → IsOpen (H.world host.new) self.new t }
         ensures same { self.new ≡ self.old }
         ensures quiet { Quiet (H.world host.old) (H.world host.new) }
-        ensures reads { IsTrue H.tells → (H.world host.new).reads ≤ (H.world host.old).reads + 1 }
+        ensures reads { IsTrue H.tells → 0 < number → (H.world host.new).reads ≤ (H.world host.old).reads + 1 }
+        ensures first_reads { IsTrue H.tells → (H.world host.new).reads ≤ (H.world host.old).reads + 2 }
         ensures cause { CountsFault result (H.faults host.old) (H.faults host.new) }
     {
         self.files.read(host, number, into)
+    }
+
+    /// Fills in page `number` of the main file as it is frozen, in the stalled state.
+    pub fn read_main<H: Host>(
+        &mut self,
+        host: &mut H,
+        number: u32,
+        into: &mut [u8],
+    ) -> Result<(), HostFault>
+        requires size { length into.old ≡ self.old.files.page_size }
+        ensures page { (t : Trail) → IsTrue H.tells → IsOpen (H.world host.old) self.old t → self.old.files.state ≡ 1 → number < length t.base.frozen → OnOk result (into.new ≡ page_at t.base.frozen number) }
+        ensures open { (t : Trail) → IsTrue H.tells → IsOpen (H.world host.old) self.old t → IsOpen (H.world host.new) self.new t }
+        ensures same { self.new ≡ self.old }
+        ensures quiet { Quiet (H.world host.old) (H.world host.new) }
+        ensures reads { IsTrue H.tells → (H.world host.new).reads ≤ (H.world host.old).reads + 1 }
+        ensures cause { CountsFault result (H.faults host.old) (H.faults host.new) }
+    {
+        self.files.read_main(host, number, into)
     }
 
     /// Replaces page `number`, or adds it at the end, of page 0 what is behind the control block. It is kept for good where writes are
@@ -142,12 +175,21 @@ impl Store {
         ensures on_memory { result ≡ Err Fault.Memory → (self.new ≡ self.old) × (host.new ≡ host.old) }
     {
         self.files.write(host, number, page, self.forced)?;
+        self.take_flags(number, page);
+        Ok(())
+    }
+
+    /// Takes over what a page 0 that was written says behind its control block.
+    fn take_flags(&mut self, number: u32, page: &[u8])
+        requires { 80 ≤ length page.now }
+        ensures first { number ≡ 0 → self.new ≡ record self.old { forced = not (number_in 64 1 page.now == 0); read_only = not (number_in 65 1 page.now == 0) } }
+        ensures other { 0 < number → self.new ≡ self.old }
+    {
         if number == 0 {
             let front = front_of(page);
             self.forced = front.forced;
             self.read_only = front.read_only;
         }
-        Ok(())
     }
 
     /// Keeps both files for good. It changes nothing.

@@ -4,6 +4,7 @@ ghost use Rattle.nb_host.specs.declared.faults.Fault.TheVariants.{Memory};
 ghost use Rattle.nb_change.specs.Counts.{CountsDevice};
 ghost use Rattle.nb_model.specs.Account.{Ask};
 ghost use Rattle.nb_model.specs.Image.{Image, image_state, image_scn};
+ghost use Rattle.nb_model.specs.Sound.{HasNoZeros};
 ghost use Rattle.nb_model.specs.Trail.{Trail};
 ghost use Rattle.nb_base.specs.Takes.{IsNoRefusal};
 ghost use Rattle.nb_state.specs.Open.{IsOpen};
@@ -90,7 +91,7 @@ impl Store {
         self.check_end(session)?;
         if self.files.state() == 1 {
             self.files.end(host)?;
-            self.scn += 1;
+            self.scn = self.scn.saturating_add(1);
         }
         self.running = Some(session);
         self.merged = 0;
@@ -100,7 +101,7 @@ impl Store {
     /// Merges the next entry, or finishes the merge.
     pub fn merge_turn<H: Host>(&mut self, host: &mut H) -> Result<Progress, Fault>
         requires merge { self.old.files.state ≡ 2 }
-        ensures merges { (t : Trail) → IsTrue H.tells → IsOpen (H.world host.old) self.old t → Merges result (H.world host.old) (H.world host.new) self.old self.new t }
+        ensures merges { (t : Trail) → IsTrue H.tells → IsOpen (H.world host.old) self.old t → HasNoZeros t.base.image → Merges result (H.world host.old) (H.world host.new) self.old self.new t }
         ensures page_size { self.new.files.page_size ≡ self.old.files.page_size }
         ensures cause { CountsDevice result (H.faults host.old) (H.faults host.new) }
         ensures not_refused { IfErr result IsNoRefusal }
