@@ -31,10 +31,11 @@ fn open<H: Host>(host: &mut H, files: TwoFiles, page: &mut [u8]) -> Result<Store
     let mut files = files;
     files.read(host, 0, page)?;
     let front = front_of(page);
+    let guid = front.guid;
     Ok(Store {
         files,
         scn: front.scn,
-        guid: front.guid,
+        guid,
         forced: front.forced,
         read_only: front.read_only,
         running: None,
