@@ -21,7 +21,8 @@ const FIRST_SCN: u32 = 1;
 
 /// What is held of two files that are open, by their page 0.
 fn open<H: Host>(host: &mut H, files: TwoFiles, page: &mut [u8]) -> Result<Store, HostFault>
-    requires { length page.old ≡ files.page_size }
+    requires size { length page.old ≡ files.page_size }
+    requires one_of { IsTrue (is_page_size files.page_size) }
     ensures opens { (t : Trail) → IsTrue H.tells → AreOpen (H.world host.old) files t → 0 < length t.base.image → IfOk result (λ store. IsOpen (H.world host.new) store t) }
     ensures files { IfOk result (λ store. store.files ≡ files) }
     ensures begins { IfOk result (λ store. (store.running ≡ None) × (store.merged ≡ 0)) }

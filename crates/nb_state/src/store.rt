@@ -33,12 +33,15 @@ pub struct Store {
 }
 
 impl Model for Store {
+    ghost use Rattle.std.specs.Prelude.{◌<◌, IsTrue};
+    ghost use Rattle.nb_fields.specs.Places.{is_page_size};
     ghost use Rattle.nb_state.specs.Open.{Held};
 
     ghost Value = { Held };
 
     ghost view = { λ s. record { files = s.files; scn = s.scn; guid = s.guid; forced = s.forced; read_only = s.read_only; running = s.running; merged = s.merged } };
 
+    ghost invariant = { λ s. IsTrue (is_page_size s.files.page_size) × (s.scn < 4294967296) };
 }
 
 impl Store {

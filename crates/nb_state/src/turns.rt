@@ -1,18 +1,21 @@
 // The turns of a backup: begin, end, and the merge.
-ghost use Rattle.std.specs.Prelude.{◌≡◌, ◌<◌, ℕ, List, length, IsTrue, IfErr, OnOk, Option};
+ghost use Rattle.std.specs.Prelude.{◌≡◌, ◌<◌, ◌+◌, ℕ, List, [], ◌∷◌, length, IsTrue, IfErr, IfOk, OnOk, Option};
+ghost use Rattle.nb_host.specs.Causes.{CountsFault};
 ghost use Rattle.nb_host.specs.declared.faults.Fault.TheVariants.{Memory};
 ghost use Rattle.nb_change.specs.Counts.{CountsDevice};
+ghost use Rattle.nb_change.specs.Gave.{GaveNothing};
 ghost use Rattle.nb_model.specs.Account.{Ask};
 ghost use Rattle.nb_model.specs.Image.{Image, image_state, image_scn};
 ghost use Rattle.nb_model.specs.Sound.{HasNoZeros};
+ghost use Rattle.nb_model.specs.Strokes.{begin as begin_stroke};
 ghost use Rattle.nb_model.specs.Trail.{Trail};
-ghost use Rattle.nb_base.specs.Takes.{IsNoRefusal};
-ghost use Rattle.nb_state.specs.Open.{IsOpen};
+ghost use Rattle.nb_base.specs.Takes.{Takes, IsNoRefusal};
+ghost use Rattle.nb_state.specs.Open.{IsOpen, name_of};
 ghost use Rattle.nb_state.specs.Does.{Tested};
 ghost use Rattle.nb_state.specs.Turns.{Begins, Ends, Merges, GaveAtMost, begin_cause, end_cause};
 
 use crate::Store;
-use nb_host::{Fault, Host, Refusal};
+use nb_host::{Fault, Host, HostFault, Refusal};
 
 /// A backup and its end need two SCNs more.
 const LAST_SCN: u32 = u32::MAX - 2;
@@ -74,9 +77,26 @@ impl Store {
     {
         self.check_begin()?;
         let guid = host.guid()?;
-        self.files.begin(host, &guid)?;
+        let scn = self.begin_with(host, &guid)?;
+        Ok(scn)
+    }
+
+    /// Begins a backup with that GUID, in the normal state. It answers the new SCN.
+    fn begin_with<H: Host>(&mut self, host: &mut H, guid: &[u8; 16]) -> Result<u32, HostFault>
+        requires normal { self.old.files.state ≡ 0 }
+        requires scn { self.old.scn < 4294967294 }
+        ensures takes { (t : Trail) (ask : Option Ask) → IsTrue H.tells → IsOpen (H.world host.old) self.old t
+            → Takes result (H.world host.old) (H.world host.new) (name_of self.old) (IsOpen (H.world host.new) self.new) t (begin_stroke guid.now ask ∷ []) }
+        ensures answer { IfOk result (λ scn. scn ≡ self.old.scn + 1) }
+        ensures gave { GaveNothing (H.world host.old) (H.world host.new) }
+        ensures running { self.new.running ≡ self.old.running }
+        ensures name { name_of self.new ≡ name_of self.old }
+        ensures page_size { self.new.files.page_size ≡ self.old.files.page_size }
+        ensures cause { CountsFault result (H.faults host.old) (H.faults host.new) }
+    {
+        self.files.begin(host, guid)?;
         self.scn += 1;
-        self.guid = guid;
+        self.guid = *guid;
         Ok(self.scn)
     }
 

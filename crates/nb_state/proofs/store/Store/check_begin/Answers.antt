@@ -1,24 +1,23 @@
-use Rattle.std.proofs.Common.{rules, ◌≡◌, ◌<◌, ℕ, List, length, IsTrue, IfErr, OnOk, Option, ◌+◌, ◌-◌, ◌*◌, ◌≤◌, ◌/◌, ◌%◌, Bool, true, false, nat_eq, nat_lt, [], ◌∷◌, ◌++◌, slice_index_or, slice_set, bit_and, bit_or, Fits, w8, w32, w64, Bor, MutBor}
-use Rattle.nb_host.specs.declared.faults.Fault.TheVariants.{Memory}
-use Rattle.nb_change.specs.Counts.{CountsDevice}
-use Rattle.nb_model.specs.Account.{Ask}
-use Rattle.nb_model.specs.Image.{Image, image_state, image_scn}
-use Rattle.nb_model.specs.Sound.{HasNoZeros}
-use Rattle.nb_model.specs.Trail.{Trail}
-use Rattle.nb_base.specs.Takes.{IsNoRefusal}
-use Rattle.nb_state.specs.Open.{IsOpen}
-use Rattle.nb_state.specs.Does.{Tested}
-use Rattle.nb_state.specs.Turns.{Begins, Ends, Merges, GaveAtMost, begin_cause, end_cause}
+use Rattle.std.proofs.Common.{◌≡◌, ℕ, sym, ap, ◌∙◌, arith}
+use Rattle.std.specs.Prelude.{Some}
+use Rattle.nb_host.specs.declared.refusals.Refusal.TheVariants.{WrongState, ScnExhausted}
+use Rattle.nb_state.specs.Open.{Held}
+use Rattle.nb_state.proofs.TestLaws.{other_state, last_scn, may_begin}
 use Rattle.nb_state.proofs.store.Store.check_begin.Goals as goal
 
--- src/turns.rt:39:13
 pub returns-then-found-ne0-clause-test : goal.returns-then-found-ne0-clause-test
-returns-then-found-ne0-clause-test c = ?
+returns-then-found-ne0-clause-test c image state scn =
+    let is = c.from-found.ensures ∙ c.state.ensures ∙ ap (λ (h : Held). h.files.state) c.self.view_is ∙ state in
+    other_state image (λ e. c.if-found-ne0.true (is ∙ e)) ∙ ap (λ (n : ℕ). Some (WrongState n)) (sym is)
 
--- src/turns.rt:42:13
 pub returns-then-self-gt-LAST_SCN-clause-test : goal.returns-then-self-gt-LAST_SCN-clause-test
-returns-then-self-gt-LAST_SCN-clause-test c = ?
+returns-then-self-gt-LAST_SCN-clause-test c image state scn =
+    let is = c.from-found.ensures ∙ c.state.ensures ∙ ap (λ (h : Held). h.files.state) c.self.view_is ∙ state in
+    let last = ap (λ (h : Held). h.scn) c.self.view_is ∙ scn in
+    last_scn image (sym is ∙ c.if-found-ne0.false) (omega (arith, last, c.if-self-gt-LAST_SCN.true)) ∙ ap (λ (n : ℕ). Some (ScnExhausted n)) (sym last)
 
--- src/turns.rt:31:5
 pub returns-clause-test : goal.returns-clause-test
-returns-clause-test c = ?
+returns-clause-test c image state scn =
+    let is = c.from-found.ensures ∙ c.state.ensures ∙ ap (λ (h : Held). h.files.state) c.self.view_is ∙ state in
+    let last = ap (λ (h : Held). h.scn) c.self.view_is ∙ scn in
+    may_begin image (sym is ∙ c.if-found-ne0.false) (omega (arith, last, c.if-self-gt-LAST_SCN.false))

@@ -1,28 +1,27 @@
-use Rattle.std.proofs.Common.{rules, ◌≡◌, ◌<◌, ℕ, List, length, IsTrue, IfErr, OnOk, Option, ◌+◌, ◌-◌, ◌*◌, ◌≤◌, ◌/◌, ◌%◌, Bool, true, false, nat_eq, nat_lt, [], ◌∷◌, ◌++◌, slice_index_or, slice_set, bit_and, bit_or, Fits, w8, w32, w64, Bor, MutBor}
-use Rattle.nb_host.specs.declared.faults.Fault.TheVariants.{Memory}
-use Rattle.nb_change.specs.Counts.{CountsDevice}
-use Rattle.nb_model.specs.Account.{Ask}
-use Rattle.nb_model.specs.Image.{Image, image_state, image_scn}
-use Rattle.nb_model.specs.Sound.{HasNoZeros}
-use Rattle.nb_model.specs.Trail.{Trail}
-use Rattle.nb_base.specs.Takes.{IsNoRefusal}
-use Rattle.nb_state.specs.Open.{IsOpen}
-use Rattle.nb_state.specs.Does.{Tested}
-use Rattle.nb_state.specs.Turns.{Begins, Ends, Merges, GaveAtMost, begin_cause, end_cause}
+use Rattle.std.proofs.Common.{◌≡◌, ℕ, sym, ap, ◌∙◌}
+use Rattle.nb_state.specs.Open.{Held}
+use Rattle.nb_state.proofs.TestLaws.{no_backup, other_runs, this_runs, none_runs}
 use Rattle.nb_state.proofs.store.Store.check_end.Goals as goal
 
--- src/turns.rt:53:13
 pub returns-then-state-eq0-clause-test : goal.returns-then-state-eq0-clause-test
-returns-then-state-eq0-clause-test c = ?
+returns-then-state-eq0-clause-test c image state =
+    let is = c.state.ensures ∙ ap (λ (h : Held). h.files.state) c.self.view_is ∙ state in
+    no_backup image _ c.args.session (sym is ∙ c.if-state-eq0.true)
 
--- src/turns.rt:58:21
 pub returns-then-other-session-clause-test : goal.returns-then-other-session-clause-test
-returns-then-other-session-clause-test c = ?
+returns-then-other-session-clause-test c image state =
+    let is = c.state.ensures ∙ ap (λ (h : Held). h.files.state) c.self.view_is ∙ state in
+    let runs = sym (ap (λ (h : Held). h.running) c.self.view_is) ∙ c.in-Some.is in
+    other_runs image _ c.args.session c.in-Some.other (λ e. c.if-state-eq0.false (is ∙ e)) runs c.if-other-session.true
 
--- src/turns.rt:48:5
 pub returns-else-other-session-clause-test : goal.returns-else-other-session-clause-test
-returns-else-other-session-clause-test c = ?
+returns-else-other-session-clause-test c image state =
+    let is = c.state.ensures ∙ ap (λ (h : Held). h.files.state) c.self.view_is ∙ state in
+    let runs = sym (ap (λ (h : Held). h.running) c.self.view_is) ∙ c.in-Some.is in
+    this_runs image _ c.args.session c.in-Some.other (λ e. c.if-state-eq0.false (is ∙ e)) runs c.if-other-session.false
 
--- src/turns.rt:48:5
 pub returns-in-None-clause-test : goal.returns-in-None-clause-test
-returns-in-None-clause-test c = ?
+returns-in-None-clause-test c image state =
+    let is = c.state.ensures ∙ ap (λ (h : Held). h.files.state) c.self.view_is ∙ state in
+    let runs = sym (ap (λ (h : Held). h.running) c.self.view_is) ∙ c.in-None.is in
+    none_runs image _ c.args.session (λ e. c.if-state-eq0.false (is ∙ e)) runs
