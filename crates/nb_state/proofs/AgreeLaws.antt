@@ -101,3 +101,15 @@ module _ (t : Trail) (p : ℕ) (bytes : Page) (fits : Fits p bytes t.base.image)
         above : (n : ℕ) → (n ≡ 0 → ⊥) → 0 < n
         above zero ne = absurd (ne refl)
         above (suc n) ne = omega arith
+
+-- The two files alone are others.
+pub goes_files : (held : Held) (files : Rattle.nb_base.specs.Open.Held) → files.name ≡ held.files.name → files.page_size ≡ held.files.page_size → files.state ≡ held.files.state → (held.files.state ≡ 2 → files.entries ≡ held.files.entries)
+    → Goes held (record held { files = files })
+goes_files held files name size state entries = record { name = name; page_size = size; state = state; entries = entries; running = refl; merged = refl }
+
+-- and the flags
+pub goes_written : (p : ℕ) (bytes : Page) (held after : Held) (files : Rattle.nb_base.specs.Open.Held)
+    → (p ≡ 0 → after ≡ record held { files = files; forced = not (number_in 64 1 bytes == 0); read_only = not (number_in 65 1 bytes == 0) }) → (0 < p → after ≡ record held { files = files }) → Goes held (record held { files = files })
+    → Goes held after
+goes_written zero bytes held after files first other goes = subst (λ (h : Held). Goes held h) (sym (first refl)) (record { name = goes.name; page_size = goes.page_size; state = goes.state; entries = goes.entries; running = refl; merged = refl })
+goes_written (suc p) bytes held after files first other goes = subst (λ (h : Held). Goes held h) (sym (other (omega arith))) goes

@@ -6,10 +6,11 @@ use Rattle.nb_fields.specs.Header.{is_header, state_of}
 use Rattle.nb_host.specs.Files.{Files}
 use Rattle.nb_host.specs.World.{World}
 use Rattle.nb_host.specs.Calls.{IsStill}
-use Rattle.nb_host.specs.Moments.{IsTimely, Passes}
+use Rattle.nb_host.specs.Moments.{IsNow, IsTimely, Passes}
 use Rattle.nb_host.specs.declared.refusals.Refusal.{Refusal}
 use Rattle.nb_host.specs.declared.faults.Fault.{Fault}
 use Rattle.nb_host.specs.declared.faults.Fault.TheVariants.{Refused, Device, Memory}
+use Rattle.nb_change.proofs.MomentLaws.{started, untouched_begun}
 use Rattle.nb_change.proofs.ChangesLaws.{all_before, weaker_has}
 use Rattle.nb_change.proofs.ReachedLaws.{strokes_composed, reached_front}
 use Rattle.nb_model.specs.Image.{Image, first_page, image_state, image_scn, image_guid}
@@ -22,7 +23,7 @@ use Rattle.nb_model.proofs.ControlLaws.{control_state}
 use Rattle.nb_model.proofs.HeaderLaws.{header-long, header-room}
 use Rattle.nb_model.proofs.MainLaws.{some_page}
 use Rattle.nb_model.proofs.TrailLaws.{trail_base}
-use Rattle.nb_base.specs.Open.{OfFiles, IsOpen as AreOpen, AreMerged}
+use Rattle.nb_base.specs.Open.{OfFiles, IsOpen as AreOpen, IsMerged, AreMerged}
 use Rattle.nb_base.specs.Takes.{Strikes, IsNoRefusal}
 use Rattle.nb_base.proofs.ControlLaws.{with_control-first}
 use Rattle.nb_base.proofs.StrokeLaws.{waits}
@@ -44,6 +45,19 @@ still_files old new held t still is = record {
   agrees = is.agrees;
 }
 
+-- and so does the database
+pub still_open : (old new : World) (held : Held) (t : Trail) → IsStill old new → IsOpen old held t → IsOpen new held t
+still_open old new held t still is = record {
+  files = still_files old new held.files t still is.files;
+  agrees = is.agrees;
+  merged = λ two j low inside. subst (λ (f : Files). IsMerged held.files f j) (sym still.files) (is.merged two j low inside);
+  most = is.most;
+}
+
+-- no call is quiet
+pub no_call : (w : World) → IsTimely w → Quiet w w
+no_call w timely = record { still = record { files = refl; left = untouched_begun w _ }; said = refl; guids = refl; times = refl; moments = started w (IsNow w) timely (λ files said is. is) }
+
 -- calls that change no file, and then strokes
 pub still_struck : (old mid new : World) (held : Held) (t : Trail) (xs : List Stroke) → IsOpen old held t → IsTimely old → IsStill old mid → mid.said ≡ old.said → Passes old mid → Strikes mid new (name_of held) t xs → Strikes old new (name_of held) t xs
 still_struck old mid new held t xs is timely still silent time struck =
@@ -59,6 +73,7 @@ first_of [] = []
 first_of (x ∷ xs) = x
 
 pub given_guid : (old new : List (List ℕ)) (given guid : List ℕ) → new ≡ old ++ given ∷ [] → (new ≡ old) ⊎ (new ≡ old ++ guid ∷ []) → guid ≡ given
+unfolding first_of
 given_guid old new given guid is =
     ⊎_elim (λ none. absurd (omega (arith, ap length (sym none ∙ is), length-append old (given ∷ []))))
     (λ one. ap first_of (sym (drop_at old (guid ∷ []) (length old) refl) ∙ ap (drop (length old)) (sym one ∙ is) ∙ drop_at old (given ∷ []) (length old) refl))
@@ -225,7 +240,7 @@ module _ (old mid new : World) (before after : Held) (t : Trail) (guid : List �
   }
 
 -- An end that is refused changes nothing.
-pub end_refused : (w : World) (held : Held) (t : Trail) (session : ℕ) (fault : Fault) → IsOpen w held t → Quiet w w → Tested {T = ℕ} (Err fault) (end_cause t.base.image held.running session) → Ends (Err fault) w w held held t session
+pub end_refused : (w : World) (held : Held) (t : Trail) (session : ℕ) (fault : Fault) → IsOpen w held t → Quiet w w → Tested {T = Unit {0}} (Err fault) (end_cause t.base.image held.running session) → Ends (Err fault) w w held held t session
 end_refused w held t session (Refused r) is quiet test = record {
   test = test;
   left = none_yet w w held t _ quiet is;

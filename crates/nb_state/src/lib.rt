@@ -10,5 +10,8 @@ mod front;
 mod store;
 mod turns;
 
+#[cfg(test)]
+mod tests;
+
 pub use store::Store;
 pub use turns::Progress;

@@ -1,5 +1,5 @@
 // The turns of a backup: begin, end, and the merge.
-ghost use Rattle.std.specs.Prelude.{◌≡◌, ◌<◌, ◌+◌, ℕ, List, [], ◌∷◌, length, IsTrue, IfErr, IfOk, OnOk, Option};
+ghost use Rattle.std.specs.Prelude.{◌≡◌, ◌<◌, ◌+◌, ℕ, List, [], ◌∷◌, length, IsTrue, IfErr, IfOk, OnOk, Option, Some};
 ghost use Rattle.nb_host.specs.Causes.{CountsFault};
 ghost use Rattle.nb_host.specs.declared.faults.Fault.TheVariants.{Memory};
 ghost use Rattle.nb_change.specs.Counts.{CountsDevice};
@@ -7,7 +7,7 @@ ghost use Rattle.nb_change.specs.Gave.{GaveNothing};
 ghost use Rattle.nb_model.specs.Account.{Ask};
 ghost use Rattle.nb_model.specs.Image.{Image, image_state, image_scn};
 ghost use Rattle.nb_model.specs.Sound.{HasNoZeros};
-ghost use Rattle.nb_model.specs.Strokes.{begin as begin_stroke};
+ghost use Rattle.nb_model.specs.Strokes.{begin as begin_stroke, ends as ends_stroke};
 ghost use Rattle.nb_model.specs.Trail.{Trail};
 ghost use Rattle.nb_base.specs.Takes.{Takes, IsNoRefusal};
 ghost use Rattle.nb_state.specs.Open.{IsOpen, name_of};
@@ -27,6 +27,13 @@ pub enum Progress {
     More,
     /// All entries were merged before, and the database is in the normal state again.
     Finished,
+}
+
+/// The SCN behind this one. The last one stays.
+fn next_scn(scn: u32) -> u32
+    ensures { scn < 4294967295 → result ≡ scn + 1 }
+{
+    scn.saturating_add(1)
 }
 
 impl Store {
@@ -110,12 +117,32 @@ impl Store {
     {
         self.check_end(session)?;
         if self.files.state() == 1 {
-            self.files.end(host)?;
-            self.scn = self.scn.saturating_add(1);
+            let scn = self.end_stalled(host, session)?;
+            return Ok(scn);
         }
         self.running = Some(session);
         self.merged = 0;
         Ok(self.scn)
+    }
+
+    /// Ends the stalled state for that session. It answers the new SCN.
+    fn end_stalled<H: Host>(&mut self, host: &mut H, session: u32) -> Result<u32, HostFault>
+        requires stalled { self.old.files.state ≡ 1 }
+        ensures takes { (t : Trail) → IsTrue H.tells → IsOpen (H.world host.old) self.old t
+            → Takes result (H.world host.old) (H.world host.new) (name_of self.old) (IsOpen (H.world host.new) self.new) t (ends_stroke ∷ []) }
+        ensures answer { self.old.scn < 4294967295 → IfOk result (λ scn. scn ≡ self.old.scn + 1) }
+        ensures begins { OnOk result ((self.new.running ≡ Some session) × (self.new.merged ≡ 0)) }
+        ensures gave { GaveNothing (H.world host.old) (H.world host.new) }
+        ensures name { name_of self.new ≡ name_of self.old }
+        ensures page_size { self.new.files.page_size ≡ self.old.files.page_size }
+        ensures cause { CountsFault result (H.faults host.old) (H.faults host.new) }
+    {
+        self.files.end(host)?;
+        let scn = next_scn(self.scn);
+        self.scn = scn;
+        self.running = Some(session);
+        self.merged = 0;
+        Ok(scn)
     }
 
     /// Merges the next entry, or finishes the merge.
