@@ -32,8 +32,8 @@ returns-in_err-scn-clause-ends g c t tells is =
     subst (λ (r : Result ℕ Fault). Ends r old new held c.end_stalled.new.self t c.args.session) (sym (passed_on c.from_residual-in_err-scn.result Device c.from_residual-in_err-scn.ensures))
     (end_failed old new held c.end_stalled.new.self t c.args.session allowed struck c.end_stalled.ensures.gave c.end_stalled.ensures.name)
 
-pub returns-in_ok-scn-clause-ends : goal.returns-in_ok-scn-clause-ends
-returns-in_ok-scn-clause-ends g c t tells is =
+pub returns-then-state-eq1-clause-ends : goal.returns-then-state-eq1-clause-ends
+returns-then-state-eq1-clause-ends g c t tells is =
     let old : World = g.H.Host.world c.args.host.now in
     let new : World = g.H.Host.world c.end_stalled.new.host in
     let held : Held = c.args.self.now in

@@ -27,7 +27,7 @@ returns-in_err-write-clause-makes g c t tells given fits =
     }))
 
 pub take_flags-requires : goal.take_flags-requires
-take_flags-requires g c = let size = size_facts _ c.self.invariant.0 in omega (arith, size.at_least, c.requires.size, ap (λ (h : Held). h.files.page_size) c.self.view_is)
+take_flags-requires g c = let size = size_facts c.self.inside.files.page_size c.self.invariant.0 in omega (arith, size.at_least, c.requires.size, ap (λ (h : Held). h.files.page_size) c.self.view_is)
 
 pub returns-clause-makes : goal.returns-clause-makes
 returns-clause-makes g c t tells given fits =
