@@ -179,6 +179,11 @@ open_again w held t session is = record {
   most = λ two. omega arith;
 }
 
+-- and makes no stroke
+pub open_struck : (w : World) (held : Held) (t : Trail) (session : ℕ) (strokes : List Stroke) → strokes ≡ [] → IsOpen w held t → IsOpen w (record held { running = Some session; merged = 0 }) (after_strokes t strokes)
+open_struck w held t session strokes none is =
+    subst (λ (ss : List Stroke). IsOpen w (record held { running = Some session; merged = 0 }) (after_strokes t ss)) (sym none) (open_again w held t session is)
+
 -- all entries are merged
 pub all_merged : (w : World) (held : Held) (t : Trail) → IsOpen w held t → held.files.state ≡ 2 → length held.files.entries ≤ held.merged → AreMerged w held.files (length held.files.entries)
 all_merged w held t is merges all j low inside = is.merged merges j (omega (arith, low, all)) inside

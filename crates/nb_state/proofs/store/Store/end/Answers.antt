@@ -10,7 +10,7 @@ use Rattle.nb_base.specs.Takes.{Strikes, after_strokes}
 use Rattle.nb_state.specs.Open.{Held, IsOpen, name_of}
 use Rattle.nb_state.specs.Turns.{Ends}
 use Rattle.nb_state.proofs.MakesLaws.{passed_on, none_yet, gave_none}
-use Rattle.nb_state.proofs.TurnLaws.{no_call, open_again, end_stalled, end_other, scn_stalled, scn_other, end_refused, end_failed, end_done}
+use Rattle.nb_state.proofs.TurnLaws.{no_call, open_struck, end_stalled, end_other, scn_stalled, scn_other, end_refused, end_failed, end_done}
 use Rattle.nb_state.proofs.store.Store.end.Goals as goal
 
 pub returns-in_err-check_end-clause-ends : goal.returns-in_err-check_end-clause-ends
@@ -59,4 +59,4 @@ returns-clause-ends g c t tells given =
     let allowed = c.in_ok-check_end.ensures.test t.base.image given.files.agrees.state in
     let strokes = end_other t.base.image other in
     end_done old old held _ t c.args.session allowed (none_yet old old held t _ quiet given) (gave_none old old quiet) (ap (λ (h : Held). name_of h) c.self.view_is) _ (is.agrees.scn ∙ sym (scn_other t.base.image other))
-    (subst (λ (ss : List Stroke). IsOpen old _ (after_strokes t ss)) (sym strokes) (open_again old _ t c.args.session is)) refl refl
+    (open_struck old _ t c.args.session _ strokes is) refl refl
