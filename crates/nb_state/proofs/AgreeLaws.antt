@@ -1,5 +1,5 @@
 -- What is held of page 0 behind a stroke.
-use Rattle.std.proofs.Common.{◌≡◌, inl, inr, ℕ, zero, suc, ◌+◌, ◌<◌, ◌≤◌, List, length, take, refl, sym, ap, subst, ◌∙◌, arith}
+use Rattle.std.proofs.Common.{◌≡◌, inl, inr, ℕ, zero, suc, ◌<◌, ◌≤◌, List, length, refl, sym, ap, subst, ◌∙◌, arith}
 use Rattle.std.specs.Prelude.{true, not, ◌==◌}
 use Rattle.std.proofs.lemmas.Bool.Decides.{eqb_tells}
 use Rattle.nb_fields.specs.Bytes.{number_in, part}
@@ -8,7 +8,7 @@ use Rattle.nb_fields.proofs.PartLemmas.{part-take}
 use Rattle.nb_host.specs.World.{World}
 use Rattle.nb_model.specs.Image.{Page, Image, first_page, image_scn, image_guid, with_page}
 use Rattle.nb_model.specs.Account.{Base}
-use Rattle.nb_model.specs.Strokes.{page, on_base, controlled, with_control}
+use Rattle.nb_model.specs.Strokes.{page, controlled, with_control}
 use Rattle.nb_model.specs.Trail.{Trail, after_stroke}
 use Rattle.nb_model.proofs.ControlLaws.{control_other, control_scn, control_guid}
 use Rattle.nb_model.proofs.HeaderLaws.{header-long, same-number}

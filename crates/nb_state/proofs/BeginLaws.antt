@@ -1,14 +1,12 @@
 -- A database is created or opened, as it is held.
-use Rattle.std.proofs.Common.{◌≡◌, ℕ, ◌<◌, ◌≤◌, List, length, replicate, refl, sym, ap, ◌∙◌, arith}
-use Rattle.std.specs.Prelude.{true, false, IsTrue, None, Ok}
+use Rattle.std.proofs.Common.{◌≡◌, ℕ, ◌<◌, List, length, replicate, refl, sym, ap, ◌∙◌, arith}
+use Rattle.std.specs.Prelude.{true, false, None, Ok}
 use Rattle.nb_fields.specs.Bytes.{bytes_of, padded}
 use Rattle.nb_fields.specs.Header.{guid_of}
 use Rattle.nb_fields.specs.Page.{head_of, page_of}
 use Rattle.nb_fields.specs.Payloads.{control_block, header_payload}
-use Rattle.nb_fields.specs.Places.{is_page_size}
 use Rattle.nb_fields.specs.Fresh.{fresh_kind, fresh_payload, fresh_page, fresh}
 use Rattle.nb_host.specs.World.{World}
-use Rattle.nb_model.specs.Image.{image_guid}
 use Rattle.nb_model.specs.Trail.{Trail, settled}
 use Rattle.nb_model.proofs.FreshImageLaws.{fresh_first, fresh_state, fresh_scn, fresh_forced, fresh_open}
 use Rattle.nb_model.proofs.MainLaws.{some_page}

@@ -1,6 +1,6 @@
 -- What is open behind the turns of a backup.
-use Rattle.std.proofs.Common.{◌≡◌, ◌⊎◌, inl, inr, ⊎_elim, ℕ, suc, ◌+◌, ◌<◌, ◌≤◌, List, [], ◌∷◌, ◌++◌, length, drop, refl, sym, ap, subst, ◌∙◌, arith, length-append, drop_at}
-use Rattle.std.specs.Prelude.{Bool, true, false, Option, Some, None, Result, Ok, Err, ◌==◌}
+use Rattle.std.proofs.Common.{◌≡◌, ◌⊎◌, ⊎_elim, ℕ, ◌+◌, ◌<◌, ◌≤◌, List, [], ◌∷◌, ◌++◌, length, drop, refl, sym, ap, subst, ◌∙◌, arith, length-append, drop_at}
+use Rattle.std.specs.Prelude.{Bool, true, false, Option, Some, None, Result, Ok, Err}
 use Rattle.std.proofs.lemmas.Bool.{eq-eqb, ne_eqb}
 use Rattle.nb_fields.specs.Header.{is_header, state_of}
 use Rattle.nb_host.specs.Files.{Files}
@@ -16,7 +16,7 @@ use Rattle.nb_change.proofs.ReachedLaws.{strokes_composed, reached_front}
 use Rattle.nb_model.specs.Image.{Image, first_page, image_state, image_scn, image_guid}
 use Rattle.nb_model.specs.Account.{Ask, Base}
 use Rattle.nb_model.specs.Causes.{Cause}
-use Rattle.nb_model.specs.Strokes.{Stroke, begin, ends, finish, on_base, controlled, with_control}
+use Rattle.nb_model.specs.Strokes.{Stroke, begin, ends, finish, on_base, with_control}
 use Rattle.nb_model.specs.Trail.{Trail, settled, ShowsIn, StandsIn, after_stroke}
 use Rattle.nb_model.specs.Pages.{end_strokes, end_scn}
 use Rattle.nb_model.proofs.ControlLaws.{control_state}
@@ -24,13 +24,13 @@ use Rattle.nb_model.proofs.HeaderLaws.{header-long, header-room}
 use Rattle.nb_model.proofs.MainLaws.{some_page}
 use Rattle.nb_model.proofs.TrailLaws.{trail_base}
 use Rattle.nb_base.specs.Open.{OfFiles, IsOpen as AreOpen, IsMerged, AreMerged}
-use Rattle.nb_base.specs.Takes.{Strikes, IsNoRefusal}
+use Rattle.nb_base.specs.Takes.{Strikes}
 use Rattle.nb_base.proofs.ControlLaws.{with_control-first}
 use Rattle.nb_base.proofs.StrokeLaws.{waits}
 use Rattle.nb_page.specs.Quiet.{Quiet}
 use Rattle.nb_change.specs.Gave.{GaveNothing}
-use Rattle.nb_base.specs.Takes.{after_strokes, Takes}
-use Rattle.nb_state.specs.Open.{Held, AgreesWith, IsOpen, name_of}
+use Rattle.nb_base.specs.Takes.{after_strokes}
+use Rattle.nb_state.specs.Open.{Held, IsOpen, name_of}
 use Rattle.nb_state.specs.Does.{Tested, unless_by}
 use Rattle.nb_state.specs.Turns.{begin_cause, end_cause, Begins, Ends, Merges}
 use Rattle.nb_state.specs.declared.turns.Progress.{Progress}

@@ -1,9 +1,9 @@
-use Rattle.std.proofs.Common.{◌≡◌, ℕ, List, [], ◌∷◌, refl, sym, ap, subst, ◌∙◌}
+use Rattle.std.proofs.Common.{ℕ, List, [], ◌∷◌, sym, subst, ◌∙◌}
 use Rattle.std.specs.Prelude.{Ok}
 use Rattle.nb_host.specs.World.{World}
 use Rattle.nb_host.specs.declared.faults.Fault.TheVariants.{Device}
 use Rattle.nb_model.specs.Strokes.{begin}
-use Rattle.nb_state.specs.Open.{Held, IsOpen}
+use Rattle.nb_state.specs.Open.{Held}
 use Rattle.nb_state.specs.Turns.{Begins}
 use Rattle.nb_state.proofs.MakesLaws.{passed_on}
 use Rattle.nb_state.proofs.TurnLaws.{still_open, still_struck, given_guid, begin_failed, begin_done}

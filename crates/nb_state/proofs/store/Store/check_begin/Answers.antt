@@ -1,4 +1,4 @@
-use Rattle.std.proofs.Common.{◌≡◌, ℕ, sym, ap, ◌∙◌, arith}
+use Rattle.std.proofs.Common.{ℕ, sym, ap, ◌∙◌, arith}
 use Rattle.std.specs.Prelude.{Some}
 use Rattle.nb_host.specs.declared.refusals.Refusal.TheVariants.{WrongState, ScnExhausted}
 use Rattle.nb_state.specs.Open.{Held}

@@ -1,4 +1,4 @@
-use Rattle.std.proofs.Common.{◌≡◌, ℕ, sym, ap, ◌∙◌}
+use Rattle.std.proofs.Common.{sym, ap, ◌∙◌}
 use Rattle.nb_state.specs.Open.{Held}
 use Rattle.nb_state.proofs.TestLaws.{no_backup, other_runs, this_runs, none_runs}
 use Rattle.nb_state.proofs.store.Store.check_end.Goals as goal

@@ -1,9 +1,9 @@
-use Rattle.std.proofs.Common.{◌≡◌, ℕ, ◌+◌, List, [], ◌∷◌, refl, sym, ap, subst, ◌∙◌, arith}
-use Rattle.std.specs.Prelude.{Result, Ok}
+use Rattle.std.proofs.Common.{◌≡◌, ℕ, ◌+◌, List, refl, sym, ap, subst, ◌∙◌, arith}
+use Rattle.std.specs.Prelude.{Result}
 use Rattle.nb_host.specs.World.{World}
 use Rattle.nb_host.specs.declared.faults.Fault.{Fault}
 use Rattle.nb_host.specs.declared.faults.Fault.TheVariants.{Device}
-use Rattle.nb_model.specs.Strokes.{Stroke, ends}
+use Rattle.nb_model.specs.Strokes.{Stroke}
 use Rattle.nb_model.specs.Image.{image_state}
 use Rattle.nb_model.proofs.HeaderLaws.{header-room}
 use Rattle.nb_base.specs.Takes.{Strikes, after_strokes}

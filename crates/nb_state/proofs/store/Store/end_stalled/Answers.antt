@@ -1,4 +1,4 @@
-use Rattle.std.proofs.Common.{◌≡◌, ℕ, List, [], ◌∷◌, sym, ap, subst, ◌∙◌}
+use Rattle.std.proofs.Common.{[], ◌∷◌, sym, ap, subst, ◌∙◌}
 use Rattle.nb_host.specs.World.{World}
 use Rattle.nb_model.specs.Strokes.{ends}
 use Rattle.nb_base.specs.Takes.{Strikes}

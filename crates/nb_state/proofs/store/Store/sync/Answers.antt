@@ -1,4 +1,4 @@
-use Rattle.std.proofs.Common.{◌≡◌, sym, subst}
+use Rattle.std.proofs.Common.{sym, subst}
 use Rattle.nb_change.proofs.ResultLaws.{on_ok_then}
 use Rattle.nb_state.specs.Open.{Held, IsOpen}
 use Rattle.nb_state.proofs.TurnLaws.{open_settled}
