@@ -91,8 +91,8 @@ module _ (t : Trail) (p : ℕ) (bytes : Page) (fits : Fits p bytes t.base.image)
     open_written old new after first other is state entries opened merged = elim (eqb_tells p 0) [
       | inl w ↦ subst (λ (h : Held). IsOpen new h (after_stroke (page p bytes) t)) (sym (first w.1)) (record { files = opened; agrees = agrees_first w.1 is.agrees; merged = λ s. merged (sym state ∙ s); most = most })
       | inr w ↦
-        let some : 0 < p = above p w.1 in
-        subst (λ (h : Held). IsOpen new h (after_stroke (page p bytes) t)) (sym (other some)) (record { files = opened; agrees = agrees_other some is.agrees; merged = λ s. merged (sym state ∙ s); most = most })
+          let some : 0 < p = above p w.1 in
+          subst (λ (h : Held). IsOpen new h (after_stroke (page p bytes) t)) (sym (other some)) (record { files = opened; agrees = agrees_other some is.agrees; merged = λ s. merged (sym state ∙ s); most = most })
     ]
       where
         most : files.state ≡ 2 → held.merged ≤ length files.entries

@@ -8,10 +8,9 @@
 mod beginnings;
 mod front;
 mod store;
-mod turns;
-
 #[cfg(test)]
 mod tests;
+mod turns;
 
 pub use store::Store;
 pub use turns::Progress;

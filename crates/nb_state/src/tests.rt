@@ -59,7 +59,12 @@ fn states_follow_in_order(rt: HostRuntime) -> Result<(), Fail> {
     for (place, state, scn, entries, running) in rows {
         step(&mut host, &mut store, place)?;
         assert_eq!(rt;
-            (store.state(), store.scn(), store.delta_count(), store.running()),
+            (
+                store.state(),
+                store.scn(),
+                store.delta_count(),
+                store.running()
+            ),
             (state, scn, entries, running),
             "{place}"
         );
@@ -219,11 +224,20 @@ fn page_0_is_read_as_it_stands(rt: HostRuntime) -> Result<(), Fail> {
 fn a_backup_needs_two_scns_more(rt: HostRuntime) -> Result<(), Fail> {
     let mut host = changed(rt.alloc(), 28, &[253, 255, 255, 255])?;
     let mut store = Store::attach(rt.alloc(), &mut host, &name_of()?)?;
-    assert_eq!(rt; answer_of(store.begin(&mut host)), Answer::Scn(4_294_967_294));
-    assert_eq!(rt; answer_of(store.end(&mut host, 1)), Answer::Scn(4_294_967_295));
+    assert_eq!(rt;
+        answer_of(store.begin(&mut host)),
+        Answer::Scn(4_294_967_294)
+    );
+    assert_eq!(rt;
+        answer_of(store.end(&mut host, 1)),
+        Answer::Scn(4_294_967_295)
+    );
     host = changed(rt.alloc(), 28, &[254, 255, 255, 255])?;
     store = Store::attach(rt.alloc(), &mut host, &name_of()?)?;
-    assert_eq!(rt; answer_of(store.begin(&mut host)), Answer::Exhausted(4_294_967_294));
+    assert_eq!(rt;
+        answer_of(store.begin(&mut host)),
+        Answer::Exhausted(4_294_967_294)
+    );
     Ok(())
 }
 
