@@ -60,7 +60,7 @@ unfolding begins_level
 zeros_no_level [] zeros = refl
 zeros_no_level (b ∷ bs) zeros = let e : b ≡ 0 = eqb-true b 0 (and_parts (b == 0) (is_zeros (take 63 bs)) zeros).0 in rw e refl
 
-free_no_level : (bytes : List ℕ) (c : Contents) → is_free_file (Some bytes) ≡ true → read_level bytes ≡ Ok c → ⊥
+pub free_no_level : (bytes : List ℕ) (c : Contents) → is_free_file (Some bytes) ≡ true → read_level bytes ≡ Ok c → ⊥
 free_no_level bytes c free reads = elim (free_cases bytes free) [
   | inl zeros ↦ ok_err (read_level bytes) reads (not_level bytes (zeros_no_level bytes zeros))
   | inr unfinished ↦ header_no_level bytes c (and_parts _ _ (and_parts _ _ unfinished).0).0 reads
@@ -70,7 +70,7 @@ free_no_level bytes c free reads = elim (free_cases bytes free) [
     ok_err x a b = cc
 
 -- where it has a header it is in the applying state, and no merge is pending
-free_header : (bytes : List ℕ) → is_free_file (Some bytes) ≡ true → is_header bytes ≡ true → (state_of bytes ≡ 3) × (pending_of bytes ≡ nil)
+pub free_header : (bytes : List ℕ) → is_free_file (Some bytes) ≡ true → is_header bytes ≡ true → (state_of bytes ≡ 3) × (pending_of bytes ≡ nil)
 free_header bytes free header = elim (free_cases bytes free) [
   | inl zeros ↦ absurd (zeros_no_header bytes zeros header)
   | inr unfinished ↦

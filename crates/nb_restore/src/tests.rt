@@ -169,7 +169,7 @@ fn level_0_alone_is_restored(rt: HostRuntime) -> Result<(), Fail> {
     let restored = host.file(&target).unwrap_or(b"");
     assert_eq!(rt; (bytes.len(), restored.len()), (7168, 7168));
     assert!(rt; &bytes[..22] == &restored[..22] && &bytes[24..] == &restored[24..]);
-    assert!(rt; &restored[22..24] == &[0; 2]);
+    assert!(rt; &restored[22..24] == [0; 2].as_slice());
     Ok(())
 }
 
