@@ -1,5 +1,5 @@
 -- What the target reads as, one page after another.
-use Rattle.std.proofs.Common.{◌≡◌, ◌≢◌, inl, inr, ℕ, zero, suc, ◌+◌, ◌-◌, ◌*◌, ◌<◌, ◌≤◌, List, [], ◌∷◌, ◌++◌, length, take, drop, replicate, get_or, set, refl, sym, ap, subst, ◌∙◌, arith, append_assoc, length-append, get_or-set_other, mul-le-mul_right, suc-mul, sub-mul}
+use Rattle.std.proofs.Common.{◌≡◌, ◌≢◌, inl, inr, ℕ, zero, suc, ◌+◌, ◌-◌, ◌*◌, ◌<◌, ◌≤◌, List, [], ◌∷◌, ◌++◌, length, take, drop, replicate, get_or, set, refl, sym, ap, subst, ◌∙◌, arith, append_assoc, length-append, get_or-set_other, mul-le-mul_right, add-mul}
 use Rattle.std.specs.Prelude.{Some}
 use Rattle.std.specs.List.{AllByRecursion}
 use Rattle.std.proofs.lemmas.Bool.{cases_lt, cases_eq}
@@ -49,7 +49,8 @@ put-past size n page ps sizes past long =
     let k : ℕ = n - length ps in
     let zeros : List Page = replicate k (replicate {A = ℕ} size 0) in
     let all : length (joined ps) ≡ length ps * size = length-joined size ps sizes in
-    let gap : n * size - length (joined ps) ≡ k * size = ap (λ x. n * size - x) all ∙ sym (sub-mul n (length ps) size) in
+    let both : n * size ≡ length ps * size + k * size = ap (λ x. x * size) (let e : n ≡ length ps + k = omega (arith, past) in e) ∙ add-mul (length ps) k size in
+    let gap : n * size - length (joined ps) ≡ k * size = omega (arith, both, all) in
     let wide : joined ps ++ replicate {A = ℕ} (n * size - length (joined ps)) 0 ≡ joined (ps ++ zeros) =
     ap (λ x. joined ps ++ replicate {A = ℕ} x 0) gap ∙ ap (λ (x : List ℕ). joined ps ++ x) (joined-zeros k size) ∙ sym (joined-append ps zeros) in
     let sizes' : IsOfSize size (ps ++ zeros) = all-append (λ x. length x ≡ size) ps zeros sizes (all-replicate (λ x. length x ≡ size) k (replicate {A = ℕ} size 0) (length-replicate {A = ℕ} size 0)) in
@@ -64,13 +65,13 @@ put-past size n page ps sizes past long =
 -- a page written at its place
 pub put-written : (size : ℕ) (r : Numbered) (ps : List Page) → IsOfSize size ps → length r.1 ≡ size → put_at (joined ps) (r.0 * size) r.1 ≡ joined (written_at size r ps)
 put-written size r ps sizes long = elim (cases_lt r.0 (length ps)) [
-  | inl w ↦ put-joined size r.0 r.1 ps sizes (omega (arith, w)) long ∙ ap joined (sym (set_split r.0 r.1 ps w) ∙ sym (written-inside size r ps w))
+  | inl w ↦ put-joined size r.0 r.1 ps sizes (omega (arith, w)) long ∙ ap joined (sym (set_split ps r.0 r.1 w) ∙ sym (written-inside size r ps w))
   | inr w ↦ put-past size r.0 r.1 ps sizes w long ∙ ap joined (sym (written-past size r ps w))
 ]
 
 pub written-sizes : (size : ℕ) (r : Numbered) (ps : List Page) → IsOfSize size ps → length r.1 ≡ size → IsOfSize size (written_at size r ps)
 written-sizes size r ps sizes long = elim (cases_lt r.0 (length ps)) [
-  | inl w ↦ subst (λ (x : List Page). IsOfSize size x) (sym (set_split r.0 r.1 ps w) ∙ sym (written-inside size r ps w))
+  | inl w ↦ subst (λ (x : List Page). IsOfSize size x) (sym (set_split ps r.0 r.1 w) ∙ sym (written-inside size r ps w))
       (all-append P (take r.0 ps) (r.1 ∷ drop (suc r.0) ps) (all-take P r.0 ps sizes) (long, all-drop P (suc r.0) ps sizes))
   | inr w ↦ subst (λ (x : List Page). IsOfSize size x) (sym (written-past size r ps w))
       (all-append P ps (replicate (r.0 - length ps) (replicate size 0) ++ r.1 ∷ []) sizes

@@ -1,2 +1,5 @@
 pub mod CopiedLaws
 pub mod FrontLaws
+pub mod LevelLaws
+pub mod TargetLaws
+pub mod HeadLaws

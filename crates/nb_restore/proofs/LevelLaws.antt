@@ -1,0 +1,157 @@
+-- The pages of a level file, and of the level files, as far as they were written.
+use Rattle.std.proofs.Common.{◌≡◌, ◌≢◌, ℕ, zero, suc, ◌+◌, ◌<◌, ◌≤◌, List, [], ◌∷◌, ◌++◌, length, take, drop, get_or, refl, sym, ap, subst, ◌∙◌, arith, append_assoc, length-drop}
+use Rattle.std.specs.Prelude.{Result, Ok, Err, IsErrAnd}
+use Rattle.std.proofs.lemmas.List.{append-nil, take_more, get_or-drop, length-take-le}
+use Rattle.std.specs.Iterator.{Yields}
+use Rattle.std.specs.Vec.Iter.{into_iter_items, into_iter_steps}
+use Rattle.std.specs.declared.vec.IntoIter.{IntoIter}
+use Rattle.nb_host.specs.Files.{File, Files, bytes_of}
+use Rattle.nb_host.specs.declared.faults.Fault.{Fault}
+use Rattle.nb_host.specs.declared.faults.Fault.TheVariants.{Refused, Device, Memory}
+use Rattle.nb_model.specs.Image.{Page, Numbered, page_at}
+use Rattle.nb_model.specs.Levels.{behind, numbered_from}
+use Rattle.nb_model.specs.Restoring.{Link}
+use Rattle.nb_level.specs.Reading.{Reading, still_to_come}
+use Rattle.nb_restore.specs.Copied.{IsDone, Overwrites, OverwritesAll}
+use Rattle.nb_restore.specs.Sources.{IsReady, AreReady, AreOfPages}
+use Rattle.nb_restore.proofs.CopiedLaws.{overwrites_none, overwrites_joined, all_none, all_more}
+
+-- the device failed
+pub device_done : {T : Type 0} (result : Result T Fault) (P : Type 0) → IsErrAnd result (λ fault. fault ≡ Device) → IsDone result P
+device_done (Ok value) P is = absurd is
+device_done (Err fault) P is = subst (λ (f : Fault). IsDone (Err f) P) (sym is) tt
+
+-- what was done is less
+pub done_then : {T : Type 0} (result : Result T Fault) (P Q : Type 0) → (P → Q) → IsDone result P → IsDone result Q
+done_then (Ok value) P Q f p = f p
+done_then (Err (Refused refusal)) P Q f p = p
+done_then (Err Device) P Q f p = p
+done_then (Err Memory) P Q f p = p
+
+-- a page more of level 0
+numbered-more : (n : ℕ) (xs : List Page) (y : Page) → numbered_from n (xs ++ y ∷ []) ≡ numbered_from n xs ++ (n + length xs, y) ∷ []
+unfolding numbered_from
+numbered-more n [] y = ap (λ k. (k, y) ∷ []) (let e : n ≡ n + 0 = omega arith in e)
+numbered-more n (x ∷ xs) y = ap (λ (rs : List Numbered). (n, x) ∷ rs) (numbered-more (n + 1) xs y ∙ ap (λ k. numbered_from (n + 1) xs ++ (k, y) ∷ []) (let e : n + 1 + length xs ≡ n + suc (length xs) = omega arith in e))
+
+pub numbered_next : (ps : List Page) (k number : ℕ) → number ≡ suc k → number < length ps
+    → numbered_from 1 (take (suc k) (drop 1 ps)) ≡ numbered_from 1 (take k (drop 1 ps)) ++ (number, page_at ps number) ∷ []
+numbered_next ps k number is below =
+    let xs : List Page = drop 1 ps in
+    let low : k < length xs = omega (arith, length-drop 1 ps, is, below) in
+    let page : get_or xs k [] ≡ page_at ps number = get_or-drop ps 1 k [] ∙ ap (λ i. page_at ps i) (let e : 1 + k ≡ number = omega (arith, is) in e) in
+    let count : 1 + length (take k xs) ≡ number = omega (arith, length-take-le k xs (omega (arith, low)), is) in
+    ap (λ i. numbered_from 1 (take i xs)) (let e : suc k ≡ k + 1 = omega arith in e) ∙ ap (numbered_from 1) (take_more xs k [] low) ∙ numbered-more 1 (take k xs) (get_or xs k [])
+    ∙ ap (λ i. numbered_from 1 (take k xs) ++ (i, get_or xs k []) ∷ []) count ∙ ap (λ (p : Page). numbered_from 1 (take k xs) ++ (number, p) ∷ []) page
+
+-- the pages of a level file that were written, and those that are still to come
+pub record SoFar (size : ℕ) (bytes : List ℕ) (reader : Reading) (records : List Numbered) (before after : File) (first last : Page) : Type 0 where
+  pub done : List Numbered
+  pub rest : List Numbered
+  pub all : records ≡ done ++ rest
+  pub coming : still_to_come bytes reader ≡ Ok rest
+  pub over : Overwrites size done before after first last
+
+pub so_far_none : (size : ℕ) (bytes : List ℕ) (reader : Reading) (records : List Numbered) (file : File) (first : Page) → still_to_come bytes reader ≡ Ok records → SoFar size bytes reader records file file first first
+so_far_none size bytes reader records file first coming = record { done = []; rest = records; all = refl; coming = coming; over = overwrites_none size file first }
+
+behind_ok : (rs rest : List Numbered) (r : Result (List Numbered) ℕ) → behind rs r ≡ Ok rest → (more : List Numbered) × (r ≡ Ok more) × (rest ≡ rs ++ more)
+behind_ok rs rest (Ok more) e = (more, refl, sym (ok_same (rs ++ more) rest e))
+  where
+    ok_same : (a b : List Numbered) → Ok {E = ℕ} a ≡ Ok b → a ≡ b
+    ok_same a b h = cc
+behind_ok rs rest (Err at) e = absurd (err_ok e)
+  where
+    err_ok : Err {T = List Numbered} at ≡ Ok rest → ⊥
+    err_ok h = cc
+
+-- one page more of them
+pub so_far_more : (size : ℕ) (bytes : List ℕ) (reader next : Reading) (records : List Numbered) (n : ℕ) (page : Page) (a b c : File) (p q r : Page) → SoFar size bytes reader records a b p q
+    → still_to_come bytes reader ≡ behind ((n, page) ∷ []) (still_to_come bytes next) → Overwrites size ((n, page) ∷ []) b c q r → SoFar size bytes next records a c p r
+so_far_more size bytes reader next records n page a b c p q r so_far gives more =
+    let found = behind_ok ((n, page) ∷ []) so_far.rest (still_to_come bytes next) (sym gives ∙ so_far.coming) in
+    record {
+      done = so_far.done ++ (n, page) ∷ [];
+      rest = found.0;
+      all = so_far.all ∙ ap (λ (rs : List Numbered). so_far.done ++ rs) found.2 ∙ sym (append_assoc so_far.done ((n, page) ∷ []) found.0);
+      coming = found.1;
+      over = overwrites_joined size so_far.done ((n, page) ∷ []) a b c p q r so_far.over more;
+    }
+
+-- none is still to come
+pub so_far_all : (size : ℕ) (bytes : List ℕ) (reader : Reading) (records : List Numbered) (a b : File) (p q : Page) → SoFar size bytes reader records a b p q → still_to_come bytes reader ≡ Ok [] → Overwrites size records a b p q
+so_far_all size bytes reader records a b p q so_far none =
+    let rest : so_far.rest ≡ [] = ok_same so_far.rest [] (sym so_far.coming ∙ none) in
+    subst (λ (rs : List Numbered). Overwrites size rs a b p q) (sym (so_far.all ∙ ap (λ (rs : List Numbered). so_far.done ++ rs) rest ∙ append-nil so_far.done)) so_far.over
+  where
+    ok_same : (x y : List Numbered) → Ok {E = ℕ} x ≡ Ok y → x ≡ y
+    ok_same x y h = cc
+
+-- no place of the file is broken
+pub so_far_broken : (size : ℕ) (bytes : List ℕ) (reader : Reading) (records : List Numbered) (at : ℕ) (a b : File) (p q : Page) → SoFar size bytes reader records a b p q → still_to_come bytes reader ≡ Err at → ⊥
+so_far_broken size bytes reader records at a b p q so_far broken = err_ok (sym broken ∙ so_far.coming)
+  where
+    err_ok : Err {T = List Numbered} at ≡ Ok so_far.rest → ⊥
+    err_ok h = cc
+
+-- the files that were written, and those that are still to come
+pub record AllSoFar (files : Files) (target : List ℕ) (size : ℕ) (links : List Link) (more : List Reading) (before after : File) (first last : Page) : Type 0 where
+  pub done : List Link
+  pub rest : List Link
+  pub all : links ≡ done ++ rest
+  pub ready : AreReady files target size rest more
+  pub over : OverwritesAll size done before after first last
+
+pub all_so_far_none : (files : Files) (target : List ℕ) (size : ℕ) (links : List Link) (readers more : List Reading) (file : File) (first : Page) → readers ≡ [] ++ more → AreReady files target size links readers
+    → AllSoFar files target size links more file file first first
+all_so_far_none files target size links readers more file first same ready = record {
+  done = [];
+  rest = links;
+  all = refl;
+  ready = subst (λ (rs : List Reading). AreReady files target size links rs) same ready;
+  over = all_none size file first;
+}
+
+-- the next of them
+pub record NextReady (files : Files) (target : List ℕ) (size : ℕ) (rest : List Link) (reader : Reading) (more : List Reading) : Type 0 where
+  pub link : Link
+  pub others : List Link
+  pub is : rest ≡ link ∷ others
+  pub ready : IsReady files target size link reader
+  pub behind : AreReady files target size others more
+
+pub next_ready : (files : Files) (target : List ℕ) (size : ℕ) (rest : List Link) (reader : Reading) (more : List Reading) → AreReady files target size rest (reader ∷ more) → NextReady files target size rest reader more
+next_ready files target size [] reader more ready = absurd ready
+next_ready files target size (l ∷ ls) reader more ready = record { link = l; others = ls; is = refl; ready = ready.0; behind = ready.1 }
+
+pub all_so_far_more : (files : Files) (target : List ℕ) (size : ℕ) (links : List Link) (reader : Reading) (more : List Reading) (a b c : File) (p q r : Page) (so_far : AllSoFar files target size links (reader ∷ more) a b p q)
+    → Overwrites size (next_ready files target size so_far.rest reader more so_far.ready).link.pages b c q r → AllSoFar files target size links more a c p r
+all_so_far_more files target size links reader more a b c p q r so_far over =
+    let next = next_ready files target size so_far.rest reader more so_far.ready in
+    record {
+      done = so_far.done ++ next.link ∷ [];
+      rest = next.others;
+      all = so_far.all ∙ ap (λ (ls : List Link). so_far.done ++ ls) next.is ∙ sym (append_assoc so_far.done (next.link ∷ []) next.others);
+      ready = next.behind;
+      over = all_more size so_far.done next.link a b c p q r next.ready.sized so_far.over over;
+    }
+
+pub all_so_far_all : (files : Files) (target : List ℕ) (size : ℕ) (links : List Link) (a b : File) (p q : Page) → AllSoFar files target size links [] a b p q → OverwritesAll size links a b p q
+all_so_far_all files target size links a b p q so_far = by so_far.rest so_far.all so_far.ready
+  where
+    by : (rest : List Link) → links ≡ so_far.done ++ rest → AreReady files target size rest [] → OverwritesAll size links a b p q
+    by [] all ready = subst (λ (ls : List Link). OverwritesAll size ls a b p q) (sym (all ∙ append-nil so_far.done)) so_far.over
+    by (l ∷ ls) all ready = absurd ready
+
+-- the readers that were given are a front of all
+pub taken_front : {X A : Type 0} (s : IntoIter X A) (xs : List X) (t : IntoIter X A) → Yields into_iter_steps s xs t → into_iter_items s ≡ xs ++ into_iter_items t
+taken_front s [] t y = ap into_iter_items y
+taken_front s (x ∷ xs) t y = y.1.0 ∙ ap (λ ys. x ∷ ys) (taken_front y.0 xs t y.2)
+
+-- a reader among readers of pages of that size
+pub of_pages_at : (size : ℕ) (front : List Reading) (reader : Reading) (more all : List Reading) → all ≡ front ++ reader ∷ more → AreOfPages size all → reader.head.page_size ≡ size
+of_pages_at size front reader more all is are = by front (subst (λ (rs : List Reading). AreOfPages size rs) is are)
+  where
+    by : (front : List Reading) → AreOfPages size (front ++ reader ∷ more) → reader.head.page_size ≡ size
+    by [] h = h.0
+    by (x ∷ xs) h = by xs h.1
