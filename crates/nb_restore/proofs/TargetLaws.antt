@@ -1,6 +1,6 @@
 -- The target is made, so that a stop leaves its name free, and made whole by its page 0.
 use Rattle.std.proofs.Common.{◌≡◌, ◌≢◌, ◌⊎◌, inl, inr, ⊎_elim, ℕ, zero, suc, ◌+◌, ◌-◌, ◌*◌, ◌≤◌, List, [], ◌∷◌, ◌++◌, length, take, drop, replicate, refl, sym, ap, subst, ◌∙◌, arith, length-append}
-use Rattle.std.specs.Prelude.{Bool, true, false, ◌&&◌, ◌||◌, ◌==◌, IsTrue, Some, Result, Ok, Err, OnOk}
+use Rattle.std.specs.Prelude.{Bool, true, false, ◌&&◌, ◌||◌, ◌==◌, IsTrue, None, Some, Result, Ok, Err, OnOk}
 use Rattle.std.proofs.lemmas.Bool.{or_left, or_right, and_from}
 use Rattle.std.proofs.lemmas.List.{append-nil, drop_all}
 use Rattle.nb_fields.specs.Bytes.{is_zeros}
@@ -54,7 +54,7 @@ put-alone : (page : Page) → with_page (Some []) (0 * length page) page ≡ Som
 unfolding put_at padded
 put-alone page =
     ap (λ k. Some (take k ([] ++ replicate {A = ℕ} (k - 0) 0) ++ (page ++ drop (k + length page) []))) (let e : 0 * length page ≡ 0 = omega arith in e)
-    ∙ ap (λ (x : List ℕ). Some (page ++ x)) (drop_all (length page) [] (omega arith)) ∙ ap Some (append-nil page)
+    ∙ ap (λ (x : List ℕ). Some (page ++ x)) (drop_all (0 + length page) [] (omega arith)) ∙ ap Some (append-nil page)
 
 first_left : (page : Page) (c d : File) → IsUnfinishedPage page → c ≡ Some [] → PageLeft (0 * length page) page c d → IsFree d
 first_left page c d is empty (inl same) = subst IsFree (sym (same ∙ empty)) free_empty
@@ -75,9 +75,9 @@ module _ (target : List ℕ) where
       empty (λ c free. free) (λ c d e left. first_left page c d is e left)
 
   -- a sync leaves no more than stood before
-  pub sync_more : {T E : Type 0} (tells : Bool) (result : Result T E) (old mid new : World) (made : File → Type 0) → Changes old mid (Only target) (Remade old target made) → Syncs tells result mid new target → new.said ≡ mid.said → Passes mid new
+  pub sync_more : {T E : Type 0} (tells : Bool) (result : Result T E) (made : File → Type 0) (old mid new : World) → Changes old mid (Only target) (Remade old target made) → Syncs tells result mid new target → new.said ≡ mid.said → Passes mid new
       → Changes old new (Only target) (Remade old target made)
-  sync_more tells result old mid new made so_far syncs silent time = still_more old mid new (Only target) (Remade old target made) so_far time syncs.still silent
+  sync_more tells result made old mid new so_far syncs silent time = still_more old mid new (Only target) (Remade old target made) so_far time syncs.still silent
 
   -- and keeps what reads
   pub sync_kept : {T E : Type 0} (tells : Bool) (result : Result T E) (old new : World) (file : File) → IsTrue tells → old.files target ≡ file → Syncs tells result old new target → OnOk result (IsKept new target file)
@@ -85,12 +85,12 @@ module _ (target : List ℕ) where
       let same : new.files target ≡ file = ap (λ (f : Files). f target) syncs.still.files ∙ reads in
       on_ok_then result (λ (durable : IsDurable new target (new.files target)). record { durable = subst (λ (f : File). IsDurable new target f) same durable; reads = same }) (synced tells result old new target told syncs)
 
-  pub kept_page : {T E : Type 0} (tells : Bool) (result : Result T E) (old new : World) (page : Page) → IsTrue tells → old.files target ≡ with_page (Some []) (0 * length page) page → Syncs tells result old new target → OnOk result (IsKept new target (Some page))
-  kept_page tells result old new page told reads syncs = sync_kept tells result old new (Some page) told (reads ∙ put-alone page) syncs
+  pub kept_page : {T E : Type 0} (tells : Bool) (result : Result T E) (before : File) (old new : World) (page : Page) → IsTrue tells → before ≡ Some [] → old.files target ≡ with_page before (0 * length page) page → Syncs tells result old new target → OnOk result (IsKept new target (Some page))
+  kept_page tells result before old new page told empty reads syncs = sync_kept tells result old new (Some page) told (reads ∙ ap (λ (f : File). with_page f (0 * length page) page) empty ∙ put-alone page) syncs
 
   -- the pages are synced before page 0, also where that fails
   pub sync_first : {T E : Type 0} (tells : Bool) (result : Result T E) (old new : World) (made : File → Type 0) → IsTimely old → Syncs tells result old new target → new.said ≡ old.said → Passes old new → Changes old new (Only target) (Remade old target made)
-  sync_first tells result old new made timely syncs silent time = sync_more tells result old old new made (remade_begun old (Only target) target made timely) syncs silent time
+  sync_first tells result old new made timely syncs silent time = sync_more tells result made old old new (remade_begun old (Only target) target made timely) syncs silent time
 
   -- and then page 0 is written, also where that fails
   pub page_last : {T E : Type 0} (tells : Bool) (result : Result T E) (old mid new : World) (file : File) (page : Page) → IsTrue tells → Changes old mid (Only target) (Remade old target (PageLeft (0 * length page) page file)) → IsDurable mid target file

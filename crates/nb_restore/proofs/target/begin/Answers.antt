@@ -1,5 +1,6 @@
 use Rattle.std.proofs.Common.{refl, ◌∙◌}
 use Rattle.nb_change.proofs.GaveLaws.{silent_gave, nothing_joined}
+use Rattle.nb_restore.specs.Target.{IsFree}
 use Rattle.nb_restore.proofs.FrontLaws.{named}
 use Rattle.nb_restore.proofs.TargetLaws.{made, page_made, sync_more, kept_page}
 use Rattle.nb_restore.proofs.target.begin.Goals as goal
@@ -19,10 +20,10 @@ returns-clause-left g c tells is =
     let write = c.in_ok-write_page.ensures in
     let sync = c.sync.ensures in
     let written = page_made _ _ _ _ _ _ _ tells is (made _ _ _ _ _ tells (g.met.H.Host.timely _) make.files make.log.said make.time) make.files.done write.files write.log.said write.time in
-    sync_more _ _ _ _ _ _ _ written sync.files sync.log.said sync.time
+    sync_more _ _ _ IsFree _ _ _ written sync.files sync.log.said sync.time
 
 pub returns-clause-begun : goal.returns-clause-begun
 returns-clause-begun g c tells =
     let make = c.in_ok-make.ensures in
     let write = c.in_ok-write_page.ensures in
-    kept_page _ _ _ _ _ _ tells (named _ _ c.args.target.now _ (write.files.files tells)) c.sync.ensures.files
+    kept_page _ _ _ _ _ _ tells (named _ _ c.args.target.now _ (make.files.files tells)) (named _ _ c.args.target.now _ (write.files.files tells)) c.sync.ensures.files
