@@ -26,4 +26,4 @@ pub returns-clause-begun : goal.returns-clause-begun
 returns-clause-begun g c tells =
     let make = c.in_ok-make.ensures in
     let write = c.in_ok-write_page.ensures in
-    kept_page _ _ _ _ _ _ tells (named _ _ c.args.target.now _ (make.files.files tells)) (named _ _ c.args.target.now _ (write.files.files tells)) c.sync.ensures.files
+    kept_page _ _ _ _ _ _ _ tells (named _ _ c.args.target.now _ (make.files.files tells)) (named _ _ c.args.target.now _ (write.files.files tells)) c.sync.ensures.files
