@@ -1,5 +1,5 @@
-use Rattle.std.proofs.Common.{ℕ, ◌*◌, List, length}
-use Rattle.nb_host.specs.Files.{File}
+use Rattle.std.proofs.Common.{ℕ, ◌*◌, List, length, ap, ◌∙◌}
+use Rattle.nb_host.specs.Files.{File, Files, with_page}
 use Rattle.nb_host.specs.World.{World}
 use Rattle.nb_host.specs.Crash.{PageLeft}
 use Rattle.nb_restore.proofs.FrontLaws.{named}
@@ -31,4 +31,4 @@ pub returns-clause-done : goal.returns-clause-done
 returns-clause-done g c tells =
     let sync = c.in_ok-sync.ensures in
     let write = c.in_ok-write_page.ensures in
-    sync_kept _ _ _ _ _ _ tells (named _ _ c.args.target.now _ (write.files.files tells)) c.sync-2.ensures.files
+    sync_kept _ _ _ _ _ _ tells (named _ _ c.args.target.now _ (write.files.files tells) ∙ ap (λ (f : Files). with_page (f c.args.target.now) (0 * length c.args.first.now) c.args.first.now) sync.files.still.files) c.sync-2.ensures.files
