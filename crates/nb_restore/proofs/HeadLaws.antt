@@ -65,20 +65,21 @@ tested h n page clear zero_is = by (is_first_page h page) refl
     by true is = first_page-head h page is
     by false is = absurd (true≢false (sym (ap (λ (x : Bool). x && true) (eq_yes n 0 zero_is)) ∙ ap (λ (x : Bool). n == 0 && not x) (sym is) ∙ clear))
 
+-- one answer holds one value, and none where it is an error
+ok_same : {X : Type 0} (x y : X) (answer : Result X ℕ) → answer ≡ Ok x → answer ≡ Ok y → x ≡ y
+ok_same x y answer e f = cc
+
+err_ok : {X : Type 0} (at : ℕ) (x : X) (answer : Result X ℕ) → answer ≡ Err at → answer ≡ Ok x → ⊥
+err_ok at x answer e f = cc
+
 -- the pages behind others
 behind-headed : (size : ℕ) (rs all : List Numbered) (r : Result (List Numbered) ℕ) → AreHeaded size rs → ((more : List Numbered) → r ≡ Ok more → AreHeaded size more) → behind rs r ≡ Ok all → AreHeaded size all
-behind-headed size rs all (Ok more) front rest e = subst (λ (x : List Numbered). AreHeaded size x) (ok_same (rs ++ more) all e) (joined rs front (rest more refl))
+behind-headed size rs all (Ok more) front rest e = subst (λ (x : List Numbered). AreHeaded size x) (ok_same (rs ++ more) all (Ok (rs ++ more)) refl e) (joined rs front (rest more refl))
   where
-    ok_same : (a b : List Numbered) → Ok {E = ℕ} a ≡ Ok b → a ≡ b
-    ok_same a b h = cc
-
     joined : (xs : List Numbered) → AreHeaded size xs → AreHeaded size more → AreHeaded size (xs ++ more)
     joined [] h k = k
     joined (x ∷ xs) h k = (h.0, joined xs h.1 k)
-behind-headed size rs all (Err at) front rest e = absurd (err_ok e)
-  where
-    err_ok : Err {T = List Numbered} at ≡ Ok all → ⊥
-    err_ok h = cc
+behind-headed size rs all (Err at) front rest e = absurd (err_ok at all (Err at) refl e)
 
 -- nothing is read behind the end
 end-headed : (size at count : ℕ) (rest : List ℕ) (all : List Numbered) → read_end at count rest ≡ Ok all → AreHeaded size all
@@ -86,14 +87,8 @@ unfolding read_end
 end-headed size at count rest all e = by (first_fault ((count == 0, at) ∷ ends_before 8 at rest ∷ (not (number_in 4 4 rest == count), at + 4) ∷ (nat_lt 8 (length rest), at + 8) ∷ [])) e
   where
     by : (o : Option ℕ) → elim o as (λ x. Result (List Numbered) ℕ) [ Some place ↦ Err place | None ↦ Ok [] ] ≡ Ok all → AreHeaded size all
-    by (Some place) h = absurd (err_ok h)
-      where
-        err_ok : Err {T = List Numbered} place ≡ Ok all → ⊥
-        err_ok k = cc
-    by None h = subst (λ (x : List Numbered). AreHeaded size x) (ok_same [] all h) tt
-      where
-        ok_same : (a b : List Numbered) → Ok {E = ℕ} a ≡ Ok b → a ≡ b
-        ok_same a b k = cc
+    by (Some place) h = absurd (err_ok place all (Err place) refl h)
+    by None h = subst (λ (x : List Numbered). AreHeaded size x) (ok_same [] all (Ok []) refl h) tt
 
 -- tests of which none fails, one after another
 clear_head : (t : Bool × ℕ) (ts : List (Bool × ℕ)) → first_fault (t ∷ ts) ≡ None → (t.0 ≡ false) × (first_fault ts ≡ None)
@@ -105,25 +100,27 @@ clear_head (true, at) ts e = absurd (some_none e)
 clear_head (false, at) ts e = (refl, e)
 
 module _ (h : Head) where
+  -- the tests of a page and of a run
+  abbrev single_tests : (at count least : ℕ) (rest : List ℕ) → List (Bool × ℕ)
+  single_tests at count least rest = (is_bad_number count least (number_in 0 4 rest), at) ∷ ends_before (4 + h.size) at rest ∷ (number_in 0 4 rest == 0 && not (is_first_page h (part 4 h.size rest)), at + 4) ∷ []
+
+  abbrev run_tests : (at count least barred : ℕ) (rest : List ℕ) → List (Bool × ℕ)
+  run_tests at count least barred rest =
+      (is_bad_number count least (number_in 0 4 rest) || number_in 0 4 rest == barred, at)
+      ∷ ends_before 8 at rest
+      ∷ (number_in 4 4 rest == 0 || (nat_lt 16 (number_in 4 4 rest) || nat_lt 1048576 (number_in 0 4 rest + number_in 4 4 rest)), at + 4)
+      ∷ (number_in 0 4 rest == 0 && nat_lt (length rest) (8 + h.size), at + length rest)
+      ∷ (number_in 0 4 rest == 0 && not (is_first_page h (part 8 h.size rest)), at + 8)
+      ∷ ends_before (8 + number_in 4 4 rest * h.size) at rest
+      ∷ []
+
   -- version 101
   singles-headed : (left at count least : ℕ) (rest : List ℕ) (all : List Numbered) → read_singles left h at count least rest ≡ Ok all → AreHeaded h.size all
   unfolding read_singles
-  singles-headed zero at count least rest all e = absurd (err_ok e)
+  singles-headed zero at count least rest all e = absurd (err_ok at all (Err at) refl e)
+  singles-headed (suc left) at count least rest all e = by (nat_lt (length rest) 4) (number_in 0 4 rest == end_mark) (first_fault (single_tests at count least rest)) refl e
     where
-      err_ok : Err {T = List Numbered} at ≡ Ok all → ⊥
-      err_ok k = cc
-  singles-headed (suc left) at count least rest all e = by (nat_lt (length rest) 4) (number_in 0 4 rest == end_mark) (first_fault tests) refl e
-    where
-      n : ℕ
-      n = number_in 0 4 rest
-
-      abbrev tests : List (Bool × ℕ)
-      tests = (is_bad_number count least (number_in 0 4 rest), at) ∷ ends_before (4 + h.size) at rest ∷ (number_in 0 4 rest == 0 && not (is_first_page h (part 4 h.size rest)), at + 4) ∷ []
-
-      err_ok : (place : ℕ) → Err {T = List Numbered} place ≡ Ok all → ⊥
-      err_ok place k = cc
-
-      by : (short ends : Bool) (o : Option ℕ) → first_fault tests ≡ o
+      by : (short ends : Bool) (o : Option ℕ) → first_fault (single_tests at count least rest) ≡ o
           → elim short as (λ x. Result (List Numbered) ℕ) [
             | true ↦ Err (at + length rest)
             | false ↦ elim ends as (λ x. Result (List Numbered) ℕ) [
@@ -134,9 +131,9 @@ module _ (h : Head) where
               ]
             ]
           ] ≡ Ok all → AreHeaded h.size all
-      by true ends o is k = absurd (err_ok (at + length rest) k)
+      by true ends o is k = absurd (err_ok (at + length rest) all (Err (at + length rest)) refl k)
       by false true o is k = end-headed h.size at count rest all k
-      by false false (Some place) is k = absurd (err_ok place k)
+      by false false (Some place) is k = absurd (err_ok place all (Err place) refl k)
       by false false None is k =
           let clear = clear_head _ _ (clear_head _ _ (clear_head _ _ is).1).1 in
           behind-headed h.size ((number_in 0 4 rest, part 4 h.size rest) ∷ []) all _ (tested h (number_in 0 4 rest) (part 4 h.size rest) clear.0, tt)
@@ -156,26 +153,10 @@ module _ (h : Head) where
   -- version 102
   runs-headed : (left at count least barred : ℕ) (rest : List ℕ) (all : List Numbered) → read_runs left h at count least barred rest ≡ Ok all → AreHeaded h.size all
   unfolding read_runs
-  runs-headed zero at count least barred rest all e = absurd (err_ok e)
+  runs-headed zero at count least barred rest all e = absurd (err_ok at all (Err at) refl e)
+  runs-headed (suc left) at count least barred rest all e = by (nat_lt (length rest) 4) (number_in 0 4 rest == end_mark) (first_fault (run_tests at count least barred rest)) refl e
     where
-      err_ok : Err {T = List Numbered} at ≡ Ok all → ⊥
-      err_ok k = cc
-  runs-headed (suc left) at count least barred rest all e = by (nat_lt (length rest) 4) (number_in 0 4 rest == end_mark) (first_fault tests) refl e
-    where
-      abbrev tests : List (Bool × ℕ)
-      tests =
-          (is_bad_number count least (number_in 0 4 rest) || number_in 0 4 rest == barred, at)
-          ∷ ends_before 8 at rest
-          ∷ (number_in 4 4 rest == 0 || (nat_lt 16 (number_in 4 4 rest) || nat_lt 1048576 (number_in 0 4 rest + number_in 4 4 rest)), at + 4)
-          ∷ (number_in 0 4 rest == 0 && nat_lt (length rest) (8 + h.size), at + length rest)
-          ∷ (number_in 0 4 rest == 0 && not (is_first_page h (part 8 h.size rest)), at + 8)
-          ∷ ends_before (8 + number_in 4 4 rest * h.size) at rest
-          ∷ []
-
-      err_ok : (place : ℕ) → Err {T = List Numbered} place ≡ Ok all → ⊥
-      err_ok place k = cc
-
-      by : (short ends : Bool) (o : Option ℕ) → first_fault tests ≡ o
+      by : (short ends : Bool) (o : Option ℕ) → first_fault (run_tests at count least barred rest) ≡ o
           → elim short as (λ x. Result (List Numbered) ℕ) [
             | true ↦ Err (at + length rest)
             | false ↦ elim ends as (λ x. Result (List Numbered) ℕ) [
@@ -187,9 +168,9 @@ module _ (h : Head) where
               ]
             ]
           ] ≡ Ok all → AreHeaded h.size all
-      by true ends o is k = absurd (err_ok (at + length rest) k)
+      by true ends o is k = absurd (err_ok (at + length rest) all (Err (at + length rest)) refl k)
       by false true o is k = end-headed h.size at count rest all k
-      by false false (Some place) is k = absurd (err_ok place k)
+      by false false (Some place) is k = absurd (err_ok place all (Err place) refl k)
       by false false None is k =
           let clear = clear_head _ _ (clear_head _ _ (clear_head _ _ (clear_head _ _ (clear_head _ _ is).1).1).1).1 in
           behind-headed h.size (pages_in h.size (number_in 4 4 rest) (number_in 0 4 rest) (drop 8 rest)) all _
@@ -206,24 +187,17 @@ module _ (h : Head) where
 
 -- what is read of a level file
 with_head-is : (version : ℕ) (h : Head) (r : Result (List Numbered) ℕ) (c : Contents) → with_head version h r ≡ Ok c → (r ≡ Ok c.pages) × (c.head ≡ h)
-with_head-is version h (Ok rs) c e = (ap (λ (x : Contents). Ok x.pages) (ok_same (record { version = version; head = h; pages = rs }) c e), ap (λ (x : Contents). x.head) (sym (ok_same (record { version = version; head = h; pages = rs }) c e)))
-  where
-    ok_same : (a b : Contents) → Ok {E = ℕ} a ≡ Ok b → a ≡ b
-    ok_same a b k = cc
-with_head-is version h (Err at) c e = absurd (err_ok e)
-  where
-    err_ok : Err {T = Contents} at ≡ Ok c → ⊥
-    err_ok k = cc
+with_head-is version h (Ok rs) c e = 
+    let read : Contents = record { version = version; head = h; pages = rs } in
+    let same : read ≡ c = ok_same read c (Ok read) refl e in (ap (λ (x : Contents). Ok x.pages) same, ap (λ (x : Contents). x.head) (sym same))
+with_head-is version h (Err at) c e = absurd (err_ok at c (Err at) refl e)
 
 pub level-headed : (bytes : List ℕ) (c : Contents) → read_level bytes ≡ Ok c → AreHeaded c.head.size c.pages
 unfolding read_level
 level-headed bytes c e = by (first_fault _) e
   where
     by : (o : Option ℕ) → elim o as (λ x. Result Contents ℕ) [ Some place ↦ Err place | None ↦ with_head (number_in 4 2 bytes) (head_in bytes) (read_pages (number_in 4 2 bytes) (head_in bytes) bytes) ] ≡ Ok c → AreHeaded c.head.size c.pages
-    by (Some place) k = absurd (err_ok k)
-      where
-        err_ok : Err {T = Contents} place ≡ Ok c → ⊥
-        err_ok j = cc
+    by (Some place) k = absurd (err_ok place c (Err place) refl k)
     by None k =
         let is = with_head-is (number_in 4 2 bytes) (head_in bytes) (read_pages (number_in 4 2 bytes) (head_in bytes) bytes) c k in
         subst (λ (x : Head). AreHeaded x.size c.pages) (sym is.1) (pages-headed (head_in bytes) (number_in 4 2 bytes) bytes c.pages is.0)

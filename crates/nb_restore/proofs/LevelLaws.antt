@@ -18,8 +18,15 @@ use Rattle.nb_restore.proofs.CopiedLaws.{overwrites_none, overwrites_joined, all
 
 -- the device failed
 pub device_done : {T : Type 0} (result : Result T Fault) (P : Type 0) → IsErrAnd result (λ fault. fault ≡ Device) → IsDone result P
-device_done (Ok value) P is = absurd is
-device_done (Err fault) P is = subst (λ (f : Fault). IsDone (Err f) P) (sym is) tt
+device_done {T} (Ok value) P is = absurd is
+device_done {T} (Err fault) P is = subst (λ (f : Fault). IsDone {T = T} (Err f) P) (sym is) tt
+
+-- one answer holds one list, and no list where it is an error
+ok_same : (xs ys : List Numbered) (answer : Result (List Numbered) ℕ) → answer ≡ Ok xs → answer ≡ Ok ys → xs ≡ ys
+ok_same xs ys answer e f = cc
+
+err_ok : (at : ℕ) (xs : List Numbered) (answer : Result (List Numbered) ℕ) → answer ≡ Err at → answer ≡ Ok xs → ⊥
+err_ok at xs answer e f = cc
 
 -- what was done is less
 pub done_then : {T : Type 0} (result : Result T Fault) (P Q : Type 0) → (P → Q) → IsDone result P → IsDone result Q
@@ -39,7 +46,7 @@ pub numbered_next : (ps : List Page) (k number : ℕ) → number ≡ suc k → n
 numbered_next ps k number is below =
     let xs : List Page = drop 1 ps in
     let low : k < length xs = omega (arith, length-drop 1 ps, is, below) in
-    let page : get_or xs k [] ≡ page_at ps number = get_or-drop ps 1 k [] ∙ ap (λ i. page_at ps i) (let e : 1 + k ≡ number = omega (arith, is) in e) in
+    let page : get_or xs k [] ≡ page_at ps number = get_or-drop 1 ps k [] ∙ ap (λ i. page_at ps i) (let e : 1 + k ≡ number = omega (arith, is) in e) in
     let count : 1 + length (take k xs) ≡ number = omega (arith, length-take-le k xs (omega (arith, low)), is) in
     ap (λ i. numbered_from 1 (take i xs)) (let e : suc k ≡ k + 1 = omega arith in e) ∙ ap (numbered_from 1) (take_more xs k [] low) ∙ numbered-more 1 (take k xs) (get_or xs k [])
     ∙ ap (λ i. numbered_from 1 (take k xs) ++ (i, get_or xs k []) ∷ []) count ∙ ap (λ (p : Page). numbered_from 1 (take k xs) ++ (number, p) ∷ []) page
@@ -56,14 +63,8 @@ pub so_far_none : (size : ℕ) (bytes : List ℕ) (reader : Reading) (records : 
 so_far_none size bytes reader records file first coming = record { done = []; rest = records; all = refl; coming = coming; over = overwrites_none size file first }
 
 behind_ok : (rs rest : List Numbered) (r : Result (List Numbered) ℕ) → behind rs r ≡ Ok rest → (more : List Numbered) × (r ≡ Ok more) × (rest ≡ rs ++ more)
-behind_ok rs rest (Ok more) e = (more, refl, sym (ok_same (rs ++ more) rest e))
-  where
-    ok_same : (a b : List Numbered) → Ok {E = ℕ} a ≡ Ok b → a ≡ b
-    ok_same a b h = cc
-behind_ok rs rest (Err at) e = absurd (err_ok e)
-  where
-    err_ok : Err {T = List Numbered} at ≡ Ok rest → ⊥
-    err_ok h = cc
+behind_ok rs rest (Ok more) e = (more, refl, sym (ok_same (rs ++ more) rest (Ok (rs ++ more)) refl e))
+behind_ok rs rest (Err at) e = absurd (err_ok at rest (Err at) refl e)
 
 -- one page more of them
 pub so_far_more : (size : ℕ) (bytes : List ℕ) (reader next : Reading) (records : List Numbered) (n : ℕ) (page : Page) (a b c : File) (p q r : Page) → SoFar size bytes reader records a b p q
@@ -81,18 +82,12 @@ so_far_more size bytes reader next records n page a b c p q r so_far gives more 
 -- none is still to come
 pub so_far_all : (size : ℕ) (bytes : List ℕ) (reader : Reading) (records : List Numbered) (a b : File) (p q : Page) → SoFar size bytes reader records a b p q → still_to_come bytes reader ≡ Ok [] → Overwrites size records a b p q
 so_far_all size bytes reader records a b p q so_far none =
-    let rest : so_far.rest ≡ [] = ok_same so_far.rest [] (sym so_far.coming ∙ none) in
+    let rest : so_far.rest ≡ [] = ok_same so_far.rest [] (still_to_come bytes reader) so_far.coming none in
     subst (λ (rs : List Numbered). Overwrites size rs a b p q) (sym (so_far.all ∙ ap (λ (rs : List Numbered). so_far.done ++ rs) rest ∙ append-nil so_far.done)) so_far.over
-  where
-    ok_same : (x y : List Numbered) → Ok {E = ℕ} x ≡ Ok y → x ≡ y
-    ok_same x y h = cc
 
 -- no place of the file is broken
 pub so_far_broken : (size : ℕ) (bytes : List ℕ) (reader : Reading) (records : List Numbered) (at : ℕ) (a b : File) (p q : Page) → SoFar size bytes reader records a b p q → still_to_come bytes reader ≡ Err at → ⊥
-so_far_broken size bytes reader records at a b p q so_far broken = err_ok (sym broken ∙ so_far.coming)
-  where
-    err_ok : Err {T = List Numbered} at ≡ Ok so_far.rest → ⊥
-    err_ok h = cc
+so_far_broken size bytes reader records at a b p q so_far broken = err_ok at so_far.rest (still_to_come bytes reader) broken so_far.coming
 
 -- the files that were written, and those that are still to come
 pub record AllSoFar (files : Files) (target : List ℕ) (size : ℕ) (links : List Link) (more : List Reading) (before after : File) (first last : Page) : Type 0 where

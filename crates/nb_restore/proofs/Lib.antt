@@ -5,3 +5,4 @@ pub mod PageLaws
 pub mod TargetLaws
 pub mod HeadLaws
 pub mod FinishLaws
+pub mod ReadyLaws

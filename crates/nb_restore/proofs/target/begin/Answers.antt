@@ -6,6 +6,7 @@ use Rattle.nb_restore.proofs.HeadLaws.{level-headed, head_all}
 use Rattle.nb_restore.proofs.FinishLaws.{last_left}
 use Rattle.nb_restore.proofs.LevelLaws.{all_so_far_all}
 use Rattle.nb_restore.proofs.PageLaws.{copied_all}
+use Rattle.nb_restore.proofs.ReadyLaws.{ready_still}
 use Rattle.nb_restore.proofs.TargetLaws.{made, page_made, sync_more, kept_page}
 use Rattle.nb_restore.proofs.target.begin.Goals as goal
 
