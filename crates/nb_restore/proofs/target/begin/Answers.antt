@@ -2,11 +2,6 @@ use Rattle.std.proofs.Common.{refl, ◌∙◌}
 use Rattle.nb_change.proofs.GaveLaws.{silent_gave, nothing_joined}
 use Rattle.nb_restore.specs.Target.{IsFree}
 use Rattle.nb_restore.proofs.FrontLaws.{named}
-use Rattle.nb_restore.proofs.HeadLaws.{level-headed, head_all}
-use Rattle.nb_restore.proofs.FinishLaws.{last_left}
-use Rattle.nb_restore.proofs.LevelLaws.{all_so_far_all}
-use Rattle.nb_restore.proofs.PageLaws.{copied_all}
-use Rattle.nb_restore.proofs.ReadyLaws.{ready_still}
 use Rattle.nb_restore.proofs.TargetLaws.{made, page_made, sync_more, kept_page}
 use Rattle.nb_restore.proofs.target.begin.Goals as goal
 
