@@ -321,7 +321,7 @@ err_ok : {r : Refusal} {b : Base} → Err r ≡ Ok b → ⊥
 err_ok h = cc
 
 -- the frozen image by a test of the state
-frozen_in : (state : ℕ) (main : Image) → IsFrozen state main (elim (state == 1) as (λ z. Image) [ true ↦ main | false ↦ [] ])
+pub frozen_in : (state : ℕ) (main : Image) → IsFrozen state main (elim (state == 1) as (λ z. Image) [ true ↦ main | false ↦ [] ])
 frozen_in state main = elim (eqb_tells state 1) [
   | inl w ↦ record { stalled = λ e. ap (λ (t : Bool). elim t as (λ z. Image) [ true ↦ main | false ↦ [] ]) w.0; other = λ ne. absurd (ne w.1) }
   | inr w ↦ record { stalled = λ e. absurd (w.1 e); other = λ ne. ap (λ (t : Bool). elim t as (λ z. Image) [ true ↦ main | false ↦ [] ]) w.0 }

@@ -1,9 +1,9 @@
 -- A database is created or opened.
-use Rattle.std.specs.Prelude.{◌≡◌, ◌⊎◌, ℕ, true, false, List, Result, Ok, Err}
+use Rattle.std.specs.Prelude.{◌≡◌, ◌⊎◌, ℕ, true, false, List, length, Result, Ok, Err}
 use Rattle.nb_fields.specs.Free.{is_free_file}
 use Rattle.nb_host.specs.Files.{Files}
 use Rattle.nb_host.specs.World.{World}
-use Rattle.nb_host.specs.Crash.{Leaves}
+use Rattle.nb_host.specs.Crash.{Leaves, LeavesAll}
 use Rattle.nb_host.specs.declared.faults.Fault.{Fault}
 use Rattle.nb_host.specs.declared.faults.Fault.TheVariants.{Refused, Device, Memory}
 use Rattle.nb_host.specs.declared.refusals.Refusal.TheVariants.{FileExists}
@@ -47,4 +47,21 @@ pub record Creates (result : Result Held Fault) (old new : World) (name : List �
   pub left : Changes old new (Only name) (CreateLeft old name image)
   pub gave : GaveNothing old new
   -- where the name isn't free, nothing changes
+  pub taken : is_free_name old.files name ≡ false → Quiet old new
+
+-- whatever a stop now leaves of its two files, they are those of this database, and so they read
+pub record IsSettled (w : World) (name : List ℕ) (b : Base) : Type 0 where
+  pub left : (files : Files) → LeavesAll w files → ShowsIn name b files
+  pub shows : ShowsIn name b w.files
+
+-- the main file of a new database is made, or the name is not free
+abbrev pub FileAnswers : Result ℕ Fault → (old new : World) (name : List ℕ) (image : Image) → Type 0
+FileAnswers (Ok count) old new name image = (is_free_name old.files name ≡ true) × (count ≡ length image) × IsSettled new name (base_of image)
+FileAnswers (Err (Refused refusal)) old new name image = (is_free_name old.files name ≡ false) × (refusal ≡ FileExists name)
+FileAnswers (Err Device) old new name image = Unit {0}
+FileAnswers (Err Memory) old new name image = ⊥
+
+pub record CreatesFile (result : Result ℕ Fault) (old new : World) (name : List ℕ) (image : Image) : Type 0 where
+  pub answer : FileAnswers result old new name image
+  pub left : Changes old new (Only name) (CreateLeft old name image)
   pub taken : is_free_name old.files name ≡ false → Quiet old new

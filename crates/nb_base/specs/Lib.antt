@@ -2,3 +2,5 @@ pub mod Open
 pub mod Seen
 pub mod Takes
 pub mod Beginnings
+pub mod Attach
+pub mod Control

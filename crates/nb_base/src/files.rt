@@ -27,15 +27,15 @@ use std::marker::Model;
 /// The two files of one database.
 #[derive(Drop)]
 pub struct TwoFiles {
-    name: Name,
+    pub(crate) name: Name,
     /// The backup state: 0 normal, 1 stalled, 2 merge.
-    state: u16,
+    pub(crate) state: u16,
     /// In pages.
-    count: u32,
-    main_count: u32,
-    delta: Delta,
+    pub(crate) count: u32,
+    pub(crate) main_count: u32,
+    pub(crate) delta: Delta,
     /// Room for one page.
-    page: Vec<u8>,
+    pub(crate) page: Vec<u8>,
 }
 
 impl Model for TwoFiles {
@@ -150,69 +150,6 @@ impl TwoFiles {
         }
     }
 
-    /// Begins a backup with that GUID: the main file is kept for good and frozen, and an empty difference file is made. Its state is
-    /// then 1, and its SCN one higher.
-    pub fn begin<H: Host>(&mut self, host: &mut H, guid: &[u8; 16]) -> Result<(), HostFault>
-        requires normal { self.old.state ≡ 0 }
-        requires stub { ⊥ }
-        ensures takes { (t : Trail) (ask : Option Ask) → IsTrue H.tells → IsOpen (H.world host.old) self.old t → image_scn t.base.image < 4294967295
-            → Takes result (H.world host.old) (H.world host.new) self.old.name (IsOpen (H.world host.new) self.new) t (begin_stroke guid.now ask ∷ []) }
-        ensures gave { GaveNothing (H.world host.old) (H.world host.new) }
-        ensures name { self.new.name ≡ self.old.name }
-        ensures page_size { self.new.page_size ≡ self.old.page_size }
-        ensures cause { CountsFault result (H.faults host.old) (H.faults host.new) }
-    {
-        unreachable!()
-    }
-
-    /// Ends the stalled state: from now on the pages of the difference file may be merged back. Its state is then 2, and its SCN one
-    /// higher.
-    pub fn end<H: Host>(&mut self, host: &mut H) -> Result<(), HostFault>
-        requires stalled { self.old.state ≡ 1 }
-        requires stub { ⊥ }
-        ensures takes { (t : Trail) → IsTrue H.tells → IsOpen (H.world host.old) self.old t → image_scn t.base.image < 4294967295
-            → Takes result (H.world host.old) (H.world host.new) self.old.name (IsOpen (H.world host.new) self.new) t (ends ∷ []) }
-        ensures gave { GaveNothing (H.world host.old) (H.world host.new) }
-        ensures name { self.new.name ≡ self.old.name }
-        ensures page_size { self.new.page_size ≡ self.old.page_size }
-        ensures entries { self.new.entries ≡ self.old.entries }
-        ensures cause { CountsFault result (H.faults host.old) (H.faults host.new) }
-    {
-        unreachable!()
-    }
-
-    /// Writes the page of entry `k` from its slot into the main file. It changes no page of the database.
-    pub fn merge_entry<H: Host>(&mut self, host: &mut H, k: u32) -> Result<(), HostFault>
-        requires merge { self.old.state ≡ 2 }
-        requires inside { k < length self.old.entries }
-        requires stub { ⊥ }
-        ensures takes { (t : Trail) → IsTrue H.tells → IsOpen (H.world host.old) self.old t
-            → Takes result (H.world host.old) (H.world host.new) self.old.name (IsOpen (H.world host.new) self.new) t [] }
-        ensures merged { (t : Trail) → IsTrue H.tells → IsOpen (H.world host.old) self.old t → AreMerged (H.world host.old) self.old k
-            → OnOk result (AreMerged (H.world host.new) self.new (k + 1)) }
-        ensures gave { GaveNothing (H.world host.old) (H.world host.new) }
-        ensures name { self.new.name ≡ self.old.name }
-        ensures page_size { self.new.page_size ≡ self.old.page_size }
-        ensures entries { self.new.entries ≡ self.old.entries }
-        ensures cause { CountsFault result (H.faults host.old) (H.faults host.new) }
-    {
-        unreachable!()
-    }
-
-    /// Ends the merge, once every entry is equal in both files: its state is 0 again, and the difference file is removed.
-    pub fn finish<H: Host>(&mut self, host: &mut H) -> Result<(), HostFault>
-        requires merge { self.old.state ≡ 2 }
-        requires stub { ⊥ }
-        ensures takes { (t : Trail) → IsTrue H.tells → IsOpen (H.world host.old) self.old t → AreMerged (H.world host.old) self.old (length self.old.entries)
-            → Takes result (H.world host.old) (H.world host.new) self.old.name (IsOpen (H.world host.new) self.new) t (finish_stroke ∷ []) }
-        ensures gave { GaveNothing (H.world host.old) (H.world host.new) }
-        ensures name { self.new.name ≡ self.old.name }
-        ensures page_size { self.new.page_size ≡ self.old.page_size }
-        ensures cause { CountsFault result (H.faults host.old) (H.faults host.new) }
-    {
-        unreachable!()
-    }
-
     /// Keeps both files for good. It changes nothing.
     pub fn sync<H: Host>(&mut self, host: &mut H) -> Result<(), HostFault>
         ensures open { (t : Trail) → IsTrue H.tells → IsOpen (H.world host.old) self.old t → IsOpen (H.world host.new) self.new t }
@@ -243,38 +180,5 @@ impl TwoFiles {
     {
         read_page(host, &self.name, number, into)?;
         Ok(())
-    }
-
-    /// Opens the two files of a database, and takes room for one of its pages. It changes nothing: both files are kept for good before
-    /// it answers, so that no later stop takes back what was read of them.
-    ///
-    /// The refusals are `NoFile`, `NotDatabase`, `Unfinished`, `NoFile` of the difference file and `BadDelta`, in this order.
-    pub fn attach<H: Host>(alloc: Global, host: &mut H, name: &Name) -> Result<TwoFiles, Fault>
-        requires name { length name.now ≤ 94 }
-        requires stub { ⊥ }
-        ensures attaches { IsTrue H.tells → Attaches result (H.world host.old) (H.world host.new) name.now }
-        ensures quiet { Quiet (H.world host.old) (H.world host.new) }
-        ensures cause { CountsDevice result (H.faults host.old) (H.faults host.new) }
-    {
-        unreachable!()
-    }
-
-    /// Makes a new database with `raw` raw pages, and opens it. The refusal is `FileExists`, where the name is not free; then nothing
-    /// has changed.
-    pub fn create<H: Host>(
-        alloc: Global,
-        host: &mut H,
-        name: &Name,
-        page_size: u32,
-        raw: u32,
-    ) -> Result<TwoFiles, Fault>
-        requires size { IsTrue (is_page_size page_size) }
-        requires raw { raw ≤ 65535 }
-        requires name { length name.now ≤ 94 }
-        requires stub { ⊥ }
-        ensures creates { IsTrue H.tells → Creates result (H.world host.old) (H.world host.new) name.now (fresh page_size raw) }
-        ensures cause { CountsDevice result (H.faults host.old) (H.faults host.new) }
-    {
-        unreachable!()
     }
 }

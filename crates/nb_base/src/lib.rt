@@ -6,6 +6,9 @@
 //! holds a page.
 #![tactic(auto)]
 
+mod attach;
+mod beginnings;
+mod control;
 mod files;
 mod reads;
 mod sync;

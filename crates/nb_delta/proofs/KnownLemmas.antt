@@ -81,13 +81,11 @@ pub clear_changes : (old new : World) (inside forgot k : Known) → inside ≡ f
 clear_changes old new inside forgot k same is changes =
     subst (λ (name : List ℕ). Changes old new (Only name) (Remade old name (λ file. file ≡ None))) (forgot_name inside forgot k same is) changes
 
--- bytes with zeros behind them
-padded_to : (size : ℕ) (rest : List ℕ) → length rest < size → take size (rest ++ replicate size 0) ≡ rest ++ replicate (size - length rest) 0
-padded_to size rest short =
-    let k : ℕ = size - length rest in
-    let sum : size ≡ k + length rest = omega arith in
-    let long : length (rest ++ replicate k 0) ≡ size = omega (arith, length-append rest (replicate k 0), length-replicate {A = ℕ} k 0) in
-    ap {A = ℕ} (λ (n : ℕ). take size (rest ++ replicate n 0)) {x = size} {y = k + length rest} sum
+-- bytes with zeros behind them, `k` of which are taken
+padded_to : (size k : ℕ) (rest : List ℕ) → size ≡ k + length rest → take size (rest ++ replicate size 0) ≡ rest ++ replicate k 0
+padded_to size k rest sum =
+    let long : length (rest ++ replicate k 0) ≡ size = omega (arith, sum, length-append rest (replicate k 0), length-replicate {A = ℕ} k 0) in
+    ap (λ (n : ℕ). take size (rest ++ replicate n 0)) sum
     ∙ ap (λ (xs : List ℕ). take size (rest ++ xs)) (sym (replicate-append-replicate k (length rest) 0))
     ∙ ap (λ (xs : List ℕ). take size xs) (sym (append_assoc rest (replicate k 0) (replicate (length rest) 0)))
     ∙ take-append-le size (rest ++ replicate k 0) (replicate (length rest) 0) (omega (arith, long))
@@ -104,12 +102,12 @@ read_over file slot size zeros after count empty long read =
     let counted : count ≡ length (take size rest) = sym (length-take-le count after inside) ∙ ap (λ (xs : List ℕ). length xs) front in
     let back : drop count after ≡ replicate (size - count) 0 = read.rest ∙ ap (λ (xs : List ℕ). drop count xs) empty ∙ drop-replicate count size 0 in
     let parts : after ≡ take size rest ++ replicate (size - count) 0 =
-        sym (take-append-drop count after) ∙ ap (λ (xs : List ℕ). xs ++ drop count after) front ∙ ap (λ (xs : List ℕ). take size rest ++ xs) back in
+    sym (take-append-drop count after) ∙ ap (λ (xs : List ℕ). xs ++ drop count after) front ∙ ap (λ (xs : List ℕ). take size rest ++ xs) back in
     elim (cases_lt (length rest) size) [
       | inl l ↦
           let all : take size rest ≡ rest = take_all size rest (omega arith) in
           let so_many : count ≡ length rest = counted ∙ ap (λ (xs : List ℕ). length xs) all in
-          parts ∙ ap (λ (xs : List ℕ). xs ++ replicate (size - count) 0) all ∙ ap (λ (n : ℕ). rest ++ replicate (size - n) 0) so_many ∙ sym (padded_to size rest l)
+          parts ∙ ap (λ (xs : List ℕ). xs ++ replicate (size - count) 0) all ∙ ap (λ (n : ℕ). rest ++ replicate (size - n) 0) so_many ∙ sym (padded_to size (size - length rest) rest (omega (arith, l)))
       | inr l ↦
           let none : size - count ≡ 0 = omega (arith, counted, length-take-le size rest l) in
           parts ∙ ap (λ (n : ℕ). take size rest ++ replicate n 0) none ∙ append-nil (take size rest) ∙ sym (take-append-le size rest (replicate size 0) l)

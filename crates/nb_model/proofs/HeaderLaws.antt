@@ -1,6 +1,6 @@
 -- What the form of a header says of the bytes, and that the first 64 bytes decide it.
-use Rattle.std.proofs.Common.{◌≡◌, inl, inr, ℕ, suc, ◌+◌, ◌≤◌, List, [], ◌∷◌, length, take, refl, sym, ap, ◌∙◌, arith}
-use Rattle.std.specs.Prelude.{Bool, true, false, IsTrue, ◌&&◌, ◌==◌}
+use Rattle.std.proofs.Common.{◌≡◌, inl, inr, ℕ, suc, ◌+◌, ◌<◌, ◌≤◌, List, [], ◌∷◌, length, take, refl, sym, ap, ◌∙◌, arith}
+use Rattle.std.specs.Prelude.{Bool, true, false, not, nat_le, nat_lt, IsTrue, ◌&&◌, ◌||◌, ◌==◌}
 use Rattle.std.proofs.lemmas.Bool.{true≢false, and_parts}
 use Rattle.std.proofs.lemmas.Bool.Decides.{leb_tells, eqb_tells}
 use Rattle.nb_fields.specs.Bytes.{number_of, number_in, is_zeros}
@@ -24,7 +24,7 @@ module _ (p : Page) (h : is_header p ≡ true) where
   pub header-long : 64 ≤ length p
   header-long = elim (leb_tells (suc (length p)) 64) [ inl w ↦ absurd (true≢false (sym h ∙ is_header-short p w.1)) | inr w ↦ omega (arith, w.1) ]
 
-  form : (is_marked p && is_sound (state_of p) (size_of p) (scn_of p)) ≡ true
+  pub form : (is_marked p && is_sound (state_of p) (size_of p) (scn_of p)) ≡ true
   form = sym (is_header-long p header-long) ∙ h
 
   -- the page size is one of the six
@@ -43,6 +43,28 @@ module _ (p : Page) (h : is_header p ≡ true) where
       first : (a b c d : Bool) → (a && b && c && d) ≡ true → a ≡ true
       first true b c d k = refl
       first false b c d k = absurd (true≢false (sym k))
+
+  -- the SCN isn't 0, and in the stalled state not the greatest
+  pub header-scn : 1 ≤ scn_of p
+  header-scn = elim (leb_tells 1 (scn_of p)) [ inl w ↦ w.1 | inr w ↦ absurd (true≢false (sym (third (nat_le (state_of p) 3) (is_page_size (size_of p)) (nat_le 1 (scn_of p)) (not (state_of p == 1) || nat_lt (scn_of p) 4294967295) (and_parts (is_marked p) _ form).1) ∙ w.0)) ]
+    where
+      third : (a b c d : Bool) → (a && b && c && d) ≡ true → c ≡ true
+      third true true true d k = refl
+      third true true false d k = absurd (true≢false (sym k))
+      third true false c d k = absurd (true≢false (sym k))
+      third false b c d k = absurd (true≢false (sym k))
+
+  pub header-room : state_of p ≡ 1 → scn_of p < 4294967295
+  header-room stalled = elim (leb_tells (suc (scn_of p)) 4294967295) [
+    | inl w ↦ w.1
+    | inr w ↦ absurd (true≢false (sym (last (nat_le (state_of p) 3) (is_page_size (size_of p)) (nat_le 1 (scn_of p)) (not (state_of p == 1) || nat_lt (scn_of p) 4294967295) (and_parts (is_marked p) _ form).1) ∙ ap (λ (t : Bool). not (state_of p == 1) || t) w.0 ∙ ap (λ (n : ℕ). not (n == 1) || false) stalled))
+  ]
+    where
+      last : (a b c d : Bool) → (a && b && c && d) ≡ true → d ≡ true
+      last true true true d k = k
+      last true true false d k = absurd (true≢false (sym k))
+      last true false c d k = absurd (true≢false (sym k))
+      last false b c d k = absurd (true≢false (sym k))
 
   -- the first byte is the kind
   pub header-kind : number_in 0 1 p ≡ 1
