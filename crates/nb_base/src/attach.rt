@@ -109,7 +109,7 @@ pub(crate) fn read_start<H: Host>(host: &mut H, name: &Name) -> Result<Start, Fa
     start_of(&first[..count], len)
 }
 
-fn are_zeros(bytes: &[u8]) -> bool
+pub(crate) fn are_zeros(bytes: &[u8]) -> bool
     ensures { result ≡ is_zeros bytes.now }
 {
     bytes.iter().all(|byte| *byte == 0)

@@ -15,3 +15,6 @@ mod sync;
 mod writes;
 
 pub use files::TwoFiles;
+
+#[cfg(test)]
+mod tests;
