@@ -1,196 +1,176 @@
--- The page of an entry is written into the main file: what a stop leaves, and that the entry is equal in both files then.
-use Rattle.std.proofs.Common.{◌≡◌, ◌≢◌, inl, inr, ℕ, zero, suc, ◌+◌, ◌*◌, ◌<◌, ◌≤◌, List, [], ◌∷◌, ◌++◌, length, get_or, take, drop, refl, sym, ap, subst, ◌∙◌, arith}
-use Rattle.std.specs.Prelude.{false, nat_eq, Option, Some, None, max, Result, Ok}
-use Rattle.std.specs.List.{IsDistinct}
+-- Entries that are equal in both files stay so, whatever page is written in the merge state.
+use Rattle.std.proofs.Common.{◌≡◌, ◌≢◌, inl, inr, ℕ, zero, suc, ◌+◌, ◌*◌, ◌<◌, ◌≤◌, List, [], ◌∷◌, length, get_or, drop, refl, sym, ap, subst, ◌∙◌, arith}
+use Rattle.std.specs.Prelude.{Bool, true, false, IsTrue, nat_eq, Option, Some, None, slice_index}
+use Rattle.std.specs.List.{AllByRecursion, IsDistinct}
+use Rattle.std.proofs.lemmas.Bool.{true≢false, cases_eq}
 use Rattle.std.proofs.lemmas.Bool.Decides.{eqb_tells}
-use Rattle.std.proofs.lemmas.List.{drop_at, length-take-le}
-use Rattle.nb_fields.specs.Header.{size_of}
-use Rattle.std.proofs.lemmas.Bool.{true≢false}
-use Rattle.nb_fields.specs.Bytes.{is_zeros}
-use Rattle.nb_fields.specs.Table.{page_in, slot_place}
+use Rattle.nb_fields.specs.Places.{is_page_size}
+use Rattle.nb_fields.specs.Table.{page_in, slot_place, table_of}
+use Rattle.nb_fields.proofs.SizeLemmas.{size_facts}
 use Rattle.nb_host.specs.Files.{File, Files, bytes_of, with_file, with_page as with_page_at}
 use Rattle.nb_host.specs.World.{World}
-use Rattle.nb_host.specs.Crash.{Leaves, LeavesAll}
-use Rattle.nb_change.proofs.MomentLaws.{left_before}
-use Rattle.nb_change.proofs.NameLaws.{with_file-same, with_file-other}
-use Rattle.nb_change.proofs.ChangesLaws.{rested, composed, all_before}
-use Rattle.nb_change.specs.Changes.{Changes}
-use Rattle.nb_delta.specs.Entries.{AreEntries}
-use Rattle.nb_delta.proofs.TellLemmas.{apart_at}
-use Rattle.nb_page.specs.Quiet.{Quiet}
-use Rattle.nb_model.specs.Image.{Page, Image, page_at, first_page, image_size, image_state, image_in, written_at}
+use Rattle.nb_delta.specs.Slots.{HasTable, SlotPut, slot_page}
+use Rattle.nb_delta.proofs.PageLemmas.{put_here, put_other}
+use Rattle.nb_delta.proofs.TellLemmas.{table_read}
+use Rattle.nb_model.specs.Image.{Page, Image, page_at, image_size, image_state, image_in, written_at}
 use Rattle.nb_model.specs.Account.{Base}
-use Rattle.nb_model.specs.Causes.{not_database}
-use Rattle.nb_model.specs.Sound.{HasNoZeros}
-use Rattle.nb_model.specs.Owner.{delta_name, entry_for, behind_entries, slot_page, main_page, owned_page}
-use Rattle.nb_model.specs.Trail.{Trail, StandsIn, ShowsIn}
-use Rattle.nb_model.proofs.OwnerLaws.{named, main_here, other_page, written_length}
-use Rattle.nb_model.proofs.SoundLaws.{all_at}
+use Rattle.nb_model.specs.Owner.{delta_name, entry_for}
+use Rattle.nb_model.specs.Trail.{Trail}
 use Rattle.nb_model.proofs.TrailLaws.{left_itself}
-use Rattle.nb_base.specs.Open.{Held, OfFiles, Agrees, IsOpen, IsMerged, AreMerged}
+use Rattle.nb_model.proofs.MainLaws.{some_page}
+use Rattle.nb_model.proofs.OwnerLaws.{main_here, other_page, written_length}
+use Rattle.nb_base.specs.Open.{Held, IsMerged, AreMerged}
 use Rattle.nb_base.specs.Seen.{IsSeen, IsWrite}
-use Rattle.nb_base.specs.Takes.{Strikes}
-use Rattle.nb_base.proofs.MergeLaws.{page_in-main}
-use Rattle.nb_base.proofs.OwnedLaws.{Holds, holds, entry-first, entry-later, later, owned-entry, base-length, base-page, base-size, bytes-size, main-some, main-long}
-use Rattle.nb_base.proofs.StepLaws.{may, main-size}
-use Rattle.nb_base.proofs.StrokeLaws.{h0, main_state}
-use Rattle.nb_base.proofs.WrittenLaws.{HasMain, main_put, written_same, laid_formed, laid_image}
-use Rattle.nb_base.proofs.WriteLaws.{delta_apart}
+use Rattle.nb_base.proofs.WrittenLaws.{HasMain, MayWrite, main_put, laid_image, written_same}
+use Rattle.nb_base.proofs.OwnedLaws.{Holds, holds, base-state, base-size, later, entry-first, entry-later}
+use Rattle.nb_base.proofs.StepLaws.{may}
+use Rattle.nb_base.proofs.WriteLaws.{delta_apart, main_apart}
+use Rattle.nb_change.proofs.NameLaws.{with_file-same, with_file-other}
 
--- no page is named twice, so that each entry is its page's
-pub entry_named : (table : List ℕ) (k : ℕ) → IsDistinct nat_eq table → k < length table → entry_for (get_or table k 0) table ≡ Some k
+-- each entry of a table is that of its page
+apart_at : (x : ℕ) (xs : List ℕ) (k : ℕ) → AllByRecursion (λ y. nat_eq x y ≡ false) xs → k < length xs → get_or xs k 0 ≢ x
+apart_at x [] k are inside = absurd (omega (arith, inside))
+apart_at x (y ∷ ys) zero are inside = λ e. elim (eqb_tells x y) [ inl w ↦ absurd (true≢false (sym w.0 ∙ are.0)) | inr w ↦ w.1 (sym e) ]
+apart_at x (y ∷ ys) (suc k) are inside = apart_at x ys k are.1 (omega (arith, inside))
+
+own_entry : (xs : List ℕ) (k : ℕ) → IsDistinct nat_eq xs → k < length xs → entry_for (get_or xs k 0) xs ≡ Some k
 unfolding IsDistinct
-entry_named [] k once low = absurd (omega (arith, low))
-entry_named (x ∷ xs) zero once low = entry-first x x xs refl
-entry_named (x ∷ xs) (suc k) once low = entry-later (get_or xs k 0) x xs (λ e. other (apart_at x xs k once.0 (omega (arith, low))) e) ∙ ap later (entry_named xs k once.1 (omega (arith, low)))
-  where
-    other : nat_eq (get_or xs k 0) x ≡ false → get_or xs k 0 ≡ x → ⊥
-    other apart same = elim (eqb_tells (get_or xs k 0) x) [ inl w ↦ true≢false (sym w.0 ∙ apart) | inr w ↦ absurd (w.1 same) ]
+own_entry [] k are inside = absurd (omega (arith, inside))
+own_entry (x ∷ xs) zero are inside = entry-first x x xs refl
+own_entry (x ∷ xs) (suc k) are inside = entry-later (get_or xs k 0) x xs (apart_at x xs k are.0 (omega (arith, inside))) ∙ ap later (own_entry xs k are.1 (omega (arith, inside)))
 
 some_same : {j k : ℕ} → Some j ≡ Some k → j ≡ k
-some_same e = cc
+some_same h = cc
 
--- calls that change nothing
-pub seen_quiet : (old new : World) (name : List ℕ) (t : Trail) → Quiet old new → IsSeen old name t → IsSeen new name t
-seen_quiet old new name t quiet seen = record {
-  left = λ files left. seen.left files (all_before old new quiet.still.left files left);
-  shows = subst (λ (f : Files). ShowsIn name t.base f) (sym quiet.still.files) seen.shows;
-}
+none_some : {k : ℕ} → None ≡ Some k → ⊥
+none_some h = cc
 
-pub struck_quiet : (old new : World) (name : List ℕ) (t : Trail) → Quiet old new → IsSeen old name t → Strikes old new name t []
-struck_quiet old new name t quiet seen = rested old new (OfFiles name) (StandsIn name t) quiet.still quiet.said quiet.moments seen.left
+-- the table of a difference file names no page twice
+table_apart : (size : ℕ) (file : File) (table : List ℕ) → IsTrue (is_page_size size) → HasTable size file table → IsDistinct nat_eq table
+table_apart size None table is has = absurd has
+table_apart size (Some bytes) table is has =
+    let facts = size_facts size is in
+    let room : 0 < Rattle.nb_fields.specs.Places.slots_in size = omega (arith, facts.at_least) in
+    (table_read size bytes table room (omega (arith, facts.at_least)) has).holds.are.once
 
-pub struck_joined : (old mid new : World) (name : List ℕ) (t : Trail) → Strikes old mid name t [] → Strikes mid new name t [] → Strikes old new name t []
-struck_joined old mid new name t first second = composed old mid new (OfFiles name) (StandsIn name t) (StandsIn name t) (StandsIn name t) first second (λ files stands. stands) (λ files stands. stands)
+-- A page is written into the main file.
+module _ (held : Held) (old new : Files) (image : Image) (p : ℕ) (bytes : Page) (has : HasMain image (old held.name)) (may_ : MayWrite p bytes image) (size : image_size image ≡ held.page_size)
+    (put : new held.name ≡ with_page_at (old held.name) (p * length bytes) bytes) where
+  now : HasMain (written_at (image_size image) (p, bytes) image) (new held.name)
+  now = main_put image (old held.name) (new held.name) p bytes has may_ put
 
--- An entry of a database that is open, in the merge state.
-module _ (old : World) (held : Held) (t : Trail) (is : IsOpen old held t) (merges : held.state ≡ 2) (full : HasNoZeros t.base.image) (k : ℕ) (inside : k < length held.entries) (are : AreEntries held.entries)
-    (number : ℕ) (names : number ≡ get_or held.entries k 0) (below : number < 1048576) (page : Page)
-    (long : length page ≡ held.page_size) where
-  abbrev g : Holds t.base (old.files held.name) (old.files (delta_name held.name))
-  g = h0 old held t is
+  image_now : image_in (bytes_of (new held.name)) ≡ written_at (image_size image) (p, bytes) image
+  image_now = ap (λ (f : File). image_in (bytes_of f)) now.there ∙ laid_image _ now.bytes now.laid
 
-  abbrev delta : List ℕ
-  delta = bytes_of (old.files (delta_name held.name))
+  image_was : image_in (bytes_of (old held.name)) ≡ image
+  image_was = ap (λ (f : File). image_in (bytes_of f)) has.there ∙ laid_image image has.bytes has.laid
 
-  pub its_entry : entry_for number t.base.diverted ≡ Some k
-  its_entry = ap (λ n. entry_for n t.base.diverted) names ∙ ap (λ (l : List ℕ). entry_for (get_or l k 0) t.base.diverted) is.agrees.entries
-      ∙ entry_named t.base.diverted k (subst (λ (l : List ℕ). IsDistinct nat_eq l) is.agrees.entries are.once) (omega (arith, inside, ap length is.agrees.entries))
+  some : 1 ≤ length image
+  some = some_page image has.laid.header
 
-  low : number < length t.base.image
-  low = let last = named number t.base.diverted k its_entry in omega (arith, last, base-length t.base _ _ g)
+  put_is : bytes_of (new held.name) ≡ Rattle.nb_host.specs.Files.put_at (bytes_of (old held.name)) (p * held.page_size) bytes
+  put_is = ap bytes_of put ∙ ap (λ n. Rattle.nb_host.specs.Files.put_at (bytes_of (old held.name)) (p * n) bytes) (may_.long ∙ size)
 
-  pub two : image_state t.base.image ≡ 2
-  two = sym is.agrees.state ∙ merges
+  -- another entry stays equal
+  other_merged : (j : ℕ) → slice_index held.entries j ≢ p → slot_page held.page_size (new (delta_name held.name)) j ≡ slot_page held.page_size (old (delta_name held.name)) j → IsMerged held old j → IsMerged held new j
+  other_merged j other slot merged = record {
+    later = λ zero_.
+        let ne : 0 ≢ p = λ e. other (zero_ ∙ e) in
+        let long : length (written_at (image_size image) (p, bytes) image) ≡ Rattle.std.specs.Prelude.max (length image) (p + 1) = written_length (image_size image) p bytes image in
+        let first : page_at (written_at (image_size image) (p, bytes) image) 0 ≡ page_at image 0 =
+        sym (main_here (image_size image) (written_at (image_size image) (p, bytes) image) 0 (omega (arith, long))) ∙ other_page (image_size image) p bytes image 0 ne ∙ main_here (image_size image) image 0 (omega (arith, some)) in
+        ap (λ (x : Image). drop 64 (page_at x 0)) image_now ∙ ap (drop 64) first ∙ sym (ap (λ (x : Image). drop 64 (page_at x 0)) image_was) ∙ merged.later zero_ ∙ sym (ap (drop 64) slot);
+    same = λ above.
+        ap (λ (x : List ℕ). page_in held.page_size x (slice_index held.entries j)) put_is
+        ∙ put_other held.page_size (bytes_of (old held.name)) p bytes (slice_index held.entries j) (may_.long ∙ size) other ∙ merged.same above ∙ sym slot;
+  }
 
-  -- what was read of it
-  pub read_as : (wide : ℕ) → wide ≡ held.page_size → page ≡ owned_page wide (image_in (h0 old held t is).has.bytes) (bytes_of (old.files (delta_name held.name))) held.entries number
-      → page ≡ owned_page (image_size (h0 old held t is).main) (h0 old held t is).main (bytes_of (old.files (delta_name held.name))) held.entries number
-  read_as wide same read =
-      read ∙ ap (λ n. owned_page n (image_in g.has.bytes) delta held.entries number) (same ∙ is.agrees.page_size ∙ base-size t.base _ _ g) ∙ ap (λ (x : Image). owned_page (image_size g.main) x delta held.entries number) (laid_image g.main g.has.bytes g.has.laid)
+  -- and the entry of the page is equal, with its slot written
+  own_merged : (j : ℕ) → slice_index held.entries j ≡ p → slot_page held.page_size (new (delta_name held.name)) j ≡ bytes → IsMerged held new j
+  own_merged j is slot = record {
+    later = λ zero_.
+        ap (λ (x : Image). drop 64 (page_at x 0)) image_now ∙ ap (λ n. drop 64 (page_at (written_at (image_size image) (p, bytes) image) n)) (sym zero_ ∙ is)
+        ∙ ap (drop 64) (written_same (image_size image) p bytes image) ∙ sym (ap (drop 64) slot);
+    same = λ above.
+        ap (λ (x : List ℕ). page_in held.page_size x (slice_index held.entries j)) put_is ∙ ap (page_in held.page_size _) is
+        ∙ put_here held.page_size (bytes_of (old held.name)) p bytes (may_.long ∙ size) ∙ sym slot;
+  }
 
-  pub read_formed : not_database (h0 old held t is).has.bytes ≡ None
-  read_formed = laid_formed g.main g.has.bytes g.has.laid
+-- A page write in the merge state, with the main file's page and, where it has an entry, its slot.
+module _ (old new : World) (held : Held) (t : Trail) (p : ℕ) (bytes : Page) (is : IsWrite t p bytes) (seen : IsSeen old held.name t) (merges : image_state t.base.image ≡ 2)
+    (entries : t.base.diverted ≡ held.entries) (size : held.page_size ≡ image_size t.base.image) (sized : IsTrue (is_page_size held.page_size))
+    (put : new.files held.name ≡ with_page_at (old.files held.name) (p * length bytes) bytes) where
+  abbrev h : Holds t.base (old.files held.name) (old.files (delta_name held.name))
+  h = holds held.name t.base (old.files held.name) (old.files (delta_name held.name)) seen.shows
 
-  pub read_size : size_of (h0 old held t is).has.bytes ≡ held.page_size
-  read_size = sym (bytes-size g.has.bytes read_formed) ∙ ap image_size (laid_image g.main g.has.bytes g.has.laid) ∙ sym (base-size t.base _ _ g) ∙ sym is.agrees.page_size
+  size_is : image_size (holds held.name t.base (old.files held.name) (old.files (delta_name held.name)) seen.shows).main ≡ held.page_size
+  size_is = sym (base-size t.base (old.files held.name) (old.files (delta_name held.name)) (holds held.name t.base (old.files held.name) (old.files (delta_name held.name)) seen.shows)) ∙ sym size
 
-  module _ (read : page ≡ owned_page (image_size (h0 old held t is).main) (h0 old held t is).main (bytes_of (old.files (delta_name held.name))) held.entries number) where
-    page_is : page ≡ page_at t.base.image number
-    page_is = read ∙ ap (λ (l : List ℕ). owned_page (image_size g.main) g.main delta l number) is.agrees.entries ∙ sym (base-page t.base _ _ g number low)
+  apart : IsDistinct nat_eq held.entries
+  apart =
+      let state : image_state h.main ≡ 2 = sym (base-state t.base (old.files held.name) (old.files (delta_name held.name)) h) ∙ merges in
+      table_apart held.page_size (old.files (delta_name held.name)) held.entries sized
+      (subst (λ (x : List ℕ). HasTable held.page_size (old.files (delta_name held.name)) x) entries (subst (λ n. HasTable n (old.files (delta_name held.name)) t.base.diverted) size_is (h.entries.some (omega (arith, state)))))
 
-    pub its_write : IsWrite t number page
-    its_write = record {
-      fits = record { low = omega (arith, low); front = λ e. ap (take 64) page_is ∙ ap (λ n. take 64 (page_at t.base.image n)) e };
-      long = long ∙ is.agrees.page_size;
-      below = below;
-      other = ap is_zeros page_is ∙ all_at (λ x. is_zeros x ≡ false) t.base.image full number low;
-    }
+  pub plain_merged : entry_for p held.entries ≡ None → new.files (delta_name held.name) ≡ old.files (delta_name held.name) → (k : ℕ) → AreMerged old held k → AreMerged new held k
+  plain_merged none beside k merged j low inside =
+      other_merged held old.files new.files h.main p bytes h.has (may t p bytes is t.base (left_itself t) (old.files held.name) (old.files (delta_name held.name)) h) size_is put j
+      (λ same. none_some (sym none ∙ ap (λ n. entry_for n held.entries) (sym same) ∙ own_entry held.entries j apart inside))
+      (ap (λ (f : File). slot_page held.page_size f j) beside) (merged j low inside)
 
-    slot : page ≡ slot_page (image_size g.main) g.main delta number k
-    slot = read ∙ ap (λ (l : List ℕ). owned_page (image_size g.main) g.main delta l number) is.agrees.entries ∙ owned-entry (image_size g.main) g.main delta t.base.diverted number k its_entry
+  pub both_merged : (i : ℕ) → entry_for p held.entries ≡ Some i → SlotPut held.page_size i bytes (old.files (delta_name held.name)) (new.files (delta_name held.name)) → (k : ℕ) → AreMerged old held k → AreMerged new held k
+  both_merged i at slot k merged j low inside = elim (eqb_tells (slice_index held.entries j) p) [
+    | inl w ↦
+        let same : j ≡ i = some_same (sym (own_entry held.entries j apart inside) ∙ ap (λ n. entry_for n held.entries) w.1 ∙ at) in
+        own_merged held old.files new.files h.main p bytes h.has (may t p bytes is t.base (left_itself t) (old.files held.name) (old.files (delta_name held.name)) h) size_is put j w.1
+        (ap (slot_page held.page_size (new.files (delta_name held.name))) same ∙ slot.slot)
+    | inr w ↦
+        other_merged held old.files new.files h.main p bytes h.has (may t p bytes is t.base (left_itself t) (old.files held.name) (old.files (delta_name held.name)) h) size_is put j w.1
+        (slot.others j (λ same. w.1 (ap (λ n. slice_index held.entries n) same ∙ named i at))) (merged j low inside)
+  ]
+    where
+      named : (i : ℕ) → entry_for p held.entries ≡ Some i → slice_index held.entries i ≡ p
+      named i at = (Rattle.nb_base.proofs.OwnedLaws.entry_at p held.entries i at).names
 
-    size : held.page_size ≡ image_size g.main
-    size = is.agrees.page_size ∙ sym (main-size t number page its_write t.base (left_itself t) _ _ g)
+-- the entries alone decide which are equal, with the name and the page size
+pub merged_held : (w : World) (a b : Held) (k : ℕ) → a.name ≡ b.name → a.page_size ≡ b.page_size → a.entries ≡ b.entries → AreMerged w a k → AreMerged w b k
+merged_held w a b k name size entries merged =
+    subst (λ (h : Held). AreMerged w h k) (λ i. record { name = name i; page_size = size i; state = b.state; count = b.count; main_count = b.main_count; entries = entries i }) merged_
+  where
+    merged_ : AreMerged w (record { name = a.name; page_size = a.page_size; state = b.state; count = b.count; main_count = b.main_count; entries = a.entries }) k
+    merged_ j low inside = record { later = (merged j low inside).later; same = (merged j low inside).same }
 
-    -- what the main file's bytes have then
-    module _ (new : Files) (put : new ≡ with_file old.files held.name (with_page_at (old.files held.name) (number * length page) page)) where
-      abbrev after : Image
-      after = written_at (image_size g.main) (number, page) g.main
+-- The same by what each call of a write tells.
+module _ (old : World) (held : Held) (t : Trail) (p : ℕ) (bytes : Page) (is : IsWrite t p bytes) (seen : IsSeen old held.name t) (merges : image_state t.base.image ≡ 2)
+    (entries : t.base.diverted ≡ held.entries) (name dname : List ℕ) (size : ℕ) (named : held.name ≡ name) (sized : held.page_size ≡ size) (beside : dname ≡ delta_name name)
+    (long : length bytes ≡ size) (is_size : IsTrue (is_page_size (length bytes))) where
+  size_same : held.page_size ≡ image_size t.base.image
+  size_same = sized ∙ sym long ∙ is.long
 
-      has : HasMain after (new held.name)
-      has = main_put g.main (old.files held.name) (new held.name) number page g.has (may t number page its_write t.base (left_itself t) _ _ g) (ap (λ (f : Files). f held.name) put ∙ with_file-same old.files held.name _)
+  size_one : IsTrue (is_page_size held.page_size)
+  size_one = subst (λ n. IsTrue (is_page_size n)) (long ∙ sym sized) is_size
 
-      beside : new (delta_name held.name) ≡ old.files (delta_name held.name)
-      beside = ap (λ (f : Files). f (delta_name held.name)) put ∙ with_file-other old.files held.name _ (delta_name held.name) (delta_apart held.name)
+  -- the main file reads so
+  main_reads : (mid new : World) → new.files ≡ with_file mid.files name (with_page_at (mid.files name) (p * length bytes) bytes) → mid.files name ≡ old.files name → new.files held.name ≡ with_page_at (old.files held.name) (p * length bytes) bytes
+  main_reads mid new put same =
+      ap new.files named ∙ ap (λ (f : Files). f name) put ∙ with_file-same mid.files name _ ∙ ap (λ (f : File). with_page_at f (p * length bytes) bytes) same
+      ∙ ap (λ (n : List ℕ). with_page_at (old.files n) (p * length bytes) bytes) (sym named)
 
-      some : 1 ≤ length g.main
-      some = main-some t.base _ _ g
+  delta_reads : (mid new : World) → new.files ≡ with_file mid.files name (with_page_at (mid.files name) (p * length bytes) bytes) → new.files (delta_name held.name) ≡ mid.files (delta_name held.name)
+  delta_reads mid new put =
+      ap (λ (n : List ℕ). new.files (delta_name n)) named ∙ ap (λ (f : Files). f (delta_name name)) put ∙ with_file-other mid.files name _ (delta_name name) (delta_apart name)
+      ∙ ap (λ (n : List ℕ). mid.files (delta_name n)) (sym named)
 
-      longer : 1 ≤ length (written_at (image_size g.main) (number, page) g.main)
-      longer = omega (arith, some, written_length (image_size g.main) number page g.main)
+  pub plain_after : (new : World) → entry_for p held.entries ≡ None → new.files ≡ with_file old.files name (with_page_at (old.files name) (p * length bytes) bytes) → (k : ℕ) → AreMerged old held k → AreMerged new held k
+  plain_after new none put k merged =
+      plain_merged old new held t p bytes is seen merges entries size_same size_one (main_reads old new put refl) none (delta_reads old new put) k merged
 
-      later_size : image_size (written_at (image_size g.main) (number, page) g.main) ≡ image_size g.main
-      later_size = elim (eqb_tells number 0) [
-        | inl w ↦ ap (λ n. size_of (page_at (written_at (image_size g.main) (number, page) g.main) n)) (sym w.1) ∙ ap size_of (written_same (image_size g.main) number page g.main) ∙ (may t number page its_write t.base (left_itself t) _ _ g).size w.1
-        | inr w ↦ ap size_of (sym (main_here (image_size g.main) after 0 longer) ∙ other_page (image_size g.main) number page g.main 0 (λ e. w.1 (sym e)) ∙ main_here (image_size g.main) g.main 0 some)
-      ]
-
-      page_now : (q : ℕ) → page_in held.page_size (bytes_of (new held.name)) q ≡ main_page (image_size g.main) after q
-      page_now q = ap (λ n. page_in n (bytes_of (new held.name)) q) (size ∙ sym later_size) ∙ ap (λ (f : File). page_in (image_size after) (bytes_of f) q) has.there ∙ page_in-main after has.bytes has.laid q ∙ ap (λ n. main_page n after q) later_size
-
-      page_then : (q : ℕ) → page_in held.page_size (bytes_of (old.files held.name)) q ≡ main_page (image_size g.main) g.main q
-      page_then q = ap (λ n. page_in n (bytes_of (old.files held.name)) q) size ∙ ap (λ (f : File). page_in (image_size g.main) (bytes_of f) q) g.has.there ∙ page_in-main g.main g.has.bytes g.has.laid q
-
-      first_now : page_at (image_in (bytes_of (new held.name))) 0 ≡ main_page (image_size g.main) after 0
-      first_now = ap (λ (f : File). page_at (image_in (bytes_of f)) 0) has.there ∙ ap (λ (x : Image). page_at x 0) (laid_image after has.bytes has.laid) ∙ sym (main_here (image_size g.main) after 0 longer)
-
-      first_then : page_at (image_in (bytes_of (old.files held.name))) 0 ≡ main_page (image_size g.main) g.main 0
-      first_then = ap (λ (f : File). page_at (image_in (bytes_of f)) 0) g.has.there ∙ ap (λ (x : Image). page_at x 0) (laid_image g.main g.has.bytes g.has.laid) ∙ sym (main_here (image_size g.main) g.main 0 some)
-
-      here : main_page (image_size g.main) after number ≡ page
-      here = main_here (image_size g.main) after number (omega (arith, written_length (image_size g.main) number page g.main)) ∙ written_same (image_size g.main) number page g.main
-
-      slot_now : (j : ℕ) → page_in held.page_size (bytes_of (new (delta_name held.name))) (slot_place held.page_size j) ≡ page_in held.page_size delta (slot_place held.page_size j)
-      slot_now j = ap (λ (f : File). page_in held.page_size (bytes_of f) (slot_place held.page_size j)) beside
-
-      -- the entry itself, and another
-      slot_first : (n : ℕ) → n ≡ 0 → drop 64 (slot_page (image_size g.main) g.main delta n k) ≡ drop 64 (page_in held.page_size delta (slot_place held.page_size k))
-      unfolding slot_page
-      slot_first zero e =
-          drop_at (take 64 (page_at g.main 0)) (drop 64 (page_in (image_size g.main) delta (slot_place (image_size g.main) k))) 64 (length-take-le 64 (page_at g.main 0) (main-long t.base _ _ g))
-          ∙ ap (λ n. drop 64 (page_in n delta (slot_place n k))) (sym size)
-      slot_first (suc n) e = absurd (omega (arith, e))
-
-      slot_behind : (n : ℕ) → 0 < n → slot_page (image_size g.main) g.main delta n k ≡ page_in held.page_size delta (slot_place held.page_size k)
-      unfolding slot_page
-      slot_behind zero above = absurd (omega (arith, above))
-      slot_behind (suc n) above = ap (λ n. page_in n delta (slot_place n k)) (sym size)
-
-      merged_here : IsMerged held new k
-      merged_here = record {
-        later = λ e.
-            let zero : number ≡ 0 = names ∙ e in
-            ap (drop 64) first_now ∙ ap (λ n. drop 64 (main_page (image_size g.main) after n)) (sym zero) ∙ ap (drop 64) (here ∙ slot) ∙ slot_first number zero ∙ ap (drop 64) (sym (slot_now k));
-        same = λ some. ap (page_in held.page_size (bytes_of (new held.name))) (sym names) ∙ page_now number ∙ here ∙ slot ∙ slot_behind number (omega (arith, names, some)) ∙ sym (slot_now k);
-      }
-
-      merged_other : (j : ℕ) → j < length held.entries → j ≢ k → IsMerged held old.files j → IsMerged held new j
-      merged_other j fits other was =
-          let once : IsDistinct nat_eq held.entries = are.once in
-          let apart : get_or held.entries j 0 ≢ number = λ e.
-          other (some_same (sym (entry_named held.entries j once fits) ∙ ap (λ n. entry_for n held.entries) (e ∙ names) ∙ entry_named held.entries k once inside)) in
-          record {
-            later = λ e. ap (drop 64) (first_now ∙ other_page (image_size g.main) number page g.main 0 (λ z. apart (e ∙ z)) ∙ sym first_then) ∙ was.later e ∙ ap (drop 64) (sym (slot_now j));
-            same = λ some. page_now (get_or held.entries j 0) ∙ other_page (image_size g.main) number page g.main (get_or held.entries j 0) apart ∙ sym (page_then (get_or held.entries j 0)) ∙ was.same some ∙ sym (slot_now j);
-          }
-
-      pub merged_next : (w : World) → w.files ≡ new → AreMerged old held k → AreMerged w held (k + 1)
-      merged_next w same so_far j low fits = subst (λ (f : Files). IsMerged held f j) (sym same) (elim (eqb_tells j k) [
-        | inl e ↦ subst (λ n. IsMerged held new n) (sym e.1) merged_here
-        | inr ne ↦ merged_other j fits ne.1 (so_far j (omega (arith, low, ne.1)) fits)
-      ])
-
--- the number of an entry that was looked up
-pub number_is : {E : Type 0} (a b : ℕ) → ◌≡◌ {A = Result ℕ E} (Ok a) (Ok b) → a ≡ b
-number_is a b e = cc
+  pub both_after : (mid new : World) (i : ℕ) → entry_for p held.entries ≡ Some i → ((m : List ℕ) → m ≢ dname → mid.files m ≡ old.files m) → SlotPut size i bytes (old.files dname) (mid.files dname)
+      → new.files ≡ with_file mid.files name (with_page_at (mid.files name) (p * length bytes) bytes) → (k : ℕ) → AreMerged old held k → AreMerged new held k
+  both_after mid new i at others slot put k merged =
+      let apart_ : name ≢ dname = λ e. main_apart name (e ∙ beside) in
+      let where_ : dname ≡ delta_name held.name = beside ∙ ap delta_name (sym named) in
+      let slot_ : SlotPut held.page_size i bytes (old.files (delta_name held.name)) (mid.files (delta_name held.name)) =
+      subst (λ n. SlotPut n i bytes (old.files (delta_name held.name)) (mid.files (delta_name held.name))) (sym sized) (subst (λ (d : List ℕ). SlotPut size i bytes (old.files d) (mid.files d)) where_ slot) in
+      both_merged old new held t p bytes is seen merges entries size_same size_one (main_reads mid new put (others name apart_)) i at
+      (subst (λ (f : File). SlotPut held.page_size i bytes (old.files (delta_name held.name)) f) (sym (delta_reads mid new put)) slot_) k merged

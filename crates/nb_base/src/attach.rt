@@ -109,7 +109,7 @@ pub(crate) fn read_start<H: Host>(host: &mut H, name: &Name) -> Result<Start, Fa
     start_of(&first[..count], len)
 }
 
-fn are_zeros(bytes: &[u8]) -> bool
+pub(crate) fn are_zeros(bytes: &[u8]) -> bool
     ensures { result ≡ is_zeros bytes.now }
 {
     bytes.iter().all(|byte| *byte == 0)
@@ -200,7 +200,12 @@ pub(crate) fn count_with<H: Host>(
 }
 
 /// Keeps the files for good: the main file, and then the difference file where the state isn't normal.
-pub(crate) fn keep_files<H: Host>(host: &mut H, name: &Name, delta: &Name, state: u16) -> Result<(), HostFault>
+pub(crate) fn keep_files<H: Host>(
+    host: &mut H,
+    name: &Name,
+    delta: &Name,
+    state: u16,
+) -> Result<(), HostFault>
     ensures main { IsTrue H.tells → OnOk result (IsDurable (H.world host.new) name.now ((H.world host.old).files name.now)) }
     ensures delta { IsTrue H.tells → 0 < state → OnOk result (IsDurable (H.world host.new) delta.now ((H.world host.old).files delta.now)) }
     ensures quiet { Quiet (H.world host.old) (H.world host.new) }

@@ -48,12 +48,7 @@ fn make_file<H: Host>(
 
 /// Makes a new database with `raw` raw pages of the length of `page`, and answers how many pages it has. The refusal is `FileExists`,
 /// where the name is not free.
-fn create_file<H: Host>(
-    host: &mut H,
-    name: &Name,
-    page: &mut [u8],
-    raw: u32,
-) -> Result<u32, Fault>
+fn create_file<H: Host>(host: &mut H, name: &Name, page: &mut [u8], raw: u32) -> Result<u32, Fault>
     requires size { IsTrue (is_page_size (length page.old)) }
     requires raw { raw ≤ 65535 }
     ensures creates { IsTrue H.tells → CreatesFile result (H.world host.old) (H.world host.new) name.now (fresh (length page.old) raw) }

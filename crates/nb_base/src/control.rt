@@ -49,7 +49,11 @@ fn change_block(page: &mut [u8], state: u16, guid: Option<[u8; 16]>)
     ensures long { length page.new ≡ length page.old }
 {
     let old = header::Scn::get(page) as u32;
-    let scn = if state == 0 { old } else { old.saturating_add(1) };
+    let scn = if state == 0 {
+        old
+    } else {
+        old.saturating_add(1)
+    };
     let guid = guid.unwrap_or(header::Guid::get(page));
     set_block(page, state, scn, &guid);
 }
@@ -86,6 +90,7 @@ impl TwoFiles {
         ensures takes { (t : Trail) (ask : Option Ask) → IsTrue H.tells → IsOpen (H.world host.old) self.old t → image_scn t.base.image < 4294967294
             → Takes result (H.world host.old) (H.world host.new) self.old.name (IsOpen (H.world host.new) self.new) t (begin_stroke guid.now ask ∷ []) }
         ensures gave { GaveNothing (H.world host.old) (H.world host.new) }
+        ensures state { OnOk result (self.new.state ≡ 1) }
         ensures name { self.new.name ≡ self.old.name }
         ensures page_size { self.new.page_size ≡ self.old.page_size }
         ensures cause { CountsFault result (H.faults host.old) (H.faults host.new) }
@@ -105,6 +110,7 @@ impl TwoFiles {
         ensures takes { (t : Trail) → IsTrue H.tells → IsOpen (H.world host.old) self.old t
             → Takes result (H.world host.old) (H.world host.new) self.old.name (IsOpen (H.world host.new) self.new) t (ends ∷ []) }
         ensures gave { GaveNothing (H.world host.old) (H.world host.new) }
+        ensures state { OnOk result (self.new.state ≡ 2) }
         ensures name { self.new.name ≡ self.old.name }
         ensures page_size { self.new.page_size ≡ self.old.page_size }
         ensures entries { self.new.entries ≡ self.old.entries }
@@ -125,6 +131,7 @@ impl TwoFiles {
         ensures merged { (t : Trail) → IsTrue H.tells → IsOpen (H.world host.old) self.old t → HasNoZeros t.base.image → AreMerged (H.world host.old) self.old k
             → OnOk result (AreMerged (H.world host.new) self.new (k + 1)) }
         ensures gave { GaveNothing (H.world host.old) (H.world host.new) }
+        ensures same { self.new ≡ self.old }
         ensures name { self.new.name ≡ self.old.name }
         ensures page_size { self.new.page_size ≡ self.old.page_size }
         ensures entries { self.new.entries ≡ self.old.entries }
@@ -142,6 +149,7 @@ impl TwoFiles {
         ensures takes { (t : Trail) → IsTrue H.tells → IsOpen (H.world host.old) self.old t → HasNoZeros t.base.image → AreMerged (H.world host.old) self.old (length self.old.entries)
             → Takes result (H.world host.old) (H.world host.new) self.old.name (IsOpen (H.world host.new) self.new) t (finish_stroke ∷ []) }
         ensures gave { GaveNothing (H.world host.old) (H.world host.new) }
+        ensures state { OnOk result (self.new.state ≡ 0) }
         ensures name { self.new.name ≡ self.old.name }
         ensures page_size { self.new.page_size ≡ self.old.page_size }
         ensures cause { CountsFault result (H.faults host.old) (H.faults host.new) }

@@ -59,11 +59,55 @@ impl TwoFiles {
         self.count
     }
 
-    /// How many pages the main file has.
+    /// In bytes.
+    pub fn page_size(&self) -> u32
+        ensures value { result ≡ self.now.page_size }
+        ensures one_of { IsTrue (is_page_size result) }
+    {
+        self.page.len() as u32
+    }
+
+    /// The backup state: 0 normal, 1 stalled, 2 merge.
+    pub fn state(&self) -> u16
+        ensures { result ≡ self.now.state }
+    {
+        self.state
+    }
+
+    /// How many pages the difference file holds; none in the normal state.
+    pub fn delta_count(&self) -> u32
+        ensures value { result ≡ length self.now.entries }
+        ensures most { result ≤ 1048576 }
+    {
+        self.delta.count()
+    }
+
+    /// How many pages the main file has, as it is frozen in the stalled state.
     pub fn main_count(&self) -> u32
         ensures { result ≡ self.now.main_count }
     {
         self.main_count
+    }
+
+    /// The backup state: 0 normal, 1 stalled, 2 merge.
+    pub fn state(&self) -> u16
+        ensures { result ≡ self.now.state }
+    {
+        self.state
+    }
+
+    /// The page size in bytes.
+    pub fn page_size(&self) -> u32
+        ensures { result ≡ self.now.page_size }
+    {
+        self.page.len() as u32
+    }
+
+    /// How many pages the difference file holds.
+    pub fn delta_count(&self) -> u32
+        ensures { result ≡ length self.now.entries }
+    {
+        self.delta.count()
     }
 
     /// Fills in page `number` of the database, from the file that holds it. Page 0 has its first 64 bytes from the main file, so it may
@@ -107,6 +151,8 @@ impl TwoFiles {
             → AreMerged (H.world host.old) self.old k → OnOk result (AreMerged (H.world host.new) self.new k) }
         ensures gave { GaveNothing (H.world host.old) (H.world host.new) }
         ensures reads { (H.world host.new).reads ≡ (H.world host.old).reads }
+        ensures state { self.new.state ≡ self.old.state }
+        ensures entries { self.old.state ≡ 2 → self.new.entries ≡ self.old.entries }
         ensures name { self.new.name ≡ self.old.name }
         ensures page_size { self.new.page_size ≡ self.old.page_size }
         ensures cause { CountsDevice result (H.faults host.old) (H.faults host.new) }
@@ -134,6 +180,8 @@ impl TwoFiles {
         ensures merged { (t : Trail) (k : ℕ) → IsTrue H.tells → IsOpen (H.world host.old) self.old t → IsWrite t number page.now → self.old.state ≡ 2
             → AreMerged (H.world host.old) self.old k → OnOk result (AreMerged (H.world host.new) self.old k) }
         ensures known { OnOk result (self.new ≡ record self.old { entries = noted_in self.old.state number self.old.entries }) }
+        ensures state { self.new.state ≡ self.old.state }
+        ensures entries { self.old.state ≡ 2 → self.new.entries ≡ self.old.entries }
         ensures name { self.new.name ≡ self.old.name }
         ensures page_size { self.new.page_size ≡ self.old.page_size }
         ensures log { IsSilent (H.world host.old) (H.world host.new) }

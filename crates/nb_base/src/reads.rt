@@ -33,11 +33,7 @@ pub fn read_page<H: Host>(
 }
 
 /// Replaces the first 64 bytes of a page by those of the main file, which hold its header.
-pub fn read_front<H: Host>(
-    host: &mut H,
-    name: &Name,
-    into: &mut [u8],
-) -> Result<(), HostFault>
+pub fn read_front<H: Host>(host: &mut H, name: &Name, into: &mut [u8]) -> Result<(), HostFault>
     requires size { 64 ≤ length into.old }
     ensures page { (bytes : List ℕ) → IsTrue H.tells → (H.world host.old).files name.now ≡ Some bytes → 64 ≤ length bytes → OnOk result (into.new ≡ take 64 bytes ++ drop 64 into.old) }
     ensures quiet { Quiet (H.world host.old) (H.world host.new) }

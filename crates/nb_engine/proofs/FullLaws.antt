@@ -3,20 +3,21 @@ use Rattle.std.proofs.Common.{◌≡◌, ◌≢◌, inl, inr, ℕ, zero, suc, �
 use Rattle.std.specs.Prelude.{Bool, true, false, ◌==◌, ◌&&◌, ◌||◌, nat_lt, IsTrue}
 use Rattle.std.proofs.lemmas.Bool.{true≢false, and_parts, or_cases, eqb-true, eqb-false}
 use Rattle.std.proofs.lemmas.Bool.Decides.{eqb_tells, leb_tells}
-use Rattle.std.proofs.lemmas.List.{append-nil, take-append-le}
+use Rattle.std.proofs.lemmas.List.{append-nil}
 use Rattle.nb_fields.specs.Places.{is_page_size, entries_in, bits_in, inventory_place, is_inventory_place, is_scn_place, is_system_place}
 use Rattle.nb_fields.specs.Payloads.{text_payload}
 use Rattle.nb_fields.proofs.PlaceLemmas.{entries-least}
 use Rattle.nb_model.specs.Image.{Page, Image, image_size, image_scn}
 use Rattle.nb_model.specs.Account.{Base, base_of}
-use Rattle.nb_model.specs.Strokes.{Stroke, page, base_after}
+use Rattle.nb_model.specs.Strokes.{Stroke, page}
 use Rattle.nb_model.specs.Forms.{Draft, drafted, wrote, written, needs, is_kind, inventory_of, scn_page_of, scn_entry, is_free_page, has_entry, entry_written, entry_raised, raised, put, set_bit, take_page, lowest_free, needs_inventories, searched, system_kind, system_page, no_page, new_within, new_page}
 use Rattle.nb_model.specs.Sound.{IsSoundImage, HasHeader}
 use Rattle.nb_model.proofs.DraftLaws.{IsKept, IsOf, drafted_is, drafts_are, needs_keeps, put_keeps, set_bit_keeps, new_keeps}
 use Rattle.nb_model.proofs.SoundLaws.{HasFields}
-use Rattle.nb_model.proofs.PutSound.{Held, Throughout, needs_image, holds_now}
-use Rattle.nb_model.proofs.BitSound.{bit_holds}
-use Rattle.nb_model.proofs.NewSound.{new_raw_holds}
+use Rattle.nb_model.proofs.FitLaws.{IsWhole, AreFitting, fitting_front, whole_after, Fits}
+use Rattle.nb_model.proofs.PutSound.{header_whole, needs_image}
+use Rattle.nb_model.proofs.BitSound.{bit_put}
+use Rattle.nb_model.proofs.NewSound.{new_raw_fits}
 use Rattle.nb_engine.specs.Find.{IsRoom, HasNoRoom, IsNextPlace}
 use Rattle.nb_engine.proofs.FindLaws.{Finds, finds, lowest_is, inventory_low}
 use Rattle.nb_engine.proofs.PlaceTests.{first_place, room_at}
@@ -262,29 +263,19 @@ module _ (image : Image) (header : HasHeader image) (sound : IsSoundImage image)
   abbrev pub b : Base
   b = base_of image
 
-  abbrev pub Any : Image → Type 0
-  Any x = Unit {0}
+  abbrev AnyPage : Page → Type 0
+  AnyPage bytes = Unit {0}
 
   abbrev pub whole : Draft
   whole = (new_page 8 empty (drafted image)).0
 
-  pub whole_holds : Throughout (Held Any) b whole
-  whole_holds = new_raw_holds Any (λ bytes. Unit {0}) (record { inventories = λ bytes e. tt; scn_pages = λ bytes e. tt }) (λ bytes e. tt) (λ x q bytes fields is fits any also. tt) image header sound tt
+  whole_fits : Fits AnyPage b whole
+  whole_fits = new_raw_fits AnyPage (record { inventories = λ bytes e. tt; scn_pages = λ bytes e. tt }) (λ bytes e. tt) b header sound
 
-  pub front_holds : (d : Draft) → IsOf b d → IsBehind d.strokes whole → Throughout (Held Any) b d
-  front_holds d is behind = record { is = is; each = each }
-    where
-      each : (k : ℕ) → Held Any (base_after b (take k d.strokes)).image
-      each k = elim (leb_tells k (length d.strokes)) [
-        | inl w ↦
-            let e : take k whole.strokes ≡ take k d.strokes = ap (take k) behind.is ∙ take-append-le k d.strokes behind.rest w.1 in
-            subst (λ (ss : List Stroke). Held Any (base_after b ss).image) e (whole_holds.each k)
-        | inr w ↦
-            let n : ℕ = length d.strokes in
-            let e : take n whole.strokes ≡ take k d.strokes =
-            ap (take n) behind.is ∙ take-append-le n d.strokes behind.rest (omega arith) ∙ take_more n d.strokes (omega arith) ∙ sym (take_more k d.strokes (omega (arith, w.1))) in
-            subst (λ (ss : List Stroke). Held Any (base_after b ss).image) e (whole_holds.each n)
-      ]
+  pub front_fits : (d : Draft) → IsOf b d → IsBehind d.strokes whole → Fits AnyPage b d
+  front_fits d is behind =
+      let fitting : AreFitting AnyPage b d.strokes = fitting_front AnyPage d.strokes behind.rest b (subst (AreFitting AnyPage b) behind.is whole_fits.each) in
+      record { is = is; each = fitting; whole = subst IsWhole is.is (whole_after AnyPage d.strokes b fitting (header_whole image header sound)) }
 
   -- the search comes to this draft with so many tries left
   pub record ComesTo (tries : ℕ) (d : Draft) : Type 0 where
@@ -297,8 +288,8 @@ module _ (image : Image) (header : HasHeader image) (sound : IsSoundImage image)
   pub behind_whole : (tries : ℕ) (d : Draft) (front : List Stroke) → ComesTo tries d → IsBehind front d → IsBehind front whole
   behind_whole tries d front comes behind = subst (IsBehind front) comes.ends (new_keeps (IsBehind front) (behind_kept front) tries 8 empty d behind)
 
-  pub comes_sound : (tries : ℕ) (d : Draft) → ComesTo tries d → Held Any d.image
-  comes_sound tries d comes = holds_now (Held Any) b d (front_holds d comes.is (behind_whole tries d d.strokes comes (behind_first d)))
+  pub comes_whole : (tries : ℕ) (d : Draft) → ComesTo tries d → IsWhole d.image
+  comes_whole tries d comes = (front_fits d comes.is (behind_whole tries d d.strokes comes (behind_first d))).whole
 
   -- the draft behind a system page
   abbrev pub mid : Draft → Draft
@@ -320,10 +311,10 @@ module _ (image : Image) (header : HasHeader image) (sound : IsSoundImage image)
   }
 
   -- the draft with the system page, before it is taken
-  pub mid_holds : (tries : ℕ) (d : Draft) → ComesTo (suc tries) d → ComesTo tries (next d) → Throughout (Held Any) b (mid d)
-  mid_holds tries d comes then =
+  pub mid_fits : (tries : ℕ) (d : Draft) → ComesTo (suc tries) d → ComesTo tries (next d) → Fits AnyPage b (mid d)
+  mid_fits tries d comes then =
       let p : ℕ = lowest_free d.image in
-      front_holds (mid d) (system_keeps (IsOf b) (drafts_are b) p _ (searched_keeps (IsOf b) (drafts_are b) p d comes.is))
+      front_fits (mid d) (system_keeps (IsOf b) (drafts_are b) p _ (searched_keeps (IsOf b) (drafts_are b) p d comes.is))
       (behind_whole tries (next d) (mid d).strokes then (set_bit_keeps (IsBehind (mid d).strokes) (behind_kept (mid d).strokes) 0 p (mid d) (behind_first (mid d))))
 
   pub mid_system : (d : Draft) → HasFields d.image → IsSoundImage d.image → is_system_place (image_size d.image) (lowest_free d.image) ≡ true → HasSystem d.image (mid d).image (lowest_free d.image)
@@ -338,16 +329,16 @@ module _ (image : Image) (header : HasHeader image) (sound : IsSoundImage image)
   pub goes : (tries : ℕ) (d : Draft) → ComesTo (suc tries) d → (lowest_free d.image == 1048576) ≡ false → is_system_place (image_size d.image) (lowest_free d.image) ≡ true → Goes tries d
   goes tries d comes below system =
       let p : ℕ = lowest_free d.image in
-      let held : Held Any d.image = comes_sound (suc tries) d comes in
+      let held : IsWhole d.image = comes_whole (suc tries) d comes in
       let then : ComesTo tries (next d) = comes_next tries d comes below system in
-      let through : Throughout (Held Any) b (mid d) = mid_holds tries d comes then in
-      let held_mid : Held Any (mid d).image = holds_now (Held Any) b (mid d) through in
+      let fits : Fits AnyPage b (mid d) = mid_fits tries d comes then in
+      let held_mid : IsWhole (mid d).image = fits.whole in
       let made : HasSystem d.image (mid d).image p = mid_system d held.fields held.sound system in
       let low : p < length (mid d).image = omega (arith, made.long) in
       let there : inventory_of (mid d).image p < length (mid d).image = inventory_low (mid d).image p held_mid.fields.size held_mid.sound.least low in
       let taken : Takes (mid d).image (next d).image p =
-      takes Any b (mid d).image p (next d) held_mid.fields held_mid.sound there
-      (bit_holds Any (λ bytes. Unit {0}) (λ bytes e. tt) (λ bytes e. tt) (λ x q bytes fields is fits any also. tt) b 0 p (mid d) (omega arith) through low there) in
+      takes AnyPage b (mid d).image p (next d) held_mid.fields held_mid.sound there
+      (bit_put AnyPage (λ bytes e. tt) (λ bytes e. tt) b 0 p (mid d) (omega arith) fits low there) in
       record { comes = then; round = round d.image (mid d).image (next d).image p held.fields held.sound made taken }
 
   -- where there is room, a page is found before the tries end
@@ -366,7 +357,7 @@ module _ (image : Image) (header : HasHeader image) (sound : IsSoundImage image)
           → (t u : Bool) → (lowest_free d.image == 1048576) ≡ t → is_system_place (image_size d.image) (lowest_free d.image) ≡ u → whole.full ≡ false
       by again true u e f = let most = room.most in let at = eqb-true p 1048576 e in let low = behind in absurd (omega arith)
       by again false true e f =
-          let held : Held Any d.image = comes_sound (suc tries) d comes in
+          let held : IsWhole d.image = comes_whole (suc tries) d comes in
           let step : Goes tries d = goes tries d comes e f in
           let on : p < lowest_free (next d).image = further d.image (next d).image held.sound.least step.round in
           again (next d) step.comes (take_full p (mid d) ∙ system_full p (searched p d) ∙ searched_full p d ∙ full)
@@ -389,7 +380,7 @@ module _ (image : Image) (header : HasHeader image) (sound : IsSoundImage image)
           let step : Goes tries d = goes tries d comes e f in
           again (next d) step.comes (λ q room. none q (room_back d.image (next d).image p q step.round f room))
       by again false false e f =
-          let held : Held Any d.image = comes_sound (suc tries) d comes in
+          let held : IsWhole d.image = comes_whole (suc tries) d comes in
           let end : p ≤ length d.image = lowest_most d.image held.sound.least in
           let most = held.sound.most in
           let below : p ≢ 1048576 = eqb-false p 1048576 e in
@@ -398,7 +389,7 @@ module _ (image : Image) (header : HasHeader image) (sound : IsSoundImage image)
   -- A new page is refused for want of room exactly where there is none.
   pub has_page : (q : ℕ) → IsRoom image q → whole.full ≡ false
   has_page q room =
-      let fields : HasFields image = (comes_sound (length image + 4) (drafted image) comes_first).fields in
+      let fields : HasFields image = (comes_whole (length image + 4) (drafted image) comes_first).fields in
       let near = near_room image q fields sound.least room in
       let low : 5 ≤ lowest_free image = (lowest_finds image).low in
       let close = near.1.1 in

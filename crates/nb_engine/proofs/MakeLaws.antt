@@ -30,6 +30,7 @@ use Rattle.nb_model.proofs.PutSound.{IsPlace}
 use Rattle.nb_model.proofs.NewSound.{inventory_before}
 use Rattle.nb_model.proofs.ReadLaws.{lt_no, lt_yes}
 use Rattle.nb_model.proofs.FreshSound.{inventory_length, scn_length}
+use Rattle.nb_model.proofs.FitLaws.{IsWhole}
 use Rattle.nb_model.proofs.RoundLaws as rounds
 use Rattle.nb_engine.specs.declared.opened.Opened.{Opened}
 use Rattle.nb_engine.specs.Open.{Shows, IsSettled, IsOpen}
@@ -45,10 +46,10 @@ use Rattle.nb_engine.proofs.TestLaws.{kind_is}
 use Rattle.nb_engine.proofs.MarkLaws.{marked_once}
 
 -- its image as the model's laws see it
-pub well : (image : Image) → IsWell image → rounds.Well image
-well image is = rounds.well image (record { size = is.size; scn = is.scn }) is.sound
+pub well : (image : Image) → IsWell image → IsWhole image
+well image is = record { fields = record { size = is.size; scn = is.scn }; sound = is.sound }
 
-pub from_well : (image : Image) → rounds.Well image → IsWell image
+pub from_well : (image : Image) → IsWhole image → IsWell image
 from_well image h = record { sound = h.sound; size = h.fields.size; scn = h.fields.scn }
 
 abbrev pub Left : (old new : World) (name : List ℕ) (b : Base) (strokes : List Stroke) → Type 0

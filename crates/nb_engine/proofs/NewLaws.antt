@@ -22,6 +22,7 @@ use Rattle.nb_model.specs.Causes.{when, no_room}
 use Rattle.nb_model.proofs.StrokeLaws.{base_after-append}
 use Rattle.nb_model.proofs.DraftLaws.{IsOf, drafts_are, drafted_is, put_keeps, set_bit_keeps, system_keeps}
 use Rattle.nb_model.proofs.DraftJoin.{joined_new, join_set_bit}
+use Rattle.nb_model.proofs.FitLaws.{IsWhole}
 use Rattle.nb_model.proofs.RoundLaws as rounds
 use Rattle.nb_model.proofs.RoundLaws.{IsFound, found, new_more, new_last, new_next, lowest_behind}
 use Rattle.nb_engine.specs.declared.opened.Opened.{Opened}
@@ -52,7 +53,7 @@ makes_then_quiet value result old mid new b held xs makes quiet tested =
     }))
 
 -- a page is made, and then taken
-module _ (b : Base) (p : ℕ) (e : Draft) (of : IsOf b e) (h : rounds.Well e.image) (two : 2 ≤ p) (low : p < length e.image) where
+module _ (b : Base) (p : ℕ) (e : Draft) (of : IsOf b e) (h : IsWhole e.image) (two : 2 ≤ p) (low : p < length e.image) where
   strokes_are : e.strokes ++ (take_page p (drafted (base_after b e.strokes).image)).strokes ≡ (take_page p e).strokes
   strokes_are = ap (λ (x : Image). e.strokes ++ (take_page p (drafted x)).strokes) of.is ∙ sym (ap (λ (d : Draft). d.strokes) (join_set_bit 0 p e))
 
@@ -69,7 +70,7 @@ module _ (b : Base) (p : ℕ) (e : Draft) (of : IsOf b e) (h : rounds.Well e.ima
   take_after value result old mid new held makes tested left after =
       let x : Base = base_after b e.strokes in
       let opened : IsOpen mid held x = makes.after in
-      let well_x : IsWell x.image = from_well x.image (subst rounds.Well (sym of.is) h) in
+      let well_x : IsWell x.image = from_well x.image (subst IsWhole (sym of.is) h) in
       let low_x : p < length x.image = omega (arith, low, ap length of.is) in
       makes_same result old new b held _ _ strokes_are
       (makes_then value result old mid new b held held e.strokes (take_page p (drafted x.image)).strokes refl makes
@@ -83,7 +84,7 @@ put_of b p kind payload = put_keeps (IsOf b) (drafts_are b) p kind payload (draf
 
 -- The inventory page of a new page, which was read before, stays as it is where that is made.
 pub still_map : (b x : Base) (p : ℕ) (map : Page) → IsWell b.image → 5 ≤ p → p ≤ length b.image → is_system_place (image_size b.image) p ≡ false
-    → rounds.Well (put p 8 (text_payload []) (drafted b.image)).image → p < length (put p 8 (text_payload []) (drafted b.image)).image → HoldsMap b.image p map
+    → IsWhole (put p 8 (text_payload []) (drafted b.image)).image → p < length (put p 8 (text_payload []) (drafted b.image)).image → HoldsMap b.image p map
     → x ≡ base_after b (put p 8 (text_payload []) (drafted b.image)).strokes → IsMap x.image p map
 still_map b x p map is five there plain well_made low_made holds same = subst (λ (y : Image). IsMap y p map) (sym (ap (λ (y : Base). y.image) same ∙ (put_of b p 8 (text_payload [])).is)) here
   where
@@ -131,11 +132,11 @@ onward image place strokes number rest system = subst (λ (n : ℕ). Onward imag
     at_lowest : is_system_place (image_size image) (lowest_free image) ≡ true → Onward image (lowest_free image) strokes number
     at_lowest there =
         let p : ℕ = lowest_free image in
-        let h : rounds.Well image = well image rest.is_well in
+        let h : IsWhole image = well image rest.is_well in
         let here : IsFound image rest.left p = found image h 8 empty rest.left rest.room in
         let after : Image = (round image p).image in
         let two : 2 ≤ p = (let five = here.five in omega (arith, five)) in
-        let well_after : rounds.Well after = rounds.round_well image h p here.at there two in
+        let well_after : IsWhole after = rounds.round_well image h p here.at there two in
         let more : new_within rest.left 8 empty (drafted image) ≡ joined_new (round image p) (new_within here.left 8 empty (drafted after)) =
         ap (λ (n : ℕ). new_within n 8 empty (drafted image)) here.tries_is ∙ new_more image h 8 empty here.left here.at.most there in
         let room : (new_within here.left 8 empty (drafted after)).0.full ≡ false =
@@ -168,7 +169,7 @@ at_last image place strokes number rest plain = subst (λ (n : ℕ). AtLast imag
     at_lowest : is_system_place (image_size image) (lowest_free image) ≡ false → AtLast image (lowest_free image) strokes number
     at_lowest there =
         let p : ℕ = lowest_free image in
-        let h : rounds.Well image = well image rest.is_well in
+        let h : IsWhole image = well image rest.is_well in
         let here : IsFound image rest.left p = found image h 8 empty rest.left rest.room in
         let last : new_within rest.left 8 empty (drafted image) ≡ (take_page p (put p 8 (text_payload []) (drafted image)), p) =
         ap (λ (n : ℕ). new_within n 8 empty (drafted image)) here.tries_is ∙ new_last image h 8 empty here.left here.at.most there in

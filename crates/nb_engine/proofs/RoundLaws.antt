@@ -194,8 +194,8 @@ pub record Takes (x y : Image) (p : ℕ) : Type 0 where
   pub here : is_free_page y p ≡ false
   pub others : (q : ℕ) → q ≢ p → is_free_page y q ≡ is_free_page x q
 
-module _ (Q : Image → Type 0) (b : Base) (x : Image) (p : ℕ) (d : Draft) (fields : HasFields x) (is : IsSoundImage x) (low : inventory_of x p < length x)
-    (h : IsPut Q b x (inventory_of x p) 2 (drop 16 (with_bit (bit_number x p) 0 (page_at x (inventory_of x p)))) d) where
+module _ (K : Page → Type 0) (b : Base) (x : Image) (p : ℕ) (d : Draft) (fields : HasFields x) (is : IsSoundImage x) (low : inventory_of x p < length x)
+    (h : IsPut K b x (inventory_of x p) 2 (drop 16 (with_bit (bit_number x p) 0 (page_at x (inventory_of x p)))) d) where
   abbrev i : ℕ
   i = inventory_of x p
 

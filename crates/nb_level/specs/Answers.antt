@@ -1,5 +1,5 @@
 -- What an answer of a reader says of the file, of the reader and of the host.
-use Rattle.std.specs.Prelude.{◌≡◌, ℕ, ◌+◌, ◌≤◌, Bool, true, false, ◌==◌, nat_lt, drop, IsTrue, List, [], ◌∷◌, Some, None, Result, Ok, Err}
+use Rattle.std.specs.Prelude.{◌≡◌, ℕ, ◌+◌, ◌<◌, ◌≤◌, Bool, true, false, ◌==◌, nat_lt, drop, IsTrue, List, [], ◌∷◌, Some, None, Result, Ok, Err}
 use Rattle.nb_fields.specs.Bytes.{number_in, part}
 use Rattle.nb_host.specs.Files.{File, bytes_of}
 use Rattle.nb_host.specs.World.{World}
@@ -40,6 +40,12 @@ abbrev pub GivesAt : (tells : Bool) (file : File) (lead due : ℕ) (old new : Re
 GivesAt tells file lead due old new page (Ok (PageAt number)) = IsTrue tells → IsThere (bytes_of file) lead due old new number page
 GivesAt tells file lead due old new page (Ok (End count)) = Unit {0}
 GivesAt tells file lead due old new page (Err fault) = Unit {0}
+
+-- numbers rise, and are those of pages of a database, whether the host tells its files or not
+abbrev pub Rises : (old new : Reading) → Result Item Fault → Type 0
+Rises old new (Ok (PageAt number)) = (old.place.least ≤ number) × (number < 1048576) × (new.place.least ≡ number + 1)
+Rises old new (Ok (End count)) = Unit {0}
+Rises old new (Err fault) = Unit {0}
 
 -- what the file holds is the head and what is still to come; or its first broken place; or there is no such file
 abbrev pub StartSays : (tells : Bool) (file : File) (name : List ℕ) → Result Reading Fault → Type 0

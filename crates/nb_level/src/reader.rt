@@ -7,7 +7,7 @@ ghost use Rattle.nb_host.specs.declared.refusals.Refusal.TheVariants.{BadLevel};
 ghost use Rattle.nb_host.specs.Files.{bytes_of};
 ghost use Rattle.nb_host.specs.Calls.{IsStill};
 ghost use Rattle.nb_host.specs.Moments.{Passes};
-ghost use Rattle.nb_level.specs.Answers.{NextSays, GivesAt, lead_of, number_due, CountsDevice, ReadsOnce};
+ghost use Rattle.nb_level.specs.Answers.{NextSays, GivesAt, Rises, lead_of, number_due, CountsDevice, ReadsOnce};
 ghost use Rattle.nb_level.specs.declared.place.Place.{Place};
 
 use crate::head::head_in;
@@ -84,7 +84,8 @@ impl LevelReader {
 
     /// The head of the file.
     pub fn head(&self) -> LevelHead
-        ensures { result ≡ self.now.head }
+        ensures value { result ≡ self.now.head }
+        ensures size { IsTrue (is_page_size result.page_size) }
     {
         self.head
     }
@@ -112,6 +113,7 @@ impl LevelReader {
         requires run { (self.old.version ≡ 102) × (0 < self.old.place.left) }
         ensures answer { NextSays H.tells ((H.world host.old).files self.old.name) self.old self.new into.new result }
         ensures there { GivesAt H.tells ((H.world host.old).files self.old.name) 0 self.old.place.least self.old self.new into.new result }
+        ensures rises { Rises self.old self.new result }
         ensures same { self.new ≡ record self.old { place = self.new.place } }
         ensures files { IsStill (H.world host.old) (H.world host.new) }
         ensures log { ReadsOnce H.tells (H.world host.old) (H.world host.new) }
@@ -139,6 +141,7 @@ impl LevelReader {
         requires version { self.old.version ≡ 101 }
         ensures answer { NextSays H.tells ((H.world host.old).files self.old.name) self.old self.new into.new result }
         ensures there { GivesAt H.tells ((H.world host.old).files self.old.name) 4 (number_in 0 4 (drop self.old.place.at (bytes_of ((H.world host.old).files self.old.name)))) self.old self.new into.new result }
+        ensures rises { Rises self.old self.new result }
         ensures same { self.new ≡ record self.old { place = self.new.place } }
         ensures files { IsStill (H.world host.old) (H.world host.new) }
         ensures log { ReadsOnce H.tells (H.world host.old) (H.world host.new) }
@@ -175,6 +178,7 @@ impl LevelReader {
         requires run { (self.old.version ≡ 102) × (self.old.place.left ≡ 0) }
         ensures answer { NextSays H.tells ((H.world host.old).files self.old.name) self.old self.new into.new result }
         ensures there { GivesAt H.tells ((H.world host.old).files self.old.name) 8 (number_in 0 4 (drop self.old.place.at (bytes_of ((H.world host.old).files self.old.name)))) self.old self.new into.new result }
+        ensures rises { Rises self.old self.new result }
         ensures same { self.new ≡ record self.old { place = self.new.place } }
         ensures files { IsStill (H.world host.old) (H.world host.new) }
         ensures log { ReadsOnce H.tells (H.world host.old) (H.world host.new) }
@@ -213,6 +217,7 @@ impl LevelReader {
         requires { length into.old ≡ self.old.head.page_size }
         ensures answer { NextSays H.tells ((H.world host.old).files self.old.name) self.old self.new into.new result }
         ensures there { GivesAt H.tells ((H.world host.old).files self.old.name) (lead_of self.old) (number_due self.old (drop self.old.place.at (bytes_of ((H.world host.old).files self.old.name)))) self.old self.new into.new result }
+        ensures rises { Rises self.old self.new result }
         ensures same { self.new ≡ record self.old { place = self.new.place } }
         ensures files { IsStill (H.world host.old) (H.world host.new) }
         ensures log { ReadsOnce H.tells (H.world host.old) (H.world host.new) }

@@ -14,8 +14,8 @@ use nb_fields::{is_page_size, number_at};
 use nb_host::{Fault, Host, Name, Refusal};
 use std::alloc::Global;
 
-/// Whether a file begins as a level file does.
-fn begins_level(bytes: &[u8]) -> bool
+/// Whether a file that begins with these bytes, or has no more, begins as a level file does.
+pub fn begins_level(bytes: &[u8]) -> bool
     ensures { result ≡ begins_level bytes.now }
 {
     if bytes.len() < 4 {

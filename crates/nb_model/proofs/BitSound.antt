@@ -1,5 +1,5 @@
--- What taking a page and giving it back keep: each front of their strokes leaves a sound image.
-use Rattle.std.proofs.Common.{◌≡◌, inl, inr, ℕ, ◌+◌, ◌/◌, ◌%◌, ◌<◌, ◌≤◌, List, length, take, drop, refl, sym, ap, subst, ◌∙◌, arith, length-drop}
+-- Each stroke that takes a page or gives it back fits at its point.
+use Rattle.std.proofs.Common.{◌≡◌, inl, inr, ℕ, ◌+◌, ◌/◌, ◌%◌, ◌<◌, ◌≤◌, length, drop, refl, sym, ap, subst, ◌∙◌, arith, length-drop}
 use Rattle.std.specs.Prelude.{Bool, true, false, not, ◌==◌, nat_lt, None}
 use Rattle.std.proofs.lemmas.Bool.{true≢false, and_parts, ltb-true}
 use Rattle.std.proofs.lemmas.Bool.Decides.{eqb_tells}
@@ -8,16 +8,14 @@ use Rattle.nb_fields.specs.Page.{kind_of, stamped}
 use Rattle.nb_fields.specs.Payloads.{bit_of}
 use Rattle.nb_fields.proofs.SizeLemmas.{SizeFacts, size_facts}
 use Rattle.nb_fields.proofs.PlaceLemmas.{bits-least}
-use Rattle.nb_model.specs.Image.{Page, Image, page_at, image_size, image_scn, with_page}
-use Rattle.nb_model.specs.Account.{Base, base_of, Kept}
-use Rattle.nb_model.specs.Strokes.{base_after}
+use Rattle.nb_model.specs.Image.{Page, Image, page_at, image_size, image_scn}
+use Rattle.nb_model.specs.Account.{Base}
 use Rattle.nb_model.specs.Forms.{Draft, drafted, old_page, needs, is_kind, inventory_of, scn_page_of, bit_number, is_free_page, with_bit, set_bit, give_page}
 use Rattle.nb_model.specs.Causes.{not_raw, not_kind}
 use Rattle.nb_model.specs.Sound.{IsSoundImage, HasHeader}
-use Rattle.nb_model.specs.Stands.{NamesItsPast, is_history_page}
-use Rattle.nb_model.proofs.SoundLaws.{all_at, inventory_there, inventory_place_some, scn_page_there, HasFields, FitsAt, page_sound}
-use Rattle.nb_model.proofs.PutSound.{IsPlace, Raises, IsPut, Held, Throughout, header_fields, at_first, needs_image, needs_holds, holds_now, old_length, now_length, now_some, now_stamp, now_kind, put_holds, raw_facts, no_first, not_when}
-use Rattle.nb_model.proofs.PastLaws.{no_history, page_past}
+use Rattle.nb_model.proofs.SoundLaws.{all_at, inventory_there, inventory_place_some, scn_page_there, HasFields, FitsAt}
+use Rattle.nb_model.proofs.FitLaws.{IsWhole, Fits, fits_first, fits_needs}
+use Rattle.nb_model.proofs.PutSound.{IsPlace, Raises, IsPut, header_whole, needs_image, old_length, now_length, now_some, now_stamp, now_kind, put_fits, raw_facts, no_first, not_when}
 use Rattle.nb_model.proofs.BitLaws.{bit_else, with_bit_length, bit_behind, one_bit}
 
 -- The inventory page of page p with its bit written, once the entry of that inventory page is raised.
@@ -111,15 +109,14 @@ raw_inventory image p none =
     by_test true is e = ltb-true (inventory_of image p) (length image) (and_parts (nat_lt (inventory_of image p) (length image)) _ is).0
     by_test false is e = absurd (true≢false (sym (ap not is) ∙ not_when _ _ e))
 
-module _ (Q : Image → Type 0) (K : Page → Type 0) (scn_pages : (bytes : Page) → kind_of bytes ≡ 10 → K bytes) (inventories : (bytes : Page) → kind_of bytes ≡ 2 → K bytes)
-    (step : (image : Image) (p : ℕ) (bytes : Page) → HasFields image → IsSoundImage image → FitsAt image p bytes → K bytes → Q image → Q (with_page p bytes image)) where
+module _ (K : Page → Type 0) (scn_pages : (bytes : Page) → kind_of bytes ≡ 10 → K bytes) (inventories : (bytes : Page) → kind_of bytes ≡ 2 → K bytes) (b : Base) where
   -- the bit of a page below the length is written
-  pub bit_holds : (b : Base) (bit p : ℕ) (d : Draft) → bit ≤ 1 → Throughout (Held Q) b d → p < length d.image → inventory_of d.image p < length d.image
-      → IsPut Q b d.image (inventory_of d.image p) 2 (drop 16 (with_bit (bit_number d.image p) bit (page_at d.image (inventory_of d.image p)))) (set_bit bit p d)
+  pub bit_put : (bit p : ℕ) (d : Draft) → bit ≤ 1 → Fits K b d → p < length d.image → inventory_of d.image p < length d.image
+      → IsPut K b d.image (inventory_of d.image p) 2 (drop 16 (with_bit (bit_number d.image p) bit (page_at d.image (inventory_of d.image p)))) (set_bit bit p d)
   unfolding set_bit
-  bit_holds b bit p d small through low there =
-      subst (λ (y : Image). IsPut Q b y (inventory_of d.image p) 2 (drop 16 (with_bit (bit_number d.image p) bit (page_at d.image (inventory_of d.image p)))) (set_bit bit p d)) same
-      (put_holds Q K scn_pages step b (inventory_of d.image p) 2 _ read (needs_holds (Held Q) b 2 (inventory_of d.image p) d through) at fit)
+  bit_put bit p d small fits low there =
+      subst (λ (y : Image). IsPut K b y (inventory_of d.image p) 2 (drop 16 (with_bit (bit_number d.image p) bit (page_at d.image (inventory_of d.image p)))) (set_bit bit p d)) same
+      (put_fits K scn_pages b (inventory_of d.image p) 2 _ read (fits_needs K b 2 (inventory_of d.image p) d fits) at fit)
     where
       read : Draft
       read = needs 2 (inventory_of d.image p) d
@@ -127,8 +124,8 @@ module _ (Q : Image → Type 0) (K : Page → Type 0) (scn_pages : (bytes : Page
       same : read.image ≡ d.image
       same = needs_image 2 (inventory_of d.image p) d
 
-      h : Held Q d.image
-      h = holds_now (Held Q) b d through
+      h : IsWhole d.image
+      h = fits.whole
 
       at : IsPlace read.image (inventory_of d.image p)
       at = subst (λ (y : Image). IsPlace y (inventory_of d.image p)) (sym same) (record {
@@ -140,30 +137,12 @@ module _ (Q : Image → Type 0) (K : Page → Type 0) (scn_pages : (bytes : Page
       written_bit : Image → Page
       written_bit x = stamped (old_page (inventory_of d.image p) x) 2 (drop 16 (with_bit (bit_number d.image p) bit (page_at d.image (inventory_of d.image p)))) (image_scn x) (inventory_of d.image p)
 
-      fit : (x : Image) → Held Q x → Raises read.image x (inventory_of d.image p)
+      fit : (x : Image) → IsWhole x → Raises read.image x (inventory_of d.image p)
           → FitsAt x (inventory_of d.image p) (written_bit x) × K (written_bit x)
       fit x h_x before =
           let raises : Raises d.image x (inventory_of d.image p) = subst (λ (y : Image). Raises y x (inventory_of d.image p)) same before in
           (bit_fits d.image x p bit h.fields h.sound h_x.fields h_x.sound raises low there small, inventories _ (bit_kind d.image x p bit h.fields h.sound h_x.fields h_x.sound raises low there small))
 
   -- a page is given back
-  pub give_holds : (image : Image) (p : ℕ) → HasHeader image → IsSoundImage image → Q image → not_raw image p ≡ None → Throughout (Held Q) (base_of image) (give_page p (drafted image))
-  give_holds image p h is also none =
-      let first : Throughout (Held Q) (base_of image) (drafted image) = at_first (Held Q) (base_of image) (record { fields = header_fields image h; sound = is; also = also }) in
-      (bit_holds (base_of image) 1 p (drafted image) (omega arith) first (raw_facts image p none).0 (raw_inventory image p none)).through
-
--- each front of the strokes of a page given back leaves a sound image
-pub give_sound : (image : Image) (p : ℕ) → HasHeader image → IsSoundImage image → not_raw image p ≡ None → (k : ℕ) → IsSoundImage (base_after (base_of image) (take k (give_page p (drafted image)).strokes)).image
-give_sound image p h is none k =
-    let through : Throughout (Held IsSoundImage) (base_of image) (give_page p (drafted image)) =
-    give_holds IsSoundImage (λ bytes. Unit {0}) (λ bytes e. tt) (λ bytes e. tt) (λ x q bytes fields sound fits any also. page_sound x q bytes fields sound fits) image p h is is none in
-    (through.each k).sound
-
--- and one that names the same backups
-pub give_past : (kept : List Kept) (image : Image) (p : ℕ) → HasHeader image → IsSoundImage image → NamesItsPast kept image → not_raw image p ≡ None
-    → (k : ℕ) → NamesItsPast kept (base_after (base_of image) (take k (give_page p (drafted image)).strokes)).image
-give_past kept image p h is past none k =
-    let through : Throughout (Held (NamesItsPast kept)) (base_of image) (give_page p (drafted image)) =
-    give_holds (NamesItsPast kept) (λ bytes. is_history_page bytes ≡ false) (λ bytes e. no_history bytes (omega (arith, e))) (λ bytes e. no_history bytes (omega (arith, e)))
-    (λ x q bytes fields sound fits no_rows before. page_past kept x q bytes fields sound fits no_rows before) image p h is past none in
-    (through.each k).also
+  pub give_fits : (p : ℕ) → HasHeader b.image → IsSoundImage b.image → not_raw b.image p ≡ None → Fits K b (give_page p (drafted b.image))
+  give_fits p h is none = (bit_put 1 p (drafted b.image) (omega arith) (fits_first K b (header_whole b.image h is)) (raw_facts b.image p none).0 (raw_inventory b.image p none)).fits

@@ -1,12 +1,10 @@
--- What one write of the short forms keeps, every form keeps, and it holds after each of their strokes.
-use Rattle.std.proofs.Common.{◌≡◌, inl, inr, ℕ, zero, suc, ◌+◌, List, [], ◌∷◌, ◌++◌, length, take, refl, sym, ap, subst, ◌∙◌, arith, length-append}
+-- What one write of the short forms keeps, every form keeps.
+use Rattle.std.proofs.Common.{◌≡◌, ℕ, zero, suc, ◌+◌, List, [], ◌∷◌, refl, ap, ◌∙◌}
 use Rattle.std.specs.Prelude.{Bool, true, false, ◌==◌, nat_lt}
-use Rattle.std.proofs.lemmas.Bool.Decides.{leb_tells}
-use Rattle.std.proofs.lemmas.List.{take-append-le, take_all}
 use Rattle.nb_fields.specs.Places.{is_system_place}
 use Rattle.nb_model.specs.Image.{Page, Image, image_size, image_scn, with_page}
 use Rattle.nb_model.specs.Account.{Base}
-use Rattle.nb_model.specs.Strokes.{Stroke, page, base_after, on_base, merged_page}
+use Rattle.nb_model.specs.Strokes.{page, base_after, on_base, merged_page}
 use Rattle.nb_model.specs.Forms.{Draft, drafted, wrote, written, needs, is_kind, has_entry, scn_entry, entry_written, entry_raised, raised, put, set_bit, lowest_free, needs_inventories, searched, system_kind, system_page, no_page, new_within}
 use Rattle.nb_model.proofs.StrokeLaws.{base_after-append}
 
@@ -99,41 +97,3 @@ drafts_are b = record {
   reads = λ broken d h. record { is = h.is };
   fills = λ d h. record { is = h.is };
 }
-
--- The draft has P, and the database had Q after each front of the strokes.
-pub record Stays (P : Draft → Type 0) (Q : Image → Type 0) (b : Base) (d : Draft) : Type 0 where
-  pub is : IsOf b d
-  pub now : P d
-  pub each : (k : ℕ) → Q (base_after b (take k d.strokes)).image
-
--- what held after each front of strokes, and holds after one more, holds after each front with it
-pub one_more : (Q : Image → Type 0) (b : Base) (ss : List Stroke) (s : Stroke) → ((k : ℕ) → Q (base_after b (take k ss)).image) → Q (base_after b (ss ++ s ∷ [])).image
-    → (k : ℕ) → Q (base_after b (take k (ss ++ s ∷ []))).image
-one_more Q b ss s each whole k = elim (leb_tells k (length ss)) [
-  | inl w ↦ subst (λ (ys : List Stroke). Q (base_after b ys).image) (sym (take-append-le k ss (s ∷ []) w.1)) (each k)
-  | inr w ↦ subst (λ (ys : List Stroke). Q (base_after b ys).image) (sym (take_all k (ss ++ s ∷ []) (omega (arith, length-append ss (s ∷ []))))) whole
-]
-
-module _ (P : Draft → Type 0) (Q : Image → Type 0) (b : Base) (kept : IsKept P) (tells : (d : Draft) → P d → Q d.image) where
-  written_stays : (p kind : ℕ) (payload : List ℕ) (d : Draft) → Stays P Q b d → Stays P Q b (written p kind payload d)
-  unfolding written wrote
-  written_stays p kind payload d h =
-      let is : IsOf b (written p kind payload d) = (drafts_are b).writes p kind payload d h.is in
-      let now : P (written p kind payload d) = kept.writes p kind payload d h.now in
-      record { is = is; now = now; each = one_more Q b d.strokes _ h.each (subst Q (sym is.is) (tells (written p kind payload d) now)) }
-
-  -- so what each write keeps holds at each moment of a form
-  pub stays_kept : IsKept (Stays P Q b)
-  stays_kept = record {
-    writes = written_stays;
-    reads = λ broken d h. record { is = (drafts_are b).reads broken d h.is; now = kept.reads broken d h.now; each = h.each };
-    fills = λ d h. record { is = (drafts_are b).fills d h.is; now = kept.fills d h.now; each = h.each };
-  }
-
-  pub stays_first : P (drafted b.image) → Stays P Q b (drafted b.image)
-  unfolding base_after
-  stays_first h = record { is = drafted_is b; now = h; each = λ k. none k }
-    where
-      none : (k : ℕ) → Q (base_after b (take k [])).image
-      none zero = tells (drafted b.image) h
-      none (suc k) = tells (drafted b.image) h

@@ -14,7 +14,7 @@ use Rattle.nb_model.specs.Trail.{Trail, settled, images_of, settles_at, after_st
 use Rattle.nb_model.specs.Earlier.{IsEarlier, IsSoundBefore, IsSoundTrail, LowersNone}
 use Rattle.nb_model.proofs.HeaderLaws.{same-number}
 use Rattle.nb_model.proofs.SoundLaws.{with_page_length}
-use Rattle.nb_model.proofs.StrokeLaws.{with_page_same, with_page_other}
+use Rattle.nb_model.proofs.StrokeLaws.{with_page_same, with_page_other, with_page_front}
 use Rattle.nb_model.proofs.TrailLaws.{last_there, trail_base, settles_after, waits_after}
 use Rattle.nb_model.proofs.MixtureLaws.{has_same, entry_same, mixture_sound}
 
@@ -35,10 +35,7 @@ module _ (p : ℕ) (bytes : Page) (image : Image) (low : p ≤ length image) (he
   new = with_page p bytes image
 
   front : take 64 (first_page new) ≡ take 64 (first_page image)
-  front = elim (eqb_tells p 0) [
-    | inl w ↦ ap (λ (n : ℕ). take 64 (page_at new n)) (sym w.1) ∙ ap (take 64) (with_page_same p bytes image low) ∙ head w.1
-    | inr w ↦ ap (take 64) (with_page_other p 0 bytes image low (λ (e : 0 ≡ p). w.1 (sym e)))
-  ]
+  front = with_page_front p bytes image low head
 
   size_stays : image_size new ≡ image_size image
   size_stays = same-number (first_page new) (first_page image) front 24 4 (omega arith)
@@ -95,8 +92,8 @@ pub trail_goes_on : (s : Stroke) (t : Trail) → IsSoundTrail t → IsEarlier t.
 trail_goes_on s t trail earlier sound = record {
   size = subst (λ (n : ℕ). IsTrue (is_page_size n)) (earlier.size ∙ ap image_size (sym image)) trail.size;
   each = images_after (IsSoundBefore (after_stroke s t).base.image) s t
-  (λ m there. let old = trail.each m there in behind m old.sound (earlier_joins m t.base.image (on_base s t.base).image old.earlier earlier))
-  (behind (on_base s t.base).image sound (earlier_itself (on_base s t.base).image));
+      (λ m there. let old = trail.each m there in behind m old.sound (earlier_joins m t.base.image (on_base s t.base).image old.earlier earlier))
+      (behind (on_base s t.base).image sound (earlier_itself (on_base s t.base).image));
 }
   where
     image : (after_stroke s t).base.image ≡ (on_base s t.base).image

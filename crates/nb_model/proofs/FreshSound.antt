@@ -19,7 +19,7 @@ use Rattle.nb_fields.proofs.PlaceLemmas.{fresh_kind-scn}
 use Rattle.nb_model.specs.Image.{Page, page_at, image_size, image_guid}
 use Rattle.nb_model.specs.Account.{Kept}
 use Rattle.nb_model.specs.Chains.{Slot, is_used, slots_from, slots_in}
-use Rattle.nb_model.specs.Stands.{IsRemembered, NamesItsPast, is_history_page}
+use Rattle.nb_model.specs.Stands.{GoesOn, IsRemembered, NamesItsPast, is_history_page}
 use Rattle.nb_model.specs.Forms.{scn_page_of, scn_entry, is_free_page}
 use Rattle.nb_model.specs.Sound.{IsOfSize, HasSystemPages, HasBitsBelow, HasEntries, HasStamps, IsSoundImage}
 use Rattle.nb_model.proofs.FreshImageLaws.{length-same_entries, fresh_count-least, fresh_length, fresh_page_at, fresh_first, fresh_size, fresh_scn, fresh_no_zeros, fresh_sizes}
@@ -177,6 +177,6 @@ module _ (size raw : ℕ) (is : IsTrue (is_page_size size)) (few : raw ≤ 65535
         let page : Page = page_at (fresh size raw) p in
         let kind : code_of (fresh_kind size p) ≡ 5 = sym (shows p low).kind ∙ history_kind page history in
         let rest : drop 32 page ≡ replicate (size - 16 - 16) 0 = ap (drop 32) (fresh_at p low) ∙ fresh_rest size raw p kind in
-        all_free (IsRemembered kept (fresh size raw)) page (size - 16 - 16) ((length page - 32) / 256) 32 rest (omega arith);
+        all_free (IsRemembered kept (λ r. GoesOn r (fresh size raw))) page (size - 16 - 16) ((length page - 32) / 256) 32 rest (omega arith);
     last = λ some. absurd (some fresh_guid);
   }

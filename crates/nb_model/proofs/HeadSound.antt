@@ -1,4 +1,4 @@
--- What a write of page 0 keeps, whose first 64 bytes stay.
+-- A write of page 0 fits: its first 64 bytes stay.
 use Rattle.std.proofs.Common.{◌≡◌, ◌≢◌, ℕ, zero, suc, ◌+◌, ◌-◌, ◌<◌, ◌≤◌, ◌/◌, List, [], ◌∷◌, length, take, drop, replicate, refl, sym, ap, ◌∙◌, arith, length-append, length-drop}
 use Rattle.std.specs.Prelude.{true, false, ◌==◌}
 use Rattle.std.proofs.lemmas.Bool.{true≢false, and_parts, eqb-true, false_from_ne_true}
@@ -9,16 +9,15 @@ use Rattle.nb_fields.specs.Places.{entries_in, bits_in}
 use Rattle.nb_fields.specs.Page.{kind_of}
 use Rattle.nb_fields.proofs.PartLemmas.{number_in-take, length-with_part}
 use Rattle.nb_fields.proofs.SizeLemmas.{SizeFacts, size_facts}
-use Rattle.nb_model.specs.Image.{Page, Image, first_page, image_size, with_page}
-use Rattle.nb_model.specs.Account.{base_of, Kept}
-use Rattle.nb_model.specs.Strokes.{on_base, base_after, merged_page}
+use Rattle.nb_model.specs.Image.{Page, Image, first_page, image_size}
+use Rattle.nb_model.specs.Account.{Base}
+use Rattle.nb_model.specs.Strokes.{merged_page}
 use Rattle.nb_model.specs.Forms.{has_entry}
 use Rattle.nb_model.specs.Pages.{byte_strokes}
 use Rattle.nb_model.specs.Sound.{IsSoundImage, HasHeader}
-use Rattle.nb_model.specs.Stands.{NamesItsPast, is_history_page}
-use Rattle.nb_model.proofs.SoundLaws.{all_at, inventory_behind, inventory_place_some, scn_page_behind, scn_place_some, HasFields, FitsAt, header_kind, fields_stay, page_sound}
-use Rattle.nb_model.proofs.PutSound.{Held, header_fields}
-use Rattle.nb_model.proofs.PastLaws.{no_history, page_past}
+use Rattle.nb_model.proofs.SoundLaws.{all_at, inventory_behind, inventory_place_some, scn_page_behind, scn_place_some, HasFields, FitsAt, header_kind}
+use Rattle.nb_model.proofs.FitLaws.{AreFitting}
+use Rattle.nb_model.proofs.PutSound.{header_fields}
 
 -- bytes of zeros spell 0
 pub all_zeros : (bytes : List ℕ) → is_zeros bytes ≡ true → bytes ≡ replicate (length bytes) 0
@@ -91,48 +90,17 @@ module _ (image : Image) (bytes : Page) (fields : HasFields image) (is : IsSound
   head_kind : is_header (first_page image) ≡ true → kind_of head_page ≡ 1
   head_kind header = head_number 0 1 (omega arith) ∙ header_kind (first_page image) header
 
--- One byte of page 0 is written, as for forced writes and for access, and Q is kept.
-module _ (Q : Image → Type 0) (K : Page → Type 0) (headers : (bytes : Page) → kind_of bytes ≡ 1 → K bytes)
-    (step : (image : Image) (p : ℕ) (bytes : Page) → HasFields image → IsSoundImage image → FitsAt image p bytes → K bytes → Q image → Q (with_page p bytes image)) where
-  changed_length : (image : Image) (at value : ℕ) → HasFields image → IsSoundImage image → at < 1024 → length (with_part at (value ∷ []) (first_page image)) ≡ image_size image
-  changed_length image at value fields is inside =
-      let size : SizeFacts (image_size image) = size_facts (image_size image) fields.size in
-      let first : length (first_page image) ≡ image_size image = let least = is.least in all_at (λ page. length page ≡ image_size image) image is.sizes 0 (omega arith) in
-      length-with_part at (value ∷ []) (first_page image) (omega (arith, size.at_least)) ∙ first
+-- One byte of page 0 is written, as for forced writes and for access.
+changed_length : (image : Image) (at value : ℕ) → HasFields image → IsSoundImage image → at < 1024 → length (with_part at (value ∷ []) (first_page image)) ≡ image_size image
+changed_length image at value fields is inside =
+    let size : SizeFacts (image_size image) = size_facts (image_size image) fields.size in
+    let first : length (first_page image) ≡ image_size image = let least = is.least in all_at (λ page. length page ≡ image_size image) image is.sizes 0 (omega arith) in
+    length-with_part at (value ∷ []) (first_page image) (omega (arith, size.at_least)) ∙ first
 
-  pub byte_holds : (image : Image) (at value : ℕ) → HasHeader image → IsSoundImage image → at < 1024 → Q image → (k : ℕ) → Held Q (base_after (base_of image) (take k (byte_strokes at value image))).image
-  unfolding base_after on_base byte_strokes
-  byte_holds image at value h is inside also = by_count
-    where
-      fields : HasFields image
-      fields = header_fields image h
-
-      fits : FitsAt image 0 (merged_page 0 (with_part at (value ∷ []) (first_page image)) image)
-      fits = head_fits image (with_part at (value ∷ []) (first_page image)) fields is (changed_length image at value fields is inside)
-
-      before : Held Q image
-      before = record { fields = fields; sound = is; also = also }
-
-      now : Held Q (with_page 0 (merged_page 0 (with_part at (value ∷ []) (first_page image)) image) image)
-      now = record {
-        fields = fields_stay image 0 _ fields is fits;
-        sound = page_sound image 0 _ fields is fits;
-        also = step image 0 _ fields is fits (headers _ (head_kind image (with_part at (value ∷ []) (first_page image)) fields is (changed_length image at value fields is inside) h.header)) also;
-      }
-
-      by_count : (k : ℕ) → Held Q (base_after (base_of image) (take k (byte_strokes at value image))).image
-      by_count zero = before
-      by_count (suc zero) = now
-      by_count (suc (suc k)) = now
-
--- each front of that stroke leaves a sound image
-pub byte_sound : (image : Image) (at value : ℕ) → HasHeader image → IsSoundImage image → at < 1024 → (k : ℕ) → IsSoundImage (base_after (base_of image) (take k (byte_strokes at value image))).image
-byte_sound image at value h is inside k =
-    (byte_holds IsSoundImage (λ bytes. Unit {0}) (λ bytes e. tt) (λ x q bytes fields sound fits any also. page_sound x q bytes fields sound fits) image at value h is inside is k).sound
-
--- and one that names the same backups
-pub byte_past : (kept : List Kept) (image : Image) (at value : ℕ) → HasHeader image → IsSoundImage image → NamesItsPast kept image → at < 1024
-    → (k : ℕ) → NamesItsPast kept (base_after (base_of image) (take k (byte_strokes at value image))).image
-byte_past kept image at value h is past inside k =
-    (byte_holds (NamesItsPast kept) (λ bytes. is_history_page bytes ≡ false) (λ bytes e. no_history bytes (omega (arith, e)))
-    (λ x q bytes fields sound fits no_rows before. page_past kept x q bytes fields sound fits no_rows before) image at value h is inside past k).also
+pub byte_fits : (K : Page → Type 0) → ((bytes : Page) → kind_of bytes ≡ 1 → K bytes) → (b : Base) (at value : ℕ) → HasHeader b.image → IsSoundImage b.image → at < 1024
+    → AreFitting K b (byte_strokes at value b.image)
+unfolding byte_strokes
+byte_fits K headers b at value h is inside =
+    let fields : HasFields b.image = header_fields b.image h in
+    let long : length (with_part at (value ∷ []) (first_page b.image)) ≡ image_size b.image = changed_length b.image at value fields is inside in
+    ((head_fits b.image (with_part at (value ∷ []) (first_page b.image)) fields is long, headers _ (head_kind b.image (with_part at (value ∷ []) (first_page b.image)) fields is long h.header)), tt)

@@ -1,7 +1,7 @@
 -- What the form of a header says of the bytes, and that the first 64 bytes decide it.
 use Rattle.std.proofs.Common.{◌≡◌, inl, inr, ℕ, suc, ◌+◌, ◌<◌, ◌≤◌, List, [], ◌∷◌, length, take, refl, sym, ap, ◌∙◌, arith}
-use Rattle.std.specs.Prelude.{Bool, true, false, not, nat_le, nat_lt, IsTrue, ◌&&◌, ◌||◌, ◌==◌}
-use Rattle.std.proofs.lemmas.Bool.{true≢false, and_parts}
+use Rattle.std.specs.Prelude.{Bool, true, false, IsTrue, not, ◌&&◌, ◌||◌, ◌==◌, nat_le, nat_lt}
+use Rattle.std.proofs.lemmas.Bool.{true≢false, and_parts, leb-true, ltb-true}
 use Rattle.std.proofs.lemmas.Bool.Decides.{leb_tells, eqb_tells}
 use Rattle.nb_fields.specs.Bytes.{number_of, number_in, is_zeros}
 use Rattle.nb_fields.specs.Header.{is_header, is_marked, is_sound, state_of, size_of, scn_of}
@@ -38,15 +38,15 @@ module _ (p : Page) (h : is_header p ≡ true) where
 
   -- the state is one of the four
   pub header-state : state_of p ≤ 3
-  header-state = elim (leb_tells (state_of p) 3) [ inl w ↦ w.1 | inr w ↦ absurd (true≢false (sym (first _ _ _ _ (and_parts (is_marked p) _ form).1) ∙ w.0)) ]
+  header-state = leb-true (state_of p) 3 (first _ _ _ _ (and_parts (is_marked p) _ form).1)
     where
       first : (a b c d : Bool) → (a && b && c && d) ≡ true → a ≡ true
       first true b c d k = refl
       first false b c d k = absurd (true≢false (sym k))
 
-  -- the SCN isn't 0, and in the stalled state not the greatest
+  -- the SCN is 1 or more
   pub header-scn : 1 ≤ scn_of p
-  header-scn = elim (leb_tells 1 (scn_of p)) [ inl w ↦ w.1 | inr w ↦ absurd (true≢false (sym (third (nat_le (state_of p) 3) (is_page_size (size_of p)) (nat_le 1 (scn_of p)) (not (state_of p == 1) || nat_lt (scn_of p) 4294967295) (and_parts (is_marked p) _ form).1) ∙ w.0)) ]
+  header-scn = leb-true 1 (scn_of p) (third (nat_le (state_of p) 3) (is_page_size (size_of p)) (nat_le 1 (scn_of p)) (not (state_of p == 1) || nat_lt (scn_of p) 4294967295) (and_parts (is_marked p) _ form).1)
     where
       third : (a b c d : Bool) → (a && b && c && d) ≡ true → c ≡ true
       third true true true d k = refl
@@ -54,17 +54,17 @@ module _ (p : Page) (h : is_header p ≡ true) where
       third true false c d k = absurd (true≢false (sym k))
       third false b c d k = absurd (true≢false (sym k))
 
+  -- in the stalled state it isn't the last one
   pub header-room : state_of p ≡ 1 → scn_of p < 4294967295
-  header-room stalled = elim (leb_tells (suc (scn_of p)) 4294967295) [
-    | inl w ↦ w.1
-    | inr w ↦ absurd (true≢false (sym (last (nat_le (state_of p) 3) (is_page_size (size_of p)) (nat_le 1 (scn_of p)) (not (state_of p == 1) || nat_lt (scn_of p) 4294967295) (and_parts (is_marked p) _ form).1) ∙ ap (λ (t : Bool). not (state_of p == 1) || t) w.0 ∙ ap (λ (n : ℕ). not (n == 1) || false) stalled))
-  ]
+  header-room stalled =
+      ltb-true (scn_of p) 4294967295 (ap (λ (n : ℕ). not (n == 1) || nat_lt (scn_of p) 4294967295) (sym stalled)
+      ∙ fourth (nat_le (state_of p) 3) (is_page_size (size_of p)) (nat_le 1 (scn_of p)) (not (state_of p == 1) || nat_lt (scn_of p) 4294967295) (and_parts (is_marked p) _ form).1)
     where
-      last : (a b c d : Bool) → (a && b && c && d) ≡ true → d ≡ true
-      last true true true d k = k
-      last true true false d k = absurd (true≢false (sym k))
-      last true false c d k = absurd (true≢false (sym k))
-      last false b c d k = absurd (true≢false (sym k))
+      fourth : (a b c d : Bool) → (a && b && c && d) ≡ true → d ≡ true
+      fourth true true true d k = k
+      fourth true true false d k = absurd (true≢false (sym k))
+      fourth true false c d k = absurd (true≢false (sym k))
+      fourth false b c d k = absurd (true≢false (sym k))
 
   -- the first byte is the kind
   pub header-kind : number_in 0 1 p ≡ 1

@@ -1,6 +1,7 @@
 -- A main file in the normal state: the database of it, and where its pages stand.
-use Rattle.std.proofs.Common.{◌≡◌, inl, inr, ℕ, zero, suc, ◌+◌, ◌*◌, ◌<◌, ◌≤◌, List, [], ◌∷◌, ◌++◌, length, take, drop, refl, sym, ap, subst, ◌∙◌, arith, length-append, length-take-le, take-take, mul-le-mul_right, mul-le-mul_left, suc-mul}
+use Rattle.std.proofs.Common.{◌≡◌, ◌≢◌, ◌⊎◌, inl, inr, ℕ, zero, suc, ◌+◌, ◌*◌, ◌<◌, ◌≤◌, List, [], ◌∷◌, ◌++◌, length, take, drop, refl, sym, ap, subst, ◌∙◌, arith, length-append, length-take-le, take-take, mul-le-mul_right, mul-le-mul_left, suc-mul}
 use Rattle.std.specs.Prelude.{Bool, true, false, IsTrue, ◌==◌, Option, Some, None, Result, Ok, Err, max}
+use Rattle.std.proofs.lemmas.Bool.{eqb-false}
 use Rattle.std.proofs.lemmas.Bool.Decides.{leb_tells}
 use Rattle.std.proofs.lemmas.List.{take-append-le, take_at, get_or_append_left}
 use Rattle.nb_fields.specs.Bytes.{is_zeros}
@@ -19,7 +20,7 @@ use Rattle.nb_model.specs.Account.{Base, base_of}
 use Rattle.nb_model.specs.Owner.{delta_name, entry_for, behind_entries, slot_page, main_page, owned_page, owned_from, owned, diverted_base, owner_with, owner_in, owner}
 use Rattle.nb_model.specs.Main.{HoldsMain}
 use Rattle.nb_model.proofs.FormLaws.{Formed, formed, no_cause}
-use Rattle.nb_model.proofs.HeaderLaws.{header-long, header-other, same-header, same-number}
+use Rattle.nb_model.proofs.HeaderLaws.{header-long, header-state, header-other, same-header, same-number}
 use Rattle.nb_model.proofs.ImageLaws.{AreZeros, IsTrimmed, Pages, pages_of, cut-joined, page-joined, length-joined, trimming, trimmed-other, trimmed-append_zeros, all-left}
 use Rattle.nb_model.proofs.SoundLaws.{all_at}
 
@@ -235,61 +236,94 @@ pub diverted-image : (bytes delta table : List ℕ) → (diverted_base bytes del
 unfolding diverted_base
 diverted-image bytes delta table = refl
 
--- a database with this image has a difference file with some table
-record Diverts (bytes : List ℕ) (image : Image) : Type 0 where
+-- the database has a difference file with some table
+record Diverts (bytes : List ℕ) (base : Base) : Type 0 where
   delta : List ℕ
   table : List ℕ
-  is : owned (size_of bytes) (image_in bytes) delta table ≡ image
+  is : diverted_base bytes delta table ≡ base
 
-table-image : (bytes delta : List ℕ) (found : Result (List ℕ) ℕ) (base : Base) → by_table bytes delta found ≡ Ok base → Diverts bytes base.image
-table-image bytes delta (Err page) base e = absurd (err_ok e)
+table-base : (bytes delta : List ℕ) (found : Result (List ℕ) ℕ) (base : Base) → by_table bytes delta found ≡ Ok base → Diverts bytes base
+table-base bytes delta (Err page) base e = absurd (err_ok e)
   where
     err_ok : Err (BadDelta page) ≡ Ok base → ⊥
     err_ok h = cc
-table-image bytes delta (Ok table) base e = record { delta = delta; table = table; is = sym (diverted-image bytes delta table) ∙ ap (λ (b : Base). b.image) (ok_same (diverted_base bytes delta table) base (by_table bytes delta (Ok table)) refl e) }
+table-base bytes delta (Ok table) base e = record { delta = delta; table = table; is = ok_same (diverted_base bytes delta table) base (by_table bytes delta (Ok table)) refl e }
 
-with-image : (name bytes : List ℕ) (delta : File) (base : Base) → owner_with name bytes delta ≡ Ok base → Diverts bytes base.image
+with-base : (name bytes : List ℕ) (delta : File) (base : Base) → owner_with name bytes delta ≡ Ok base → Diverts bytes base
 unfolding owner_with
-with-image name bytes None base e = absurd (err_ok e)
+with-base name bytes None base e = absurd (err_ok e)
   where
     err_ok : Err (NoFile (delta_name name)) ≡ Ok base → ⊥
     err_ok h = cc
-with-image name bytes (Some delta) base e = table-image bytes delta (table_of (size_of bytes) delta) base e
+with-base name bytes (Some delta) base e = table-base bytes delta (table_of (size_of bytes) delta) base e
 
-in-image : (k : ℕ) (name bytes : List ℕ) (delta : File) (base : Base) → owner_in (suc k) name bytes delta ≡ Ok base → Diverts bytes base.image
+in-base : (k : ℕ) (name bytes : List ℕ) (delta : File) (base : Base) → owner_in (suc k) name bytes delta ≡ Ok base → Diverts bytes base × ((k == 2) ≡ false)
 unfolding owner_in
-in-image k name bytes delta base = by (k == 2)
+in-base k name bytes delta base = by (k == 2) refl
   where
-    by : (t : Bool) → elim t as (λ z. Result Base Refusal) [ true ↦ Err Unfinished | false ↦ owner_with name bytes delta ] ≡ Ok base → Diverts bytes base.image
-    by true e = absurd (err_ok e)
+    by : (t : Bool) → (k == 2) ≡ t → elim t as (λ z. Result Base Refusal) [ true ↦ Err Unfinished | false ↦ owner_with name bytes delta ] ≡ Ok base → Diverts bytes base × ((k == 2) ≡ false)
+    by true is e = absurd (err_ok e)
       where
         err_ok : Err Unfinished ≡ Ok base → ⊥
         err_ok h = cc
-    by false e = with-image name bytes delta base e
+    by false is e = (with-base name bytes delta base e, is)
 
--- a database whose image is in the normal state is that of a main file in the normal state
-pub main_of_base : (name : List ℕ) (base : Base) (m d : File) → owner name m d ≡ Ok base → image_state base.image ≡ 0 → HoldsMain base.image m
-main_of_base name base None d e normal = absurd (err_ok (sym (owner-none name d) ∙ e))
+-- The database of a main file and the difference file beside it, in the stalled or the merge state.
+pub record IsDiverted (base : Base) (file : File) : Type 0 where
+  pub bytes : List ℕ
+  pub there : file ≡ Some bytes
+  pub formed : not_database bytes ≡ None
+  pub delta : List ℕ
+  pub table : List ℕ
+  pub is : base ≡ diverted_base bytes delta table
+  pub state : image_state base.image ≡ state_of bytes
+  pub other : (state_of bytes ≡ 1) ⊎ (state_of bytes ≡ 2)
+
+-- a database that can be opened is of a main file in the normal state, or has a difference file
+pub owner_cases : (name : List ℕ) (base : Base) (m d : File) → owner name m d ≡ Ok base → HoldsMain base.image m ⊎ IsDiverted base m
+owner_cases name base None d e = absurd (err_ok (sym (owner-none name d) ∙ e))
   where
     err_ok : Err (NoFile name) ≡ Ok base → ⊥
     err_ok h = cc
-main_of_base name base (Some bytes) d e normal = by_cause (not_database bytes) refl
+owner_cases name base (Some bytes) d e = by_cause (not_database bytes) refl
   where
-    by_state : not_database bytes ≡ None → (state : ℕ) → state_of bytes ≡ state → owner_in state name bytes d ≡ Ok base → HoldsMain base.image (Some bytes)
-    by_state none zero is h = record { bytes = bytes; there = refl; formed = none; normal = is; is = ap (λ (b : Base). b.image) (ok_same (base_of (image_in bytes)) base (owner_in 0 name bytes d) (owner_in-normal name bytes d) h) }
+    by_state : not_database bytes ≡ None → (state : ℕ) → state_of bytes ≡ state → owner_in state name bytes d ≡ Ok base → HoldsMain base.image (Some bytes) ⊎ IsDiverted base (Some bytes)
+    by_state none zero is h = inl (record { bytes = bytes; there = refl; formed = none; normal = is; is = ap (λ (b : Base). b.image) (ok_same (base_of (image_in bytes)) base (owner_in 0 name bytes d) (owner_in-normal name bytes d) h) })
     by_state none (suc k) is h =
-        let diverts : Diverts bytes base.image = in-image k name bytes d base h in
-        absurd (other (sym is ∙ sym (owned-state bytes diverts.delta diverts.table none) ∙ ap image_state diverts.is ∙ normal))
+        let found = in-base k name bytes d base h in
+        let diverts : Diverts bytes base = found.0 in
+        let base_is : base ≡ diverted_base bytes diverts.delta diverts.table = sym diverts.is in
+        let most : state_of bytes ≤ 3 = header-state bytes (formed bytes none).header in
+        inr (record {
+          bytes = bytes;
+          there = refl;
+          formed = none;
+          delta = diverts.delta;
+          table = diverts.table;
+          is = base_is;
+          state = ap (λ (b : Base). image_state b.image) base_is ∙ ap image_state (diverted-image bytes diverts.delta diverts.table) ∙ owned-state bytes diverts.delta diverts.table none;
+          other = one_or_two k is most (eqb-false k 2 found.1);
+        })
       where
-        other : suc k ≡ 0 → ⊥
-        other h = omega arith
+        one_or_two : (k : ℕ) → state_of bytes ≡ suc k → state_of bytes ≤ 3 → k ≢ 2 → (state_of bytes ≡ 1) ⊎ (state_of bytes ≡ 2)
+        one_or_two zero is most other = inl is
+        one_or_two (suc zero) is most other = inr is
+        one_or_two (suc (suc zero)) is most other = absurd (other refl)
+        one_or_two (suc (suc (suc k))) is most other = absurd (omega arith)
 
-    by_cause : (cause : Cause) → not_database bytes ≡ cause → HoldsMain base.image (Some bytes)
+    by_cause : (cause : Cause) → not_database bytes ≡ cause → HoldsMain base.image (Some bytes) ⊎ IsDiverted base (Some bytes)
     by_cause (Some r) none = absurd (err_ok (sym (owner-refused name bytes d r none) ∙ e))
       where
         err_ok : Err r ≡ Ok base → ⊥
         err_ok h = cc
     by_cause None none = by_state none (state_of bytes) refl (sym (owner-formed name bytes d none) ∙ e)
+
+-- so one whose image is in the normal state is that of a main file in the normal state
+pub main_of_base : (name : List ℕ) (base : Base) (m d : File) → owner name m d ≡ Ok base → image_state base.image ≡ 0 → HoldsMain base.image m
+main_of_base name base m d e normal = elim (owner_cases name base m d e) [
+  | inl holds ↦ holds
+  | inr diverted ↦ absurd (elim diverted.other [ inl one ↦ omega (arith, one, diverted.state, normal) | inr two ↦ omega (arith, two, diverted.state, normal) ])
+]
 
 pub main_of_owner : (name : List ℕ) (image : Image) (m d : File) → owner name m d ≡ Ok (base_of image) → image_state image ≡ 0 → HoldsMain image m
 main_of_owner name image m d e normal = main_of_base name (base_of image) m d e normal

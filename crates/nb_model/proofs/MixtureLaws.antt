@@ -26,14 +26,14 @@ module _ (a b : Image) (size : image_size a ≡ image_size b) (p : ℕ) where
   pub scn_page_same : scn_page_of a p ≡ scn_page_of b p
   scn_page_same = ap (λ (s : ℕ). scn_place s (p / entries_in s)) size
 
-  inventory_same : inventory_of a p ≡ inventory_of b p
+  pub inventory_same : inventory_of a p ≡ inventory_of b p
   inventory_same = ap (λ (s : ℕ). inventory_place s (p / bits_in s)) size
 
   pub entry_same : page_at a (scn_page_of b p) ≡ page_at b (scn_page_of b p) → scn_entry a p ≡ scn_entry b p
   unfolding scn_entry
   entry_same same = ap (λ (s : ℕ). entry_of (page_at a (scn_place s (p / entries_in s))) (p % entries_in s)) size ∙ ap (λ (x : Page). entry_of x (entry_number b p)) same
 
-  free_same : page_at a (inventory_of b p) ≡ page_at b (inventory_of b p) → is_free_page a p ≡ is_free_page b p
+  pub free_same : page_at a (inventory_of b p) ≡ page_at b (inventory_of b p) → is_free_page a p ≡ is_free_page b p
   unfolding is_free_page
   free_same same = ap (λ (s : ℕ). bit_of (page_at a (inventory_place s (p / bits_in s))) (p % bits_in s) == 1) size ∙ ap (λ (x : Page). bit_of x (bit_number b p) == 1) same
 
@@ -173,5 +173,5 @@ module _ (images : List Image) (now image : Image) (wide : IsTrue (is_page_size 
     least = omega (arith, mixed.long, sound.least);
     most = omega (arith, mixed.long, sound.most);
     sizes = all_from (λ (x : Page). length x ≡ image_size image) image (each_page (λ (x : Page). length x ≡ image_size image)
-    (λ p low. all_at (λ (x : Page). length x ≡ image_size (of_ p low)) (of_ p low) (before (of_ p low) (mixed.each p low).there).sound.sizes p (below p low) ∙ size_of_ p low));
+        (λ p low. all_at (λ (x : Page). length x ≡ image_size (of_ p low)) (of_ p low) (before (of_ p low) (mixed.each p low).there).sound.sizes p (below p low) ∙ size_of_ p low));
   }

@@ -1,5 +1,5 @@
--- What a new page keeps: each front of its strokes leaves a sound image, also where system pages are made on the way.
-use Rattle.std.proofs.Common.{◌≡◌, ◌≢◌, inl, inr, ℕ, zero, suc, ◌+◌, ◌-◌, ◌*◌, ◌/◌, ◌%◌, ◌^◌, ◌<◌, ◌≤◌, List, [], length, take, refl, sym, ap, subst, ◌∙◌, arith}
+-- Each stroke of a new page fits at its point, also where system pages are made on the way.
+use Rattle.std.proofs.Common.{◌≡◌, inl, inr, ℕ, zero, suc, ◌+◌, ◌-◌, ◌*◌, ◌/◌, ◌%◌, ◌^◌, ◌<◌, ◌≤◌, List, [], length, refl, sym, ap, subst, ◌∙◌, arith}
 use Rattle.std.specs.Prelude.{Bool, true, false, ◌==◌, nat_lt, IsTrue, max}
 use Rattle.std.proofs.lemmas.Bool.{true≢false, and_parts, and_from, or_parts, or_cases, ltb-true, eq-eqb, eqb-false}
 use Rattle.std.proofs.lemmas.Bool.Decides.{leb_tells}
@@ -13,18 +13,15 @@ use Rattle.nb_fields.proofs.FreshLaws.{taken_bits-free, bit_of-inventory, entry_
 use Rattle.nb_fields.proofs.PageLemmas.{kind_of-page_of}
 use Rattle.nb_fields.proofs.SizeLemmas.{SizeFacts, size_facts}
 use Rattle.nb_fields.proofs.PlaceLemmas.{bits-least, entries-least}
-use Rattle.nb_model.specs.Image.{Page, Image, page_at, image_size, image_scn, with_page}
-use Rattle.nb_model.specs.Account.{Base, base_of, Kept}
-use Rattle.nb_model.specs.Strokes.{base_after}
+use Rattle.nb_model.specs.Image.{Page, Image, page_at, image_size, image_scn}
+use Rattle.nb_model.specs.Account.{Base}
 use Rattle.nb_model.specs.Forms.{Draft, drafted, old_page, is_kind, put, scn_page_of, bit_number, entry_number, scn_entry, has_entry, is_free_page, take_page, free_from, lowest_free, needs_inventories, searched, system_kind, system_payload, system_page, no_page, new_within, new_page}
 use Rattle.nb_model.specs.Sound.{IsSoundImage, HasHeader}
-use Rattle.nb_model.specs.Stands.{NamesItsPast, is_history_page}
-use Rattle.nb_model.proofs.DraftLaws.{drafts_are}
-use Rattle.nb_model.proofs.SoundLaws.{inventory_there, scn_page_there, HasFields, FitsAt, scn_no_entry, with_page_length, page_sound}
+use Rattle.nb_model.proofs.SoundLaws.{inventory_there, scn_page_there, HasFields, FitsAt, scn_no_entry, with_page_length}
 use Rattle.nb_model.proofs.FreshSound.{kind_inventory, kind_scn, inventory_length, scn_length}
-use Rattle.nb_model.proofs.PutSound.{IsPlace, Raises, IsPut, Held, Throughout, header_fields, at_first, needs_image, needs_holds, holds_now, old_length, now_length, now_some, now_stamp, now_kind, put_holds, plain_holds}
-use Rattle.nb_model.proofs.PastLaws.{no_history, page_past}
-use Rattle.nb_model.proofs.BitSound.{bit_holds}
+use Rattle.nb_model.proofs.FitLaws.{IsWhole, Fits, fits_first, fits_full, fits_needs}
+use Rattle.nb_model.proofs.PutSound.{IsPlace, Raises, IsPut, header_whole, needs_image, old_length, now_length, now_some, now_stamp, now_kind, put_fits, plain_put}
+use Rattle.nb_model.proofs.BitSound.{bit_put}
 
 -- no page is of both kinds of inventory
 pub places_apart : (size p : ℕ) → IsTrue (is_page_size size) → is_inventory_place size p ≡ true → is_scn_place size p ≡ true → ⊥
@@ -71,18 +68,15 @@ pub searched_image : (p : ℕ) (d : Draft) → (searched p d).image ≡ d.image
 unfolding searched
 searched_image p d = inventories_image _ 0 d
 
-module _ (Q : Image → Type 0) (b : Base) where
-  inventories_hold : (count k : ℕ) (d : Draft) → Throughout Q b d → Throughout Q b (needs_inventories count k d)
+module _ (K : Page → Type 0) (b : Base) where
+  inventories_fit : (count k : ℕ) (d : Draft) → Fits K b d → Fits K b (needs_inventories count k d)
   unfolding needs_inventories
-  inventories_hold zero k d h = h
-  inventories_hold (suc count) k d h = inventories_hold count (k + 1) _ (needs_holds Q b 2 _ d h)
+  inventories_fit zero k d h = h
+  inventories_fit (suc count) k d h = inventories_fit count (k + 1) _ (fits_needs K b 2 _ d h)
 
-  searched_holds : (p : ℕ) (d : Draft) → Throughout Q b d → Throughout Q b (searched p d)
+  searched_fits : (p : ℕ) (d : Draft) → Fits K b d → Fits K b (searched p d)
   unfolding searched
-  searched_holds p d h = inventories_hold _ 0 d h
-
-  full_holds : (d : Draft) → Throughout Q b d → Throughout Q b (no_page d)
-  full_holds d h = record { is = (drafts_are b).fills d h.is; each = h.each }
+  searched_fits p d h = inventories_fit _ 0 d h
 
 -- A system page at the end of the image.
 module _ (x : Image) (p : ℕ) (fields : HasFields x) (is : IsSoundImage x) (at : IsPlace x p) (past : p ≡ length x) where
@@ -182,16 +176,15 @@ pub record HoldsOfKinds (K : Page → Type 0) : Type 0 where
   pub inventories : (bytes : Page) → kind_of bytes ≡ 2 → K bytes
   pub scn_pages : (bytes : Page) → kind_of bytes ≡ 10 → K bytes
 
-module _ (Q : Image → Type 0) (K : Page → Type 0) (kinds : HoldsOfKinds K)
-    (step : (image : Image) (p : ℕ) (bytes : Page) → HasFields image → IsSoundImage image → FitsAt image p bytes → K bytes → Q image → Q (with_page p bytes image)) (b : Base) where
+module _ (K : Page → Type 0) (kinds : HoldsOfKinds K) (b : Base) where
   -- a draft in which page p is there
   pub record IsThere (p : ℕ) (d : Draft) : Type 0 where
-    pub through : Throughout (Held Q) b d
+    pub fits : Fits K b d
     pub below : p < length d.image
 
-  pub put_there : (image : Image) (p kind : ℕ) (payload : List ℕ) (d : Draft) → IsPlace image p → IsPut Q b image p kind payload d → IsThere p d
+  pub put_there : (image : Image) (p kind : ℕ) (payload : List ℕ) (d : Draft) → IsPlace image p → IsPut K b image p kind payload d → IsThere p d
   put_there image p kind payload d at h = record {
-    through = h.through;
+    fits = h.fits;
     below =
         let low = at.there in
         let long : length d.image ≡ max (length h.between) (p + 1) = ap length h.is ∙ with_page_length p _ h.between (omega (arith, h.raises.long)) in
@@ -199,33 +192,33 @@ module _ (Q : Image → Type 0) (K : Page → Type 0) (kinds : HoldsOfKinds K)
   }
 
   -- a page that is there is taken
-  pub taken_holds : (p : ℕ) (d : Draft) → 2 ≤ p → IsThere p d → Throughout (Held Q) b (take_page p d)
-  taken_holds p d behind h =
-      let held : Held Q d.image = holds_now (Held Q) b d h.through in
+  pub taken_fits : (p : ℕ) (d : Draft) → 2 ≤ p → IsThere p d → Fits K b (take_page p d)
+  taken_fits p d behind h =
+      let held : IsWhole d.image = h.fits.whole in
       let low = h.below in
-      let before = inventory_before (image_size d.image) p held.fields.size behind in
-      (bit_holds Q K kinds.scn_pages kinds.inventories step b 0 p d (omega arith) h.through low (omega arith)).through
+      let earlier = inventory_before (image_size d.image) p held.fields.size behind in
+      (bit_put K kinds.scn_pages kinds.inventories b 0 p d (omega arith) h.fits low (omega arith)).fits
 
   place_later : (image x : Image) (p : ℕ) → Raises image x p → IsPlace image p → IsPlace x p
   place_later image x p raises at = record { behind = at.behind; there = let low = at.there in omega (arith, raises.long); most = at.most }
 
   -- a page of that kind is there already, or is made
-  kind_there : (p kind : ℕ) (payload : List ℕ) (d : Draft) → IsPlace d.image p → Throughout (Held Q) b d → (p < length d.image → kind_of (page_at d.image p) ≡ kind)
-      → (length d.image ≤ p → IsPut Q b d.image p kind payload (put p kind payload d)) → IsThere p (elim (is_kind d.image kind p) as (λ z. Draft) [ true ↦ d | false ↦ put p kind payload d ])
+  kind_there : (p kind : ℕ) (payload : List ℕ) (d : Draft) → IsPlace d.image p → Fits K b d → (p < length d.image → kind_of (page_at d.image p) ≡ kind)
+      → (length d.image ≤ p → IsPut K b d.image p kind payload (put p kind payload d)) → IsThere p (elim (is_kind d.image kind p) as (λ z. Draft) [ true ↦ d | false ↦ put p kind payload d ])
   unfolding is_kind
-  kind_there p kind payload d at through of_kind made = by_test (is_kind d.image kind p) refl
+  kind_there p kind payload d at before of_kind made = by_test (is_kind d.image kind p) refl
     where
       by_test : (t : Bool) → is_kind d.image kind p ≡ t → IsThere p (elim t as (λ z. Draft) [ true ↦ d | false ↦ put p kind payload d ])
-      by_test true is = record { through = through; below = ltb-true p (length d.image) (and_parts (nat_lt p (length d.image)) _ is).0 }
+      by_test true is = record { fits = before; below = ltb-true p (length d.image) (and_parts (nat_lt p (length d.image)) _ is).0 }
       by_test false none = elim (leb_tells (suc p) (length d.image)) [
         | inl w ↦ absurd (true≢false (sym (and_from _ _ w.0 (eq-eqb _ kind (of_kind w.1))) ∙ none))
         | inr w ↦ put_there d.image p kind payload _ at (made (omega (arith, w.1)))
       ]
 
   -- an inventory page of free bits is made at the end
-  inventory_made : (p : ℕ) (d : Draft) → is_inventory_place (image_size d.image) p ≡ true → IsPlace d.image p → Throughout (Held Q) b d → length d.image ≤ p
-      → IsPut Q b d.image p 2 (inventory_payload (image_size d.image) ((p + 1) / bits_in (image_size d.image)) 0) (put p 2 (inventory_payload (image_size d.image) ((p + 1) / bits_in (image_size d.image)) 0) d)
-  inventory_made p d place at through end = put_holds Q K kinds.scn_pages step b p 2 _ d through at
+  inventory_made : (p : ℕ) (d : Draft) → is_inventory_place (image_size d.image) p ≡ true → IsPlace d.image p → Fits K b d → length d.image ≤ p
+      → IsPut K b d.image p 2 (inventory_payload (image_size d.image) ((p + 1) / bits_in (image_size d.image)) 0) (put p 2 (inventory_payload (image_size d.image) ((p + 1) / bits_in (image_size d.image)) 0) d)
+  inventory_made p d place at before end = put_fits K kinds.scn_pages b p 2 _ d before at
       (λ x h raises.
       let there = at.there in (
         subst (λ (s : ℕ). FitsAt x p (stamped (old_page p x) 2 (inventory_payload s ((p + 1) / bits_in s) 0) (image_scn x) p)) raises.size
@@ -234,9 +227,9 @@ module _ (Q : Image → Type 0) (K : Page → Type 0) (kinds : HoldsOfKinds K)
       ))
 
   -- an SCN page of the current SCN is made at the end
-  scn_page_made : (p : ℕ) (d : Draft) → is_scn_place (image_size d.image) p ≡ true → IsPlace d.image p → Throughout (Held Q) b d → length d.image ≤ p
-      → IsPut Q b d.image p 10 (scn_payload (image_size d.image) (p / entries_in (image_size d.image)) (image_scn d.image)) (put p 10 (scn_payload (image_size d.image) (p / entries_in (image_size d.image)) (image_scn d.image)) d)
-  scn_page_made p d place at through end = put_holds Q K kinds.scn_pages step b p 10 _ d through at
+  scn_page_made : (p : ℕ) (d : Draft) → is_scn_place (image_size d.image) p ≡ true → IsPlace d.image p → Fits K b d → length d.image ≤ p
+      → IsPut K b d.image p 10 (scn_payload (image_size d.image) (p / entries_in (image_size d.image)) (image_scn d.image)) (put p 10 (scn_payload (image_size d.image) (p / entries_in (image_size d.image)) (image_scn d.image)) d)
+  scn_page_made p d place at before end = put_fits K kinds.scn_pages b p 10 _ d before at
       (λ x h raises.
       let there = at.there in (
         subst (λ (n : ℕ). FitsAt x p (stamped (old_page p x) 10 (scn_payload (image_size d.image) (p / entries_in (image_size d.image)) n) (image_scn x) p)) raises.scn
@@ -246,12 +239,12 @@ module _ (Q : Image → Type 0) (K : Page → Type 0) (kinds : HoldsOfKinds K)
       ))
 
   -- so a system page is there
-  pub system_there : (p : ℕ) (d : Draft) → is_system_place (image_size d.image) p ≡ true → IsPlace d.image p → Throughout (Held Q) b d → IsThere p (system_page p d)
+  pub system_there : (p : ℕ) (d : Draft) → is_system_place (image_size d.image) p ≡ true → IsPlace d.image p → Fits K b d → IsThere p (system_page p d)
   unfolding system_payload is_system_place
-  system_there p d place at through = by_kind (is_inventory_place (image_size d.image) p) refl
+  system_there p d place at before = by_kind (is_inventory_place (image_size d.image) p) refl
     where
-      held : Held Q d.image
-      held = holds_now (Held Q) b d through
+      held : IsWhole d.image
+      held = before.whole
 
       scn_place_there : is_inventory_place (image_size d.image) p ≡ false → is_scn_place (image_size d.image) p ≡ true
       scn_place_there other = elim (or_cases (is_inventory_place (image_size d.image) p) _ place) [ inl e ↦ absurd (true≢false (sym e ∙ other)) | inr e ↦ e ]
@@ -273,19 +266,19 @@ module _ (Q : Image → Type 0) (K : Page → Type 0) (kinds : HoldsOfKinds K)
       by_kind : (t : Bool) → is_inventory_place (image_size d.image) p ≡ t → IsThere p (system_page p d)
       by_kind true inventory = subst (IsThere p)
           (sym (system_is p 2 (inventory_payload (image_size d.image) ((p + 1) / bits_in (image_size d.image)) 0) d (chosen_kind true inventory) (chosen_payload true inventory)))
-          (kind_there p 2 _ d at through (λ low. held.sound.sound.system.inventories p low inventory) (inventory_made p d inventory at through))
+          (kind_there p 2 _ d at before (λ low. held.sound.sound.system.inventories p low inventory) (inventory_made p d inventory at before))
       by_kind false other =
           let scn : is_scn_place (image_size d.image) p ≡ true = scn_place_there other in
           subst (IsThere p)
           (sym (system_is p 10 (scn_payload (image_size d.image) (p / entries_in (image_size d.image)) (image_scn d.image)) d (chosen_kind false other) (chosen_payload false other)))
-          (kind_there p 10 _ d at through (λ low. held.sound.sound.system.scn_pages p low scn) (scn_page_made p d scn at through))
+          (kind_there p 10 _ d at before (λ low. held.sound.sound.system.scn_pages p low scn) (scn_page_made p d scn at before))
 
   -- a new page with a payload that fits into each page size
-  new_holds : (tries kind : ℕ) (payload : ℕ → List ℕ) (d : Draft) → (kind == 0) ≡ false → ((p : ℕ) → length (payload p) ≤ 1008) → ((bytes : Page) → kind_of bytes ≡ kind → K bytes)
-      → Throughout (Held Q) b d → Throughout (Held Q) b (new_within tries kind payload d).0
+  new_fits : (tries kind : ℕ) (payload : ℕ → List ℕ) (d : Draft) → (kind == 0) ≡ false → ((p : ℕ) → length (payload p) ≤ 1008) → ((bytes : Page) → kind_of bytes ≡ kind → K bytes)
+      → Fits K b d → Fits K b (new_within tries kind payload d).0
   unfolding new_within
-  new_holds zero kind payload d some room of_kind through = full_holds (Held Q) b d through
-  new_holds (suc tries) kind payload d some room of_kind through = by_end (λ e h. new_holds tries kind payload e some room of_kind h) (lowest_free d.image == 1048576) refl
+  new_fits zero kind payload d some room of_kind before = fits_full K b d before
+  new_fits (suc tries) kind payload d some room of_kind before = by_end (λ e h. new_fits tries kind payload e some room of_kind h) (lowest_free d.image == 1048576) refl
     where
       p : ℕ
       p = lowest_free d.image
@@ -296,11 +289,11 @@ module _ (Q : Image → Type 0) (K : Page → Type 0) (kinds : HoldsOfKinds K)
       same : read.image ≡ d.image
       same = searched_image p d
 
-      read_holds : Throughout (Held Q) b read
-      read_holds = searched_holds (Held Q) b p d through
+      read_fits : Fits K b read
+      read_fits = searched_fits K b p d before
 
-      held : Held Q d.image
-      held = holds_now (Held Q) b d through
+      held : IsWhole d.image
+      held = before.whole
 
       between : (5 ≤ p) × (p ≤ length d.image)
       between = lowest_between d.image held.sound.least
@@ -310,50 +303,31 @@ module _ (Q : Image → Type 0) (K : Page → Type 0) (kinds : HoldsOfKinds K)
           let most = held.sound.most in
           subst (λ (x : Image). IsPlace x p) (sym same) (record { behind = omega (arith, between.0); there = between.1; most = omega (arith, between.1, eqb-false p 1048576 below) })
 
-      by_place : ((e : Draft) → Throughout (Held Q) b e → Throughout (Held Q) b (new_within tries kind payload e).0) → IsPlace read.image p → (t : Bool) → is_system_place (image_size d.image) p ≡ t
-          → Throughout (Held Q) b (elim t as (λ z. Draft × ℕ) [ true ↦ new_within tries kind payload (take_page p (system_page p read)) | false ↦ (take_page p (put p kind (payload p) read), p) ]).0
+      by_place : ((e : Draft) → Fits K b e → Fits K b (new_within tries kind payload e).0) → IsPlace read.image p → (t : Bool) → is_system_place (image_size d.image) p ≡ t
+          → Fits K b (elim t as (λ z. Draft × ℕ) [ true ↦ new_within tries kind payload (take_page p (system_page p read)) | false ↦ (take_page p (put p kind (payload p) read), p) ]).0
       by_place again at true place =
           let there : is_system_place (image_size read.image) p ≡ true = ap (λ (x : Image). is_system_place (image_size x) p) same ∙ place in
-          again (take_page p (system_page p read)) (taken_holds p (system_page p read) (omega (arith, between.0)) (system_there p read there at read_holds))
+          again (take_page p (system_page p read)) (taken_fits p (system_page p read) (omega (arith, between.0)) (system_there p read there at read_fits))
       by_place again at false place =
           let plain = plain_place (image_size read.image) p (ap (λ (x : Image). is_system_place (image_size x) p) same ∙ place) in
-          let size : SizeFacts (image_size read.image) = size_facts (image_size read.image) (holds_now (Held Q) b read read_holds).fields.size in
-          taken_holds p (put p kind (payload p) read) (omega (arith, between.0)) (put_there read.image p kind (payload p) _ at
-          (plain_holds Q K kinds.scn_pages step b p kind (payload p) read read_holds (record { place = at; no_inventory = plain.0; no_scn_page = plain.1 }) some (omega (arith, size.at_least, room p)) of_kind))
+          let size : SizeFacts (image_size read.image) = size_facts (image_size read.image) read_fits.whole.fields.size in
+          taken_fits p (put p kind (payload p) read) (omega (arith, between.0)) (put_there read.image p kind (payload p) _ at
+          (plain_put K kinds.scn_pages b p kind (payload p) read read_fits (record { place = at; no_inventory = plain.0; no_scn_page = plain.1 }) some (omega (arith, size.at_least, room p)) of_kind))
 
-      by_end : ((e : Draft) → Throughout (Held Q) b e → Throughout (Held Q) b (new_within tries kind payload e).0) → (t : Bool) → (p == 1048576) ≡ t
-          → Throughout (Held Q) b (elim t as (λ z. Draft × ℕ) [
+      by_end : ((e : Draft) → Fits K b e → Fits K b (new_within tries kind payload e).0) → (t : Bool) → (p == 1048576) ≡ t
+          → Fits K b (elim t as (λ z. Draft × ℕ) [
             | true ↦ (no_page read, p)
             | false ↦ elim (is_system_place (image_size d.image) p) as (λ z. Draft × ℕ) [ true ↦ new_within tries kind payload (take_page p (system_page p read)) | false ↦ (take_page p (put p kind (payload p) read), p) ]
           ]).0
-      by_end again true none = full_holds (Held Q) b read read_holds
+      by_end again true none = fits_full K b read read_fits
       by_end again false below = by_place again (at_place below) (is_system_place (image_size d.image) p) refl
 
 pub empty_text : (p : ℕ) → length (text_payload []) ≤ 1008
 unfolding text_payload bytes_of
 empty_text p = omega arith
 
--- a new raw page, and Q is kept
-pub new_raw_holds : (Q : Image → Type 0) (K : Page → Type 0) → HoldsOfKinds K → ((bytes : Page) → kind_of bytes ≡ 8 → K bytes)
-    → ((image : Image) (p : ℕ) (bytes : Page) → HasFields image → IsSoundImage image → FitsAt image p bytes → K bytes → Q image → Q (with_page p bytes image))
-    → (image : Image) → HasHeader image → IsSoundImage image → Q image → Throughout (Held Q) (base_of image) (new_page 8 (λ p. text_payload []) (drafted image)).0
-new_raw_holds Q K kinds raw_pages step image h is also =
-    let first : Throughout (Held Q) (base_of image) (drafted image) = at_first (Held Q) (base_of image) (record { fields = header_fields image h; sound = is; also = also }) in
-    new_holds Q K kinds step (base_of image) (length image + 4) 8 (λ p. text_payload []) (drafted image) refl empty_text raw_pages first
-
--- each front of the strokes of a new raw page leaves a sound image
-pub new_sound : (image : Image) → HasHeader image → IsSoundImage image → (k : ℕ) → IsSoundImage (base_after (base_of image) (take k (new_page 8 (λ p. text_payload []) (drafted image)).0.strokes)).image
-new_sound image h is k =
-    let through : Throughout (Held IsSoundImage) (base_of image) (new_page 8 (λ p. text_payload []) (drafted image)).0 =
-    new_raw_holds IsSoundImage (λ bytes. Unit {0}) (record { inventories = λ bytes e. tt; scn_pages = λ bytes e. tt }) (λ bytes e. tt) (λ x q bytes fields sound fits any also. page_sound x q bytes fields sound fits) image h is is in
-    (through.each k).sound
-
--- and one that names the same backups
-pub new_past : (kept : List Kept) (image : Image) → HasHeader image → IsSoundImage image → NamesItsPast kept image
-    → (k : ℕ) → NamesItsPast kept (base_after (base_of image) (take k (new_page 8 (λ p. text_payload []) (drafted image)).0.strokes)).image
-new_past kept image h is past k =
-    let other : (kind : ℕ) → kind ≢ 5 → (bytes : Page) → kind_of bytes ≡ kind → is_history_page bytes ≡ false = λ kind ne bytes e. no_history bytes (λ five. ne (sym e ∙ five)) in
-    let through : Throughout (Held (NamesItsPast kept)) (base_of image) (new_page 8 (λ p. text_payload []) (drafted image)).0 =
-    new_raw_holds (NamesItsPast kept) (λ bytes. is_history_page bytes ≡ false) (record { inventories = other 2 (omega arith); scn_pages = other 10 (omega arith) }) (other 8 (omega arith))
-    (λ x q bytes fields sound fits no_rows before. page_past kept x q bytes fields sound fits no_rows before) image h is past in
-    (through.each k).also
+-- a new raw page
+pub new_raw_fits : (K : Page → Type 0) → HoldsOfKinds K → ((bytes : Page) → kind_of bytes ≡ 8 → K bytes) → (b : Base) → HasHeader b.image → IsSoundImage b.image
+    → Fits K b (new_page 8 (λ p. text_payload []) (drafted b.image)).0
+new_raw_fits K kinds raw_pages b h is =
+    new_fits K kinds b (length b.image + 4) 8 (λ p. text_payload []) (drafted b.image) refl empty_text raw_pages (fits_first K b (header_whole b.image h is))

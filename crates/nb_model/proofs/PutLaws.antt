@@ -1,5 +1,5 @@
 -- A page write to a main file in the normal state: what the file holds then, and what a stop leaves of it.
-use Rattle.std.proofs.Common.{◌≡◌, ◌⊎◌, inl, inr, ℕ, zero, suc, ◌+◌, ◌-◌, ◌*◌, ◌<◌, ◌≤◌, List, [], ◌∷◌, ◌++◌, length, take, drop, replicate, refl, sym, ap, subst, ◌∙◌, arith, length-append, append_assoc, suc-mul, add-mul, mul-le-mul_right, le_of_mul-le-mul_right}
+use Rattle.std.proofs.Common.{◌≡◌, ◌⊎◌, inl, inr, ℕ, suc, ◌+◌, ◌-◌, ◌*◌, ◌<◌, ◌≤◌, List, [], ◌∷◌, ◌++◌, length, take, drop, replicate, refl, sym, ap, subst, ◌∙◌, arith, length-append, append_assoc, suc-mul, add-mul, mul-le-mul_right, le_of_mul-le-mul_right}
 use Rattle.std.specs.Prelude.{true, false, IsTrue, Some, nat_le}
 use Rattle.std.proofs.lemmas.Bool.Decides.{leb_tells}
 use Rattle.std.proofs.lemmas.List.{take-append-le, drop-append-le, take_all, drop_all, drop_at, length-take-le, length-drop, length-replicate, set_split, drop-drop}
@@ -13,7 +13,7 @@ use Rattle.nb_model.specs.Sound.{IsOfSize}
 use Rattle.nb_model.specs.Main.{HoldsMain}
 use Rattle.nb_model.proofs.HeaderLaws.{same-header, same-number}
 use Rattle.nb_model.proofs.ImageLaws.{IsTrimmed, joined-append, length-joined, take-joined, drop-joined, joined-zeros, zeros-are, trimmed-before, trimmed-drop, all-append, all-take, all-drop, all-replicate}
-use Rattle.nb_model.proofs.StrokeLaws.{with_page_same, with_page_other}
+use Rattle.nb_model.proofs.StrokeLaws.{with_page_front}
 use Rattle.nb_model.proofs.MainLaws.{IsLaid, laid_main, main_laid, main_state, laid-wide}
 
 -- the image with page p: what stands before it, the page, and what stands behind it
@@ -87,11 +87,7 @@ pub record MayPut (p : ℕ) (page : Page) (image : Image) : Type 0 where
 
 -- page 0 keeps its first 64 bytes
 put-front : (p : ℕ) (page : Page) (image : Image) → MayPut p page image → take 64 (first_page (with_page p page image)) ≡ take 64 (first_page image)
-put-front zero page image may = ap (take 64) (with_page_same 0 page image may.low) ∙ may.front refl
-put-front (suc p) page image may = ap (take 64) (with_page_other (suc p) 0 page image may.low (λ e. none p e))
-  where
-    none : (p : ℕ) → 0 ≡ suc p → ⊥
-    none p e = omega arith
+put-front p page image may = with_page_front p page image may.low may.front
 
 pub laid_put : (p : ℕ) (page : Page) (image : Image) (bytes : List ℕ) → MayPut p page image → IsLaid image bytes → IsLaid (with_page p page image) (put_at bytes (p * image_size image) page)
 laid_put p page image bytes may laid =

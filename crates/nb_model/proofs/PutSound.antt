@@ -1,9 +1,9 @@
--- What `put` keeps: after each front of its strokes the image is sound.
-use Rattle.std.proofs.Common.{◌≡◌, ◌≢◌, inl, inr, ℕ, zero, suc, ◌+◌, ◌-◌, ◌*◌, ◌/◌, ◌%◌, ◌^◌, ◌<◌, ◌≤◌, List, [], ◌∷◌, ◌++◌, length, take, drop, refl, sym, ap, subst, ◌∙◌, arith, length-drop}
+-- Each stroke of `put` fits at its point.
+use Rattle.std.proofs.Common.{◌≡◌, ◌≢◌, inl, inr, ℕ, suc, ◌+◌, ◌-◌, ◌*◌, ◌/◌, ◌%◌, ◌^◌, ◌<◌, ◌≤◌, List, ◌∷◌, ◌++◌, length, take, drop, refl, sym, ap, subst, ◌∙◌, arith, length-drop}
 use Rattle.std.specs.Prelude.{Bool, true, false, not, ◌==◌, nat_le, Some, None}
 use Rattle.std.proofs.lemmas.Bool.{true≢false, cases_lt}
 use Rattle.std.proofs.lemmas.Bool.Decides.{eqb_tells, leb_tells}
-use Rattle.std.proofs.lemmas.List.{length-replicate, take_all, drop-drop}
+use Rattle.std.proofs.lemmas.List.{length-replicate, drop-drop}
 use Rattle.nb_fields.specs.Bytes.{number_of, bytes_of, number_in, part, with_part, is_zeros, padded}
 use Rattle.nb_fields.specs.Places.{entries_in, bits_in, is_inventory_place, is_scn_place}
 use Rattle.nb_fields.specs.Page.{head_of, page_of, kind_of, stamp_of, generation_of, stamped}
@@ -15,14 +15,14 @@ use Rattle.nb_fields.proofs.SizeLemmas.{SizeFacts, size_facts}
 use Rattle.nb_fields.proofs.PlaceLemmas.{entries-least}
 use Rattle.nb_host.specs.declared.refusals.Refusal.{Refusal}
 use Rattle.nb_model.specs.Image.{Page, Image, page_at, first_page, image_size, image_scn, with_page}
-use Rattle.nb_model.specs.Account.{Base, base_of}
-use Rattle.nb_model.specs.Strokes.{Stroke, base_after, merged_page}
-use Rattle.nb_model.specs.Forms.{Draft, drafted, old_page, wrote, written, needs, is_kind, inventory_of, scn_page_of, entry_number, scn_entry, has_entry, entry_written, entry_raised, raised, put}
+use Rattle.nb_model.specs.Account.{Base}
+use Rattle.nb_model.specs.Forms.{Draft, drafted, old_page, needs, is_kind, inventory_of, scn_page_of, entry_number, scn_entry, has_entry, entry_written, entry_raised, raised, put}
 use Rattle.nb_model.specs.Causes.{Cause, first_cause, when, not_raw}
 use Rattle.nb_model.specs.Sound.{IsSoundImage, HasHeader}
-use Rattle.nb_model.proofs.DraftLaws.{either, IsOf, drafted_is, drafts_are, one_more}
+use Rattle.nb_model.proofs.DraftLaws.{either}
+use Rattle.nb_model.proofs.FitLaws.{IsWhole, Fits, fits_first, fits_needs, form_page, written_image, fits_more}
 use Rattle.nb_model.proofs.HeaderLaws.{header-size}
-use Rattle.nb_model.proofs.SoundLaws.{all_at, page_no_zeros, inventory_there, scn_page_there, scn_place_some, scn_place_before, with_page_length, HasFields, FitsAt, scn_no_entry, size_stays, scn_stays, fields_stay, entry_here, header_kind, written_other, page_sound}
+use Rattle.nb_model.proofs.SoundLaws.{all_at, page_no_zeros, inventory_there, scn_page_there, scn_place_some, scn_place_before, with_page_length, HasFields, FitsAt, scn_no_entry, size_stays, scn_stays, entry_here, header_kind, written_other}
 
 -- page p may be written: it isn't page 0, and stands below the length or at it
 pub record IsPlace (image : Image) (p : ℕ) : Type 0 where
@@ -200,53 +200,10 @@ module _ (image : Image) (p : ℕ) (fields : HasFields image) (is : IsSoundImage
   now_current : scn_entry (with_page s raised_page image) p ≡ image_scn image
   now_current = entry_here image s raised_page fields is raised_fits p refl ∙ entry_same p refl
 
--- after each front of the strokes of a draft the image has Q
-pub record Throughout (Q : Image → Type 0) (b : Base) (d : Draft) : Type 0 where
-  pub is : IsOf b d
-  pub each : (k : ℕ) → Q (base_after b (take k d.strokes)).image
-
-pub at_first : (Q : Image → Type 0) (b : Base) → Q b.image → Throughout Q b (drafted b.image)
-unfolding base_after
-at_first Q b h = record { is = drafted_is b; each = none }
-  where
-    none : (k : ℕ) → Q (base_after b (take k [])).image
-    none zero = h
-    none (suc k) = h
-
-pub holds_now : (Q : Image → Type 0) (b : Base) (d : Draft) → Throughout Q b d → Q d.image
-holds_now Q b d h = subst Q h.is.is (subst (λ (ss : List Stroke). Q (base_after b ss).image) (take_all (length d.strokes) d.strokes (omega arith)) (h.each (length d.strokes)))
-
--- one write more
-pub holds_after : (Q : Image → Type 0) (b : Base) (p kind : ℕ) (payload : List ℕ) (d : Draft) → Throughout Q b d → Q (written p kind payload d).image → Throughout Q b (written p kind payload d)
-unfolding written wrote
-holds_after Q b p kind payload d h whole =
-    let is : IsOf b (written p kind payload d) = (drafts_are b).writes p kind payload d h.is in
-    record { is = is; each = one_more Q b d.strokes _ h.each (subst Q (sym is.is) whole) }
-
 -- reading an inventory page changes no image
 pub needs_image : (kind p : ℕ) (d : Draft) → (needs kind p d).image ≡ d.image
 unfolding needs
 needs_image kind p d = either (λ (x : Draft). x.image ≡ d.image) (is_kind d.image kind p) _ _ refl refl
-
-pub needs_holds : (Q : Image → Type 0) (b : Base) (kind p : ℕ) (d : Draft) → Throughout Q b d → Throughout Q b (needs kind p d)
-unfolding needs
-needs_holds Q b kind p d h = either (Throughout Q b) (is_kind d.image kind p) _ _ h (record { is = (drafts_are b).reads _ d h.is; each = h.each })
-
--- a page that isn't page 0 is written whole
-whole_page : (p : ℕ) (bytes : Page) (image : Image) → 1 ≤ p → merged_page p bytes image ≡ bytes
-unfolding merged_page
-whole_page zero bytes image h = absurd (omega arith)
-whole_page (suc p) bytes image h = refl
-
-pub written_image : (p kind : ℕ) (payload : List ℕ) (d : Draft) → 1 ≤ p → (written p kind payload d).image ≡ with_page p (stamped (old_page p d.image) kind payload (image_scn d.image) p) d.image
-unfolding written wrote
-written_image p kind payload d h = ap (λ (bytes : Page). with_page p bytes d.image) (whole_page p (stamped (old_page p d.image) kind payload (image_scn d.image) p) d.image h)
-
--- what is known of the image of a draft
-pub record Held (Q : Image → Type 0) (image : Image) : Type 0 where
-  pub fields : HasFields image
-  pub sound : IsSoundImage image
-  pub also : Q image
 
 -- x is the image with the SCN entry of page p raised to the current SCN, and no other page changed
 pub record Raises (image x : Image) (p : ℕ) : Type 0 where
@@ -257,39 +214,30 @@ pub record Raises (image x : Image) (p : ℕ) : Type 0 where
   pub current : has_entry x p ≡ true → scn_entry x p ≡ image_scn x
 
 -- a draft whose image is the image with that entry raised
-pub record IsRaised (Q : Image → Type 0) (b : Base) (image : Image) (p : ℕ) (d : Draft) : Type 0 where
-  pub through : Throughout (Held Q) b d
+pub record IsRaised (K : Page → Type 0) (b : Base) (image : Image) (p : ℕ) (d : Draft) : Type 0 where
+  pub fits : Fits K b d
   pub raises : Raises image d.image p
 
 -- What `put` leaves: the image with the entry of page p raised, and then with that page.
-pub record IsPut (Q : Image → Type 0) (b : Base) (image : Image) (p kind : ℕ) (payload : List ℕ) (d : Draft) : Type 0 where
-  pub through : Throughout (Held Q) b d
+pub record IsPut (K : Page → Type 0) (b : Base) (image : Image) (p kind : ℕ) (payload : List ℕ) (d : Draft) : Type 0 where
+  pub fits : Fits K b d
   pub between : Image
   pub raises : Raises image between p
-  pub is : d.image ≡ with_page p (stamped (old_page p between) kind payload (image_scn between) p) between
+  pub is : d.image ≡ with_page p (form_page p kind payload between) between
 
--- Q is kept by each page that fits and that K holds of, as it does of each SCN page
-module _ (Q : Image → Type 0) (K : Page → Type 0) (scn_pages : (bytes : Page) → kind_of bytes ≡ 10 → K bytes)
-    (step : (image : Image) (p : ℕ) (bytes : Page) → HasFields image → IsSoundImage image → FitsAt image p bytes → K bytes → Q image → Q (with_page p bytes image)) where
-  stepped : (image : Image) (p : ℕ) (bytes : Page) → Held Q image → FitsAt image p bytes → K bytes → Held Q (with_page p bytes image)
-  stepped image p bytes h fits of_kind = record {
-    fields = fields_stay image p bytes h.fields h.sound fits;
-    sound = page_sound image p bytes h.fields h.sound fits;
-    also = step image p bytes h.fields h.sound fits of_kind h.also;
-  }
-
-  entry_is_written : (b : Base) (p : ℕ) (d : Draft) → has_entry d.image p ≡ true → Throughout (Held Q) b d → IsPlace d.image p → IsRaised Q b d.image p (entry_written p d)
+-- K holds of each SCN page
+module _ (K : Page → Type 0) (scn_pages : (bytes : Page) → kind_of bytes ≡ 10 → K bytes) (b : Base) where
+  entry_is_written : (p : ℕ) (d : Draft) → has_entry d.image p ≡ true → Fits K b d → IsPlace d.image p → IsRaised K b d.image p (entry_written p d)
   unfolding entry_written
-  entry_is_written b p d has through at =
-      let h : Held Q d.image = holds_now (Held Q) b d through in
+  entry_is_written p d has before at =
+      let h : IsWhole d.image = before.whole in
       let low : scn_page_of d.image p < length d.image = scn_page_below d.image p h.fields h.sound.least at has in
       let fits : FitsAt d.image (scn_page_of d.image p) (raised_page d.image p h.fields h.sound low) = raised_fits d.image p h.fields h.sound low in
       let of_kind : kind_of (raised_page d.image p h.fields h.sound low) ≡ 10 = fits.scn_page (place d.image p h.fields h.sound low) in
-      let image : (entry_written p d).image ≡ with_page (scn_page_of d.image p) (raised_page d.image p h.fields h.sound low) d.image = written_image (scn_page_of d.image p) 10 _ d (let two = scn_place_some (image_size d.image) (p / entries_in (image_size d.image)) h.fields.size in omega arith) in
-      let after : Held Q (with_page (scn_page_of d.image p) (raised_page d.image p h.fields h.sound low) d.image) = stepped d.image _ _ h fits (scn_pages _ of_kind) in
+      let behind : 1 ≤ scn_page_of d.image p = let two = scn_place_some (image_size d.image) (p / entries_in (image_size d.image)) h.fields.size in omega arith in
       record {
-        through = holds_after (Held Q) b (scn_page_of d.image p) 10 _ d through (subst (Held Q) (sym image) after);
-        raises = subst (λ (x : Image). Raises d.image x p) (sym image) (record {
+        fits = fits_more K b (scn_page_of d.image p) 10 _ d behind before fits (scn_pages _ of_kind);
+        raises = subst (λ (x : Image). Raises d.image x p) (sym (written_image (scn_page_of d.image p) 10 _ d behind)) (record {
           size = size_stays d.image _ _ h.fields h.sound fits;
           scn = scn_stays d.image _ _ h.fields h.sound fits;
           long = omega (arith, with_page_length (scn_page_of d.image p) (raised_page d.image p h.fields h.sound low) d.image fits.there);
@@ -298,20 +246,20 @@ module _ (Q : Image → Type 0) (K : Page → Type 0) (scn_pages : (bytes : Page
         });
       }
 
-  entry_is_raised : (b : Base) (p : ℕ) (d : Draft) → has_entry d.image p ≡ true → Throughout (Held Q) b d → IsPlace d.image p → IsRaised Q b d.image p (entry_raised p d)
+  entry_is_raised : (p : ℕ) (d : Draft) → has_entry d.image p ≡ true → Fits K b d → IsPlace d.image p → IsRaised K b d.image p (entry_raised p d)
   unfolding entry_raised
-  entry_is_raised b p d has through at = elim (leb_tells (suc (scn_entry d.image p)) (image_scn d.image)) [
-    | inl w ↦ rw (w.0, entry_raised) (entry_is_written b p d has through at)
+  entry_is_raised p d has before at = elim (leb_tells (suc (scn_entry d.image p)) (image_scn d.image)) [
+    | inl w ↦ rw (w.0, entry_raised) (entry_is_written p d has before at)
     | inr w ↦
-        let h : Held Q d.image = holds_now (Held Q) b d through in
+        let h : IsWhole d.image = before.whole in
         let low : scn_page_of d.image p < length d.image = scn_page_below d.image p h.fields h.sound.least at has in
         let most = h.sound.sound.entries.no_later p low has in
-        rw (w.0, entry_raised) (record { through = through; raises = record { size = refl; scn = refl; long = refl; others = λ q other. refl; current = λ also. omega (arith, w.1) } })
+        rw (w.0, entry_raised) (record { fits = before; raises = record { size = refl; scn = refl; long = refl; others = λ q other. refl; current = λ also. omega (arith, w.1) } })
   ]
 
-  pub is_raised : (b : Base) (p : ℕ) (d : Draft) → Throughout (Held Q) b d → IsPlace d.image p → IsRaised Q b d.image p (raised p d)
+  pub is_raised : (p : ℕ) (d : Draft) → Fits K b d → IsPlace d.image p → IsRaised K b d.image p (raised p d)
   unfolding raised
-  is_raised b p d through at = by_test (has_entry d.image p) refl
+  is_raised p d before at = by_test (has_entry d.image p) refl
     where
       read : Draft
       read = needs 10 (scn_page_of d.image p) d
@@ -319,38 +267,36 @@ module _ (Q : Image → Type 0) (K : Page → Type 0) (scn_pages : (bytes : Page
       same : read.image ≡ d.image
       same = needs_image 10 (scn_page_of d.image p) d
 
-      by_test : (t : Bool) → has_entry d.image p ≡ t → IsRaised Q b d.image p (raised p d)
-      by_test true has = rw (has, raised) (subst (λ (image : Image). IsRaised Q b image p (entry_raised p read)) same
-          (entry_is_raised b p read (ap (λ (x : Image). has_entry x p) same ∙ has) (needs_holds (Held Q) b 10 (scn_page_of d.image p) d through) (subst (λ (x : Image). IsPlace x p) (sym same) at)))
+      by_test : (t : Bool) → has_entry d.image p ≡ t → IsRaised K b d.image p (raised p d)
+      by_test true has = rw (has, raised) (subst (λ (image : Image). IsRaised K b image p (entry_raised p read)) same
+          (entry_is_raised p read (ap (λ (x : Image). has_entry x p) same ∙ has) (fits_needs K b 10 (scn_page_of d.image p) d before) (subst (λ (x : Image). IsPlace x p) (sym same) at)))
       by_test false has = rw (has, raised) (record {
-        through = through;
+        fits = before;
         raises = record { size = refl; scn = refl; long = refl; others = λ q other. refl; current = λ also. absurd (true≢false (sym also ∙ has)) };
       })
 
-  -- so Q holds after each front of the strokes of `put`, where the page fits once its entry is raised
-  pub put_holds : (b : Base) (p kind : ℕ) (payload : List ℕ) (d : Draft) → Throughout (Held Q) b d → IsPlace d.image p
-      → ((x : Image) → Held Q x → Raises d.image x p → FitsAt x p (stamped (old_page p x) kind payload (image_scn x) p) × K (stamped (old_page p x) kind payload (image_scn x) p))
-      → IsPut Q b d.image p kind payload (put p kind payload d)
+  -- so each stroke of `put` fits, where the page fits once its entry is raised
+  pub put_fits : (p kind : ℕ) (payload : List ℕ) (d : Draft) → Fits K b d → IsPlace d.image p
+      → ((x : Image) → IsWhole x → Raises d.image x p → FitsAt x p (form_page p kind payload x) × K (form_page p kind payload x))
+      → IsPut K b d.image p kind payload (put p kind payload d)
   unfolding put
-  put_holds b p kind payload d through at fit =
-      let ready : IsRaised Q b d.image p (raised p d) = is_raised b p d through at in
+  put_fits p kind payload d before at fit =
+      let ready : IsRaised K b d.image p (raised p d) = is_raised p d before at in
       let x : Image = (raised p d).image in
-      let h : Held Q x = holds_now (Held Q) b (raised p d) ready.through in
-      let fits = fit x h ready.raises in
-      let image : (written p kind payload (raised p d)).image ≡ with_page p (stamped (old_page p x) kind payload (image_scn x) p) x = written_image p kind payload (raised p d) at.behind in
+      let now = fit x ready.fits.whole ready.raises in
       record {
-        through = holds_after (Held Q) b p kind payload (raised p d) ready.through (subst (Held Q) (sym image) (stepped x p _ h fits.0 fits.1));
+        fits = fits_more K b p kind payload (raised p d) at.behind ready.fits now.0 now.1;
         between = x;
         raises = ready.raises;
-        is = image;
+        is = written_image p kind payload (raised p d) at.behind;
       }
 
   -- a page that is no system page fits then
-  pub plain_holds : (b : Base) (p kind : ℕ) (payload : List ℕ) (d : Draft) → Throughout (Held Q) b d → IsPlain d.image p → (kind == 0) ≡ false → 16 + length payload ≤ image_size d.image
-      → ((bytes : Page) → kind_of bytes ≡ kind → K bytes) → IsPut Q b d.image p kind payload (put p kind payload d)
-  plain_holds b p kind payload d through plain some room of_kind = put_holds b p kind payload d through plain.place fit
+  pub plain_put : (p kind : ℕ) (payload : List ℕ) (d : Draft) → Fits K b d → IsPlain d.image p → (kind == 0) ≡ false → 16 + length payload ≤ image_size d.image
+      → ((bytes : Page) → kind_of bytes ≡ kind → K bytes) → IsPut K b d.image p kind payload (put p kind payload d)
+  plain_put p kind payload d before plain some room of_kind = put_fits p kind payload d before plain.place fit
     where
-      fit : (x : Image) → Held Q x → Raises d.image x p → FitsAt x p (stamped (old_page p x) kind payload (image_scn x) p) × K (stamped (old_page p x) kind payload (image_scn x) p)
+      fit : (x : Image) → IsWhole x → Raises d.image x p → FitsAt x p (form_page p kind payload x) × K (form_page p kind payload x)
       fit x h raises =
           let room_x : 16 + length payload ≤ image_size x = omega (arith, raises.size) in
           let plain_x : IsPlain x p = record {
@@ -425,21 +371,13 @@ text_room : (text : List ℕ) → length text ≤ 200 → length (text_payload t
 unfolding text_payload bytes_of
 text_room text short = omega arith
 
--- a text is put into a raw page, and Q is kept
-module _ (Q : Image → Type 0) (K : Page → Type 0) (scn_pages : (bytes : Page) → kind_of bytes ≡ 10 → K bytes) (raw_pages : (bytes : Page) → kind_of bytes ≡ 8 → K bytes)
-    (step : (image : Image) (p : ℕ) (bytes : Page) → HasFields image → IsSoundImage image → FitsAt image p bytes → K bytes → Q image → Q (with_page p bytes image)) where
-  pub text_holds : (image : Image) (p : ℕ) (text : List ℕ) → HasHeader image → IsSoundImage image → Q image → not_raw image p ≡ None → length text ≤ 200
-      → Throughout (Held Q) (base_of image) (put p 8 (text_payload text) (drafted image))
-  text_holds image p text h is also none short =
-      let fields : HasFields image = header_fields image h in
-      let facts : SizeFacts (image_size image) = size_facts (image_size image) fields.size in
-      let first : Throughout (Held Q) (base_of image) (drafted image) = at_first (Held Q) (base_of image) (record { fields = fields; sound = is; also = also }) in
-      (plain_holds Q K scn_pages step (base_of image) p 8 (text_payload text) (drafted image) first (raw_plain image p h is none) refl (omega (arith, facts.at_least, text_room text short)) raw_pages).through
+pub header_whole : (image : Image) → HasHeader image → IsSoundImage image → IsWhole image
+header_whole image h is = record { fields = header_fields image h; sound = is }
 
--- each front of the strokes of a write leaves a sound image
-pub put_sound : (image : Image) (p : ℕ) (text : List ℕ) → HasHeader image → IsSoundImage image → not_raw image p ≡ None → length text ≤ 200
-    → (k : ℕ) → IsSoundImage (base_after (base_of image) (take k (put p 8 (text_payload text) (drafted image)).strokes)).image
-put_sound image p text h is none short k =
-    let through : Throughout (Held IsSoundImage) (base_of image) (put p 8 (text_payload text) (drafted image)) =
-    text_holds IsSoundImage (λ bytes. Unit {0}) (λ bytes e. tt) (λ bytes e. tt) (λ x q bytes fields sound fits any also. page_sound x q bytes fields sound fits) image p text h is is none short in
-    (through.each k).sound
+-- a text is put into a raw page
+pub text_fits : (K : Page → Type 0) → ((bytes : Page) → kind_of bytes ≡ 10 → K bytes) → ((bytes : Page) → kind_of bytes ≡ 8 → K bytes)
+    → (b : Base) (p : ℕ) (text : List ℕ) → HasHeader b.image → IsSoundImage b.image → not_raw b.image p ≡ None → length text ≤ 200 → Fits K b (put p 8 (text_payload text) (drafted b.image))
+text_fits K scn_pages raw_pages b p text h is none short =
+    let fields : HasFields b.image = header_fields b.image h in
+    let facts : SizeFacts (image_size b.image) = size_facts (image_size b.image) fields.size in
+    (plain_put K scn_pages b p 8 (text_payload text) (drafted b.image) (fits_first K b (header_whole b.image h is)) (raw_plain b.image p h is none) refl (omega (arith, facts.at_least, text_room text short)) raw_pages).fits

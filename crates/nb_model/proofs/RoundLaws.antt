@@ -12,33 +12,23 @@ use Rattle.nb_model.specs.Image.{Page, Image, page_at, image_size, image_scn, wi
 use Rattle.nb_model.specs.Account.{base_of}
 use Rattle.nb_model.specs.Strokes.{page}
 use Rattle.nb_model.specs.Forms.{Draft, drafted, old_page, wrote, written, needs, is_kind, inventory_of, scn_page_of, bit_number, has_entry, scn_entry, is_free_page, entry_written, entry_raised, raised, put, with_bit, set_bit, take_page, free_from, lowest_free, needs_inventories, searched, system_kind, system_payload, system_page, no_page, new_within}
-use Rattle.nb_model.specs.Sound.{IsSoundImage}
 use Rattle.nb_model.proofs.StrokeLaws.{with_page_same, with_page_other}
-use Rattle.nb_model.proofs.SoundLaws.{all_at, inventory_there, inventory_place_some, scn_page_there, scn_place_some, HasFields, scn_no_entry, with_page_length}
-use Rattle.nb_model.proofs.PutSound.{IsPlace, Raises, is_raised, Held, Throughout, at_first, holds_now, scn_page_below, written_image, plain_holds}
+use Rattle.nb_model.proofs.SoundLaws.{all_at, inventory_there, inventory_place_some, scn_page_there, scn_place_some, scn_no_entry, with_page_length}
+use Rattle.nb_model.proofs.FitLaws.{IsWhole, Fits, fits_first, written_image}
+use Rattle.nb_model.proofs.PutSound.{IsPlace, Raises, is_raised, scn_page_below, plain_put}
 use Rattle.nb_model.proofs.BitLaws.{bit_else, bit_here, with_bit_length, bit_behind, one_bit}
-use Rattle.nb_model.proofs.NewSound.{HoldsOfKinds, IsThere, places_apart, inventory_before, lowest_between, plain_place, put_there, taken_holds, system_there}
+use Rattle.nb_model.proofs.NewSound.{HoldsOfKinds, IsThere, places_apart, inventory_before, lowest_between, plain_place, put_there, taken_fits, system_there}
 use Rattle.nb_model.proofs.ReadLaws.{eq_no}
 use Rattle.nb_model.proofs.DraftJoin.{joined, joined_new, join_set_bit, join_new}
-
-abbrev Any : Image → Type 0
-Any image = Unit {0}
 
 abbrev AnyPage : Page → Type 0
 AnyPage bytes = Unit {0}
 
--- a sound image with the fields of a header
-abbrev pub Well : Image → Type 0
-Well = Held Any
-
-pub well : (image : Image) → HasFields image → IsSoundImage image → Well image
-well image fields sound = record { fields = fields; sound = sound; also = tt }
-
 any_kinds : HoldsOfKinds AnyPage
 any_kinds = record { inventories = λ bytes e. tt; scn_pages = λ bytes e. tt }
 
-started : (image : Image) → Well image → Throughout Well (base_of image) (drafted image)
-started image h = at_first Well (base_of image) h
+started : (image : Image) → IsWhole image → Fits AnyPage (base_of image) (drafted image)
+started image h = fits_first AnyPage (base_of image) h
 
 -- a page of that kind is found
 pub kind_found : (image : Image) (kind p : ℕ) → p < length image → kind_of (page_at image p) ≡ kind → is_kind image kind p ≡ true
@@ -50,12 +40,12 @@ unfolding needs
 needs_found image kind p is = rw (is, needs) refl
 
 -- What is written at a place of a sound image.
-module _ (image : Image) (h : Well image) (p : ℕ) (at : IsPlace image p) where
+module _ (image : Image) (h : IsWhole image) (p : ℕ) (at : IsPlace image p) where
   abbrev before : Draft
   before = raised p (drafted image)
 
   pub raises : Raises image before.image p
-  raises = (is_raised Any AnyPage (λ bytes e. tt) (λ x q bytes fields sound fits k also. tt) (base_of image) p (drafted image) (started image h) at).raises
+  raises = (is_raised AnyPage (λ bytes e. tt) (base_of image) p (drafted image) (started image h) at).raises
 
   -- the SCN page of its entry is there
   pub scn_page_found : has_entry image p ≡ true → is_kind image 10 (scn_page_of image p) ≡ true
@@ -156,13 +146,13 @@ bit_by image after q size same =
     ap (λ (s : ℕ). bit_of (page_at after (inventory_place s (q / bits_in s))) (q % bits_in s) == 1) size ∙ ap (λ (x : Page). bit_of x (bit_number image q) == 1) same
 
 -- a page that is written keeps the bits of the pages up to it
-pub put_bits : (image : Image) → Well image → (p kind : ℕ) (payload : List ℕ) → IsPlace image p → (q : ℕ) → 2 ≤ q → q ≤ p → is_free_page (put p kind payload (drafted image)).image q ≡ is_free_page image q
+pub put_bits : (image : Image) → IsWhole image → (p kind : ℕ) (payload : List ℕ) → IsPlace image p → (q : ℕ) → 2 ≤ q → q ≤ p → is_free_page (put p kind payload (drafted image)).image q ≡ is_free_page image q
 put_bits image h p kind payload at q two le =
     let before = inventory_before (image_size image) q h.fields.size two in
     bit_by image _ q (put_size image h p at kind payload) (put_inventory image h p at kind payload (q / bits_in (image_size image)) (λ e. absurd (omega (arith, e, before, le))))
 
 -- A page that is taken.
-module _ (image : Image) (h : Well image) (p : ℕ) (two : 2 ≤ p) (low : p < length image) where
+module _ (image : Image) (h : IsWhole image) (p : ℕ) (two : 2 ≤ p) (low : p < length image) where
   abbrev i : ℕ
   i = inventory_of image p
 
@@ -191,8 +181,8 @@ module _ (image : Image) (h : Well image) (p : ℕ) (two : 2 ≤ p) (low : p < l
   pub take_unbroken : (take_page p (drafted image)).broken ≡ []
   take_unbroken = ap (λ (d : Draft). d.broken) take_is ∙ put_unbroken image h i i_place 2 (drop 16 row)
 
-  pub take_well : Well (take_page p (drafted image)).image
-  take_well = holds_now Well (base_of image) _ (taken_holds Any AnyPage any_kinds (λ x q bytes fields sound fits k also. tt) (base_of image) p (drafted image) two (record { through = started image h; below = low }))
+  pub take_well : IsWhole (take_page p (drafted image)).image
+  take_well = (taken_fits AnyPage any_kinds (base_of image) p (drafted image) two (record { fits = started image h; below = low })).whole
 
   take_size : image_size (take_page p (drafted image)).image ≡ image_size image
   take_size = ap (λ (d : Draft). image_size d.image) take_is ∙ put_size image h i i_place 2 (drop 16 row)
@@ -253,7 +243,7 @@ module _ (image : Image) (h : Well image) (p : ℕ) (two : 2 ≤ p) (low : p < l
       ]
 
 -- the inventory pages that a search reads are there
-inventories_found : (image : Image) → Well image → (p count k : ℕ) → p ≤ length image → 2 ≤ p → k + count ≤ p / bits_in (image_size image) + 1 → needs_inventories count k (drafted image) ≡ drafted image
+inventories_found : (image : Image) → IsWhole image → (p count k : ℕ) → p ≤ length image → 2 ≤ p → k + count ≤ p / bits_in (image_size image) + 1 → needs_inventories count k (drafted image) ≡ drafted image
 unfolding needs_inventories
 inventories_found image h p zero k low two few = refl
 inventories_found image h p (suc count) k low two few =
@@ -271,7 +261,7 @@ inventories_found image h p (suc count) k low two few =
     before_page size p zero is two le = omega (arith, two)
     before_page size p (suc k) is two le = let least = bits-least size is in let more : bits_in size ≤ suc k * bits_in size = omega arith in omega (arith, le, more, least)
 
-pub searched_found : (image : Image) → Well image → (p : ℕ) → p ≤ length image → 2 ≤ p → searched p (drafted image) ≡ drafted image
+pub searched_found : (image : Image) → IsWhole image → (p : ℕ) → p ≤ length image → 2 ≤ p → searched p (drafted image) ≡ drafted image
 unfolding searched
 searched_found image h p low two = inventories_found image h p (p / bits_in (image_size image) + 1) 0 low two (omega arith)
 
@@ -279,7 +269,7 @@ searched_found image h p low two = inventories_found image h p (p / bits_in (ima
 abbrev pub round : ℕ → Image → Draft
 round p image = take_page p (system_page p (drafted image))
 
-module _ (image : Image) (h : Well image) (p : ℕ) (at : IsPlace image p) (place : is_system_place (image_size image) p ≡ true) where
+module _ (image : Image) (h : IsWhole image) (p : ℕ) (at : IsPlace image p) (place : is_system_place (image_size image) p ≡ true) where
   abbrev made : Draft
   made = system_page p (drafted image)
 
@@ -291,11 +281,11 @@ module _ (image : Image) (h : Well image) (p : ℕ) (at : IsPlace image p) (plac
       by true = here
       by false = written
 
-  there : IsThere Any AnyPage any_kinds (λ x q bytes fields sound fits k also. tt) (base_of image) p made
-  there = system_there Any AnyPage any_kinds (λ x q bytes fields sound fits k also. tt) (base_of image) p (drafted image) place at (started image h)
+  there : IsThere AnyPage any_kinds (base_of image) p made
+  there = system_there AnyPage any_kinds (base_of image) p (drafted image) place at (started image h)
 
-  pub system_well : Well made.image
-  system_well = holds_now Well (base_of image) made there.through
+  pub system_well : IsWhole made.image
+  system_well = there.fits.whole
 
   pub system_low : p < length made.image
   system_low = there.below
@@ -323,8 +313,8 @@ module _ (image : Image) (h : Well image) (p : ℕ) (at : IsPlace image p) (plac
     pub round_unbroken : (round p image).broken ≡ []
     round_unbroken = ap (λ (d : Draft). d.broken) round_is ∙ ap (λ (ps : List ℕ). ps ++ made.broken) (take_unbroken made.image system_well p two system_low) ∙ system_unbroken
 
-    pub round_well : Well (round p image).image
-    round_well = subst Well (sym round_image) (take_well made.image system_well p two system_low)
+    pub round_well : IsWhole (round p image).image
+    round_well = subst IsWhole (sym round_image) (take_well made.image system_well p two system_low)
 
     -- the place is taken then, and the pages before it are as they were
     pub round_here : is_free_page (round p image).image p ≡ false
@@ -335,20 +325,20 @@ module _ (image : Image) (h : Well image) (p : ℕ) (at : IsPlace image p) (plac
         ap (λ (x : Image). is_free_page x q) round_image ∙ take_other made.image system_well p two system_low q (λ e. absurd (omega (arith, e, before))) ∙ system_bits q second (omega (arith, before))
 
 -- A page that is no system page is made at its place, and taken.
-module _ (image : Image) (h : Well image) (p kind : ℕ) (payload : List ℕ) (at : IsPlace image p) (plain : is_system_place (image_size image) p ≡ false) (some : (kind == 0) ≡ false) (room : length payload ≤ 1008) where
+module _ (image : Image) (h : IsWhole image) (p kind : ℕ) (payload : List ℕ) (at : IsPlace image p) (plain : is_system_place (image_size image) p ≡ false) (some : (kind == 0) ≡ false) (room : length payload ≤ 1008) where
   abbrev put_at : Draft
   put_at = put p kind payload (drafted image)
 
-  is_there : IsThere Any AnyPage any_kinds (λ x q bytes fields sound fits k also. tt) (base_of image) p put_at
+  is_there : IsThere AnyPage any_kinds (base_of image) p put_at
   is_there =
       let places = plain_place (image_size image) p plain in
       let size : SizeFacts (image_size image) = size_facts (image_size image) h.fields.size in
-      put_there Any AnyPage any_kinds (λ x q bytes fields sound fits k also. tt) (base_of image) image p kind payload put_at at
-      (plain_holds Any AnyPage (λ bytes e. tt) (λ x q bytes fields sound fits k also. tt) (base_of image) p kind payload (drafted image) (started image h)
+      put_there AnyPage any_kinds (base_of image) image p kind payload put_at at
+      (plain_put AnyPage (λ bytes e. tt) (base_of image) p kind payload (drafted image) (started image h)
       (record { place = at; no_inventory = places.0; no_scn_page = places.1 }) some (omega (arith, size.at_least, room)) (λ bytes e. tt))
 
-  pub plain_well : Well put_at.image
-  plain_well = holds_now Well (base_of image) put_at is_there.through
+  pub plain_well : IsWhole put_at.image
+  plain_well = is_there.fits.whole
 
   pub plain_low : p < length put_at.image
   plain_low = is_there.below
@@ -406,7 +396,7 @@ pub record IsFound (image : Image) (tries p : ℕ) : Type 0 where
   pub five : 5 ≤ p
   pub at : IsPlace image p
 
-module _ (image : Image) (h : Well image) (kind : ℕ) (payload : ℕ → List ℕ) where
+module _ (image : Image) (h : IsWhole image) (kind : ℕ) (payload : ℕ → List ℕ) where
   abbrev p : ℕ
   p = lowest_free image
 
@@ -473,7 +463,7 @@ module _ (image : Image) (h : Well image) (kind : ℕ) (payload : ℕ → List �
       ]
 
 -- a new page needs no inventory page that isn't of the form
-pub new_unbroken : (tries kind : ℕ) (payload : ℕ → List ℕ) (image : Image) → Well image → (kind == 0) ≡ false → ((p : ℕ) → length (payload p) ≤ 1008) → (new_within tries kind payload (drafted image)).0.broken ≡ []
+pub new_unbroken : (tries kind : ℕ) (payload : ℕ → List ℕ) (image : Image) → IsWhole image → (kind == 0) ≡ false → ((p : ℕ) → length (payload p) ≤ 1008) → (new_within tries kind payload (drafted image)).0.broken ≡ []
 unfolding new_within
 new_unbroken zero kind payload image h some room = refl
 new_unbroken (suc left) kind payload image h some room = by_full (λ x well_x. new_unbroken left kind payload x well_x some room) (p == 1048576) refl
@@ -490,13 +480,13 @@ new_unbroken (suc left) kind payload image h some room = by_full (λ x well_x. n
     two : 2 ≤ p
     two = omega (arith, bounds.0)
 
-    by_system : ((x : Image) → Well x → (new_within left kind payload (drafted x)).0.broken ≡ []) → (below : (p == 1048576) ≡ false) → (u : Bool) → is_system_place (image_size image) p ≡ u
+    by_system : ((x : Image) → IsWhole x → (new_within left kind payload (drafted x)).0.broken ≡ []) → (below : (p == 1048576) ≡ false) → (u : Bool) → is_system_place (image_size image) p ≡ u
         → (new_within (suc left) kind payload (drafted image)).0.broken ≡ []
     by_system rest below true f =
         ap (λ (x : Draft × ℕ). x.0.broken) (new_more image h kind payload left (at below).most f)
         ∙ ap (λ (ps : List ℕ). ps ++ (round p image).broken) (rest (round p image).image (round_well image h p (at below) f two)) ∙ round_unbroken image h p (at below) f two
     by_system rest below false f = ap (λ (x : Draft × ℕ). x.0.broken) (new_last image h kind payload left (at below).most f) ∙ last_unbroken image h p kind (payload p) (at below) f some (room p) two
 
-    by_full : ((x : Image) → Well x → (new_within left kind payload (drafted x)).0.broken ≡ []) → (t : Bool) → (p == 1048576) ≡ t → (new_within (suc left) kind payload (drafted image)).0.broken ≡ []
+    by_full : ((x : Image) → IsWhole x → (new_within left kind payload (drafted x)).0.broken ≡ []) → (t : Bool) → (p == 1048576) ≡ t → (new_within (suc left) kind payload (drafted image)).0.broken ≡ []
     by_full rest true e = ap (λ (x : Draft × ℕ). x.0.broken) (new_by image h kind payload left true (is_system_place (image_size image) p) e refl)
     by_full rest false e = by_system rest e (is_system_place (image_size image) p) refl

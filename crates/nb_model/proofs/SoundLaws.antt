@@ -177,7 +177,7 @@ module _ (image : Image) (p : ℕ) (bytes : Page) (fields : HasFields image) (is
   longer = with_page_length p bytes image fits.there
 
   -- the header's fields stay
-  head_stays : take 64 (first_page new) ≡ take 64 (first_page image)
+  pub head_stays : take 64 (first_page new) ≡ take 64 (first_page image)
   head_stays = elim (eqb_tells p 0) [
     | inl w ↦ ap (λ (n : ℕ). take 64 (page_at new n)) (sym w.1) ∙ ap (take 64) written_here ∙ fits.head w.1
     | inr w ↦ ap (take 64) (written_other 0 (λ e. w.1 (sym e)))
@@ -256,11 +256,11 @@ module _ (image : Image) (p : ℕ) (bytes : Page) (fields : HasFields image) (is
             omega (arith, longer)
       ]
 
-  has_stays : (q : ℕ) → has_entry new q ≡ has_entry image q
+  pub has_stays : (q : ℕ) → has_entry new q ≡ has_entry image q
   unfolding has_entry
   has_stays q = ap (λ (s : ℕ). elim (q == 0 || is_scn_place s q) as (λ z. Bool) [ true ↦ false | false ↦ true ]) size_stays
 
-  scn_page_stays : (q : ℕ) → scn_page_of new q ≡ scn_page_of image q
+  pub scn_page_stays : (q : ℕ) → scn_page_of new q ≡ scn_page_of image q
   scn_page_stays q = ap (λ (s : ℕ). scn_place s (q / entries_in s)) size_stays
 
   entry_now : (q : ℕ) → scn_entry new q ≡ entry_of (page_at new (scn_page_of image q)) (entry_number image q)
@@ -275,7 +275,7 @@ module _ (image : Image) (p : ℕ) (bytes : Page) (fields : HasFields image) (is
   entry_other q other = entry_now q ∙ ap (λ (page : Page). entry_of page (entry_number image q)) (written_other (scn_page_of image q) other)
 
   -- the page of an SCN page isn't one whose entry it has
-  not_itself : (q : ℕ) → scn_page_of image q ≡ p → has_entry image q ≡ true → q ≢ p
+  pub not_itself : (q : ℕ) → scn_page_of image q ≡ p → has_entry image q ≡ true → q ≢ p
   not_itself q at has same =
       let place : is_scn_place (image_size image) q ≡ true = subst (λ (n : ℕ). is_scn_place (image_size image) n ≡ true) (at ∙ sym same) (scn_page_there (image_size image) (q / entries_in (image_size image)) fields.size) in
       true≢false (sym has ∙ scn_no_entry image q place)

@@ -1,9 +1,9 @@
 -- The files go on to stand for the account where the file of one name changes, as where it becomes a database in the normal state.
-use Rattle.std.proofs.Common.{◌≡◌, ◌≢◌, ◌⊎◌, inl, inr, ℕ, ◌-◌, ◌≤◌, List, [], ◌∷◌, ◌++◌, length, drop, refl, sym, ap, subst, ◌∙◌, arith, length-append}
+use Rattle.std.proofs.Common.{◌≡◌, ◌≢◌, ◌⊎◌, inl, inr, ℕ, ◌-◌, ◌≤◌, List, [], ◌∷◌, ◌++◌, length, take, drop, refl, sym, ap, subst, ◌∙◌, arith, length-append}
 use Rattle.std.specs.Prelude.{Bool, true, false, ◌==◌, Option, Some, None, Result, Ok, Err, IsTrue, is_some, Contains, nat_eq}
 use Rattle.std.specs.Cmp.Lexicographic.{told_text, pointwise}
 use Rattle.std.proofs.lemmas.Bool.{true≢false, and_parts, eqb-true}
-use Rattle.std.proofs.lemmas.List.{drop_at, append-nil}
+use Rattle.std.proofs.lemmas.List.{take_at, drop_at, append-nil}
 use Rattle.nb_fields.specs.Bytes.{number_of, number_in}
 use Rattle.nb_fields.specs.Header.{is_header, state_of, pending_of}
 use Rattle.nb_host.specs.Files.{File, Files}
@@ -40,6 +40,12 @@ delta_named name =
 -- so no difference file has the name of a database
 pub no_main : (n name : List ℕ) → is_delta name ≡ false → delta_name n ≢ name
 no_main n name plain e = true≢false (sym (delta_named n) ∙ ap is_delta e ∙ plain)
+
+-- and no two databases have one difference file
+pub delta_same : (m n : List ℕ) → delta_name m ≡ delta_name n → m ≡ n
+delta_same m n e =
+    let long : length m ≡ length n = omega (arith, length-append m delta_suffix, length-append n delta_suffix, ap length e) in
+    sym (take_at m delta_suffix (length m) refl) ∙ ap (take (length m)) e ∙ take_at n delta_suffix (length m) (sym long)
 
 -- another name keeps its entry
 pub entry_other : (name n : List ℕ) (entry : Entry) (account : Account) → n ≢ name → (with_entry name entry account).entry n ≡ account.entry n
@@ -106,8 +112,30 @@ pub record StandsUnder (files : Files) (kept : List Kept) (name : List ℕ) (ent
   pub no_stray : IsTrue (is_some (files (delta_name name))) → ((b : Base) × (entry ≡ IsBase b)) ⊎ ((bytes : List ℕ) × (files name ≡ Some bytes) × IsTrue (is_applying bytes))
   pub standby : (bytes : List ℕ) (r : Kept) → files name ≡ Some bytes → IsTrue (is_applying bytes) → IsKeptAs kept (pending_of bytes) r → IsStopped kept bytes r
 
+-- What is asked of the difference file beside it.
+pub record StandsBeside (files : Files) (account : Account) (name : List ℕ) : Type 0 where
+  pub holds : (bytes : List ℕ) → files (delta_name name) ≡ Some bytes → HoldsItsRecord account.kept bytes
+  pub no_stray : IsTrue (is_some (files (delta_name (delta_name name))))
+      → ((b : Base) × (account.entry (delta_name name) ≡ IsBase b)) ⊎ ((bytes : List ℕ) × (files (delta_name name) ≡ Some bytes) × IsTrue (is_applying bytes))
+  pub standby : (bytes : List ℕ) (r : Kept) → files (delta_name name) ≡ Some bytes → IsTrue (is_applying bytes) → IsKeptAs account.kept (pending_of bytes) r → IsStopped account.kept bytes r
+
+-- one that stays as it was has it
+pub beside_stays : (old new : Files) (account : Account) (name : List ℕ) → Stands old account → is_delta name ≡ false → ((m : List ℕ) → m ≢ name → new m ≡ old m) → StandsBeside new account name
+beside_stays old new account name stands plain others = record {
+  holds = λ bytes there. stands.kept_records.levels (delta_name name) bytes (sym same ∙ there);
+  no_stray = λ beside. elim (stands.no_stray (delta_name name) (subst (λ (f : File). IsTrue (is_some f)) (others (delta_name (delta_name name)) (no_main (delta_name name) name plain)) beside)) [
+    | inl base ↦ inl base
+    | inr standby ↦ inr (standby.0, same ∙ standby.1, standby.2)
+  ];
+  standby = λ bytes r there applying named. stands.standbys (delta_name name) bytes r (sym same ∙ there) applying named;
+}
+  where
+    same : new (delta_name name) ≡ old (delta_name name)
+    same = others (delta_name name) (no_main name name plain)
+
 module _ (old new : Files) (account : Account) (name : List ℕ) (entry : Entry)
-    (stands : Stands old account) (plain : is_delta name ≡ false) (others : (m : List ℕ) → m ≢ name → new m ≡ old m) (under : StandsUnder new account.kept name entry) where
+    (stands : Stands old account) (plain : is_delta name ≡ false) (others : (m : List ℕ) → m ≢ name → m ≢ delta_name name → new m ≡ old m)
+    (under : StandsUnder new account.kept name entry) (along : StandsBeside new account name) where
   abbrev next : Account
   next = with_entry name entry account
 
@@ -133,16 +161,20 @@ module _ (old new : Files) (account : Account) (name : List ℕ) (entry : Entry)
   ]
   belonging P now before x (to_record r there is) = before x (to_record r (subst (λ (rs : List Kept). Contains rs r) same_kept there) is)
 
-  delta_kept : (n : List ℕ) → new (delta_name n) ≡ old (delta_name n)
-  delta_kept n = others (delta_name n) (no_main n name plain)
+  delta_kept : (n : List ℕ) → n ≢ name → new (delta_name n) ≡ old (delta_name n)
+  delta_kept n other = others (delta_name n) (no_main n name plain) (λ e. other (delta_same n name e))
+
+  -- no database has the name of a difference file
+  plain_other : (n : List ℕ) → is_delta n ≡ false → n ≢ delta_name name
+  plain_other n is e = true≢false (sym (ap is_delta e ∙ delta_named name) ∙ is)
 
   same_image : IsSameImage new next
   same_image n plain_n = elim (names_tell n name) [
     | inl w ↦ here n w ∙ under.same ∙ ap (λ (m : List ℕ). entry_in new m) (sym w)
     | inr w ↦
         elsewhere n w ∙ stands.same_image n plain_n
-        ∙ ap (λ (f : File). entry_of_files n f (old (delta_name n))) (sym (others n w))
-        ∙ ap (λ (f : File). entry_of_files n (new n) f) (sym (delta_kept n))
+        ∙ ap (λ (f : File). entry_of_files n f (old (delta_name n))) (sym (others n w (plain_other n plain_n)))
+        ∙ ap (λ (f : File). entry_of_files n (new n) f) (sym (delta_kept n w))
   ]
 
   frozen_main : IsFrozenMain next
@@ -162,7 +194,10 @@ module _ (old new : Files) (account : Account) (name : List ℕ) (entry : Entry)
     stalled = λ n b e is. elim (whose n b e) [ inl w ↦ under.stalled b w is | inr w ↦ stands.kept_records.stalled n b w is ];
     levels = λ n bytes there. elim (names_tell n name) [
       | inl w ↦ under.holds bytes (ap new (sym w) ∙ there)
-      | inr w ↦ stands.kept_records.levels n bytes (sym (others n w) ∙ there)
+      | inr w ↦ elim (names_tell n (delta_name name)) [
+        | inl v ↦ along.holds bytes (ap new (sym v) ∙ there)
+        | inr v ↦ stands.kept_records.levels n bytes (sym (others n w v) ∙ there)
+      ]
     ];
   }
 
@@ -176,9 +211,15 @@ module _ (old new : Files) (account : Account) (name : List ℕ) (entry : Entry)
       | inl base ↦ inl (base.0, here n w ∙ base.1)
       | inr standby ↦ inr (standby.0, ap new w ∙ standby.1, standby.2)
     ]
-    | inr w ↦ elim (stands.no_stray n (subst (λ (f : File). IsTrue (is_some f)) (delta_kept n) beside)) [
-      | inl base ↦ inl (base.0, elsewhere n w ∙ base.1)
-      | inr standby ↦ inr (standby.0, others n w ∙ standby.1, standby.2)
+    | inr w ↦ elim (names_tell n (delta_name name)) [
+      | inl v ↦ elim (along.no_stray (subst (λ (m : List ℕ). IsTrue (is_some (new (delta_name m)))) v beside)) [
+        | inl base ↦ inl (base.0, elsewhere n w ∙ ap account.entry v ∙ base.1)
+        | inr standby ↦ inr (standby.0, ap new v ∙ standby.1, standby.2)
+      ]
+      | inr v ↦ elim (stands.no_stray n (subst (λ (f : File). IsTrue (is_some f)) (delta_kept n w) beside)) [
+        | inl base ↦ inl (base.0, elsewhere n w ∙ base.1)
+        | inr standby ↦ inr (standby.0, others n w v ∙ standby.1, standby.2)
+      ]
     ]
   ]
 
@@ -186,12 +227,15 @@ module _ (old new : Files) (account : Account) (name : List ℕ) (entry : Entry)
   unfolding with_entry
   standbys n bytes r there applying kept = elim (names_tell n name) [
     | inl w ↦ under.standby bytes r (ap new (sym w) ∙ there) applying kept
-    | inr w ↦ stands.standbys n bytes r (sym (others n w) ∙ there) applying kept
+    | inr w ↦ elim (names_tell n (delta_name name)) [
+      | inl v ↦ along.standby bytes r (ap new (sym v) ∙ there) applying kept
+      | inr v ↦ stands.standbys n bytes r (sym (others n w v) ∙ there) applying kept
+    ]
   ]
 
-  -- So the files stand for the account with that entry.
-  pub stands_with_entry : Stands new (with_entry name entry account)
-  stands_with_entry = record {
+  -- So the files stand for the account with that entry, where the two files of the name change.
+  pub stands_with_both : Stands new (with_entry name entry account)
+  stands_with_both = record {
     same_image = same_image;
     frozen_main = frozen_main;
     sound_images = sound_images;
@@ -200,6 +244,12 @@ module _ (old new : Files) (account : Account) (name : List ℕ) (entry : Entry)
     no_stray = no_stray;
     standbys = standbys;
   }
+
+-- So they do where the main file alone does.
+pub stands_with_entry : (old new : Files) (account : Account) (name : List ℕ) (entry : Entry) → Stands old account → is_delta name ≡ false → ((m : List ℕ) → m ≢ name → new m ≡ old m) → StandsUnder new account.kept name entry
+    → Stands new (with_entry name entry account)
+stands_with_entry old new account name entry stands plain others under =
+    stands_with_both old new account name entry stands plain (λ m other beside. others m other) under (beside_stays old new account name stands plain others)
 
 -- A database in the normal state, as its two files give it.
 module _ (files : Files) (kept : List Kept) (name : List ℕ) (image : Image) (holds : HoldsMain image (files name)) (opens : owner name (files name) (files (delta_name name)) ≡ Ok (base_of image))

@@ -3,7 +3,7 @@ use Rattle.std.proofs.Common.{◌≡◌, ◌≢◌, inl, inr, ℕ, zero, suc, �
 use Rattle.std.proofs.lemmas.List.{get_or_append_left}
 use Rattle.std.proofs.lemmas.Bool.Decides.{leb_tells}
 use Rattle.nb_fields.specs.Bytes.{bytes_of}
-use Rattle.nb_model.specs.Image.{Page, Image, page_at, with_page}
+use Rattle.nb_model.specs.Image.{Page, Image, page_at, first_page, with_page}
 use Rattle.nb_model.specs.Account.{Base, Kept}
 use Rattle.nb_model.specs.Strokes.{Stroke, page, on_base, records_of, base_after, records_after, merged_page, fixed}
 
@@ -55,6 +55,11 @@ with_page_same p bytes image low = elim (leb_tells (suc p) (length image)) [
     added (x ∷ xs) zero e = absurd (omega arith)
     added (x ∷ xs) (suc n) e = added xs n (omega arith)
 
+-- page 0 keeps its first 64 bytes
+pub with_page_front : (p : ℕ) (bytes : Page) (image : Image) → p ≤ length image → (p ≡ 0 → take 64 bytes ≡ take 64 (first_page image)) → take 64 (first_page (with_page p bytes image)) ≡ take 64 (first_page image)
+with_page_front zero bytes image low head = ap (take 64) (with_page_same 0 bytes image low) ∙ head refl
+with_page_front (suc p) bytes image low head = ap (take 64) (with_page_other (suc p) 0 bytes image low (omega arith))
+
 -- a page stroke changes one page
 pub stroke_page : (b : Base) (p : ℕ) (bytes : Page) → (on_base (page p bytes) b).image ≡ with_page p (merged_page p bytes b.image) b.image
 unfolding on_base
@@ -65,6 +70,12 @@ stroke_same b p bytes h = ap (λ (x : Image). page_at x p) (stroke_page b p byte
 
 pub stroke_other : (b : Base) (p q : ℕ) (bytes : Page) → p ≤ length b.image → q ≢ p → page_at (on_base (page p bytes) b).image q ≡ page_at b.image q
 stroke_other b p q bytes h ne = ap (λ (x : Image). page_at x q) (stroke_page b p bytes) ∙ with_page_other p q (merged_page p bytes b.image) b.image h ne
+
+-- a page that isn't page 0 is written whole
+pub whole_page : (p : ℕ) (bytes : Page) (image : Image) → 1 ≤ p → merged_page p bytes image ≡ bytes
+unfolding merged_page
+whole_page zero bytes image some = absurd (omega arith)
+whole_page (suc p) bytes image some = refl
 
 -- a fixup writes two bytes
 pub fixed_page : (p : Page) (ps : Image) → fixed (p ∷ ps) ≡ (take 22 p ++ 0 ∷ 0 ∷ drop 24 p) ∷ ps

@@ -10,9 +10,9 @@ use Rattle.nb_host.specs.Files.{File, Files}
 use Rattle.nb_model.specs.Image.{Page, Image, image_size, is_forced, with_page}
 use Rattle.nb_model.specs.Account.{Base}
 use Rattle.nb_model.specs.Owner.{owner}
-use Rattle.nb_model.specs.Strokes.{Stroke, make, page, begin, ends, finish, fix, merge, merged_page, on_base, base_after}
+use Rattle.nb_model.specs.Strokes.{Stroke, make, page, begin, ends, finish, fix, merge, on_base, base_after}
 use Rattle.nb_model.specs.Trail.{Trail, settled, images_of, is_kept_place, settles_at, after_stroke, after_strokes, AreSynced, IsBehindFirst, IsMixture, IsLeft, StandsOn, StandsIn, ShowsIn}
-use Rattle.nb_model.proofs.StrokeLaws.{stroke_page}
+use Rattle.nb_model.proofs.StrokeLaws.{whole_page, stroke_page}
 
 -- one of the images is a mixture of them
 pub mixture_itself : (images : List Image) (now : Image) → Contains images now → IsMixture images now now
@@ -107,11 +107,6 @@ forced_stays (suc p) bytes (x ∷ xs) some forced = by (nat_lt (suc p) (length (
     by : (u : Bool) → is_forced (elim u as (λ z. Image) [ true ↦ set (x ∷ xs) (suc p) bytes | false ↦ (x ∷ xs) ++ bytes ∷ [] ]) ≡ true
     by true = forced
     by false = forced
-
-whole_page : (p : ℕ) (bytes : Page) (image : Image) → 1 ≤ p → merged_page p bytes image ≡ bytes
-unfolding merged_page
-whole_page zero bytes image some = absurd (omega arith)
-whole_page (suc p) bytes image some = refl
 
 -- So with forced writes on each such write is synced.
 pub forced_synced : (ss : List Stroke) (b : Base) → is_forced b.image ≡ true → AllByRecursion IsBehindFirst ss → AreSynced (settled b) ss

@@ -24,9 +24,12 @@ pub mod Restoring
 pub mod InPlace
 pub mod Stands
 pub mod Well
+pub mod WellTrail
 pub mod Waiting
 pub mod Pagewise
 pub mod Trail
+pub mod Steps
+pub mod Gifts
 pub mod Earlier
 pub mod Words
 pub mod Jobs

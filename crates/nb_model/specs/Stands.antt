@@ -41,16 +41,21 @@ pub record IsRaised (image : Image) (diverted : List ℕ) : Type 0 where
   pub behind : (p k : ℕ) → entry_for p diverted ≡ Some k → has_entry image p ≡ true → (j : ℕ) × (entry_for (scn_page_of image p) diverted ≡ Some j) × (j < k)
   pub current : (p k : ℕ) → entry_for p diverted ≡ Some k → has_entry image p ≡ true → scn_entry image p ≡ image_scn image
 
+-- no entry is the current SCN
+abbrev pub HasOldEntries : Image → Type 0
+HasOldEntries image = (p : ℕ) → has_entry image p ≡ true → scn_page_of image p < length image → scn_entry image p < image_scn image
+
 -- 2. What is diverted since a begin is raised. (That the main file is the frozen image is part of the first.)
 abbrev pub IsFrozenMain : Account → Type 0
 IsFrozenMain account = (name : List ℕ) (b : Base) → account.entry name ≡ IsBase b → image_state b.image ≡ 1 → IsRaised b.image b.diverted
 
--- the image as the begin of its backup left it
+-- The image as the begin of its backup left it. The begin raised the SCN, so no entry is current.
 pub record IsBegun (r : Kept) : Type 0 where
   pub header : IsTrue (is_header (first_page r.image))
   pub state : image_state r.image ≡ 1
   pub guid : image_guid r.image ≡ r.guid
   pub scn : image_scn r.image ≡ r.scn + 1
+  pub old : HasOldEntries r.image
 
 -- 3. Images are sound, and those of records are as a begin leaves them.
 pub record HasSoundImages (account : Account) : Type 0 where
@@ -112,18 +117,26 @@ pub record GoesOn (r : Kept) (image : Image) : Type 0 where
   pub earlier : r.scn < image_scn image
   pub follows : Follows r.image r.scn image
 
--- a history row names a record that agrees with it, and from which the image goes on
-pub record IsRemembered (kept : List Kept) (image : Image) (row : Slot) : Type 0 where
+-- a history row names a record that agrees with it and passes a test
+pub record IsRemembered (kept : List Kept) (test : Kept → Type 0) (row : Slot) : Type 0 where
   pub backup : Kept
   pub kept_as : IsKeptAs kept (guid_in row) backup
   pub scn : backup.scn ≡ scn_in row
   pub level : (ask : Ask) × (backup.ask ≡ Some ask) × (ask.level ≡ level_in row)
-  pub goes_on : GoesOn backup image
+  pub passes : test backup
 
--- the backups that an image names
-pub record NamesItsPast (kept : List Kept) (image : Image) : Type 0 where
-  pub rows : (p : ℕ) → p < length image → is_history_page (page_at image p) ≡ true → AllByRecursion (λ row. is_used row ≡ true → IsRemembered kept image row) (slots_in (page_at image p))
-  pub last : image_guid image ≢ nil → (r : Kept) × IsKeptAs kept (image_guid image) r × GoesOn r image
+-- each used row of a page of the history names such a record
+abbrev pub HasRows : (kept : List Kept) (test : Kept → Type 0) → Page → Type 0
+HasRows kept test page = is_history_page page ≡ true → AllByRecursion (λ row. is_used row ≡ true → IsRemembered kept test row) (slots_in page)
+
+-- the backups that an image names pass a test
+pub record NamesPast (kept : List Kept) (test : Kept → Type 0) (image : Image) : Type 0 where
+  pub rows : (p : ℕ) → p < length image → HasRows kept test (page_at image p)
+  pub last : image_guid image ≢ nil → (r : Kept) × IsKeptAs kept (image_guid image) r × test r
+
+-- the image goes on from the backups that it names
+abbrev pub NamesItsPast : List Kept → Image → Type 0
+NamesItsPast kept image = NamesPast kept (λ r. GoesOn r image) image
 
 -- a record goes on from the one that it asks for
 pub record GoesOnFrom (kept : List Kept) (r : Kept) (ask : Ask) : Type 0 where

@@ -1,27 +1,51 @@
--- What is kept true of a database in the normal state, and the statements that keep it.
-use Rattle.std.specs.Prelude.{◌≡◌, ℕ, ◌<◌, List, [], take, Bool, true, false}
+-- What is kept true of a database, and the statements that keep it.
+use Rattle.std.specs.Prelude.{◌≡◌, ℕ, ◌<◌, ◌≤◌, List, [], take, Bool, true, false}
 use Rattle.nb_fields.specs.Header.{is_header}
 use Rattle.nb_model.specs.declared.statement.Statement.{Statement}
 use Rattle.nb_model.specs.declared.statement.Statement.TheVariants.{CreateDb, OpenDb, PageNew, Write, Read, Free, BeginBackup, EndBackup, Backup, BackupSince, CopyTo, CreateTable, DropTable, Insert, Update, Delete, Get, Scan, Forced, Access, Sync, ShowHeader, ShowPages, ShowImage, ShowCache}
-use Rattle.nb_model.specs.Image.{Image, first_page, image_state, image_scn}
+use Rattle.nb_model.specs.Image.{Image, first_page, image_state, image_scn, image_guid}
 use Rattle.nb_model.specs.Account.{Kept, Base, base_of}
 use Rattle.nb_model.specs.Strokes.{Stroke, base_after, records_after}
 use Rattle.nb_model.specs.Outcomes.{Turn, Begins, Copies, ClosesBackup, ClosesCopy, Ends, Merges, Finishes}
 use Rattle.nb_model.specs.Sound.{IsSoundImage}
-use Rattle.nb_model.specs.Stands.{NamesItsPast}
+use Rattle.nb_model.specs.Stands.{IsKeptAs, IsRaised, HasOldEntries, NamesItsPast}
 
--- The image has a header in the normal state, is sound, and names backups that are kept.
-pub record IsWell (kept : List Kept) (image : Image) : Type 0 where
+-- The image has a header in the state of that number, is sound, and names backups that are kept.
+pub record IsWellIn (kept : List Kept) (number : ℕ) (image : Image) : Type 0 where
   pub header : is_header (first_page image) ≡ true
   pub scn : image_scn image < 4294967296
-  pub state : image_state image ≡ 0
+  pub state : image_state image ≡ number
   pub sound : IsSoundImage image
   pub past : NamesItsPast kept image
+
+-- so in the normal state
+abbrev pub IsWell : List Kept → Image → Type 0
+IsWell kept image = IsWellIn kept 0 image
 
 -- a database that such an image tells whole
 pub record IsWellBase (kept : List Kept) (b : Base) : Type 0 where
   pub told : b ≡ base_of b.image
   pub well : IsWell kept b.image
+
+-- What stands in the stalled state: what is diverted since the begin is raised, and no entry of the frozen image is current.
+pub record IsStalled (b : Base) : Type 0 where
+  pub raised : IsRaised b.image b.diverted
+  pub old : HasOldEntries b.frozen
+
+-- the record that a stalled database names has its frozen image
+pub record IsOfRecord (kept : List Kept) (b : Base) : Type 0 where
+  pub backup : Kept
+  pub kept_as : IsKeptAs kept (image_guid b.image) backup
+  pub same : b.frozen ≡ backup.image
+
+-- A database that is well in the normal, the stalled or the merge state: what has to stand of one that files hold.
+pub record IsWellBaseIn (kept : List Kept) (b : Base) : Type 0 where
+  pub state : image_state b.image ≤ 2
+  pub well : IsWellIn kept (image_state b.image) b.image
+  pub normal : image_state b.image ≡ 0 → b ≡ base_of b.image
+  pub stalled : image_state b.image ≡ 1 → IsStalled b
+  pub backup : image_state b.image ≡ 1 → IsOfRecord kept b
+  pub merge : image_state b.image ≡ 2 → b.frozen ≡ []
 
 -- After each front of the strokes the database is well, and they keep no record of a backup.
 pub record StaysWell (kept : List Kept) (b : Base) (strokes : List Stroke) : Type 0 where

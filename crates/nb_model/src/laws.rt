@@ -1,6 +1,6 @@
 // Laws: each is a public function with an empty body, whose contract is the law. They show that the definitions mean what
 // they say.
-ghost use Rattle.nb_model.specs.Account.{Account, Base, Kept};
+ghost use Rattle.nb_model.specs.Account.{Account, Ask, Base, IsBase, Kept, base_of};
 ghost use Rattle.nb_model.specs.Earlier.{IsEarlier, IsSoundTrail, LowersNone};
 ghost use Rattle.nb_model.specs.Follows.{Follows, IsMixed};
 ghost use Rattle.nb_model.specs.Forms.{drafted, give_page, new_page, put, take_page};
@@ -14,17 +14,21 @@ ghost use Rattle.nb_model.specs.Pagewise.{AgreesWith, IsPagewise};
 ghost use Rattle.nb_model.specs.Restoring.{applied, verdict};
 ghost use Rattle.nb_model.specs.Run.{Event, IsPlayed, Now, base_now, play, rounds, strokes_of};
 ghost use Rattle.nb_model.specs.Sound.{HasNoZeros, IsSoundImage, SoundInventory};
-ghost use Rattle.nb_model.specs.Stands.{IsRaised};
-ghost use Rattle.nb_model.specs.Strokes.{Stroke, after, base_after, fixed, merged_page, on_base, page as page_stroke, records_after};
+ghost use Rattle.nb_model.specs.Stands.{GoesOn, IsRaised, Stands};
+ghost use Rattle.nb_model.specs.Strokes.{Stroke, after, base_after, begin, ends, finish, fixed, merged_page, on_base, page as page_stroke, records_after, records_of};
 ghost use Rattle.nb_model.specs.Trail.{AreSynced, IsBehindFirst, IsLeft, IsMixture, ShowsIn, StandsIn, StandsOn, Trail, after_stroke, after_strokes, images_of, is_kept_place, settled};
 ghost use Rattle.nb_model.specs.Turns.{first_turn};
+ghost use Rattle.nb_model.specs.Well.{IsWellBaseIn, is_on_pages};
+ghost use Rattle.nb_model.specs.WellTrail.{IsWellTrail};
 ghost use Rattle.nb_model.specs.declared.reply.Reply.TheVariants.{Refused};
 ghost use Rattle.nb_model.specs.declared.statement.Statement.{Statement};
+ghost use Rattle.nb_fields.specs.Fresh.{fresh};
 ghost use Rattle.nb_fields.specs.Page.{stamp_of};
 ghost use Rattle.nb_fields.specs.Places.{is_page_size};
 ghost use Rattle.nb_host.specs.Files.{File, Files};
+ghost use Rattle.nb_host.specs.Names.{is_delta};
 ghost use Rattle.nb_host.specs.declared.refusals.Refusal.{Refusal};
-ghost use Rattle.std.specs.Prelude.{Contains, IsTrue, List, Ok, Some, true, [], ◌++◌, ◌+◌, ◌<◌, ◌∷◌, ◌≡◌, ◌≢◌, ◌≤◌, drop, length, replicate, slice_set, take, ℕ};
+ghost use Rattle.std.specs.Prelude.{Contains, IsTrue, List, Ok, Option, Some, [], ◌++◌, ◌+◌, ◌<◌, ◌∷◌, ◌≡◌, ◌≢◌, ◌≤◌, drop, false, length, replicate, slice_set, take, true, ℕ};
 ghost use Rattle.std.specs.List.{AllByRecursion, slice_index_or};
 
 /// Lineage goes on: an image follows each one that it followed step by step, at the lowest SCN.
@@ -183,4 +187,48 @@ pub fn mixtures_are_pagewise()
         → (image_state image ≡ 1 → IsRaised image diverted) → IsPagewise images image diverted }
     ensures agrees { (images : List Image) (now image : Image) → IsMixture images now image → AgreesWith image now }
     ensures lineage { (images : List Image) (s : ℕ) (now image : Image) → IsMixture images now image → Contains images now → s < stamp_of (first_page now) → IsMixed images s image }
+{}
+
+/// Whether a page write is kept or lost, a mixture of the images before is one with the image behind it. A write may be lost
+/// where it makes the database no longer and its page is one that may wait.
+pub fn mixtures_go_on()
+    ensures put { (images : List Image) (now image : Image) (p : ℕ) (page : Page) → IsMixture images now image → p ≤ length now → (p ≡ 0 → take 64 page ≡ take 64 (first_page now))
+        → IsMixture (images ++ with_page p page now ∷ []) (with_page p page now) (with_page p page image) }
+    ensures lost { (images : List Image) (now image : Image) (p : ℕ) (page : Page) → IsMixture images now image → p < length now → (p ≡ 0 → take 64 page ≡ take 64 (first_page now))
+        → is_kept_place (image_size now) p ≡ false → IsMixture (images ++ with_page p page now ∷ []) (with_page p page now) image }
+{}
+
+/// A mixture goes on from each backup from which all of its images go on.
+pub fn mixtures_keep_lineage()
+    ensures { (images : List Image) (now image : Image) (r : Kept) → IsMixture images now image → Contains images now → IsSoundImage now
+        → ((m : Image) → Contains images m → GoesOn r m) → GoesOn r image }
+{}
+
+/// Whatever a stop leaves of a well trail is well in its state, whether it is normal, stalled or merge, and a well trail begins
+/// with what can be opened of it.
+pub fn well_trails_leave_well_databases()
+    ensures left { (kept : List Kept) (t : Trail) (b : Base) → IsWellTrail kept t → IsLeft t b → IsWellBaseIn kept b }
+    ensures again { (kept : List Kept) (name : List ℕ) (t : Trail) (m d : File) → IsWellTrail kept t → (s : StandsOn name t m d) → IsWellTrail kept (settled s.base) }
+{}
+
+/// A well trail begins with each new database, and with each that files stand for.
+pub fn well_trails_begin()
+    ensures fresh { (kept : List Kept) (size raw : ℕ) → IsTrue (is_page_size size) → raw ≤ 65535 → IsWellTrail kept (settled (base_of (fresh size raw))) }
+    ensures opened { (files : Files) (account : Account) (name : List ℕ) (b : Base) → Stands files account → is_delta name ≡ false → account.entry name ≡ IsBase b → image_scn b.image < 4294967296
+        → IsWellTrail account.kept (settled b) }
+{}
+
+/// A trail stays well at each point of a statement on pages, in whatever state, and where all is kept for good.
+pub fn well_trails_stay_well()
+    ensures pages { (kept : List Kept) (statement : Statement) (s : Seen) (session : ℕ) (t : Trail) (k : ℕ) → is_on_pages statement ≡ true → s.base ≡ t.base → IsWellTrail kept t
+        → IsWellTrail kept (after_strokes (take k (first_turn s session statement).strokes) t) }
+    ensures settled { (kept : List Kept) (t : Trail) → IsWellTrail kept t → IsWellTrail kept (settled t.base) }
+{}
+
+/// A well trail begins behind each control stroke of a backup. A begin keeps the record of its backup.
+pub fn control_strokes_keep_well()
+    ensures begin { (kept : List Kept) (b : Base) (guid : List ℕ) (ask : Option Ask) → IsWellBaseIn kept b → image_state b.image ≡ 0 → length guid ≡ 16 → image_scn b.image ≤ 4294967293
+        → IsWellTrail (kept ++ records_of (begin guid ask) b) (settled (on_base (begin guid ask) b)) }
+    ensures ends { (kept : List Kept) (b : Base) → IsWellBaseIn kept b → image_state b.image ≡ 1 → IsWellTrail kept (settled (on_base ends b)) }
+    ensures finish { (kept : List Kept) (b : Base) → IsWellBaseIn kept b → image_state b.image ≡ 2 → IsWellTrail kept (settled (on_base finish b)) }
 {}

@@ -4,8 +4,9 @@
 //! compute: `Image`, `Account` and `Strokes` (what stands, and its single changes), `Forms` and `Causes` (how a change is drafted,
 //! and why it is refused), `Turns` over `Pages`, `Tables` and `Backups` (what one turn of a session does), `Run` and `Output` (a
 //! script, what it says and what is acknowledged), `Owner`, `Main`, `Sound` and `Stands` (what files mean), `Levels`, `Restoring`,
-//! `InPlace` and `Follows` (level files and lineage), `Waiting` and `Pagewise` (forced writes off), `Words` and `Jobs`. A layer
-//! above cites them in its contracts. `laws` shows that they mean what they say, and `worked` computes examples.
+//! `InPlace` and `Follows` (level files and lineage), `Waiting` and `Pagewise` (forced writes off), `Trail` and `WellTrail` (what a
+//! stop may leave), `Words` and `Jobs`. A layer above cites them in its contracts. `laws` shows that they mean what they say, and
+//! `worked` computes examples.
 #![tactic(auto)]
 
 mod built;

@@ -1,7 +1,3 @@
-pub mod StopLaws
-pub mod PlayLaws
-pub mod EventLaws
-pub mod SaysLaws
-pub mod DoesLaws
+pub mod AgentLaws
 pub mod TurnLaws
-pub mod SessionLemmas
+pub mod WithinLaws

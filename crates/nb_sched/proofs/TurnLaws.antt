@@ -1,41 +1,106 @@
--- The turns of the statements that are done today.
-use Rattle.std.proofs.Common.{◌≡◌, ◌≢◌, ℕ, List, refl, sym, ap}
-use Rattle.std.specs.Prelude.{Some}
-use Rattle.nb_host.specs.declared.refusals.Refusal.TheVariants.{Usage}
-use Rattle.nb_model.specs.declared.reply.Reply.TheVariants.{Refused}
-use Rattle.nb_model.specs.declared.statement.Statement.{Statement}
-use Rattle.nb_model.specs.declared.statement.Statement.TheVariants.{PageNew, Write, Read, Free}
-use Rattle.nb_model.specs.Outcomes.{Seen, Begins}
-use Rattle.nb_model.specs.Pages.{new_turn, write_turn, read_turn, free_turn}
-use Rattle.nb_model.specs.Run.{Now, base_now, outcome}
-use Rattle.nb_model.specs.Turns.{first_turn, turn}
-use Rattle.nb_model.proofs.TodoLaws.{built_never_usage}
-use Rattle.nb_script.specs.Asked.{IsFurther}
+-- Turns behind turns, and what holds while they are taken.
+use Rattle.std.proofs.Common.{◌≡◌, ◌<◌, ◌+◌, ℕ, List, [], ◌∷◌, ◌++◌, ◌⊎◌, inl, inr, Result, Ok, Err, IsErrAnd, refl, sym, subst, arith, append_assoc, length, take, drop, get_or, take-append-drop}
+use Rattle.std.specs.List.{AllByRecursion}
+use Rattle.std.proofs.lemmas.List.{append-nil, take_more}
+use Rattle.nb_host.specs.declared.faults.Fault.{Fault}
+use Rattle.nb_model.specs.Run.{rounds, all_sessions}
+use Rattle.nb_model.proofs.TodoLaws.{rounds_more}
+use Rattle.nb_sched.specs.Turns.{Scene, Kind, Rests, IsReady, Moves, TakesTurns, EndsWith, total}
+use Rattle.nb_sched.proofs.AgentLaws.{total_falls}
 
-pub write_is : (s : Seen) (session : ℕ) (statement : Statement) (p : ℕ) (text : List ℕ) → statement ≡ Write p text → write_turn s p text ≡ first_turn s session statement
-unfolding first_turn
-write_is s session statement p text is = ap (first_turn s session) (sym is)
+module _ {A H C : Type 0} (of : Kind A H C) where
+  -- one turn
+  pub turns_one : (session : ℕ) (before after : Scene A H C) (answer : Result (Unit {0}) Fault) → Moves of session before answer after → TakesTurns of (session ∷ []) before answer after
+  turns_one session before after (Ok done) move = inr (inl (after, move, (refl, refl)))
+  turns_one session before after (Err fault) move = inr (inr (refl, move))
 
-pub read_is : (s : Seen) (session : ℕ) (statement : Statement) (p : ℕ) → statement ≡ Read p → read_turn s p ≡ first_turn s session statement
-unfolding first_turn
-read_is s session statement p is = ap (first_turn s session) (sym is)
+  -- turns go on where others ended
+  pub turns_then : (xs ys : List ℕ) (before mid after : Scene A H C) (answer : Result (Unit {0}) Fault) → TakesTurns of xs before (Ok tt) mid → TakesTurns of ys mid answer after → TakesTurns of (xs ++ ys) before answer after
+  turns_then [] ys before mid after answer first next = subst (λ (s : Scene A H C). TakesTurns of ys s answer after) first.1 next
+  turns_then (x ∷ xs) ys before mid after answer (inl rest) next = inl (rest.0, turns_then xs ys before mid after answer rest.1 next)
+  turns_then (x ∷ xs) ys before mid after answer (inr (inl go)) next = inr (inl (go.0, go.1, turns_then xs ys go.0 mid after answer go.2 next))
+  turns_then (x ∷ xs) ys before mid after answer (inr (inr stop)) next = absurd (cc (stop.0))
 
-pub new_is : (s : Seen) (session : ℕ) (statement : Statement) → statement ≡ PageNew → new_turn s ≡ first_turn s session statement
-unfolding first_turn
-new_is s session statement is = ap (first_turn s session) (sym is)
+  -- numbers behind an error are not gone through
+  pub turns_stop : (xs ys : List ℕ) (before after : Scene A H C) (fault : Fault) → TakesTurns of xs before (Err fault) after → TakesTurns of (xs ++ ys) before (Err fault) after
+  turns_stop [] ys before after fault turns = absurd (cc (turns.0))
+  turns_stop (x ∷ xs) ys before after fault (inl rest) = inl (rest.0, turns_stop xs ys before after fault rest.1)
+  turns_stop (x ∷ xs) ys before after fault (inr (inl go)) = inr (inl (go.0, go.1, turns_stop xs ys go.0 after fault go.2))
+  turns_stop (x ∷ xs) ys before after fault (inr (inr stop)) = inr (inr stop)
 
-pub free_is : (s : Seen) (session : ℕ) (statement : Statement) (p : ℕ) → statement ≡ Free p → free_turn s p ≡ first_turn s session statement
-unfolding first_turn
-free_is s session statement p is = ap (first_turn s session) (sym is)
+  hold_behind : (P : List ℕ → Scene A H C → Type 0)
+      → ((front : List ℕ) (session : ℕ) (s : Scene A H C) → P front s → Rests of.left s.agents session → P (front ++ session ∷ []) s)
+      → ((front : List ℕ) (session : ℕ) (before after : Scene A H C) → P front before → Moves of session before (Ok tt) after → P (front ++ session ∷ []) after)
+      → (front order : List ℕ) (before after : Scene A H C) (answer : Result (Unit {0}) Fault) → P front before → TakesTurns of order before answer after → EndsWith of P (front ++ order) answer after
+  hold_behind P rests moves front [] before after answer holds turns =
+      subst (λ (a : Result (Unit {0}) Fault). EndsWith of P (front ++ []) a after) (sym turns.0) (subst (P (front ++ [])) (sym turns.1) (rw (append-nil front) holds))
+  hold_behind P rests moves front (x ∷ order) before after answer holds (inl rest) =
+      subst (λ (xs : List ℕ). EndsWith of P xs answer after) (append_assoc front (x ∷ []) order)
+      (hold_behind P rests moves (front ++ x ∷ []) order before after answer (rests front x before holds rest.0) rest.1)
+  hold_behind P rests moves front (x ∷ order) before after answer holds (inr (inl go)) =
+      subst (λ (xs : List ℕ). EndsWith of P xs answer after) (append_assoc front (x ∷ []) order)
+      (hold_behind P rests moves (front ++ x ∷ []) order go.0 after answer (moves front x before go.0 holds go.1) go.2)
+  hold_behind P rests moves front (x ∷ order) before after (Ok done) holds (inr (inr stop)) = absurd (cc (stop.0))
+  hold_behind P rests moves front (x ∷ order) before after (Err fault) holds (inr (inr stop)) =
+      record { front = front; session = x; rest = order; is = refl; last = before; holds = holds; move = stop.1 }
 
--- what a turn sees
-abbrev pub seen_now : Now → Seen
-seen_now now = record { base = base_now now; cache = now.cache; running = now.running; entry = now.account.entry; given = now.given }
+  -- P tells what holds once a front of the order was gone through. Where each number that rests and each turn that answers Ok keeps it,
+  -- it holds of the whole order at its end, or of the numbers before the turn that answered an error.
+  pub turns_hold : (P : List ℕ → Scene A H C → Type 0)
+      → ((front : List ℕ) (session : ℕ) (s : Scene A H C) → P front s → Rests of.left s.agents session → P (front ++ session ∷ []) s)
+      → ((front : List ℕ) (session : ℕ) (before after : Scene A H C) → P front before → Moves of session before (Ok tt) after → P (front ++ session ∷ []) after)
+      → (order : List ℕ) (before after : Scene A H C) (answer : Result (Unit {0}) Fault) → P [] before → TakesTurns of order before answer after → EndsWith of P order answer after
+  turns_hold P rests moves = hold_behind P rests moves []
 
-pub outcome_is : (session : ℕ) (statement : Statement) (now : Now) → outcome session (Begins statement) now ≡ first_turn (seen_now now) session statement
-unfolding outcome turn
-outcome_is session statement now = refl
+  -- all are ready after turns that answered Ok
+  pub turns_ready : (order : List ℕ) (before after : Scene A H C) → IsReady of before → TakesTurns of order before (Ok tt) after → IsReady of after
+  turns_ready order before after =
+      turns_hold (λ front s. IsReady of s) (λ front session s ready rests. ready) (λ front session s t ready move. move.still_ready) order before after (Ok tt)
 
--- none of them is refused with Usage
-pub never_usage : (s : Seen) (session : ℕ) (statement : Statement) → IsFurther statement → (first_turn s session statement).reply ≢ Some (Refused Usage)
-never_usage s session statement is = built_never_usage statement is.is_built s session
+  move_falls : (session : ℕ) (before after : Scene A H C) → Moves of session before (Ok tt) after → total of.left after.agents < total of.left before.agents
+  move_falls session before after move = rw move.agents (total_falls of.left before.agents session move.agent move.moved move.there move.falls)
+
+  -- over an order at which all rest nothing is done; over any other less is left
+  pub turns_fall : (order : List ℕ) (before after : Scene A H C) → TakesTurns of order before (Ok tt) after
+      → (AllByRecursion (Rests of.left before.agents) order × (after ≡ before)) ⊎ (total of.left after.agents < total of.left before.agents)
+  turns_fall [] before after turns = inl (tt, turns.1)
+  turns_fall (x ∷ order) before after (inl rest) =
+      elim (turns_fall order before after rest.1) [ inl all ↦ inl ((rest.0, all.0), all.1) | inr less ↦ inr less ]
+  turns_fall (x ∷ order) before after (inr (inl go)) =
+      let here = move_falls x before go.0 go.1 in
+      elim (turns_fall order go.0 after go.2) [
+        | inl all ↦ inr (subst (λ (s : Scene A H C). total of.left s.agents < total of.left before.agents) (sym all.1) here)
+        | inr less ↦ inr (omega arith)
+      ]
+  turns_fall (x ∷ order) before after (inr (inr stop)) = absurd (cc (stop.0))
+
+  -- one number more of an order
+  pub turns_more : (order : List ℕ) (i : ℕ) (before mid after : Scene A H C) → i < length order → TakesTurns of (take i order) before (Ok tt) mid
+      → TakesTurns of (get_or order i 0 ∷ []) mid (Ok tt) after → TakesTurns of (take (i + 1) order) before (Ok tt) after
+  turns_more order i before mid after within first next = rw (take_more order i 0 within) (turns_then (take i order) (get_or order i 0 ∷ []) before mid after (Ok tt) first next)
+
+  -- a number of an order at which a turn answers an error
+  pub turns_err : (order : List ℕ) (i : ℕ) (before mid after : Scene A H C) (fault : Fault) → i < length order → TakesTurns of (take i order) before (Ok tt) mid
+      → TakesTurns of (get_or order i 0 ∷ []) mid (Err fault) after → TakesTurns of order before (Err fault) after
+  turns_err order i before mid after fault within first next =
+      let cut : take (i + 1) order ++ drop (i + 1) order ≡ order = take-append-drop (i + 1) order in
+      subst (λ (xs : List ℕ). TakesTurns of xs before (Err fault) after) cut
+      (turns_stop (take (i + 1) order) (drop (i + 1) order) before after fault
+      (rw (take_more order i 0 within) (turns_then (take i order) (get_or order i 0 ∷ []) before mid after (Err fault) first next)))
+
+  -- no round yet
+  pub turns_no_round : (schedule : List ℕ) (before after : Scene A H C) (answer : Result (Unit {0}) Fault) → TakesTurns of schedule before answer after → TakesTurns of (schedule ++ rounds 0) before answer after
+  unfolding rounds
+  turns_no_round schedule before after answer turns = rw (append-nil schedule) turns
+
+  -- one round more
+  pub turns_round : (schedule : List ℕ) (n : ℕ) (before mid after : Scene A H C) (answer : Result (Unit {0}) Fault) → TakesTurns of (schedule ++ rounds n) before (Ok tt) mid
+      → TakesTurns of all_sessions mid answer after → TakesTurns of (schedule ++ rounds (n + 1)) before answer after
+  turns_round schedule n before mid after answer first next =
+      rw (rounds_more n, ← append_assoc) (turns_then (schedule ++ rounds n) all_sessions before mid after answer first next)
+
+  -- an error that `?` hands on
+  pub turns_handed : (order : List ℕ) (before after : Scene A H C) (answer : Result (Unit {0}) Fault) (fault : Fault) → IsErrAnd answer (λ given. given ≡ fault)
+      → TakesTurns of order before (Err fault) after → TakesTurns of order before answer after
+  turns_handed order before after (Ok done) fault handed turns = absurd handed
+  turns_handed order before after (Err given) fault handed turns = subst (λ (f : Fault). TakesTurns of order before (Err f) after) (sym handed) turns

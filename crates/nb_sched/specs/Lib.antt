@@ -1,5 +1,2 @@
-pub mod Causes
-pub mod Stops
-pub mod Todo
-pub mod Replies
-pub mod Says
+pub mod Turns
+pub mod Within

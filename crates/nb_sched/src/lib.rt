@@ -1,15 +1,16 @@
-//! Sessions take their turns on an open database, in the order of a script, and each says its replies.
+//! Sessions take turns: the trait `Agent`, and the order of turns.
 //!
-//! It rests on `nb_engine` for what a statement does, on `nb_lines` for the lines and on `nb_script` for the order. A layer above may
-//! rely on this: `take_turns` plays the script as `nb_model` says; what was said at any moment is a front of the lines, and a stop
-//! then leaves the database after so many strokes, each acknowledged one among them.
+//! It rests on `nb_host` for faults and on `nb_model` for the order alone; it knows neither an engine nor a statement. A layer above
+//! may rely on this: `take_turns` makes exactly the turns that the order asks for, each where the one before it ended, to the end of
+//! every agent, or up to the first that answers an error (`TakesTurns` in `specs/Turns`). What each turn keeps holds at each moment
+//! (`turns_hold` in `proofs/TurnLaws`).
 #![tactic(auto)]
 
-mod answer;
-mod sessions;
-mod statement;
-mod stop;
+mod agent;
+mod turns;
 
-pub use answer::say;
-pub use sessions::take_turns;
-pub use stop::Stop;
+pub use agent::Agent;
+pub use turns::take_turns;
+
+#[cfg(test)]
+mod tests;

@@ -13,9 +13,9 @@ use Rattle.nb_model.specs.Strokes.{begin, finish}
 use Rattle.nb_model.specs.Trail.{Trail}
 use Rattle.nb_base.specs.Takes.{Strikes, after_strokes}
 use Rattle.nb_state.specs.Open.{Held, IsOpen, name_of}
-use Rattle.nb_state.specs.Does.{Tested, WhereRefused}
-use Rattle.nb_state.specs.declared.store.Progress.{Progress}
-use Rattle.nb_state.specs.declared.store.Progress.TheVariants.{More, Finished}
+use Rattle.nb_state.specs.Does.{Tested, WhereRefused, unless_by}
+use Rattle.nb_state.specs.declared.turns.Progress.{Progress}
+use Rattle.nb_state.specs.declared.turns.Progress.TheVariants.{More, Finished}
 
 -- why no backup begins
 abbrev pub begin_cause : Image → Cause
@@ -32,7 +32,7 @@ GaveAtMost old new guid = (new.guids ≡ old.guids) ⊎ (new.guids ≡ old.guids
 -- A backup begins with this GUID, or is refused and changes nothing.
 pub record Begins (result : Result ℕ Fault) (old new : World) (before after : Held) (t : Trail) (guid : List ℕ) (ask : Option Ask) : Type 0 where
   pub test : Tested result (begin_cause t.base.image)
-  pub left : Strikes old new (name_of before) t (begin guid ask ∷ [])
+  pub left : Strikes old new (name_of before) t (unless_by (begin_cause t.base.image) (begin guid ask ∷ []))
   pub opened : OnOk result (IsOpen new after (after_strokes t (begin guid ask ∷ [])))
   pub answer : IfOk result (λ scn. scn ≡ image_scn t.base.image + 1)
   pub gave : OnOk result (new.guids ≡ old.guids ++ guid ∷ [])
@@ -44,7 +44,7 @@ pub record Begins (result : Result ℕ Fault) (old new : World) (before after : 
 -- The stalled state ends, or a stopped merge begins again; or it is refused and changes nothing.
 pub record Ends (result : Result ℕ Fault) (old new : World) (before after : Held) (t : Trail) (session : ℕ) : Type 0 where
   pub test : Tested result (end_cause t.base.image before.running session)
-  pub left : Strikes old new (name_of before) t (end_strokes t.base.image)
+  pub left : Strikes old new (name_of before) t (unless_by (end_cause t.base.image before.running session) (end_strokes t.base.image))
   pub opened : OnOk result (IsOpen new after (after_strokes t (end_strokes t.base.image)))
   pub answer : IfOk result (λ scn. scn ≡ end_scn t.base.image)
   pub begins : OnOk result ((after.running ≡ Some session) × (after.merged ≡ 0))

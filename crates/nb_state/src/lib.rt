@@ -5,6 +5,10 @@
 //! seen before the stroke or behind it. What is open is one relation, and no clause above names a file.
 #![tactic(auto)]
 
+mod beginnings;
+mod front;
 mod store;
+mod turns;
 
-pub use store::{Progress, Store};
+pub use store::Store;
+pub use turns::Progress;

@@ -13,120 +13,98 @@ ghost use Rattle.nb_base.specs.Open.{Fits};
 ghost use Rattle.nb_base.specs.Takes.{IsNoRefusal};
 ghost use Rattle.nb_state.specs.Open.{IsOpen};
 ghost use Rattle.nb_state.specs.Does.{Makes, Goes};
-ghost use Rattle.nb_state.specs.Beginnings.{Attaches, Creates};
-ghost use Rattle.nb_state.specs.Turns.{Begins, Ends, Merges, GaveAtMost};
 
+use crate::front::front_of;
 use nb_base::TwoFiles;
 use nb_host::{Fault, Host, HostFault, Name};
 use std::alloc::Global;
 use std::marker::Model;
 
-/// What a turn of a merge did.
-#[derive(Clone, Copy, Debug, PartialEq, Eq)]
-pub enum Progress {
-    /// One entry was merged.
-    More,
-    /// All entries were merged before, and the database is in the normal state again.
-    Finished,
-}
-
 /// An open database.
 #[derive(Drop)]
 pub struct Store {
-    files: TwoFiles,
-    scn: u32,
-    guid: [u8; 16],
-    forced: bool,
-    read_only: bool,
-    running: Option<u32>,
-    merged: u32,
+    pub(crate) files: TwoFiles,
+    pub(crate) scn: u32,
+    pub(crate) guid: [u8; 16],
+    pub(crate) forced: bool,
+    pub(crate) read_only: bool,
+    pub(crate) running: Option<u32>,
+    pub(crate) merged: u32,
 }
 
 impl Model for Store {
-    ghost use Rattle.std.specs.Prelude.{◌≡◌, ◌≤◌, IsTrue};
-    ghost use Rattle.nb_fields.specs.Places.{is_page_size};
     ghost use Rattle.nb_state.specs.Open.{Held};
 
     ghost Value = { Held };
 
     ghost view = { λ s. record { files = s.files; scn = s.scn; guid = s.guid; forced = s.forced; read_only = s.read_only; running = s.running; merged = s.merged } };
 
-    ghost invariant = { λ s. IsTrue (is_page_size s.files.page_size) × (s.files.count ≤ 1048576) };
 }
 
 impl Store {
     /// The size of each page, in bytes.
     pub fn page_size(&self) -> u32
-        requires stub { ⊥ }
         ensures value { result ≡ self.now.files.page_size }
         ensures one_of { IsTrue (is_page_size result) }
     {
-        unreachable!()
+        self.files.page_size()
     }
 
     /// How many pages the database has.
     pub fn count(&self) -> u32
-        requires stub { ⊥ }
         ensures value { result ≡ self.now.files.count }
         ensures most { result ≤ 1048576 }
     {
-        unreachable!()
+        self.files.count()
     }
 
     /// The current SCN.
     pub fn scn(&self) -> u32
-        requires stub { ⊥ }
         ensures { result ≡ self.now.scn }
     {
-        unreachable!()
+        self.scn
     }
 
     /// The backup state: 0 normal, 1 stalled, 2 merge.
     pub fn state(&self) -> u16
-        requires stub { ⊥ }
         ensures { result ≡ self.now.files.state }
     {
-        unreachable!()
+        self.files.state()
     }
 
     /// Whether each page write is kept for good before the next.
     pub fn forced(&self) -> bool
-        requires stub { ⊥ }
         ensures { result ≡ self.now.forced }
     {
-        unreachable!()
+        self.forced
     }
 
     /// Whether no statement may change a page.
     pub fn is_read_only(&self) -> bool
-        requires stub { ⊥ }
         ensures { result ≡ self.now.read_only }
     {
-        unreachable!()
+        self.read_only
     }
 
     /// The session whose copy or merge runs.
     pub fn running(&self) -> Option<u32>
-        requires stub { ⊥ }
         ensures { result ≡ self.now.running }
     {
-        unreachable!()
+        self.running
     }
 
     /// Says whose copy or merge runs.
     pub fn set_running(&mut self, by: Option<u32>)
-        requires stub { ⊥ }
         ensures { self.new ≡ record self.old { running = by } }
     {
-        unreachable!()
+        self.running = by;
     }
 
     /// How many pages the difference file holds; none in the normal state.
     pub fn delta_count(&self) -> u32
-        requires stub { ⊥ }
         ensures { result ≡ length self.now.files.entries }
     {
-        unreachable!()
+        self.files.delta_count()
     }
 
     /// Fills in page `number`.
@@ -137,7 +115,6 @@ impl Store {
         into: &mut [u8],
     ) -> Result<(), HostFault>
         requires size { length into.old ≡ self.old.files.page_size }
-        requires stub { ⊥ }
         ensures page { (t : Trail) → IsTrue H.tells → IsOpen (H.world host.old) self.old t → number < length t.base.image → OnOk result (into.new ≡ page_at t.base.image number) }
         ensures open { (t : Trail) → IsTrue H.tells → IsOpen (H.world host.old) self.old t → IsOpen (H.world host.new) self.new t }
         ensures same { self.new ≡ self.old }
@@ -145,7 +122,7 @@ impl Store {
         ensures reads { IsTrue H.tells → (H.world host.new).reads ≤ (H.world host.old).reads + 1 }
         ensures cause { CountsFault result (H.faults host.old) (H.faults host.new) }
     {
-        unreachable!()
+        self.files.read(host, number, into)
     }
 
     /// Replaces page `number`, or adds it at the end, of page 0 what is behind the control block. It is kept for good where writes are
@@ -156,7 +133,6 @@ impl Store {
         requires size { length page.now ≡ self.old.files.page_size }
         requires most { number < 1048576 }
         requires some { is_zeros page.now ≡ false }
-        requires stub { ⊥ }
         ensures makes { (t : Trail) → IsTrue H.tells → IsOpen (H.world host.old) self.old t → Fits number page.now t.base.image
             → Makes result (H.world host.old) (H.world host.new) self.old self.new t (page_stroke number page.now ∷ []) }
         ensures goes { Goes self.old self.new }
@@ -165,87 +141,23 @@ impl Store {
         ensures not_refused { IfErr result IsNoRefusal }
         ensures on_memory { result ≡ Err Fault.Memory → (self.new ≡ self.old) × (host.new ≡ host.old) }
     {
-        unreachable!()
-    }
-
-    /// Begins a backup: the main file is frozen, and pages that are changed go to the difference file. It answers the new SCN.
-    ///
-    /// The refusals are `WrongState` and `ScnExhausted`, in this order; a refused call changes nothing.
-    pub fn begin<H: Host>(&mut self, host: &mut H) -> Result<u32, Fault>
-        requires stub { ⊥ }
-        ensures begins { (t : Trail) (guid : List ℕ) (ask : Option Ask) → IsTrue H.tells → IsOpen (H.world host.old) self.old t → GaveAtMost (H.world host.old) (H.world host.new) guid
-            → Begins result (H.world host.old) (H.world host.new) self.old self.new t guid ask }
-        ensures page_size { self.new.files.page_size ≡ self.old.files.page_size }
-        ensures cause { CountsDevice result (H.faults host.old) (H.faults host.new) }
-    {
-        unreachable!()
-    }
-
-    /// Ends the stalled state, for the session that asks for it, or begins anew a merge that was stopped. It answers the SCN.
-    ///
-    /// The refusals are `WrongState` and `BackupRunning`, in this order; a refused call changes nothing.
-    pub fn end<H: Host>(&mut self, host: &mut H, session: u32) -> Result<u32, Fault>
-        requires stub { ⊥ }
-        ensures ends { (t : Trail) → IsTrue H.tells → IsOpen (H.world host.old) self.old t → Ends result (H.world host.old) (H.world host.new) self.old self.new t session }
-        ensures page_size { self.new.files.page_size ≡ self.old.files.page_size }
-        ensures cause { CountsDevice result (H.faults host.old) (H.faults host.new) }
-    {
-        unreachable!()
-    }
-
-    /// Merges the next entry, or finishes the merge.
-    pub fn merge_turn<H: Host>(&mut self, host: &mut H) -> Result<Progress, Fault>
-        requires merge { self.old.files.state ≡ 2 }
-        requires stub { ⊥ }
-        ensures merges { (t : Trail) → IsTrue H.tells → IsOpen (H.world host.old) self.old t → Merges result (H.world host.old) (H.world host.new) self.old self.new t }
-        ensures page_size { self.new.files.page_size ≡ self.old.files.page_size }
-        ensures cause { CountsDevice result (H.faults host.old) (H.faults host.new) }
-        ensures not_refused { IfErr result IsNoRefusal }
-    {
-        unreachable!()
+        self.files.write(host, number, page, self.forced)?;
+        if number == 0 {
+            let front = front_of(page);
+            self.forced = front.forced;
+            self.read_only = front.read_only;
+        }
+        Ok(())
     }
 
     /// Keeps both files for good. It changes nothing.
     pub fn sync<H: Host>(&mut self, host: &mut H) -> Result<(), HostFault>
-        requires stub { ⊥ }
         ensures open { (t : Trail) → IsTrue H.tells → IsOpen (H.world host.old) self.old t → IsOpen (H.world host.new) self.new t }
         ensures settled { (t : Trail) → IsTrue H.tells → IsOpen (H.world host.old) self.old t → OnOk result (IsOpen (H.world host.new) self.new (settled t.base)) }
         ensures same { self.new ≡ self.old }
         ensures quiet { Quiet (H.world host.old) (H.world host.new) }
         ensures cause { CountsFault result (H.faults host.old) (H.faults host.new) }
     {
-        unreachable!()
-    }
-
-    /// Opens a database. It changes nothing: its files are kept for good before it answers.
-    ///
-    /// The refusals are `NoFile`, `NotDatabase`, `Unfinished`, `NoFile` of the difference file and `BadDelta`, in this order.
-    pub fn attach<H: Host>(alloc: Global, host: &mut H, name: &Name) -> Result<Store, Fault>
-        requires name { length name.now ≤ 94 }
-        requires stub { ⊥ }
-        ensures attaches { IsTrue H.tells → Attaches result (H.world host.old) (H.world host.new) name.now }
-        ensures quiet { Quiet (H.world host.old) (H.world host.new) }
-        ensures cause { CountsDevice result (H.faults host.old) (H.faults host.new) }
-    {
-        unreachable!()
-    }
-
-    /// Makes a new database with `raw` raw pages, and opens it. The refusal is `FileExists`, where the name is not free; then nothing
-    /// has changed.
-    pub fn create<H: Host>(
-        alloc: Global,
-        host: &mut H,
-        name: &Name,
-        page_size: u32,
-        raw: u32,
-    ) -> Result<Store, Fault>
-        requires size { IsTrue (is_page_size page_size) }
-        requires raw { raw ≤ 65535 }
-        requires name { length name.now ≤ 94 }
-        requires stub { ⊥ }
-        ensures creates { IsTrue H.tells → Creates result (H.world host.old) (H.world host.new) name.now (fresh page_size raw) }
-        ensures cause { CountsDevice result (H.faults host.old) (H.faults host.new) }
-    {
-        unreachable!()
+        self.files.sync(host)
     }
 }

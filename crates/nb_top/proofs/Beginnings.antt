@@ -20,10 +20,10 @@ use Rattle.nb_script.specs.Asked.{IsAskable}
 use Rattle.nb_script.specs.Scripts.{Plan}
 use Rattle.nb_engine.specs.declared.opened.Opened.{Opened}
 use Rattle.nb_engine.specs.Open.{IsOpen}
-use Rattle.nb_sched.specs.declared.stop.Stop.{Stop}
-use Rattle.nb_sched.specs.Replies.{is_refusal}
-use Rattle.nb_sched.specs.Says.{SaysLine}
-use Rattle.nb_sched.specs.Stops.{IsReady}
+use Rattle.nb_session.specs.declared.stop.Stop.{Stop}
+use Rattle.nb_session.specs.Replies.{is_refusal}
+use Rattle.nb_session.specs.Says.{SaysLine}
+use Rattle.nb_session.specs.Stops.{IsReady}
 use Rattle.nb_top.specs.declared.status.Status.{Status}
 use Rattle.nb_top.specs.declared.status.Status.TheVariants.{Refused as RefusedStatus}
 use Rattle.nb_top.specs.Performed.{RunLeft, RunsTo, StandsFor, IsPerformed, PlaysOpened, opened_reply, number_of}

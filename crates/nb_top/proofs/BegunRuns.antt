@@ -27,9 +27,9 @@ use Rattle.nb_script.specs.Asked.{IsAskable, statement_count}
 use Rattle.nb_script.specs.Scripts.{Plan}
 use Rattle.nb_engine.specs.declared.opened.Opened.{Opened}
 use Rattle.nb_engine.specs.Open.{Shows, IsOpen}
-use Rattle.nb_sched.specs.declared.stop.Stop.{Stop}
-use Rattle.nb_sched.specs.Replies.{is_refusal}
-use Rattle.nb_sched.specs.Stops.{StopLeft}
+use Rattle.nb_session.specs.declared.stop.Stop.{Stop}
+use Rattle.nb_session.specs.Replies.{is_refusal}
+use Rattle.nb_session.specs.Stops.{StopLeft}
 use Rattle.nb_top.specs.declared.status.Status.{Status}
 use Rattle.nb_top.specs.Performed.{RunLeft, RunsTo, HoldsKept, StandsFor, PlaysOpened, database_of, number_of, reply_said}
 use Rattle.nb_top.proofs.RefusedRuns.{no_given}

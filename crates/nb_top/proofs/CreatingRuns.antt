@@ -40,9 +40,9 @@ use Rattle.nb_script.specs.Scripts.{Plan}
 use Rattle.nb_engine.specs.declared.opened.Opened.{Opened}
 use Rattle.nb_engine.specs.Create.{CreateLeft, Creates, CreateAnswers}
 use Rattle.nb_engine.specs.Open.{Shows}
-use Rattle.nb_sched.specs.declared.stop.Stop.{Stop}
-use Rattle.nb_sched.specs.Stops.{IsSaid}
-use Rattle.nb_sched.proofs.EventLaws.{acked_none}
+use Rattle.nb_session.specs.declared.stop.Stop.{Stop}
+use Rattle.nb_session.specs.Stops.{IsSaid}
+use Rattle.nb_session.proofs.EventLaws.{acked_none}
 use Rattle.nb_top.specs.Performed.{RunLeft, RunsTo, StandsFor, IsPerformed, opens_unended, database_of, opened_reply}
 use Rattle.nb_top.proofs.HoldLaws.{holds_base, holds_free}
 use Rattle.nb_top.proofs.QuietRuns.{left_quietly}

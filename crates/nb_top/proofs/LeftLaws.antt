@@ -10,7 +10,7 @@ use Rattle.nb_change.proofs.MomentLaws.{left_before}
 use Rattle.nb_model.specs.Account.{Account}
 use Rattle.nb_model.specs.Run.{Event}
 use Rattle.nb_model.proofs.OutputLaws.{acked_in-none}
-use Rattle.nb_sched.proofs.EventLaws.{acked_none}
+use Rattle.nb_session.proofs.EventLaws.{acked_none}
 use Rattle.nb_top.specs.Performed.{RunLeft, StandsAsked, StandsFor}
 
 -- before anything is done, what a stop leaves is as it was

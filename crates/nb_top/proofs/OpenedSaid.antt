@@ -14,12 +14,12 @@ use Rattle.nb_model.proofs.OutputLaws.{strokes_one}
 use Rattle.nb_script.specs.Asked.{IsAskable, statement_count}
 use Rattle.nb_script.specs.Scripts.{Plan}
 use Rattle.nb_engine.specs.declared.opened.Opened.{Opened}
-use Rattle.nb_sched.specs.declared.stop.Stop.{Stop}
-use Rattle.nb_sched.specs.Says.{SaysLine}
-use Rattle.nb_sched.specs.Stops.{IsReady}
-use Rattle.nb_sched.specs.Todo.{PlaysWhole}
-use Rattle.nb_sched.proofs.EventLaws.{line_said, line_unsaid, open_still, said_played}
-use Rattle.nb_sched.proofs.PlayLaws.{IsAfter, plays_then, plays_failed, plays_cut}
+use Rattle.nb_session.specs.declared.stop.Stop.{Stop}
+use Rattle.nb_session.specs.Says.{SaysLine}
+use Rattle.nb_session.specs.Stops.{IsReady}
+use Rattle.nb_session.specs.Todo.{PlaysWhole}
+use Rattle.nb_session.proofs.EventLaws.{line_said, line_unsaid, open_still, said_played}
+use Rattle.nb_session.proofs.PlayLaws.{IsAfter, plays_then, plays_failed, plays_cut}
 use Rattle.nb_top.specs.Performed.{PlaysOpened, opened_reply}
 use Rattle.nb_top.proofs.FirstLaws.{turns_finish}
 

@@ -15,7 +15,7 @@ use Rattle.nb_model.specs.Stands.{Stands}
 use Rattle.nb_model.specs.Run.{Event}
 use Rattle.nb_model.specs.Output.{output}
 use Rattle.nb_script.specs.Scripts.{Plan}
-use Rattle.nb_sched.specs.declared.stop.Stop.{Stop}
+use Rattle.nb_session.specs.declared.stop.Stop.{Stop}
 use Rattle.nb_top.specs.declared.status.Status.{Status}
 use Rattle.nb_top.specs.Performed.{RunLeft, RunsTo, Finished, StandsFor, database_of}
 use Rattle.nb_top.proofs.LeftLaws.{left_first, left_before_all}

@@ -14,9 +14,9 @@ use Rattle.nb_model.specs.Run.{Event}
 use Rattle.nb_model.specs.Output.{status_after}
 use Rattle.nb_model.proofs.OutputLaws.{acked_most_strokes, strokes_one, output_one, status_one}
 use Rattle.nb_script.specs.Scripts.{Plan}
-use Rattle.nb_sched.specs.declared.stop.Stop.{Stop}
-use Rattle.nb_sched.specs.Says.{FrontSaid, SaysLine}
-use Rattle.nb_sched.proofs.EventLaws.{take_self}
+use Rattle.nb_session.specs.declared.stop.Stop.{Stop}
+use Rattle.nb_session.specs.Says.{FrontSaid, SaysLine}
+use Rattle.nb_session.proofs.EventLaws.{take_self}
 use Rattle.nb_top.specs.declared.status.Status.{Status}
 use Rattle.nb_top.proofs.QuietRuns.{stands_still}
 use Rattle.nb_top.specs.Performed.{RunLeft, RunsTo, Finished, StandsFor, IsPerformed, database_of, number_of}

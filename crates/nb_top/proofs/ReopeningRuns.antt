@@ -23,7 +23,7 @@ use Rattle.nb_script.specs.Scripts.{Plan}
 use Rattle.nb_engine.specs.declared.opened.Opened.{Opened}
 use Rattle.nb_engine.specs.Attach.{attach_cause, Attaches, AttachAnswers}
 use Rattle.nb_engine.specs.Open.{IsOpen}
-use Rattle.nb_sched.specs.declared.stop.Stop.{Stop}
+use Rattle.nb_session.specs.declared.stop.Stop.{Stop}
 use Rattle.nb_top.specs.Performed.{RunsTo, StandsFor, IsPerformed, is_unended, opens_unended, opened_reply}
 use Rattle.nb_top.proofs.QuietRuns.{left_quietly}
 use Rattle.nb_top.proofs.RefusedRuns.{no_given, refused_event}

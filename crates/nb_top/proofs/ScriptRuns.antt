@@ -17,7 +17,7 @@ use Rattle.nb_script.specs.Scripts.{Plan}
 use Rattle.nb_engine.specs.declared.opened.Opened.{Opened}
 use Rattle.nb_engine.specs.Attach.{Attaches}
 use Rattle.nb_engine.specs.Create.{Creates}
-use Rattle.nb_sched.specs.declared.stop.Stop.{Stop}
+use Rattle.nb_session.specs.declared.stop.Stop.{Stop}
 use Rattle.nb_top.specs.declared.status.Status.{Status}
 use Rattle.nb_top.specs.Performed.{RunsTo, StandsFor, database_named}
 use Rattle.nb_top.proofs.Beginnings.{Beginning}

@@ -29,10 +29,10 @@ use Rattle.nb_model.specs.declared.job.Job.{Job}
 use Rattle.nb_model.specs.declared.job.Job.TheVariants.{Run}
 use Rattle.nb_top.specs.declared.status.Status.{Status}
 use Rattle.nb_top.specs.declared.status.Status.TheVariants.{Done, Refused as RefusedStatus, Usage as UsageStatus, Device, Memory}
-use Rattle.nb_sched.specs.declared.stop.Stop.{Stop}
+use Rattle.nb_session.specs.declared.stop.Stop.{Stop}
 use Rattle.nb_page.specs.Free.{is_free_name}
-use Rattle.nb_sched.specs.Replies.{is_refusal}
-use Rattle.nb_sched.specs.Stops.{IsSaid, IsFront, Plays}
+use Rattle.nb_session.specs.Replies.{is_refusal}
+use Rattle.nb_session.specs.Stops.{IsSaid, IsFront, Plays}
 use Rattle.nb_engine.specs.declared.opened.Opened.{Opened}
 use Rattle.nb_top.specs.Jobs.{job_of}
 

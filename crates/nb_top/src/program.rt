@@ -2,7 +2,7 @@
 ghost use Rattle.std.specs.Prelude.{◌≡◌, ◌≢◌, ◌⊎◌, ◌↔◌, None, map, string_bytes, IsTrue, IfOk};
 ghost use Rattle.nb_host.specs.Causes.{Rose};
 ghost use Rattle.nb_model.specs.Account.{Account};
-ghost use Rattle.nb_sched.specs.Causes.{CountsStop};
+ghost use Rattle.nb_session.specs.Causes.{CountsStop};
 ghost use Rattle.nb_top.specs.Jobs.{job_of, IsRun};
 ghost use Rattle.nb_top.specs.Performed.{Performs, RunsTo, StandsFor, script_asked, script_in, script_of_job};
 
@@ -12,7 +12,7 @@ use crate::reading::read_script;
 use crate::script::{refuse, run_script, settled};
 use nb_host::{Host, Name, Refusal};
 use nb_model::Job;
-use nb_sched::Stop;
+use nb_session::Stop;
 use std::alloc::Global;
 
 fn run_file<H: Host>(alloc: Global, host: &mut H, name: &Name) -> Result<Status, Stop>

@@ -12,17 +12,17 @@ ghost use Rattle.nb_model.specs.declared.statement.Statement.TheVariants.{Create
 ghost use Rattle.nb_engine.specs.Create.{Creates};
 ghost use Rattle.nb_engine.specs.Attach.{Attaches};
 ghost use Rattle.nb_script.specs.Asked.{IsFirst, IsAskable};
-ghost use Rattle.nb_sched.specs.Causes.{CountsStop};
-ghost use Rattle.nb_sched.specs.Says.{SaysLine};
-ghost use Rattle.nb_sched.specs.Stops.{IsReady};
+ghost use Rattle.nb_session.specs.Causes.{CountsStop};
+ghost use Rattle.nb_session.specs.Says.{SaysLine};
+ghost use Rattle.nb_session.specs.Stops.{IsReady};
 ghost use Rattle.nb_top.specs.Performed.{RunsTo, StandsFor, PlaysOpened, database_named, opened_reply, number_of};
 
 use crate::Status;
 use nb_engine::Engine;
 use nb_host::{Fault, Host, Refusal};
 use nb_model::{Reply, Statement};
-use nb_sched::{Stop, say, take_turns};
 use nb_script::Script;
+use nb_session::{Stop, say, take_turns};
 use std::alloc::Global;
 
 /// What was answered: a value or a refusal; otherwise the run ends.

@@ -1,4 +1,4 @@
-use Rattle.std.proofs.Common.{ℕ, List, ap, ◌∙◌, arith}
+use Rattle.std.proofs.Common.{ap, ◌∙◌, arith}
 use Rattle.nb_delta.specs.Known.{Known}
 use Rattle.nb_base.proofs.AttachLaws.{counted-next}
 use Rattle.nb_base.proofs.attach.count_with.Goals as goal

@@ -1,4 +1,4 @@
-use Rattle.std.proofs.Common.{◌≡◌, ◌+◌, ◌≤◌, length, take}
+use Rattle.std.proofs.Common.{◌≡◌, ◌≤◌, take}
 use Rattle.std.specs.Prelude.{max}
 use Rattle.nb_model.specs.Owner.{behind_entries}
 use Rattle.nb_base.proofs.attach.count_with.Given as goal

@@ -1,11 +1,11 @@
 use Rattle.std.proofs.Common.{◌≡◌, ℕ, length, ap, sym, subst, ◌∙◌, arith}
-use Rattle.std.specs.Prelude.{true, not, ◌==◌, None, Err}
+use Rattle.std.specs.Prelude.{true, None, Err}
 use Rattle.std.proofs.lemmas.List.{length-take}
 use Rattle.nb_fields.specs.Header.{is_header, size_of}
 use Rattle.nb_model.specs.Causes.{not_database}
 use Rattle.nb_base.specs.declared.attach.Start.{Start}
 use Rattle.nb_base.specs.Attach.{Tested, length_cause}
-use Rattle.nb_base.proofs.AttachLaws.{refusal_passed, unheaded, headed, start_broken, start_unfinished, start_is, start_short, first_number, first_header, block_size, block_state, length_refused}
+use Rattle.nb_base.proofs.AttachLaws.{refusal_passed, unheaded, headed, start_broken, start_unfinished, start_is, start_short, first_header, block_size, block_state, length_refused}
 use Rattle.nb_base.proofs.attach.start_of.Goals as goal
 
 pub returns-then-first-lt-LENGTH-clause-test : goal.returns-then-first-lt-LENGTH-clause-test

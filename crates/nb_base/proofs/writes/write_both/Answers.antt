@@ -1,10 +1,10 @@
-use Rattle.std.proofs.Common.{[], ◌∷◌, sym, ◌∙◌, arith}
+use Rattle.std.proofs.Common.{[], ◌∷◌, arith}
 use Rattle.nb_change.proofs.ReachedLaws.{strokes_composed}
 use Rattle.nb_model.specs.Strokes.{page}
 use Rattle.nb_model.specs.Trail.{after_stroke, StandsIn}
 use Rattle.nb_base.specs.Open.{OfFiles}
 use Rattle.nb_base.proofs.OutcomeLaws.{write_later}
-use Rattle.nb_base.proofs.EqualLaws.{both_after}
+use Rattle.nb_base.proofs.MergedLaws.{both_after}
 use Rattle.nb_base.proofs.WriteLaws.{not_done, merges_later, entry_later}
 use Rattle.nb_base.proofs.writes.write_both.Goals as goal
 

@@ -1,11 +1,11 @@
-use Rattle.std.proofs.Common.{◌≡◌, ℕ, List, sym, subst, ap, ◌∙◌, arith}
+use Rattle.std.proofs.Common.{sym, subst, ap, ◌∙◌}
 use Rattle.nb_host.specs.World.{World}
 use Rattle.nb_fields.specs.Table.{slot_place}
 use Rattle.nb_delta.specs.Known.{Known}
 use Rattle.nb_model.specs.Owner.{entry_for}
 use Rattle.nb_base.specs.Open.{Held, AreMerged}
 use Rattle.nb_base.specs.Seen.{IsSeen}
-use Rattle.nb_base.proofs.EqualLaws.{plain_after}
+use Rattle.nb_base.proofs.MergedLaws.{plain_after}
 use Rattle.nb_base.proofs.PlaceLaws.{slot_answered, none_found}
 use Rattle.nb_base.proofs.WriteLaws.{takes_passed, takes_done, merges_where}
 use Rattle.nb_base.proofs.writes.write_plain.Goals as goal

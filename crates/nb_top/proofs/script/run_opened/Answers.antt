@@ -1,6 +1,6 @@
 use Rattle.std.proofs.Common.{ap, ◌∙◌}
 use Rattle.nb_model.specs.Lines.{line_text}
-use Rattle.nb_sched.proofs.SaysLaws.{says_other}
+use Rattle.nb_session.proofs.SaysLaws.{says_other}
 use Rattle.nb_top.specs.Performed.{opened_reply}
 use Rattle.nb_top.proofs.OpenedSaid.{opened_err, opened_fine, reply_unsaid, reply_said_then, ready_mid}
 use Rattle.nb_top.proofs.script.run_opened.Goals as goal

@@ -3,7 +3,7 @@ use Rattle.std.specs.Prelude.{Ok, Err}
 use Rattle.nb_model.specs.declared.reply.Reply.TheVariants.{Refused as RefusedReply}
 use Rattle.nb_model.specs.Lines.{line_text}
 use Rattle.nb_host.specs.declared.faults.Fault.TheVariants.{Refused}
-use Rattle.nb_sched.proofs.SaysLaws.{says_other}
+use Rattle.nb_session.proofs.SaysLaws.{says_other}
 use Rattle.nb_top.specs.Performed.{RunsTo, opened_reply}
 use Rattle.nb_top.proofs.Beginnings.{script_refused, script_now, script_todo, script_ready, script_ends_early, script_ends}
 use Rattle.nb_top.proofs.ScriptRuns.{runs_err, settled_value, settled_refusal, script_begins}

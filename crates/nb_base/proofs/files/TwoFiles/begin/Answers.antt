@@ -1,12 +1,10 @@
 use Rattle.std.proofs.Common.{◌≡◌, ℕ, List, [], ◌∷◌, length, refl, sym, ap, subst, ◌∙◌, arith}
-use Rattle.std.specs.Prelude.{Some, Result}
-use Rattle.nb_host.specs.Files.{File, Files}
+use Rattle.nb_host.specs.Files.{Files}
 use Rattle.nb_host.specs.World.{World}
-use Rattle.nb_host.specs.Crash.{IsDurable, Leaves}
+use Rattle.nb_host.specs.Crash.{IsDurable}
 use Rattle.nb_change.specs.Changes.{Changes, Only, Remade}
 use Rattle.nb_delta.specs.Known.{Known}
 use Rattle.nb_delta.specs.Slots.{HasTable, IsBlank}
-use Rattle.nb_model.specs.Owner.{delta_name}
 use Rattle.nb_model.specs.Strokes.{begin}
 use Rattle.nb_base.specs.Open.{Held, IsOpen}
 use Rattle.nb_base.specs.Takes.{Strikes}

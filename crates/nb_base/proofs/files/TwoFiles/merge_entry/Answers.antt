@@ -1,6 +1,6 @@
-use Rattle.std.proofs.Common.{◌≡◌, ℕ, ◌+◌, ◌*◌, ◌<◌, List, [], length, refl, sym, ap, subst, ◌∙◌, arith}
+use Rattle.std.proofs.Common.{◌≡◌, ◌+◌, ◌*◌, ◌<◌, [], length, refl, sym, ap, subst, ◌∙◌, arith}
 use Rattle.std.proofs.lemmas.List.{take_at}
-use Rattle.nb_host.specs.Files.{File, Files, bytes_of, with_file, with_page}
+use Rattle.nb_host.specs.Files.{Files, bytes_of, with_file, with_page}
 use Rattle.nb_host.specs.World.{World}
 use Rattle.nb_delta.specs.Known.{Known}
 use Rattle.nb_model.specs.Image.{image_in}
@@ -10,7 +10,7 @@ use Rattle.nb_base.specs.Takes.{Strikes}
 use Rattle.nb_base.specs.contracts.files.TwoFiles.{the_view}
 use Rattle.nb_base.proofs.AgreeLaws.{open_seen, seen_open}
 use Rattle.nb_base.proofs.StrokeLaws.{h0}
-use Rattle.nb_base.proofs.MergedLaws.{number_is, seen_quiet, struck_quiet, struck_joined, its_entry, two, read_as, read_formed, read_size, its_write, merged_next}
+use Rattle.nb_base.proofs.MergingLaws.{number_is, seen_quiet, struck_quiet, struck_joined, its_entry, two, read_as, read_formed, read_size, its_write, merged_next}
 use Rattle.nb_base.proofs.WriteLaws.{not_done, struck_hidden, hidden_seen}
 use Rattle.nb_base.proofs.files.TwoFiles.merge_entry.Goals as goal
 

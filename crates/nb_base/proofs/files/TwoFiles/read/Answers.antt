@@ -1,4 +1,4 @@
-use Rattle.std.proofs.Common.{◌≡◌, ℕ, List, sym, subst, ap, ◌∙◌}
+use Rattle.std.proofs.Common.{sym, subst, ap, ◌∙◌}
 use Rattle.nb_base.specs.Open.{Held, IsOpen}
 use Rattle.nb_base.proofs.PageReads.{open_reads, sized_owned}
 use Rattle.nb_base.proofs.files.TwoFiles.read.Goals as goal

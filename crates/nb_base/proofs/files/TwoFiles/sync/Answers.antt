@@ -1,6 +1,6 @@
-use Rattle.std.proofs.Common.{◌≡◌, ℕ, List, sym, subst, ap, ◌∙◌}
+use Rattle.std.proofs.Common.{ℕ, List, sym, subst, ap}
 use Rattle.std.proofs.lemmas.Bool.{ne_eqb}
-use Rattle.std.specs.Prelude.{not, Bool}
+use Rattle.std.specs.Prelude.{not}
 use Rattle.nb_host.specs.Crash.{IsDurable}
 use Rattle.nb_model.specs.Trail.{settled}
 use Rattle.nb_base.specs.Open.{Held, IsOpen}

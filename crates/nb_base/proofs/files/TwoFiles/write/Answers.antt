@@ -4,7 +4,7 @@ use Rattle.nb_model.specs.Strokes.{page}
 use Rattle.nb_model.specs.Trail.{after_stroke, is_kept_place}
 use Rattle.nb_base.specs.Open.{Held, IsOpen}
 use Rattle.nb_base.specs.Seen.{IsWrite, noted_in}
-use Rattle.nb_base.proofs.EqualLaws.{merged_held}
+use Rattle.nb_base.proofs.MergedLaws.{merged_held}
 use Rattle.nb_base.proofs.AgreeLaws.{written_held, agrees_later, seen_open, synced_is}
 use Rattle.nb_base.proofs.files.TwoFiles.write.Goals as goal
 

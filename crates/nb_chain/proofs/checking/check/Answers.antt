@@ -1,0 +1,59 @@
+use Rattle.std.proofs.Common.{◌≡◌, ℕ, ◌*◌, List, length, drop, sym, ap, subst, ◌∙◌, arith}
+use Rattle.std.specs.Prelude.{Err, max}
+use Rattle.nb_host.specs.declared.faults.Fault.{Fault}
+use Rattle.nb_host.specs.Files.{Files}
+use Rattle.nb_chain.specs.declared.checking.Chain.{Chain}
+use Rattle.nb_chain.specs.Overlay.{is_blank, without_blank}
+use Rattle.nb_chain.specs.Chain.{CheckSays, IsChain}
+use Rattle.nb_chain.specs.Next.{LevelsSay, AreNext}
+use Rattle.nb_chain.proofs.AnswerLemmas.{passed}
+use Rattle.nb_chain.proofs.LinkLemmas.{split}
+use Rattle.nb_chain.proofs.CheckLemmas.{check_first, check_others, check_all}
+use Rattle.nb_chain.proofs.checking.check.Goals as goal
+
+pub returns-in_err-first-clause-answer : goal.returns-in_err-first-clause-answer
+returns-in_err-first-clause-answer g c tells =
+    let files : Files = (g.H.Host.world c.args.host.now).files in
+    let before : ℕ = (g.H.Host.world c.args.host.now).reads in
+    let after : ℕ = (g.H.Host.world c.read_first.new.host).reads in
+    let name : List ℕ = c.index-files-0.result in
+    let names : List (List ℕ) = c.args.files.now in
+    passed Chain (λ r. CheckSays files names before after r) c.from_residual.result c.in_err-first.field-0.0 c.from_residual.ensures
+    (subst (λ (l : List (List ℕ)). CheckSays files l before after (Err c.in_err-first.field-0.0)) (sym (split names name c.requires.some c.index-files-0.is))
+    (check_first files name (drop 1 names) before after c.in_err-first.field-0.0 (c.in_err-first.ensures.answer tells)))
+
+pub returns-in_err-last-clause-answer : goal.returns-in_err-last-clause-answer
+returns-in_err-last-clause-answer g c tells =
+    let files : Files = (g.H.Host.world c.args.host.now).files in
+    let before : ℕ = (g.H.Host.world c.args.host.now).reads in
+    let middle : ℕ = (g.H.Host.world c.read_first.new.host).reads in
+    let after : ℕ = (g.H.Host.world c.read_levels.new.host).reads in
+    let name : List ℕ = c.index-files-0.result in
+    let names : List (List ℕ) = c.args.files.now in
+    let fault : Fault = c.in_err-last.field-0.0 in
+    let is = c.in_ok-first.ensures.answer tells in
+    let says = subst (λ (f : Files). LevelsSay f c.first_tip-tip.result (drop 1 names) c.new-overlay.result c.read_levels.new.overlay middle after (Err fault)) c.read_first.ensures.quiet.still.files (c.in_err-last.ensures.answer tells) in
+    passed Chain (λ r. CheckSays files names before after r) c.from_residual-in_err-last.result fault c.from_residual-in_err-last.ensures
+    (subst (λ (l : List (List ℕ)). CheckSays files l before after (Err fault)) (sym (split names name c.requires.some c.index-files-0.is))
+    (check_others files name (drop 1 names) is.0 c.in_ok-first.first c.first_tip-tip.result is.1 is.2 c.first_tip-tip.ensures.value c.new-overlay.result c.read_levels.new.overlay middle after before after fault says))
+
+pub returns-clause-answer : goal.returns-clause-answer
+returns-clause-answer g c tells =
+    let files : Files = (g.H.Host.world c.args.host.now).files in
+    let before : ℕ = (g.H.Host.world c.args.host.now).reads in
+    let middle : ℕ = (g.H.Host.world c.read_first.new.host).reads in
+    let reads : ℕ = (g.H.Host.world c.read_levels.new.host).reads in
+    let after : ℕ = (g.H.Host.world c.count_pages.new.host).reads in
+    let name : List ℕ = c.index-files-0.result in
+    let names : List (List ℕ) = c.args.files.now in
+    let is = c.in_ok-first.ensures.answer tells in
+    let next = subst (λ (f : Files). AreNext f c.first_tip-tip.result (drop 1 names) c.new-overlay.result c.read_levels.new.overlay middle reads c.in_ok-last.last) c.read_first.ensures.quiet.still.files (c.in_ok-last.ensures.answer tells) in
+    let size : length c.deref_mut.result.now ≡ c.in_ok-first.first.header.page_size = omega (arith, ap length c.deref_mut.ensures.value, c.in_ok-page.ensures.len) in
+    let there = ap (λ (f : Files). f name) (c.read_levels.ensures.quiet.still.files ∙ c.read_first.ensures.quiet.still.files) ∙ is.1 in
+    let pages = ap (λ (k : ℕ). c.in_ok-first.first.pages * k) size in
+    let long = is.2.pages in
+    let counted = c.in_ok-count.ensures.answer tells is.0 there (omega (arith, pages, long)) in
+    let all = check_all files name (drop 1 names) is.0 c.in_ok-first.first c.first_tip-tip.result is.1 is.2 c.first_tip-tip.ensures.value c.in_ok-first.ensures.form _ _ c.new-overlay.ensures before middle reads after c.in_ok-last.last next
+    c.in_ok-count.count
+    (counted ∙ ap (λ (k : ℕ). without_blank (is_blank is.0 k c.in_ok-first.first.pages c.read_levels.new.overlay) (max c.in_ok-first.first.pages (length c.read_levels.new.overlay))) size) (c.in_ok-first.ensures.reads tells) (c.in_ok-count.ensures.reads tells) in
+    subst (λ (l : List (List ℕ)). IsChain files l before after (record { page_size = c.in_ok-last.last.page_size; count = c.in_ok-count.count; guid = c.in_ok-last.last.guid; scn = c.in_ok-last.last.scn })) (sym (split names name c.requires.some c.index-files-0.is)) all

@@ -1,0 +1,16 @@
+use Rattle.std.proofs.Common.{◌≡◌, drop}
+use Rattle.std.specs.Prelude.{IsTrue}
+use Rattle.nb_fields.specs.Places.{is_page_size}
+use Rattle.nb_page.specs.Quiet.{Quiet}
+use Rattle.nb_chain.proofs.LinkLemmas.{Accepted}
+use Rattle.nb_chain.proofs.checking.read_levels.Given as goal
+
+-- the files so far go on from one another
+abbrev pub invariant-loop-place : goal.invariant-loop-place
+invariant-loop-place g l = record {
+  quiet : Quiet (g.H.Host.world l.fn.host) (g.H.Host.world l.host);
+  size : IsTrue (is_page_size l.last.page_size);
+  cause : g.H.Host.faults l.host ≡ g.H.Host.faults l.fn.host;
+  so_far : IsTrue g.H.Host.tells
+      → Accepted (g.H.Host.world l.fn.host).files l.fn.first (drop 1 l.files) l.place l.last (drop l.place l.files) l.fn.overlay l.overlay (g.H.Host.world l.fn.host).reads (g.H.Host.world l.host).reads;
+}

@@ -1,0 +1,23 @@
+use Rattle.std.proofs.Common.{take, ap, ◌∙◌, sym}
+use Rattle.nb_host.specs.Files.{Files}
+use Rattle.nb_chain.specs.declared.first_file.First.{First}
+use Rattle.nb_chain.proofs.StartLemmas.{first_begins}
+use Rattle.nb_chain.proofs.AnswerLemmas.{whatever, refused_first, whole_first}
+use Rattle.nb_chain.proofs.first_file.read_first.Goals as goal
+
+pub returns-then-begins_level-clause-answer : goal.returns-then-begins_level-clause-answer
+returns-then-begins_level-clause-answer g c tells =
+    let start = c.in_ok-start.ensures.answer tells in
+    let begins = sym (first_begins (take c.in_ok-start.start.got c.read_start.new.first) start.0 start.3) ∙ sym c.begins_level.ensures ∙ c.if-begins_level.true in
+    let there = ap (λ (f : Files). f c.args.name.now) c.read_start.ensures.quiet.still.files ∙ start.1 in
+    refused_first _ _ start.0 c.refuse_level.result start.1 (c.refuse_level.ensures.answer tells start.0 there begins)
+
+pub returns-clause-answer : goal.returns-clause-answer
+returns-clause-answer g c tells =
+    let start = c.in_ok-start.ensures.answer tells in
+    let begins = sym (first_begins (take c.in_ok-start.start.got c.read_start.new.first) start.0 start.3) ∙ sym c.begins_level.ensures ∙ c.if-begins_level.false in
+    whole_first _ _ start.0 c.in_ok-start.start.length c.whole_pages.result start.1 (sym start.2) begins (c.whole_pages.ensures.test start.0 (sym start.2) start.3) (c.whole_pages.ensures.value start.0 start.3)
+    c.whole_pages.ensures.pages
+
+pub returns-clause-reads : goal.returns-clause-reads
+returns-clause-reads g c tells = whatever First _ c.whole_pages.result (c.read_start.ensures.reads tells)

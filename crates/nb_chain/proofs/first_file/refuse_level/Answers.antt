@@ -1,0 +1,17 @@
+use Rattle.std.proofs.Common.{ℕ, List, ap, ◌∙◌, sym}
+use Rattle.std.specs.Prelude.{Err}
+use Rattle.nb_host.specs.declared.refusals.Refusal.TheVariants.{ChainLevel}
+use Rattle.nb_chain.specs.declared.first_file.First.{First}
+use Rattle.nb_chain.specs.First.{IsRefused}
+use Rattle.nb_chain.proofs.AnswerLemmas.{passed, level_unread, level_first}
+use Rattle.nb_chain.proofs.first_file.refuse_level.Goals as goal
+
+pub returns-in_err-head-clause-answer : goal.returns-in_err-head-clause-answer
+returns-in_err-head-clause-answer g c tells bytes there begins =
+    passed First (λ r. IsRefused c.args.name.now bytes r) c.from_residual.result c.in_err-head.field-0.0 c.from_residual.ensures
+    (level_unread _ _ bytes (g.H.Host.world c.args.host.now).reads (g.H.Host.world c.whole.new.host).reads _ there begins (c.in_err-head.ensures.answer tells))
+
+pub returns-clause-answer : goal.returns-clause-answer
+returns-clause-answer g c tells bytes there begins =
+    level_first _ _ bytes _ _ _ there begins (c.in_ok-head.ensures.answer tells)
+    ∙ ap (λ (m : List ℕ). Err (ChainLevel m c.in_ok-head.head.level 0)) (sym c.copied.ensures) ∙ ap (λ (n : ℕ). Err (ChainLevel c.copied.result n 0)) (sym c.from.ensures)

@@ -1,0 +1,55 @@
+use Rattle.std.proofs.Common.{ℕ, List, take, refl, ap, ◌∙◌, sym, subst, arith}
+use Rattle.std.specs.Prelude.{Err}
+use Rattle.nb_host.specs.declared.faults.Fault.{Fault}
+use Rattle.nb_host.specs.Files.{File, Files}
+use Rattle.nb_chain.specs.declared.tip.Tip.{Tip}
+use Rattle.nb_chain.specs.Level.{LevelSays, IsRead}
+use Rattle.nb_chain.specs.Next.{NextSays}
+use Rattle.nb_chain.proofs.StartLemmas.{first_begins, first_number}
+use Rattle.nb_chain.proofs.AnswerLemmas.{passed, next_unmarked, next_unread_there, next_apart, next_is}
+use Rattle.nb_chain.proofs.next_file.read_next.Goals as goal
+
+pub returns-then-not-begins_level-clause-answer : goal.returns-then-not-begins_level-clause-answer
+returns-then-not-begins_level-clause-answer g c tells =
+    let start = c.in_ok-start.ensures.answer tells in
+    let first : List ℕ = take c.in_ok-start.start.got c.read_start.new.first in
+    let begins = sym (first_begins first start.0 start.3) ∙ sym c.begins_level.ensures ∙ c.if-not-begins_level.true in
+    next_unmarked c.args.place c.args.last.now c.args.name.now c.args.overlay.now (g.H.Host.world c.args.host.now).reads _ start.0 first c.args.overlay.now (g.H.Host.world c.read_start.new.host).reads c.no_level.result start.1 begins
+    (first_number first start.0 start.3 16 4 (omega arith)) c.no_level.ensures.signed c.no_level.ensures.other
+
+pub returns-in_err-head-clause-answer : goal.returns-in_err-head-clause-answer
+returns-in_err-head-clause-answer g c tells =
+    let start = c.in_ok-start.ensures.answer tells in
+    let begins = sym (first_begins (take c.in_ok-start.start.got c.read_start.new.first) start.0 start.3) ∙ sym c.begins_level.ensures ∙ c.if-not-begins_level.false in
+    let before : ℕ = (g.H.Host.world c.args.host.now).reads in
+    let middle : ℕ = (g.H.Host.world c.read_start.new.host).reads in
+    let after : ℕ = (g.H.Host.world c.read_level.new.host).reads in
+    let file : File = (g.H.Host.world c.args.host.now).files c.args.name.now in
+    let fault : Fault = c.in_err-head.field-0.0 in
+    let says = subst (λ (f : File). LevelSays f c.args.name.now c.args.overlay.now c.read_level.new.overlay middle after (Err fault)) (ap (λ (f : Files). f c.args.name.now) c.read_start.ensures.quiet.still.files) (c.in_err-head.ensures.answer tells) in
+    passed Tip (λ r. NextSays file c.args.place c.args.last.now c.args.name.now c.args.overlay.now c.read_level.new.overlay before after r) c.from_residual-in_err-head.result fault c.from_residual-in_err-head.ensures
+    (next_unread_there c.args.place c.args.last.now c.args.name.now c.args.overlay.now before file start.0 c.read_level.new.overlay c.read_level.new.overlay middle after after fault start.1 begins says)
+
+pub returns-in_err-goes_on-clause-answer : goal.returns-in_err-goes_on-clause-answer
+returns-in_err-goes_on-clause-answer g c tells =
+    let start = c.in_ok-start.ensures.answer tells in
+    let begins = sym (first_begins (take c.in_ok-start.start.got c.read_start.new.first) start.0 start.3) ∙ sym c.begins_level.ensures ∙ c.if-not-begins_level.false in
+    let before : ℕ = (g.H.Host.world c.args.host.now).reads in
+    let middle : ℕ = (g.H.Host.world c.read_start.new.host).reads in
+    let after : ℕ = (g.H.Host.world c.read_level.new.host).reads in
+    let file : File = (g.H.Host.world c.args.host.now).files c.args.name.now in
+    let is = subst (λ (f : File). IsRead f c.args.overlay.now c.read_level.new.overlay middle after c.in_ok-head.head) (ap (λ (f : Files). f c.args.name.now) c.read_start.ensures.quiet.still.files) (c.in_ok-head.ensures.answer tells) in
+    passed Tip (λ r. NextSays file c.args.place c.args.last.now c.args.name.now c.args.overlay.now c.read_level.new.overlay before after r) c.from_residual-in_err-goes_on.result c.in_err-goes_on.field-0.0 c.from_residual-in_err-goes_on.ensures
+    (next_apart c.args.place c.args.last.now c.args.name.now c.args.overlay.now before file start.0 c.read_level.new.overlay middle after c.in_ok-head.head start.1 begins is c.read_level.new.overlay after c.in_err-goes_on.field-0.0 c.in_err-goes_on.ensures.test)
+
+pub returns-clause-answer : goal.returns-clause-answer
+returns-clause-answer g c tells =
+    let start = c.in_ok-start.ensures.answer tells in
+    let begins = sym (first_begins (take c.in_ok-start.start.got c.read_start.new.first) start.0 start.3) ∙ sym c.begins_level.ensures ∙ c.if-not-begins_level.false in
+    let before : ℕ = (g.H.Host.world c.args.host.now).reads in
+    let middle : ℕ = (g.H.Host.world c.read_start.new.host).reads in
+    let after : ℕ = (g.H.Host.world c.read_level.new.host).reads in
+    let file : File = (g.H.Host.world c.args.host.now).files c.args.name.now in
+    let is = subst (λ (f : File). IsRead f c.args.overlay.now c.read_level.new.overlay middle after c.in_ok-head.head) (ap (λ (f : Files). f c.args.name.now) c.read_start.ensures.quiet.still.files) (c.in_ok-head.ensures.answer tells) in
+    next_is c.args.place c.args.last.now c.args.name.now c.args.overlay.now before file start.0 c.read_level.new.overlay middle after c.in_ok-head.head start.1 begins is
+    (record { page_size = c.in_ok-head.head.page_size; guid = c.in_ok-head.head.guid; scn = c.in_ok-head.head.scn }) (c.in_ok-goes_on.ensures.test is.contents (sym is.named)) refl refl refl (c.read_start.ensures.reads tells)

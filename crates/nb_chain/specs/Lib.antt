@@ -1,0 +1,5 @@
+pub mod Chain
+pub mod First
+pub mod Level
+pub mod Next
+pub mod Overlay

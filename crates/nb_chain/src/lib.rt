@@ -1,0 +1,23 @@
+//! The check of a chain of backup files: a level 0 and the levels behind it, each of which goes on from the one before.
+//!
+//! It rests on `nb_level`, which reads level files, on `nb_page` for the header of level 0, and on the verdict of
+//! `nb_model` (`specs/Restoring`), which its contracts cite. A layer above may rely on this: files are accepted exactly
+//! where that verdict accepts them, and refused with its first refusal; and whatever is answered, no file has changed.
+//! What it needs to read the files of a chain again, `read_first` and `whole` give it.
+#![tactic(auto)]
+
+mod checking;
+mod first_file;
+mod last_page;
+mod level_file;
+mod next_file;
+mod overlay;
+mod start;
+mod tip;
+
+pub use checking::{Chain, check};
+pub use first_file::{First, read_first};
+pub use level_file::whole;
+
+#[cfg(test)]
+mod tests;

@@ -1,0 +1,106 @@
+-- Strokes of which each writes a page that fits at its point: what such a page keeps holds after each front of them.
+use Rattle.std.proofs.Common.{◌≡◌, ℕ, zero, suc, ◌≤◌, List, [], ◌∷◌, ◌++◌, take, sym, ap, subst}
+use Rattle.nb_fields.specs.Page.{stamped}
+use Rattle.nb_model.specs.Image.{Page, Image, image_scn, with_page}
+use Rattle.nb_model.specs.Account.{Base}
+use Rattle.nb_model.specs.Strokes.{Stroke, page, on_base, base_after, merged_page}
+use Rattle.nb_model.specs.Forms.{Draft, drafted, old_page, wrote, written, needs, is_kind, no_page}
+use Rattle.nb_model.specs.Sound.{IsSoundImage}
+use Rattle.nb_model.proofs.DraftLaws.{either, IsOf, drafted_is, drafts_are}
+use Rattle.nb_model.proofs.SoundLaws.{HasFields, FitsAt, fields_stay, page_sound}
+use Rattle.nb_model.proofs.StrokeLaws.{whole_page}
+
+-- a sound image with the fields of a header
+pub record IsWhole (image : Image) : Type 0 where
+  pub fields : HasFields image
+  pub sound : IsSoundImage image
+
+-- a page that fits keeps an image whole
+pub whole_with : (image : Image) (p : ℕ) (bytes : Page) → IsWhole image → FitsAt image p bytes → IsWhole (with_page p bytes image)
+whole_with image p bytes h fits = record { fields = fields_stay image p bytes h.fields h.sound fits; sound = page_sound image p bytes h.fields h.sound fits }
+
+-- The stroke writes a page that fits, and K holds of the page.
+abbrev pub IsFitting : (K : Page → Type 0) → Image → Stroke → Type 0
+IsFitting K image (page p bytes) = FitsAt image p (merged_page p bytes image) × K (merged_page p bytes image)
+IsFitting K image other = ⊥
+
+-- each stroke does at its point
+abbrev pub AreFitting : (K : Page → Type 0) → Base → List Stroke → Type 0
+AreFitting K b [] = Unit {0}
+AreFitting K b (s ∷ ss) = IsFitting K b.image s × AreFitting K (on_base s b) ss
+
+-- strokes behind strokes, and a front of them
+pub fitting_append : (K : Page → Type 0) (xs ys : List Stroke) (b : Base) → AreFitting K b xs → AreFitting K (base_after b xs) ys → AreFitting K b (xs ++ ys)
+unfolding base_after
+fitting_append K [] ys b h k = k
+fitting_append K (x ∷ xs) ys b h k = (h.0, fitting_append K xs ys (on_base x b) h.1 k)
+
+pub fitting_front : (K : Page → Type 0) (xs ys : List Stroke) (b : Base) → AreFitting K b (xs ++ ys) → AreFitting K b xs
+fitting_front K [] ys b h = tt
+fitting_front K (x ∷ xs) ys b h = (h.0, fitting_front K xs ys (on_base x b) h.1)
+
+-- The image stays whole.
+pub whole_one : (K : Page → Type 0) (s : Stroke) (b : Base) → IsFitting K b.image s → IsWhole b.image → IsWhole (on_base s b).image
+unfolding on_base
+whole_one K (page p bytes) b fits h = whole_with b.image p (merged_page p bytes b.image) h fits.0
+whole_one K other b fits h = absurd fits
+
+pub whole_after : (K : Page → Type 0) (ss : List Stroke) (b : Base) → AreFitting K b ss → IsWhole b.image → IsWhole (base_after b ss).image
+unfolding base_after
+whole_after K [] b fits h = h
+whole_after K (s ∷ ss) b fits h = whole_after K ss (on_base s b) fits.1 (whole_one K s b fits.0 h)
+
+-- Each stroke of the draft fits at its point, and its image is whole.
+pub record Fits (K : Page → Type 0) (b : Base) (d : Draft) : Type 0 where
+  pub is : IsOf b d
+  pub each : AreFitting K b d.strokes
+  pub whole : IsWhole d.image
+
+pub fits_first : (K : Page → Type 0) (b : Base) → IsWhole b.image → Fits K b (drafted b.image)
+fits_first K b h = record { is = drafted_is b; each = tt; whole = h }
+
+pub fits_full : (K : Page → Type 0) (b : Base) (d : Draft) → Fits K b d → Fits K b (no_page d)
+fits_full K b d h = record { is = (drafts_are b).fills d h.is; each = h.each; whole = h.whole }
+
+pub fits_needs : (K : Page → Type 0) (b : Base) (kind p : ℕ) (d : Draft) → Fits K b d → Fits K b (needs kind p d)
+unfolding needs
+fits_needs K b kind p d h = either (Fits K b) (is_kind d.image kind p) _ _ h (record { is = (drafts_are b).reads _ d h.is; each = h.each; whole = h.whole })
+
+-- the page that a write of a form writes, behind page 0
+abbrev pub form_page : (p kind : ℕ) (payload : List ℕ) → Image → Page
+form_page p kind payload image = stamped (old_page p image) kind payload (image_scn image) p
+
+pub written_image : (p kind : ℕ) (payload : List ℕ) (d : Draft) → 1 ≤ p → (written p kind payload d).image ≡ with_page p (form_page p kind payload d.image) d.image
+unfolding written wrote
+written_image p kind payload d h = ap (λ (bytes : Page). with_page p bytes d.image) (whole_page p (form_page p kind payload d.image) d.image h)
+
+-- one write more
+pub fits_more : (K : Page → Type 0) (b : Base) (p kind : ℕ) (payload : List ℕ) (d : Draft) → 1 ≤ p → Fits K b d → FitsAt d.image p (form_page p kind payload d.image) → K (form_page p kind payload d.image)
+    → Fits K b (written p kind payload d)
+unfolding written wrote
+fits_more K b p kind payload d behind h fits of_kind = record {
+  is = (drafts_are b).writes p kind payload d h.is;
+  each = fitting_append K d.strokes (page p bytes ∷ []) b h.each (subst (λ (x : Image). IsFitting K x (page p bytes)) (sym h.is.is) fitting, tt);
+  whole = subst IsWhole (sym (written_image p kind payload d behind)) (whole_with d.image p bytes h.whole fits);
+}
+  where
+    bytes : Page
+    bytes = form_page p kind payload d.image
+
+    fitting : IsFitting K d.image (page p bytes)
+    fitting = subst (λ (x : Page). FitsAt d.image p x × K x) (sym (whole_page p bytes d.image behind)) (fits, of_kind)
+
+-- Q is kept by each page that fits and that K holds of: so it holds after each front of the strokes.
+module _ (Q : Image → Type 0) (K : Page → Type 0)
+    (step : (image : Image) (p : ℕ) (bytes : Page) → HasFields image → IsSoundImage image → FitsAt image p bytes → K bytes → Q image → Q (with_page p bytes image)) where
+  one_keeps : (s : Stroke) (b : Base) → IsFitting K b.image s → IsWhole b.image → Q b.image → Q (on_base s b).image
+  unfolding on_base
+  one_keeps (page p bytes) b fits h also = step b.image p (merged_page p bytes b.image) h.fields h.sound fits.0 fits.1 also
+  one_keeps other b fits h also = absurd fits
+
+  pub front_keeps : (ss : List Stroke) (b : Base) → AreFitting K b ss → IsWhole b.image → Q b.image → (k : ℕ) → Q (base_after b (take k ss)).image
+  unfolding base_after
+  front_keeps [] b fits h also zero = also
+  front_keeps [] b fits h also (suc k) = also
+  front_keeps (s ∷ ss) b fits h also zero = also
+  front_keeps (s ∷ ss) b fits h also (suc k) = front_keeps ss (on_base s b) fits.1 (whole_one K s b fits.0 h) (one_keeps s b fits.0 h also) k

@@ -1,0 +1,5 @@
+use Rattle.nb_model.proofs.LineageLaws.{goes_on_mixed}
+use Rattle.nb_model.proofs.laws.mixtures_keep_lineage.Goals as goal
+
+pub returns : goal.returns
+returns c = λ images now image r mixed there sound all. goes_on_mixed images now image mixed there sound r all

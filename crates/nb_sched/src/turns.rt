@@ -1,0 +1,82 @@
+ghost use Rattle.std.specs.Prelude.{◌≡◌, ◌≤◌, ◌∷◌, ◌++◌, ◌↔◌, [], ℕ, length, IsTrue, OnOk};
+ghost use Rattle.nb_model.specs.Run.{rounds};
+ghost use Rattle.nb_sched.specs.Turns.{kind, scene, IsReady, AllDone, TakesTurns};
+
+use crate::Agent;
+use nb_host::Fault;
+
+/// The sessions in rising order: one round.
+const ROUND: [u32; 16] = [1, 2, 3, 4, 5, 6, 7, 8, 9, 10, 11, 12, 13, 14, 15, 16];
+
+/// One turn of the agent of this session. Where there is none, or it has finished, nothing is done.
+fn take_turn<H, C, A: Agent<H, C>>(
+    agents: &mut [A],
+    host: &mut H,
+    shared: &mut C,
+    session: u32,
+) -> Result<(), Fault>
+    requires { IsReady (kind A.left A.session A.fits A.step) (scene agents.old host.old shared.old) }
+    ensures { TakesTurns (kind A.left A.session A.fits A.step) (session ∷ []) (scene agents.old host.old shared.old) result
+        (scene agents.new host.new shared.new) }
+{
+    let Some(place) = (session as usize).checked_sub(1) else {
+        return Ok(());
+    };
+    if place >= agents.len() || agents[place].finished() {
+        return Ok(());
+    }
+    agents[place].turn(host, shared)
+}
+
+/// One turn for each number of an order.
+fn take_order<H, C, A: Agent<H, C>>(
+    agents: &mut [A],
+    host: &mut H,
+    shared: &mut C,
+    order: &[u32],
+) -> Result<(), Fault>
+    requires { IsReady (kind A.left A.session A.fits A.step) (scene agents.old host.old shared.old) }
+    ensures { TakesTurns (kind A.left A.session A.fits A.step) order.now (scene agents.old host.old shared.old) result
+        (scene agents.new host.new shared.new) }
+{
+    for session in order {
+        take_turn(agents, host, shared, *session)?;
+    }
+    Ok(())
+}
+
+/// Whether every agent has finished.
+fn all_finished<H, C, A: Agent<H, C>>(agents: &[A]) -> bool
+    ensures { IsTrue result ↔ AllDone A.left agents.now }
+{
+    for agent in agents {
+        if !agent.finished() {
+            return false;
+        }
+    }
+    true
+}
+
+/// Takes turns, at most 16 agents, of which the one in place i (from 0) is session i + 1. Each number of the schedule gives its
+/// session one turn; a number without an agent, or whose agent has finished, does nothing. Then those that have not finished take one
+/// turn each in rising order, again and again, until all have finished.
+///
+/// An error is that of a turn, and nothing is done after it.
+pub fn take_turns<H, C, A: Agent<H, C>>(
+    agents: &mut [A],
+    host: &mut H,
+    shared: &mut C,
+    schedule: &[u32],
+) -> Result<(), Fault>
+    requires few { length agents.old ≤ 16 }
+    requires ready { IsReady (kind A.left A.session A.fits A.step) (scene agents.old host.old shared.old) }
+    ensures turns { (how_often : ℕ) × TakesTurns (kind A.left A.session A.fits A.step) (schedule.now ++ rounds how_often)
+        (scene agents.old host.old shared.old) result (scene agents.new host.new shared.new) }
+    ensures finished { OnOk result (AllDone A.left agents.new) }
+{
+    take_order(agents, host, shared, schedule)?;
+    while !all_finished(agents) {
+        take_order(agents, host, shared, &ROUND)?;
+    }
+    Ok(())
+}

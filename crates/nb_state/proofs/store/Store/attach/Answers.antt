@@ -1,0 +1,19 @@
+use Rattle.std.proofs.Common.{rules, ◌≡◌, ◌<◌, ◌≤◌, None, IsTrue, IfOk, length, ℕ, ◌+◌, ◌-◌, ◌*◌, ◌/◌, ◌%◌, Bool, true, false, nat_eq, nat_lt, List, [], ◌∷◌, ◌++◌, slice_index_or, slice_set, bit_and, bit_or, Fits, w8, w32, w64, Bor, MutBor}
+use Rattle.nb_fields.specs.Places.{is_page_size}
+use Rattle.nb_fields.specs.Fresh.{fresh}
+use Rattle.nb_change.specs.Counts.{CountsDevice}
+use Rattle.nb_host.specs.Causes.{CountsFault}
+use Rattle.nb_page.specs.Quiet.{Quiet}
+use Rattle.nb_model.specs.Trail.{Trail}
+use Rattle.nb_base.specs.Open.{IsOpen as AreOpen}
+use Rattle.nb_state.specs.Open.{IsOpen}
+use Rattle.nb_state.specs.Beginnings.{Attaches, Creates}
+use Rattle.nb_state.proofs.store.Store.attach.Goals as goal
+
+-- src/beginnings.rt:56:42
+pub page_size-requires : goal.page_size-requires
+page_size-requires g c = ?
+
+-- src/beginnings.rt:49:5
+pub returns-clause-attaches : goal.returns-clause-attaches
+returns-clause-attaches g c = ?

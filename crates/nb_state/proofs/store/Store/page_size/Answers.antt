@@ -1,0 +1,20 @@
+use Rattle.std.proofs.Common.{rules, ◌≡◌, ◌≤◌, ◌<◌, ◌+◌, ℕ, List, ◌∷◌, [], length, IsTrue, IfErr, OnOk, Option, false, ◌-◌, ◌*◌, ◌/◌, ◌%◌, Bool, true, nat_eq, nat_lt, ◌++◌, slice_index_or, slice_set, bit_and, bit_or, w8, w32, w64, Bor, MutBor}
+use Rattle.nb_fields.specs.Bytes.{is_zeros}
+use Rattle.nb_fields.specs.Places.{is_page_size}
+use Rattle.nb_fields.specs.Fresh.{fresh}
+use Rattle.nb_host.specs.Causes.{CountsFault}
+use Rattle.nb_change.specs.Counts.{CountsDevice}
+use Rattle.nb_page.specs.Quiet.{Quiet}
+use Rattle.nb_model.specs.Account.{Ask}
+use Rattle.nb_model.specs.Image.{page_at}
+use Rattle.nb_model.specs.Strokes.{page as page_stroke}
+use Rattle.nb_model.specs.Trail.{Trail, settled}
+use Rattle.nb_base.specs.Open.{Fits}
+use Rattle.nb_base.specs.Takes.{IsNoRefusal}
+use Rattle.nb_state.specs.Open.{IsOpen}
+use Rattle.nb_state.specs.Does.{Makes, Goes}
+use Rattle.nb_state.proofs.store.Store.page_size.Goals as goal
+
+-- src/store.rt:50:9
+pub page_size-requires : goal.page_size-requires
+page_size-requires c = ?

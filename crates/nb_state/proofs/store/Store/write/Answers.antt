@@ -1,0 +1,32 @@
+use Rattle.std.proofs.Common.{rules, ◌≡◌, ◌≤◌, ◌<◌, ◌+◌, ℕ, List, ◌∷◌, [], length, IsTrue, IfErr, OnOk, Option, false, ◌-◌, ◌*◌, ◌/◌, ◌%◌, Bool, true, nat_eq, nat_lt, ◌++◌, slice_index_or, slice_set, bit_and, bit_or, w8, w32, w64, Bor, MutBor}
+use Rattle.nb_fields.specs.Bytes.{is_zeros}
+use Rattle.nb_fields.specs.Places.{is_page_size}
+use Rattle.nb_fields.specs.Fresh.{fresh}
+use Rattle.nb_host.specs.Causes.{CountsFault}
+use Rattle.nb_change.specs.Counts.{CountsDevice}
+use Rattle.nb_page.specs.Quiet.{Quiet}
+use Rattle.nb_model.specs.Account.{Ask}
+use Rattle.nb_model.specs.Image.{page_at}
+use Rattle.nb_model.specs.Strokes.{page as page_stroke}
+use Rattle.nb_model.specs.Trail.{Trail, settled}
+use Rattle.nb_base.specs.Open.{Fits}
+use Rattle.nb_base.specs.Takes.{IsNoRefusal}
+use Rattle.nb_state.specs.Open.{IsOpen}
+use Rattle.nb_state.specs.Does.{Makes, Goes}
+use Rattle.nb_state.proofs.store.Store.write.Goals as goal
+
+-- src/store.rt:144:9
+pub write-requires-clause-stub : goal.write-requires-clause-stub
+write-requires-clause-stub g c = ?
+
+-- src/store.rt:144:9
+pub returns-in_err-write-clause-makes : goal.returns-in_err-write-clause-makes
+returns-in_err-write-clause-makes g c = ?
+
+-- src/store.rt:146:17
+pub front_of-front-requires : goal.front_of-front-requires
+front_of-front-requires g c = ?
+
+-- src/store.rt:132:5
+pub returns-clause-makes : goal.returns-clause-makes
+returns-clause-makes g c = ?

@@ -1,0 +1,16 @@
+pub mod LineLemmas
+pub mod Rules
+pub mod RowLemmas
+pub mod UseLemmas
+pub mod Bundles
+pub mod Steps
+pub mod Looks
+pub mod Defined
+pub mod Walks
+pub mod Ends
+pub mod Whole
+pub mod Parts
+pub mod Table
+pub mod JobLemmas
+pub mod Sets
+pub mod Found

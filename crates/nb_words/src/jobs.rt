@@ -1,0 +1,186 @@
+// The job of each cell, of the plain words that it asks for.
+ghost use Rattle.std.specs.Prelude.{◌≡◌, [], ◌∷◌, Some, None, cond, IfOk, IfErr};
+ghost use Rattle.std.specs.List.{list_all};
+ghost use Rattle.nb_host.specs.declared.faults.Fault.TheVariants.{Memory};
+ghost use Rattle.nb_model.specs.declared.job.Job.TheVariants.{Lock, LockWithSize, Unlock, Fixup};
+ghost use Rattle.nb_model.specs.Words.{is_file, plain_job, backup_job, restore_job, apply_job, database_job};
+ghost use Rattle.nb_words.specs.Choice.{job_in};
+ghost use Rattle.nb_words.specs.Parts.{one_database};
+ghost use Rattle.nb_words.specs.Read.{words_of};
+
+use crate::word;
+use nb_host::{Fault, Name};
+use nb_model::{Job, NameList};
+use std::alloc::Global;
+
+/// `run SCRIPT` and `stat DB`
+fn of_two(verb: &str, name: &str) -> Option<Job>
+    ensures { result ≡ plain_job (verb.now ∷ name.now ∷ []) }
+{
+    if verb == "run" {
+        let script = word::file(name)?;
+        Some(Job::Run { script })
+    } else if verb == "stat" {
+        let db = word::database(name)?;
+        Some(Job::Stat { db })
+    } else {
+        None
+    }
+}
+
+/// `gen N SCRIPT`
+fn of_three(verb: &str, number: &str, name: &str) -> Option<Job>
+    ensures { result ≡ plain_job (verb.now ∷ number.now ∷ name.now ∷ []) }
+{
+    let number = word::number(number)?;
+    let script = word::file(name)?;
+    if verb == "gen" {
+        Some(Job::Gen { number, script })
+    } else {
+        None
+    }
+}
+
+/// What the first word names.
+fn plain(words: &[&str]) -> Option<Job>
+    ensures { result ≡ plain_job (words_of words.now) }
+{
+    match words {
+        [verb, name] => of_two(verb, name),
+        [verb, number, name] => of_three(verb, number, name),
+        _ => None,
+    }
+}
+
+/// `-B L DB FILE` and `-B GUID DB FILE`
+fn backup_of(since: &str, db: &str, file: &str) -> Option<Job>
+    ensures { result ≡ backup_job (since.now ∷ db.now ∷ file.now ∷ []) }
+{
+    let (db, file) = word::database_and_file(db, file)?;
+    match word::guid(since) {
+        Some(guid) => Some(Job::BackupSince { guid, db, file }),
+        None => match word::level(since) {
+            Some(level) => Some(Job::Backup { level, db, file }),
+            None => None,
+        },
+    }
+}
+
+fn backup(words: &[&str]) -> Option<Job>
+    ensures { result ≡ backup_job (words_of words.now) }
+{
+    if words.len() != 3 {
+        return None;
+    }
+    backup_of(words[0], words[1], words[2])
+}
+
+/// The names of some files, where each word is one.
+fn files(alloc: Global, words: &[&str]) -> Result<Option<NameList>, Fault>
+    ensures exact { IfOk result (λ files. files ≡ cond (list_all is_file (words_of words.now)) (Some (words_of words.now)) None) }
+    ensures only_memory { IfErr result (λ fault. fault ≡ Memory) }
+{
+    let mut names = NameList::new(alloc);
+    for word in words {
+        match word::file(word) {
+            Some(name) => names.push(name)?,
+            None => return Ok(None),
+        }
+    }
+    Ok(Some(names))
+}
+
+/// `-R DB FILE..`
+fn restore(alloc: Global, words: &[&str]) -> Result<Option<Job>, Fault>
+    ensures exact { IfOk result (λ job. job ≡ restore_job (words_of words.now)) }
+    ensures only_memory { IfErr result (λ fault. fault ≡ Memory) }
+{
+    if words.len() < 2 || words.len() > 11 {
+        return Ok(None);
+    }
+    let Some(db) = word::database(words[0]) else {
+        return Ok(None);
+    };
+    let files = files(alloc, &words[1..])?;
+    match files {
+        Some(files) => Ok(Some(Job::Restore { db, files })),
+        None => Ok(None),
+    }
+}
+
+/// `-I -R DB FILE`
+fn apply_to(db: &str, file: &str) -> Option<Job>
+    ensures { result ≡ apply_job (db.now ∷ file.now ∷ []) }
+{
+    let (db, file) = word::database_and_file(db, file)?;
+    Some(Job::Apply { db, file })
+}
+
+fn apply(words: &[&str]) -> Option<Job>
+    ensures { result ≡ apply_job (words_of words.now) }
+{
+    match words {
+        [db, file] => apply_to(db, file),
+        _ => None,
+    }
+}
+
+/// The database that the words name, where they are one word.
+fn one_database(words: &[&str]) -> Option<Name>
+    ensures { result ≡ one_database (words_of words.now) }
+{
+    match words {
+        [db] => word::database(db),
+        _ => None,
+    }
+}
+
+/// `-L DB`
+fn lock(words: &[&str]) -> Option<Job>
+    ensures { result ≡ database_job Lock (words_of words.now) }
+{
+    let db = one_database(words)?;
+    Some(Job::Lock { db })
+}
+
+/// `-L -S DB`
+fn lock_with_size(words: &[&str]) -> Option<Job>
+    ensures { result ≡ database_job LockWithSize (words_of words.now) }
+{
+    let db = one_database(words)?;
+    Some(Job::LockWithSize { db })
+}
+
+/// `-N DB`
+fn unlock(words: &[&str]) -> Option<Job>
+    ensures { result ≡ database_job Unlock (words_of words.now) }
+{
+    let db = one_database(words)?;
+    Some(Job::Unlock { db })
+}
+
+/// `-F DB`
+fn fixup(words: &[&str]) -> Option<Job>
+    ensures { result ≡ database_job Fixup (words_of words.now) }
+{
+    let db = one_database(words)?;
+    Some(Job::Fixup { db })
+}
+
+/// The job of a cell of the table, and none where the words are no names of the kinds that it asks for.
+pub(crate) fn of_cell(alloc: Global, cell: u8, words: &[&str]) -> Result<Option<Job>, Fault>
+    ensures exact { IfOk result (λ job. job ≡ job_in cell (words_of words.now)) }
+    ensures only_memory { IfErr result (λ fault. fault ≡ Memory) }
+{
+    match cell {
+        1 | 2 => Ok(plain(words)),
+        3 => Ok(backup(words)),
+        4 => restore(alloc, words),
+        5 => Ok(lock(words)),
+        6 => Ok(lock_with_size(words)),
+        7 => Ok(unlock(words)),
+        8 => Ok(fixup(words)),
+        9 => Ok(apply(words)),
+        _ => Ok(None),
+    }
+}
