@@ -89,27 +89,6 @@ impl TwoFiles {
         self.main_count
     }
 
-    /// The backup state: 0 normal, 1 stalled, 2 merge.
-    pub fn state(&self) -> u16
-        ensures { result ≡ self.now.state }
-    {
-        self.state
-    }
-
-    /// The page size in bytes.
-    pub fn page_size(&self) -> u32
-        ensures { result ≡ self.now.page_size }
-    {
-        self.page.len() as u32
-    }
-
-    /// How many pages the difference file holds.
-    pub fn delta_count(&self) -> u32
-        ensures { result ≡ length self.now.entries }
-    {
-        self.delta.count()
-    }
-
     /// Fills in page `number` of the database, from the file that holds it. Page 0 has its first 64 bytes from the main file, so it may
     /// take two reads; every other page takes one.
     pub fn read<H: Host>(

@@ -13,10 +13,10 @@ mod files;
 mod reads;
 mod sync;
 mod writes;
-#[cfg(test)]
-mod write_tests;
 
 pub use files::TwoFiles;
 
 #[cfg(test)]
 mod tests;
+#[cfg(test)]
+mod write_tests;

@@ -1,4 +1,6 @@
 // A page is written in each backup state, and read back, also of what each stop leaves.
+ghost use Rattle.std.specs.Prelude.{◌<◌, ◌≤◌, IfOk, length};
+
 use crate::TwoFiles;
 use nb_fields::are_zeros;
 use nb_host::{Fault, Host, Name};
@@ -6,10 +8,11 @@ use nb_mem::MemHost;
 use std::alloc::Global;
 use std::test::Fail;
 
-const NAME: &str = "a.db";
-
-fn name_of(text: &str) -> Result<Name, Fail> {
-    Ok(Name::read(text).ok_or("no name")?)
+/// The name of the database.
+fn name_of() -> Result<Name, Fault>
+    ensures { IfOk result (λ name. length name ≤ 94) }
+{
+    Name::read("a.db").ok_or(Fault::Device)
 }
 
 /// Writes a page of which each byte is the same.
@@ -42,7 +45,7 @@ fn byte_of(host: &mut MemHost, files: &mut TwoFiles, number: u32) -> Result<u8, 
 
 /// A database of eight pages in that state. Its page 5 has ones, and threes from the stalled state on; its page 6 has twos.
 fn made(alloc: Global, state: u16) -> Result<MemHost, Fail> {
-    let name = name_of(NAME)?;
+    let name = name_of()?;
     let mut host = MemHost::new(alloc)?;
     let mut files = TwoFiles::create(alloc, &mut host, &name, 1024, 3)?;
     write(&mut host, &mut files, 5, 1, true)?;
@@ -62,10 +65,10 @@ fn made(alloc: Global, state: u16) -> Result<MemHost, Fail> {
 
 /// The same files on a host that stops at a call.
 fn stopping(alloc: Global, made: &MemHost, stop: u64) -> Result<MemHost, Fail> {
-    let name = name_of(NAME)?;
+    let name = name_of()?;
     let mut host = MemHost::fused(alloc, stop)?;
     host.put_file(&name, made.file(&name).unwrap_or(b""))?;
-    let delta = name_of("a.db.delta")?;
+    let delta = name.delta();
     if let Some(bytes) = made.file(&delta) {
         host.put_file(&delta, bytes)?;
     }
@@ -73,10 +76,10 @@ fn stopping(alloc: Global, made: &MemHost, stop: u64) -> Result<MemHost, Fail> {
 }
 
 /// Opens the database and writes nines.
-fn write_nines(alloc: Global, host: &mut MemHost, number: u32, forced: bool) -> Result<(), Fail>
+fn write_nines(alloc: Global, host: &mut MemHost, number: u32, forced: bool) -> Result<(), Fault>
     requires { number < 1048576 }
 {
-    let mut files = TwoFiles::attach(alloc, host, &name_of(NAME)?)?;
+    let mut files = TwoFiles::attach(alloc, host, &name_of()?)?;
     write(host, &mut files, number, 9, forced)?;
     Ok(())
 }
@@ -89,7 +92,7 @@ fn is_left(
     before: u8,
     is_kept: bool,
 ) -> Result<bool, Fail> {
-    let mut files = TwoFiles::attach(alloc, host, &name_of(NAME)?)?;
+    let mut files = TwoFiles::attach(alloc, host, &name_of()?)?;
     if number >= files.count() {
         return Ok(before == 0 && !is_kept);
     }
@@ -130,7 +133,7 @@ fn wrong_stop(
         let mut host = stopping(alloc, made, stop)?;
         let is_done = write_nines(alloc, &mut host, number, forced).is_ok();
         let is_kept = is_done && (forced || number == 8);
-        if wrong_pick(alloc, &host, number, before, is_kept)?.is_some() {
+        if wrong_pick(alloc, &host, number, before, is_kept)?.is_some() || !is_done && stop == 23 {
             return Ok(Some(stop));
         }
     }
@@ -165,7 +168,7 @@ fn calls_of(alloc: Global, state: u16, number: u32, forced: bool) -> Result<u64,
     requires { number < 1048576 }
 {
     let mut host = made(alloc, state)?;
-    let mut files = TwoFiles::attach(alloc, &mut host, &name_of(NAME)?)?;
+    let mut files = TwoFiles::attach(alloc, &mut host, &name_of()?)?;
     let before = host.calls();
     write(&mut host, &mut files, number, 9, forced)?;
     if byte_of(&mut host, &mut files, number)? != 9 {
@@ -201,7 +204,7 @@ fn a_write_makes_the_calls_of_its_state(rt: HostRuntime) -> Result<(), Fail> {
 #[test]
 fn the_main_file_is_frozen(rt: HostRuntime) -> Result<(), Fail> {
     let mut host = made(rt.alloc(), 1)?;
-    let mut files = TwoFiles::attach(rt.alloc(), &mut host, &name_of(NAME)?)?;
+    let mut files = TwoFiles::attach(rt.alloc(), &mut host, &name_of()?)?;
     write(&mut host, &mut files, 8, 9, true)?;
     assert_eq!(rt;
         (files.count(), files.main_count(), files.delta_count()),
