@@ -155,7 +155,8 @@ fn a_stop_leaves_a_page_as_it_was_or_as_it_is_written(rt: HostRuntime) -> Result
         let made = made(rt.alloc(), state)?;
         for forced in [true, false] {
             assert_eq!(rt;
-                wrong_stop(rt.alloc(), &made, number, before, forced)?, None,
+                wrong_stop(rt.alloc(), &made, number, before, forced)?,
+                None,
                 "page {number} in state {state}"
             );
         }
