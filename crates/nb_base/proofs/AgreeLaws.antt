@@ -1,16 +1,15 @@
 -- What is held agrees with the database after a page write, as it did before.
 use Rattle.std.proofs.Common.{◌≡◌, ℕ, ◌+◌, ◌<◌, ◌≤◌, List, length, take, sym, ap, subst, ◌∙◌, arith}
-use Rattle.std.specs.Prelude.{Bool, true, false, ◌==◌, ◌||◌, nat_le, max, Result}
-use Rattle.nb_fields.specs.Header.{is_header}
+use Rattle.std.specs.Prelude.{Bool, ◌||◌, nat_le, max, Result}
 use Rattle.nb_model.specs.Image.{Page, Image, first_page, image_size, image_state, is_forced}
 use Rattle.nb_model.specs.Account.{Base}
-use Rattle.nb_model.specs.Strokes.{Stroke, page, on_base, noted}
+use Rattle.nb_model.specs.Strokes.{Stroke, page, on_base}
 use Rattle.nb_model.specs.Trail.{Trail, is_kept_place, is_synced, after_stroke}
 use Rattle.nb_model.proofs.HeaderLaws.{same-header}
 use Rattle.nb_model.proofs.TrailLaws.{trail_base}
 use Rattle.nb_host.specs.World.{World}
 use Rattle.nb_base.specs.Open.{Held, Agrees, Fits, IsOpen}
-use Rattle.nb_base.specs.Seen.{IsSeen, IsWrite, noted_in}
+use Rattle.nb_base.specs.Seen.{IsSeen, noted_in}
 use Rattle.nb_base.specs.Takes.{Takes}
 use Rattle.nb_base.proofs.LeftLaws.{later_size, later_state, later_length, later_front, later_frozen}
 

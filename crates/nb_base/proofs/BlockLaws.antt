@@ -1,23 +1,21 @@
 -- The control block of a main file is written: what a stop leaves, and what stands after.
-use Rattle.std.proofs.Common.{◌≡◌, ◌≢◌, ◌⊎◌, inl, inr, ⊎_elim, ℕ, zero, suc, ◌+◌, ◌*◌, ◌<◌, ◌≤◌, List, [], ◌∷◌, ◌++◌, length, take, drop, refl, sym, ap, subst, ◌∙◌, arith, mul-le-mul_right}
-use Rattle.std.specs.Prelude.{Bool, true, false, IsTrue, Option, Some, None, Result, Ok, OnOk}
+use Rattle.std.proofs.Common.{◌≡◌, ◌⊎◌, inl, inr, ⊎_elim, ℕ, zero, suc, ◌+◌, ◌*◌, ◌<◌, ◌≤◌, List, [], ◌∷◌, ◌++◌, length, take, drop, refl, sym, ap, subst, ◌∙◌, arith, mul-le-mul_right}
+use Rattle.std.specs.Prelude.{Bool, true, false, IsTrue, Option, Result, OnOk}
 use Rattle.std.proofs.lemmas.Bool.Decides.{leb_tells}
 use Rattle.std.proofs.lemmas.List.{get_or_append_left}
-use Rattle.nb_fields.specs.Header.{is_header, size_of, scn_of, guid_of, state_of}
+use Rattle.nb_fields.specs.Header.{is_header, size_of, scn_of, guid_of}
 use Rattle.nb_host.specs.Files.{File, Files, bytes_of, with_file, with_page as with_page_at}
 use Rattle.nb_host.specs.World.{World}
-use Rattle.nb_host.specs.Crash.{Leaves, LeavesAll, PageLeft}
-use Rattle.nb_host.specs.Calls.{IsStill, WritesPage, Syncs, ReadsPage, CountsRead, IsSilent}
+use Rattle.nb_host.specs.Crash.{PageLeft}
+use Rattle.nb_host.specs.Calls.{IsStill, WritesPage, Syncs, ReadsPage}
 use Rattle.nb_host.specs.Moments.{IsTimely, Passes}
 use Rattle.nb_change.specs.Changes.{Changes, Only}
 use Rattle.nb_change.proofs.MomentLaws.{left_before}
 use Rattle.nb_change.proofs.NameLaws.{with_file-same}
 use Rattle.nb_change.proofs.ResultLaws.{on_ok_then}
-use Rattle.nb_change.proofs.ChangesLaws.{still_more}
 use Rattle.nb_change.proofs.CallLaws.{page_more, still_alone}
 use Rattle.nb_change.proofs.SettledLaws.{durable_is}
-use Rattle.nb_model.specs.Image.{Page, Image, page_at, first_page, image_size, image_state, image_scn, image_guid, image_in, written_at}
-use Rattle.nb_model.specs.Causes.{not_database}
+use Rattle.nb_model.specs.Image.{Page, Image, first_page, image_size, image_scn, image_guid, written_at}
 use Rattle.nb_model.specs.Strokes.{controlled, with_control}
 use Rattle.nb_model.proofs.HeaderLaws.{header-long, header-other, header-scn}
 use Rattle.nb_model.proofs.ImageLaws.{length-joined, page-joined}

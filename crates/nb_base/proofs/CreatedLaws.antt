@@ -8,7 +8,7 @@ use Rattle.nb_fields.specs.Fresh.{fresh}
 use Rattle.nb_host.specs.World.{World}
 use Rattle.nb_host.specs.Moments.{IsTimely}
 use Rattle.nb_host.specs.declared.faults.Fault.{Fault}
-use Rattle.nb_host.specs.declared.faults.Fault.TheVariants.{Refused, Device, Memory}
+use Rattle.nb_host.specs.declared.faults.Fault.TheVariants.{Device}
 use Rattle.nb_change.specs.Changes.{Changes, Only}
 use Rattle.nb_change.specs.Gave.{GaveNothing}
 use Rattle.nb_change.proofs.MomentLaws.{left_before}
@@ -21,7 +21,7 @@ use Rattle.nb_model.specs.Owner.{delta_name}
 use Rattle.nb_model.proofs.FreshImageLaws.{fresh_main, fresh_size, fresh_state}
 use Rattle.nb_model.proofs.MainLaws.{main_facts}
 use Rattle.nb_model.proofs.TrailLaws.{shows_settled}
-use Rattle.nb_base.specs.Open.{Held, IsOpen}
+use Rattle.nb_base.specs.Open.{Held}
 use Rattle.nb_base.specs.Beginnings.{CreateLeft, CreatesFile, Creates, IsSettled}
 
 -- a test that changed nothing leaves what stood before

@@ -1,20 +1,20 @@
 -- The end of the stalled state and of the merge: what a stop leaves at each moment, and what is open after.
-use Rattle.std.proofs.Common.{◌≡◌, ◌≢◌, ◌⊎◌, inl, inr, ⊎_elim, ℕ, ◌<◌, List, [], ◌∷◌, length, refl, sym, ap, subst, ◌∙◌, arith}
-use Rattle.std.specs.Prelude.{Option, Some, None, Ok}
+use Rattle.std.proofs.Common.{◌≡◌, ◌≢◌, inr, ℕ, List, [], ◌∷◌, length, refl, sym, ap, subst, ◌∙◌, arith}
+use Rattle.std.specs.Prelude.{None, Ok}
 use Rattle.nb_host.specs.Files.{File, Files}
 use Rattle.nb_host.specs.World.{World}
-use Rattle.nb_host.specs.Crash.{Leaves, LeavesAll, IsDurable}
+use Rattle.nb_host.specs.Crash.{Leaves, IsDurable}
 use Rattle.nb_host.specs.Calls.{IsStill}
-use Rattle.nb_change.specs.Changes.{Changes, Only, Other, Remade, Reached}
+use Rattle.nb_change.specs.Changes.{Changes, Only, Remade}
 use Rattle.nb_change.proofs.MomentLaws.{left_before}
 use Rattle.nb_change.proofs.ChangesLaws.{composed_within}
 use Rattle.nb_change.proofs.SettledLaws.{durable_is}
 use Rattle.nb_model.specs.Image.{Image, image_size, image_state, image_scn}
 use Rattle.nb_model.specs.Account.{Base}
 use Rattle.nb_model.specs.Sound.{HasNoZeros}
-use Rattle.nb_model.specs.Strokes.{Stroke, ends, finish, on_base, with_control}
+use Rattle.nb_model.specs.Strokes.{ends, finish, on_base}
 use Rattle.nb_model.specs.Owner.{delta_name, owner}
-use Rattle.nb_model.specs.Trail.{Trail, settles_at, after_stroke, images_of, StandsOn, StandsIn, ShowsIn}
+use Rattle.nb_model.specs.Trail.{Trail, after_stroke, images_of, StandsOn, StandsIn}
 use Rattle.nb_model.proofs.HeaderLaws.{header-room}
 use Rattle.nb_model.proofs.MixtureLaws.{mixed_state}
 use Rattle.nb_model.proofs.TrailLaws.{shows_stands, trail_base}
@@ -26,7 +26,7 @@ use Rattle.nb_base.proofs.BlockLaws.{to_main, of_main}
 use Rattle.nb_base.proofs.ControlLaws.{with_control-length}
 use Rattle.nb_base.proofs.MergeLaws.{merged_alone}
 use Rattle.nb_base.proofs.OwnedLaws.{Holds, holds, shows, base-state, base-size}
-use Rattle.nb_base.proofs.StateLaws.{same_main, agrees_by, in_state-state, in_state-size, in_state-length, kept_sixteen, ended_holds, finished_holds}
+use Rattle.nb_base.proofs.StateLaws.{same_main, agrees_by, in_state-state, in_state-size, kept_sixteen, ended_holds, finished_holds}
 use Rattle.nb_base.proofs.StrokeLaws.{h0, main_state, stands_after, ends-settles, finish-settles, struck, struck_open}
 use Rattle.nb_base.proofs.WrittenLaws.{HasMain, one_main}
 use Rattle.nb_base.proofs.WriteLaws.{main_apart, delta_apart, with_delta, with_main}

@@ -1,24 +1,24 @@
 -- Once every entry is equal in both files, the main file alone has the image.
-use Rattle.std.proofs.Common.{◌≡◌, ◌≢◌, inl, inr, ℕ, zero, suc, ◌+◌, ◌-◌, ◌*◌, ◌<◌, ◌≤◌, List, [], ◌∷◌, ◌++◌, length, get_or, take, drop, replicate, refl, sym, ap, subst, ◌∙◌, arith, length-append, mul-le-mul_right, suc-mul}
-use Rattle.std.specs.Prelude.{true, false, Option, Some, None, max}
+use Rattle.std.proofs.Common.{◌≡◌, ◌≢◌, inl, inr, ℕ, zero, suc, ◌+◌, ◌-◌, ◌*◌, ◌<◌, ◌≤◌, List, [], ◌∷◌, ◌++◌, length, get_or, take, drop, replicate, refl, sym, ap, ◌∙◌, arith, length-append, mul-le-mul_right, suc-mul}
+use Rattle.std.specs.Prelude.{true, false, Option, Some, None}
 use Rattle.std.proofs.lemmas.Bool.{true≢false}
-use Rattle.std.proofs.lemmas.Bool.Decides.{eqb_tells, leb_tells}
+use Rattle.std.proofs.lemmas.Bool.Decides.{leb_tells}
 use Rattle.std.proofs.lemmas.List.{take-append-le, take-append-drop, length-drop, get_or_append_left, get_or-append_right}
 use Rattle.nb_fields.specs.Bytes.{is_zeros}
 use Rattle.nb_fields.specs.Table.{page_in, slot_place}
-use Rattle.nb_host.specs.Files.{File, Files, bytes_of}
+use Rattle.nb_host.specs.Files.{Files, bytes_of}
 use Rattle.nb_delta.proofs.GroupLemmas.{page_past}
-use Rattle.nb_model.specs.Image.{Page, Image, page_at, first_page, image_size, image_in}
+use Rattle.nb_model.specs.Image.{Page, Image, page_at, image_size, image_in}
 use Rattle.nb_model.specs.Account.{Base}
-use Rattle.nb_model.specs.Sound.{HasNoZeros, IsOfSize}
-use Rattle.nb_model.specs.Owner.{delta_name, entry_for, behind_entries, slot_page, main_page, owned_page, owned}
+use Rattle.nb_model.specs.Sound.{HasNoZeros}
+use Rattle.nb_model.specs.Owner.{delta_name, entry_for, behind_entries, slot_page, main_page, owned_page}
 use Rattle.nb_model.proofs.ImageLaws.{length-joined, page-joined, zeros-are, all-right}
 use Rattle.nb_model.proofs.MainLaws.{IsLaid, laid-wide}
 use Rattle.nb_model.proofs.OwnerLaws.{main_here, main_past}
 use Rattle.nb_model.proofs.SoundLaws.{all_at}
 use Rattle.nb_base.specs.Open.{Held, IsMerged}
 use Rattle.nb_base.proofs.OwnedLaws.{Holds, owned-length, owned-page, is_owned, owned-entry, owned-none, entry-first, entry-later, entry_at, base-length, base-page}
-use Rattle.nb_base.proofs.WrittenLaws.{HasMain, laid_image, zeros_is}
+use Rattle.nb_base.proofs.WrittenLaws.{laid_image, zeros_is}
 
 -- A page of the main file, as its bytes have it.
 module _ (main : Image) (bytes : List ℕ) (l : IsLaid main bytes) where

@@ -2,10 +2,10 @@
 use Rattle.std.proofs.Common.{◌≡◌, ◌≢◌, inl, inr, ℕ, zero, suc, ◌+◌, ◌*◌, ◌<◌, ◌≤◌, List, [], ◌∷◌, length, get_or, drop, refl, sym, ap, subst, ◌∙◌, arith}
 use Rattle.std.specs.Prelude.{Bool, true, false, IsTrue, nat_eq, Option, Some, None, slice_index}
 use Rattle.std.specs.List.{AllByRecursion, IsDistinct}
-use Rattle.std.proofs.lemmas.Bool.{true≢false, cases_eq}
+use Rattle.std.proofs.lemmas.Bool.{true≢false}
 use Rattle.std.proofs.lemmas.Bool.Decides.{eqb_tells}
 use Rattle.nb_fields.specs.Places.{is_page_size}
-use Rattle.nb_fields.specs.Table.{page_in, slot_place, table_of}
+use Rattle.nb_fields.specs.Table.{page_in}
 use Rattle.nb_fields.proofs.SizeLemmas.{size_facts}
 use Rattle.nb_host.specs.Files.{File, Files, bytes_of, with_file, with_page as with_page_at}
 use Rattle.nb_host.specs.World.{World}
@@ -13,7 +13,6 @@ use Rattle.nb_delta.specs.Slots.{HasTable, SlotPut, slot_page}
 use Rattle.nb_delta.proofs.PageLemmas.{put_here, put_other}
 use Rattle.nb_delta.proofs.TellLemmas.{table_read}
 use Rattle.nb_model.specs.Image.{Page, Image, page_at, image_size, image_state, image_in, written_at}
-use Rattle.nb_model.specs.Account.{Base}
 use Rattle.nb_model.specs.Owner.{delta_name, entry_for}
 use Rattle.nb_model.specs.Trail.{Trail}
 use Rattle.nb_model.proofs.TrailLaws.{left_itself}

@@ -1,6 +1,6 @@
 -- The page of an entry is written into the main file: what a stop leaves, and that the entry is equal in both files then.
-use Rattle.std.proofs.Common.{◌≡◌, ◌≢◌, inl, inr, ℕ, zero, suc, ◌+◌, ◌*◌, ◌<◌, ◌≤◌, List, [], ◌∷◌, ◌++◌, length, get_or, take, drop, refl, sym, ap, subst, ◌∙◌, arith}
-use Rattle.std.specs.Prelude.{false, nat_eq, Option, Some, None, max, Result, Ok}
+use Rattle.std.proofs.Common.{◌≡◌, ◌≢◌, inl, inr, ℕ, zero, suc, ◌+◌, ◌*◌, ◌<◌, ◌≤◌, List, [], ◌∷◌, length, get_or, take, drop, refl, sym, ap, subst, ◌∙◌, arith}
+use Rattle.std.specs.Prelude.{false, nat_eq, Some, None, Result, Ok}
 use Rattle.std.specs.List.{IsDistinct}
 use Rattle.std.proofs.lemmas.Bool.Decides.{eqb_tells}
 use Rattle.std.proofs.lemmas.List.{drop_at, length-take-le}
@@ -10,30 +10,26 @@ use Rattle.nb_fields.specs.Bytes.{is_zeros}
 use Rattle.nb_fields.specs.Table.{page_in, slot_place}
 use Rattle.nb_host.specs.Files.{File, Files, bytes_of, with_file, with_page as with_page_at}
 use Rattle.nb_host.specs.World.{World}
-use Rattle.nb_host.specs.Crash.{Leaves, LeavesAll}
-use Rattle.nb_change.proofs.MomentLaws.{left_before}
 use Rattle.nb_change.proofs.NameLaws.{with_file-same, with_file-other}
 use Rattle.nb_change.proofs.ChangesLaws.{rested, composed, all_before}
-use Rattle.nb_change.specs.Changes.{Changes}
 use Rattle.nb_delta.specs.Entries.{AreEntries}
 use Rattle.nb_delta.proofs.TellLemmas.{apart_at}
 use Rattle.nb_page.specs.Quiet.{Quiet}
-use Rattle.nb_model.specs.Image.{Page, Image, page_at, first_page, image_size, image_state, image_in, written_at}
-use Rattle.nb_model.specs.Account.{Base}
+use Rattle.nb_model.specs.Image.{Page, Image, page_at, image_size, image_state, image_in, written_at}
 use Rattle.nb_model.specs.Causes.{not_database}
 use Rattle.nb_model.specs.Sound.{HasNoZeros}
-use Rattle.nb_model.specs.Owner.{delta_name, entry_for, behind_entries, slot_page, main_page, owned_page}
+use Rattle.nb_model.specs.Owner.{delta_name, entry_for, slot_page, main_page, owned_page}
 use Rattle.nb_model.specs.Trail.{Trail, StandsIn, ShowsIn}
 use Rattle.nb_model.proofs.OwnerLaws.{named, main_here, other_page, written_length}
 use Rattle.nb_model.proofs.SoundLaws.{all_at}
 use Rattle.nb_model.proofs.TrailLaws.{left_itself}
-use Rattle.nb_base.specs.Open.{Held, OfFiles, Agrees, IsOpen, IsMerged, AreMerged}
+use Rattle.nb_base.specs.Open.{Held, OfFiles, IsOpen, IsMerged, AreMerged}
 use Rattle.nb_base.specs.Seen.{IsSeen, IsWrite}
 use Rattle.nb_base.specs.Takes.{Strikes}
 use Rattle.nb_base.proofs.MergeLaws.{page_in-main}
-use Rattle.nb_base.proofs.OwnedLaws.{Holds, holds, entry-first, entry-later, later, owned-entry, base-length, base-page, base-size, bytes-size, main-some, main-long}
+use Rattle.nb_base.proofs.OwnedLaws.{Holds, entry-first, entry-later, later, owned-entry, base-length, base-page, base-size, bytes-size, main-some, main-long}
 use Rattle.nb_base.proofs.StepLaws.{may, main-size}
-use Rattle.nb_base.proofs.StrokeLaws.{h0, main_state}
+use Rattle.nb_base.proofs.StrokeLaws.{h0}
 use Rattle.nb_base.proofs.WrittenLaws.{HasMain, main_put, written_same, laid_formed, laid_image}
 use Rattle.nb_base.proofs.WriteLaws.{delta_apart}
 

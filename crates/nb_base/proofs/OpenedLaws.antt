@@ -1,6 +1,6 @@
 -- Opening a database: its two files are those that were read, or the refusal is the one of their owner.
-use Rattle.std.proofs.Common.{◌≡◌, ◌≢◌, inl, inr, ⊎_elim, ℕ, zero, suc, ◌+◌, ◌*◌, ◌<◌, ◌≤◌, List, [], length, refl, sym, ap, subst, ◌∙◌, arith}
-use Rattle.std.specs.Prelude.{Bool, true, false, ◌==◌, Some, None, Result, Ok, Err, IsErr, IsErrAnd, max}
+use Rattle.std.proofs.Common.{◌≡◌, ◌≢◌, inl, inr, ℕ, zero, suc, ◌<◌, List, [], length, refl, sym, ap, subst, ◌∙◌, arith}
+use Rattle.std.specs.Prelude.{true, false, ◌==◌, Some, None, Result, Ok, Err, IsErr, IsErrAnd, max}
 use Rattle.std.proofs.lemmas.Bool.Decides.{eqb_tells}
 use Rattle.nb_fields.specs.Header.{state_of, size_of}
 use Rattle.nb_fields.specs.Table.{table_of}
@@ -13,17 +13,16 @@ use Rattle.nb_host.specs.declared.refusals.Refusal.{Refusal}
 use Rattle.nb_host.specs.declared.refusals.Refusal.TheVariants.{NoFile, BadDelta, Unfinished}
 use Rattle.nb_change.proofs.SettledLaws.{durable_is}
 use Rattle.nb_delta.specs.Known.{Known}
-use Rattle.nb_delta.specs.Reading.{NamesBroken}
 use Rattle.nb_delta.specs.Slots.{HasTable}
 use Rattle.nb_model.specs.Image.{Image, image_size, image_state, image_in}
 use Rattle.nb_model.specs.Account.{Base}
 use Rattle.nb_model.specs.Causes.{Cause, not_database}
-use Rattle.nb_model.specs.Owner.{delta_name, owned, behind_entries, diverted_base, owner_with, owner_in, owner}
+use Rattle.nb_model.specs.Owner.{delta_name, owned, behind_entries, owner_with, owner_in, owner}
 use Rattle.nb_model.specs.Trail.{ShowsIn, settled}
 use Rattle.nb_model.proofs.MainLaws.{laid, owner-none, owner-formed, owner-refused}
 use Rattle.nb_model.proofs.TrailLaws.{shows_settled}
 use Rattle.nb_base.specs.declared.attach.Start.{Start}
-use Rattle.nb_base.specs.Attach.{Tested, start_cause, main_cause, IsStart, AttachesFor}
+use Rattle.nb_base.specs.Attach.{Tested, main_cause, IsStart, AttachesFor}
 use Rattle.nb_base.specs.Open.{Held, Agrees, IsOpen}
 use Rattle.nb_base.specs.Beginnings.{IsAttached, Attaches}
 use Rattle.nb_base.proofs.AttachLaws.{start_broken, start_rest}

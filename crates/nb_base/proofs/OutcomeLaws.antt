@@ -1,21 +1,20 @@
 -- What two files stand for, and what they show, after a page of one of them was written.
-use Rattle.std.proofs.Common.{◌≡◌, ◌≢◌, ◌⊎◌, inl, inr, ⊎_elim, ℕ, ◌+◌, ◌*◌, ◌<◌, ◌≤◌, List, [], ◌∷◌, ◌++◌, length, take, drop, refl, sym, ap, subst, ◌∙◌, arith, length-append}
-use Rattle.std.specs.Prelude.{true, false, Option, Some, None, Result, Ok, max}
+use Rattle.std.proofs.Common.{◌≡◌, ◌≢◌, ◌⊎◌, inl, inr, ⊎_elim, ℕ, ◌*◌, ◌<◌, ◌≤◌, List, [], ◌∷◌, ◌++◌, length, refl, sym, ap, subst, ◌∙◌, arith, length-append}
+use Rattle.std.specs.Prelude.{false, Option, Some, None, Result, Ok}
 use Rattle.nb_fields.specs.Table.{page_in, slot_place, table_of}
 use Rattle.nb_host.specs.Files.{File, bytes_of, with_page as with_page_at}
 use Rattle.nb_host.specs.Crash.{PageLeft}
-use Rattle.nb_delta.specs.Slots.{HasTable, SlotStep, SlotPut, Keeps, Adds, AddStep, slot_page}
-use Rattle.nb_model.specs.Image.{Page, Image, first_page, image_size, image_state, with_page}
+use Rattle.nb_delta.specs.Slots.{HasTable, SlotStep, SlotPut, Adds, AddStep, slot_page}
+use Rattle.nb_model.specs.Image.{Page, Image, image_size, image_state, with_page}
 use Rattle.nb_model.specs.Account.{Base}
-use Rattle.nb_model.specs.Strokes.{Stroke, page, on_base, merged_page, noted}
+use Rattle.nb_model.specs.Strokes.{Stroke, page, on_base, merged_page}
 use Rattle.nb_model.specs.Owner.{entry_for, owned, owner}
 use Rattle.nb_model.specs.Trail.{Trail, after_stroke, is_synced, IsLeft, StandsOn}
 use Rattle.nb_model.proofs.TrailLaws.{left_itself, trail_base}
-use Rattle.nb_base.specs.Open.{Fits}
 use Rattle.nb_base.specs.Seen.{IsWrite}
-use Rattle.nb_base.proofs.OwnedLaws.{Holds, holds, shows, main-some, main-long, base-state, base-size, base-length, entry_shows, entry-front, entry-behind, entry_at}
-use Rattle.nb_base.proofs.LeftLaws.{merged_fits, stroke-image, stroke-frozen, stroke-stalled, stroke-other, noted-there, noted-new, later_size, later_state, later_length, later_front, state_left, size_left, put_left, stay_left}
-use Rattle.nb_base.proofs.StepLaws.{delta_moved, main-state, main-size, holds_main, left_main, hidden_main, holds_slots, holds_slot, none_left}
+use Rattle.nb_base.proofs.OwnedLaws.{Holds, holds, shows, main-some, main-long, base-state, base-size, entry_shows, entry-front, entry-behind}
+use Rattle.nb_base.proofs.LeftLaws.{stroke-image, stroke-frozen, stroke-stalled, noted-new, later_size, later_length, later_front, put_left, stay_left}
+use Rattle.nb_base.proofs.StepLaws.{main-state, main-size, holds_main, left_main, hidden_main, holds_slots, holds_slot, none_left}
 
 some_same : {j k : ℕ} → Some j ≡ Some k → j ≡ k
 some_same h = cc

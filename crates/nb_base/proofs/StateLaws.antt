@@ -1,22 +1,22 @@
 -- What the control strokes make of the two files of a database.
-use Rattle.std.proofs.Common.{◌≡◌, ◌≢◌, ◌⊎◌, inl, inr, ⊎_elim, ℕ, zero, suc, ◌+◌, ◌*◌, ◌<◌, ◌≤◌, List, [], ◌∷◌, length, take, replicate, refl, sym, ap, subst, ◌∙◌, arith}
-use Rattle.std.specs.Prelude.{true, Option, Some, None, Ok, max}
+use Rattle.std.proofs.Common.{◌≡◌, ℕ, ◌+◌, ◌≤◌, List, [], length, refl, sym, ap, subst, ◌∙◌, arith}
+use Rattle.std.specs.Prelude.{Option, Some, None}
 use Rattle.nb_fields.specs.Bytes.{part}
-use Rattle.nb_fields.specs.Header.{is_header, size_of, state_of, scn_of, guid_of}
+use Rattle.nb_fields.specs.Header.{size_of, state_of}
 use Rattle.nb_fields.proofs.PartLemmas.{length-part, part-take}
-use Rattle.nb_host.specs.Files.{File, Files, bytes_of}
+use Rattle.nb_host.specs.Files.{File, bytes_of}
 use Rattle.nb_delta.specs.Slots.{HasTable}
-use Rattle.nb_model.specs.Image.{Page, Image, page_at, first_page, image_size, image_state, image_scn, image_guid}
+use Rattle.nb_model.specs.Image.{Image, first_page, image_size, image_state, image_scn, image_guid}
 use Rattle.nb_model.specs.Account.{Ask, Base}
 use Rattle.nb_model.specs.Strokes.{controlled, with_control, begin, ends, finish, on_base}
-use Rattle.nb_model.specs.Owner.{behind_entries, owned}
+use Rattle.nb_model.specs.Owner.{owned}
 use Rattle.nb_model.proofs.HeaderLaws.{header-long, same-number}
 use Rattle.nb_model.proofs.MainLaws.{some_page}
 use Rattle.nb_base.specs.Control.{next_scn, next_guid, in_state, HasImage}
 use Rattle.nb_base.specs.Open.{Held, Agrees}
-use Rattle.nb_base.proofs.ControlLaws.{controlled-length, controlled-size, controlled-state, with_control-first, with_control-length, owned-control}
+use Rattle.nb_base.proofs.ControlLaws.{controlled-size, controlled-state, with_control-first, with_control-length, owned-control}
 use Rattle.nb_base.proofs.BlockLaws.{to_main}
-use Rattle.nb_base.proofs.OwnedLaws.{Holds, owned-alone, main-some, main-long, base-front, base-header, base-state, base-size, base-length}
+use Rattle.nb_base.proofs.OwnedLaws.{Holds, owned-alone, main-some, main-long, base-front, base-header, base-state, base-size}
 use Rattle.nb_base.proofs.WrittenLaws.{HasMain}
 
 -- another file with the same image

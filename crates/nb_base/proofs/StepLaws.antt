@@ -1,24 +1,20 @@
 -- One outcome and one step: what two files hold after a page of one of them was written.
-use Rattle.std.proofs.Common.{◌≡◌, ◌≢◌, ◌⊎◌, inl, inr, ⊎_elim, ℕ, zero, suc, ◌+◌, ◌*◌, ◌<◌, ◌≤◌, List, [], ◌∷◌, ◌++◌, length, take, drop, refl, sym, ap, subst, ◌∙◌, arith, length-append}
-use Rattle.std.specs.Prelude.{true, false, Option, Some, None, Ok}
-use Rattle.nb_fields.specs.Bytes.{is_zeros}
-use Rattle.nb_fields.specs.Header.{is_header, size_of}
+use Rattle.std.proofs.Common.{◌≡◌, ◌≢◌, ◌⊎◌, inl, inr, ⊎_elim, ℕ, ◌*◌, ◌<◌, ◌≤◌, List, length, take, refl, sym, ap, subst, ◌∙◌, arith}
+use Rattle.std.specs.Prelude.{Option, Some, None}
 use Rattle.nb_fields.specs.Table.{page_in, slot_place}
 use Rattle.nb_host.specs.Files.{File, bytes_of, with_page as with_page_at}
 use Rattle.nb_host.specs.Crash.{PageLeft}
-use Rattle.nb_delta.specs.Slots.{HasTable, SlotStep, SlotPut, Keeps, Adds, AddStep, slot_page}
+use Rattle.nb_delta.specs.Slots.{HasTable, slot_page}
 use Rattle.nb_model.specs.Image.{Page, Image, page_at, first_page, image_size, image_state, with_page, written_at}
 use Rattle.nb_model.specs.Account.{Base}
-use Rattle.nb_model.specs.Strokes.{Stroke, page, on_base, merged_page, noted}
-use Rattle.nb_model.specs.Owner.{entry_for, owned, owner}
-use Rattle.nb_model.specs.Trail.{Trail, after_stroke, is_synced, IsLeft, StandsOn}
+use Rattle.nb_model.specs.Strokes.{Stroke, page, on_base, merged_page}
+use Rattle.nb_model.specs.Owner.{entry_for, owned}
+use Rattle.nb_model.specs.Trail.{Trail, IsLeft}
 use Rattle.nb_model.proofs.HeaderLaws.{same-header, same-number}
-use Rattle.nb_model.proofs.TrailLaws.{left_itself, trail_base}
-use Rattle.nb_base.specs.Open.{Fits}
 use Rattle.nb_base.specs.Seen.{IsWrite}
 use Rattle.nb_base.proofs.WrittenLaws.{HasMain, MayWrite, main_put, main_written}
-use Rattle.nb_base.proofs.OwnedLaws.{Holds, holds, shows, HasEntries, IsFrozen, main-some, main-long, base-front, base-state, base-size, front_stays, main_shows, main_hidden, slots_stay, slot_shows, entry_shows, entry-front, entry-behind}
-use Rattle.nb_base.proofs.LeftLaws.{merged_fits, stroke-image, stroke-frozen, stroke-stalled, stroke-other, noted-there, noted-new, fits_left, state_left, size_left, put_is, put_left, stay_left}
+use Rattle.nb_base.proofs.OwnedLaws.{Holds, main-some, main-long, base-front, base-state, base-size, front_stays, main_shows, main_hidden, slots_stay, slot_shows, entry-front}
+use Rattle.nb_base.proofs.LeftLaws.{stroke-image, stroke-frozen, stroke-stalled, stroke-other, noted-there, fits_left, state_left, size_left, put_is}
 
 some_same : {j k : ℕ} → Some j ≡ Some k → j ≡ k
 some_same h = cc

@@ -1,31 +1,31 @@
 -- The control strokes: what a stop leaves at each moment, and what is open after.
-use Rattle.std.proofs.Common.{◌≡◌, ◌≢◌, ◌⊎◌, inl, inr, ⊎_elim, ℕ, ◌<◌, List, [], ◌∷◌, length, replicate, refl, sym, ap, subst, ◌∙◌, arith}
-use Rattle.std.specs.Prelude.{true, Option, Some, None, Ok}
+use Rattle.std.proofs.Common.{◌≡◌, ◌≢◌, inl, inr, ⊎_elim, ℕ, ◌<◌, List, [], ◌∷◌, length, refl, sym, ap, subst, ◌∙◌, arith}
+use Rattle.std.specs.Prelude.{true, Option, Some, Ok}
 use Rattle.nb_host.specs.Files.{File, Files}
 use Rattle.nb_host.specs.World.{World}
-use Rattle.nb_host.specs.Crash.{Leaves, LeavesAll, IsDurable, Untouched}
+use Rattle.nb_host.specs.Crash.{Leaves, IsDurable}
 use Rattle.nb_host.specs.Calls.{IsStill}
 use Rattle.nb_host.specs.Moments.{IsTimely, Passes}
-use Rattle.nb_change.specs.Changes.{Changes, Only, Other, Remade}
+use Rattle.nb_change.specs.Changes.{Changes, Only, Remade}
 use Rattle.nb_change.proofs.MomentLaws.{left_before}
-use Rattle.nb_change.proofs.ChangesLaws.{weaker_has, composed_within, all_before}
+use Rattle.nb_change.proofs.ChangesLaws.{weaker_has, composed_within}
 use Rattle.nb_change.proofs.CallLaws.{still_alone}
 use Rattle.nb_change.proofs.SettledLaws.{durable_is}
-use Rattle.nb_delta.specs.Slots.{HasTable, IsBlank}
-use Rattle.nb_model.specs.Image.{Image, image_size, image_state, image_scn, image_guid}
+use Rattle.nb_delta.specs.Slots.{HasTable}
+use Rattle.nb_model.specs.Image.{Image, image_size, image_state, image_scn}
 use Rattle.nb_model.specs.Account.{Ask, Base}
 use Rattle.nb_model.specs.Strokes.{Stroke, begin, ends, finish, on_base}
-use Rattle.nb_model.specs.Owner.{delta_name, owner}
-use Rattle.nb_model.specs.Trail.{Trail, settled, settles_at, after_stroke, StandsOn, StandsIn, ShowsIn}
+use Rattle.nb_model.specs.Owner.{delta_name}
+use Rattle.nb_model.specs.Trail.{Trail, settles_at, after_stroke, StandsOn, StandsIn}
 use Rattle.nb_model.proofs.TrailLaws.{shows_stands, shows_settled, settles_after, trail_base}
-use Rattle.nb_model.proofs.HeaderLaws.{header-room, same-number}
+use Rattle.nb_model.proofs.HeaderLaws.{same-number}
 use Rattle.nb_base.specs.Control.{in_state, HasRoom, HasImage, IsImageOf, ControlLeft}
 use Rattle.nb_base.specs.Open.{Held, OfFiles, Agrees, IsOpen}
 use Rattle.nb_base.specs.Takes.{Strikes}
 use Rattle.nb_base.proofs.BlockLaws.{to_main, of_main}
 use Rattle.nb_base.proofs.OpenedLaws.{holds_whatever}
-use Rattle.nb_base.proofs.OwnedLaws.{Holds, holds, shows, base-front, base-state, base-size, base-length}
-use Rattle.nb_base.proofs.StateLaws.{same_main, normal_image, agrees_by, in_state-state, in_state-size, in_state-length, kept_sixteen, begun_holds, ended_holds, finished_holds}
+use Rattle.nb_base.proofs.OwnedLaws.{Holds, holds, shows, base-front, base-state, base-size}
+use Rattle.nb_base.proofs.StateLaws.{same_main, normal_image, agrees_by, in_state-state, in_state-size, in_state-length, begun_holds}
 use Rattle.nb_base.proofs.WrittenLaws.{one_main}
 use Rattle.nb_base.proofs.WriteLaws.{main_apart, delta_apart}
 

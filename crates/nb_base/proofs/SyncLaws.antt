@@ -1,15 +1,15 @@
 -- What a stop leaves of two files that are kept for good.
-use Rattle.std.proofs.Common.{◌≡◌, ◌≢◌, inl, inr, ℕ, zero, suc, ◌<◌, List, [], refl, sym, ap, subst, ◌∙◌, arith}
-use Rattle.std.specs.Prelude.{true, false, Ok}
+use Rattle.std.proofs.Common.{◌≡◌, ◌≢◌, ℕ, zero, suc, List, refl, sym, ap, subst, ◌∙◌, arith}
+use Rattle.std.specs.Prelude.{Ok}
 use Rattle.nb_host.specs.Files.{File, Files, bytes_of}
 use Rattle.nb_host.specs.World.{World}
-use Rattle.nb_host.specs.Crash.{LeavesAll, IsDurable}
+use Rattle.nb_host.specs.Crash.{IsDurable}
 use Rattle.nb_host.specs.Calls.{IsStill}
 use Rattle.nb_change.proofs.SettledLaws.{durable_is}
-use Rattle.nb_model.specs.Image.{Image, image_size, image_state}
+use Rattle.nb_model.specs.Image.{image_size, image_state}
 use Rattle.nb_model.specs.Account.{Base}
 use Rattle.nb_model.specs.Owner.{delta_name, owned, owner}
-use Rattle.nb_model.specs.Trail.{Trail, settled, StandsOn, StandsIn, ShowsIn}
+use Rattle.nb_model.specs.Trail.{Trail, settled, ShowsIn}
 use Rattle.nb_model.proofs.TrailLaws.{shows_settled}
 use Rattle.nb_base.specs.Open.{Held, IsOpen}
 use Rattle.nb_base.proofs.OwnedLaws.{Holds, holds, shows, base-state, owned-alone}

@@ -1,21 +1,20 @@
 -- A page is written: what a stop leaves at each moment, and what is seen once the call has answered Ok.
-use Rattle.std.proofs.Common.{◌≡◌, ◌≢◌, ◌⊎◌, inl, inr, ⊎_elim, ℕ, zero, suc, ◌+◌, ◌*◌, ◌<◌, ◌≤◌, List, [], ◌∷◌, ◌++◌, length, refl, sym, ap, subst, ◌∙◌, arith, length-append}
-use Rattle.std.specs.Prelude.{Bool, true, false, IsTrue, Option, Some, None, Result, Ok, Err, IsErr, OnOk}
-use Rattle.nb_fields.specs.Table.{slot_place}
+use Rattle.std.proofs.Common.{◌≡◌, ◌≢◌, ◌⊎◌, inl, inr, ⊎_elim, ℕ, zero, suc, ◌*◌, ◌<◌, ◌≤◌, List, [], ◌∷◌, length, refl, sym, ap, subst, ◌∙◌, arith, length-append}
+use Rattle.std.specs.Prelude.{Bool, true, false, IsTrue, Some, None, Result, Ok, Err, IsErr, OnOk}
 use Rattle.nb_host.specs.Files.{File, Files, with_file, with_page as with_page_at}
 use Rattle.nb_host.specs.World.{World}
-use Rattle.nb_host.specs.Crash.{Leaves, LeavesAll, PageLeft, IsDurable, Untouched}
+use Rattle.nb_host.specs.Crash.{Leaves, IsDurable, Untouched}
 use Rattle.nb_host.specs.Calls.{WritesPage, IsStill}
 use Rattle.nb_host.specs.Moments.{IsTimely, Passes}
 use Rattle.nb_host.specs.Names.{delta_suffix}
 use Rattle.nb_change.specs.Changes.{Only, Changes, Moved, Reached}
 use Rattle.nb_change.proofs.MomentLaws.{left_before}
 use Rattle.nb_change.proofs.NameLaws.{with_file-same, with_file-other}
-use Rattle.nb_change.proofs.ChangesLaws.{all_before, begun, still_more, left_with, moved_on}
+use Rattle.nb_change.proofs.ChangesLaws.{all_before, begun, left_with, moved_on}
 use Rattle.nb_change.proofs.CallLaws.{page_more}
 use Rattle.nb_change.proofs.SettledLaws.{durable_is}
 use Rattle.nb_delta.specs.Slots.{HasTable, SlotStep, SlotPut, Adds, AddStep}
-use Rattle.nb_model.specs.Image.{Page, Image, image_size, image_state}
+use Rattle.nb_model.specs.Image.{Page, image_size, image_state}
 use Rattle.nb_model.specs.Account.{Base}
 use Rattle.nb_model.specs.Strokes.{Stroke, page}
 use Rattle.nb_model.specs.Owner.{delta_name, entry_for, owner}

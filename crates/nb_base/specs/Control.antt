@@ -3,7 +3,7 @@ use Rattle.std.specs.Prelude.{◌≡◌, ◌⊎◌, ℕ, zero, suc, ◌+◌, ◌
 use Rattle.nb_host.specs.Files.{File, Files}
 use Rattle.nb_host.specs.World.{World}
 use Rattle.nb_host.specs.Crash.{Leaves}
-use Rattle.nb_model.specs.Image.{Image, image_in, image_size, image_scn, image_guid}
+use Rattle.nb_model.specs.Image.{Image, image_in, image_scn, image_guid}
 use Rattle.nb_model.specs.Causes.{not_database}
 use Rattle.nb_model.specs.Strokes.{with_control}
 

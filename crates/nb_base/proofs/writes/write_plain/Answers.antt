@@ -3,7 +3,7 @@ use Rattle.nb_host.specs.World.{World}
 use Rattle.nb_fields.specs.Table.{slot_place}
 use Rattle.nb_delta.specs.Known.{Known}
 use Rattle.nb_model.specs.Owner.{entry_for}
-use Rattle.nb_base.specs.Open.{Held, AreMerged}
+use Rattle.nb_base.specs.Open.{AreMerged}
 use Rattle.nb_base.specs.Seen.{IsSeen}
 use Rattle.nb_base.proofs.MergedLaws.{plain_after}
 use Rattle.nb_base.proofs.PlaceLaws.{slot_answered, none_found}

@@ -1,8 +1,5 @@
-use Rattle.std.proofs.Common.{◌≡◌, ℕ, [], ◌∷◌, refl, sym, subst, ap, ◌∙◌}
-use Rattle.nb_model.specs.Strokes.{page}
+use Rattle.std.proofs.Common.{refl, sym, subst, ap, ◌∙◌}
 use Rattle.nb_base.specs.Open.{Held, IsOpen, AreMerged}
-use Rattle.nb_base.specs.Seen.{IsSeen}
-use Rattle.nb_base.specs.Takes.{Takes}
 use Rattle.nb_base.proofs.AgreeLaws.{open_seen, takes_named}
 use Rattle.nb_base.proofs.WriteLaws.{takes_passed, takes_done}
 use Rattle.nb_base.proofs.files.TwoFiles.put.Goals as goal

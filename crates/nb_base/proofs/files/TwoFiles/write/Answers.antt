@@ -1,4 +1,4 @@
-use Rattle.std.proofs.Common.{◌≡◌, ℕ, ◌+◌, sym, subst, ap, ◌∙◌}
+use Rattle.std.proofs.Common.{◌+◌, sym, subst, ap, ◌∙◌}
 use Rattle.std.specs.Prelude.{max, ◌||◌, nat_le}
 use Rattle.nb_model.specs.Strokes.{page}
 use Rattle.nb_model.specs.Trail.{after_stroke, is_kept_place}
