@@ -107,6 +107,7 @@ impl TwoFiles {
         requires raw { raw ≤ 65535 }
         requires name { length name.now ≤ 94 }
         ensures creates { IsTrue H.tells → Creates result (H.world host.old) (H.world host.new) name.now (fresh page_size raw) }
+        ensures page_size { IfOk result (λ files. files.page_size ≡ page_size) }
         ensures cause { CountsDevice result (H.faults host.old) (H.faults host.new) }
     {
         let mut page = vec![in alloc; 0; page_size as usize]?;

@@ -54,7 +54,8 @@ impl Model for TwoFiles {
 impl TwoFiles {
     /// How many pages the database has.
     pub fn count(&self) -> u32
-        ensures { result ≡ self.now.count }
+        ensures value { result ≡ self.now.count }
+        ensures most { result ≤ 1048576 }
     {
         self.count
     }
