@@ -143,8 +143,8 @@ enum Answer {
     Other,
 }
 
-fn answer_of(result: Result<u32, Fault>) -> Answer {
-    match result {
+fn answer_of(answer: Result<u32, Fault>) -> Answer {
+    match answer {
         Ok(scn) => Answer::Scn(scn),
         Err(Fault::Refused(Refusal::WrongState { found })) => Answer::State(found),
         Err(Fault::Refused(Refusal::ScnExhausted { scn })) => Answer::Exhausted(scn),
