@@ -129,7 +129,7 @@ fn stopped(alloc: Global, whole: &MemHost, name: &Name) -> Result<Option<u64>, F
 #[test]
 fn a_stop_leaves_a_database_on_the_way(rt: HostRuntime) -> Result<(), Fail> {
     let whole = made(rt.alloc())?;
-    assert_eq!(rt; stopped(rt.alloc(), &whole, &name_of()?)?, Some(50));
+    assert_eq!(rt; stopped(rt.alloc(), &whole, &name_of()?)?, Some(35));
     Ok(())
 }
 
@@ -246,11 +246,11 @@ fn hostile_files_are_refused(rt: HostRuntime) -> Result<(), Fail> {
     let mut host = changed(rt.alloc(), 22, &[1])?;
     let missing = Store::attach(rt.alloc(), &mut host, &name_of()?);
     assert!(rt; matches!(missing, Err(Fault::Refused(Refusal::NoFile { name: _ }))));
+    let taken = Store::create(rt.alloc(), &mut host, &name_of()?, 1024, 8);
+    assert!(rt; matches!(taken, Err(Fault::Refused(Refusal::FileExists { name: _ }))));
     host = changed(rt.alloc(), 22, &[3])?;
     let unfinished = Store::attach(rt.alloc(), &mut host, &name_of()?);
     assert!(rt; matches!(unfinished, Err(Fault::Refused(Refusal::Unfinished))));
-    let taken = Store::create(rt.alloc(), &mut host, &name_of()?, 1024, 8);
-    assert!(rt; matches!(taken, Err(Fault::Refused(Refusal::FileExists { name: _ }))));
     Ok(())
 }
 
