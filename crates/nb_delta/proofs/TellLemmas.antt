@@ -14,7 +14,7 @@ use Rattle.nb_delta.proofs.GroupLemmas.{is_misshapen, group_full, group_last, ne
 use Rattle.nb_delta.proofs.TableLemmas.{count_at, number_at, Holds, Spells, groups_read}
 
 -- an entry is none of those before it
-apart_at : (x : ℕ) (xs : List ℕ) (k : ℕ) → AllByRecursion (λ y. nat_eq x y ≡ false) xs → k < length xs → nat_eq (get_or xs k 0) x ≡ false
+pub apart_at : (x : ℕ) (xs : List ℕ) (k : ℕ) → AllByRecursion (λ y. nat_eq x y ≡ false) xs → k < length xs → nat_eq (get_or xs k 0) x ≡ false
 apart_at x [] k are inside = absurd (omega arith)
 apart_at x (y ∷ ys) zero are inside = ne_eqb y x (λ e. eqb-false x y are.0 (sym e))
 apart_at x (y ∷ ys) (suc k) are inside = apart_at x ys k are.1 (omega arith)

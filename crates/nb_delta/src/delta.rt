@@ -6,7 +6,7 @@ ghost use Rattle.nb_host.specs.Causes.{CountsFault};
 ghost use Rattle.nb_fields.specs.Places.{is_page_size, slots_in};
 ghost use Rattle.nb_fields.specs.Table.{slot_place};
 ghost use Rattle.nb_page.specs.Quiet.{Quiet};
-ghost use Rattle.nb_delta.specs.Entries.{place_of};
+ghost use Rattle.nb_delta.specs.Entries.{place_of, AreEntries};
 ghost use Rattle.nb_change.specs.Changes.{Only, Changes, Moved, Remade};
 ghost use Rattle.nb_change.specs.Counts.{CountsDevice};
 ghost use Rattle.nb_delta.specs.Causes.{IsNoRefusal};
@@ -118,6 +118,7 @@ impl Delta {
         requires { k < length self.old.entries }
         ensures page { result ≡ Ok (slice_index self.old.entries k) }
         ensures below { IfOk result (λ page. page < 1048576) }
+        ensures apart { AreEntries self.old.entries }
         ensures same { self.new ≡ self.old }
         ensures no_call { _host.new ≡ _host.old }
     {
@@ -204,6 +205,7 @@ impl Delta {
             → OnOk result (into.new ≡ slot_page self.old.page_size ((H.world host.old).files self.old.name) k) }
         ensures quiet { Quiet (H.world host.old) (H.world host.new) }
         ensures reads { IsTrue H.tells → OnOk result ((H.world host.new).reads ≡ (H.world host.old).reads + 1) }
+        ensures most_reads { IsTrue H.tells → (H.world host.new).reads ≤ (H.world host.old).reads + 1 }
         ensures cause { CountsFault result (H.faults host.old) (H.faults host.new) }
     {
         into.fill(0);

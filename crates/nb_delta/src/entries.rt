@@ -51,6 +51,7 @@ impl Entries {
         requires { place < length self.now }
         ensures value { result ≡ slice_index self.now place }
         ensures below { result < 1048576 }
+        ensures apart { AreEntries self.now }
     {
         self.pages[place as usize]
     }

@@ -1,0 +1,83 @@
+-- What creating a database answers, and what it leaves behind a test that changed nothing.
+use Rattle.std.proofs.Common.{◌≡◌, ◌≤◌, inr, inl, ⊎_elim, ℕ, List, [], sym, ◌∙◌, ap, subst, arith}
+use Rattle.std.specs.Prelude.{Bool, IsTrue, true, false, Result, Ok, Err}
+use Rattle.std.specs.Result.{IsErrAnd}
+use Rattle.std.proofs.lemmas.Result.{err_from_is_err_and}
+use Rattle.nb_fields.specs.Places.{is_page_size}
+use Rattle.nb_fields.specs.Fresh.{fresh}
+use Rattle.nb_host.specs.World.{World}
+use Rattle.nb_host.specs.Moments.{IsTimely}
+use Rattle.nb_host.specs.declared.faults.Fault.{Fault}
+use Rattle.nb_host.specs.declared.faults.Fault.TheVariants.{Device}
+use Rattle.nb_change.specs.Changes.{Changes, Only}
+use Rattle.nb_change.specs.Gave.{GaveNothing}
+use Rattle.nb_change.proofs.MomentLaws.{left_before}
+use Rattle.nb_change.proofs.ChangesLaws.{begun, rested, composed}
+use Rattle.nb_page.specs.Free.{is_free_name}
+use Rattle.nb_page.specs.Quiet.{Quiet}
+use Rattle.nb_model.specs.Image.{Image}
+use Rattle.nb_model.specs.Account.{base_of}
+use Rattle.nb_model.specs.Owner.{delta_name}
+use Rattle.nb_model.proofs.FreshImageLaws.{fresh_main, fresh_size, fresh_state}
+use Rattle.nb_model.proofs.MainLaws.{main_facts}
+use Rattle.nb_model.proofs.TrailLaws.{shows_settled}
+use Rattle.nb_base.specs.Open.{Held}
+use Rattle.nb_base.specs.Beginnings.{CreateLeft, CreatesFile, Creates, IsSettled}
+
+-- a test that changed nothing leaves what stood before
+pub quiet_left : (old new : World) (name : List ℕ) (image : Image) → Quiet old new → Changes old new (Only name) (CreateLeft old name image)
+quiet_left old new name image quiet = rested old new (Only name) _ quiet.still quiet.said quiet.moments (λ files left. inl (left name))
+
+-- and what comes behind it leaves what it would have left at once
+pub quiet_then : (old mid new : World) (name : List ℕ) (image : Image) → Quiet old mid → Changes mid new (Only name) (CreateLeft mid name image) → Changes old new (Only name) (CreateLeft old name image)
+quiet_then old mid new name image quiet so_far =
+    composed old mid new (Only name) _ _ _ (quiet_left old mid name image quiet) so_far (λ files left. left)
+    (λ files. ⊎_elim (λ was. inl (left_before old mid _ quiet.still.left name (files name) tt was)) inr)
+
+-- before any call
+pub none_left : (old : World) (name : List ℕ) (image : Image) → IsTimely old → Changes old old (Only name) (CreateLeft old name image)
+none_left old name image timely = begun old (Only name) _ timely (λ files left. inl (left name))
+
+-- a name that is free isn't taken
+pub not_taken : (old new : World) (name : List ℕ) (free : Bool) → free ≡ true → free ≡ is_free_name old.files name → is_free_name old.files name ≡ false → Quiet old new
+not_taken old new name free told is taken = absurd (true_false (sym told ∙ is ∙ taken))
+  where
+    true_false : true ≡ false → ⊥
+    true_false h = cc
+
+-- the device failed
+pub failed : (result : Result ℕ Fault) (old new : World) (name : List ℕ) (image : Image) → IsErrAnd result (λ fault. fault ≡ Device) → Changes old new (Only name) (CreateLeft old name image)
+    → (is_free_name old.files name ≡ false → Quiet old new) → CreatesFile result old new name image
+failed result old new name image gives so_far taken =
+    let error = err_from_is_err_and {Q = λ (fault : Fault). fault ≡ Device} result gives in
+    subst (λ (r : Result ℕ Fault). CreatesFile r old new name image) (sym (error.1 ∙ ap Err error.2)) (record { answer = tt; left = so_far; taken = taken })
+
+-- what is held of a new database agrees with it
+pub created : (size raw : ℕ) → IsTrue (is_page_size size) → raw ≤ 65535 → (long : ℕ) → long ≡ size → (old new : World) (name : List ℕ) (held : Held) → held.name ≡ name → held.page_size ≡ size → held.state ≡ 0 → held.entries ≡ []
+    → CreatesFile (Ok held.count) old new name (fresh long raw) → GaveNothing old new → Creates (Ok held) old new name (fresh size raw)
+created size raw is few long same old new name held named sized normal none file gave =
+    let image : Image = fresh size raw in
+    let makes : CreatesFile (Ok held.count) old new name image = subst (λ (n : ℕ). CreatesFile (Ok held.count) old new name (fresh n raw)) same file in
+    let ready : IsSettled new held.name (base_of image) = subst (λ (n : List ℕ). IsSettled new n (base_of image)) (sym named) makes.answer.2 in
+    record {
+      answer = (
+        makes.answer.0,
+        named,
+        record {
+          left = λ files left. shows_settled held.name (base_of image) (files held.name) (files (delta_name held.name)) (ready.left files left);
+          shows = ready.shows;
+          agrees = record {
+            header = (main_facts image _ (fresh_main size raw is few)).header;
+            page_size = sized ∙ sym (fresh_size size raw is);
+            state = normal ∙ sym (fresh_state size raw);
+            opened = omega (arith, normal);
+            count = makes.answer.1;
+            main_count = λ stalled. absurd (omega (arith, normal, stalled));
+            entries = none;
+          };
+        },
+      );
+      left = makes.left;
+      gave = gave;
+      taken = makes.taken;
+    }

@@ -1,0 +1,295 @@
+-- What a stop may leave goes on by a page write: by itself, and where the write is lost.
+use Rattle.std.proofs.Common.{◌≡◌, ◌≢◌, ◌⊎◌, inl, inr, ⊎_elim, ℕ, zero, suc, ◌+◌, ◌<◌, ◌≤◌, List, [], ◌∷◌, ◌++◌, length, take, drop, refl, sym, ap, subst, ◌∙◌, arith, append_assoc, length-append}
+use Rattle.std.specs.Prelude.{Bool, true, false, ◌||◌, nat_eq, nat_le, Option, Some, None, max}
+use Rattle.std.specs.List.{list_any}
+use Rattle.std.proofs.lemmas.Bool.{true≢false}
+use Rattle.std.proofs.lemmas.Bool.Decides.{eqb_tells, leb_tells}
+use Rattle.std.proofs.lemmas.List.{take-append-drop, append-nil}
+use Rattle.std.proofs.lemmas.List.Elements.{Contains-append_left}
+use Rattle.nb_fields.specs.Header.{state_of, size_of}
+use Rattle.nb_model.specs.Image.{Page, Image, page_at, first_page, image_size, image_state, is_forced, with_page}
+use Rattle.nb_model.specs.Account.{Base}
+use Rattle.nb_model.specs.Strokes.{Stroke, page, on_base, merged_page, noted}
+use Rattle.nb_model.specs.Owner.{entry_for}
+use Rattle.nb_model.specs.Trail.{Trail, images_of, is_kept_place, is_synced, settles_at, after_stroke, HasPage, IsMixture, IsLeft}
+use Rattle.nb_model.proofs.HeaderLaws.{same-number}
+use Rattle.nb_model.proofs.SoundLaws.{with_page_length}
+use Rattle.nb_model.proofs.StrokeLaws.{with_page_same, with_page_other}
+use Rattle.nb_model.proofs.TrailLaws.{last_there, left_itself, trail_base, waits_after}
+use Rattle.nb_base.specs.Open.{Fits}
+use Rattle.nb_base.proofs.OwnedLaws.{entry-front}
+
+-- a page that fits is written as it is
+pub merged_fits : (p : ℕ) (bytes : Page) (image : Image) → (p ≡ 0 → take 64 bytes ≡ take 64 (first_page image)) → merged_page p bytes image ≡ bytes
+unfolding merged_page
+merged_fits zero bytes image front = ap (λ (x : Page). x ++ drop 64 bytes) (sym (front refl)) ∙ take-append-drop 64 bytes
+merged_fits (suc p) bytes image front = refl
+
+-- A page stroke.
+module _ (b : Base) (p : ℕ) (bytes : Page) where
+  pub stroke-image : (on_base (page p bytes) b).image ≡ with_page p (merged_page p bytes b.image) b.image
+  unfolding on_base
+  stroke-image = refl
+
+  pub stroke-frozen : (on_base (page p bytes) b).frozen ≡ b.frozen
+  unfolding on_base
+  stroke-frozen = refl
+
+  pub stroke-stalled : image_state b.image ≡ 1 → (on_base (page p bytes) b).diverted ≡ noted p b.diverted
+  unfolding on_base
+  stroke-stalled is = elim (eqb_tells (image_state b.image) 1) [
+    | inl w ↦ ap (λ (t : Bool). elim t as (λ z. List ℕ) [ true ↦ noted p b.diverted | false ↦ b.diverted ]) w.0
+    | inr w ↦ absurd (w.1 is)
+  ]
+
+  pub stroke-other : image_state b.image ≢ 1 → (on_base (page p bytes) b).diverted ≡ b.diverted
+  unfolding on_base
+  stroke-other ne = elim (eqb_tells (image_state b.image) 1) [
+    | inl w ↦ absurd (ne w.1)
+    | inr w ↦ ap (λ (t : Bool). elim t as (λ z. List ℕ) [ true ↦ noted p b.diverted | false ↦ b.diverted ]) w.0
+  ]
+
+-- Entries that are noted.
+some_none : {k : ℕ} → Some k ≡ None → ⊥
+some_none h = cc
+
+entry-any : (p : ℕ) (table : List ℕ) (k : ℕ) → entry_for p table ≡ Some k → list_any (nat_eq p) table ≡ true
+unfolding entry_for
+entry-any p [] k e = absurd (some_none (sym e))
+entry-any p (q ∷ qs) k e = elim (eqb_tells p q) [
+  | inl w ↦ ap (λ (t : Bool). t || list_any (nat_eq p) qs) w.0
+  | inr w ↦ ap (λ (t : Bool). t || list_any (nat_eq p) qs) w.0 ∙ by (entry-any p qs) (entry_for p qs) refl (sym (ap (λ (t : Bool). elim t as (λ z. Option ℕ) [ true ↦ Some 0 | false ↦ elim (entry_for p qs) [ None ↦ None | Some i ↦ Some (suc i) ] ]) w.0) ∙ e)
+]
+  where
+    by : ((i : ℕ) → entry_for p qs ≡ Some i → list_any (nat_eq p) qs ≡ true) → (x : Option ℕ) → entry_for p qs ≡ x → elim (entry_for p qs) as (λ z. Option ℕ) [ None ↦ None | Some i ↦ Some (suc i) ] ≡ Some k → list_any (nat_eq p) qs ≡ true
+    by so_far None is h = absurd (some_none (sym h ∙ ap (λ (y : Option ℕ). elim y as (λ z. Option ℕ) [ None ↦ None | Some i ↦ Some (suc i) ]) is))
+    by so_far (Some i) is h = so_far i is
+
+none-any : (p : ℕ) (table : List ℕ) → entry_for p table ≡ None → list_any (nat_eq p) table ≡ false
+unfolding entry_for
+none-any p [] e = refl
+none-any p (q ∷ qs) e = elim (eqb_tells p q) [
+  | inl w ↦ absurd (some_none (sym (ap (λ (t : Bool). elim t as (λ z. Option ℕ) [ true ↦ Some 0 | false ↦ elim (entry_for p qs) [ None ↦ None | Some i ↦ Some (suc i) ] ]) w.0) ∙ e))
+  | inr w ↦ ap (λ (t : Bool). t || list_any (nat_eq p) qs) w.0 ∙ none-any p qs (by (entry_for p qs) refl (sym (ap (λ (t : Bool). elim t as (λ z. Option ℕ) [ true ↦ Some 0 | false ↦ elim (entry_for p qs) [ None ↦ None | Some i ↦ Some (suc i) ] ]) w.0) ∙ e))
+]
+  where
+    by : (x : Option ℕ) → entry_for p qs ≡ x → elim (entry_for p qs) as (λ z. Option ℕ) [ None ↦ None | Some i ↦ Some (suc i) ] ≡ None → entry_for p qs ≡ None
+    by None is h = is
+    by (Some i) is h = absurd (some_none (sym (ap (λ (y : Option ℕ). elim y as (λ z. Option ℕ) [ None ↦ None | Some i ↦ Some (suc i) ]) is) ∙ h))
+
+pub noted-there : (p : ℕ) (table : List ℕ) (k : ℕ) → entry_for p table ≡ Some k → noted p table ≡ table
+unfolding noted
+noted-there p table k e = ap (λ (t : Bool). elim t as (λ z. List ℕ) [ true ↦ table | false ↦ table ++ p ∷ [] ]) (entry-any p table k e)
+
+pub noted-new : (p : ℕ) (table : List ℕ) → entry_for p table ≡ None → noted p table ≡ table ++ p ∷ []
+unfolding noted
+noted-new p table e = ap (λ (t : Bool). elim t as (λ z. List ℕ) [ true ↦ table | false ↦ table ++ p ∷ [] ]) (none-any p table e)
+
+noted-longer : (p : ℕ) (table : List ℕ) → (more : List ℕ) × (noted p table ≡ table ++ more)
+unfolding noted
+noted-longer p table = by (list_any (nat_eq p) table)
+  where
+    by : (t : Bool) → (more : List ℕ) × (elim t as (λ z. List ℕ) [ true ↦ table | false ↦ table ++ p ∷ [] ] ≡ table ++ more)
+    by true = ([], sym (append-nil table))
+    by false = (p ∷ [], refl)
+
+-- A page is put into an image and into a mixture of images.
+module _ (images : List Image) (now image : Image) (p : ℕ) (bytes : Page) (low : p ≤ length now) (front : p ≡ 0 → take 64 bytes ≡ take 64 (first_page now)) (mixed : IsMixture images now image) where
+  put_front : take 64 (first_page (with_page p bytes now)) ≡ take 64 (first_page now)
+  put_front = elim (eqb_tells p 0) [
+    | inl w ↦ ap (λ (n : ℕ). take 64 (first_page (with_page n bytes now))) w.1 ∙ ap (take 64) (with_page_same 0 bytes now (omega arith)) ∙ front w.1
+    | inr w ↦ ap (take 64) (with_page_other p 0 bytes now low (λ (e : 0 ≡ p). w.1 (sym e)))
+  ]
+
+  put_size : image_size (with_page p bytes now) ≡ image_size now
+  put_size = same-number (first_page (with_page p bytes now)) (first_page now) put_front 24 4 (omega arith)
+
+  low_mixed : p ≤ length image
+  low_mixed = omega (arith, low, mixed.long)
+
+  more : (q : ℕ) (bytes_ : Page) → HasPage images q bytes_ → HasPage (images ++ with_page p bytes now ∷ []) q bytes_
+  more q bytes_ has = record { image = has.image; there = Contains-append_left images (with_page p bytes now ∷ []) has.image has.there; below = has.below; same = has.same }
+
+  here : (q : ℕ) → q ≡ p → page_at (with_page p bytes image) q ≡ page_at (with_page p bytes now) q
+  here q e = ap (page_at (with_page p bytes image)) e ∙ with_page_same p bytes image low_mixed ∙ sym (with_page_same p bytes now low) ∙ sym (ap (page_at (with_page p bytes now)) e)
+
+  -- the write may be kept ..
+  pub mixture_put : IsMixture (images ++ with_page p bytes now ∷ []) (with_page p bytes now) (with_page p bytes image)
+  mixture_put = record {
+    long = with_page_length p bytes image low_mixed ∙ ap (λ (n : ℕ). max n (p + 1)) mixed.long ∙ sym (with_page_length p bytes now low);
+    kept = λ q is. elim (eqb_tells q p) [
+      | inl w ↦ here q w.1
+      | inr w ↦ with_page_other p q bytes image low_mixed w.1 ∙ mixed.kept q (ap (λ (n : ℕ). is_kept_place n q) (sym put_size) ∙ is) ∙ sym (with_page_other p q bytes now low w.1)
+    ];
+    each = λ q below. elim (eqb_tells q p) [
+      | inl w ↦ record { image = with_page p bytes now; there = last_there images (with_page p bytes now); below = omega (arith, w.1, with_page_length p bytes now low); same = here q w.1 }
+      | inr w ↦ subst (HasPage (images ++ with_page p bytes now ∷ []) q) (sym (with_page_other p q bytes image low_mixed w.1))
+          (more q (page_at image q) (mixed.each q (omega (arith, below, w.1, low_mixed, with_page_length p bytes image low_mixed))))
+    ];
+  }
+
+  -- .. or lost, where it changes neither the length nor a page that never waits
+  pub mixture_stays : p < length now → is_kept_place (image_size now) p ≡ false → IsMixture (images ++ with_page p bytes now ∷ []) (with_page p bytes now) image
+  mixture_stays below plain = record {
+    long = omega (arith, mixed.long, with_page_length p bytes now low, below);
+    kept = λ q is. elim (eqb_tells q p) [
+      | inl w ↦ absurd (true≢false (sym (ap (λ (n : ℕ). is_kept_place n q) (sym put_size) ∙ is) ∙ ap (λ (n : ℕ). is_kept_place (image_size now) n) w.1 ∙ plain))
+      | inr w ↦ mixed.kept q (ap (λ (n : ℕ). is_kept_place n q) (sym put_size) ∙ is) ∙ sym (with_page_other p q bytes now low w.1)
+    ];
+    each = λ q inside. more q (page_at image q) (mixed.each q inside);
+  }
+
+-- A stroke that settles has nothing waiting before it, and one that isn't synced doesn't.
+settled_none : (images : List Image) (x : Bool) → elim (elim images as (λ z. Bool) [ [] ↦ true | image ∷ rest ↦ false ]) as (λ z. Bool) [ true ↦ x | false ↦ false ] ≡ true → images ≡ []
+settled_none [] x e = refl
+settled_none (i ∷ is) x e = absurd (true≢false (sym e))
+
+waiting_false : (images : List Image) (x : Bool) → x ≡ false → elim (elim images as (λ z. Bool) [ [] ↦ true | image ∷ rest ↦ false ]) as (λ z. Bool) [ true ↦ x | false ↦ false ] ≡ false
+waiting_false [] x e = e
+waiting_false (i ∷ is) x e = refl
+
+pub settles_none : (t : Trail) (p : ℕ) (bytes : Page) → settles_at t (page p bytes) ≡ true → t.earlier ≡ []
+unfolding settles_at
+settles_none t p bytes e = settled_none t.earlier (is_synced t.base.image p) e
+
+waits_none : (t : Trail) (p : ℕ) (bytes : Page) → is_synced t.base.image p ≡ false → settles_at t (page p bytes) ≡ false
+unfolding settles_at
+waits_none t p bytes e = waiting_false t.earlier (is_synced t.base.image p) e
+
+-- a write that isn't synced is of a page below the length that may wait
+may_wait : (a b c : Bool) → (a || b || c) ≡ false → (b ≡ false) × (c ≡ false)
+may_wait true b c e = absurd (true≢false e)
+may_wait false true c e = absurd (true≢false e)
+may_wait false false c e = (refl, e)
+
+some_image : (xs : List Image) (x : Image) → xs ++ x ∷ [] ≡ [] → ⊥
+some_image xs x e = absurd (omega (arith, ap length e, length-append xs (x ∷ [])))
+
+inside_length : (n p : ℕ) → nat_le n p ≡ false → p < n
+inside_length n p e = elim (leb_tells n p) [ inl w ↦ absurd (true≢false (sym w.0 ∙ e)) | inr w ↦ w.1 ]
+
+-- One page stroke on what was seen.
+module _ (t : Trail) (p : ℕ) (bytes : Page) (fits : Fits p bytes t.base.image) where
+  abbrev now : Image
+  now = t.base.image
+
+  abbrev s : Stroke
+  s = page p bytes
+
+  abbrev later : Trail
+  later = after_stroke s t
+
+  abbrev new : Image
+  new = with_page p bytes now
+
+  new_is : (after_stroke s t).base.image ≡ with_page p bytes now
+  new_is = ap (λ (b : Base). b.image) (trail_base s t) ∙ stroke-image t.base p bytes ∙ ap (λ (x : Page). with_page p x now) (merged_fits p bytes now fits.front)
+
+  -- page 0 keeps its first 64 bytes
+  new_front : take 64 (first_page (with_page p bytes now)) ≡ take 64 (first_page now)
+  new_front = elim (eqb_tells p 0) [
+    | inl w ↦ ap (λ (n : ℕ). take 64 (first_page (with_page n bytes now))) w.1 ∙ ap (take 64) (with_page_same 0 bytes now (omega arith)) ∙ fits.front w.1
+    | inr w ↦ ap (take 64) (with_page_other p 0 bytes now fits.low (λ (e : 0 ≡ p). w.1 (sym e)))
+  ]
+
+  pub later_size : image_size (after_stroke s t).base.image ≡ image_size now
+  later_size = ap image_size new_is ∙ same-number (first_page new) (first_page now) new_front 24 4 (omega arith)
+
+  pub later_state : image_state (after_stroke s t).base.image ≡ image_state now
+  later_state = ap image_state new_is ∙ same-number (first_page new) (first_page now) new_front 22 2 (omega arith)
+
+  pub later_length : length (after_stroke s t).base.image ≡ max (length now) (p + 1)
+  later_length = ap length new_is ∙ with_page_length p bytes now fits.low
+
+  pub later_front : take 64 (first_page (after_stroke s t).base.image) ≡ take 64 (first_page now)
+  later_front = ap (λ (x : Image). take 64 (first_page x)) new_is ∙ new_front
+
+  pub later_frozen : (after_stroke s t).base.frozen ≡ t.base.frozen
+  later_frozen = ap (λ (b : Base). b.frozen) (trail_base s t) ∙ stroke-frozen t.base p bytes
+
+  -- The outcome has that page too. In the stalled state its entry is there, or no entry is missing.
+  module _ (b : Base) (left : IsLeft t b) where
+    abbrev first_same : first_page b.image ≡ first_page now
+    first_same = left.mixed.kept 0 refl
+
+    pub fits_left : Fits p bytes b.image
+    fits_left = record { low = omega (arith, fits.low, left.mixed.long); front = λ e. fits.front e ∙ ap (take 64) (sym (left.mixed.kept 0 refl)) }
+
+    pub state_left : image_state b.image ≡ image_state now
+    state_left = ap state_of (left.mixed.kept 0 refl)
+
+    pub size_left : image_size b.image ≡ image_size now
+    size_left = ap size_of (left.mixed.kept 0 refl)
+
+    -- the image of the outcome's stroke
+    pub put_is : (on_base s b).image ≡ with_page p bytes b.image
+    put_is = stroke-image b p bytes ∙ ap (λ (x : Page). with_page p x b.image) (merged_fits p bytes b.image fits_left.front)
+
+    base_is : (on_base s t.base).image ≡ with_page p bytes now
+    base_is = stroke-image t.base p bytes ∙ ap (λ (x : Page). with_page p x now) (merged_fits p bytes now fits.front)
+
+    abbrev Keeps : Type 0
+    Keeps = image_state now ≡ 1 → ((k : ℕ) × (entry_for p b.diverted ≡ Some k)) ⊎ (b.diverted ≡ t.base.diverted)
+
+    -- its entries are the first ones
+    put_diverted : Keeps → (rest : List ℕ) × ((on_base s t.base).diverted ≡ (on_base s b).diverted ++ rest)
+    put_diverted keeps = elim (eqb_tells (image_state now) 1) [
+      | inl w ↦
+          let of_t : (on_base s t.base).diverted ≡ noted p t.base.diverted = stroke-stalled t.base p bytes w.1 in
+          let of_b : (on_base s b).diverted ≡ noted p b.diverted = stroke-stalled b p bytes (state_left ∙ w.1) in
+          ⊎_elim
+          (λ (has : (k : ℕ) × (entry_for p b.diverted ≡ Some k)).
+          let there : entry_for p t.base.diverted ≡ Some has.0 = ap (entry_for p) left.diverted.1 ∙ entry-front p b.diverted left.diverted.0 has.0 has.1 in
+          (left.diverted.0, of_t ∙ noted-there p t.base.diverted has.0 there ∙ left.diverted.1 ∙ ap (λ (x : List ℕ). x ++ left.diverted.0) (sym (of_b ∙ noted-there p b.diverted has.0 has.1))))
+          (λ (same : b.diverted ≡ t.base.diverted). ([], of_t ∙ ap (noted p) (sym same) ∙ sym of_b ∙ sym (append-nil (on_base s b).diverted)))
+          (keeps w.1)
+      | inr w ↦
+          let of_t : (on_base s t.base).diverted ≡ t.base.diverted = stroke-other t.base p bytes w.1 in
+          let of_b : (on_base s b).diverted ≡ b.diverted = stroke-other b p bytes (λ e. w.1 (sym state_left ∙ e)) in
+          (left.diverted.0, of_t ∙ left.diverted.1 ∙ ap (λ (x : List ℕ). x ++ left.diverted.0) (sym of_b))
+    ]
+
+    pub put_left : Keeps → IsLeft (after_stroke s t) (on_base s b)
+    put_left keeps = by (settles_at t s) refl
+      where
+        by : (u : Bool) → settles_at t s ≡ u → IsLeft (after_stroke s t) (on_base s b)
+        by true is =
+            let same : later.base ≡ on_base s b = trail_base s t ∙ ap (on_base s) (sym (left.whole (settles_none t p bytes is))) in
+            subst (λ (x : Base). IsLeft later x) same (left_itself later)
+        by false is =
+            let mixed : IsMixture (images_of t ++ new ∷ []) new (with_page p bytes b.image) = mixture_put (images_of t) now b.image p bytes fits.low fits.front left.mixed in
+            let mixed_ : IsMixture (images_of t ++ (on_base s t.base).image ∷ []) (on_base s t.base).image (on_base s b).image =
+            subst (λ (x : Image). IsMixture (images_of t ++ (on_base s t.base).image ∷ []) (on_base s t.base).image x) (sym put_is)
+            (subst (λ (x : Image). IsMixture (images_of t ++ x ∷ []) x (with_page p bytes b.image)) (sym base_is) mixed) in
+            subst (λ (x : Trail). IsLeft x (on_base s b)) (sym (waits_after s t is)) (record {
+              mixed = mixed_;
+              frozen = stroke-frozen b p bytes ∙ left.frozen ∙ sym (stroke-frozen t.base p bytes);
+              diverted = put_diverted keeps;
+              merging = λ m.
+                  let merges : image_state now ≡ 2 = sym later_state ∙ ap (λ (x : Base). image_state x.image) (trail_base s t) ∙ m in
+                  stroke-other b p bytes (λ e. absurd (omega (arith, e, merges, state_left))) ∙ left.merging merges ∙ sym (stroke-other t.base p bytes (λ e. absurd (omega (arith, e, merges))));
+              whole = λ none. absurd (some_image t.earlier now none);
+            })
+
+    -- The outcome lost it, where it wasn't synced.
+    pub stay_left : is_synced now p ≡ false → IsLeft (after_stroke s t) b
+    stay_left waits =
+        let parts : (is_kept_place (image_size now) p ≡ false) × (nat_le (length now) p ≡ false) = may_wait (is_forced now) (is_kept_place (image_size now) p) (nat_le (length now) p) waits in
+        let mixed : IsMixture (images_of t ++ new ∷ []) new b.image = mixture_stays (images_of t) now b.image p bytes fits.low fits.front left.mixed (inside_length (length now) p parts.1) parts.0 in
+        subst (λ (x : Trail). IsLeft x b) (sym (waits_after s t (waits_none t p bytes waits))) (record {
+          mixed = subst (λ (x : Image). IsMixture (images_of t ++ x ∷ []) x b.image) (sym base_is) mixed;
+          frozen = left.frozen ∙ sym (stroke-frozen t.base p bytes);
+          diverted = stays_diverted;
+          merging = λ m.
+              let merges : image_state now ≡ 2 = sym later_state ∙ ap (λ (x : Base). image_state x.image) (trail_base s t) ∙ m in
+              left.merging merges ∙ sym (stroke-other t.base p bytes (λ e. absurd (omega (arith, e, merges))));
+          whole = λ none. absurd (some_image t.earlier now none);
+        })
+      where
+        stays_diverted : (rest : List ℕ) × ((on_base s t.base).diverted ≡ b.diverted ++ rest)
+        stays_diverted = elim (eqb_tells (image_state now) 1) [
+          | inl w ↦
+              let more_ : (more : List ℕ) × (noted p t.base.diverted ≡ t.base.diverted ++ more) = noted-longer p t.base.diverted in
+              (left.diverted.0 ++ more_.0, stroke-stalled t.base p bytes w.1 ∙ more_.1 ∙ ap (λ (x : List ℕ). x ++ more_.0) left.diverted.1 ∙ append_assoc b.diverted left.diverted.0 more_.0)
+          | inr w ↦ (left.diverted.0, stroke-other t.base p bytes w.1 ∙ left.diverted.1)
+        ]

@@ -1,0 +1,182 @@
+-- The file of a new database while it is made: until page 0 is written it has no header, whatever a stop leaves of it.
+use Rattle.std.proofs.Common.{◌≡◌, ◌≢◌, ◌⊎◌, inl, inr, ⊎_elim, ℕ, zero, suc, ◌+◌, ◌-◌, ◌*◌, ◌≤◌, List, [], ◌∷◌, ◌++◌, length, take, drop, replicate, refl, sym, ◌∙◌, ap, subst, arith, length-append}
+use Rattle.std.specs.Prelude.{Bool, true, IsTrue, ◌||◌, ◌==◌, Some, None, Result, Ok, OnOk}
+use Rattle.std.proofs.lemmas.Bool.{and_parts, and_from}
+use Rattle.std.proofs.lemmas.List.{take-append-le, take-take, length-take-le, length-replicate}
+use Rattle.nb_fields.specs.Bytes.{is_zeros}
+use Rattle.nb_fields.specs.Fresh.{fresh, fresh_count, fresh_page}
+use Rattle.nb_fields.specs.Places.{is_page_size}
+use Rattle.nb_fields.specs.Free.{is_free_file, is_unfinished}
+use Rattle.nb_host.specs.Files.{File, Files, bytes_of, padded, put_at, with_file, with_page}
+use Rattle.nb_host.specs.World.{World}
+use Rattle.nb_host.specs.Crash.{Leaves, LeavesAll, PageLeft, IsDurable, Untouched}
+use Rattle.nb_host.specs.Calls.{Remakes, WritesPage, Syncs, IsSilent}
+use Rattle.nb_host.specs.Moments.{Passes, IsTimely}
+use Rattle.nb_change.specs.Changes.{Changes, Only}
+use Rattle.nb_change.specs.Gave.{GaveNothing}
+use Rattle.nb_change.proofs.MomentLaws.{untouched_fewer}
+use Rattle.nb_change.proofs.NameLaws.{whole-other}
+use Rattle.nb_change.proofs.ResultLaws.{on_ok_then}
+use Rattle.nb_change.proofs.ChangesLaws.{begun, one_more, still_more}
+use Rattle.nb_change.proofs.SettledLaws.{durable_is}
+use Rattle.nb_model.specs.Image.{Image}
+use Rattle.nb_model.specs.Account.{base_of}
+use Rattle.nb_model.specs.Owner.{owner, delta_name}
+use Rattle.nb_model.specs.Trail.{ShowsIn}
+use Rattle.nb_base.specs.Beginnings.{CreateLeft, IsSettled}
+use Rattle.nb_base.proofs.CreateLaws.{HasRest, named, whole_shows}
+
+-- the bytes where a header would stand are zeros, or there are fewer
+abbrev IsBlank : File → Type 0
+IsBlank file = is_zeros (take 64 (bytes_of file)) ≡ true
+
+blank-free : (c : File) → IsBlank c → is_free_file c ≡ true
+unfolding is_free_file
+blank-free None h = refl
+blank-free (Some bytes) h = ap (λ (b : Bool). b || is_unfinished bytes) h
+
+blank-empty : (c : File) → c ≡ Some [] → IsBlank c
+blank-empty c is = ap (λ (x : File). is_zeros (take 64 (bytes_of x))) is
+
+-- zeros behind leave it blank
+zeros-take : (k n : ℕ) → is_zeros (take k (replicate n 0)) ≡ true
+zeros-take zero n = refl
+zeros-take (suc k) zero = refl
+zeros-take (suc k) (suc n) = zeros-take k n
+
+zeros-behind : (k n : ℕ) (bytes : List ℕ) → is_zeros (take k bytes) ≡ true → is_zeros (take k (bytes ++ replicate n 0)) ≡ true
+zeros-behind zero n bytes h = refl
+zeros-behind (suc k) n [] h = zeros-take (suc k) n
+zeros-behind (suc k) n (b ∷ bs) h = let both = and_parts (b == 0) (is_zeros (take k bs)) h in and_from (b == 0) (is_zeros (take k (bs ++ replicate n 0))) both.0 (zeros-behind k n bs both.1)
+
+-- and so does a page behind it
+blank-put : (at : ℕ) (page : List ℕ) (file : File) → 64 ≤ at → IsBlank file → IsBlank (with_page file at page)
+unfolding put_at padded
+blank-put at page file far h =
+    let bytes : List ℕ = bytes_of file in
+    let long : at ≤ length (padded bytes at) = omega (arith, length-append bytes (replicate (at - length bytes) 0), length-replicate {A = ℕ} (at - length bytes) 0) in
+    ap is_zeros (take-append-le 64 (take at (padded bytes at)) (page ++ drop (at + length page) bytes) (omega (arith, far, length-take-le at (padded bytes at) long)) ∙ take-take 64 at (padded bytes at) far)
+    ∙ zeros-behind 64 (at - length bytes) bytes h
+
+blank-grown : (n : ℕ) (b c : File) → c ≡ Some (bytes_of b ++ replicate n 0) → IsBlank b → IsBlank c
+blank-grown n b c grown h = ap (λ (x : File). is_zeros (take 64 (bytes_of x))) grown ∙ zeros-behind 64 n (bytes_of b) h
+
+blank-same : (b c : File) → c ≡ b → IsBlank b → IsBlank c
+blank-same b c same h = subst (λ (x : File). IsBlank x) (sym same) h
+
+blank-left : (at : ℕ) (page : List ℕ) (b c : File) → 64 ≤ at → PageLeft at page b c → IsBlank b → IsBlank c
+blank-left at page b c far (inl same) h = blank-same b c same h
+blank-left at page b c far (inr (inl put)) h = blank-same (with_page b at page) c put (blank-put at page b far h)
+blank-left at page b c far (inr (inr (k, fits, grown))) h = blank-grown (k * length page) b c grown h
+
+-- The new file has no header yet, and is the only one that was touched.
+pub record Making (old w : World) (name : List ℕ) (image : Image) : Type 0 where
+  pub so_far : Changes old w (Only name) (CreateLeft old name image)
+  pub back : (c : File) → w.back name c → Leaves old name c
+  pub blank : (c : File) → w.now name c → IsBlank c
+
+module _ (name : List ℕ) (image : Image) where
+  -- one call more that touches the new file alone
+  call_more : (old mid new : World) → Changes old mid (Only name) (CreateLeft old name image) → Passes mid new → IsSilent mid new → Untouched mid new (λ m. m ≢ name)
+      → ((n : List ℕ) → n ≢ name → new.files n ≡ mid.files n) → ((files : Files) → LeavesAll new files → CreateLeft old name image files) → Changes old new (Only name) (CreateLeft old name image)
+  call_more old mid new so_far time silent others read here = one_more old mid new (Only name) _ _ so_far time others read silent.said (λ files has. has) here
+
+  -- one call more that leaves it blank
+  blank_more : (old mid new : World) → Changes old mid (Only name) (CreateLeft old name image) → Passes mid new → IsSilent mid new → Untouched mid new (λ m. m ≢ name)
+      → ((n : List ℕ) → n ≢ name → new.files n ≡ mid.files n) → ((c : File) → new.back name c → Leaves old name c) → ((c : File) → new.now name c → IsBlank c) → Making old new name image
+  blank_more old mid new so_far time silent others read back blank = record {
+    so_far = call_more old mid new so_far time silent others read (λ files left. ⊎_elim (λ b. inl (back (files name) b)) (λ n. inr (inl (blank-free (files name) (blank (files name) n)))) (left name));
+    back = back;
+    blank = blank;
+  }
+
+  not_begun : (old : World) → IsTimely old → Changes old old (Only name) (CreateLeft old name image)
+  not_begun old timely = begun old (Only name) _ timely (λ files left. inl (left name))
+
+  -- the file is made, also where that fails
+  pub made : {T E : Type 0} (tells : Bool) (result : Result T E) (old new : World) → IsTrue tells → IsTimely old → Remakes tells result old new name (Some []) → IsSilent old new → Passes old new
+      → Changes old new (Only name) (CreateLeft old name image)
+  made tells result old new so timely is silent time =
+      call_more old old new (not_begun old timely) time silent is.others (whole-other result old.files new.files name (Some []) (is.files so))
+      (λ files left. ⊎_elim (λ b. inl (is.back (files name) b)) (λ n. ⊎_elim (λ l. inl l) (λ e. inr (inl (blank-free (files name) (blank-empty (files name) e)))) (is.now (files name) n)) (left name))
+
+  -- and the making has begun
+  pub making_begun : {T E : Type 0} (tells : Bool) (value : T) (old new : World) → IsTrue tells → IsTimely old → Remakes {T = T} {E = E} tells (Ok value) old new name (Some []) → IsSilent old new → Passes old new → Making old new name image
+  making_begun {T} {E} tells value old new so timely is silent time =
+      blank_more old old new (not_begun old timely) time silent is.others (whole-other {T = T} {E = E} (Ok value) old.files new.files name (Some []) (is.files so)) is.back
+      (λ c n. blank-empty c (is.done c n))
+
+  -- a page behind page 0 is written, also where that fails
+  pub page_more : {T E : Type 0} (tells : Bool) (result : Result T E) (old mid new : World) (at : ℕ) (page : List ℕ) → IsTrue tells → 64 ≤ at → Making old mid name image → WritesPage tells result mid new name at page → IsSilent mid new
+      → Passes mid new → Making old new name image
+  page_more tells result old mid new at page so far making is silent time =
+      blank_more old mid new making.so_far time silent is.left.others (whole-other result mid.files new.files name _ (is.files so)) (λ c b. making.back c (is.left.back c b))
+      (λ c n. let from = is.left.now c n in blank-left at page from.0 c far from.2 (making.blank from.0 from.1))
+
+  -- the file is synced, also where that fails
+  pub synced : {T E : Type 0} (tells : Bool) (result : Result T E) (old mid new : World) → Making old mid name image → Syncs tells result mid new name → IsSilent mid new → Passes mid new → Making old new name image
+  synced tells result old mid new making is silent time =
+      blank_more old mid new making.so_far time silent (untouched_fewer mid new _ _ is.still.left (λ n other. tt)) (λ n other. ap (λ (f : Files). f n) is.still.files)
+      (λ c b. making.back c (is.still.left.back name c tt b)) (λ c n. making.blank c (is.still.left.now name c tt n))
+
+  -- the whole file is synced, also where that fails
+  pub synced_whole : {T E : Type 0} (tells : Bool) (result : Result T E) (old mid new : World) → Changes old mid (Only name) (CreateLeft old name image) → Syncs tells result mid new name → IsSilent mid new → Passes mid new
+      → Changes old new (Only name) (CreateLeft old name image)
+  synced_whole tells result old mid new so_far is silent time = still_more old mid new (Only name) _ so_far time is.still silent.said
+
+-- How far the making has come: the pages from 1 on, up to this number, are written, and no call failed.
+pub record MakesFile {H : Type 0} (tells : Bool) (world : H → World) (faults : H → ℕ) (start here : H) (name : List ℕ) (size raw number : ℕ) : Type 0 where
+  pub making : IsTrue tells → Making (world start) (world here) name (fresh size raw)
+  pub pages : IsTrue tells → HasRest size raw number ((world here).files name)
+  pub gave : GaveNothing (world start) (world here)
+  pub cause : faults here ≡ faults start
+
+-- The pages from 1 on are kept for good, and page 0 makes the file whole.
+pub record KeepsRest (old w : World) (name : List ℕ) (size raw : ℕ) : Type 0 where
+  pub file : File
+  pub reads : w.files name ≡ file
+  pub making : Making old w name (fresh size raw)
+  pub durable : IsDurable w name file
+  pub whole : (page : List ℕ) → page ≡ fresh_page size raw 0 → (d : File) → owner name (with_page file (0 * length page) page) d ≡ Ok (base_of (fresh size raw))
+
+-- all pages but the first were written, and synced
+pub rest_kept : {H T E : Type 0} (tells : Bool) (world : H → World) (faults : H → ℕ) (start here : H) (name : List ℕ) (size raw number count : ℕ) (value : T) (new : World) → IsTrue tells → IsTrue (is_page_size size) → raw ≤ 65535
+    → count ≡ fresh_count size raw → count ≤ number → (1 ≤ count → number ≤ count) → MakesFile tells world faults start here name size raw number
+    → Syncs {T = T} {E = E} tells (Ok value) (world here) new name → IsSilent (world here) new → Passes (world here) new → KeepsRest (world start) new name size raw
+rest_kept {H} {T} {E} tells world faults start here name size raw number count value new so is few count_is done within makes sync silent time = record {
+  file = (world here).files name;
+  reads = ap (λ (f : Files). f name) sync.still.files;
+  making = synced name (fresh size raw) {T = T} {E = E} tells (Ok value) (world start) (world here) new (makes.making so) sync silent time;
+  durable = sync.durable so;
+  whole = λ page page_is. whole_shows size raw is name number count page ((world here).files name) few count_is done within page_is (makes.pages so);
+}
+
+-- page 0 is written, also where that fails
+pub first_page : {T E : Type 0} (tells : Bool) (result : Result T E) (old mid new : World) (name : List ℕ) (size raw : ℕ) (page : List ℕ) → IsTrue tells → page ≡ fresh_page size raw 0 → KeepsRest old mid name size raw
+    → WritesPage tells result mid new name (0 * length page) page → IsSilent mid new → Passes mid new → Changes old new (Only name) (CreateLeft old name (fresh size raw))
+first_page tells result old mid new name size raw page so page_is kept is silent time =
+    let making = kept.making in
+    call_more name (fresh size raw) old mid new making.so_far time silent is.left.others (whole-other result mid.files new.files name _ (is.files so))
+    (λ files left. ⊎_elim (λ b. inl (making.back (files name) (is.left.back (files name) b))) (λ n. let from = is.left.now (files name) n in inr (by from.0 (files name) (files (delta_name name)) from.1 from.2)) (left name))
+  where
+    by : (b c d : File) → mid.now name b → PageLeft (0 * length page) page b c → (is_free_file c ≡ true) ⊎ (owner name c d ≡ Ok (base_of (fresh size raw)))
+    by b c d n (inl same) = inl (blank-free c (blank-same b c same (kept.making.blank b n)))
+    by b c d n (inr (inl put)) = inr (subst (λ (x : File). owner name x d ≡ Ok (base_of (fresh size raw))) (sym (put ∙ ap (λ (x : File). with_page x (0 * length page) page) (kept.durable.only b n))) (kept.whole page page_is d))
+    by b c d n (inr (inr (k, fits, grown))) = inl (blank-free c (blank-grown (k * length page) b c grown (kept.making.blank b n)))
+
+-- after the last sync nothing but the new database is left
+pub settled : {T E : Type 0} (tells : Bool) (result : Result T E) (old mid written new : World) (name : List ℕ) (size raw : ℕ) (page : List ℕ) → IsTrue tells → page ≡ fresh_page size raw 0 → KeepsRest old mid name size raw
+    → written.files ≡ with_file mid.files name (with_page (mid.files name) (0 * length page) page) → Syncs tells result written new name → OnOk result (IsSettled new name (base_of (fresh size raw)))
+settled tells result old mid written new name size raw page so page_is kept put is = on_ok_then result by (is.durable so)
+  where
+    reads : written.files name ≡ with_page kept.file (0 * length page) page
+    reads = named mid.files written.files name _ put ∙ ap (λ (x : File). with_page x (0 * length page) page) kept.reads
+
+    shown : (d : File) → owner name (written.files name) d ≡ Ok (base_of (fresh size raw))
+    shown d = subst (λ (x : File). owner name x d ≡ Ok (base_of (fresh size raw))) (sym reads) (kept.whole page page_is d)
+
+    by : IsDurable new name (written.files name) → IsSettled new name (base_of (fresh size raw))
+    by durable = record {
+      left = λ files left. subst (λ (x : File). owner name x (files (delta_name name)) ≡ Ok (base_of (fresh size raw))) (sym (durable_is new name (written.files name) durable (files name) (left name))) (shown (files (delta_name name)));
+      shows = subst (λ (f : Files). ShowsIn name (base_of (fresh size raw)) f) (sym is.still.files) (shown (written.files (delta_name name)));
+    }

@@ -1,0 +1,192 @@
+-- The page of an entry is written into the main file: what a stop leaves, and that the entry is equal in both files then.
+use Rattle.std.proofs.Common.{◌≡◌, ◌≢◌, inl, inr, ℕ, zero, suc, ◌+◌, ◌*◌, ◌<◌, ◌≤◌, List, [], ◌∷◌, length, get_or, take, drop, refl, sym, ap, subst, ◌∙◌, arith}
+use Rattle.std.specs.Prelude.{false, nat_eq, Some, None, Result, Ok}
+use Rattle.std.specs.List.{IsDistinct}
+use Rattle.std.proofs.lemmas.Bool.Decides.{eqb_tells}
+use Rattle.std.proofs.lemmas.List.{drop_at, length-take-le}
+use Rattle.nb_fields.specs.Header.{size_of}
+use Rattle.std.proofs.lemmas.Bool.{true≢false}
+use Rattle.nb_fields.specs.Bytes.{is_zeros}
+use Rattle.nb_fields.specs.Table.{page_in, slot_place}
+use Rattle.nb_host.specs.Files.{File, Files, bytes_of, with_file, with_page as with_page_at}
+use Rattle.nb_host.specs.World.{World}
+use Rattle.nb_change.proofs.NameLaws.{with_file-same, with_file-other}
+use Rattle.nb_change.proofs.ChangesLaws.{rested, composed, all_before}
+use Rattle.nb_delta.specs.Entries.{AreEntries}
+use Rattle.nb_delta.proofs.TellLemmas.{apart_at}
+use Rattle.nb_page.specs.Quiet.{Quiet}
+use Rattle.nb_model.specs.Image.{Page, Image, page_at, image_size, image_state, image_in, written_at}
+use Rattle.nb_model.specs.Causes.{not_database}
+use Rattle.nb_model.specs.Sound.{HasNoZeros}
+use Rattle.nb_model.specs.Owner.{delta_name, entry_for, slot_page, main_page, owned_page}
+use Rattle.nb_model.specs.Trail.{Trail, StandsIn, ShowsIn}
+use Rattle.nb_model.proofs.OwnerLaws.{named, main_here, other_page, written_length}
+use Rattle.nb_model.proofs.SoundLaws.{all_at}
+use Rattle.nb_model.proofs.TrailLaws.{left_itself}
+use Rattle.nb_base.specs.Open.{Held, OfFiles, IsOpen, IsMerged, AreMerged}
+use Rattle.nb_base.specs.Seen.{IsSeen, IsWrite}
+use Rattle.nb_base.specs.Takes.{Strikes}
+use Rattle.nb_base.proofs.MergeLaws.{page_in-main}
+use Rattle.nb_base.proofs.OwnedLaws.{Holds, entry-first, entry-later, later, owned-entry, base-length, base-page, base-size, bytes-size, main-some, main-long}
+use Rattle.nb_base.proofs.StepLaws.{may, main-size}
+use Rattle.nb_base.proofs.StrokeLaws.{h0}
+use Rattle.nb_base.proofs.WrittenLaws.{HasMain, main_put, written_same, laid_formed, laid_image}
+use Rattle.nb_base.proofs.WriteLaws.{delta_apart}
+
+-- no page is named twice, so that each entry is its page's
+pub entry_named : (table : List ℕ) (k : ℕ) → IsDistinct nat_eq table → k < length table → entry_for (get_or table k 0) table ≡ Some k
+unfolding IsDistinct
+entry_named [] k once low = absurd (omega (arith, low))
+entry_named (x ∷ xs) zero once low = entry-first x x xs refl
+entry_named (x ∷ xs) (suc k) once low = entry-later (get_or xs k 0) x xs (λ e. other (apart_at x xs k once.0 (omega (arith, low))) e) ∙ ap later (entry_named xs k once.1 (omega (arith, low)))
+  where
+    other : nat_eq (get_or xs k 0) x ≡ false → get_or xs k 0 ≡ x → ⊥
+    other apart same = elim (eqb_tells (get_or xs k 0) x) [ inl w ↦ true≢false (sym w.0 ∙ apart) | inr w ↦ absurd (w.1 same) ]
+
+some_same : {j k : ℕ} → Some j ≡ Some k → j ≡ k
+some_same e = cc
+
+-- calls that change nothing
+pub seen_quiet : (old new : World) (name : List ℕ) (t : Trail) → Quiet old new → IsSeen old name t → IsSeen new name t
+seen_quiet old new name t quiet seen = record {
+  left = λ files left. seen.left files (all_before old new quiet.still.left files left);
+  shows = subst (λ (f : Files). ShowsIn name t.base f) (sym quiet.still.files) seen.shows;
+}
+
+pub struck_quiet : (old new : World) (name : List ℕ) (t : Trail) → Quiet old new → IsSeen old name t → Strikes old new name t []
+struck_quiet old new name t quiet seen = rested old new (OfFiles name) (StandsIn name t) quiet.still quiet.said quiet.moments seen.left
+
+pub struck_joined : (old mid new : World) (name : List ℕ) (t : Trail) → Strikes old mid name t [] → Strikes mid new name t [] → Strikes old new name t []
+struck_joined old mid new name t first second = composed old mid new (OfFiles name) (StandsIn name t) (StandsIn name t) (StandsIn name t) first second (λ files stands. stands) (λ files stands. stands)
+
+-- An entry of a database that is open, in the merge state.
+module _ (old : World) (held : Held) (t : Trail) (is : IsOpen old held t) (merges : held.state ≡ 2) (full : HasNoZeros t.base.image) (k : ℕ) (inside : k < length held.entries) (are : AreEntries held.entries)
+    (number : ℕ) (names : number ≡ get_or held.entries k 0) (below : number < 1048576) (page : Page)
+    (long : length page ≡ held.page_size) where
+  abbrev g : Holds t.base (old.files held.name) (old.files (delta_name held.name))
+  g = h0 old held t is
+
+  abbrev delta : List ℕ
+  delta = bytes_of (old.files (delta_name held.name))
+
+  pub its_entry : entry_for number t.base.diverted ≡ Some k
+  its_entry = ap (λ n. entry_for n t.base.diverted) names ∙ ap (λ (l : List ℕ). entry_for (get_or l k 0) t.base.diverted) is.agrees.entries
+      ∙ entry_named t.base.diverted k (subst (λ (l : List ℕ). IsDistinct nat_eq l) is.agrees.entries are.once) (omega (arith, inside, ap length is.agrees.entries))
+
+  low : number < length t.base.image
+  low = let last = named number t.base.diverted k its_entry in omega (arith, last, base-length t.base _ _ g)
+
+  pub two : image_state t.base.image ≡ 2
+  two = sym is.agrees.state ∙ merges
+
+  -- what was read of it
+  pub read_as : (wide : ℕ) → wide ≡ held.page_size → page ≡ owned_page wide (image_in (h0 old held t is).has.bytes) (bytes_of (old.files (delta_name held.name))) held.entries number
+      → page ≡ owned_page (image_size (h0 old held t is).main) (h0 old held t is).main (bytes_of (old.files (delta_name held.name))) held.entries number
+  read_as wide same read =
+      read ∙ ap (λ n. owned_page n (image_in g.has.bytes) delta held.entries number) (same ∙ is.agrees.page_size ∙ base-size t.base _ _ g) ∙ ap (λ (x : Image). owned_page (image_size g.main) x delta held.entries number) (laid_image g.main g.has.bytes g.has.laid)
+
+  pub read_formed : not_database (h0 old held t is).has.bytes ≡ None
+  read_formed = laid_formed g.main g.has.bytes g.has.laid
+
+  pub read_size : size_of (h0 old held t is).has.bytes ≡ held.page_size
+  read_size = sym (bytes-size g.has.bytes read_formed) ∙ ap image_size (laid_image g.main g.has.bytes g.has.laid) ∙ sym (base-size t.base _ _ g) ∙ sym is.agrees.page_size
+
+  module _ (read : page ≡ owned_page (image_size (h0 old held t is).main) (h0 old held t is).main (bytes_of (old.files (delta_name held.name))) held.entries number) where
+    page_is : page ≡ page_at t.base.image number
+    page_is = read ∙ ap (λ (l : List ℕ). owned_page (image_size g.main) g.main delta l number) is.agrees.entries ∙ sym (base-page t.base _ _ g number low)
+
+    pub its_write : IsWrite t number page
+    its_write = record {
+      fits = record { low = omega (arith, low); front = λ e. ap (take 64) page_is ∙ ap (λ n. take 64 (page_at t.base.image n)) e };
+      long = long ∙ is.agrees.page_size;
+      below = below;
+      other = ap is_zeros page_is ∙ all_at (λ x. is_zeros x ≡ false) t.base.image full number low;
+    }
+
+    slot : page ≡ slot_page (image_size g.main) g.main delta number k
+    slot = read ∙ ap (λ (l : List ℕ). owned_page (image_size g.main) g.main delta l number) is.agrees.entries ∙ owned-entry (image_size g.main) g.main delta t.base.diverted number k its_entry
+
+    size : held.page_size ≡ image_size g.main
+    size = is.agrees.page_size ∙ sym (main-size t number page its_write t.base (left_itself t) _ _ g)
+
+    -- what the main file's bytes have then
+    module _ (new : Files) (put : new ≡ with_file old.files held.name (with_page_at (old.files held.name) (number * length page) page)) where
+      abbrev after : Image
+      after = written_at (image_size g.main) (number, page) g.main
+
+      has : HasMain after (new held.name)
+      has = main_put g.main (old.files held.name) (new held.name) number page g.has (may t number page its_write t.base (left_itself t) _ _ g) (ap (λ (f : Files). f held.name) put ∙ with_file-same old.files held.name _)
+
+      beside : new (delta_name held.name) ≡ old.files (delta_name held.name)
+      beside = ap (λ (f : Files). f (delta_name held.name)) put ∙ with_file-other old.files held.name _ (delta_name held.name) (delta_apart held.name)
+
+      some : 1 ≤ length g.main
+      some = main-some t.base _ _ g
+
+      longer : 1 ≤ length (written_at (image_size g.main) (number, page) g.main)
+      longer = omega (arith, some, written_length (image_size g.main) number page g.main)
+
+      later_size : image_size (written_at (image_size g.main) (number, page) g.main) ≡ image_size g.main
+      later_size = elim (eqb_tells number 0) [
+        | inl w ↦ ap (λ n. size_of (page_at (written_at (image_size g.main) (number, page) g.main) n)) (sym w.1) ∙ ap size_of (written_same (image_size g.main) number page g.main) ∙ (may t number page its_write t.base (left_itself t) _ _ g).size w.1
+        | inr w ↦ ap size_of (sym (main_here (image_size g.main) after 0 longer) ∙ other_page (image_size g.main) number page g.main 0 (λ e. w.1 (sym e)) ∙ main_here (image_size g.main) g.main 0 some)
+      ]
+
+      page_now : (q : ℕ) → page_in held.page_size (bytes_of (new held.name)) q ≡ main_page (image_size g.main) after q
+      page_now q = ap (λ n. page_in n (bytes_of (new held.name)) q) (size ∙ sym later_size) ∙ ap (λ (f : File). page_in (image_size after) (bytes_of f) q) has.there ∙ page_in-main after has.bytes has.laid q ∙ ap (λ n. main_page n after q) later_size
+
+      page_then : (q : ℕ) → page_in held.page_size (bytes_of (old.files held.name)) q ≡ main_page (image_size g.main) g.main q
+      page_then q = ap (λ n. page_in n (bytes_of (old.files held.name)) q) size ∙ ap (λ (f : File). page_in (image_size g.main) (bytes_of f) q) g.has.there ∙ page_in-main g.main g.has.bytes g.has.laid q
+
+      first_now : page_at (image_in (bytes_of (new held.name))) 0 ≡ main_page (image_size g.main) after 0
+      first_now = ap (λ (f : File). page_at (image_in (bytes_of f)) 0) has.there ∙ ap (λ (x : Image). page_at x 0) (laid_image after has.bytes has.laid) ∙ sym (main_here (image_size g.main) after 0 longer)
+
+      first_then : page_at (image_in (bytes_of (old.files held.name))) 0 ≡ main_page (image_size g.main) g.main 0
+      first_then = ap (λ (f : File). page_at (image_in (bytes_of f)) 0) g.has.there ∙ ap (λ (x : Image). page_at x 0) (laid_image g.main g.has.bytes g.has.laid) ∙ sym (main_here (image_size g.main) g.main 0 some)
+
+      here : main_page (image_size g.main) after number ≡ page
+      here = main_here (image_size g.main) after number (omega (arith, written_length (image_size g.main) number page g.main)) ∙ written_same (image_size g.main) number page g.main
+
+      slot_now : (j : ℕ) → page_in held.page_size (bytes_of (new (delta_name held.name))) (slot_place held.page_size j) ≡ page_in held.page_size delta (slot_place held.page_size j)
+      slot_now j = ap (λ (f : File). page_in held.page_size (bytes_of f) (slot_place held.page_size j)) beside
+
+      -- the entry itself, and another
+      slot_first : (n : ℕ) → n ≡ 0 → drop 64 (slot_page (image_size g.main) g.main delta n k) ≡ drop 64 (page_in held.page_size delta (slot_place held.page_size k))
+      unfolding slot_page
+      slot_first zero e =
+          drop_at (take 64 (page_at g.main 0)) (drop 64 (page_in (image_size g.main) delta (slot_place (image_size g.main) k))) 64 (length-take-le 64 (page_at g.main 0) (main-long t.base _ _ g))
+          ∙ ap (λ n. drop 64 (page_in n delta (slot_place n k))) (sym size)
+      slot_first (suc n) e = absurd (omega (arith, e))
+
+      slot_behind : (n : ℕ) → 0 < n → slot_page (image_size g.main) g.main delta n k ≡ page_in held.page_size delta (slot_place held.page_size k)
+      unfolding slot_page
+      slot_behind zero above = absurd (omega (arith, above))
+      slot_behind (suc n) above = ap (λ n. page_in n delta (slot_place n k)) (sym size)
+
+      merged_here : IsMerged held new k
+      merged_here = record {
+        later = λ e.
+            let zero : number ≡ 0 = names ∙ e in
+            ap (drop 64) first_now ∙ ap (λ n. drop 64 (main_page (image_size g.main) after n)) (sym zero) ∙ ap (drop 64) (here ∙ slot) ∙ slot_first number zero ∙ ap (drop 64) (sym (slot_now k));
+        same = λ some. ap (page_in held.page_size (bytes_of (new held.name))) (sym names) ∙ page_now number ∙ here ∙ slot ∙ slot_behind number (omega (arith, names, some)) ∙ sym (slot_now k);
+      }
+
+      merged_other : (j : ℕ) → j < length held.entries → j ≢ k → IsMerged held old.files j → IsMerged held new j
+      merged_other j fits other was =
+          let once : IsDistinct nat_eq held.entries = are.once in
+          let apart : get_or held.entries j 0 ≢ number = λ e.
+          other (some_same (sym (entry_named held.entries j once fits) ∙ ap (λ n. entry_for n held.entries) (e ∙ names) ∙ entry_named held.entries k once inside)) in
+          record {
+            later = λ e. ap (drop 64) (first_now ∙ other_page (image_size g.main) number page g.main 0 (λ z. apart (e ∙ z)) ∙ sym first_then) ∙ was.later e ∙ ap (drop 64) (sym (slot_now j));
+            same = λ some. page_now (get_or held.entries j 0) ∙ other_page (image_size g.main) number page g.main (get_or held.entries j 0) apart ∙ sym (page_then (get_or held.entries j 0)) ∙ was.same some ∙ sym (slot_now j);
+          }
+
+      pub merged_next : (w : World) → w.files ≡ new → AreMerged old held k → AreMerged w held (k + 1)
+      merged_next w same so_far j low fits = subst (λ (f : Files). IsMerged held f j) (sym same) (elim (eqb_tells j k) [
+        | inl e ↦ subst (λ n. IsMerged held new n) (sym e.1) merged_here
+        | inr ne ↦ merged_other j fits ne.1 (so_far j (omega (arith, low, ne.1)) fits)
+      ])
+
+-- the number of an entry that was looked up
+pub number_is : {E : Type 0} (a b : ℕ) → ◌≡◌ {A = Result ℕ E} (Ok a) (Ok b) → a ≡ b
+number_is a b e = cc

@@ -1,0 +1,162 @@
+-- What is read of a main file, and of the image by the file that owns a page.
+use Rattle.std.proofs.Common.{◌≡◌, ◌≢◌, inl, inr, ℕ, zero, suc, ◌+◌, ◌-◌, ◌*◌, ◌<◌, ◌≤◌, List, [], ◌++◌, length, take, drop, replicate, refl, sym, ap, ◌∙◌, arith, length-append, length-take, suc-mul, mul-le-mul_right, le_of_mul-le-mul_right}
+use Rattle.std.specs.Prelude.{Bool, true, false, Some, None}
+use Rattle.std.proofs.lemmas.Bool.Decides.{leb_tells}
+use Rattle.std.proofs.lemmas.List.{take_all, get_or_append_left, get_or-append_right}
+use Rattle.nb_fields.specs.Bytes.{is_zeros}
+use Rattle.nb_fields.specs.Header.{size_of}
+use Rattle.nb_fields.specs.Table.{page_in, slot_place}
+use Rattle.nb_host.specs.Files.{File, Files, bytes_of}
+use Rattle.nb_delta.specs.Known.{Known}
+use Rattle.nb_host.specs.Calls.{ReadsPage, ReadsBytes}
+use Rattle.nb_model.specs.Image.{Page, Image, page_at, image_size, image_state, image_in}
+use Rattle.nb_model.specs.Causes.{not_database}
+use Rattle.nb_host.specs.World.{World}
+use Rattle.nb_model.specs.Account.{Base}
+use Rattle.nb_model.specs.Trail.{Trail}
+use Rattle.nb_model.specs.Owner.{delta_name, entry_for, main_page, slot_page, owned_page}
+use Rattle.nb_model.proofs.FormLaws.{formed}
+use Rattle.nb_model.proofs.HeaderLaws.{header-long}
+use Rattle.nb_model.proofs.ImageLaws.{all-right, length-joined, page-joined}
+use Rattle.nb_model.proofs.MainLaws.{IsLaid, laid, laid-front, laid-wide}
+use Rattle.nb_model.proofs.OwnerLaws.{main_here, main_past}
+use Rattle.nb_model.proofs.SoundLaws.{all_at}
+use Rattle.nb_base.specs.Open.{Held, IsOpen}
+use Rattle.nb_base.proofs.WrittenLaws.{zeros_is, laid_formed, laid_image}
+use Rattle.nb_base.proofs.OwnedLaws.{Holds, holds, bytes-size, base-page, base-size, base-state, owned-entry, owned-none}
+
+-- A page of a main file of that form.
+module _ (bytes : List ℕ) (formed : not_database bytes ≡ None) (p size : ℕ) (same : size_of bytes ≡ size) where
+  l : IsLaid (image_in bytes) bytes
+  l = laid bytes formed
+
+  size_is : image_size (image_in bytes) ≡ size
+  size_is = bytes-size bytes formed ∙ same
+
+  wide : 1024 ≤ size
+  wide = omega (arith, laid-wide (image_in bytes) bytes (laid bytes formed), size_is)
+
+  abbrev pages : List Page
+  pages = image_in bytes ++ (laid bytes formed).rest
+
+  long : length bytes ≡ length (image_in bytes ++ (laid bytes formed).rest) * size
+  long = ap length (laid bytes formed).is ∙ length-joined (image_size (image_in bytes)) pages (laid bytes formed).sizes ∙ ap (λ n. length pages * n) size_is
+
+  -- it is there, or zeros of the file are
+  there : p * size + size ≤ length bytes → take size (drop (p * size) bytes) ≡ main_page size (image_in bytes) p
+  there fits =
+      let room : (p + 1) * size ≤ length pages * size = omega (arith, fits, long, suc-mul p size) in
+      let below : p + 1 ≤ length pages = le_of_mul-le-mul_right {k = size} room (omega (arith, wide)) in
+      let sizes = (laid bytes formed).sizes in
+      let read : take size (drop (p * size) bytes) ≡ page_at pages p =
+      ap (λ n. take n (drop (p * n) bytes)) (sym size_is) ∙ ap (λ (x : List ℕ). take (image_size (image_in bytes)) (drop (p * image_size (image_in bytes)) x)) (laid bytes formed).is
+      ∙ page-joined (image_size (image_in bytes)) p pages sizes (omega (arith, below)) in
+      elim (leb_tells (suc p) (length (image_in bytes))) [
+        | inl w ↦ read ∙ get_or_append_left (image_in bytes) (laid bytes formed).rest [] p w.1 ∙ sym (main_here size (image_in bytes) p w.1)
+        | inr w ↦
+            let rest : List Page = (laid bytes formed).rest in
+            let k : ℕ = p - length (image_in bytes) in
+            let behind : k < length rest = omega (arith, below, w.1, length-append (image_in bytes) rest) in
+            let zeros : is_zeros (page_at rest k) ≡ true = all_at (λ (x : Page). is_zeros x ≡ true) rest (laid bytes formed).zeros k behind in
+            let wide_ : length (page_at rest k) ≡ size = all_at (λ (x : Page). length x ≡ image_size (image_in bytes)) rest (all-right (λ (x : Page). length x ≡ image_size (image_in bytes)) (image_in bytes) rest sizes) k behind ∙ size_is in
+            read ∙ get_or-append_right (image_in bytes) rest (length (image_in bytes)) p [] refl (omega (arith, w.1)) ∙ zeros_is (page_at rest k) zeros ∙ ap (λ n. replicate n 0) wide_ ∙ sym (main_past size (image_in bytes) p (omega (arith, w.1)))
+      ]
+
+  -- or the file ends before it
+  past : length bytes < p * size + size → replicate size 0 ≡ main_page size (image_in bytes) p
+  past short =
+      let room : length pages * size < (p + 1) * size = omega (arith, short, long, suc-mul p size) in
+      elim (leb_tells (p + 1) (length pages)) [
+        | inl w ↦ let all : (p + 1) * size ≤ length pages * size = mul-le-mul_right size w.1 in absurd (omega (arith, room, all))
+        | inr w ↦ sym (main_past size (image_in bytes) p (omega (arith, w.1, length-append (image_in bytes) (laid bytes formed).rest)))
+      ]
+
+  pub page_there : (file : File) → file ≡ Some bytes → (before after : List ℕ) → size ≡ length before → (found : Bool) → found ≡ true → ReadsPage file (p * length before) before after found → after ≡ main_page size (image_in bytes) p
+  page_there file is before after wide_ true e reads =
+      let all : length (bytes_of file) ≡ length bytes = ap (λ (f : File). length (bytes_of f)) is in
+      let fits : p * size + size ≤ length bytes = omega (arith, reads.0, all, ap (λ n. p * n + n) wide_) in
+      reads.1 ∙ ap (λ (f : File). take (length before) (drop (p * length before) (bytes_of f))) is ∙ ap (λ n. take n (drop (p * n) bytes)) (sym wide_) ∙ there fits
+  page_there file is before after wide_ false e reads = absurd (no e)
+    where
+      no : false ≡ true → ⊥
+      no h = cc
+
+  pub page_past : (file : File) → file ≡ Some bytes → (before after : List ℕ) → size ≡ length before → (found : Bool) → found ≡ false → ReadsPage file (p * length before) before after found → replicate size 0 ≡ main_page size (image_in bytes) p
+  page_past file is before after wide_ false e reads =
+      let all : length (bytes_of file) ≡ length bytes = ap (λ (f : File). length (bytes_of f)) is in
+      past (omega (arith, reads.0, all, ap (λ n. p * n + n) wide_))
+  page_past file is before after wide_ true e reads = absurd (no e)
+    where
+      no : true ≡ false → ⊥
+      no h = cc
+
+-- the first 64 bytes of a file
+pub front_read : (file : File) (bytes before after : List ℕ) (count : ℕ) → file ≡ Some bytes → length before ≡ 64 → length after ≡ 64 → 64 ≤ length bytes → ReadsBytes file 0 before after count → after ≡ take 64 bytes
+front_read file bytes before after count is room wide low reads =
+    let read : take count after ≡ take 64 bytes = reads.bytes ∙ ap (λ (f : File). take (length before) (bytes_of f)) is ∙ ap (λ n. take n bytes) room in
+    let few : count ≡ 64 = omega (arith, reads.room, room, wide, low, ap length read, length-take count after, length-take 64 bytes) in
+    sym (take_all 64 after (omega (arith, wide))) ∙ ap (λ n. take n after) (sym few) ∙ read
+
+-- A page of the image, by what was read of the file that owns it.
+module _ (bytes : List ℕ) (formed_ : not_database bytes ≡ None) (size : ℕ) (delta entries : List ℕ) where
+  pub long_enough : 64 ≤ length bytes
+  long_enough = header-long bytes (formed bytes formed_).header
+
+  pub first_owned : (k : ℕ) → entry_for 0 entries ≡ Some k → (read got : List ℕ) → got ≡ page_in size delta (slot_place size k) → read ≡ take 64 bytes ++ drop 64 got → read ≡ owned_page size (image_in bytes) delta entries 0
+  unfolding slot_page
+  first_owned k at read got is fronted =
+      fronted ∙ ap (λ (x : List ℕ). x ++ drop 64 got) (laid-front (image_in bytes) bytes (laid bytes formed_)) ∙ ap (λ (x : List ℕ). take 64 (page_at (image_in bytes) 0) ++ drop 64 x) is
+      ∙ sym (owned-entry size (image_in bytes) delta entries 0 k at)
+
+  pub later_owned : (p k : ℕ) → p ≢ 0 → entry_for p entries ≡ Some k → (got : List ℕ) → got ≡ page_in size delta (slot_place size k) → got ≡ owned_page size (image_in bytes) delta entries p
+  unfolding slot_page
+  later_owned zero k other at got is = absurd (other refl)
+  later_owned (suc p) k other at got is = is ∙ sym (owned-entry size (image_in bytes) delta entries (suc p) k at)
+
+  pub main_owned : (p : ℕ) → entry_for p entries ≡ None → (got : List ℕ) → got ≡ main_page size (image_in bytes) p → got ≡ owned_page size (image_in bytes) delta entries p
+  main_owned p none got is = is ∙ sym (owned-none size (image_in bytes) delta entries p none)
+
+-- What the files of a database that is open hold.
+pub record Reads (w : World) (held : Held) (t : Trail) : Type 0 where
+  pub bytes : List ℕ
+  pub there : w.files held.name ≡ Some bytes
+  pub formed : not_database bytes ≡ None
+  pub size : size_of bytes ≡ held.page_size
+  pub pages : (p : ℕ) → p < length t.base.image → owned_page held.page_size (image_in bytes) (bytes_of (w.files (delta_name held.name))) held.entries p ≡ page_at t.base.image p
+  pub frozen : held.state ≡ 1 → (p : ℕ) → p < length t.base.frozen → main_page held.page_size (image_in bytes) p ≡ page_at t.base.frozen p
+
+pub open_reads : (w : World) (held : Held) (t : Trail) → IsOpen w held t → Reads w held t
+open_reads w held t o =
+    let b : Base = t.base in
+    let d : File = w.files (delta_name held.name) in
+    let h : Holds b (w.files held.name) d = holds held.name b (w.files held.name) d o.shows in
+    let image : image_in h.has.bytes ≡ h.main = laid_image h.main h.has.bytes h.has.laid in
+    let none : not_database h.has.bytes ≡ None = laid_formed h.main h.has.bytes h.has.laid in
+    let same : image_size h.main ≡ held.page_size = sym (base-size b (w.files held.name) d h) ∙ sym o.agrees.page_size in
+    record {
+      bytes = h.has.bytes;
+      there = h.has.there;
+      formed = none;
+      size = sym (bytes-size h.has.bytes none) ∙ ap image_size image ∙ same;
+      pages = λ p low.
+          ap (λ (x : Image). owned_page held.page_size x (bytes_of d) held.entries p) image ∙ ap (λ n. owned_page n h.main (bytes_of d) held.entries p) (sym same)
+          ∙ ap (λ (x : List ℕ). owned_page (image_size h.main) h.main (bytes_of d) x p) o.agrees.entries ∙ sym (base-page b (w.files held.name) d h p low);
+      frozen = λ stalled p low.
+          let state : image_state h.main ≡ 1 = sym (base-state b (w.files held.name) d h) ∙ sym o.agrees.state ∙ stalled in
+          let is : b.frozen ≡ h.main = h.frozen.stalled state in
+          ap (λ (x : Image). main_page held.page_size x p) image ∙ main_here held.page_size h.main p (omega (arith, low, ap length is)) ∙ sym (ap (λ (x : Image). page_at x p) is);
+    }
+
+-- what was read of a slot, by what the object of the difference file knows
+pub got_slot : (size : ℕ) (name : List ℕ) (files now : Files) (known k_ : Known) (k : ℕ) (got : List ℕ) → now ≡ files → k_ ≡ known → size ≡ known.page_size → known.name ≡ delta_name name
+    → got ≡ page_in k_.page_size (bytes_of (now k_.name)) (slot_place k_.page_size k) → got ≡ page_in size (bytes_of (files (delta_name name))) (slot_place size k)
+got_slot size name files now known k_ k got same knows size_is named is =
+    is ∙ ap (λ (x : Known). page_in x.page_size (bytes_of (now x.name)) (slot_place x.page_size k)) knows ∙ ap (λ n. page_in n (bytes_of (now known.name)) (slot_place n k)) (sym size_is)
+    ∙ ap (λ (x : List ℕ). page_in size (bytes_of (now x)) (slot_place size k)) named ∙ ap (λ (f : Files). page_in size (bytes_of (f (delta_name name))) (slot_place size k)) same
+
+-- the same at an equal page size
+pub sized_owned : (a b : ℕ) (main : Image) (delta entries : List ℕ) (p : ℕ) (got : List ℕ) → a ≡ b → got ≡ owned_page a main delta entries p → got ≡ owned_page b main delta entries p
+sized_owned a b main delta entries p got same is = is ∙ ap (λ n. owned_page n main delta entries p) same
+
+pub sized_main : (a b : ℕ) (main : Image) (p : ℕ) (got : List ℕ) → a ≡ b → got ≡ main_page a main p → got ≡ main_page b main p
+sized_main a b main p got same is = is ∙ ap (λ n. main_page n main p) same

@@ -1,0 +1,51 @@
+-- What a stop leaves of two files that are kept for good.
+use Rattle.std.proofs.Common.{◌≡◌, ◌≢◌, ℕ, zero, suc, List, refl, sym, ap, subst, ◌∙◌, arith}
+use Rattle.std.specs.Prelude.{Ok}
+use Rattle.nb_host.specs.Files.{File, Files, bytes_of}
+use Rattle.nb_host.specs.World.{World}
+use Rattle.nb_host.specs.Crash.{IsDurable}
+use Rattle.nb_host.specs.Calls.{IsStill}
+use Rattle.nb_change.proofs.SettledLaws.{durable_is}
+use Rattle.nb_model.specs.Image.{image_size, image_state}
+use Rattle.nb_model.specs.Account.{Base}
+use Rattle.nb_model.specs.Owner.{delta_name, owned, owner}
+use Rattle.nb_model.specs.Trail.{Trail, settled, ShowsIn}
+use Rattle.nb_model.proofs.TrailLaws.{shows_settled}
+use Rattle.nb_base.specs.Open.{Held, IsOpen}
+use Rattle.nb_base.proofs.OwnedLaws.{Holds, holds, shows, base-state, owned-alone}
+
+-- in the normal state the difference file isn't looked at
+pub normal_any : (b : Base) (m d c : File) (h : Holds b m d) → image_state h.main ≡ 0 → Holds b m c
+normal_any b m d c h normal = record {
+  main = h.main;
+  has = h.has;
+  opened = h.opened;
+  entries = record { none = h.entries.none; some = λ some. absurd (omega (arith, some, normal)) };
+  image = h.image ∙ ap (λ (x : List ℕ). owned (image_size h.main) h.main (bytes_of d) x) (h.entries.none normal) ∙ sym (owned-alone (image_size h.main) h.main (bytes_of d))
+      ∙ owned-alone (image_size h.main) h.main (bytes_of c) ∙ ap (λ (x : List ℕ). owned (image_size h.main) h.main (bytes_of c) x) (sym (h.entries.none normal));
+  frozen = h.frozen;
+}
+
+-- the main file is durable, and the difference file where it is looked at
+pub both_settled : (old new : World) (held : Held) (t : Trail) → IsStill old new → IsOpen old held t → IsDurable new held.name (new.files held.name)
+    → (held.state ≢ 0 → IsDurable new (delta_name held.name) (new.files (delta_name held.name))) → IsOpen new held (settled t.base)
+both_settled old new held t still o main delta = record {
+  left = λ files all.
+      let m : files held.name ≡ new.files held.name = durable_is new held.name (new.files held.name) main (files held.name) (all held.name) in
+      shows_settled held.name t.base (files held.name) (files (delta_name held.name)) (ap (λ (x : File). owner held.name x (files (delta_name held.name))) m ∙ any (files (delta_name held.name)) (λ ne. durable_is new _ _ (delta ne) _ (all (delta_name held.name))));
+  shows = shown;
+  agrees = o.agrees;
+}
+  where
+    shown : ShowsIn held.name t.base new.files
+    shown = subst (λ (f : Files). ShowsIn held.name t.base f) (sym still.files) o.shows
+
+    any : (d : File) → (held.state ≢ 0 → d ≡ new.files (delta_name held.name)) → owner held.name (new.files held.name) d ≡ Ok t.base
+    any d is =
+        let h : Holds t.base (new.files held.name) (new.files (delta_name held.name)) = holds held.name t.base (new.files held.name) (new.files (delta_name held.name)) shown in
+        by held.state refl h
+      where
+        by : (s : ℕ) → held.state ≡ s → (h : Holds t.base (new.files held.name) (new.files (delta_name held.name))) → owner held.name (new.files held.name) d ≡ Ok t.base
+        by zero e h =
+            shows held.name t.base (new.files held.name) d (normal_any t.base (new.files held.name) (new.files (delta_name held.name)) d h (sym (base-state t.base (new.files held.name) (new.files (delta_name held.name)) h) ∙ sym o.agrees.state ∙ e))
+        by (suc s) e h = ap (owner held.name (new.files held.name)) (is (λ z. absurd (omega (arith, z, e)))) ∙ shown

@@ -1,0 +1,44 @@
+use Rattle.std.proofs.Common.{[], ◌∷◌, arith}
+use Rattle.nb_change.proofs.ReachedLaws.{strokes_composed}
+use Rattle.nb_model.specs.Strokes.{page}
+use Rattle.nb_model.specs.Trail.{after_stroke, StandsIn}
+use Rattle.nb_base.specs.Open.{OfFiles}
+use Rattle.nb_base.proofs.OutcomeLaws.{write_later}
+use Rattle.nb_base.proofs.MergedLaws.{both_after}
+use Rattle.nb_base.proofs.WriteLaws.{not_done, merges_later, entry_later}
+use Rattle.nb_base.proofs.writes.write_both.Goals as goal
+
+pub returns-in_err-write_slot-clause-takes : goal.returns-in_err-write_slot-clause-takes
+returns-in_err-write_slot-clause-takes g c t k tells seen is merges at named slot must =
+    record {
+      left = (c.write_slot.ensures.takes t c.args.name.now c.args.number k tells seen is (omega (arith, merges)) at named slot must).left;
+      done = not_done c.from_residual.result _ c.from_residual.ensures.0;
+    }
+
+pub returns-in_err-write_hidden-clause-takes : goal.returns-in_err-write_hidden-clause-takes
+returns-in_err-write_hidden-clause-takes g c t k tells seen is merges at named slot must =
+    let first = c.write_slot.ensures.takes t c.args.name.now c.args.number k tells seen is (omega (arith, merges)) at named slot must in
+    let done = (c.in_ok-write_slot.ensures.takes t c.args.name.now c.args.number k tells seen is (omega (arith, merges)) at named slot must).done in
+    let second = c.write_hidden.ensures.takes (after_stroke (page c.args.number c.args.page.now) t) k tells done (write_later c.args.name.now t c.args.number c.args.page.now is)
+    (merges_later t c.args.number c.args.page.now is merges) (entry_later t c.args.number c.args.page.now merges k at) in
+    record {
+      left = strokes_composed after_stroke (StandsIn c.args.name.now) (OfFiles c.args.name.now) (g.H.Host.world c.args.host.now) (g.H.Host.world c.write_slot.new.host) (g.H.Host.world c.write_hidden.new.host) t (page c.args.number c.args.page.now ∷ []) [] first.left second.left;
+      done = not_done c.from_residual-in_err-write_hidden.result _ c.from_residual-in_err-write_hidden.ensures.0;
+    }
+
+pub returns-clause-takes : goal.returns-clause-takes
+returns-clause-takes g c t k tells seen is merges at named slot must =
+    let first = c.write_slot.ensures.takes t c.args.name.now c.args.number k tells seen is (omega (arith, merges)) at named slot must in
+    let done = (c.in_ok-write_slot.ensures.takes t c.args.name.now c.args.number k tells seen is (omega (arith, merges)) at named slot must).done in
+    let second = c.write_hidden.ensures.takes (after_stroke (page c.args.number c.args.page.now) t) k tells done (write_later c.args.name.now t c.args.number c.args.page.now is)
+    (merges_later t c.args.number c.args.page.now is merges) (entry_later t c.args.number c.args.page.now merges k at) in
+    record {
+      left = strokes_composed after_stroke (StandsIn c.args.name.now) (OfFiles c.args.name.now) (g.H.Host.world c.args.host.now) (g.H.Host.world c.write_slot.new.host) (g.H.Host.world c.write_hidden.new.host) t (page c.args.number c.args.page.now ∷ []) [] first.left second.left;
+      done = (c.in_ok-write_hidden.ensures.takes (after_stroke (page c.args.number c.args.page.now) t) k tells done (write_later c.args.name.now t c.args.number c.args.page.now is)
+          (merges_later t c.args.number c.args.page.now is merges) (entry_later t c.args.number c.args.page.now merges k at)).done;
+    }
+
+pub returns-clause-merged : goal.returns-clause-merged
+returns-clause-merged g c t held n k tells seen is merges entries named sized beside at slot merged =
+    both_after (g.H.Host.world c.args.host.now) held t c.args.number c.args.page.now is seen merges entries c.args.name.now c.args.delta.now.name c.args.delta.now.page_size named sized beside c.requires.size c.requires.page
+    (g.H.Host.world c.write_slot.new.host) (g.H.Host.world c.write_hidden.new.host) k at (c.write_slot.ensures.others tells k slot) (c.in_ok-write_slot.ensures.put tells k slot) (c.in_ok-write_hidden.ensures.put tells) n merged

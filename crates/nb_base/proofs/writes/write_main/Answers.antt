@@ -1,0 +1,49 @@
+use Rattle.std.proofs.Common.{sym, ◌∙◌}
+use Rattle.nb_change.proofs.ChangesLaws.{still_more}
+use Rattle.nb_base.proofs.WriteLaws.{not_done, struck_main, main_shown, main_synced, stays_seen}
+use Rattle.nb_base.proofs.writes.write_main.Goals as goal
+
+pub returns-in_err-write_page-clause-takes : goal.returns-in_err-write_page-clause-takes
+returns-in_err-write_page-clause-takes g c t tells seen is other none must =
+    record {
+      left = struck_main c.args.name.now t c.args.number c.args.page.now is (g.H.Host.world c.args.host.now) (g.met.H.Host.timely c.args.host.now) (g.met.H.Host.reads_left c.args.host.now tells) seen
+          (g.H.Host.world c.write_page.new.self) other none g.H.Host.tells c.write_page.result tells c.write_page.ensures.files c.write_page.ensures.log.said c.write_page.ensures.time;
+      done = not_done c.from_residual.result _ c.from_residual.ensures.0;
+    }
+
+pub returns-in_err-sync-clause-takes : goal.returns-in_err-sync-clause-takes
+returns-in_err-sync-clause-takes g c t tells seen is other none must =
+    let left = struck_main c.args.name.now t c.args.number c.args.page.now is (g.H.Host.world c.args.host.now) (g.met.H.Host.timely c.args.host.now) (g.met.H.Host.reads_left c.args.host.now tells) seen
+    (g.H.Host.world c.write_page.new.self) other none g.H.Host.tells c.write_page.result tells c.write_page.ensures.files c.write_page.ensures.log.said c.write_page.ensures.time in
+    record {
+      left = still_more _ _ (g.H.Host.world c.sync.new.self) _ _ left c.sync.ensures.time c.sync.ensures.files.still c.sync.ensures.log.said;
+      done = not_done c.from_residual-in_err-sync.result _ c.from_residual-in_err-sync.ensures.0;
+    }
+
+pub returns-in_ok-sync-clause-takes : goal.returns-in_ok-sync-clause-takes
+returns-in_ok-sync-clause-takes g c t tells seen is other none must =
+    let old = g.H.Host.world c.args.host.now in
+    let mid = g.H.Host.world c.write_page.new.self in
+    let timely = g.met.H.Host.timely c.args.host.now in
+    let reads = g.met.H.Host.reads_left c.args.host.now tells in
+    let left = struck_main c.args.name.now t c.args.number c.args.page.now is old timely reads seen
+    mid other none g.H.Host.tells c.write_page.result tells c.write_page.ensures.files c.write_page.ensures.log.said c.write_page.ensures.time in
+    record {
+      left = still_more _ _ (g.H.Host.world c.sync.new.self) _ _ left c.sync.ensures.time c.sync.ensures.files.still c.sync.ensures.log.said;
+      done = main_synced c.args.name.now t c.args.number c.args.page.now is old timely reads seen mid other none (c.in_ok-write_page.ensures.files.files tells)
+          (g.H.Host.world c.sync.new.self) c.write_page.ensures.files.left.others c.sync.ensures.files.still (c.in_ok-sync.ensures.files.durable tells);
+    }
+
+pub returns-else-synced-clause-takes : goal.returns-else-synced-clause-takes
+returns-else-synced-clause-takes g c t tells seen is other none must =
+    let old = g.H.Host.world c.args.host.now in
+    let mid = g.H.Host.world c.write_page.new.self in
+    let timely = g.met.H.Host.timely c.args.host.now in
+    let reads = g.met.H.Host.reads_left c.args.host.now tells in
+    let left = struck_main c.args.name.now t c.args.number c.args.page.now is old timely reads seen
+    mid other none g.H.Host.tells c.write_page.result tells c.write_page.ensures.files c.write_page.ensures.log.said c.write_page.ensures.time in
+    record {
+      left = left;
+      done = stays_seen c.args.name.now t c.args.number c.args.page.now is old timely reads seen mid (sym must ∙ c.if-synced.false) left
+          (main_shown c.args.name.now t c.args.number c.args.page.now is old timely reads seen mid other none (c.in_ok-write_page.ensures.files.files tells));
+    }

@@ -1,0 +1,60 @@
+use Rattle.std.proofs.Common.{sym, subst, ap, ◌∙◌}
+use Rattle.nb_host.specs.World.{World}
+use Rattle.nb_fields.specs.Table.{slot_place}
+use Rattle.nb_delta.specs.Known.{Known}
+use Rattle.nb_model.specs.Owner.{entry_for}
+use Rattle.nb_base.specs.Open.{AreMerged}
+use Rattle.nb_base.specs.Seen.{IsSeen}
+use Rattle.nb_base.proofs.MergedLaws.{plain_after}
+use Rattle.nb_base.proofs.PlaceLaws.{slot_answered, none_found}
+use Rattle.nb_base.proofs.WriteLaws.{takes_passed, takes_done, merges_where}
+use Rattle.nb_base.proofs.writes.write_plain.Goals as goal
+
+pub returns-in_err-write_both-in-Some-clause-takes : goal.returns-in_err-write_both-in-Some-clause-takes
+returns-in_err-write_both-in-Some-clause-takes g c t tells seen is other entries named must =
+    let same = ap g.H.Host.world c.slot_of.ensures.no_call in
+    let slot = slot_answered c.slot_of.result c.args.delta.now.page_size c.in-Some.slot c.args.number c.args.delta.now.entries c.in_ok-slot.field-0 c.in_ok-slot.was c.slot_of.ensures.slot c.in-Some.is in
+    let at = ap (entry_for c.args.number) entries ∙ slot.at in
+    takes_passed c.write_both.result c.from_residual-in_err-write_both-in-Some.result (g.H.Host.world c.args.host.now) (g.H.Host.world c.slot_of.new._host) (g.H.Host.world c.write_both.new.host) c.args.name.now _ _ t _ same
+    (c.write_both.ensures.takes t slot.k tells (subst (λ (w : World). IsSeen w c.args.name.now t) (sym same) seen) is (merges_where c.args.name.now t (g.H.Host.world c.args.host.now) seen other c.args.number slot.k at) at
+    (ap (λ (k : Known). k.name) c.slot_of.ensures.same ∙ named) (slot.place ∙ ap (λ (k : Known). slot_place k.page_size slot.k) (sym c.slot_of.ensures.same)) must)
+    c.from_residual-in_err-write_both-in-Some.ensures.0
+
+pub returns-in_err-write_main-in-None-clause-takes : goal.returns-in_err-write_main-in-None-clause-takes
+returns-in_err-write_main-in-None-clause-takes g c t tells seen is other entries named must =
+    let same = ap g.H.Host.world c.slot_of.ensures.no_call in
+    let none = ap (entry_for c.args.number) entries ∙ none_found c.args.number c.args.delta.now.entries (c.in_ok-slot.ensures.none c.in-None.is) in
+    takes_passed c.write_main.result c.from_residual-in_err-write_main-in-None.result (g.H.Host.world c.args.host.now) (g.H.Host.world c.slot_of.new._host) (g.H.Host.world c.write_main.new.host) c.args.name.now _ _ t _ same
+    (c.write_main.ensures.takes t tells (subst (λ (w : World). IsSeen w c.args.name.now t) (sym same) seen) is other none must)
+    c.from_residual-in_err-write_main-in-None.ensures.0
+
+pub returns-in_ok-write_both-in-Some-clause-takes : goal.returns-in_ok-write_both-in-Some-clause-takes
+returns-in_ok-write_both-in-Some-clause-takes g c t tells seen is other entries named must =
+    let same = ap g.H.Host.world c.slot_of.ensures.no_call in
+    let slot = slot_answered c.slot_of.result c.args.delta.now.page_size c.in-Some.slot c.args.number c.args.delta.now.entries c.in_ok-slot.field-0 c.in_ok-slot.was c.slot_of.ensures.slot c.in-Some.is in
+    let at = ap (entry_for c.args.number) entries ∙ slot.at in
+    takes_done _ _ (g.H.Host.world c.args.host.now) (g.H.Host.world c.slot_of.new._host) (g.H.Host.world c.write_both.new.host) c.args.name.now _ t _ same
+    (c.in_ok-write_both-in-Some.ensures.takes t slot.k tells (subst (λ (w : World). IsSeen w c.args.name.now t) (sym same) seen) is (merges_where c.args.name.now t (g.H.Host.world c.args.host.now) seen other c.args.number slot.k at) at
+    (ap (λ (k : Known). k.name) c.slot_of.ensures.same ∙ named) (slot.place ∙ ap (λ (k : Known). slot_place k.page_size slot.k) (sym c.slot_of.ensures.same)) must)
+
+pub returns-in_ok-write_main-in-None-clause-takes : goal.returns-in_ok-write_main-in-None-clause-takes
+returns-in_ok-write_main-in-None-clause-takes g c t tells seen is other entries named must =
+    let same = ap g.H.Host.world c.slot_of.ensures.no_call in
+    let none = ap (entry_for c.args.number) entries ∙ none_found c.args.number c.args.delta.now.entries (c.in_ok-slot.ensures.none c.in-None.is) in
+    takes_done _ _ (g.H.Host.world c.args.host.now) (g.H.Host.world c.slot_of.new._host) (g.H.Host.world c.write_main.new.host) c.args.name.now _ t _ same
+    (c.in_ok-write_main-in-None.ensures.takes t tells (subst (λ (w : World). IsSeen w c.args.name.now t) (sym same) seen) is other none must)
+
+pub returns-in_ok-write_both-in-Some-clause-merged : goal.returns-in_ok-write_both-in-Some-clause-merged
+returns-in_ok-write_both-in-Some-clause-merged g c t held n tells seen is merges entries named sized beside knows merged =
+    let same = ap g.H.Host.world c.slot_of.ensures.no_call in
+    let slot = slot_answered c.slot_of.result c.args.delta.now.page_size c.in-Some.slot c.args.number c.args.delta.now.entries c.in_ok-slot.field-0 c.in_ok-slot.was c.slot_of.ensures.slot c.in-Some.is in
+    c.in_ok-write_both-in-Some.ensures.merged t held n slot.k tells (subst (λ (w : World). IsSeen w held.name t) (sym same) seen) is merges entries named
+    (sized ∙ ap (λ (k : Known). k.page_size) (sym c.slot_of.ensures.same)) (ap (λ (k : Known). k.name) c.slot_of.ensures.same ∙ beside) (ap (entry_for c.args.number) knows ∙ slot.at)
+    (slot.place ∙ ap (λ (k : Known). slot_place k.page_size slot.k) (sym c.slot_of.ensures.same)) (subst (λ (w : World). AreMerged w held n) (sym same) merged)
+
+pub returns-in_ok-write_main-in-None-clause-merged : goal.returns-in_ok-write_main-in-None-clause-merged
+returns-in_ok-write_main-in-None-clause-merged g c t held n tells seen is merges entries named sized beside knows merged =
+    let same = ap g.H.Host.world c.slot_of.ensures.no_call in
+    let none = ap (entry_for c.args.number) knows ∙ none_found c.args.number c.args.delta.now.entries (c.in_ok-slot.ensures.none c.in-None.is) in
+    plain_after (g.H.Host.world c.slot_of.new._host) held t c.args.number c.args.page.now is (subst (λ (w : World). IsSeen w held.name t) (sym same) seen) merges entries c.args.name.now c.args.delta.now.name c.args.delta.now.page_size
+    named sized beside c.requires.size c.requires.page (g.H.Host.world c.write_main.new.host) none (c.in_ok-write_main-in-None.ensures.put tells) n (subst (λ (w : World). AreMerged w held n) (sym same) merged)

@@ -1,0 +1,53 @@
+use Rattle.std.proofs.Common.{sym, subst, ap, ◌∙◌, arith}
+use Rattle.nb_host.specs.World.{World}
+use Rattle.nb_fields.specs.Table.{slot_place}
+use Rattle.nb_delta.specs.Known.{Known}
+use Rattle.nb_model.specs.Strokes.{noted}
+use Rattle.nb_model.specs.Owner.{entry_for}
+use Rattle.nb_base.specs.Seen.{IsSeen}
+use Rattle.nb_base.proofs.LeftLaws.{noted-there, noted-new}
+use Rattle.nb_base.proofs.PlaceLaws.{slot_answered, none_found, kept_entries, more_entries, kept_more}
+use Rattle.nb_base.proofs.WriteLaws.{takes_passed, takes_done}
+use Rattle.nb_base.proofs.writes.write_stalled.Goals as goal
+
+pub returns-in_err-write_slot-in-Some-clause-takes : goal.returns-in_err-write_slot-in-Some-clause-takes
+returns-in_err-write_slot-in-Some-clause-takes g c t name tells seen is stalled entries named must =
+    let same = ap g.H.Host.world c.slot_of.ensures.no_call in
+    let slot = slot_answered c.slot_of.result c.args.delta.now.page_size c.in-Some.slot c.args.number c.args.delta.now.entries c.in_ok-slot.field-0 c.in_ok-slot.was c.slot_of.ensures.slot c.in-Some.is in
+    takes_passed c.write_slot.result c.from_residual-in_err-write_slot-in-Some.result (g.H.Host.world c.args.host.now) (g.H.Host.world c.slot_of.new._host) (g.H.Host.world c.write_slot.new.host) name _ _ t _ same
+    (c.write_slot.ensures.takes t name c.args.number slot.k tells (subst (λ (w : World). IsSeen w name t) (sym same) seen) is (omega (arith, stalled)) (ap (entry_for c.args.number) entries ∙ slot.at)
+    (ap (λ (k : Known). k.name) c.slot_of.ensures.same ∙ named) (slot.place ∙ ap (λ (k : Known). slot_place k.page_size slot.k) (sym c.slot_of.ensures.same)) must)
+    c.from_residual-in_err-write_slot-in-Some.ensures.0
+
+pub returns-in_err-add_entry-in-None-clause-takes : goal.returns-in_err-add_entry-in-None-clause-takes
+returns-in_err-add_entry-in-None-clause-takes g c t name tells seen is stalled entries named must =
+    let same = ap g.H.Host.world c.slot_of.ensures.no_call in
+    takes_passed c.add_entry.result c.from_residual-in_err-add_entry-in-None.result (g.H.Host.world c.args.host.now) (g.H.Host.world c.slot_of.new._host) (g.H.Host.world c.add_entry.new.host) name _ _ t _ same
+    (c.add_entry.ensures.takes t name tells (subst (λ (w : World). IsSeen w name t) (sym same) seen) is stalled (entries ∙ ap (λ (k : Known). k.entries) (sym c.slot_of.ensures.same))
+    (ap (λ (k : Known). k.name) c.slot_of.ensures.same ∙ named) must)
+    c.from_residual-in_err-add_entry-in-None.ensures.0
+
+pub returns-in_ok-write_slot-in-Some-clause-takes : goal.returns-in_ok-write_slot-in-Some-clause-takes
+returns-in_ok-write_slot-in-Some-clause-takes g c t name tells seen is stalled entries named must =
+    let same = ap g.H.Host.world c.slot_of.ensures.no_call in
+    let slot = slot_answered c.slot_of.result c.args.delta.now.page_size c.in-Some.slot c.args.number c.args.delta.now.entries c.in_ok-slot.field-0 c.in_ok-slot.was c.slot_of.ensures.slot c.in-Some.is in
+    takes_done _ _ (g.H.Host.world c.args.host.now) (g.H.Host.world c.slot_of.new._host) (g.H.Host.world c.write_slot.new.host) name _ t _ same
+    (c.in_ok-write_slot-in-Some.ensures.takes t name c.args.number slot.k tells (subst (λ (w : World). IsSeen w name t) (sym same) seen) is (omega (arith, stalled)) (ap (entry_for c.args.number) entries ∙ slot.at)
+    (ap (λ (k : Known). k.name) c.slot_of.ensures.same ∙ named) (slot.place ∙ ap (λ (k : Known). slot_place k.page_size slot.k) (sym c.slot_of.ensures.same)) must)
+
+pub returns-in_ok-write_slot-in-Some-clause-known : goal.returns-in_ok-write_slot-in-Some-clause-known
+returns-in_ok-write_slot-in-Some-clause-known g c =
+    let slot = slot_answered c.slot_of.result c.args.delta.now.page_size c.in-Some.slot c.args.number c.args.delta.now.entries c.in_ok-slot.field-0 c.in_ok-slot.was c.slot_of.ensures.slot c.in-Some.is in
+    c.write_slot.ensures.same ∙ c.slot_of.ensures.same ∙ kept_entries c.args.delta.now (noted c.args.number c.args.delta.now.entries) (sym (noted-there c.args.number c.args.delta.now.entries slot.k slot.at))
+
+pub returns-in_ok-add_entry-in-None-clause-takes : goal.returns-in_ok-add_entry-in-None-clause-takes
+returns-in_ok-add_entry-in-None-clause-takes g c t name tells seen is stalled entries named must =
+    let same = ap g.H.Host.world c.slot_of.ensures.no_call in
+    takes_done _ _ (g.H.Host.world c.args.host.now) (g.H.Host.world c.slot_of.new._host) (g.H.Host.world c.add_entry.new.host) name _ t _ same
+    (c.in_ok-add_entry-in-None.ensures.takes t name tells (subst (λ (w : World). IsSeen w name t) (sym same) seen) is stalled (entries ∙ ap (λ (k : Known). k.entries) (sym c.slot_of.ensures.same))
+    (ap (λ (k : Known). k.name) c.slot_of.ensures.same ∙ named) must)
+
+pub returns-in_ok-add_entry-in-None-clause-known : goal.returns-in_ok-add_entry-in-None-clause-known
+returns-in_ok-add_entry-in-None-clause-known g c =
+    c.in_ok-add_entry-in-None.ensures.known ∙ more_entries c.slot_of.new.self c.args.delta.now c.args.number c.slot_of.ensures.same
+    ∙ kept_more c.args.delta.now c.args.number (noted-new c.args.number c.args.delta.now.entries (none_found c.args.number c.args.delta.now.entries (c.in_ok-slot.ensures.none c.in-None.is)))

@@ -1,0 +1,6 @@
+pub mod Open
+pub mod Seen
+pub mod Takes
+pub mod Beginnings
+pub mod Attach
+pub mod Control

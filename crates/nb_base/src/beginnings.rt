@@ -1,0 +1,125 @@
+// A database is made, so that a stop leaves no half of one, and opened.
+ghost use Rattle.std.specs.Prelude.{◌≡◌, ◌≤◌, ◌<◌, ℕ, IsTrue, OnOk, IfOk, IfErr, length};
+ghost use Rattle.nb_fields.specs.Places.{is_page_size};
+ghost use Rattle.nb_fields.specs.Fresh.{fresh, fresh_count};
+ghost use Rattle.nb_host.specs.Causes.{CountsFault};
+ghost use Rattle.nb_host.specs.declared.faults.Fault.TheVariants.{Memory};
+ghost use Rattle.nb_change.specs.Changes.{Changes, Only};
+ghost use Rattle.nb_change.specs.Counts.{CountsDevice};
+ghost use Rattle.nb_change.specs.Gave.{GaveNothing};
+ghost use Rattle.nb_page.specs.Quiet.{Quiet};
+ghost use Rattle.nb_model.specs.Account.{base_of};
+ghost use Rattle.nb_base.specs.Beginnings.{CreateLeft, CreatesFile, Attaches, Creates, IsSettled};
+
+use crate::TwoFiles;
+use crate::attach::{attach_delta, count_with, find_length, keep_files, read_start};
+use nb_delta::Delta;
+use nb_host::{Fault, Host, HostFault, Name, Refusal};
+use nb_page::{fresh, fresh_count, is_free};
+use std::alloc::Global;
+
+/// Makes the file of a new database. Its pages from 1 on are kept for good before page 0 is written, so that a creation
+/// that was stopped leaves no database.
+fn make_file<H: Host>(
+    host: &mut H,
+    name: &Name,
+    page: &mut [u8],
+    raw: u32,
+    count: u32,
+) -> Result<(), HostFault>
+    requires size { IsTrue (is_page_size (length page.old)) }
+    requires few { raw ≤ 65535 }
+    requires count { count ≡ fresh_count (length page.old) raw }
+    ensures left { IsTrue H.tells → Changes (H.world host.old) (H.world host.new) (Only name.now) (CreateLeft (H.world host.old) name.now (fresh (length page.old) raw)) }
+    ensures made { IsTrue H.tells → OnOk result (IsSettled (H.world host.new) name.now (base_of (fresh (length page.old) raw))) }
+    ensures gave { GaveNothing (H.world host.old) (H.world host.new) }
+    ensures cause { CountsFault result (H.faults host.old) (H.faults host.new) }
+{
+    host.make(name)?;
+    for number in 1..count {
+        fresh(page, raw, number);
+        host.write_page(name, number, page)?;
+    }
+    host.sync(name)?;
+    fresh(page, raw, 0);
+    host.write_page(name, 0, page)?;
+    host.sync(name)
+}
+
+/// Makes a new database with `raw` raw pages of the length of `page`, and answers how many pages it has. The refusal is `FileExists`,
+/// where the name is not free.
+fn create_file<H: Host>(host: &mut H, name: &Name, page: &mut [u8], raw: u32) -> Result<u32, Fault>
+    requires size { IsTrue (is_page_size (length page.old)) }
+    requires raw { raw ≤ 65535 }
+    ensures creates { IsTrue H.tells → CreatesFile result (H.world host.old) (H.world host.new) name.now (fresh (length page.old) raw) }
+    ensures gave { GaveNothing (H.world host.old) (H.world host.new) }
+    ensures count { IfOk result (λ count. count ≤ 1048576) }
+    ensures cause { CountsDevice result (H.faults host.old) (H.faults host.new) }
+{
+    if !is_free(host, name)? {
+        return Err(Fault::Refused(Refusal::FileExists {
+            name: name.copied(),
+        }));
+    }
+    let count = fresh_count(page.len() as u32, raw);
+    make_file(host, name, page, raw, count)?;
+    Ok(count)
+}
+
+impl TwoFiles {
+    /// Opens the two files of a database, and takes room for one of its pages. It changes nothing: both files are kept for good before
+    /// it answers, so that no later stop takes back what was read of them.
+    ///
+    /// The refusals are `NoFile`, `NotDatabase`, `Unfinished`, `NoFile` of the difference file and `BadDelta`, in this order.
+    pub fn attach<H: Host>(alloc: Global, host: &mut H, name: &Name) -> Result<TwoFiles, Fault>
+        requires name { length name.now ≤ 94 }
+        ensures attaches { IsTrue H.tells → Attaches result (H.world host.old) (H.world host.new) name.now }
+        ensures quiet { Quiet (H.world host.old) (H.world host.new) }
+        ensures cause { CountsDevice result (H.faults host.old) (H.faults host.new) }
+    {
+        let start = read_start(host, name)?;
+        let mut page = vec![in alloc; 0; start.page_size as usize]?;
+        let beside = name.delta();
+        let mut delta = attach_delta(alloc, host, &beside, start)?;
+        let main_count = find_length(host, name, start.pages, &mut page)?;
+        let count = count_with(host, &mut delta, main_count)?;
+        keep_files(host, name, &beside, start.state)?;
+        Ok(TwoFiles {
+            name: name.copied(),
+            state: start.state,
+            count,
+            main_count,
+            delta,
+            page,
+        })
+    }
+
+    /// Makes a new database with `raw` raw pages, and opens it. The refusal is `FileExists`, where the name is not free; then nothing
+    /// has changed.
+    pub fn create<H: Host>(
+        alloc: Global,
+        host: &mut H,
+        name: &Name,
+        page_size: u32,
+        raw: u32,
+    ) -> Result<TwoFiles, Fault>
+        requires size { IsTrue (is_page_size page_size) }
+        requires raw { raw ≤ 65535 }
+        requires name { length name.now ≤ 94 }
+        ensures creates { IsTrue H.tells → Creates result (H.world host.old) (H.world host.new) name.now (fresh page_size raw) }
+        ensures page_size { IfOk result (λ files. files.page_size ≡ page_size) }
+        ensures cause { CountsDevice result (H.faults host.old) (H.faults host.new) }
+    {
+        let mut page = vec![in alloc; 0; page_size as usize]?;
+        let delta = Delta::blank(alloc, &name.delta(), page_size)?;
+        let count = create_file(host, name, &mut page, raw)?;
+        Ok(TwoFiles {
+            name: name.copied(),
+            state: 0,
+            count,
+            main_count: count,
+            delta,
+            page,
+        })
+    }
+}

@@ -1,0 +1,212 @@
+ghost use Rattle.std.specs.Prelude.{◌≡◌, ◌<◌, ◌≤◌, ◌+◌, ℕ, List, [], ◌∷◌, length, slice_index, IsTrue, IfErr, OnOk, Option, false};
+ghost use Rattle.nb_fields.specs.Bytes.{is_zeros};
+ghost use Rattle.nb_fields.specs.Places.{is_page_size};
+ghost use Rattle.nb_fields.specs.Fresh.{fresh};
+ghost use Rattle.nb_host.specs.Calls.{IsSilent};
+ghost use Rattle.nb_host.specs.Causes.{CountsFault};
+ghost use Rattle.nb_change.specs.Counts.{CountsDevice};
+ghost use Rattle.nb_change.specs.Gave.{GaveNothing};
+ghost use Rattle.nb_page.specs.Quiet.{Quiet};
+ghost use Rattle.nb_model.specs.Account.{Ask};
+ghost use Rattle.nb_model.specs.Image.{page_at, image_scn, is_forced};
+ghost use Rattle.nb_model.specs.Strokes.{page as page_stroke, begin as begin_stroke, ends, finish as finish_stroke};
+ghost use Rattle.nb_model.specs.Trail.{Trail, settled, is_synced as must_sync};
+ghost use Rattle.nb_base.specs.Open.{IsOpen, Fits, AreMerged};
+ghost use Rattle.nb_base.specs.Seen.{IsSeen, IsWrite, noted_in};
+ghost use Rattle.nb_base.specs.Takes.{Takes, IsNoRefusal};
+ghost use Rattle.nb_base.specs.Beginnings.{Attaches, Creates};
+
+use crate::reads::{read_owned, read_page};
+use crate::sync::sync_both;
+use crate::writes::{is_synced, write_plain, write_stalled};
+use nb_delta::Delta;
+use nb_host::{Fault, Host, HostFault, Name};
+use std::alloc::Global;
+use std::marker::Model;
+
+/// The two files of one database.
+#[derive(Drop)]
+pub struct TwoFiles {
+    pub(crate) name: Name,
+    /// The backup state: 0 normal, 1 stalled, 2 merge.
+    pub(crate) state: u16,
+    /// In pages.
+    pub(crate) count: u32,
+    pub(crate) main_count: u32,
+    pub(crate) delta: Delta,
+    /// Room for one page.
+    pub(crate) page: Vec<u8>,
+}
+
+impl Model for TwoFiles {
+    ghost use Rattle.std.specs.Prelude.{◌≡◌, ◌≤◌, IsTrue, length, vec_len};
+    ghost use Rattle.nb_fields.specs.Places.{is_page_size};
+    ghost use Rattle.nb_model.specs.Owner.{delta_name};
+    ghost use Rattle.nb_base.specs.Open.{Held};
+
+    ghost Value = { Held };
+
+    ghost view = { λ f. record { name = f.name; page_size = f.delta.page_size; state = f.state; count = f.count; main_count = f.main_count; entries = f.delta.entries } };
+
+    ghost invariant = { λ f. IsTrue (is_page_size f.delta.page_size) × (f.count ≤ 1048576) × (f.main_count ≤ 1048576) × (vec_len f.page ≡ f.delta.page_size) × (length f.name ≤ 94) × (f.delta.name ≡ delta_name f.name) × (f.delta.drafted ≡ 0) };
+}
+
+impl TwoFiles {
+    /// How many pages the database has.
+    pub fn count(&self) -> u32
+        ensures value { result ≡ self.now.count }
+        ensures most { result ≤ 1048576 }
+    {
+        self.count
+    }
+
+    /// In bytes.
+    pub fn page_size(&self) -> u32
+        ensures value { result ≡ self.now.page_size }
+        ensures one_of { IsTrue (is_page_size result) }
+    {
+        self.page.len() as u32
+    }
+
+    /// The backup state: 0 normal, 1 stalled, 2 merge.
+    pub fn state(&self) -> u16
+        ensures { result ≡ self.now.state }
+    {
+        self.state
+    }
+
+    /// How many pages the difference file holds; none in the normal state.
+    pub fn delta_count(&self) -> u32
+        ensures value { result ≡ length self.now.entries }
+        ensures most { result ≤ 1048576 }
+    {
+        self.delta.count()
+    }
+
+    /// How many pages the main file has, as it is frozen in the stalled state.
+    pub fn main_count(&self) -> u32
+        ensures { result ≡ self.now.main_count }
+    {
+        self.main_count
+    }
+
+    /// Fills in page `number` of the database, from the file that holds it. Page 0 has its first 64 bytes from the main file, so it may
+    /// take two reads; every other page takes one.
+    pub fn read<H: Host>(
+        &mut self,
+        host: &mut H,
+        number: u32,
+        into: &mut [u8],
+    ) -> Result<(), HostFault>
+        requires size { length into.old ≡ self.old.page_size }
+        ensures page { (t : Trail) → IsTrue H.tells → IsOpen (H.world host.old) self.old t → number < length t.base.image → OnOk result (into.new ≡ page_at t.base.image number) }
+        ensures open { (t : Trail) → IsTrue H.tells → IsOpen (H.world host.old) self.old t → IsOpen (H.world host.new) self.new t }
+        ensures same { self.new ≡ self.old }
+        ensures quiet { Quiet (H.world host.old) (H.world host.new) }
+        ensures reads { IsTrue H.tells → 0 < number → (H.world host.new).reads ≤ (H.world host.old).reads + 1 }
+        ensures first_reads { IsTrue H.tells → (H.world host.new).reads ≤ (H.world host.old).reads + 2 }
+        ensures cause { CountsFault result (H.faults host.old) (H.faults host.new) }
+    {
+        read_owned(host, &self.name, &mut self.delta, number, into)?;
+        Ok(())
+    }
+
+    /// Replaces page `number` of the database, or adds it at the end. It is kept for good where writes are forced, where it makes the
+    /// database longer, and where it is page 0 or an SCN inventory page.
+    ///
+    /// Where it wants memory nothing has changed.
+    pub fn write<H: Host>(
+        &mut self,
+        host: &mut H,
+        number: u32,
+        page: &[u8],
+        forced: bool,
+    ) -> Result<(), Fault>
+        requires size { length page.now ≡ self.old.page_size }
+        requires most { number < 1048576 }
+        requires some { is_zeros page.now ≡ false }
+        ensures takes { (t : Trail) → IsTrue H.tells → IsOpen (H.world host.old) self.old t → Fits number page.now t.base.image → forced ≡ is_forced t.base.image
+            → Takes result (H.world host.old) (H.world host.new) self.old.name (IsOpen (H.world host.new) self.new) t (page_stroke number page.now ∷ []) }
+        ensures merged { (t : Trail) (k : ℕ) → IsTrue H.tells → IsOpen (H.world host.old) self.old t → Fits number page.now t.base.image → self.old.state ≡ 2
+            → AreMerged (H.world host.old) self.old k → OnOk result (AreMerged (H.world host.new) self.new k) }
+        ensures gave { GaveNothing (H.world host.old) (H.world host.new) }
+        ensures reads { (H.world host.new).reads ≡ (H.world host.old).reads }
+        ensures state { self.new.state ≡ self.old.state }
+        ensures entries { self.old.state ≡ 2 → self.new.entries ≡ self.old.entries }
+        ensures name { self.new.name ≡ self.old.name }
+        ensures page_size { self.new.page_size ≡ self.old.page_size }
+        ensures cause { CountsDevice result (H.faults host.old) (H.faults host.new) }
+        ensures not_refused { IfErr result IsNoRefusal }
+        ensures on_memory { result ≡ Err Fault.Memory → (self.new ≡ self.old) × (host.new ≡ host.old) }
+    {
+        let synced = is_synced(forced, self.page.len() as u32, self.count, number);
+        self.put(host, number, page, synced)?;
+        self.count = self.count.max(number + 1);
+        Ok(())
+    }
+
+    /// Writes a page by the state, and keeps it for good where it is to be synced.
+    fn put<H: Host>(
+        &mut self,
+        host: &mut H,
+        number: u32,
+        page: &[u8],
+        synced: bool,
+    ) -> Result<(), Fault>
+        requires size { length page.now ≡ self.old.page_size }
+        requires most { number < 1048576 }
+        ensures takes { (t : Trail) → IsTrue H.tells → IsOpen (H.world host.old) self.old t → IsWrite t number page.now → synced ≡ must_sync t.base.image number
+            → Takes result (H.world host.old) (H.world host.new) self.old.name (IsSeen (H.world host.new) self.old.name) t (page_stroke number page.now ∷ []) }
+        ensures merged { (t : Trail) (k : ℕ) → IsTrue H.tells → IsOpen (H.world host.old) self.old t → IsWrite t number page.now → self.old.state ≡ 2
+            → AreMerged (H.world host.old) self.old k → OnOk result (AreMerged (H.world host.new) self.old k) }
+        ensures known { OnOk result (self.new ≡ record self.old { entries = noted_in self.old.state number self.old.entries }) }
+        ensures state { self.new.state ≡ self.old.state }
+        ensures entries { self.old.state ≡ 2 → self.new.entries ≡ self.old.entries }
+        ensures name { self.new.name ≡ self.old.name }
+        ensures page_size { self.new.page_size ≡ self.old.page_size }
+        ensures log { IsSilent (H.world host.old) (H.world host.new) }
+        ensures cause { CountsDevice result (H.faults host.old) (H.faults host.new) }
+        ensures not_refused { IfErr result IsNoRefusal }
+        ensures on_memory { result ≡ Err Fault.Memory → (self.new ≡ self.old) × (host.new ≡ host.old) }
+    {
+        if self.state == 1 {
+            write_stalled(host, &mut self.delta, number, page, synced)?;
+            Ok(())
+        } else {
+            write_plain(host, &self.name, &mut self.delta, number, page, synced)?;
+            Ok(())
+        }
+    }
+
+    /// Keeps both files for good. It changes nothing.
+    pub fn sync<H: Host>(&mut self, host: &mut H) -> Result<(), HostFault>
+        ensures open { (t : Trail) → IsTrue H.tells → IsOpen (H.world host.old) self.old t → IsOpen (H.world host.new) self.new t }
+        ensures settled { (t : Trail) → IsTrue H.tells → IsOpen (H.world host.old) self.old t → OnOk result (IsOpen (H.world host.new) self.new (settled t.base)) }
+        ensures merged { (k : ℕ) → AreMerged (H.world host.old) self.old k → AreMerged (H.world host.new) self.new k }
+        ensures same { self.new ≡ self.old }
+        ensures quiet { Quiet (H.world host.old) (H.world host.new) }
+        ensures cause { CountsFault result (H.faults host.old) (H.faults host.new) }
+    {
+        sync_both(host, &self.name, &self.name.delta(), self.state != 0)?;
+        Ok(())
+    }
+
+    /// Fills in page `number` of the main file as it is frozen, in the stalled state.
+    pub fn read_main<H: Host>(
+        &mut self,
+        host: &mut H,
+        number: u32,
+        into: &mut [u8],
+    ) -> Result<(), HostFault>
+        requires size { length into.old ≡ self.old.page_size }
+        ensures page { (t : Trail) → IsTrue H.tells → IsOpen (H.world host.old) self.old t → self.old.state ≡ 1 → number < length t.base.frozen → OnOk result (into.new ≡ page_at t.base.frozen number) }
+        ensures open { (t : Trail) → IsTrue H.tells → IsOpen (H.world host.old) self.old t → IsOpen (H.world host.new) self.new t }
+        ensures same { self.new ≡ self.old }
+        ensures quiet { Quiet (H.world host.old) (H.world host.new) }
+        ensures reads { IsTrue H.tells → (H.world host.new).reads ≤ (H.world host.old).reads + 1 }
+        ensures cause { CountsFault result (H.faults host.old) (H.faults host.new) }
+    {
+        read_page(host, &self.name, number, into)?;
+        Ok(())
+    }
+}

@@ -1,0 +1,22 @@
+//! The main file and the difference file of one database as one image, written through: who owns a page, and what a stop leaves.
+//!
+//! It rests on `nb_delta` for the difference file and on the trails of `nb_model` for what a stop may leave. A layer above may rely
+//! on this: in every backup state a read gives the page of the image and a write replaces it, whichever file holds it; at each
+//! moment a stop leaves what may be left of what was seen, before the call's stroke or after it. Nothing above asks which file
+//! holds a page.
+#![tactic(auto)]
+
+mod attach;
+mod beginnings;
+mod control;
+mod files;
+mod reads;
+mod sync;
+mod writes;
+
+pub use files::TwoFiles;
+
+#[cfg(test)]
+mod tests;
+#[cfg(test)]
+mod write_tests;

@@ -1,0 +1,115 @@
+-- What is held of page 0 behind a stroke.
+use Rattle.std.proofs.Common.{◌≡◌, inl, inr, ℕ, zero, suc, ◌<◌, ◌≤◌, List, length, refl, sym, ap, subst, ◌∙◌, arith}
+use Rattle.std.specs.Prelude.{true, not, ◌==◌}
+use Rattle.std.proofs.lemmas.Bool.Decides.{eqb_tells}
+use Rattle.nb_fields.specs.Bytes.{number_in, part}
+use Rattle.nb_fields.specs.Header.{is_header, scn_of, guid_of}
+use Rattle.nb_fields.proofs.PartLemmas.{part-take}
+use Rattle.nb_host.specs.World.{World}
+use Rattle.nb_model.specs.Image.{Page, Image, first_page, image_scn, image_guid, with_page}
+use Rattle.nb_model.specs.Account.{Base}
+use Rattle.nb_model.specs.Strokes.{page, controlled, with_control}
+use Rattle.nb_model.specs.Trail.{Trail, after_stroke}
+use Rattle.nb_model.proofs.ControlLaws.{control_other, control_scn, control_guid}
+use Rattle.nb_model.proofs.HeaderLaws.{header-long, same-number}
+use Rattle.nb_model.proofs.MainLaws.{some_page}
+use Rattle.nb_model.proofs.StrokeLaws.{with_page_same, with_page_other}
+use Rattle.nb_model.proofs.TrailLaws.{trail_base}
+use Rattle.nb_base.specs.Open.{IsOpen as AreOpen, AreMerged, Fits}
+use Rattle.nb_base.proofs.ControlLaws.{with_control-first}
+use Rattle.nb_base.proofs.LeftLaws.{merged_fits, stroke-image, later_front}
+use Rattle.nb_state.specs.Open.{Held, AgreesWith, IsOpen}
+use Rattle.nb_state.specs.Does.{Goes}
+
+-- Behind another control block: the SCN and the GUID are those of the block, and the flags stay.
+module _ (held now : Held) (before after : Base) (state scn : ℕ) (guid : List ℕ) where
+  pub agrees_control : AgreesWith held before → is_header (first_page before.image) ≡ true → length guid ≡ 16 → scn < 4294967296 → after.image ≡ with_control state scn guid before.image
+      → now.scn ≡ scn → now.guid ≡ guid → now.forced ≡ held.forced → now.read_only ≡ held.read_only → AgreesWith now after
+  agrees_control agrees header sixteen low is scn_is guid_is forced read_only =
+      let first : first_page after.image ≡ controlled state scn guid (first_page before.image) = ap first_page is ∙ with_control-first state scn guid before.image (some_page before.image header) in
+      let long = header-long (first_page before.image) header in
+      record {
+        scn = scn_is ∙ sym (ap scn_of first ∙ control_scn state scn guid (first_page before.image) long sixteen low);
+        guid = guid_is ∙ sym (ap guid_of first ∙ control_guid state scn guid (first_page before.image) long sixteen);
+        forced = forced ∙ agrees.forced
+            ∙ ap (λ n. not (n == 0)) (sym (ap (number_in 64 1) first
+            ∙ control_other state scn guid (first_page before.image) long sixteen 64 1 (inl (omega arith)) (inl (omega arith)) (inl (omega arith)) (inl (omega arith)) (inl (omega arith))));
+        read_only = read_only ∙ agrees.read_only
+            ∙ ap (λ n. not (n == 0)) (sym (ap (number_in 65 1) first
+            ∙ control_other state scn guid (first_page before.image) long sixteen 65 1 (inl (omega arith)) (inl (omega arith)) (inl (omega arith)) (inl (omega arith)) (inl (omega arith))));
+      }
+
+-- Behind a page write.
+module _ (t : Trail) (p : ℕ) (bytes : Page) (fits : Fits p bytes t.base.image) where
+  abbrev later : Image
+  later = (after_stroke (page p bytes) t).base.image
+
+  written : later ≡ with_page p bytes t.base.image
+  written =
+      ap (λ (b : Base). b.image) (trail_base (page p bytes) t) ∙ stroke-image t.base p bytes
+      ∙ ap (λ (x : Page). with_page p x t.base.image) (merged_fits p bytes t.base.image fits.front)
+
+  first_written : p ≡ 0 → first_page later ≡ bytes
+  first_written e = ap first_page written ∙ ap (λ (n : ℕ). first_page (with_page n bytes t.base.image)) e ∙ with_page_same 0 bytes t.base.image (omega arith)
+
+  first_stays : 0 < p → first_page later ≡ first_page t.base.image
+  first_stays some = ap first_page written ∙ with_page_other p 0 bytes t.base.image fits.low (λ e. absurd (omega (arith, e, some)))
+
+  scn_stays : image_scn later ≡ image_scn t.base.image
+  scn_stays = same-number (first_page later) (first_page t.base.image) (later_front t p bytes fits) 28 4 (omega arith)
+
+  guid_stays : image_guid later ≡ image_guid t.base.image
+  guid_stays = sym (part-take 64 32 16 (first_page later) (omega arith)) ∙ ap (part 32 16) (later_front t p bytes fits) ∙ part-take 64 32 16 (first_page t.base.image) (omega arith)
+
+  module _ (held : Held) (files : Rattle.nb_base.specs.Open.Held) where
+    -- what is held, with the flags of the page that was written
+    abbrev flagged : Held
+    flagged = record held { files = files; forced = not (number_in 64 1 bytes == 0); read_only = not (number_in 65 1 bytes == 0) }
+
+    abbrev same : Held
+    same = record held { files = files }
+
+    agrees_first : p ≡ 0 → AgreesWith held t.base → AgreesWith flagged (after_stroke (page p bytes) t).base
+    agrees_first e agrees = record {
+      scn = agrees.scn ∙ sym scn_stays;
+      guid = agrees.guid ∙ sym guid_stays;
+      forced = ap (λ (x : Page). not (number_in 64 1 x == 0)) (sym (first_written e));
+      read_only = ap (λ (x : Page). not (number_in 65 1 x == 0)) (sym (first_written e));
+    }
+
+    agrees_other : 0 < p → AgreesWith held t.base → AgreesWith same (after_stroke (page p bytes) t).base
+    agrees_other some agrees = record {
+      scn = agrees.scn ∙ sym scn_stays;
+      guid = agrees.guid ∙ sym guid_stays;
+      forced = agrees.forced ∙ ap (λ (x : Page). not (number_in 64 1 x == 0)) (sym (first_stays some));
+      read_only = agrees.read_only ∙ ap (λ (x : Page). not (number_in 65 1 x == 0)) (sym (first_stays some));
+    }
+
+    -- the database is open behind it
+    pub open_written : (old new : World) (after : Held) → (p ≡ 0 → after ≡ flagged) → (0 < p → after ≡ same) → IsOpen old held t → files.state ≡ held.files.state → (held.files.state ≡ 2 → files.entries ≡ held.files.entries)
+        → AreOpen new files (after_stroke (page p bytes) t) → (held.files.state ≡ 2 → AreMerged new files held.merged) → IsOpen new after (after_stroke (page p bytes) t)
+    open_written old new after first other is state entries opened merged = elim (eqb_tells p 0) [
+      | inl w ↦ subst (λ (h : Held). IsOpen new h (after_stroke (page p bytes) t)) (sym (first w.1)) (record { files = opened; agrees = agrees_first w.1 is.agrees; merged = λ s. merged (sym state ∙ s); most = most })
+      | inr w ↦
+          let some : 0 < p = above p w.1 in
+          subst (λ (h : Held). IsOpen new h (after_stroke (page p bytes) t)) (sym (other some)) (record { files = opened; agrees = agrees_other some is.agrees; merged = λ s. merged (sym state ∙ s); most = most })
+    ]
+      where
+        most : files.state ≡ 2 → held.merged ≤ length files.entries
+        most s = subst (λ (es : List ℕ). held.merged ≤ length es) (sym (entries (sym state ∙ s))) (is.most (sym state ∙ s))
+
+        above : (n : ℕ) → (n ≡ 0 → ⊥) → 0 < n
+        above zero ne = absurd (ne refl)
+        above (suc n) ne = omega arith
+
+-- The two files alone are others.
+pub goes_files : (held : Held) (files : Rattle.nb_base.specs.Open.Held) → files.name ≡ held.files.name → files.page_size ≡ held.files.page_size → files.state ≡ held.files.state → (held.files.state ≡ 2 → files.entries ≡ held.files.entries)
+    → Goes held (record held { files = files })
+goes_files held files name size state entries = record { name = name; page_size = size; state = state; entries = entries; running = refl; merged = refl }
+
+-- and the flags
+pub goes_written : (p : ℕ) (bytes : Page) (held after : Held) (files : Rattle.nb_base.specs.Open.Held)
+    → (p ≡ 0 → after ≡ record held { files = files; forced = not (number_in 64 1 bytes == 0); read_only = not (number_in 65 1 bytes == 0) }) → (0 < p → after ≡ record held { files = files }) → Goes held (record held { files = files })
+    → Goes held after
+goes_written zero bytes held after files first other goes = subst (λ (h : Held). Goes held h) (sym (first refl)) (record { name = goes.name; page_size = goes.page_size; state = goes.state; entries = goes.entries; running = refl; merged = refl })
+goes_written (suc p) bytes held after files first other goes = subst (λ (h : Held). Goes held h) (sym (other (omega arith))) goes

@@ -1,0 +1,160 @@
+-- How runs of calls that make strokes go on.
+use Rattle.std.proofs.Common.{◌≡◌, ℕ, List, [], ◌∷◌, ◌++◌, refl, sym, ◌∙◌, subst, ap}
+use Rattle.std.proofs.lemmas.List.{append-nil}
+use Rattle.std.specs.Prelude.{Bool, true, false, Option, Result, Ok, Err, IsErr, IsErrAnd, IfErr}
+use Rattle.nb_host.specs.Files.{Files}
+use Rattle.nb_host.specs.World.{World}
+use Rattle.nb_host.specs.declared.faults.Fault.{Fault}
+use Rattle.nb_host.specs.declared.faults.Fault.TheVariants.{Refused, Device, Memory}
+use Rattle.nb_page.specs.Quiet.{Quiet}
+use Rattle.nb_change.specs.Gave.{GaveNothing}
+use Rattle.nb_change.proofs.ChangesLaws.{all_before, rested}
+use Rattle.nb_change.proofs.ReachedLaws.{after_all-joined, reached_first, reached_front, strokes_composed}
+use Rattle.nb_change.proofs.ChangesLaws.{weaker_has}
+use Rattle.nb_change.proofs.GaveLaws.{nothing_joined}
+use Rattle.nb_model.specs.Account.{Base}
+use Rattle.nb_model.specs.Strokes.{Stroke, on_base, base_after}
+use Rattle.nb_model.specs.Trail.{Trail, StandsIn, ShowsIn, settles_at, after_stroke, settled, images_of}
+use Rattle.nb_base.specs.Open.{OfFiles, IsMerged}
+use Rattle.nb_base.specs.Takes.{Strikes, after_strokes, IsNoRefusal}
+use Rattle.nb_state.specs.Open.{Held, IsOpen, name_of}
+use Rattle.nb_state.specs.Does.{WhereEnded, WhereRefused, Goes, Makes}
+
+-- a database stays open
+pub open_quiet : (old new : World) (held : Held) (t : Trail) → Quiet old new → IsOpen old held t → IsOpen new held t
+open_quiet old new held t quiet is = record {
+  files = record {
+    left = λ files left. is.files.left files (all_before old new quiet.still.left files left);
+    shows = subst (λ (f : Files). ShowsIn held.files.name t.base f) (sym quiet.still.files) is.files.shows;
+    agrees = is.files.agrees;
+  };
+  agrees = is.agrees;
+  merged = λ state j low inside. subst (λ (f : Files). IsMerged held.files f j) (sym quiet.still.files) (is.merged state j low inside);
+  most = is.most;
+}
+
+-- and so does what is held of it
+pub open_still : (old new : World) (a b : Held) (t : Trail) → b ≡ a → Quiet old new → IsOpen old a t → IsOpen new b t
+open_still old new a b t same quiet is = subst (λ (h : Held). IsOpen new h t) (sym same) (open_quiet old new a t quiet is)
+
+-- the database behind one stroke, as it is seen
+after_base_one : (t : Trail) (x : Stroke) → (after_stroke x t).base ≡ on_base x t.base
+unfolding after_stroke
+after_base_one t x = by (settles_at t x)
+  where
+    by : (s : Bool) → (elim s as (λ z. Trail) [ true ↦ settled (on_base x t.base) | false ↦ record { base = on_base x t.base; earlier = images_of t } ]).base ≡ on_base x t.base
+    by true = refl
+    by false = refl
+
+-- and behind strokes
+pub after_base : (t : Trail) (xs : List Stroke) → (after_strokes t xs).base ≡ base_after t.base xs
+unfolding base_after
+after_base t [] = refl
+after_base t (x ∷ xs) = after_base (after_stroke x t) xs ∙ ap (λ (b : Base). base_after b xs) (after_base_one t x)
+
+-- what `?` passes on
+pub passed_on : {T : Type 0} (result : Result T Fault) (fault : Fault) → IsErr result × IsErrAnd result (λ f. f ≡ fault) → result ≡ Err fault
+passed_on (Ok value) fault is = absurd is.1
+passed_on (Err e) fault is = ap Err is.1
+
+-- what holds in any case holds where a call ended
+pub where_ended : {T : Type 0} (result : Result T Fault) (P : Type 0) → P → WhereEnded result P
+where_ended (Ok value) P is = is
+where_ended (Err (Refused refusal)) P is = is
+where_ended (Err Device) P is = tt
+where_ended (Err Memory) P is = tt
+
+-- where it failed, nothing is promised of its end, and it was not refused
+pub never_ended : (T : Type 0) (fault : Fault) (P : Type 0) → IsNoRefusal fault → WhereEnded {T = T} (Err fault) P
+never_ended T (Refused refusal) P is = absurd is
+never_ended T Device P is = tt
+never_ended T Memory P is = tt
+
+pub never_refused : {T : Type 0} (result : Result T Fault) (P : Type 0) → IfErr result IsNoRefusal → WhereRefused result P
+never_refused (Ok value) P is = tt
+never_refused (Err (Refused refusal)) P is = absurd is
+never_refused (Err Device) P is = tt
+never_refused (Err Memory) P is = tt
+
+pub goes_on : (a b c : Held) → Goes a b → Goes b c → Goes a c
+goes_on a b c first second = record {
+  name = second.name ∙ first.name;
+  page_size = second.page_size ∙ first.page_size;
+  state = second.state ∙ first.state;
+  entries = λ merging. second.entries (first.state ∙ merging) ∙ first.entries merging;
+  running = second.running ∙ first.running;
+  merged = second.merged ∙ first.merged;
+}
+
+pub goes_nowhere : (a b : Held) → b ≡ a → Goes a b
+goes_nowhere a b same = record {
+  name = ap (λ (h : Held). name_of h) same;
+  page_size = ap (λ (h : Held). h.files.page_size) same;
+  state = ap (λ (h : Held). h.files.state) same;
+  entries = λ merging. ap (λ (h : Held). h.files.entries) same;
+  running = ap (λ (h : Held). h.running) same;
+  merged = ap (λ (h : Held). h.merged) same;
+}
+
+-- calls that change nothing have made no stroke yet
+pub none_yet : (old new : World) (held : Held) (t : Trail) (xs : List Stroke) → Quiet old new → IsOpen old held t → Strikes old new (name_of held) t xs
+none_yet old new held t xs quiet is =
+    rested old new (OfFiles (name_of held)) _ quiet.still quiet.said quiet.moments (λ files left. reached_first after_stroke (StandsIn (name_of held)) t xs files (is.files.left files left))
+
+pub gave_none : (old new : World) → Quiet old new → GaveNothing old new
+gave_none old new quiet = record { guids = quiet.guids; times = quiet.times }
+
+-- they make no stroke, whatever they answer
+pub makes_none : {T : Type 0} (result : Result T Fault) (old new : World) (a b : Held) (t : Trail) → b ≡ a → Quiet old new → IsOpen old a t → Makes result old new a b t []
+makes_none result old new a b t same quiet is = record {
+  left = none_yet old new a t [] quiet is;
+  opened = where_ended result _ (open_still old new a b t same quiet is);
+  goes = goes_nowhere a b same;
+  gave = gave_none old new quiet;
+}
+
+-- and where they fail they fail any strokes
+pub makes_not : (T : Type 0) (fault : Fault) (old new : World) (a b : Held) (t : Trail) (xs : List Stroke) → IsNoRefusal fault → b ≡ a → Quiet old new → IsOpen old a t → Makes {T = T} (Err fault) old new a b t xs
+makes_not T fault old new a b t xs fails same quiet is = record {
+  left = none_yet old new a t xs quiet is;
+  opened = never_ended T fault _ fails;
+  goes = goes_nowhere a b same;
+  gave = gave_none old new quiet;
+}
+
+-- one run of strokes after another
+pub makes_then : {S T : Type 0} (value : S) (result : Result T Fault) (old mid new : World) (a b c : Held) (t : Trail) (xs ys : List Stroke) → Makes (Ok value) old mid a b t xs
+    → Makes result mid new b c (after_strokes t xs) ys → Makes result old new a c t (xs ++ ys)
+makes_then value result old mid new a b c t xs ys first second = record {
+  left = strokes_composed after_stroke (StandsIn (name_of a)) (OfFiles (name_of a)) old mid new t xs ys first.left
+      (subst (λ (n : List ℕ). Strikes mid new n (after_strokes t xs) ys) first.goes.name second.left);
+  opened = subst (λ (u : Trail). WhereEnded result (IsOpen new c u)) (sym (after_all-joined after_stroke t xs ys)) second.opened;
+  goes = goes_on a b c first.goes second.goes;
+  gave = nothing_joined old mid new first.gave second.gave;
+}
+
+-- a run that failed in its first part
+pub makes_front : (S T : Type 0) (fault : Fault) (old new : World) (a b : Held) (t : Trail) (xs ys : List Stroke) → IsNoRefusal fault → Makes {T = S} (Err fault) old new a b t xs
+    → Makes {T = T} (Err fault) old new a b t (xs ++ ys)
+makes_front S T fault old new a b t xs ys fails first = record {
+  left = weaker_has old new (OfFiles (name_of a)) _ _ first.left (reached_front after_stroke (StandsIn (name_of a)) t xs ys);
+  opened = never_ended T fault _ fails;
+  goes = first.goes;
+  gave = first.gave;
+}
+
+-- calls that change nothing before it
+pub makes_after : {T : Type 0} (result : Result T Fault) (old mid new : World) (a b c : Held) (t : Trail) (xs : List Stroke) → b ≡ a → Quiet old mid → IsOpen old a t → Makes result mid new b c t xs
+    → Makes result old new a c t xs
+makes_after result old mid new a b c t xs same quiet is makes = makes_then {S = Unit {0}} tt result old mid new a b c t [] xs (makes_none (Ok tt) old mid a b t same quiet is) makes
+
+-- and behind it
+pub makes_before : {S T : Type 0} (value : S) (result : Result T Fault) (old mid new : World) (a b c : Held) (t : Trail) (xs : List Stroke) → Makes (Ok value) old mid a b t xs → c ≡ b → Quiet mid new
+    → Makes result old new a c t xs
+makes_before value result old mid new a b c t xs makes same quiet =
+    subst (λ (ss : List Stroke). Makes result old new a c t ss) (append-nil xs)
+    (makes_then value result old mid new a b c t xs [] makes (makes_none result mid new b c (after_strokes t xs) same quiet makes.opened))
+
+-- whose copy or merge runs is no matter of what is open
+pub open_running : (w : World) (held : Held) (t : Trail) (by : Option ℕ) → IsOpen w held t → IsOpen w (record held { running = by }) t
+open_running w held t by is = record { files = is.files; agrees = record { scn = is.agrees.scn; guid = is.agrees.guid; forced = is.agrees.forced; read_only = is.agrees.read_only }; merged = is.merged; most = is.most }

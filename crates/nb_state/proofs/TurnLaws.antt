@@ -1,0 +1,278 @@
+-- What is open behind the turns of a backup.
+use Rattle.std.proofs.Common.{◌≡◌, ◌⊎◌, ⊎_elim, ℕ, ◌+◌, ◌<◌, ◌≤◌, List, [], ◌∷◌, ◌++◌, length, drop, refl, sym, ap, subst, ◌∙◌, arith, length-append, drop_at}
+use Rattle.std.specs.Prelude.{Bool, true, false, Option, Some, None, Result, Ok, Err}
+use Rattle.std.proofs.lemmas.Bool.{eq-eqb, ne_eqb}
+use Rattle.nb_fields.specs.Header.{is_header, state_of}
+use Rattle.nb_host.specs.Files.{Files}
+use Rattle.nb_host.specs.World.{World}
+use Rattle.nb_host.specs.Calls.{IsStill}
+use Rattle.nb_host.specs.Moments.{IsNow, IsTimely, Passes}
+use Rattle.nb_host.specs.declared.refusals.Refusal.{Refusal}
+use Rattle.nb_host.specs.declared.faults.Fault.{Fault}
+use Rattle.nb_host.specs.declared.faults.Fault.TheVariants.{Refused, Device, Memory}
+use Rattle.nb_change.proofs.MomentLaws.{started, untouched_begun}
+use Rattle.nb_change.proofs.ChangesLaws.{all_before, weaker_has}
+use Rattle.nb_change.proofs.ReachedLaws.{strokes_composed, reached_front}
+use Rattle.nb_model.specs.Image.{Image, first_page, image_state, image_scn, image_guid}
+use Rattle.nb_model.specs.Account.{Ask, Base}
+use Rattle.nb_model.specs.Causes.{Cause}
+use Rattle.nb_model.specs.Strokes.{Stroke, begin, ends, finish, on_base, with_control}
+use Rattle.nb_model.specs.Trail.{Trail, settled, ShowsIn, StandsIn, after_stroke}
+use Rattle.nb_model.specs.Pages.{end_strokes, end_scn}
+use Rattle.nb_model.proofs.ControlLaws.{control_state}
+use Rattle.nb_model.proofs.HeaderLaws.{header-long, header-room}
+use Rattle.nb_model.proofs.MainLaws.{some_page}
+use Rattle.nb_model.proofs.TrailLaws.{trail_base}
+use Rattle.nb_base.specs.Open.{OfFiles, IsOpen as AreOpen, IsMerged, AreMerged}
+use Rattle.nb_base.specs.Takes.{Strikes}
+use Rattle.nb_base.proofs.ControlLaws.{with_control-first}
+use Rattle.nb_base.proofs.StrokeLaws.{waits}
+use Rattle.nb_page.specs.Quiet.{Quiet}
+use Rattle.nb_change.specs.Gave.{GaveNothing}
+use Rattle.nb_base.specs.Takes.{after_strokes}
+use Rattle.nb_state.specs.Open.{Held, IsOpen, name_of}
+use Rattle.nb_state.specs.Does.{Tested, unless_by}
+use Rattle.nb_state.specs.Turns.{begin_cause, end_cause, Begins, Ends, Merges}
+use Rattle.nb_state.specs.declared.turns.Progress.{Progress}
+use Rattle.nb_state.proofs.AgreeLaws.{agrees_control}
+use Rattle.nb_state.proofs.MakesLaws.{none_yet, gave_none}
+
+-- the two files stay open
+pub still_files : (old new : World) (held : Rattle.nb_base.specs.Open.Held) (t : Trail) → IsStill old new → AreOpen old held t → AreOpen new held t
+still_files old new held t still is = record {
+  left = λ files left. is.left files (all_before old new still.left files left);
+  shows = subst (λ (f : Files). ShowsIn held.name t.base f) (sym still.files) is.shows;
+  agrees = is.agrees;
+}
+
+-- and so does the database
+pub still_open : (old new : World) (held : Held) (t : Trail) → IsStill old new → IsOpen old held t → IsOpen new held t
+still_open old new held t still is = record {
+  files = still_files old new held.files t still is.files;
+  agrees = is.agrees;
+  merged = λ two j low inside. subst (λ (f : Files). IsMerged held.files f j) (sym still.files) (is.merged two j low inside);
+  most = is.most;
+}
+
+-- no call is quiet
+pub no_call : (w : World) → IsTimely w → Quiet w w
+no_call w timely = record { still = record { files = refl; left = untouched_begun w _ }; said = refl; guids = refl; times = refl; moments = started w (IsNow w) timely (λ files said is. is) }
+
+-- calls that change no file, and then strokes
+pub still_struck : (old mid new : World) (held : Held) (t : Trail) (xs : List Stroke) → IsOpen old held t → IsTimely old → IsStill old mid → mid.said ≡ old.said → Passes old mid → Strikes mid new (name_of held) t xs → Strikes old new (name_of held) t xs
+still_struck old mid new held t xs is timely still silent time struck =
+    strokes_composed after_stroke (StandsIn (name_of held)) (OfFiles (name_of held)) old mid new t [] xs (waits old mid held.files t is.files timely still silent time) struck
+
+-- a front of the strokes is one of more
+pub struck_front : (old new : World) (name : List ℕ) (t : Trail) (xs ys : List Stroke) → Strikes old new name t xs → Strikes old new name t (xs ++ ys)
+struck_front old new name t xs ys struck = weaker_has old new (OfFiles name) _ _ struck (reached_front after_stroke (StandsIn name) t xs ys)
+
+-- the GUID that was given is the one that may have been given
+first_of : List (List ℕ) → List ℕ
+first_of [] = []
+first_of (x ∷ xs) = x
+
+pub given_guid : (old new : List (List ℕ)) (given guid : List ℕ) → new ≡ old ++ given ∷ [] → (new ≡ old) ⊎ (new ≡ old ++ guid ∷ []) → guid ≡ given
+unfolding first_of
+given_guid old new given guid is =
+    ⊎_elim (λ none. absurd (omega (arith, ap length (sym none ∙ is), length-append old (given ∷ []))))
+    (λ one. ap first_of (sym (drop_at old (guid ∷ []) (length old) refl) ∙ ap (drop (length old)) (sym one ∙ is) ∙ drop_at old (given ∷ []) (length old) refl))
+
+-- the state behind another control block
+state_control : (before after : Base) (state scn : ℕ) (guid : List ℕ) → is_header (first_page before.image) ≡ true → length guid ≡ 16 → state < 65536 → after.image ≡ with_control state scn guid before.image → image_state after.image ≡ state
+state_control before after state scn guid header sixteen low is =
+    ap image_state is ∙ ap state_of (with_control-first state scn guid before.image (some_page before.image header)) ∙ control_state state scn guid (first_page before.image) (header-long (first_page before.image) header) sixteen low
+
+begun_image : (b : Base) (guid : List ℕ) (ask : Option Ask) → (on_base (begin guid ask) b).image ≡ with_control 1 (image_scn b.image + 1) guid b.image
+unfolding on_base
+begun_image b guid ask = refl
+
+ended_image : (b : Base) → (on_base ends b).image ≡ with_control 2 (image_scn b.image + 1) (image_guid b.image) b.image
+unfolding on_base
+ended_image b = refl
+
+finished_image : (b : Base) → (on_base finish b).image ≡ with_control 0 (image_scn b.image) (image_guid b.image) b.image
+unfolding on_base
+finished_image b = refl
+
+module _ (old new : World) (held : Held) (t : Trail) (is : IsOpen old held t) (files : Rattle.nb_base.specs.Open.Held) where
+  header : is_header (first_page t.base.image) ≡ true
+  header = is.files.agrees.header
+
+  -- a backup has begun
+  module _ (guid : List ℕ) (ask : Option Ask) (sixteen : length guid ≡ 16) (low : held.scn < 4294967294) (opened : AreOpen new files (after_stroke (begin guid ask) t)) where
+    abbrev begun : Base
+    begun = (after_stroke (begin guid ask) t).base
+
+    begun_is : begun.image ≡ with_control 1 (image_scn t.base.image + 1) guid t.base.image
+    begun_is = ap (λ (b : Base). b.image) (trail_base (begin guid ask) t) ∙ begun_image t.base guid ask
+
+    stalled : files.state ≡ 1
+    stalled = opened.agrees.state ∙ state_control t.base begun 1 (image_scn t.base.image + 1) guid header sixteen (omega arith) begun_is
+
+    pub open_begun : IsOpen new (record held { files = files; scn = held.scn + 1; guid = guid }) (after_stroke (begin guid ask) t)
+    open_begun = record {
+      files = opened;
+      agrees = agrees_control held (record held { files = files; scn = held.scn + 1; guid = guid }) t.base begun 1 (image_scn t.base.image + 1) guid is.agrees header sixteen (omega (arith, low, is.agrees.scn)) begun_is
+          (ap (λ (n : ℕ). n + 1) is.agrees.scn) refl refl refl;
+      merged = λ two. absurd (omega (arith, two, stalled));
+      most = λ two. absurd (omega (arith, two, stalled));
+    }
+
+  -- the stalled state has ended
+  module _ (session : ℕ) (sixteen : length held.guid ≡ 16) (stalled : held.files.state ≡ 1) (opened : AreOpen new files (after_stroke ends t)) where
+    abbrev ended : Base
+    ended = (after_stroke ends t).base
+
+    -- the SCN has room
+    pub end_room : held.scn < 4294967295
+    end_room = omega (arith, is.agrees.scn, header-room (first_page t.base.image) header (sym is.files.agrees.state ∙ stalled))
+
+    pub open_ended : (scn : ℕ) → scn ≡ held.scn + 1 → IsOpen new (record held { files = files; scn = scn; running = Some session; merged = 0 }) (after_stroke ends t)
+    open_ended scn next = record {
+      files = opened;
+      agrees = agrees_control held (record held { files = files; scn = scn; running = Some session; merged = 0 }) t.base ended 2 (image_scn t.base.image + 1) (image_guid t.base.image) is.agrees header
+          (ap length (sym is.agrees.guid) ∙ sixteen) (omega (arith, end_room, is.agrees.scn)) (ap (λ (b : Base). b.image) (trail_base ends t) ∙ ended_image t.base)
+          (next ∙ ap (λ (n : ℕ). n + 1) is.agrees.scn) is.agrees.guid refl refl;
+      merged = λ two j none inside. absurd (omega (arith, none));
+      most = λ two. omega arith;
+    }
+
+  -- the merge is finished
+  module _ (sixteen : length held.guid ≡ 16) (low : held.scn < 4294967296) (opened : AreOpen new files (after_stroke finish t)) where
+    abbrev finished : Base
+    finished = (after_stroke finish t).base
+
+    finished_is : finished.image ≡ with_control 0 (image_scn t.base.image) (image_guid t.base.image) t.base.image
+    finished_is = ap (λ (b : Base). b.image) (trail_base finish t) ∙ finished_image t.base
+
+    sixteen_there : length (image_guid t.base.image) ≡ 16
+    sixteen_there = ap length (sym is.agrees.guid) ∙ sixteen
+
+    normal : files.state ≡ 0
+    normal = opened.agrees.state ∙ state_control t.base finished 0 (image_scn t.base.image) (image_guid t.base.image) header sixteen_there (omega arith) finished_is
+
+    pub open_finished : IsOpen new (record held { files = files; running = None }) (after_stroke finish t)
+    open_finished = record {
+      files = opened;
+      agrees = agrees_control held (record held { files = files; running = None }) t.base finished 0 (image_scn t.base.image) (image_guid t.base.image) is.agrees header sixteen_there (omega (arith, low, is.agrees.scn)) finished_is is.agrees.scn
+          is.agrees.guid refl refl;
+      merged = λ two. absurd (omega (arith, two, normal));
+      most = λ two. absurd (omega (arith, two, normal));
+    }
+
+  -- one entry more is merged
+  pub open_more : AreOpen new files t → files.entries ≡ held.files.entries → held.merged < length held.files.entries → AreMerged new files (held.merged + 1) → IsOpen new (record held { files = files; merged = held.merged + 1 }) t
+  open_more opened entries inside merged = record {
+    files = opened;
+    agrees = record { scn = is.agrees.scn; guid = is.agrees.guid; forced = is.agrees.forced; read_only = is.agrees.read_only };
+    merged = λ two. merged;
+    most = λ two. omega (arith, inside, ap length entries);
+  }
+
+-- a merge that was stopped begins again
+pub open_again : (w : World) (held : Held) (t : Trail) (session : ℕ) → IsOpen w held t → IsOpen w (record held { running = Some session; merged = 0 }) t
+open_again w held t session is = record {
+  files = is.files;
+  agrees = record { scn = is.agrees.scn; guid = is.agrees.guid; forced = is.agrees.forced; read_only = is.agrees.read_only };
+  merged = λ two j none inside. absurd (omega (arith, none));
+  most = λ two. omega arith;
+}
+
+-- and makes no stroke
+pub open_struck : (w : World) (held : Held) (t : Trail) (session : ℕ) (strokes : List Stroke) → strokes ≡ [] → IsOpen w held t → IsOpen w (record held { running = Some session; merged = 0 }) (after_strokes t strokes)
+open_struck w held t session strokes none is =
+    subst (λ (ss : List Stroke). IsOpen w (record held { running = Some session; merged = 0 }) (after_strokes t ss)) (sym none) (open_again w held t session is)
+
+-- all entries are merged
+pub all_merged : (w : World) (held : Held) (t : Trail) → IsOpen w held t → held.files.state ≡ 2 → length held.files.entries ≤ held.merged → AreMerged w held.files (length held.files.entries)
+all_merged w held t is merges all j low inside = is.merged merges j (omega (arith, low, all)) inside
+
+-- both files are kept for good
+pub open_settled : (old new : World) (held : Held) (files : Rattle.nb_base.specs.Open.Held) (t : Trail) → IsOpen old held t → files ≡ held.files → AreOpen new files (settled t.base)
+    → ((k : ℕ) → AreMerged old held.files k → AreMerged new files k) → IsOpen new (record held { files = files }) (settled t.base)
+open_settled old new held files t is same opened merged = record {
+  files = opened;
+  agrees = record { scn = is.agrees.scn; guid = is.agrees.guid; forced = is.agrees.forced; read_only = is.agrees.read_only };
+  merged = λ two. merged held.merged (is.merged (sym (ap (λ (f : Rattle.nb_base.specs.Open.Held). f.state) same) ∙ two));
+  most = λ two. subst (λ (f : Rattle.nb_base.specs.Open.Held). held.merged ≤ length f.entries) (sym same) (is.most (sym (ap (λ (f : Rattle.nb_base.specs.Open.Held). f.state) same) ∙ two));
+}
+
+-- the strokes of an end
+pub end_stalled : (image : Image) → image_state image ≡ 1 → end_strokes image ≡ ends ∷ []
+unfolding end_strokes
+end_stalled image one = ap (λ (b : Bool). elim b as (λ z. List Stroke) [ true ↦ ends ∷ [] | false ↦ [] ]) (eq-eqb (image_state image) 1 one)
+
+pub end_other : (image : Image) → (image_state image ≡ 1 → ⊥) → end_strokes image ≡ []
+unfolding end_strokes
+end_other image ne = ap (λ (b : Bool). elim b as (λ z. List Stroke) [ true ↦ ends ∷ [] | false ↦ [] ]) (ne_eqb (image_state image) 1 ne)
+
+pub scn_stalled : (image : Image) → image_state image ≡ 1 → end_scn image ≡ image_scn image + 1
+unfolding end_scn
+scn_stalled image one = ap (λ (b : Bool). elim b as (λ z. ℕ) [ true ↦ image_scn image + 1 | false ↦ image_scn image ]) (eq-eqb (image_state image) 1 one)
+
+pub scn_other : (image : Image) → (image_state image ≡ 1 → ⊥) → end_scn image ≡ image_scn image
+unfolding end_scn
+scn_other image ne = ap (λ (b : Bool). elim b as (λ z. ℕ) [ true ↦ image_scn image + 1 | false ↦ image_scn image ]) (ne_eqb (image_state image) 1 ne)
+
+-- strokes that there is no cause against
+unless_none : (cause : Cause) (strokes : List Stroke) → cause ≡ None → unless_by cause strokes ≡ strokes
+unless_none cause strokes none = ap (λ (c : Cause). unless_by c strokes) none
+
+unless_some : (cause : Cause) (strokes : List Stroke) (r : Refusal) → cause ≡ Some r → unless_by cause strokes ≡ []
+unless_some cause strokes r is = ap (λ (c : Cause). unless_by c strokes) is
+
+-- A backup that may begin, with the GUID that was given.
+module _ (old mid new : World) (before after : Held) (t : Trail) (guid : List ℕ) (ask : Option Ask) (is : IsOpen old before t) (allowed : begin_cause t.base.image ≡ None) (struck : Strikes old new (name_of before) t (begin guid ask ∷ []))
+    (gave : mid.guids ≡ old.guids ++ guid ∷ []) (nothing : GaveNothing mid new) (times : mid.times ≡ old.times) (running : after.running ≡ before.running) (name : name_of after ≡ name_of before) where
+  left : Strikes old new (name_of before) t (unless_by (begin_cause t.base.image) (begin guid ask ∷ []))
+  left = subst (λ (ss : List Stroke). Strikes old new (name_of before) t ss) (sym (unless_none (begin_cause t.base.image) (begin guid ask ∷ []) allowed)) struck
+
+  pub begin_failed : Begins (Err Device) old new before after t guid ask
+  begin_failed = record { test = tt; left = left; opened = tt; answer = tt; gave = tt; times = nothing.times ∙ times; refused = tt; running = running; name = name }
+
+  pub begin_done : (scn : ℕ) → scn ≡ before.scn + 1 → IsOpen new after (after_strokes t (begin guid ask ∷ [])) → Begins (Ok scn) old new before after t guid ask
+  begin_done scn next opened = record {
+    test = allowed;
+    left = left;
+    opened = opened;
+    answer = next ∙ ap (λ (n : ℕ). n + 1) is.agrees.scn;
+    gave = nothing.guids ∙ gave;
+    times = nothing.times ∙ times;
+    refused = tt;
+    running = running;
+    name = name;
+  }
+
+-- An end that is refused changes nothing.
+pub end_refused : (w : World) (held : Held) (t : Trail) (session : ℕ) (fault : Fault) → IsOpen w held t → Quiet w w → Tested {T = Unit {0}} (Err fault) (end_cause t.base.image held.running session) → Ends (Err fault) w w held held t session
+end_refused w held t session (Refused r) is quiet test = record {
+  test = test;
+  left = none_yet w w held t _ quiet is;
+  opened = tt;
+  answer = tt;
+  begins = tt;
+  gave = gave_none w w quiet;
+  refused = (refl, quiet);
+  name = refl;
+}
+end_refused w held t session Device is quiet test = record { test = tt; left = none_yet w w held t _ quiet is; opened = tt; answer = tt; begins = tt; gave = gave_none w w quiet; refused = tt; name = refl }
+end_refused w held t session Memory is quiet test = record { test = tt; left = none_yet w w held t _ quiet is; opened = tt; answer = tt; begins = tt; gave = gave_none w w quiet; refused = tt; name = refl }
+
+-- An end that may be.
+module _ (old new : World) (before after : Held) (t : Trail) (session : ℕ) (allowed : end_cause t.base.image before.running session ≡ None) (struck : Strikes old new (name_of before) t (end_strokes t.base.image)) (gave : GaveNothing old new)
+    (name : name_of after ≡ name_of before) where
+  end_left : Strikes old new (name_of before) t (unless_by (end_cause t.base.image before.running session) (end_strokes t.base.image))
+  end_left = subst (λ (ss : List Stroke). Strikes old new (name_of before) t ss) (sym (unless_none (end_cause t.base.image before.running session) (end_strokes t.base.image) allowed)) struck
+
+  pub end_failed : Ends (Err Device) old new before after t session
+  end_failed = record { test = tt; left = end_left; opened = tt; answer = tt; begins = tt; gave = gave; refused = tt; name = name }
+
+  pub end_done : (scn : ℕ) → scn ≡ end_scn t.base.image → IsOpen new after (after_strokes t (end_strokes t.base.image)) → after.running ≡ Some session → after.merged ≡ 0 → Ends (Ok scn) old new before after t session
+  end_done scn is opened running merged = record { test = allowed; left = end_left; opened = opened; answer = is; begins = (running, merged); gave = gave; refused = tt; name = name }
+
+-- A turn of a merge that failed.
+pub merge_failed : (old new : World) (before after : Held) (t : Trail) (result : Result Progress Fault) → result ≡ Err Device → Strikes old new (name_of before) t (finish ∷ []) → (before.merged < length t.base.diverted → Strikes old new (name_of before) t [])
+    → GaveNothing old new → name_of after ≡ name_of before → Merges result old new before after t
+merge_failed old new before after t result failed left more gave name =
+    subst (λ (r : Result Progress Fault). Merges r old new before after t) (sym failed) (record { left = left; more = more; on = tt; gave = gave; name = name })

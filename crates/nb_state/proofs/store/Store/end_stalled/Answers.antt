@@ -1,0 +1,31 @@
+use Rattle.std.proofs.Common.{[], ◌∷◌, sym, ap, subst, ◌∙◌}
+use Rattle.nb_host.specs.World.{World}
+use Rattle.nb_model.specs.Strokes.{ends}
+use Rattle.nb_base.specs.Takes.{Strikes}
+use Rattle.nb_base.proofs.WriteLaws.{not_done}
+use Rattle.nb_state.specs.Open.{Held, IsOpen, name_of}
+use Rattle.nb_state.proofs.TurnLaws.{open_ended, end_room}
+use Rattle.nb_state.proofs.store.Store.end_stalled.Goals as goal
+
+pub returns-in_err-end-clause-takes : goal.returns-in_err-end-clause-takes
+returns-in_err-end-clause-takes g c t tells given =
+    let old : World = g.H.Host.world c.args.host.now in
+    let new : World = g.H.Host.world c.end.new.host in
+    let is = subst (λ (h : Held). IsOpen old h t) (sym c.self.view_is) given in
+    record {
+      left = subst (λ (h : Held). Strikes old new (name_of h) t (ends ∷ [])) c.self.view_is (c.end.ensures.takes t tells is.files).left;
+      done = not_done c.from_residual.result _ c.from_residual.ensures.0;
+    }
+
+pub returns-clause-takes : goal.returns-clause-takes
+returns-clause-takes g c t tells given =
+    let old : World = g.H.Host.world c.args.host.now in
+    let new : World = g.H.Host.world c.end.new.host in
+    let is = subst (λ (h : Held). IsOpen old h t) (sym c.self.view_is) given in
+    let stalled = ap (λ (h : Held). h.files.state) c.self.view_is ∙ c.requires.stalled in
+    let takes = c.in_ok-end.ensures.takes t tells is.files in
+    record {
+      left = subst (λ (h : Held). Strikes old new (name_of h) t (ends ∷ [])) c.self.view_is takes.left;
+      done = open_ended old new _ t is c.end.new.self c.args.session c.self.told stalled takes.done c.next_scn-scn.result
+          (c.next_scn-scn.ensures (end_room old new _ t is c.end.new.self c.args.session c.self.told stalled takes.done));
+    }

@@ -1,0 +1,70 @@
+-- What a call does that is one turn of the table of turns.
+use Rattle.std.specs.Prelude.{◌≡◌, List, [], Option, Some, None, Result, Ok, Err}
+use Rattle.nb_host.specs.World.{World}
+use Rattle.nb_host.specs.declared.faults.Fault.{Fault}
+use Rattle.nb_host.specs.declared.faults.Fault.TheVariants.{Refused, Device, Memory}
+use Rattle.nb_page.specs.Quiet.{Quiet}
+use Rattle.nb_model.specs.declared.reply.Reply.{Reply}
+use Rattle.nb_model.specs.declared.reply.Reply.TheVariants.{Refused as RefusedBy}
+use Rattle.nb_model.specs.Causes.{Cause}
+use Rattle.nb_model.specs.Outcomes.{Outcome}
+use Rattle.nb_model.specs.Strokes.{Stroke}
+use Rattle.nb_model.specs.Trail.{Trail}
+use Rattle.nb_change.specs.Gave.{GaveNothing}
+use Rattle.nb_base.specs.Takes.{Strikes, after_strokes}
+use Rattle.nb_state.specs.Open.{Held, IsOpen, name_of}
+
+-- the refusal is the one that there is a cause for, and there is none at Ok
+abbrev pub Tested : {T : Type 0} → Result T Fault → Cause → Type 0
+Tested (Ok value) cause = cause ≡ None
+Tested (Err (Refused refusal)) cause = cause ≡ Some refusal
+Tested (Err Device) cause = Unit {0}
+Tested (Err Memory) cause = Unit {0}
+
+-- what is answered is the reply; a failure says nothing of it
+abbrev pub Answers : {T : Type 0} → (T → Reply) → Result T Fault → Option Reply → Type 0
+Answers reply (Ok value) said = said ≡ Some (reply value)
+Answers reply (Err (Refused refusal)) said = said ≡ Some (RefusedBy refusal)
+Answers reply (Err Device) said = Unit {0}
+Answers reply (Err Memory) said = Unit {0}
+
+-- P holds where the call ended with a value or a refusal
+abbrev pub WhereEnded : {T : Type 0} → Result T Fault → Type 0 → Type 0
+WhereEnded (Ok value) P = P
+WhereEnded (Err (Refused refusal)) P = P
+WhereEnded (Err Device) P = Unit {0}
+WhereEnded (Err Memory) P = Unit {0}
+
+-- P holds where the call was refused
+abbrev pub WhereRefused : {T : Type 0} → Result T Fault → Type 0 → Type 0
+WhereRefused (Ok value) P = Unit {0}
+WhereRefused (Err (Refused refusal)) P = P
+WhereRefused (Err Device) P = Unit {0}
+WhereRefused (Err Memory) P = Unit {0}
+
+-- these strokes, or none where there is a cause
+abbrev pub unless_by : Cause → List Stroke → List Stroke
+unless_by cause strokes = elim cause [ Some refusal ↦ [] | None ↦ strokes ]
+
+-- the name, the state, whose copy or merge runs, and how far the merge has come, are as they were; in the merge state no entry is added
+pub record Goes (before after : Held) : Type 0 where
+  pub name : name_of after ≡ name_of before
+  pub page_size : after.files.page_size ≡ before.files.page_size
+  pub state : after.files.state ≡ before.files.state
+  pub entries : before.files.state ≡ 2 → after.files.entries ≡ before.files.entries
+  pub running : after.running ≡ before.running
+  pub merged : after.merged ≡ before.merged
+
+-- The call makes these strokes in order: at each moment a stop leaves what may be left of what was seen behind a front of them, and
+-- once the call has ended the database is open behind all of them. It asks for no GUID and no time.
+pub record Makes {T : Type 0} (result : Result T Fault) (old new : World) (before after : Held) (t : Trail) (strokes : List Stroke) : Type 0 where
+  pub left : Strikes old new (name_of before) t strokes
+  pub opened : WhereEnded result (IsOpen new after (after_strokes t strokes))
+  pub goes : Goes before after
+  pub gave : GaveNothing old new
+
+-- The call answers what the turn says, and makes its strokes. A refusal changes nothing.
+pub record Does {T : Type 0} (reply : T → Reply) (result : Result T Fault) (old new : World) (before after : Held) (t : Trail) (turn : Outcome) : Type 0 where
+  pub answer : Answers reply result turn.reply
+  pub makes : Makes result old new before after t turn.strokes
+  pub refused : WhereRefused result (Quiet old new)

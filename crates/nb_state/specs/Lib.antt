@@ -1,0 +1,4 @@
+pub mod Open
+pub mod Does
+pub mod Beginnings
+pub mod Turns

@@ -1,0 +1,41 @@
+-- A database that is open.
+use Rattle.std.specs.Prelude.{◌≡◌, ◌≤◌, ℕ, List, length, Option, Bool}
+use Rattle.nb_host.specs.World.{World}
+use Rattle.nb_model.specs.Account.{Base}
+use Rattle.nb_model.specs.Image.{image_scn, image_guid, is_forced, is_read_only}
+use Rattle.nb_model.specs.Trail.{Trail}
+use Rattle.nb_base.specs.Open.{IsOpen as AreOpen, AreMerged}
+
+-- What a contract sees of an open database.
+pub record Held : Type 0 where
+  -- the two files
+  pub files : Rattle.nb_base.specs.Open.Held
+  -- the current SCN, and the GUID of the last backup
+  pub scn : ℕ
+  pub guid : List ℕ
+  -- each page write is kept for good before the next
+  pub forced : Bool
+  -- no statement may change a page
+  pub read_only : Bool
+  -- the session whose copy or merge runs
+  pub running : Option ℕ
+  -- how many entries were merged since `end`
+  pub merged : ℕ
+
+-- its name
+abbrev pub name_of : Held → List ℕ
+name_of held = held.files.name
+
+-- its header says what is held of it
+pub record AgreesWith (held : Held) (b : Base) : Type 0 where
+  pub scn : held.scn ≡ image_scn b.image
+  pub guid : held.guid ≡ image_guid b.image
+  pub forced : held.forced ≡ is_forced b.image
+  pub read_only : held.read_only ≡ is_read_only b.image
+
+-- The database is open: this was seen of it since its last settled point. Its entries that were merged are equal in both files.
+pub record IsOpen (w : World) (held : Held) (t : Trail) : Type 0 where
+  pub files : AreOpen w held.files t
+  pub agrees : AgreesWith held t.base
+  pub merged : held.files.state ≡ 2 → AreMerged w held.files held.merged
+  pub most : held.files.state ≡ 2 → held.merged ≤ length held.files.entries

@@ -1,0 +1,208 @@
+ghost use Rattle.std.specs.Prelude.{◌≡◌, ◌≤◌, ◌<◌, ◌+◌, ℕ, List, ◌∷◌, [], length, IsTrue, IfErr, OnOk, Option, false, not, ◌==◌};
+ghost use Rattle.nb_fields.specs.Bytes.{is_zeros, number_in};
+ghost use Rattle.nb_fields.specs.Places.{is_page_size};
+ghost use Rattle.nb_fields.specs.Fresh.{fresh};
+ghost use Rattle.nb_host.specs.Causes.{CountsFault};
+ghost use Rattle.nb_change.specs.Counts.{CountsDevice};
+ghost use Rattle.nb_page.specs.Quiet.{Quiet};
+ghost use Rattle.nb_model.specs.Account.{Ask};
+ghost use Rattle.nb_model.specs.Image.{page_at};
+ghost use Rattle.nb_model.specs.Strokes.{page as page_stroke};
+ghost use Rattle.nb_model.specs.Trail.{Trail, settled};
+ghost use Rattle.nb_base.specs.Open.{Fits};
+ghost use Rattle.nb_base.specs.Takes.{IsNoRefusal};
+ghost use Rattle.nb_state.specs.Open.{IsOpen};
+ghost use Rattle.nb_state.specs.Does.{Makes, Goes};
+
+use crate::front::front_of;
+use nb_base::TwoFiles;
+use nb_host::{Fault, Host, HostFault, Name};
+use std::alloc::Global;
+use std::marker::Model;
+
+/// An open database.
+#[derive(Drop)]
+pub struct Store {
+    pub(crate) files: TwoFiles,
+    pub(crate) scn: u32,
+    pub(crate) guid: [u8; 16],
+    pub(crate) forced: bool,
+    pub(crate) read_only: bool,
+    pub(crate) running: Option<u32>,
+    pub(crate) merged: u32,
+}
+
+impl Model for Store {
+    ghost use Rattle.std.specs.Prelude.{◌<◌, IsTrue};
+    ghost use Rattle.nb_fields.specs.Places.{is_page_size};
+    ghost use Rattle.nb_state.specs.Open.{Held};
+
+    ghost Value = { Held };
+
+    ghost view = { λ s. record { files = s.files; scn = s.scn; guid = s.guid; forced = s.forced; read_only = s.read_only; running = s.running; merged = s.merged } };
+
+    ghost invariant = { λ s. IsTrue (is_page_size s.files.page_size) × (s.scn < 4294967296) };
+}
+
+impl Store {
+    /// The size of each page, in bytes.
+    pub fn page_size(&self) -> u32
+        ensures value { result ≡ self.now.files.page_size }
+        ensures one_of { IsTrue (is_page_size result) }
+    {
+        self.files.page_size()
+    }
+
+    /// How many pages the database has.
+    pub fn count(&self) -> u32
+        ensures value { result ≡ self.now.files.count }
+        ensures most { result ≤ 1048576 }
+    {
+        self.files.count()
+    }
+
+    /// The current SCN.
+    pub fn scn(&self) -> u32
+        ensures { result ≡ self.now.scn }
+    {
+        self.scn
+    }
+
+    /// The GUID of the last backup, zeros where there was none.
+    pub fn guid(&self) -> [u8; 16]
+        ensures { result ≡ self.now.guid }
+    {
+        self.guid
+    }
+
+    /// The backup state: 0 normal, 1 stalled, 2 merge.
+    pub fn state(&self) -> u16
+        ensures { result ≡ self.now.files.state }
+    {
+        self.files.state()
+    }
+
+    /// Whether each page write is kept for good before the next.
+    pub fn forced(&self) -> bool
+        ensures { result ≡ self.now.forced }
+    {
+        self.forced
+    }
+
+    /// Whether no statement may change a page.
+    pub fn is_read_only(&self) -> bool
+        ensures { result ≡ self.now.read_only }
+    {
+        self.read_only
+    }
+
+    /// The session whose copy or merge runs.
+    pub fn running(&self) -> Option<u32>
+        ensures { result ≡ self.now.running }
+    {
+        self.running
+    }
+
+    /// Says whose copy or merge runs.
+    pub fn set_running(&mut self, by: Option<u32>)
+        ensures { self.new ≡ record self.old { running = by } }
+    {
+        self.running = by;
+    }
+
+    /// How many pages the difference file holds; none in the normal state.
+    pub fn delta_count(&self) -> u32
+        ensures { result ≡ length self.now.files.entries }
+    {
+        self.files.delta_count()
+    }
+
+    /// How many pages the main file has.
+    pub fn main_count(&self) -> u32
+        ensures { result ≡ self.now.files.main_count }
+    {
+        self.files.main_count()
+    }
+
+    /// Fills in page `number`. Page 0 may take two reads; every other page takes one.
+    pub fn read<H: Host>(
+        &mut self,
+        host: &mut H,
+        number: u32,
+        into: &mut [u8],
+    ) -> Result<(), HostFault>
+        requires size { length into.old ≡ self.old.files.page_size }
+        ensures page { (t : Trail) → IsTrue H.tells → IsOpen (H.world host.old) self.old t → number < length t.base.image → OnOk result (into.new ≡ page_at t.base.image number) }
+        ensures open { (t : Trail) → IsTrue H.tells → IsOpen (H.world host.old) self.old t → IsOpen (H.world host.new) self.new t }
+        ensures same { self.new ≡ self.old }
+        ensures quiet { Quiet (H.world host.old) (H.world host.new) }
+        ensures reads { IsTrue H.tells → 0 < number → (H.world host.new).reads ≤ (H.world host.old).reads + 1 }
+        ensures first_reads { IsTrue H.tells → (H.world host.new).reads ≤ (H.world host.old).reads + 2 }
+        ensures cause { CountsFault result (H.faults host.old) (H.faults host.new) }
+    {
+        self.files.read(host, number, into)
+    }
+
+    /// Fills in page `number` of the main file as it is frozen, in the stalled state.
+    pub fn read_main<H: Host>(
+        &mut self,
+        host: &mut H,
+        number: u32,
+        into: &mut [u8],
+    ) -> Result<(), HostFault>
+        requires size { length into.old ≡ self.old.files.page_size }
+        ensures page { (t : Trail) → IsTrue H.tells → IsOpen (H.world host.old) self.old t → self.old.files.state ≡ 1 → number < length t.base.frozen → OnOk result (into.new ≡ page_at t.base.frozen number) }
+        ensures open { (t : Trail) → IsTrue H.tells → IsOpen (H.world host.old) self.old t → IsOpen (H.world host.new) self.new t }
+        ensures same { self.new ≡ self.old }
+        ensures quiet { Quiet (H.world host.old) (H.world host.new) }
+        ensures reads { IsTrue H.tells → (H.world host.new).reads ≤ (H.world host.old).reads + 1 }
+        ensures cause { CountsFault result (H.faults host.old) (H.faults host.new) }
+    {
+        self.files.read_main(host, number, into)
+    }
+
+    /// Replaces page `number`, or adds it at the end, of page 0 what is behind the control block. It is kept for good where writes are
+    /// forced, where it makes the database longer, and where it is page 0 or an SCN inventory page.
+    ///
+    /// Where it wants memory nothing has changed.
+    pub fn write<H: Host>(&mut self, host: &mut H, number: u32, page: &[u8]) -> Result<(), Fault>
+        requires size { length page.now ≡ self.old.files.page_size }
+        requires most { number < 1048576 }
+        requires some { is_zeros page.now ≡ false }
+        ensures makes { (t : Trail) → IsTrue H.tells → IsOpen (H.world host.old) self.old t → Fits number page.now t.base.image
+            → Makes result (H.world host.old) (H.world host.new) self.old self.new t (page_stroke number page.now ∷ []) }
+        ensures goes { Goes self.old self.new }
+        ensures reads { (H.world host.new).reads ≡ (H.world host.old).reads }
+        ensures cause { CountsDevice result (H.faults host.old) (H.faults host.new) }
+        ensures not_refused { IfErr result IsNoRefusal }
+        ensures on_memory { result ≡ Err Fault.Memory → (self.new ≡ self.old) × (host.new ≡ host.old) }
+    {
+        self.files.write(host, number, page, self.forced)?;
+        self.take_flags(number, page);
+        Ok(())
+    }
+
+    /// Takes over what a page 0 that was written says behind its control block.
+    fn take_flags(&mut self, number: u32, page: &[u8])
+        requires { 80 ≤ length page.now }
+        ensures first { number ≡ 0 → self.new ≡ record self.old { forced = not (number_in 64 1 page.now == 0); read_only = not (number_in 65 1 page.now == 0) } }
+        ensures other { 0 < number → self.new ≡ self.old }
+    {
+        if number == 0 {
+            let front = front_of(page);
+            self.forced = front.forced;
+            self.read_only = front.read_only;
+        }
+    }
+
+    /// Keeps both files for good. It changes nothing.
+    pub fn sync<H: Host>(&mut self, host: &mut H) -> Result<(), HostFault>
+        ensures open { (t : Trail) → IsTrue H.tells → IsOpen (H.world host.old) self.old t → IsOpen (H.world host.new) self.new t }
+        ensures settled { (t : Trail) → IsTrue H.tells → IsOpen (H.world host.old) self.old t → OnOk result (IsOpen (H.world host.new) self.new (settled t.base)) }
+        ensures same { self.new ≡ self.old }
+        ensures quiet { Quiet (H.world host.old) (H.world host.new) }
+        ensures cause { CountsFault result (H.faults host.old) (H.faults host.new) }
+    {
+        self.files.sync(host)
+    }
+}

@@ -1,0 +1,165 @@
+// The turns of a backup: begin, end, and the merge.
+ghost use Rattle.std.specs.Prelude.{◌≡◌, ◌<◌, ◌+◌, ℕ, List, [], ◌∷◌, length, IsTrue, IfErr, IfOk, OnOk, Option, Some};
+ghost use Rattle.nb_host.specs.Causes.{CountsFault};
+ghost use Rattle.nb_host.specs.declared.faults.Fault.TheVariants.{Memory};
+ghost use Rattle.nb_change.specs.Counts.{CountsDevice};
+ghost use Rattle.nb_change.specs.Gave.{GaveNothing};
+ghost use Rattle.nb_model.specs.Account.{Ask};
+ghost use Rattle.nb_model.specs.Image.{Image, image_state, image_scn};
+ghost use Rattle.nb_model.specs.Sound.{HasNoZeros};
+ghost use Rattle.nb_model.specs.Strokes.{begin as begin_stroke, ends as ends_stroke};
+ghost use Rattle.nb_model.specs.Trail.{Trail};
+ghost use Rattle.nb_base.specs.Takes.{Takes, IsNoRefusal};
+ghost use Rattle.nb_state.specs.Open.{IsOpen, name_of};
+ghost use Rattle.nb_state.specs.Does.{Tested};
+ghost use Rattle.nb_state.specs.Turns.{Begins, Ends, Merges, GaveAtMost, begin_cause, end_cause};
+
+use crate::Store;
+use nb_host::{Fault, Host, HostFault, Refusal};
+
+/// A backup and its end need two SCNs more.
+const LAST_SCN: u32 = u32::MAX - 2;
+
+/// What a turn of a merge did.
+#[derive(Clone, Copy, Debug, PartialEq, Eq)]
+pub enum Progress {
+    /// One entry was merged.
+    More,
+    /// All entries were merged before, and the database is in the normal state again.
+    Finished,
+}
+
+/// The SCN behind this one. The last one stays.
+fn next_scn(scn: u32) -> u32
+    ensures { scn < 4294967295 → result ≡ scn + 1 }
+{
+    scn.saturating_add(1)
+}
+
+impl Store {
+    /// Tests whether a backup may begin. The refusals are `WrongState` and `ScnExhausted`, in this order.
+    fn check_begin(&self) -> Result<(), Fault>
+        ensures test { (image : Image) → self.now.files.state ≡ image_state image → self.now.scn ≡ image_scn image → Tested result (begin_cause image) }
+        ensures normal { OnOk result (self.now.files.state ≡ 0) }
+        ensures scn { OnOk result (self.now.scn < 4294967294) }
+        ensures cause { (faults : ℕ) → CountsDevice result faults faults }
+    {
+        let found = u32::from(self.files.state());
+        if found != 0 {
+            return Err(Fault::Refused(Refusal::WrongState { found }));
+        }
+        if self.scn > LAST_SCN {
+            return Err(Fault::Refused(Refusal::ScnExhausted { scn: self.scn }));
+        }
+        Ok(())
+    }
+
+    /// Tests whether a merge may begin for that session. The refusals are `WrongState` and `BackupRunning`, in this order.
+    fn check_end(&self, session: u32) -> Result<(), Fault>
+        ensures test { (image : Image) → self.now.files.state ≡ image_state image → Tested result (end_cause image self.now.running session) }
+        ensures cause { (faults : ℕ) → CountsDevice result faults faults }
+    {
+        if self.files.state() == 0 {
+            return Err(Fault::Refused(Refusal::WrongState { found: 0 }));
+        }
+        match self.running {
+            Some(other) => {
+                if other != session {
+                    return Err(Fault::Refused(Refusal::BackupRunning { session: other }));
+                }
+                Ok(())
+            }
+            None => Ok(()),
+        }
+    }
+
+    /// Begins a backup: the main file is frozen, and pages that are changed go to the difference file. It answers the new SCN.
+    ///
+    /// The refusals are `WrongState` and `ScnExhausted`, in this order; a refused call changes nothing.
+    pub fn begin<H: Host>(&mut self, host: &mut H) -> Result<u32, Fault>
+        ensures begins { (t : Trail) (guid : List ℕ) (ask : Option Ask) → IsTrue H.tells → IsOpen (H.world host.old) self.old t → GaveAtMost (H.world host.old) (H.world host.new) guid
+            → Begins result (H.world host.old) (H.world host.new) self.old self.new t guid ask }
+        ensures page_size { self.new.files.page_size ≡ self.old.files.page_size }
+        ensures cause { CountsDevice result (H.faults host.old) (H.faults host.new) }
+    {
+        self.check_begin()?;
+        let guid = host.guid()?;
+        let scn = self.begin_with(host, &guid)?;
+        Ok(scn)
+    }
+
+    /// Begins a backup with that GUID, in the normal state. It answers the new SCN.
+    fn begin_with<H: Host>(&mut self, host: &mut H, guid: &[u8; 16]) -> Result<u32, HostFault>
+        requires normal { self.old.files.state ≡ 0 }
+        requires scn { self.old.scn < 4294967294 }
+        ensures takes { (t : Trail) (ask : Option Ask) → IsTrue H.tells → IsOpen (H.world host.old) self.old t
+            → Takes result (H.world host.old) (H.world host.new) (name_of self.old) (IsOpen (H.world host.new) self.new) t (begin_stroke guid.now ask ∷ []) }
+        ensures answer { IfOk result (λ scn. scn ≡ self.old.scn + 1) }
+        ensures gave { GaveNothing (H.world host.old) (H.world host.new) }
+        ensures running { self.new.running ≡ self.old.running }
+        ensures name { name_of self.new ≡ name_of self.old }
+        ensures page_size { self.new.files.page_size ≡ self.old.files.page_size }
+        ensures cause { CountsFault result (H.faults host.old) (H.faults host.new) }
+    {
+        self.files.begin(host, guid)?;
+        self.scn += 1;
+        self.guid = *guid;
+        Ok(self.scn)
+    }
+
+    /// Ends the stalled state, for the session that asks for it, or begins anew a merge that was stopped. It answers the SCN.
+    ///
+    /// The refusals are `WrongState` and `BackupRunning`, in this order; a refused call changes nothing.
+    pub fn end<H: Host>(&mut self, host: &mut H, session: u32) -> Result<u32, Fault>
+        ensures ends { (t : Trail) → IsTrue H.tells → IsOpen (H.world host.old) self.old t → Ends result (H.world host.old) (H.world host.new) self.old self.new t session }
+        ensures page_size { self.new.files.page_size ≡ self.old.files.page_size }
+        ensures cause { CountsDevice result (H.faults host.old) (H.faults host.new) }
+    {
+        self.check_end(session)?;
+        if self.files.state() == 1 {
+            let scn = self.end_stalled(host, session)?;
+            return Ok(scn);
+        }
+        self.running = Some(session);
+        self.merged = 0;
+        Ok(self.scn)
+    }
+
+    /// Ends the stalled state for that session. It answers the new SCN.
+    fn end_stalled<H: Host>(&mut self, host: &mut H, session: u32) -> Result<u32, HostFault>
+        requires stalled { self.old.files.state ≡ 1 }
+        ensures takes { (t : Trail) → IsTrue H.tells → IsOpen (H.world host.old) self.old t
+            → Takes result (H.world host.old) (H.world host.new) (name_of self.old) (IsOpen (H.world host.new) self.new) t (ends_stroke ∷ []) }
+        ensures answer { self.old.scn < 4294967295 → IfOk result (λ scn. scn ≡ self.old.scn + 1) }
+        ensures begins { OnOk result ((self.new.running ≡ Some session) × (self.new.merged ≡ 0)) }
+        ensures gave { GaveNothing (H.world host.old) (H.world host.new) }
+        ensures name { name_of self.new ≡ name_of self.old }
+        ensures page_size { self.new.files.page_size ≡ self.old.files.page_size }
+        ensures cause { CountsFault result (H.faults host.old) (H.faults host.new) }
+    {
+        self.files.end(host)?;
+        let scn = next_scn(self.scn);
+        self.scn = scn;
+        self.running = Some(session);
+        self.merged = 0;
+        Ok(scn)
+    }
+
+    /// Merges the next entry, or finishes the merge.
+    pub fn merge_turn<H: Host>(&mut self, host: &mut H) -> Result<Progress, Fault>
+        requires merge { self.old.files.state ≡ 2 }
+        ensures merges { (t : Trail) → IsTrue H.tells → IsOpen (H.world host.old) self.old t → HasNoZeros t.base.image → Merges result (H.world host.old) (H.world host.new) self.old self.new t }
+        ensures page_size { self.new.files.page_size ≡ self.old.files.page_size }
+        ensures cause { CountsDevice result (H.faults host.old) (H.faults host.new) }
+        ensures not_refused { IfErr result IsNoRefusal }
+    {
+        if self.merged < self.files.delta_count() {
+            self.files.merge_entry(host, self.merged)?;
+            self.merged += 1;
+            return Ok(Progress::More);
+        }
+        self.files.finish(host)?;
+        self.running = None;
+        Ok(Progress::Finished)
+    }
+}
