@@ -48,7 +48,7 @@ impl Model for TwoFiles {
 
     ghost view = { λ f. record { name = f.name; page_size = f.delta.page_size; state = f.state; count = f.count; main_count = f.main_count; entries = f.delta.entries } };
 
-    ghost invariant = { λ f. IsTrue (is_page_size f.delta.page_size) × (f.count ≤ 1048576) × (f.main_count ≤ 1048576) × (vec_len f.page ≡ f.delta.page_size) × (length f.name ≤ 94) × (f.delta.name ≡ delta_name f.name) × (f.delta.drafted ≡ 0) };
+    ghost invariant = { λ f. IsTrue (is_page_size f.delta.page_size) × (f.count ≤ 1048576) × (f.main_count ≤ 1048576) × (vec_len f.page ≡ f.delta.page_size) × (length f.name ≤ 94) × (f.delta.name ≡ delta_name f.name) × (f.delta.drafted ≡ 0) × (f.state ≤ 2) };
 }
 
 impl TwoFiles {
@@ -70,7 +70,8 @@ impl TwoFiles {
 
     /// The backup state: 0 normal, 1 stalled, 2 merge.
     pub fn state(&self) -> u16
-        ensures { result ≡ self.now.state }
+        ensures value { result ≡ self.now.state }
+        ensures most { result ≤ 2 }
     {
         self.state
     }

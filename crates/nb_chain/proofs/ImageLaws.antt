@@ -19,7 +19,7 @@ use Rattle.nb_chain.specs.Overlay.{mark_of, grown, noted, all_noted, links_noted
 use Rattle.nb_chain.proofs.CountLaws.{length_trimmed, counted_alike}
 
 -- all pages written give the image
-writes_all : (size n : ℕ) (front a : Image) → length front ≡ n → overwritten size (numbered_from n a) front ≡ front ++ a
+pub writes_all : (size n : ℕ) (front a : Image) → length front ≡ n → overwritten size (numbered_from n a) front ≡ front ++ a
 unfolding overwritten numbered_from
 writes_all size n front [] e = sym (append-nil front)
 writes_all size n front (p ∷ ps) e =
@@ -68,11 +68,11 @@ unfolding noted
 noted-other marks r p h = get_or-set_other (grown marks r.0) r.0 p (mark_of r.1) Untouched h ∙ same-grown marks (r.0 + 1 - length marks) p Untouched
 
 -- the image with one page written over
-written-inside : (size : ℕ) (r : Numbered) (image : Image) → r.0 < length image → written_at size r image ≡ set image r.0 r.1
+pub written-inside : (size : ℕ) (r : Numbered) (image : Image) → r.0 < length image → written_at size r image ≡ set image r.0 r.1
 unfolding written_at
 written-inside size r image h = rw (lt_yes r.0 (length image) h, written_at) refl
 
-written-past : (size : ℕ) (r : Numbered) (image : Image) → length image ≤ r.0 → written_at size r image ≡ image ++ (replicate (r.0 - length image) (replicate size 0) ++ r.1 ∷ [])
+pub written-past : (size : ℕ) (r : Numbered) (image : Image) → length image ≤ r.0 → written_at size r image ≡ image ++ (replicate (r.0 - length image) (replicate size 0) ++ r.1 ∷ [])
 unfolding written_at
 written-past size r image h = rw (lt_no r.0 (length image) h, written_at) refl
 
@@ -90,7 +90,7 @@ gap-zeros zero (suc i) z p e h = refl
 gap-zeros (suc k) zero z p e h = e
 gap-zeros (suc k) (suc i) z p e h = gap-zeros k i z p e (λ same. h (ap suc same))
 
-length-written : (size : ℕ) (r : Numbered) (image : Image) → length (written_at size r image) ≡ max (length image) (r.0 + 1)
+pub length-written : (size : ℕ) (r : Numbered) (image : Image) → length (written_at size r image) ≡ max (length image) (r.0 + 1)
 length-written size r image = elim (cases_lt r.0 (length image)) [
   | inl w ↦ ap length (written-inside size r image w) ∙ length-set image r.0 r.1 ∙ omega arith
   | inr w ↦
@@ -183,7 +183,7 @@ module _ (size n : ℕ) (bytes : List ℕ) (wide : 0 < size) (long : length byte
 
 -- Behind whole pages come the files of a chain.
 module _ (bytes : List ℕ) (n : ℕ) (ls : List Link) (wide : 0 < size_of bytes) (long : length bytes ≡ n * size_of bytes) where
-  over : all_over (whole_link bytes ∷ ls) [] ≡ all_over ls (cut (size_of bytes) n bytes)
+  pub over : all_over (whole_link bytes ∷ ls) [] ≡ all_over ls (cut (size_of bytes) n bytes)
   unfolding all_over
   over =
       let count : length bytes / size_of bytes ≡ n = ap (λ x. x / size_of bytes) long ∙ mul-div_cancel n wide in

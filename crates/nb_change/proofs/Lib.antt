@@ -1,8 +1,5 @@
 pub mod MomentLaws
 pub mod NameLaws
-pub mod ChangeLaws
-pub mod ApartLaws
-pub mod StrokeLaws
 pub mod ResultLaws
 pub mod ChangesLaws
 pub mod CallLaws

@@ -8,8 +8,10 @@ ghost use Rattle.std.specs.Process.{exit_status};
 ghost use Rattle.std.specs.IoError.{error_kind};
 ghost use Rattle.nb_host.specs.Causes.{Rose};
 ghost use Rattle.nb_model.specs.Account.{Account};
+ghost use Rattle.nb_model.specs.Gifts.{Foretells};
+ghost use Rattle.nb_model.specs.Outcomes.{Given};
 ghost use Rattle.nb_top.specs.Jobs.{job_of};
-ghost use Rattle.nb_top.specs.Performed.{Performs, StandsFor, script_asked};
+ghost use Rattle.nb_top.specs.Performed.{Knows, Performs, script_asked};
 ghost use Rattle.nb_cli.specs.Exit.{number_of};
 
 use nb_file::FileHost;
@@ -35,8 +37,9 @@ fn status_of<H: Host>(alloc: Global, words: io::Result<Vec<String>>, host: &mut 
     // Words that were read are those of the run.
     ensures usage { result ≡ Status.Usage → IfOk words (λ words. job_of (map string_bytes words.items) ≡ None) }
     ensures no_job { IfOk words (λ words. job_of (map string_bytes words.items) ≡ None → result ≢ Status.Done × result ≢ Status.Refused) }
-    ensures performs { IfOk words (λ words. (account : Account) → IsTrue H.tells → StandsFor (H.world host.old) account
-        → Performs result (H.world host.old) (H.world host.new) (script_asked (H.world host.old).files (map string_bytes words.items)) account) }
+    ensures performs { IfOk words (λ words. (account : Account) (given : Given) → IsTrue H.tells → Knows (H.world host.old).files account (script_asked (H.world host.old).files (map string_bytes words.items))
+        → Foretells given (H.world host.old) (H.world host.new)
+        → Performs result (H.world host.old) (H.world host.new) (script_asked (H.world host.old).files (map string_bytes words.items)) account given) }
 
     // Others make it Usage, where memory and the host suffice to say so.
     ensures no_text { IfErr words (λ error. error_kind error ≢ ErrorKind.OutOfMemory → (result ≡ Status.Usage) ⊎ (result ≡ Status.Device) ⊎ (result ≡ Status.Memory)) }

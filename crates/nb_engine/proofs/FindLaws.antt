@@ -147,6 +147,14 @@ taken_none image from r low high inside = absurd (omega arith)
 pub some_near : (image : Image) (page behind free : ℕ) (found : Option ℕ) → found ≡ Some free → MatchOption found (AreTaken image page behind) (IsFreeNear image page) → IsFreeNear image page free
 some_near image page behind free found e near = subst (λ (o : Option ℕ). MatchOption o (AreTaken image page behind) (IsFreeNear image page)) e near
 
+-- where nothing was, the search goes on behind the pages with their bits in that inventory page
+pub taken_behind : (image : Image) (from page size read next : ℕ) (found : Option ℕ) → size ≡ read → next ≡ (page / bits_in size + 1) * bits_in size → found ≡ None → AreTaken image from page
+    → MatchOption found (AreTaken image page ((page / bits_in read + 1) * bits_in read)) (IsFreeNear image page) → AreTaken image from next
+taken_behind image from page size read next found same is none before near =
+    let end : ℕ = (page / bits_in read + 1) * bits_in read in
+    let here : AreTaken image page end = subst (λ (o : Option ℕ). MatchOption o (AreTaken image page end) (IsFreeNear image page)) none near in
+    subst (AreTaken image from) (sym (is ∙ ap (λ (s : ℕ). (page / bits_in s + 1) * bits_in s) same)) (taken_on image from page end before here)
+
 -- what it answers
 pub found_near : (image : Image) (from page free : ℕ) → AreTaken image from page → from ≤ page → IsFreeNear image page free → free ≡ free_from (length image - from) from image
 found_near image from page free before behind near =

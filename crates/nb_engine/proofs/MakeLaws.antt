@@ -1,49 +1,50 @@
--- How runs of calls that make strokes go on, and what a page that is written at its place makes.
-use Rattle.std.proofs.Common.{◌≡◌, ℕ, ◌+◌, ◌-◌, ◌/◌, ◌<◌, ◌≤◌, List, [], ◌∷◌, ◌++◌, length, take, drop, replicate, refl, sym, ap, subst, ◌∙◌, arith}
-use Rattle.std.specs.Prelude.{Bool, true, false, not, ◌&&◌, ◌==◌, IsTrue, None, Result, Ok, Err, IsErr, IsErrAnd, OnOk, max}
+-- Making a page: its strokes and what they leave, whatever is in the database, and what they are where its inventories agree with its pages.
+use Rattle.std.proofs.Common.{◌≡◌, ◌≢◌, ℕ, ◌+◌, ◌-◌, ◌/◌, ◌<◌, ◌≤◌, List, [], ◌∷◌, ◌++◌, length, take, drop, replicate, refl, sym, ap, subst, ◌∙◌, arith}
+use Rattle.std.specs.Prelude.{Bool, true, false, not, ◌&&◌, ◌==◌, IsTrue, None, Result, Ok, IsErr, IsErrAnd, IfErr, max}
 use Rattle.nb_fields.specs.Kinds.{code_of}
 use Rattle.nb_fields.specs.declared.kinds.PageKind.{PageKind}
 use Rattle.nb_fields.specs.declared.kinds.PageKind.TheVariants.{Header, Inventory, Data, Raw, ScnInventory}
-use Rattle.nb_fields.specs.Places.{is_page_size, bits_in, entries_in, is_inventory_place}
+use Rattle.nb_fields.specs.Header.{size_of}
+use Rattle.nb_fields.specs.Places.{is_page_size, bits_in, entries_in, inventory_place, is_inventory_place, is_scn_place}
 use Rattle.nb_fields.specs.Payloads.{inventory_payload, scn_payload}
 use Rattle.nb_fields.proofs.SizeLemmas.{SizeFacts, size_facts}
 use Rattle.nb_fields.proofs.PageLemmas.{padded_whole}
 use Rattle.nb_fields.specs.Page.{kind_of, stamped, with_payload}
 use Rattle.nb_host.specs.World.{World}
 use Rattle.nb_host.specs.declared.faults.Fault.{Fault}
-use Rattle.nb_host.specs.declared.faults.Fault.TheVariants.{Refused, Device, Memory}
+use Rattle.nb_host.specs.declared.faults.Fault.TheVariants.{Device}
 use Rattle.nb_host.specs.declared.refusals.Refusal.TheVariants.{NotDatabase}
 use Rattle.nb_page.specs.Quiet.{Quiet}
 use Rattle.nb_page.proofs.StampLemmas.{stamped-with_payload}
-use Rattle.nb_change.specs.Change.{Advances, Reached}
-use Rattle.nb_change.proofs.ChangeLaws.{weakened}
-use Rattle.nb_change.proofs.StrokeLaws.{reached_front, strokes_composed}
-use Rattle.nb_model.specs.Image.{Page, Image, page_at, image_size, image_scn, is_forced, is_read_only}
+use Rattle.nb_model.specs.Image.{Page, Image, page_at, image_size, image_scn}
 use Rattle.nb_model.specs.Account.{Base}
 use Rattle.nb_model.specs.Strokes.{Stroke, page, on_base, base_after, merged_page}
-use Rattle.nb_model.specs.Owner.{delta_name}
-use Rattle.nb_model.specs.Forms.{Draft, drafted, old_page, raised, put, take_page, inventory_of, has_entry, scn_page_of, is_kind, system_kind, system_payload, system_page}
+use Rattle.nb_model.specs.Trail.{Trail}
+use Rattle.nb_model.specs.Forms.{Draft, drafted, old_page, put, inventory_of, has_entry, scn_page_of, is_kind, system_kind, system_payload, system_page}
 use Rattle.nb_model.specs.Causes.{Cause, when, not_kind}
 use Rattle.nb_model.proofs.StrokeLaws.{base_after-append, stroke_page, stroke_other}
-use Rattle.nb_model.proofs.SoundLaws.{with_page_length, inventory_there, inventory_place_some}
+use Rattle.nb_model.proofs.SoundLaws.{with_page_length, inventory_there, inventory_place_some, scn_page_there, scn_place_some}
 use Rattle.nb_model.proofs.PutSound.{IsPlace}
-use Rattle.nb_model.proofs.NewSound.{inventory_before}
+use Rattle.nb_model.proofs.NewSound.{inventory_before, places_apart}
 use Rattle.nb_model.proofs.ReadLaws.{lt_no, lt_yes}
 use Rattle.nb_model.proofs.FreshSound.{inventory_length, scn_length}
 use Rattle.nb_model.proofs.FitLaws.{IsWhole}
 use Rattle.nb_model.proofs.RoundLaws as rounds
-use Rattle.nb_engine.specs.declared.opened.Opened.{Opened}
-use Rattle.nb_engine.specs.Open.{Shows, IsSettled, IsOpen}
-use Rattle.nb_engine.specs.Turn.{Tested, WhereSettled}
-use Rattle.nb_engine.specs.Put.{entry_cause, raise_strokes}
-use Rattle.nb_engine.specs.Mark.{mark_cause, marked}
-use Rattle.nb_engine.specs.Make.{IsWell, Makes}
-use Rattle.nb_engine.proofs.QuietDoes.{open_quiet, quiet_left, first_none, first_next}
-use Rattle.nb_engine.proofs.PutLaws.{no_entry_cause, entry_cause-is, Raises, draft_raised}
-use Rattle.nb_engine.proofs.EntryLaws.{after_all-is}
-use Rattle.nb_engine.proofs.RaiseLaws.{after_quiet}
+use Rattle.nb_base.specs.Open.{Fits}
+use Rattle.nb_base.specs.Takes.{after_strokes, IsNoRefusal}
+use Rattle.nb_state.specs.Open.{Held, IsOpen}
+use Rattle.nb_state.specs.Does.{Makes}
+use Rattle.nb_engine.specs.Tries.{Tries}
+use Rattle.nb_engine.specs.Put.{entry_cause, must_raise, raise_strokes}
+use Rattle.nb_engine.specs.Mark.{mark_cause, mark_stroke, mark_strokes}
+use Rattle.nb_engine.specs.Find.{IsMap}
+use Rattle.nb_engine.specs.Make.{IsWell, page_strokes, system_strokes, system_cause}
+use Rattle.nb_engine.proofs.CauseLaws.{first_none, first_next}
+use Rattle.nb_engine.proofs.DoesLaws.{tries_opened, tries_passed, tries_failed, tries_then}
+use Rattle.nb_engine.proofs.PutLaws.{stroke_long, is_kind-parts, none_of, may_raise, raised_once, raised_not, no_entry_cause, entry_cause-is, draft_raised}
+use Rattle.nb_engine.proofs.MarkLaws.{there, marked-is, mark_cause-is, entries_some}
+use Rattle.nb_engine.proofs.PageLaws.{fits, makes_one, seen_after}
 use Rattle.nb_engine.proofs.TestLaws.{kind_is}
-use Rattle.nb_engine.proofs.MarkLaws.{marked_once}
 
 -- its image as the model's laws see it
 pub well : (image : Image) → IsWell image → IsWhole image
@@ -51,77 +52,6 @@ well image is = record { fields = record { size = is.size; scn = is.scn }; sound
 
 pub from_well : (image : Image) → IsWhole image → IsWell image
 from_well image h = record { sound = h.sound; size = h.fields.size; scn = h.fields.scn }
-
-abbrev pub Left : (old new : World) (name : List ℕ) (b : Base) (strokes : List Stroke) → Type 0
-Left old new name b strokes = Advances old new name (delta_name name) (Reached on_base (Shows name) b strokes)
-
-renamed : (old new : World) (name other : List ℕ) (b : Base) (strokes : List Stroke) → name ≡ other → Left old new name b strokes → Left old new other b strokes
-renamed old new name other b strokes same left = subst (λ (n : List ℕ). Left old new n b strokes) same left
-
--- one run after another
-pub makes_then : {S T : Type 0} (value : S) (result : Result T Fault) (old mid new : World) (b : Base) (first second : Opened) (xs ys : List Stroke) → second.name ≡ first.name
-    → Makes (Ok value) old mid b first xs → Makes result mid new (base_after b xs) second ys → Makes result old new b second (xs ++ ys)
-makes_then value result old mid new b first second xs ys same front rest = record {
-  test = rest.test;
-  after = subst (λ (x : Base). OnOk result (IsOpen new second x)) (sym (base_after-append b xs ys)) rest.after;
-  left = strokes_composed on_base (Shows second.name) second.name (delta_name second.name) old mid new b xs ys
-      (renamed old mid first.name second.name b xs (sym same) front.left)
-      (subst (λ (x : Base). Left mid new second.name x ys) (sym (after_all-is b xs)) rest.left);
-}
-
--- the same strokes
-pub makes_same : {T : Type 0} (result : Result T Fault) (old new : World) (b : Base) (held : Opened) (xs ys : List Stroke) → xs ≡ ys → Makes result old new b held xs → Makes result old new b held ys
-makes_same result old new b held xs ys same makes = subst (λ (zs : List Stroke). Makes result old new b held zs) same makes
-
--- a failure on the way
-pub makes_device : {T : Type 0} (result : Result T Fault) (old new : World) (b : Base) (held : Opened) (xs : List Stroke) → IsErr result × IsErrAnd result (λ f. f ≡ Device)
-    → Left old new held.name b xs → Makes result old new b held xs
-makes_device (Ok value) old new b held xs failed left = absurd failed.1
-makes_device {T} (Err e) old new b held xs failed left = subst (λ (f : Fault). Makes {T = T} (Err f) old new b held xs) (sym failed.1) (record { test = tt; after = tt; left = left })
-
-pub makes_passed : {S T : Type 0} (result : Result T Fault) (fault : Fault) (old new : World) (b : Base) (held : Opened) (xs : List Stroke) → IsErr result × IsErrAnd result (λ f. f ≡ fault)
-    → Makes {T = S} (Err fault) old new b held xs → Makes result old new b held xs
-makes_passed (Ok value) fault old new b held xs failed makes = absurd failed.1
-makes_passed {S} {T} (Err e) fault old new b held xs failed makes = subst (λ (f : Fault). Makes {T = T} (Err f) old new b held xs) (sym failed.1) (record { test = on fault makes.test; after = tt; left = makes.left })
-  where
-    on : (f : Fault) → Tested {T = S} (Err f) None → Tested {T = T} (Err f) None
-    on (Refused r) t = t
-    on Device t = tt
-    on Memory t = tt
-
--- what was made so far is a front of it all
-pub makes_front : {T : Type 0} (result : Result T Fault) (old new : World) (b : Base) (held : Opened) (xs ys : List Stroke) → IsErr result → Makes result old new b held xs → Makes result old new b held (xs ++ ys)
-makes_front {T} (Ok value) old new b held xs ys failed makes = absurd (no_err failed)
-  where
-    no_err : IsErr {T = T} {E = Fault} (Ok value) → ⊥
-    no_err h = cc
-makes_front (Err e) old new b held xs ys failed makes = record {
-  test = makes.test;
-  after = tt;
-  left = weakened held.name (delta_name held.name) old new _ _ makes.left (reached_front on_base (Shows held.name) b xs ys);
-}
-
--- after calls that change nothing
-pub makes_after_quiet : {T : Type 0} (result : Result T Fault) (old mid new : World) (b : Base) (first held : Opened) (xs : List Stroke) → Quiet old mid → IsOpen old first b → held.name ≡ first.name
-    → Makes result mid new b held xs → Makes result old new b held xs
-makes_after_quiet result old mid new b first held xs quiet is same makes = record {
-  test = makes.test;
-  after = makes.after;
-  left = renamed old new first.name held.name b xs (sym same) (after_quiet old mid new first b xs quiet is (renamed mid new held.name first.name b xs same makes.left));
-}
-
-pub makes_none : (old new : World) (b : Base) (held : Opened) → Quiet old new → IsOpen old held b → Makes {T = Unit {0}} (Ok tt) old new b held []
-unfolding base_after
-makes_none old new b held quiet is = record { test = refl; after = open_quiet old new held b quiet is; left = quiet_left old new held b [] quiet is }
-
-pub makes_failed : {T : Type 0} (result : Result T Fault) (old new : World) (b : Base) (held : Opened) (xs : List Stroke) → IsErr result × IsErrAnd result (λ f. f ≡ Device) → Quiet old new → IsOpen old held b
-    → Makes result old new b held xs
-makes_failed result old new b held xs failed quiet is = makes_device result old new b held xs failed (quiet_left old new held b xs quiet is)
-
--- What a test or a list of strokes says where nothing is refused.
-settled_ok : {T : Type 0} (result : Result T Fault) (P : Type 0) → WhereSettled result P → OnOk result P
-settled_ok (Ok value) P is = is
-settled_ok (Err e) P is = tt
 
 -- the page of its entry is of the form
 pub entry_none : (image : Image) (p : ℕ) → IsWell image → IsPlace image p → entry_cause image p ≡ None
@@ -141,17 +71,116 @@ mark_none image p is two low =
     let at : IsPlace image i = record { behind = inventory_place_some (image_size image) (p / bits_in (image_size image)) is.size; there = omega (arith, there); most = let most = is.sound.most in omega (arith, there, most) } in
     first_next (not_kind image 2 i) (entry_cause image i ∷ []) (kind_is image 2 i there kind) ∙ first_next (entry_cause image i) [] (entry_none image i is at) ∙ first_none
 
--- a page is taken
-pub makes_taken : {T : Type 0} (result : Result T Fault) (old new : World) (b : Base) (held : Opened) (p : ℕ) → IsWell b.image → 2 ≤ p → p < length b.image → Tested result (mark_cause b.image p)
-    → Left old new held.name b (marked b.image p 0) → WhereSettled result (IsOpen new held (base_after b (marked b.image p 0))) → Makes result old new b held (take_page p (drafted b.image)).strokes
-makes_taken result old new b held p is two low tested left after =
-    let none : mark_cause b.image p ≡ None = mark_none b.image p is two low in
-    let same : marked b.image p 0 ≡ (take_page p (drafted b.image)).strokes = marked_once b p 0 none in
-    record {
-      test = subst (λ (c : Cause). Tested result c) none tested;
-      after = subst (λ (ss : List Stroke). OnOk result (IsOpen new held (base_after b ss))) same (settled_ok result _ after);
-      left = subst (λ (ss : List Stroke). Left old new held.name b ss) same left;
-    }
+-- no inventory page is the SCN page of a page
+map_apart : (x : Image) (p q : ℕ) → IsTrue (is_page_size (image_size x)) → is_inventory_place (image_size x) q ≡ true → q ≢ scn_page_of x p
+map_apart x p q size at e = places_apart (image_size x) q size at (ap (is_scn_place (image_size x)) e ∙ scn_page_there (image_size x) (p / entries_in (image_size x)) size)
+
+-- a read failed before any stroke, and `?` passed it on
+pub tries_fault : {T : Type 0} (result : Result T Fault) (old new : World) (a b : Held) (t : Trail) (cause : Cause) (xs : List Stroke) → IsErr result × IsErrAnd result (λ f. f ≡ Device) → b ≡ a → Quiet old new → IsOpen old a t
+    → Tries result old new a b t cause xs
+tries_fault {T} result old new a b t cause xs passed same quiet is = tries_passed result Device (λ r. Tries r old new a b t cause xs) passed (tries_failed T Device old new a b t cause xs tt same quiet is)
+
+-- cause and strokes by other names
+pub tries_named : {T : Type 0} (result : Result T Fault) (old new : World) (a b : Held) (t : Trail) (cause other : Cause) (xs ys : List Stroke) → cause ≡ other → xs ≡ ys → Tries result old new a b t cause xs
+    → Tries result old new a b t other ys
+tries_named result old new a b t cause other xs ys same are tries =
+    subst (λ (c : Cause). Tries result old new a b t c ys) same (subst (λ (ss : List Stroke). Tries result old new a b t cause ss) are tries)
+
+-- What the raise of an entry changes: the SCN page of page p alone.
+pub record RaisesAlone (image after : Image) (p : ℕ) : Type 0 where
+  pub long : length after ≡ length image
+  pub others : (q : ℕ) → q ≢ scn_page_of image p → page_at after q ≡ page_at image q
+
+pub raise_alone : (b : Base) (p : ℕ) → entry_cause b.image p ≡ None → RaisesAlone b.image (base_after b (raise_strokes b.image p)).image p
+unfolding base_after
+raise_alone b p none = by (must_raise b.image p) refl
+  where
+    after : List Stroke → Type 0
+    after ss = RaisesAlone b.image (base_after b ss).image p
+
+    by : (t : Bool) → must_raise b.image p ≡ t → after (raise_strokes b.image p)
+    by false must = subst after (sym (raised_not b.image p must)) (record { long = refl; others = λ q other. refl })
+    by true must =
+        let may = may_raise b.image p none must in
+        subst after (sym (raised_once b.image p must)) (record { long = stroke_long b (scn_page_of b.image p) _ may.low; others = λ q other. stroke_other b (scn_page_of b.image p) q _ (omega (arith, may.low)) other })
+
+-- then the page is written, whose bytes were made before
+pub put_then : {T : Type 0} (result : Result T Fault) (old mid new : World) (a b c : Held) (t : Trail) (p : ℕ) (written bytes : Page)
+    → Tries {T = Unit {0}} (Ok tt) old mid a b t (entry_cause t.base.image p) (raise_strokes t.base.image p) → written ≡ bytes → 0 < p → p ≤ length t.base.image → IfErr result IsNoRefusal
+    → ((u : Trail) → IsOpen mid b u → Fits p written u.base.image → Makes result mid new b c u (page p written ∷ []))
+    → Tries result old new a c t (entry_cause t.base.image p) (raise_strokes t.base.image p ++ page p bytes ∷ [])
+put_then result old mid new a b c t p written bytes first same some low never writes =
+    let image : Image = t.base.image in
+    let u : Trail = after_strokes t (raise_strokes image p) in
+    let alone : RaisesAlone image u.base.image p = seen_after t (raise_strokes image p) (λ (x : Base). RaisesAlone image x.image p) (raise_alone t.base p first.test) in
+    tries_then tt result old mid new a b c t (entry_cause image p) (raise_strokes image p) (page p bytes ∷ []) first never
+    (makes_one result mid new b c u (page p written) (page p bytes) (ap (λ (x : Page). page p x) same)
+    (writes u (tries_opened tt old mid a b t (entry_cause image p) (raise_strokes image p) first) (fits p written u.base.image (omega (arith, low, alone.long)) some)))
+
+-- A page was written or added.
+module _ (b : Base) (p kind : ℕ) (payload : List ℕ) (none : entry_cause b.image p ≡ None) (low : p ≤ length b.image) where
+  abbrev raised_base : Base
+  raised_base = base_after b (raise_strokes b.image p)
+
+  abbrev bytes : Page
+  bytes = stamped (old_page p b.image) kind payload (image_scn b.image) p
+
+  abbrev paged : Base
+  paged = base_after b (page_strokes b.image p kind payload)
+
+  alone : RaisesAlone b.image raised_base.image p
+  alone = raise_alone b p none
+
+  paged_is : paged ≡ on_base (page p bytes) raised_base
+  unfolding base_after
+  paged_is = base_after-append b (raise_strokes b.image p) (page p bytes ∷ [])
+
+  there_still : p ≤ length raised_base.image
+  there_still = omega (arith, low, alone.long)
+
+  pub page_long : length paged.image ≡ max (length b.image) (p + 1)
+  page_long =
+      ap (λ (x : Base). length x.image) paged_is ∙ ap length (stroke_page raised_base p bytes) ∙ with_page_length p (merged_page p bytes raised_base.image) raised_base.image there_still ∙ ap (λ (n : ℕ). max n (p + 1)) alone.long
+
+  page_other : (q : ℕ) → q ≢ p → q ≢ scn_page_of b.image p → page_at paged.image q ≡ page_at b.image q
+  page_other q ne entry = ap (λ (x : Base). page_at x.image q) paged_is ∙ stroke_other raised_base p q bytes there_still ne ∙ alone.others q entry
+
+  -- its inventory page is as it was
+  pub map_kept : (map : Page) → IsTrue (is_page_size (image_size b.image)) → 5 ≤ p → IsMap b.image p map → IsMap paged.image p map
+  map_kept map is five held =
+      let size : ℕ = image_size b.image in
+      let q : ℕ = inventory_of b.image p in
+      let before : q < p = inventory_before size p is (omega (arith, five)) in
+      let place : is_inventory_place size q ≡ true = inventory_there size (p / bits_in size) is in
+      let two = scn_place_some size (p / entries_in size) is in
+      let read : page_at paged.image q ≡ page_at b.image q = page_other q (λ e. absurd (omega (arith, e, before))) (map_apart b.image p q is place) in
+      let first : page_at paged.image 0 ≡ page_at b.image 0 = page_other 0 (λ e. absurd (omega (arith, e, five))) (λ e. absurd (omega (arith, e, two))) in
+      let same : inventory_of paged.image p ≡ q = ap (λ (s : ℕ). inventory_place s (p / bits_in s)) (ap size_of first) in
+      let parts = is_kind-parts b.image 2 q (none_of (is_kind b.image 2 q) (NotDatabase q) held.kind) in
+      let inside : q < length paged.image = omega (arith, before, page_long) in
+      record {
+        kind = ap (λ (r : ℕ). not_kind paged.image 2 r) same ∙ kind_is paged.image 2 q inside (ap kind_of read ∙ parts.1);
+        page = held.page ∙ sym read ∙ ap (page_at paged.image) (sym same);
+      }
+
+-- a bit that is written leaves the length
+pub mark_long : (b : Base) (p bit : ℕ) → IsTrue (is_page_size (image_size b.image)) → mark_cause b.image p ≡ None → not_kind b.image 2 (inventory_of b.image p) ≡ None
+    → length (base_after b (mark_strokes b.image p bit)).image ≡ length b.image
+unfolding base_after
+mark_long b p bit is none form =
+    let q : ℕ = inventory_of b.image p in
+    let entry : entry_cause b.image q ≡ None = sym (mark_cause-is b p form) ∙ none in
+    let alone : RaisesAlone b.image (base_after b (raise_strokes b.image q)).image q = raise_alone b q entry in
+    let inside : q < length b.image = there b p form in
+    ap (λ (ss : List Stroke). length (base_after b ss).image) (marked-is b p form bit none (entries_some (image_size b.image) b.image is refl))
+    ∙ ap (λ (x : Base). length x.image) (base_after-append b (raise_strokes b.image q) (mark_stroke b.image p bit ∷ []))
+    ∙ stroke_long (base_after b (raise_strokes b.image q)) q _ (omega (arith, inside, alone.long)) ∙ alone.long
+
+-- where the inventories agree, the strokes are those of the draft
+pub put_strokes_are : (b : Base) (p kind : ℕ) (payload : List ℕ) → IsWell b.image → IsPlace b.image p → page_strokes b.image p kind payload ≡ (put p kind payload (drafted b.image)).strokes
+put_strokes_are b p kind payload is at =
+    let bytes : Page = stamped (old_page p b.image) kind payload (image_scn b.image) p in
+    sym (rounds.put_strokes b.image (well b.image is) p at kind payload ∙ ap (λ (ss : List Stroke). ss ++ page p bytes ∷ []) (draft_raised b p (entry_none b.image p is at)).strokes)
 
 -- no page is of kind 0
 pub kind_some : (kind : PageKind) → (code_of kind == 0) ≡ false
@@ -160,93 +189,6 @@ kind_some Inventory = refl
 kind_some Data = refl
 kind_some Raw = refl
 kind_some ScnInventory = refl
-
--- a database stays open after a page below the length or at it
-pub open_put : (new : World) (held now : Opened) (b : Base) (p : ℕ) (bytes : Page) → (old : World) → IsOpen old held b → 0 < p → p ≤ length b.image
-    → now ≡ record held { count = max held.count (p + 1) } → IsSettled new held.name (on_base (page p bytes) b) → IsOpen new now (on_base (page p bytes) b)
-open_put new held now b p bytes old is some low same settled =
-    let after : Base = on_base (page p bytes) b in
-    let first : page_at b.image 0 ≡ page_at after.image 0 = sym (stroke_other b p 0 bytes low (λ (e : 0 ≡ p). absurd (omega (arith, e, some)))) in
-    let long : length after.image ≡ max (length b.image) (p + 1) = ap length (stroke_page b p bytes) ∙ with_page_length p (merged_page p bytes b.image) b.image low in
-    subst (λ (o : Opened). IsOpen new o after) (sym same) (record {
-      settled = settled;
-      page_size = is.page_size ∙ ap (λ (x : Page). Rattle.nb_fields.specs.Header.size_of x) first;
-      count = ap (λ (n : ℕ). max n (p + 1)) is.count ∙ sym long;
-      scn = is.scn ∙ ap (λ (x : Page). Rattle.nb_fields.specs.Header.scn_of x) first;
-      forced = is.forced ∙ ap (λ (x : Page). is_forced (x ∷ [])) first;
-      read_only = is.read_only ∙ ap (λ (x : Page). is_read_only (x ∷ [])) first;
-    })
-
--- A page is written at its place, once its SCN entry is raised.
-module _ (b : Base) (p kind : ℕ) (payload : List ℕ) (is : IsWell b.image) (at : IsPlace b.image p) where
-  abbrev image : Image
-  image = b.image
-
-  abbrev entry : List Stroke
-  entry = raise_strokes image p
-
-  abbrev entered : Base
-  entered = base_after b entry
-
-  abbrev bytes : Page
-  bytes = stamped (old_page p image) kind payload (image_scn image) p
-
-  abbrev draft : Draft
-  draft = put p kind payload (drafted image)
-
-  none : entry_cause image p ≡ None
-  none = entry_none image p is at
-
-  drawn : Raises b p (raised p (drafted image))
-  drawn = draft_raised b p none
-
-  pub put_strokes : draft.strokes ≡ entry ++ page p bytes ∷ []
-  put_strokes = rounds.put_strokes image (well image is) p at kind payload ∙ ap (λ (ss : List Stroke). ss ++ page p bytes ∷ []) drawn.strokes
-
-  -- the raise was refused or failed
-  pub put_unraised : (S : Type 0) {T : Type 0} (result : Result T Fault) (fault : Fault) (old new : World) (held : Opened) → IsErr result × IsErrAnd result (λ f. f ≡ fault) → Tested {T = S} (Err fault) (entry_cause image p)
-      → Left old new held.name b entry → Makes result old new b held draft.strokes
-  put_unraised S {T} result fault old new held failed tested left =
-      makes_same result old new b held (entry ++ page p bytes ∷ []) draft.strokes (sym put_strokes)
-      (makes_front result old new b held entry (page p bytes ∷ []) failed.0
-      (makes_passed {S = S} result fault old new b held entry failed (record { test = subst (λ (c : Cause). Tested {T = S} (Err fault) c) none tested; after = tt; left = left })))
-
-  -- the image then, as long as before
-  entered_long : length entered.image ≡ length image
-  entered_long = ap length (sym drawn.image) ∙ (rounds.raises image (well image is) p at).long
-
-  pub entered_size : image_size entered.image ≡ image_size image
-  entered_size = ap (λ (x : Image). image_size x) (sym drawn.image) ∙ (rounds.raises image (well image is) p at).size
-
-  pub entered_place : p ≤ length entered.image
-  entered_place = let there = at.there in omega (arith, there, entered_long)
-
-  module _ (old mid new : World) (held : Opened) (written : Page) (left : Left old mid held.name b entry) (same : written ≡ bytes)
-      (writes : Left mid new held.name entered (page p written ∷ [])) where
-    both_left : Left old new held.name b draft.strokes
-    both_left =
-        let last : Left mid new held.name entered (page p bytes ∷ []) = subst (λ (x : Page). Left mid new held.name entered (page p x ∷ [])) same writes in
-        subst (λ (ss : List Stroke). Left old new held.name b ss) (sym put_strokes)
-        (strokes_composed on_base (Shows held.name) held.name (delta_name held.name) old mid new b entry (page p bytes ∷ []) left
-        (subst (λ (x : Base). Left mid new held.name x (page p bytes ∷ [])) (sym (after_all-is b entry)) last))
-
-    -- the write failed
-    pub put_failed : {T : Type 0} (result : Result T Fault) → IsErr result × IsErrAnd result (λ f. f ≡ Device) → Makes result old new b held draft.strokes
-    put_failed result failed = makes_device result old new b held draft.strokes failed both_left
-
-    -- all is written
-    pub put_done : (now : Opened) → now ≡ record held { count = max held.count (p + 1) } → IsOpen mid held entered → IsSettled new held.name (on_base (page p written) entered) → Makes {T = Unit {0}} (Ok tt) old new b now draft.strokes
-    unfolding base_after
-    put_done now count opened settled =
-        let some : 0 < p = at.behind in
-        let is_now : IsOpen new now (on_base (page p bytes) entered) =
-        open_put new held now entered p bytes mid opened some entered_place count (subst (λ (x : Page). IsSettled new held.name (on_base (page p x) entered)) same settled) in
-        let after : IsOpen new now (base_after b (entry ++ page p bytes ∷ [])) = subst (λ (x : Base). IsOpen new now x) (sym (base_after-append b entry (page p bytes ∷ []))) is_now in
-        record {
-          test = refl;
-          after = subst (λ (ss : List Stroke). IsOpen new now (base_after b ss)) (sym put_strokes) after;
-          left = renamed old new held.name now.name b draft.strokes (ap (λ (o : Opened). o.name) (sym count)) both_left;
-        }
 
 -- the page that was stamped is that of the stroke
 pub stamped_page : (image : Image) (p code kind scn : ℕ) (payload : List ℕ) (before now : Page) → before ≡ with_payload (old_page p image) payload → now ≡ stamped before code (drop 16 before) scn p → code ≡ kind → scn ≡ image_scn image
@@ -313,3 +255,46 @@ module _ (image : Image) (p : ℕ) where
   pub system_put : is_kind image (system_kind image p) p ≡ false → (system_page p (drafted image)).strokes ≡ (put p (system_kind image p) (system_payload image p) (drafted image)).strokes
   unfolding system_page
   system_put e = ap (λ (t : Bool). (elim t as (λ z. Draft) [ true ↦ drafted image | false ↦ put p (system_kind image p) (system_payload image p) (drafted image) ]).strokes) e
+
+  -- by the strokes that it takes
+  pub system_made : is_kind image (system_kind image p) p ≡ true → system_strokes image p ≡ []
+  system_made e = ap (λ (t : Bool). elim t as (λ z. List Stroke) [ true ↦ [] | false ↦ page_strokes image p (system_kind image p) (system_payload image p) ]) e
+
+  pub system_unmade : is_kind image (system_kind image p) p ≡ false → system_strokes image p ≡ page_strokes image p (system_kind image p) (system_payload image p)
+  system_unmade e = ap (λ (t : Bool). elim t as (λ z. List Stroke) [ true ↦ [] | false ↦ page_strokes image p (system_kind image p) (system_payload image p) ]) e
+
+  pub system_free : is_kind image (system_kind image p) p ≡ true → system_cause image p ≡ None
+  system_free e = ap (λ (t : Bool). elim t as (λ z. Cause) [ true ↦ None | false ↦ entry_cause image p ]) e
+
+  pub system_asks : is_kind image (system_kind image p) p ≡ false → system_cause image p ≡ entry_cause image p
+  system_asks e = ap (λ (t : Bool). elim t as (λ z. Cause) [ true ↦ None | false ↦ entry_cause image p ]) e
+
+-- the page is there then
+pub system_long : (b : Base) (p : ℕ) → p ≤ length b.image → system_cause b.image p ≡ None → p < length (base_after b (system_strokes b.image p)).image
+unfolding base_after
+system_long b p low none = by (is_kind b.image (system_kind b.image p) p) refl
+  where
+    after : List Stroke → Type 0
+    after ss = p < length (base_after b ss).image
+
+    by : (t : Bool) → is_kind b.image (system_kind b.image p) p ≡ t → after (system_strokes b.image p)
+    by true e = subst after (sym (system_made b.image p e)) (is_kind-parts b.image (system_kind b.image p) p e).0
+    by false e =
+        subst after (sym (system_unmade b.image p e))
+        (let long = page_long b p (system_kind b.image p) (system_payload b.image p) (sym (system_asks b.image p e) ∙ none) low in omega (arith, long))
+
+-- and where the inventories agree it is that of the draft, and nothing is refused
+module _ (b : Base) (p : ℕ) (is : IsWell b.image) (at : IsPlace b.image p) where
+  pub system_strokes_are : system_strokes b.image p ≡ (system_page p (drafted b.image)).strokes
+  system_strokes_are = by (is_kind b.image (system_kind b.image p) p) refl
+    where
+      by : (t : Bool) → is_kind b.image (system_kind b.image p) p ≡ t → system_strokes b.image p ≡ (system_page p (drafted b.image)).strokes
+      by true e = system_made b.image p e ∙ sym (system_there b.image p e)
+      by false e = system_unmade b.image p e ∙ put_strokes_are b p (system_kind b.image p) (system_payload b.image p) is at ∙ sym (system_put b.image p e)
+
+  pub system_none : system_cause b.image p ≡ None
+  system_none = by (is_kind b.image (system_kind b.image p) p) refl
+    where
+      by : (t : Bool) → is_kind b.image (system_kind b.image p) p ≡ t → system_cause b.image p ≡ None
+      by true e = system_free b.image p e
+      by false e = system_asks b.image p e ∙ entry_none b.image p is at

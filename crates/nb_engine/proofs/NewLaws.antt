@@ -1,80 +1,101 @@
 -- A new page: its rounds, each on the database that the round before left.
-use Rattle.std.proofs.Common.{◌≡◌, ℕ, ◌+◌, ◌<◌, ◌≤◌, List, [], ◌++◌, length, refl, sym, ap, subst, ◌∙◌, arith, append_assoc}
-use Rattle.std.specs.Prelude.{Bool, true, false, None, Result, Ok, IsErr}
+use Rattle.std.proofs.Common.{◌≡◌, ℕ, ◌+◌, ◌-◌, ◌<◌, ◌≤◌, List, [], ◌∷◌, ◌++◌, length, refl, sym, ap, subst, ◌∙◌, arith, append_assoc}
+use Rattle.std.specs.Prelude.{Bool, true, false, Some, None, Result, Ok, Err, IsErr, IsErrAnd, IsTrue}
 use Rattle.std.proofs.lemmas.Bool.{or_parts}
-use Rattle.std.proofs.lemmas.List.{append-nil}
-use Rattle.nb_fields.specs.Places.{is_system_place}
+use Rattle.nb_fields.specs.Places.{is_page_size, is_system_place}
 use Rattle.nb_fields.specs.Payloads.{text_payload}
 use Rattle.nb_host.specs.World.{World}
-use Rattle.nb_host.specs.Moments.{IsTimely}
 use Rattle.nb_host.specs.declared.faults.Fault.{Fault}
 use Rattle.nb_host.specs.declared.refusals.Refusal.{Refusal}
 use Rattle.nb_host.specs.declared.refusals.Refusal.TheVariants.{Full}
 use Rattle.nb_page.specs.Quiet.{Quiet}
-use Rattle.nb_change.proofs.ChangeLaws.{begun}
-use Rattle.nb_change.proofs.ResultLaws.{on_ok}
+use Rattle.nb_change.proofs.ReachedLaws.{after_all-joined}
 use Rattle.nb_model.specs.Image.{Page, Image, image_size}
 use Rattle.nb_model.specs.Account.{Base}
 use Rattle.nb_model.specs.Strokes.{Stroke, base_after}
-use Rattle.nb_model.specs.Owner.{delta_name}
-use Rattle.nb_model.specs.Forms.{Draft, drafted, put, take_page, system_page, lowest_free, new_within}
-use Rattle.nb_model.specs.Causes.{when, no_room}
-use Rattle.nb_model.proofs.StrokeLaws.{base_after-append}
+use Rattle.nb_model.specs.Trail.{Trail, after_stroke}
+use Rattle.nb_model.specs.Forms.{Draft, drafted, put, take_page, system_page, free_from, lowest_free, new_within, inventory_of}
+use Rattle.nb_model.specs.Causes.{Cause, when, not_kind, no_room}
 use Rattle.nb_model.proofs.DraftLaws.{IsOf, drafts_are, drafted_is, put_keeps, set_bit_keeps, system_keeps}
 use Rattle.nb_model.proofs.DraftJoin.{joined_new, join_set_bit}
+use Rattle.nb_model.proofs.NewSound.{inventory_before}
 use Rattle.nb_model.proofs.FitLaws.{IsWhole}
 use Rattle.nb_model.proofs.RoundLaws as rounds
 use Rattle.nb_model.proofs.RoundLaws.{IsFound, found, new_more, new_last, new_next, lowest_behind}
-use Rattle.nb_engine.specs.declared.opened.Opened.{Opened}
-use Rattle.nb_engine.specs.Open.{Shows, IsOpen}
-use Rattle.nb_engine.specs.Turn.{Tested, WhereSettled}
-use Rattle.nb_engine.specs.Mark.{mark_cause, marked}
+use Rattle.nb_base.specs.Takes.{after_strokes}
+use Rattle.nb_state.specs.Open.{Held, IsOpen}
+use Rattle.nb_state.specs.Does.{Makes}
+use Rattle.nb_state.proofs.MakesLaws.{after_base, makes_none, makes_then, makes_front}
+use Rattle.nb_engine.specs.Tries.{Tries}
+use Rattle.nb_engine.specs.Put.{entry_cause}
+use Rattle.nb_engine.specs.Mark.{mark_cause, mark_strokes}
 use Rattle.nb_engine.specs.Find.{IsMap, HoldsMap}
-use Rattle.nb_engine.specs.Make.{IsWell, Makes, new_raw, round, behind}
-use Rattle.nb_engine.proofs.FindLaws.{inventory_sound}
-use Rattle.nb_engine.proofs.RoundLaws.{put_keeps_map}
-use Rattle.nb_engine.proofs.QuietDoes.{open_quiet, quiet_left}
-use Rattle.nb_engine.proofs.MakeLaws.{well, from_well, Left, makes_then, makes_same, makes_front, makes_taken}
+use Rattle.nb_engine.specs.Make.{IsWell, IsOnward, MakesWhere, page_strokes, new_raw, round, behind}
+use Rattle.nb_engine.proofs.CauseLaws.{first_here}
+use Rattle.nb_engine.proofs.DoesLaws.{tries_passed}
+use Rattle.nb_engine.proofs.FindLaws.{finds}
+use Rattle.nb_engine.proofs.PageLaws.{seen_after}
+use Rattle.nb_engine.proofs.MakeLaws.{well, from_well, mark_none, mark_long, page_long, map_kept}
+use Rattle.nb_engine.proofs.WhereLaws.{makes_as, makes_valued, where_tries, where_front, where_then}
 
--- nothing was made yet
-pub makes_begun : (w : World) (b : Base) (held : Opened) → IsTimely w → IsOpen w held b → Makes {T = Unit {0}} (Ok tt) w w b held []
-unfolding base_after
-makes_begun w b held timely is = record { test = refl; after = is; left = begun held.name (delta_name held.name) w (Shows held.name b) timely is.settled.left }
+-- The search goes on to a page up to the length.
+pub next_low : (image : Image) (place next : ℕ) → place < length image → next ≡ free_from (length image - (place + 1)) (place + 1) image → next ≤ length image
+next_low image place next low is = let most = (finds (length image - (place + 1)) (place + 1) image).high in omega (arith, most, low, is)
 
--- calls that change nothing follow
-pub makes_then_quiet : {S T : Type 0} (value : S) (result : Result T Fault) (old mid new : World) (b : Base) (held : Opened) (xs : List Stroke) → Makes (Ok value) old mid b held xs
-    → Quiet mid new → Tested result None → Makes result old new b held xs
-unfolding base_after
-makes_then_quiet value result old mid new b held xs makes quiet tested =
-    makes_same result old new b held (xs ++ []) xs (append-nil xs) (makes_then value result old mid new b held held xs [] refl makes (record {
-      test = tested;
-      after = on_ok result (open_quiet mid new held (base_after b xs) quiet makes.after);
-      left = quiet_left mid new held (base_after b xs) [] quiet makes.after;
-    }))
+-- where a bit may be written, its inventory page is of the form
+pub form_of : (image : Image) (p : ℕ) → mark_cause image p ≡ None → not_kind image 2 (inventory_of image p) ≡ None
+form_of image p none = by (not_kind image 2 (inventory_of image p)) refl
+  where
+    some_none : (r : Refusal) → Some r ≡ None → ⊥
+    some_none r e = cc
 
--- a page is made, and then taken
-module _ (b : Base) (p : ℕ) (e : Draft) (of : IsOf b e) (h : IsWhole e.image) (two : 2 ≤ p) (low : p < length e.image) where
-  strokes_are : e.strokes ++ (take_page p (drafted (base_after b e.strokes).image)).strokes ≡ (take_page p e).strokes
-  strokes_are = ap (λ (x : Image). e.strokes ++ (take_page p (drafted x)).strokes) of.is ∙ sym (ap (λ (d : Draft). d.strokes) (join_set_bit 0 p e))
+    by : (c : Cause) → not_kind image 2 (inventory_of image p) ≡ c → not_kind image 2 (inventory_of image p) ≡ None
+    by None e = e
+    by (Some r) e = absurd (some_none r (sym (first_here (not_kind image 2 (inventory_of image p)) (entry_cause image (inventory_of image p) ∷ []) r e) ∙ none))
 
-  -- it was not made
-  pub take_not : {T : Type 0} (result : Result T Fault) (old new : World) (held : Opened) → IsErr result → Makes result old new b held e.strokes → Makes result old new b held (take_page p e).strokes
-  take_not result old new held failed makes =
-      makes_same result old new b held _ _ strokes_are (makes_front result old new b held e.strokes (take_page p (drafted (base_after b e.strokes).image)).strokes failed makes)
+-- the inventory page of a page up to the length is there
+pub held_map : (image : Image) (p : ℕ) (map : Page) → IsTrue (is_page_size (image_size image)) → 5 ≤ p → p ≤ length image → is_system_place (image_size image) p ≡ false → HoldsMap image p map → IsMap image p map
+held_map image p map is five low plain holds = let before = inventory_before (image_size image) p is (omega (arith, five)) in holds plain (omega (arith, before, low))
 
-  -- its bit is written
-  pub take_after : {S T : Type 0} (value : S) (result : Result T Fault) (old mid new : World) (held : Opened) → Makes (Ok value) old mid b held e.strokes
-      → ((x : Base) → IsOpen mid held x → x ≡ base_after b e.strokes → Tested result (mark_cause x.image p))
-      → ((x : Base) → IsOpen mid held x → x ≡ base_after b e.strokes → Left mid new held.name x (marked x.image p 0))
-      → ((x : Base) → IsOpen mid held x → x ≡ base_after b e.strokes → WhereSettled result (IsOpen new held (base_after x (marked x.image p 0)))) → Makes result old new b held (take_page p e).strokes
-  take_after value result old mid new held makes tested left after =
-      let x : Base = base_after b e.strokes in
-      let opened : IsOpen mid held x = makes.after in
-      let well_x : IsWell x.image = from_well x.image (subst IsWhole (sym of.is) h) in
-      let low_x : p < length x.image = omega (arith, low, ap length of.is) in
-      makes_same result old new b held _ _ strokes_are
-      (makes_then value result old mid new b held held e.strokes (take_page p (drafted x.image)).strokes refl makes
-      (makes_taken result mid new x held p well_x two low_x (tested x opened refl) (left x opened refl) (after x opened refl)))
+-- and where the page is made it stays so
+pub new_there : (b : Base) (p kind : ℕ) (payload : List ℕ) (map : Page) → entry_cause b.image p ≡ None → p ≤ length b.image → IsTrue (is_page_size (image_size b.image)) → 5 ≤ p → is_system_place (image_size b.image) p ≡ false
+    → HoldsMap b.image p map → (p < length (base_after b (page_strokes b.image p kind payload)).image) × IsMap (base_after b (page_strokes b.image p kind payload)).image p map
+new_there b p kind payload map none low is five plain holds =
+    let long = page_long b p kind payload none low in
+    (omega (arith, long), map_kept b p kind payload none low map is five (held_map b.image p map is five low plain holds))
+
+-- A page is made as a draft has it, and then taken.
+module _ (t : Trail) (p : ℕ) (e : Draft) (of : IsOf t.base e) where
+  -- the image behind strokes that are those of the draft
+  pub image_is : (made : List Stroke) → made ≡ e.strokes → (after_strokes t made).base.image ≡ e.image
+  image_is made same = ap (λ (ss : List Stroke). (after_strokes t ss).base.image) same ∙ ap (λ (x : Base). x.image) (after_base t e.strokes) ∙ of.is
+
+  abbrev taking : List Stroke
+  taking = (take_page p (drafted (base_after t.base e.strokes).image)).strokes
+
+  taken_strokes : e.strokes ++ taking ≡ (take_page p e).strokes
+  taken_strokes = ap (λ (x : Image). e.strokes ++ (take_page p (drafted x)).strokes) of.is ∙ sym (ap (λ (d : Draft). d.strokes) (join_set_bit 0 p e))
+
+  module _ (P : Type 0) (Q : Unit {0} → Image → Type 0) where
+    -- it was not made
+    pub take_not : (T : Type 0) (V : T → Image → Type 0) (result : Result T Fault) (fault : Fault) (old new : World) (a b : Held) → IsErr result × IsErrAnd result (λ f. f ≡ fault)
+        → MakesWhere P Q (Err fault) old new a b t e.strokes → MakesWhere P V result old new a b t (take_page p e).strokes
+    take_not T V result fault old new a b passed first = where_front (Unit {0}) T P P Q V result fault old new a b t e.strokes taking (take_page p e).strokes passed (λ is. is) (λ is. taken_strokes) first
+
+    -- its bit is written
+    pub take_after : (result : Result (Unit {0}) Fault) (old mid new : World) (a b c : Held) → 2 ≤ p → (P → IsWhole e.image) → (first : MakesWhere P Q (Ok tt) old mid a b t e.strokes)
+        → IsTrue (is_page_size (image_size (after_strokes t first.some.made).base.image)) → p < length (after_strokes t first.some.made).base.image
+        → Tries result mid new b c (after_strokes t first.some.made) (mark_cause (after_strokes t first.some.made).base.image p) (mark_strokes (after_strokes t first.some.made).base.image p 0)
+        → MakesWhere P (λ value image. p < length image) result old new a c t (take_page p e).strokes
+    take_after result old mid new a b c two is_well first size low tries =
+        let u : Trail = after_strokes t first.some.made in
+        let image : Image = u.base.image in
+        where_then tt P P (IsWell image) Q (λ value x. p < length x) result old mid new a b c t e.strokes (mark_strokes image p 0) (take_page p e).strokes first (λ is. is)
+        (λ is same. from_well image (subst IsWhole (sym (image_is first.some.made same)) (is_well is)))
+        (λ is same. ap (λ (x : Image). e.strokes ++ (take_page p (drafted x)).strokes) (image_is first.some.made same) ∙ sym (ap (λ (d : Draft). d.strokes) (join_set_bit 0 p e)))
+        (where_tries (IsWell image) (λ value x. p < length x) mid new b c u (mark_cause image p) (mark_strokes image p 0) (mark_strokes image p 0) (λ is. mark_none image p is two low) (λ is. refl) result
+        (λ none value. seen_after u (mark_strokes image p 0) (λ (x : Base). p < length x.image) (let long = mark_long u.base p 0 size none (form_of image p none) in omega (arith, long, low)))
+        tries)
 
 pub system_of : (b : Base) (p : ℕ) → IsOf b (system_page p (drafted b.image))
 system_of b p = system_keeps (IsOf b) (drafts_are b) p (drafted b.image) (drafted_is b)
@@ -82,20 +103,8 @@ system_of b p = system_keeps (IsOf b) (drafts_are b) p (drafted b.image) (drafte
 pub put_of : (b : Base) (p kind : ℕ) (payload : List ℕ) → IsOf b (put p kind payload (drafted b.image))
 put_of b p kind payload = put_keeps (IsOf b) (drafts_are b) p kind payload (drafted b.image) (drafted_is b)
 
--- The inventory page of a new page, which was read before, stays as it is where that is made.
-pub still_map : (b x : Base) (p : ℕ) (map : Page) → IsWell b.image → 5 ≤ p → p ≤ length b.image → is_system_place (image_size b.image) p ≡ false
-    → IsWhole (put p 8 (text_payload []) (drafted b.image)).image → p < length (put p 8 (text_payload []) (drafted b.image)).image → HoldsMap b.image p map
-    → x ≡ base_after b (put p 8 (text_payload []) (drafted b.image)).strokes → IsMap x.image p map
-still_map b x p map is five there plain well_made low_made holds same = subst (λ (y : Image). IsMap y p map) (sym (ap (λ (y : Base). y.image) same ∙ (put_of b p 8 (text_payload [])).is)) here
-  where
-    here : IsMap (put p 8 (text_payload []) (drafted b.image)).image p map
-    here = record {
-      kind = inventory_sound (put p 8 (text_payload []) (drafted b.image)).image p well_made.fields.size well_made.sound low_made;
-      page = put_keeps_map p 8 (text_payload []) (drafted b.image) map (well b.image is).fields is.sound five there plain holds;
-    }
-
-pub round_of : (b : Base) (p : ℕ) → (base_after b (round b.image p).strokes).image ≡ (round b.image p).image
-round_of b p = (set_bit_keeps (IsOf b) (drafts_are b) 0 p (system_page p (drafted b.image)) (system_of b p)).is
+pub round_is : (b : Base) (p : ℕ) → IsOf b (round b.image p)
+round_is b p = set_bit_keeps (IsOf b) (drafts_are b) 0 p (system_page p (drafted b.image)) (system_of b p)
 
 abbrev empty : ℕ → List ℕ
 empty p = text_payload []
@@ -115,9 +124,6 @@ not_full true r e = cc
 
 pub all_left : (image : Image) (place : ℕ) → IsWell image → place ≡ lowest_free image → no_room (new_raw image).0 ≡ None → Rest image place (new_raw image).0.strokes (new_raw image).1
 all_left image place is at room = record { left = length image + 4; is_well = is; at = sym at; room = not_full (new_raw image).0.full (Full 1048576) room; strokes_are = refl; number_is = refl }
-
-pub rest_at : (image : Image) (place : ℕ) (strokes : List Stroke) (number : ℕ) (rest : Rest image place strokes number) → IsFound image rest.left place
-rest_at image place strokes number rest = subst (λ (n : ℕ). IsFound image rest.left n) rest.at (found image (well image rest.is_well) 8 empty rest.left rest.room)
 
 -- a round at a system place
 pub record Onward (image : Image) (place : ℕ) (strokes : List Stroke) (number : ℕ) : Type 0 where
@@ -175,74 +181,103 @@ at_last image place strokes number rest plain = subst (λ (n : ℕ). AtLast imag
         ap (λ (n : ℕ). new_within n 8 empty (drafted image)) here.tries_is ∙ new_last image h 8 empty here.left here.at.most there in
         record { strokes_are = sym rest.strokes_are ∙ ap (λ (x : Draft × ℕ). x.0.strokes) last; number_is = sym (ap (λ (x : Draft × ℕ). x.1) last) ∙ rest.number_is }
 
--- What was made of a new page so far, and what is left.
-pub record SoFar (old now : World) (b : Base) (held : Opened) (place : ℕ) (strokes : List Stroke) (number : ℕ) (map : Page) : Type 0 where
-  pub done : List Stroke
+-- What is left of these strokes behind those that are done.
+pub record RestOf (image : Image) (place : ℕ) (done strokes : List Stroke) (number : ℕ) : Type 0 where
   pub rest_strokes : List Stroke
   pub strokes_are : strokes ≡ done ++ rest_strokes
-  pub makes : Makes {T = Unit {0}} (Ok tt) old now b held done
-  pub rest : Rest (base_after b done).image place rest_strokes number
-  pub holds : HoldsMap (base_after b done).image place map
+  pub rest : Rest image place rest_strokes number
 
-pub so_far_begun : (w : World) (b : Base) (held : Opened) (place : ℕ) (map : Page) → IsTimely w → IsOpen w held b → IsWell b.image → place ≡ lowest_free b.image → no_room (new_raw b.image).0 ≡ None
-    → HoldsMap b.image place map → SoFar w w b held place (new_raw b.image).0.strokes (new_raw b.image).1 map
-unfolding base_after
-so_far_begun w b held place map timely is is_well at room holds = record {
+-- What was made of a new page so far, and where P holds, what is left.
+pub record SoFar (P : Type 0) (old now : World) (a b : Held) (t : Trail) (place : ℕ) (strokes : List Stroke) (number : ℕ) (map : Page) : Type 0 where
+  pub done : List Stroke
+  pub makes : Makes {T = Unit {0}} (Ok tt) old now a b t done
+  pub low : place ≤ length (after_strokes t done).base.image
+  pub holds : HoldsMap (after_strokes t done).base.image place map
+  pub rest : P → RestOf (after_strokes t done).base.image place done strokes number
+
+pub so_far_begun : (w : World) (a : Held) (t : Trail) (place : ℕ) (map : Page) → Quiet w w → IsOpen w a t → place ≡ lowest_free t.base.image → place ≤ length t.base.image → HoldsMap t.base.image place map
+    → SoFar (IsWell t.base.image × (no_room (new_raw t.base.image).0 ≡ None)) w w a a t place (new_raw t.base.image).0.strokes (new_raw t.base.image).1 map
+so_far_begun w a t place map quiet is at low holds = record {
   done = [];
-  rest_strokes = (new_raw b.image).0.strokes;
-  strokes_are = refl;
-  makes = makes_begun w b held timely is;
-  rest = all_left b.image place is_well at room;
+  makes = makes_none (Ok tt) w w a a t refl quiet is;
+  low = low;
   holds = holds;
+  rest = λ p. record { rest_strokes = (new_raw t.base.image).0.strokes; strokes_are = refl; rest = all_left t.base.image place p.0 at p.1 };
 }
 
-module _ (old mid new : World) (b : Base) (first held : Opened) (place : ℕ) (strokes : List Stroke) (number : ℕ) (map : Page) (so_far : SoFar old mid b first place strokes number map) (same : held.name ≡ first.name) where
-  abbrev x : Base
-  x = base_after b so_far.done
+module _ (P : Type 0) (old mid new : World) (a b c : Held) (t : Trail) (place : ℕ) (strokes : List Stroke) (number : ℕ) (map : Page) (so : SoFar P old mid a b t place strokes number map) where
+  abbrev u : Trail
+  u = after_strokes t so.done
 
-  pub here : IsFound x.image so_far.rest.left place
-  here = rest_at x.image place so_far.rest_strokes number so_far.rest
+  abbrev x : Image
+  x = u.base.image
 
-  module _ (system : is_system_place (image_size x.image) place ≡ true) where
-    on : Onward x.image place so_far.rest_strokes number
-    on = onward x.image place so_far.rest_strokes number so_far.rest system
+  -- where a round makes its strokes
+  abbrev pub Rounds : Type 0
+  Rounds = IsWell x × (behind x place < 1048576)
 
-    pub next_below : behind x.image place < 1048576
-    next_below = on.below
+  module _ (system : is_system_place (image_size x) place ≡ true) where
+    on : (p : P) → Onward x place (so.rest p).rest_strokes number
+    on p = onward x place (so.rest p).rest_strokes number (so.rest p).rest system
 
-    grouped : strokes ≡ so_far.done ++ ((round x.image place).strokes ++ on.rest_strokes)
-    grouped = so_far.strokes_are ∙ ap (λ (ss : List Stroke). so_far.done ++ ss) on.strokes_are
+    rounds_there : P → Rounds
+    rounds_there p = ((so.rest p).rest.is_well, (on p).below)
+
+    grouped : (p : P) → strokes ≡ so.done ++ ((round x place).strokes ++ (on p).rest_strokes)
+    grouped p = (so.rest p).strokes_are ∙ ap (λ (ss : List Stroke). so.done ++ ss) (on p).strokes_are
 
     -- the round failed
-    pub round_failed : {T : Type 0} (result : Result T Fault) → IsErr result → Makes result mid new x held (round x.image place).strokes → Makes result old new b held strokes
-    round_failed result failed makes =
-        makes_same result old new b held _ _ (sym grouped)
-        (makes_then tt result old mid new b first held so_far.done _ same so_far.makes (makes_front result mid new x held (round x.image place).strokes on.rest_strokes failed makes))
+    pub round_failed : (S T : Type 0) (Q : S → Image → Type 0) (V : T → Image → Type 0) (result : Result T Fault) (fault : Fault) → IsErr result × IsErrAnd result (λ f. f ≡ fault)
+        → MakesWhere Rounds Q (Err fault) mid new b c u (round x place).strokes → MakesWhere P V result old new a c t strokes
+    round_failed S T Q V result fault passed second = tries_passed result fault (λ r. MakesWhere P V r old new a c t strokes) passed (record {
+      some = record { made = so.done ++ second.some.made; makes = makes_then tt (Err fault) old mid new a b c t so.done second.some.made so.makes (makes_as S T fault mid new b c u second.some.made second.some.makes) };
+      ends = tt;
+      these = λ p.
+          let these = second.these (rounds_there p) in
+          record {
+            sure = these.sure;
+            makes = subst (λ (ss : List Stroke). Makes {T = T} (Err fault) old new a c t ss) (sym (grouped p))
+                (makes_then tt (Err fault) old mid new a b c t so.done _ so.makes (makes_front S T fault mid new b c u (round x place).strokes (on p).rest_strokes these.sure these.makes));
+            same = tt;
+          };
+    })
 
     -- or the search goes on
-    pub round_done : (next : ℕ) (then : Page) → Makes (Ok next) mid new x held (round x.image place).strokes → next ≡ behind x.image place → HoldsMap (round x.image place).image next then
-        → SoFar old new b held next strokes number then
-    round_done next then makes at holds =
-        let done : List Stroke = so_far.done ++ (round x.image place).strokes in
-        let image : (base_after b done).image ≡ (round x.image place).image = ap (λ (y : Base). y.image) (base_after-append b so_far.done (round x.image place).strokes) ∙ round_of x place in
+    pub round_done : (next : ℕ) (then : Page) → MakesWhere Rounds (λ n y. IsOnward y place n then) (Ok next) mid new b c u (round x place).strokes → SoFar P old new a c t next strokes number then
+    round_done next then second =
+        let more : List Stroke = second.some.made in
+        let done : List Stroke = so.done ++ more in
+        let last : Trail = after_strokes u more in
+        let joined : after_strokes t done ≡ last = after_all-joined after_stroke t so.done more in
+        let onward : IsOnward last.base.image place next then = second.ends in
         record {
           done = done;
-          rest_strokes = on.rest_strokes;
-          strokes_are = grouped ∙ sym (append_assoc so_far.done (round x.image place).strokes on.rest_strokes);
-          makes = makes_then tt (Ok tt) old mid new b first held so_far.done (round x.image place).strokes same so_far.makes (record { test = refl; after = makes.after; left = makes.left });
-          rest = subst (λ (n : ℕ). Rest (base_after b done).image n on.rest_strokes number) (sym at) (subst (λ (y : Image). Rest y (behind x.image place) on.rest_strokes number) (sym image) on.rest);
-          holds = subst (λ (y : Image). HoldsMap y next then) (sym image) holds;
+          makes = makes_then tt (Ok tt) old mid new a b c t so.done more so.makes (makes_valued next tt mid new b c u more second.some.makes);
+          low = subst (λ (v : Trail). next ≤ length v.base.image) (sym joined) onward.low;
+          holds = subst (λ (v : Trail). HoldsMap v.base.image next then) (sym joined) onward.holds;
+          rest = λ p.
+              let same : more ≡ (round x place).strokes = (second.these (rounds_there p)).same in
+              let image : last.base.image ≡ (round x place).image = image_is u place (round x place) (round_is u.base place) more same in
+              let found : next ≡ behind x place = onward.found ∙ ap (λ (y : Image). free_from (length y - (place + 1)) (place + 1) y) image in
+              record {
+                rest_strokes = (on p).rest_strokes;
+                strokes_are = grouped p ∙ sym (append_assoc so.done (round x place).strokes (on p).rest_strokes) ∙ ap (λ (ss : List Stroke). (so.done ++ ss) ++ (on p).rest_strokes) (sym same);
+                rest = subst (λ (n : ℕ). Rest (after_strokes t done).base.image n (on p).rest_strokes number) (sym found)
+                    (subst (λ (y : Image). Rest y (behind x place) (on p).rest_strokes number) (sym (ap (λ (v : Trail). v.base.image) joined ∙ image)) (on p).rest);
+              };
         }
 
-  module _ (plain : is_system_place (image_size x.image) place ≡ false) where
-    last : AtLast x.image place so_far.rest_strokes number
-    last = at_last x.image place so_far.rest_strokes number so_far.rest plain
+  module _ (plain : is_system_place (image_size x) place ≡ false) where
+    last : (p : P) → AtLast x place (so.rest p).rest_strokes number
+    last p = at_last x place (so.rest p).rest_strokes number (so.rest p).rest plain
 
-    pub last_number : place ≡ number
-    last_number = last.number_is
+    pub last_number : P → place ≡ number
+    last_number p = (last p).number_is
 
     -- the new page itself
-    pub last_round : {T : Type 0} (result : Result T Fault) → Makes result mid new x held (take_page place (put place 8 (text_payload []) (drafted x.image))).strokes → Makes result old new b held strokes
-    last_round result makes =
-        makes_same result old new b held _ _ (sym (so_far.strokes_are ∙ ap (λ (ss : List Stroke). so_far.done ++ ss) last.strokes_are))
-        (makes_then tt result old mid new b first held so_far.done _ same so_far.makes makes)
+    pub last_round : {T : Type 0} (V : T → Image → Type 0) (result : Result T Fault) → MakesWhere (IsWell x) V result mid new b c u (take_page place (put place 8 (text_payload []) (drafted x))).strokes
+        → MakesWhere P V result old new a c t strokes
+    last_round V result second =
+        where_then {S = Unit {0}} tt P (Unit {0}) (IsWell x) (λ value y. Unit {0}) V result old mid new a b c t so.done (take_page place (put place 8 (text_payload []) (drafted x))).strokes strokes
+        (record { some = record { made = so.done; makes = so.makes }; ends = tt; these = λ q. record { sure = tt; makes = so.makes; same = refl } }) (λ p. tt) (λ p same. (so.rest p).rest.is_well)
+        (λ p same. sym ((so.rest p).strokes_are ∙ ap (λ (ss : List Stroke). so.done ++ ss) (last p).strokes_are)) second

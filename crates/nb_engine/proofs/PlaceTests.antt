@@ -9,15 +9,16 @@ use Rattle.nb_host.specs.declared.faults.Fault.{Fault}
 use Rattle.nb_host.specs.declared.faults.Fault.TheVariants.{Refused, Device, Memory}
 use Rattle.nb_host.specs.declared.refusals.Refusal.{Refusal}
 use Rattle.nb_host.specs.declared.refusals.Refusal.TheVariants.{Full}
-use Rattle.nb_model.specs.Image.{Image, page_at, image_size}
+use Rattle.nb_model.specs.Image.{Page, Image, page_at, image_size}
 use Rattle.nb_model.specs.Forms.{Draft, inventory_of, scn_page_of, has_entry, is_free_page, free_from}
 use Rattle.nb_model.specs.Causes.{Cause, first_cause, when, not_kind, no_room}
 use Rattle.nb_model.specs.Sound.{IsSoundImage}
 use Rattle.nb_model.proofs.ReadLaws.{lt_no, lt_yes}
 use Rattle.nb_model.proofs.SoundLaws.{inventory_there, scn_page_there}
-use Rattle.nb_engine.specs.Turn.{Tested}
-use Rattle.nb_engine.specs.Find.{IsRoom, HasNoRoom, IsNextPlace, RefusesFull, IsWayReady, not_there, no_entry_page, not_ready}
-use Rattle.nb_engine.proofs.QuietDoes.{first_next, first_here}
+use Rattle.nb_state.specs.Does.{Tested}
+use Rattle.nb_engine.specs.Put.{Reads}
+use Rattle.nb_engine.specs.Find.{IsRoom, HasNoRoom, IsNextPlace, HoldsMap, RefusesFull, IsWayReady, not_there, no_entry_page, not_ready}
+use Rattle.nb_engine.proofs.CauseLaws.{first_next, first_here}
 use Rattle.nb_engine.proofs.TestLaws.{kind_is}
 use Rattle.nb_engine.proofs.FindLaws.{Finds, finds}
 
@@ -171,6 +172,11 @@ map_tested image p e = elim (leb_tells (suc (inventory_of image p)) (length imag
   | inl w ↦ there_below image 2 (inventory_of image p) w.1 ∙ e
   | inr w ↦ there_past image 2 (inventory_of image p) (omega (arith, w.1))
 ]
+
+-- the inventory page of page p was read
+pub map_held : (result : Result (Unit {0}) Fault) (image : Image) (p place : ℕ) (map : Page) → place ≡ inventory_of image p → Reads result image (not_kind image 2 place) place map → OnOk result (HoldsMap image p map)
+map_held (Ok value) image p place map there read = λ plain low. record { kind = ap (λ (q : ℕ). not_kind image 2 q) (sym there) ∙ read.test; page = read.page ∙ ap (page_at image) there }
+map_held (Err fault) image p place map there read = tt
 
 there_sound : (image : Image) (kind p : ℕ) → (p < length image → kind_of (page_at image p) ≡ kind) → not_there image kind p ≡ None
 there_sound image kind p is = elim (leb_tells (suc p) (length image)) [

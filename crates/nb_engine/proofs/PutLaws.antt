@@ -66,23 +66,12 @@ may_raise image p none must =
 abbrev raised_payload : Image → ℕ → List ℕ
 raised_payload image p = drop 16 (with_part (32 + 4 * entry_number image p) (bytes_of 4 (image_scn image)) (page_at image (scn_page_of image p)))
 
--- the strokes of the raise, by whether it is refused and has to be
-abbrev raises : Cause → Bool → Stroke → List Stroke
-raises cause must s = elim cause [ Some refusal ↦ [] | None ↦ elim must [ true ↦ s ∷ [] | false ↦ [] ] ]
-
-pub raised_once : (image : Image) (p : ℕ) → entry_cause image p ≡ None → must_raise image p ≡ true → raise_strokes image p ≡ raise_stroke image p ∷ []
-raised_once image p none must =
-    ap (λ (c : Cause). raises c (must_raise image p) (raise_stroke image p)) none ∙ ap (λ (t : Bool). raises None t (raise_stroke image p)) must
+-- the strokes of the raise, by whether it has to be
+pub raised_once : (image : Image) (p : ℕ) → must_raise image p ≡ true → raise_strokes image p ≡ raise_stroke image p ∷ []
+raised_once image p must = ap (λ (t : Bool). elim t as (λ z. List Stroke) [ true ↦ raise_stroke image p ∷ [] | false ↦ [] ]) must
 
 pub raised_not : (image : Image) (p : ℕ) → must_raise image p ≡ false → raise_strokes image p ≡ []
-raised_not image p must = ap (λ (t : Bool). raises (entry_cause image p) t (raise_stroke image p)) must ∙ none (entry_cause image p)
-  where
-    none : (c : Cause) → raises c false (raise_stroke image p) ≡ []
-    none None = refl
-    none (Some r) = refl
-
-pub raised_never : (image : Image) (p : ℕ) (r : Refusal) → entry_cause image p ≡ Some r → raise_strokes image p ≡ []
-raised_never image p r e = ap (λ (c : Cause). raises c (must_raise image p) (raise_stroke image p)) e
+raised_not image p must = ap (λ (t : Bool). elim t as (λ z. List Stroke) [ true ↦ raise_stroke image p ∷ [] | false ↦ [] ]) must
 
 -- what the raise keeps, where the page is no SCN page: the length, page 0 and the page itself
 pub record Keeps (image : Image) (p : ℕ) (after : Image) : Type 0 where
@@ -102,20 +91,16 @@ one_raise_keeps b p plain some may =
       same = stroke_other b q p _ low other;
     }
 
-pub raise_keeps : (b : Base) (p : ℕ) → kind_of (page_at b.image p) ≢ 10 → 0 < entries_in (image_size b.image) → Keeps b.image p (base_after b (raise_strokes b.image p)).image
+pub raise_keeps : (b : Base) (p : ℕ) → entry_cause b.image p ≡ None → kind_of (page_at b.image p) ≢ 10 → 0 < entries_in (image_size b.image) → Keeps b.image p (base_after b (raise_strokes b.image p)).image
 unfolding base_after
-raise_keeps b p plain some = by (entry_cause b.image p) (must_raise b.image p) refl refl
+raise_keeps b p none plain some = by (must_raise b.image p) refl
   where
     after : List Stroke → Type 0
     after ss = Keeps b.image p (base_after b ss).image
 
-    as_it_was : after []
-    as_it_was = record { long = refl; first = refl; same = refl }
-
-    by : (c : Cause) (t : Bool) → entry_cause b.image p ≡ c → must_raise b.image p ≡ t → after (raise_strokes b.image p)
-    by (Some r) t none must = subst after (sym (raised_never b.image p r none)) as_it_was
-    by None false none must = subst after (sym (raised_not b.image p must)) as_it_was
-    by None true none must = subst after (sym (raised_once b.image p none must)) (one_raise_keeps b p plain some (may_raise b.image p none must))
+    by : (t : Bool) → must_raise b.image p ≡ t → after (raise_strokes b.image p)
+    by false must = subst after (sym (raised_not b.image p must)) (record { long = refl; first = refl; same = refl })
+    by true must = subst after (sym (raised_once b.image p must)) (one_raise_keeps b p plain some (may_raise b.image p none must))
 
 -- so the page is written after the raise as it would be before
 pub put_stroke-after : (image after : Image) (p kind : ℕ) (payload : List ℕ) → Keeps image p after → put_stroke after p kind payload ≡ put_stroke image p kind payload
@@ -230,7 +215,7 @@ written_draft b p none must =
     let q : ℕ = scn_page_of b.image p in
     let payload : List ℕ = raised_payload b.image p in
     let old : old_page q b.image ≡ page_at b.image q = old_page-is q b.image may.low in
-    let one : raise_strokes b.image p ≡ raise_stroke b.image p ∷ [] = raised_once b.image p none must in
+    let one : raise_strokes b.image p ≡ raise_stroke b.image p ∷ [] = raised_once b.image p must in
     record {
       strokes = ap (λ (x : Page). page q (stamped x 10 payload (image_scn b.image) q) ∷ []) old ∙ sym one;
       broken = refl;
@@ -290,7 +275,7 @@ module _ (b : Base) (p kind : ℕ) (payload : List ℕ) where
       → made.strokes ≡ raise_strokes b.image p ++ put_stroke b.image p kind payload ∷ []
   put_strokes low plain some none =
       let d = draft_raised b p none in
-      let keeps : Keeps b.image p so_far.image = subst (Keeps b.image p) (sym d.image) (raise_keeps b p plain some) in
+      let keeps : Keeps b.image p so_far.image = subst (Keeps b.image p) (sym d.image) (raise_keeps b p none plain some) in
       let old : old_page p so_far.image ≡ page_at so_far.image p = old_page-is p so_far.image (omega (arith, low, keeps.long)) in
       made_strokes ∙ ap (λ (ss : List Stroke). ss ++ last ∷ []) d.strokes
       ∙ ap (λ (x : Page). raise_strokes b.image p ++ page p (stamped x kind payload (image_scn so_far.image) p) ∷ []) old

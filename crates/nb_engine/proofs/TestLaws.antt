@@ -1,14 +1,12 @@
 -- The causes of a page that is tested.
 use Rattle.std.proofs.Common.{◌≡◌, ◌≢◌, inl, inr, ℕ, ◌/◌, ◌%◌, ◌<◌, ◌≤◌, List, [], ◌∷◌, ◌++◌, length, get_or, take, drop, sym, ap, ◌∙◌, subst, arith}
-use Rattle.std.specs.Prelude.{Bool, true, false, not, IsTrue, ◌&&◌, ◌==◌, nat_le, Some, None, Result, Ok, Err, IsOk, IsErr, IsErrAnd, OnOk}
+use Rattle.std.specs.Prelude.{Bool, true, false, not, IsTrue, ◌&&◌, ◌==◌, nat_le, Some, None, Result, Ok, Err, IsOk, OnOk}
 use Rattle.std.proofs.lemmas.Bool.Decides.{leb_tells}
 use Rattle.std.proofs.lemmas.Nat.Bits.{bit_at-lt}
 use Rattle.std.proofs.lemmas.List.{length-take, take_at}
 use Rattle.nb_fields.specs.Places.{bits_in, inventory_place}
 use Rattle.nb_fields.specs.Page.{kind_of}
 use Rattle.nb_fields.specs.Payloads.{bit_of, text_length, text_of}
-use Rattle.nb_host.specs.declared.faults.Fault.{Fault}
-use Rattle.nb_host.specs.declared.faults.Fault.TheVariants.{Refused, Device, Memory}
 use Rattle.nb_host.specs.declared.refusals.Refusal.{Refusal}
 use Rattle.nb_host.specs.declared.refusals.Refusal.TheVariants.{NotDatabase, PageRange, NotAllocated, SystemPage, Access, TextLong}
 use Rattle.nb_page.specs.declared.page.PageHead.{PageHead}
@@ -22,9 +20,8 @@ use Rattle.nb_model.specs.declared.reply.Reply.TheVariants.{Refused as RefusedBy
 use Rattle.nb_model.specs.Outcomes.{Seen, says}
 use Rattle.nb_model.specs.Pages.{read_turn}
 use Rattle.nb_model.proofs.ReadLaws.{le_no, lt_no, lt_yes, eq_no, eq_yes}
-use Rattle.nb_engine.specs.Turn.{Tested}
 use Rattle.nb_engine.specs.Put.{not_taken}
-use Rattle.nb_engine.proofs.QuietDoes.{first_none, first_next, first_here, first_front, first_rest, unless_refused, unless_allowed}
+use Rattle.nb_engine.proofs.CauseLaws.{first_none, first_next, first_here, first_front, first_rest, unless_refused, unless_allowed}
 
 -- tests from facts, and facts from tests
 le_yes : (a b : ℕ) → a ≤ b → nat_le a b ≡ true
@@ -54,17 +51,6 @@ at_ok (Err e) is p = absurd (not_false is)
 -- a slice of all the elements of a vector, behind which it has room
 pub vec_whole : (deref items rest : List ℕ) (n : ℕ) → deref ≡ take n (items ++ rest) → length items ≡ n → deref ≡ items
 vec_whole deref items rest n is long = is ∙ take_at items rest n long
-
--- What a callee's test found is passed on, where each of its causes is one of this test.
-pub passed_on : (result : Result (Unit {0}) Fault) (fault : Fault) (found cause : Cause) → IsErr result × IsErrAnd result (λ f. f ≡ fault) → Tested {T = Unit {0}} (Err fault) found
-    → ((r : Refusal) → found ≡ Some r → cause ≡ Some r) → Tested result cause
-passed_on (Ok value) fault found cause is tested same = absurd is.1
-passed_on (Err e) fault found cause is tested same = subst (λ (f : Fault). Tested {T = Unit {0}} (Err f) cause) (sym is.1) (on fault tested)
-  where
-    on : (f : Fault) → Tested {T = Unit {0}} (Err f) found → Tested {T = Unit {0}} (Err f) cause
-    on (Refused r) t = same r t
-    on Device t = tt
-    on Memory t = tt
 
 -- the kind in the head that was read of page p
 pub kind_read : (head : PageHead) (page : Page) (image : Image) (p : ℕ) → head ≡ head_in page → page ≡ page_at image p → head.kind ≡ kind_of (page_at image p)

@@ -53,7 +53,7 @@ EndsAt image from p map = from < length image → IsEnd image p map
 
 -- that map is the inventory page of page p, unless a system page stands at p or the inventory page is past the end
 abbrev pub HoldsMap : Image → (p : ℕ) → (map : Page) → Type 0
-HoldsMap image p map = is_system_place (image_size image) p ≡ false → inventory_of image p < length image → map ≡ page_at image (inventory_of image p)
+HoldsMap image p map = is_system_place (image_size image) p ≡ false → inventory_of image p < length image → IsMap image p map
 
 -- the page is below the length and isn't of that kind; a page past the end is about to be made
 abbrev pub not_there : Image → (kind p : ℕ) → Cause

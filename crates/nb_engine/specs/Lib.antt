@@ -1,9 +1,7 @@
-pub mod Open
-pub mod Create
-pub mod Turn
+pub mod Tries
 pub mod Put
 pub mod Mark
-pub mod Make
+pub mod Turns
 pub mod Replies
-pub mod Attach
 pub mod Find
+pub mod Make

@@ -1,19 +1,21 @@
--- What a run of calls makes of an open database whose inventories agree with its pages.
-use Rattle.std.specs.Prelude.{◌<◌, ℕ, ◌+◌, ◌-◌, List, [], length, None, Result, OnOk, IsTrue}
+-- What making a new page does of an open database.
+use Rattle.std.specs.Prelude.{◌≡◌, ◌<◌, ◌≤◌, ℕ, ◌+◌, ◌-◌, List, [], ◌∷◌, ◌++◌, length, true, false, None, Result, OnOk, IfOk, IfErr, IsTrue}
 use Rattle.nb_fields.specs.Places.{is_page_size}
+use Rattle.nb_fields.specs.Page.{stamped}
 use Rattle.nb_fields.specs.Payloads.{text_payload}
 use Rattle.nb_host.specs.World.{World}
 use Rattle.nb_host.specs.declared.faults.Fault.{Fault}
-use Rattle.nb_change.specs.Change.{Advances, Reached}
-use Rattle.nb_model.specs.Image.{Image, image_size, image_scn}
-use Rattle.nb_model.specs.Account.{Base}
-use Rattle.nb_model.specs.Strokes.{Stroke, on_base, base_after}
-use Rattle.nb_model.specs.Owner.{delta_name}
-use Rattle.nb_model.specs.Forms.{Draft, drafted, take_page, system_page, free_from, new_page}
+use Rattle.nb_model.specs.Image.{Page, Image, image_size, image_scn}
+use Rattle.nb_model.specs.Strokes.{Stroke, page}
+use Rattle.nb_model.specs.Trail.{Trail}
+use Rattle.nb_model.specs.Forms.{Draft, drafted, old_page, is_kind, system_kind, system_payload, take_page, system_page, free_from, new_page}
+use Rattle.nb_model.specs.Causes.{Cause}
 use Rattle.nb_model.specs.Sound.{IsSoundImage}
-use Rattle.nb_engine.specs.declared.opened.Opened.{Opened}
-use Rattle.nb_engine.specs.Open.{Shows, IsOpen}
-use Rattle.nb_engine.specs.Turn.{Tested}
+use Rattle.nb_base.specs.Takes.{after_strokes, IsNoRefusal}
+use Rattle.nb_state.specs.Open.{Held}
+use Rattle.nb_state.specs.Does.{Makes}
+use Rattle.nb_engine.specs.Put.{entry_cause, raise_strokes}
+use Rattle.nb_engine.specs.Find.{HoldsMap}
 
 -- its inventories agree with its pages, and its page size and SCN are those of a header
 pub record IsWell (image : Image) : Type 0 where
@@ -21,12 +23,16 @@ pub record IsWell (image : Image) : Type 0 where
   pub size : IsTrue (is_page_size (image_size image))
   pub scn : image_scn image < 4294967296
 
--- These strokes are made in order, and nothing is refused. At each moment a stop leaves the database after a front of them, and
--- after all of them once the call has answered a value.
-pub record Makes {T : Type 0} (result : Result T Fault) (old new : World) (base : Base) (held : Opened) (strokes : List Stroke) : Type 0 where
-  pub test : Tested result None
-  pub after : OnOk result (IsOpen new held (base_after base strokes))
-  pub left : Advances old new held.name (delta_name held.name) (Reached on_base (Shows held.name) base strokes)
+-- page p, also where it is added, gets that kind and that payload: its SCN entry first
+abbrev pub page_strokes : Image → (p kind : ℕ) → (payload : List ℕ) → List Stroke
+page_strokes image p kind payload = raise_strokes image p ++ page p (stamped (old_page p image) kind payload (image_scn image) p) ∷ []
+
+-- the system page of that place is put there, unless a page of its kind stands there; and why it is refused
+abbrev pub system_strokes : Image → (p : ℕ) → List Stroke
+system_strokes image p = elim (is_kind image (system_kind image p) p) [ true ↦ [] | false ↦ page_strokes image p (system_kind image p) (system_payload image p) ]
+
+abbrev pub system_cause : Image → (p : ℕ) → Cause
+system_cause image p = elim (is_kind image (system_kind image p) p) [ true ↦ None | false ↦ entry_cause image p ]
 
 -- a new raw page with the empty text, and its number
 abbrev pub new_raw : Image → Draft × ℕ
@@ -39,3 +45,26 @@ round image place = take_page place (system_page place (drafted image))
 -- the lowest free page behind that place then, or the length
 abbrev pub behind : Image → (place : ℕ) → ℕ
 behind image place = let after : Image = (round image place).image in free_from (length after - (place + 1)) (place + 1) after
+
+-- The search goes on behind that place to the lowest free page, or the length. The map is the inventory page of that page.
+pub record IsOnward (image : Image) (place next : ℕ) (map : Page) : Type 0 where
+  pub found : next ≡ free_from (length image - (place + 1)) (place + 1) image
+  pub low : next ≤ length image
+  pub holds : HoldsMap image next map
+
+-- The call makes strokes in order, whatever they are.
+pub record MakesSome {T : Type 0} (result : Result T Fault) (old new : World) (before after : Held) (t : Trail) : Type 0 where
+  pub made : List Stroke
+  pub makes : Makes result old new before after t made
+
+-- It makes these strokes, and isn't refused. At Ok it is they that it made.
+pub record MakesThese {T : Type 0} (result : Result T Fault) (old new : World) (before after : Held) (t : Trail) (made strokes : List Stroke) : Type 0 where
+  pub sure : IfErr result IsNoRefusal
+  pub makes : Makes result old new before after t strokes
+  pub same : OnOk result (made ≡ strokes)
+
+-- The call makes some strokes, and where P holds it makes these. Its value and the image behind what it made have Q.
+pub record MakesWhere {T : Type 0} (P : Type 0) (Q : T → Image → Type 0) (result : Result T Fault) (old new : World) (before after : Held) (t : Trail) (strokes : List Stroke) : Type 0 where
+  pub some : MakesSome result old new before after t
+  pub ends : IfOk result (λ value. Q value (after_strokes t some.made).base.image)
+  pub these : P → MakesThese result old new before after t some.made strokes

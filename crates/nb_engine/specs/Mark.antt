@@ -1,5 +1,5 @@
 -- A bit of an inventory page is written.
-use Rattle.std.specs.Prelude.{ℕ, List, [], ◌∷◌, drop, Bool, true, false, None, Some}
+use Rattle.std.specs.Prelude.{ℕ, List, [], ◌∷◌, drop, Bool, true, false}
 use Rattle.nb_model.specs.Image.{Image, page_at}
 use Rattle.nb_model.specs.Strokes.{Stroke}
 use Rattle.nb_model.specs.Forms.{drafted, set_bit, with_bit, inventory_of, bit_number}
@@ -22,6 +22,6 @@ bit_stroke image place index bit = put_stroke image place 2 (drop 16 (with_bit i
 abbrev pub mark_stroke : Image → (p bit : ℕ) → Stroke
 mark_stroke image p bit = bit_stroke image (inventory_of image p) (bit_number image p) bit
 
--- the strokes that write the bit of page p, where nothing refuses them
-abbrev pub marked : Image → (p bit : ℕ) → List Stroke
-marked image p bit = elim (mark_cause image p) [ Some refusal ↦ [] | None ↦ (set_bit bit p (drafted image)).strokes ]
+-- the strokes that write the bit of page p
+abbrev pub mark_strokes : Image → (p bit : ℕ) → List Stroke
+mark_strokes image p bit = (set_bit bit p (drafted image)).strokes

@@ -1,13 +1,15 @@
 -- The strokes of writing a page, its SCN entry first, one by one, and why they are refused.
-use Rattle.std.specs.Prelude.{ℕ, ◌+◌, ◌*◌, List, [], ◌∷◌, drop, None, Some, Bool, true, false, ◌&&◌, nat_lt}
+use Rattle.std.specs.Prelude.{◌≡◌, ℕ, ◌+◌, ◌*◌, List, [], ◌∷◌, drop, None, Bool, true, false, ◌&&◌, nat_lt, Result, OnOk, IfOk}
 use Rattle.nb_fields.specs.Bytes.{bytes_of, with_part}
 use Rattle.nb_fields.specs.Page.{stamped}
 use Rattle.nb_fields.specs.Payloads.{text_payload}
+use Rattle.nb_host.specs.declared.faults.Fault.{Fault}
 use Rattle.nb_host.specs.declared.refusals.Refusal.TheVariants.{NotAllocated}
-use Rattle.nb_model.specs.Image.{Image, page_at, image_scn}
+use Rattle.nb_model.specs.Image.{Page, Image, page_at, image_scn}
 use Rattle.nb_model.specs.Strokes.{Stroke, page}
 use Rattle.nb_model.specs.Forms.{inventory_of, is_free_page, scn_page_of, entry_number, scn_entry, has_entry}
 use Rattle.nb_model.specs.Causes.{Cause, first_cause, when, not_kind}
+use Rattle.nb_state.specs.Does.{Tested}
 
 -- page p, which is below the length, isn't taken, or nothing says so
 abbrev pub not_taken : Image → ℕ → Cause
@@ -27,12 +29,9 @@ raise_stroke image p =
     let q : ℕ = scn_page_of image p in
     page q (stamped (page_at image q) 10 (drop 16 (with_part (32 + 4 * entry_number image p) (bytes_of 4 (image_scn image)) (page_at image q))) (image_scn image) q)
 
--- it is where it has to be raised and may be
+-- it is where it has to be raised
 abbrev pub raise_strokes : Image → ℕ → List Stroke
-raise_strokes image p = elim (entry_cause image p) [
-  | Some refusal ↦ []
-  | None ↦ elim (must_raise image p) [ true ↦ raise_stroke image p ∷ [] | false ↦ [] ]
-]
+raise_strokes image p = elim (must_raise image p) [ true ↦ raise_stroke image p ∷ [] | false ↦ [] ]
 
 -- page p gets that kind and that payload
 abbrev pub put_stroke : Image → (p kind : ℕ) → (payload : List ℕ) → Stroke
@@ -41,3 +40,14 @@ put_stroke image p kind payload = page p (stamped (page_at image p) kind payload
 -- page p gets a text
 abbrev pub raw_stroke : Image → ℕ → (text : List ℕ) → Stroke
 raw_stroke image p text = put_stroke image p 8 (text_payload text)
+
+-- The call tests this, and at Ok it has read page p.
+pub record Reads {T : Type 0} (result : Result T Fault) (image : Image) (cause : Cause) (p : ℕ) (into : Page) : Type 0 where
+  pub test : Tested result cause
+  pub page : OnOk result (into ≡ page_at image p)
+
+-- The call tells whether the SCN entry of page p is raised, and where it is, it has read its SCN page.
+pub record TellsRaise (result : Result Bool Fault) (image : Image) (p : ℕ) (into : Page) : Type 0 where
+  pub test : Tested result (entry_cause image p)
+  pub value : IfOk result (λ raises. raises ≡ must_raise image p)
+  pub page : IfOk result (λ raises. raises ≡ true → into ≡ page_at image (scn_page_of image p))

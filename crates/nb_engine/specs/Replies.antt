@@ -2,7 +2,7 @@
 use Rattle.std.specs.Prelude.{ℕ}
 use Rattle.arrayvec.specs.ArrayVec.{ArrayVec}
 use Rattle.nb_model.specs.declared.reply.Reply.{Reply}
-use Rattle.nb_model.specs.declared.reply.Reply.TheVariants.{Done, PageMade, Value}
+use Rattle.nb_model.specs.declared.reply.Reply.TheVariants.{Done, PageMade, Value, Scn}
 
 -- `ok`
 abbrev pub done : Unit {0} → Reply
@@ -15,3 +15,7 @@ valued text = Value text.items
 -- the number of a new page
 abbrev pub page_made : ℕ → Reply
 page_made number = PageMade number
+
+-- the SCN
+abbrev pub scn_is : ℕ → Reply
+scn_is scn = Scn scn

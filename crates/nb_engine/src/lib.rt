@@ -1,27 +1,27 @@
-//! Statements on the pages of one database in the normal state: creating it, opening it again, new pages, and writing, reading and
-//! giving back raw pages.
+//! Statements on the pages of one database, and the events of its backups.
 //!
-//! It rests on `nb_page` and the inventories for the bytes of pages, on `nb_change` for what a change of files is, and on the
-//! table of turns of `nb_model`. A layer above may rely on this: each call answers what its turn says and makes the turn's
-//! strokes in order; at each moment a stop leaves the database after a front of them, and after all of them once the call
-//! has answered a value or a refusal. The proofs above name no file of the database.
+//! It rests on the store (`nb_state`), of which it knows three things: what is open, that a read gives the page and changes nothing,
+//! and that each call that writes makes its one stroke. It rests on `nb_page` and the inventories for the bytes of pages, and on the
+//! table of turns of `nb_model`. A layer above may rely on this: each call answers what its turn says and makes the turn's strokes
+//! in order, in every backup state; at each moment a stop leaves what may be left of what was seen behind a front of them, and once
+//! the call has answered a value or a refusal the database is open behind all of them. A new page does so where the inventories agree
+//! with the pages; of any other database it says that it makes some strokes.
 #![tactic(auto)]
 
-mod attach;
-mod create;
+mod backup;
 mod engine;
 mod find;
+mod flags;
 mod free;
 mod make;
 mod mark;
 mod new_page;
-mod opened;
+mod pages;
 mod put;
 mod reads;
-mod store;
+mod write;
 
 pub use engine::Engine;
-pub use opened::Opened;
 
 #[cfg(test)]
 mod tests;

@@ -1,52 +1,60 @@
 // A new page.
-ghost use Rattle.std.specs.Prelude.{◌≡◌, ◌≢◌, IsTrue, IfErr};
-ghost use Rattle.nb_host.specs.declared.faults.Fault.TheVariants.{Memory};
-ghost use Rattle.nb_change.specs.Apart.{Apart};
+ghost use Rattle.std.specs.Prelude.{◌≡◌, ◌<◌, IsTrue, Err, true, false};
+ghost use Rattle.nb_host.specs.declared.faults.Fault.TheVariants.{Refused};
+ghost use Rattle.nb_host.specs.declared.refusals.Refusal.TheVariants.{Access, NotDatabase};
 ghost use Rattle.nb_change.specs.Counts.{CountsDevice};
+ghost use Rattle.nb_page.specs.Quiet.{Quiet};
+ghost use Rattle.nb_model.specs.Trail.{Trail};
 ghost use Rattle.nb_model.specs.Outcomes.{Seen};
 ghost use Rattle.nb_model.specs.Pages.{new_turn};
 ghost use Rattle.nb_model.specs.Sound.{IsSoundImage};
-ghost use Rattle.nb_engine.specs.Open.{IsOpen};
-ghost use Rattle.nb_engine.specs.Turn.{Does};
+ghost use Rattle.nb_state.specs.Open.{IsOpen};
+ghost use Rattle.nb_state.specs.Does.{Goes, Does};
 ghost use Rattle.nb_engine.specs.Replies.{page_made};
+ghost use Rattle.nb_engine.specs.Make.{MakesSome};
 
 use crate::Engine;
+use crate::find::{FIRST_TO_GIVE, check_new};
+use crate::make::make_new;
 use nb_host::{Fault, Host, Refusal};
 
 impl Engine {
     /// Makes a raw page with the empty text, and answers its number: the lowest free page, or a page at the end where none is free. Where
     /// the search for it comes to the place of a system page, that page is made, is taken, and the search goes on behind it. Each page is
-    /// kept for good before it is taken, and its SCN entry is raised before, where that is below the current SCN.
+    /// written before it is taken, and its SCN entry is raised before, where that is below the current SCN.
     ///
-    /// The refusals are `Access`, `NotDatabase` of an inventory page that isn't of its kind, and `Full`, where no page is left.
+    /// The refusals are `Access`, `NotDatabase` of a database of fewer than five pages, by its length, or of an inventory page that isn't
+    /// of its kind, and `Full`, where no page is left. All that the new page changes is tested before the first write. Where the
+    /// inventories agree with the pages, a refused call changes nothing.
     pub fn page_new<H: Host>(&mut self, host: &mut H) -> Result<u32, Fault>
-        ensures turn { (s : Seen) → IsTrue H.tells → IsOpen (H.world host.old) self.old s.base → IsSoundImage s.base.image
-            → Does page_made result (H.world host.old) (H.world host.new) s.base self.new (new_turn s) }
-        ensures apart { IsTrue H.tells → Apart (H.world host.old) (H.world host.new) self.old.name }
-        ensures name { self.new.name ≡ self.old.name }
+        ensures turn { (s : Seen) (t : Trail) → IsTrue H.tells → t.base ≡ s.base → IsOpen (H.world host.old) self.old t → IsSoundImage s.base.image
+            → Does page_made result (H.world host.old) (H.world host.new) self.old self.new t (new_turn s) }
+
+        // Whatever is in the database: it makes some strokes and is open behind them, so only its two files are touched.
+        ensures some { (t : Trail) → IsTrue H.tells → IsOpen (H.world host.old) self.old t → MakesSome result (H.world host.old) (H.world host.new) self.old self.new t }
+        ensures closed { self.old.read_only ≡ true → (result ≡ Err (Refused (Access 1))) × Quiet (H.world host.old) (H.world host.new) }
+        ensures short { self.old.read_only ≡ false → self.old.files.count < 5 → (result ≡ Err (Refused (NotDatabase self.old.files.count))) × Quiet (H.world host.old) (H.world host.new) }
+        ensures goes { Goes self.old self.new }
         ensures cause { CountsDevice result (H.faults host.old) (H.faults host.new) }
-        ensures takes_none { IfErr result (λ fault. fault ≢ Memory) }
     {
         // Contracts ask for its range, which is known of what was read.
-        let _scn = self.opened.scn;
-        if self.opened.read_only {
+        let _scn = self.store.scn();
+        if self.store.is_read_only() {
             return Err(Fault::Refused(Refusal::Access { found: 1 }));
         }
-        let first = self
-            .opened
-            .check_new(host, &mut self.map, &mut self.system)?;
-        // A file that ends before the first page that may be given is no database.
-        if first > self.opened.count {
-            return Err(Fault::Refused(Refusal::NotDatabase {
-                page: self.opened.count,
-            }));
+        // A database that ends before the first page that may be given is none.
+        let count = self.store.count();
+        if count < FIRST_TO_GIVE {
+            return Err(Fault::Refused(Refusal::NotDatabase { page: count }));
         }
-        let number = self.opened.make_new(
+        let first = check_new(&mut self.store, host, &mut self.map, &mut self.scn_page)?;
+        let number = make_new(
+            &mut self.store,
             host,
             first,
             &mut self.page,
             &mut self.map,
-            &mut self.system,
+            &mut self.scn_page,
         )?;
         Ok(number)
     }

@@ -1,9 +1,10 @@
-// Databases are opened again, whole and broken, on a host in memory.
+// Databases on a host in memory: opened again, and the calls of the engine in turn.
 ghost use Rattle.std.specs.Prelude.{◌≤◌, IfOk, length};
 
 use crate::Engine;
 use nb_host::{Fault, Name, Refusal};
 use nb_mem::MemHost;
+use nb_state::Progress;
 use std::alloc::Global;
 use std::test::Fail;
 
@@ -22,127 +23,69 @@ fn host_with(alloc: Global, text: &[u8]) -> Result<MemHost, Fail> {
     Ok(host)
 }
 
+/// The database of that host, opened again.
+fn open(alloc: Global, host: &mut MemHost) -> Result<Engine, Fail> {
+    Ok(Engine::attach(alloc, host, &name_of()?)?)
+}
+
 #[test]
-fn a_database_is_attached_again(rt: HostRuntime) -> Result<(), Fail> {
+fn a_page_is_read_again(rt: HostRuntime) -> Result<(), Fail> {
     let mut host = host_with(rt.alloc(), b"hello")?;
-    let reads = host.read_count().saturating_add(2);
-    let mut engine = Engine::attach(rt.alloc(), &mut host, &name_of()?)?;
-    assert_eq!(rt;
-        (engine.page_size(), engine.count(), host.read_count()),
-        (1024, 13, reads)
-    );
-    assert_eq!(rt; (engine.forced(), engine.access()), (true, 0));
-    engine.sync(&mut host)?;
+    let mut engine = open(rt.alloc(), &mut host)?;
     let text = engine.page_read(&mut host, 6)?;
     assert_eq!(rt; text.as_slice(), b"hello".as_slice());
     Ok(())
 }
 
-/// What attaching answers: how many pages the database has, or the page that breaks the form, or why it is refused.
-#[derive(Clone, Copy, Debug, PartialEq, Eq)]
-enum Answer {
-    Pages(u32),
-    Broken(u32),
-    Missing,
-    Unfinished,
-}
-
-fn attached(alloc: Global, host: &mut MemHost) -> Result<Answer, Fail> {
-    match Engine::attach(alloc, host, &name_of()?) {
-        Ok(engine) => Ok(Answer::Pages(engine.count())),
-        Err(Fault::Refused(Refusal::NotDatabase { page })) => Ok(Answer::Broken(page)),
-        Err(Fault::Refused(Refusal::NoFile { name: _ })) => Ok(Answer::Missing),
-        Err(Fault::Refused(Refusal::Unfinished)) => Ok(Answer::Unfinished),
-        Err(_) => Err(Fail::from("another answer")),
-    }
-}
-
-/// A host whose file has these bytes with one of them changed, cut or with zeros behind.
-fn changed(alloc: Global, bytes: &[u8], at: usize, byte: u8, len: usize) -> Result<MemHost, Fail> {
-    let mut file = Vec::from_slice(alloc, bytes)?;
-    if let Some(place) = file.get_mut(at) {
-        *place = byte;
-    }
-    file.resize(len, 0)?;
-    let mut host = MemHost::new(alloc)?;
-    host.put_file(&name_of()?, &file)?;
-    Ok(host)
-}
-
 #[test]
-fn files_are_tested(rt: HostRuntime) -> Result<(), Fail> {
-    let mut made = host_with(rt.alloc(), b"")?;
-    let whole = 13 * 1024;
-    let rows = [
-        (0, 1, whole, Answer::Pages(13)),
-        (0, 1, whole + 2 * 1024, Answer::Pages(13)),
-        (0, 1, 5 * 1024, Answer::Pages(5)),
-        (0, 1, 0, Answer::Broken(0)),
-        (0, 1, 65, Answer::Broken(0)),
-        (0, 1, 100, Answer::Broken(0)),
-        (0, 1, 4 * 1024, Answer::Broken(4)),
-        (0, 1, whole - 1, Answer::Broken(12)),
-        (0, 1, whole + 1, Answer::Broken(13)),
-        (0, 2, whole, Answer::Broken(0)),
-        (22, 1, whole, Answer::Unfinished),
-        (22, 2, whole, Answer::Unfinished),
-        (22, 3, whole, Answer::Unfinished),
-        (22, 3, whole - 1, Answer::Broken(12)),
-        (22, 4, whole, Answer::Broken(0)),
-        (25, 8, whole, Answer::Broken(6)),
-    ];
-    for (at, byte, len, answer) in rows {
-        let bytes = made.file(&name_of()?).unwrap_or(b"");
-        let mut host = changed(rt.alloc(), bytes, at, byte, len)?;
-        assert_eq!(rt;
-            attached(rt.alloc(), &mut host)?,
-            answer,
-            "{at} {byte} {len}"
-        );
-    }
-    made = MemHost::new(rt.alloc())?;
-    assert_eq!(rt; attached(rt.alloc(), &mut made)?, Answer::Missing);
+fn flags_are_kept(rt: HostRuntime) -> Result<(), Fail> {
+    let mut host = host_with(rt.alloc(), b"")?;
+    let mut engine = open(rt.alloc(), &mut host)?;
+    engine.set_forced(&mut host, false)?;
+    engine.set_access(&mut host, true)?;
+    let again = open(rt.alloc(), &mut host)?;
+    assert_eq!(rt; (again.forced(), again.access()), (false, 1));
     Ok(())
 }
 
-/// The two flags of a database one byte of whose file was changed.
-fn flags(alloc: Global, made: &MemHost, at: usize, byte: u8) -> Result<(bool, u32), Fail> {
-    let bytes = made.file(&name_of()?).unwrap_or(b"");
-    let mut host = changed(alloc, bytes, at, byte, bytes.len())?;
-    let engine = Engine::attach(alloc, &mut host, &name_of()?)?;
-    Ok((engine.forced(), engine.access()))
-}
-
 #[test]
-fn flags_are_read(rt: HostRuntime) -> Result<(), Fail> {
-    let made = host_with(rt.alloc(), b"")?;
-    let rows = [
-        (64, 0, (false, 0)),
-        (64, 2, (true, 0)),
-        (65, 1, (true, 1)),
-        (65, 128, (true, 1)),
-    ];
-    for (at, byte, answer) in rows {
-        assert_eq!(rt; flags(rt.alloc(), &made, at, byte)?, answer, "{at} {byte}");
-    }
+fn a_page_is_given_back(rt: HostRuntime) -> Result<(), Fail> {
+    let mut host = host_with(rt.alloc(), b"")?;
+    let mut engine = open(rt.alloc(), &mut host)?;
+    engine.page_free(&mut host, 6)?;
+    let refused = engine.page_read(&mut host, 6);
+    assert!(rt;
+        matches!(
+            refused,
+            Err(Fault::Refused(Refusal::NotAllocated { page: 6 }))
+        )
+    );
     Ok(())
-}
-
-/// How often a page is read while one is made in a new database of 1,024-byte pages, of which `raw` are taken raw pages.
-fn reads_of_new(alloc: Global, raw: u32) -> Result<(u32, u64), Fail>
-    requires { raw ≤ 65535 }
-{
-    let mut host = MemHost::new(alloc)?;
-    Engine::create(alloc, &mut host, &name_of()?, 1024, raw)?;
-    let mut engine = Engine::attach(alloc, &mut host, &name_of()?)?;
-    let before = host.read_count();
-    let number = engine.page_new(&mut host)?;
-    Ok((number, host.read_count().saturating_sub(before)))
 }
 
 #[test]
 fn a_new_page_reads_its_inventory_once(rt: HostRuntime) -> Result<(), Fail> {
+    let mut host = MemHost::new(rt.alloc())?;
+    // Page 248 is an SCN inventory page, so the last of them is page 305.
+    let mut engine = Engine::create(rt.alloc(), &mut host, &name_of()?, 1024, 300)?;
+    let before = host.read_count();
+    let number = engine.page_new(&mut host)?;
     // The inventory page once. The SCN page of the new page and that of the inventory page are tested first, and read again to be raised.
-    assert_eq!(rt; reads_of_new(rt.alloc(), 300)?, (306, 5));
+    assert_eq!(rt;
+        (number, host.read_count().saturating_sub(before)),
+        (306, 5)
+    );
+    Ok(())
+}
+
+#[test]
+fn a_backup_begins_and_ends(rt: HostRuntime) -> Result<(), Fail> {
+    let mut host = host_with(rt.alloc(), b"")?;
+    let mut engine = open(rt.alloc(), &mut host)?;
+    let begun = engine.begin(&mut host)?;
+    let ended = engine.end(&mut host, 1)?;
+    // Nothing was changed meanwhile.
+    let progress = engine.merge_turn(&mut host)?;
+    assert_eq!(rt; (begun, ended, progress), (2, 3, Progress::Finished));
     Ok(())
 }

@@ -1,9 +1,7 @@
 -- The control strokes of a backup keep a database well: a well trail begins behind each of them.
 use Rattle.std.proofs.Common.{◌≡◌, ℕ, ◌+◌, ◌<◌, ◌≤◌, List, [], ◌∷◌, ◌++◌, length, refl, sym, subst, arith}
-use Rattle.std.specs.Prelude.{true, ◌==◌, ◌||◌, ◌&&◌, not, nat_le, nat_lt, Option, Some, IsTrue}
-use Rattle.std.proofs.lemmas.Bool.{and_from, le-leb, lt-ltb}
+use Rattle.std.specs.Prelude.{Option, Some, IsTrue}
 use Rattle.std.proofs.lemmas.List.Elements.{Contains-append_right}
-use Rattle.nb_fields.specs.Header.{is_sound}
 use Rattle.nb_fields.specs.Places.{is_page_size}
 use Rattle.nb_fields.proofs.PartLemmas.{length-part}
 use Rattle.nb_model.specs.Image.{Image, first_page, image_size, image_state, image_scn, image_guid}
@@ -19,14 +17,9 @@ use Rattle.nb_model.proofs.EntryLaws.{for_below}
 use Rattle.nb_model.proofs.HeaderLaws.{header-long, header-size, header-scn, header-room}
 use Rattle.nb_model.proofs.NormalLaws.{told_whole}
 use Rattle.nb_model.proofs.PastLaws.{past_more}
+use Rattle.nb_model.proofs.ControlMay.{may_begin, may_end, may_finish}
 use Rattle.nb_model.proofs.ControlSound.{MayControl, new_state, new_scn, new_guid, new_header, control_sound, control_goes_on, control_past, control_old}
 use Rattle.nb_model.proofs.WellTrailLaws.{settled_well}
-
--- a state and an SCN that a header may have
-sound_fields : (state size scn : ℕ) → state ≤ 3 → IsTrue (is_page_size size) → 1 ≤ scn → (not (state == 1) || nat_lt scn 4294967295) ≡ true → is_sound state size scn ≡ true
-sound_fields state size scn low is some last =
-    and_from (nat_le state 3 && is_page_size size && nat_le 1 scn) (not (state == 1) || nat_lt scn 4294967295)
-    (and_from (nat_le state 3 && is_page_size size) (nat_le 1 scn) (and_from (nat_le state 3) (is_page_size size) (le-leb state 3 low) is) (le-leb 1 scn some)) last
 
 -- no page is named by an empty table
 none_named : (p k : ℕ) → entry_for p [] ≡ Some k → ⊥
@@ -68,13 +61,7 @@ module _ (kept : List Kept) (b : Base) (w : IsWellBaseIn kept b) where
     record_is = refl
 
     begin_may : MayControl 1 (image_scn image + 1) guid image
-    begin_may = record {
-      sixteen = sixteen;
-      four = omega (arith, room);
-      later = omega arith;
-      known = omega arith;
-      sound = sound_fields 1 (image_size image) (image_scn image + 1) (omega arith) wide (omega arith) (lt-ltb (image_scn image + 1) 4294967295 (omega (arith, room)));
-    }
+    begin_may = may_begin image header guid sixteen room
 
     begun_state : image_state now ≡ 1
     begun_state = new_state 1 (image_scn image + 1) guid image header w.well.sound begin_may
@@ -131,13 +118,7 @@ module _ (kept : List Kept) (b : Base) (w : IsWellBaseIn kept b) where
     ended_is = refl
 
     ends_may : MayControl 2 (image_scn image + 1) (image_guid image) image
-    ends_may = record {
-      sixteen = its_guid;
-      four = omega (arith, room);
-      later = omega arith;
-      known = omega arith;
-      sound = sound_fields 2 (image_size image) (image_scn image + 1) (omega arith) wide (omega arith) refl;
-    }
+    ends_may = may_end image header stalled
 
     ended_state : image_state ended.image ≡ 2
     ended_state = new_state 2 (image_scn image + 1) (image_guid image) image header w.well.sound ends_may
@@ -175,13 +156,7 @@ module _ (kept : List Kept) (b : Base) (w : IsWellBaseIn kept b) where
     finished_is = refl
 
     finish_may : MayControl 0 (image_scn image) (image_guid image) image
-    finish_may = record {
-      sixteen = its_guid;
-      four = w.well.scn;
-      later = omega arith;
-      known = omega arith;
-      sound = sound_fields 0 (image_size image) (image_scn image) (omega arith) wide some refl;
-    }
+    finish_may = may_finish image header
 
     finished_state : image_state finished.image ≡ 0
     finished_state = new_state 0 (image_scn image) (image_guid image) image header w.well.sound finish_may

@@ -19,7 +19,7 @@ use Rattle.nb_model.proofs.HeadSound.{all_zeros}
 use Rattle.nb_model.proofs.HeaderLaws.{header-long, header-other}
 use Rattle.nb_model.proofs.MainLaws.{main_of_owner}
 use Rattle.nb_model.proofs.OpeningLaws.{opened_in_use}
-use Rattle.nb_model.proofs.StandsLaws.{names_tell, not_level, header_no_level, StandsUnder, stands_with_entry, stands_with_database}
+use Rattle.nb_model.proofs.StandsLaws.{names_tell, not_level, header_no_level, StandsUnder, stands_with_both, stands_with_database}
 
 -- The file becomes that of a well database, whatever stood under the name before.
 pub stands_with_well : (old new : Files) (account : Account) (name : List ℕ) (image : Image)
@@ -60,7 +60,7 @@ unfolding begins_level
 zeros_no_level [] zeros = refl
 zeros_no_level (b ∷ bs) zeros = let e : b ≡ 0 = eqb-true b 0 (and_parts (b == 0) (is_zeros (take 63 bs)) zeros).0 in rw e refl
 
-free_no_level : (bytes : List ℕ) (c : Contents) → is_free_file (Some bytes) ≡ true → read_level bytes ≡ Ok c → ⊥
+pub free_no_level : (bytes : List ℕ) (c : Contents) → is_free_file (Some bytes) ≡ true → read_level bytes ≡ Ok c → ⊥
 free_no_level bytes c free reads = elim (free_cases bytes free) [
   | inl zeros ↦ ok_err (read_level bytes) reads (not_level bytes (zeros_no_level bytes zeros))
   | inr unfinished ↦ header_no_level bytes c (and_parts _ _ (and_parts _ _ unfinished).0).0 reads
@@ -70,7 +70,7 @@ free_no_level bytes c free reads = elim (free_cases bytes free) [
     ok_err x a b = cc
 
 -- where it has a header it is in the applying state, and no merge is pending
-free_header : (bytes : List ℕ) → is_free_file (Some bytes) ≡ true → is_header bytes ≡ true → (state_of bytes ≡ 3) × (pending_of bytes ≡ nil)
+pub free_header : (bytes : List ℕ) → is_free_file (Some bytes) ≡ true → is_header bytes ≡ true → (state_of bytes ≡ 3) × (pending_of bytes ≡ nil)
 free_header bytes free header = elim (free_cases bytes free) [
   | inl zeros ↦ absurd (zeros_no_header bytes zeros header)
   | inr unfinished ↦
@@ -115,11 +115,11 @@ free_under files kept name not_nil free alone = record {
 
 -- The files stand for the account with what they give under a free name, as a creation leaves it that was stopped.
 pub stands_free : (old new : Files) (account : Account) (name : List ℕ)
-    → Stands old account → is_delta name ≡ false → ((m : List ℕ) → m ≢ name → new m ≡ old m)
+    → Stands old account → is_delta name ≡ false → ((m : List ℕ) → m ≢ name → m ≢ delta_name name → new m ≡ old m)
     → is_free_file (new name) ≡ true → new (delta_name name) ≡ None
     → Stands new (with_entry name (entry_in new name) account)
 stands_free old new account name stands plain others free alone =
-    stands_with_entry old new account name (entry_in new name) stands plain others (free_under new account.kept name stands.kept_records.not_nil free alone)
+    stands_with_both old new account name (entry_in new name) stands plain others (free_under new account.kept name stands.kept_records.not_nil free alone)
 
 -- Files that are the same stand for the same.
 pub stands_files : (old new : Files) (account : Account) → Stands old account → ((m : List ℕ) → new m ≡ old m) → Stands new account

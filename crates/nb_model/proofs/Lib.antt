@@ -42,6 +42,7 @@ pub mod TakenLaws
 pub mod FreeLaws
 pub mod FrontLaws
 pub mod TrailLaws
+pub mod StepsLaws
 pub mod FitLaws
 pub mod MixtureLaws
 pub mod MixtureWrites
@@ -54,4 +55,14 @@ pub mod WellTrailLaws
 pub mod OpenedLaws
 pub mod ControlLaws
 pub mod ControlSound
+pub mod ControlMay
 pub mod ControlWell
+pub mod FinishLaws
+pub mod RecordLaws
+pub mod SteadyLaws
+pub mod SteadyTurns
+pub mod GrownLaws
+pub mod SoundTurns
+pub mod AccountLaws
+pub mod GuidLaws
+pub mod UnseenLaws

@@ -27,7 +27,7 @@ use Rattle.nb_model.proofs.HeaderLaws.{header-long, header-size, same-header, sa
 use Rattle.nb_model.proofs.ImageLaws.{AreZeros, joined-append, length-joined, joined-zeros, zeros-are, trimmed-no_zeros, trimmed-append_zeros, all-append, all-replicate}
 use Rattle.nb_model.proofs.MainLaws.{IsLaid, laid, laid-front, some_page, image_in-is, main_facts, owned-front, owned-first, diverted-image, IsDiverted, owner_cases, base_told}
 use Rattle.nb_model.proofs.OverLaws.{owner_over}
-use Rattle.nb_model.proofs.StandsLaws.{header_no_level, applying_state, opened_entry, StandsUnder, StandsBeside, stands_with_both}
+use Rattle.nb_model.proofs.StandsLaws.{header_no_level, applying_state, opened_entry, StandsUnder, stands_with_both}
 use Rattle.nb_model.proofs.WellTrailLaws.{settled_well, left_well}
 
 -- zeros behind zeros
@@ -67,14 +67,14 @@ copy_image r bytes copy header sound none =
     ∙ trimmed-append_zeros r.image zeros (all-replicate (λ (x : Page). is_zeros x ≡ true) m (replicate {A = ℕ} size 0) (zeros-are size)) ∙ trimmed-no_zeros r.image sound.sound.no_zeros
 
 -- The main file of a database that is opened: it has the database's control block, and in the stalled state the frozen image.
-record HasMain (b : Base) (file : File) : Type 0 where
-  bytes : List ℕ
-  there : file ≡ Some bytes
-  formed : not_database bytes ≡ None
-  front : take 64 (first_page b.image) ≡ take 64 bytes
-  state : state_of bytes ≤ 2
-  frozen : state_of bytes ≡ 1 → b.frozen ≡ image_in bytes
-  merge : state_of bytes ≡ 2 → b.frozen ≡ []
+pub record HasMain (b : Base) (file : File) : Type 0 where
+  pub bytes : List ℕ
+  pub there : file ≡ Some bytes
+  pub formed : not_database bytes ≡ None
+  pub front : take 64 (first_page b.image) ≡ take 64 bytes
+  pub state : state_of bytes ≤ 2
+  pub frozen : state_of bytes ≡ 1 → b.frozen ≡ image_in bytes
+  pub merge : state_of bytes ≡ 2 → b.frozen ≡ []
 
 diverted_front : (b : Base) (file : File) (is : IsDiverted b file) → take 64 (first_page b.image) ≡ take 64 is.bytes
 diverted_front b file is =
@@ -93,7 +93,7 @@ diverted_merge : (b : Base) (file : File) (is : IsDiverted b file) → state_of 
 unfolding diverted_base
 diverted_merge b file is merge = ap (λ (c : Base). c.frozen) is.is ∙ ap (λ (n : ℕ). elim (n == 1) as (λ z. Image) [ true ↦ image_in is.bytes | false ↦ [] ]) merge
 
-has_main : (name : List ℕ) (b : Base) (m d : File) → owner name m d ≡ Ok b → HasMain b m
+pub has_main : (name : List ℕ) (b : Base) (m d : File) → owner name m d ≡ Ok b → HasMain b m
 has_main name b m d opens = elim (owner_cases name b m d opens) [
   | inl holds ↦ record {
     bytes = holds.bytes;
@@ -120,10 +120,10 @@ module _ (b : Base) (file : File) (main : HasMain b file) where
   main_form : Formed main.bytes
   main_form = formed main.bytes main.formed
 
-  main_header : is_header (first_page b.image) ≡ true
+  pub main_header : is_header (first_page b.image) ≡ true
   main_header = same-header (first_page b.image) main.bytes main.front ∙ main_form.header
 
-  same_state : image_state b.image ≡ state_of main.bytes
+  pub same_state : image_state b.image ≡ state_of main.bytes
   same_state = same-number (first_page b.image) main.bytes main.front 22 2 (omega arith)
 
   same_guid : image_guid b.image ≡ guid_of main.bytes
@@ -151,7 +151,7 @@ module _ (files : Files) (account : Account) (name : List ℕ) (b : Base) (stand
       let form : Formed main.bytes = main_form b (files name) main in
       let one : state_of main.bytes ≡ 1 = sym state ∙ stalled in
       let whole : length main.bytes % size_of main.bytes ≡ 0 = ap (λ (n : ℕ). n % size_of main.bytes) form.whole ∙ mul-mod_left form.count (size_of main.bytes) in
-      let copy : IsCopyOf r main.bytes = (stands.kept_records.levels name main.bytes main.there).copy r form.header one whole (subst (λ (g : List ℕ). IsKeptAs account.kept g r) (same_guid b (files name) main) kept) in
+      let copy : IsCopyOf r main.bytes = (stands.kept_records.levels name main.bytes plain main.there).copy r form.header one whole (subst (λ (g : List ℕ). IsKeptAs account.kept g r) (same_guid b (files name) main) kept) in
       record {
         backup = r;
         kept_as = kept;
@@ -234,15 +234,15 @@ module _ (files : Files) (kept : List Kept) (name : List ℕ) (b : Base) (opens 
 -- So the files go on to stand for an account with a well database that they hold, in whatever state.
 pub stands_with_well_in : (old new : Files) (account : Account) (name : List ℕ) (b : Base)
     → Stands old account → is_delta name ≡ false → ((m : List ℕ) → m ≢ name → m ≢ delta_name name → new m ≡ old m)
-    → owner name (new name) (new (delta_name name)) ≡ Ok b → IsWellBaseIn account.kept b → StandsBeside new account name
+    → owner name (new name) (new (delta_name name)) ≡ Ok b → IsWellBaseIn account.kept b
     → Stands new (with_entry name (IsBase b) account)
-stands_with_well_in old new account name b stands plain others opens w along =
-    stands_with_both old new account name (IsBase b) stands plain others (well_under new account.kept name b opens w stands.kept_records.distinct) along
+stands_with_well_in old new account name b stands plain others opens w =
+    stands_with_both old new account name (IsBase b) stands plain others (well_under new account.kept name b opens w stands.kept_records.distinct)
 
 -- So do they where a stop left them of a well trail.
 pub stood_stands : (old new : Files) (account : Account) (name : List ℕ) (t : Trail)
     → Stands old account → is_delta name ≡ false → ((m : List ℕ) → m ≢ name → m ≢ delta_name name → new m ≡ old m)
-    → IsWellTrail account.kept t → (s : StandsIn name t new) → StandsBeside new account name
+    → IsWellTrail account.kept t → (s : StandsIn name t new)
     → Stands new (with_entry name (IsBase s.base) account)
-stood_stands old new account name t stands plain others w s along =
-    stands_with_well_in old new account name s.base stands plain others s.opens (left_well account.kept t s.base w s.left) along
+stood_stands old new account name t stands plain others w s =
+    stands_with_well_in old new account name s.base stands plain others s.opens (left_well account.kept t s.base w s.left)

@@ -1,9 +1,8 @@
 -- The first statement of a run: whether its name is free, what it makes, and what a run leaves of the other files and records.
 use Rattle.std.proofs.Common.{◌≡◌, ◌≢◌, inl, inr, ℕ, ◌+◌, length, ◌-◌, List, [], ◌∷◌, ◌++◌, map, take, get_or, refl, sym, ap, subst, ◌∙◌}
-use Rattle.std.specs.Prelude.{IsTrue, Bool, true, false, not, ◌&&◌, ◌||◌, ◌==◌, Option, Some, None, Result, Ok, Err, is_some, is_none}
+use Rattle.std.specs.Prelude.{Bool, true, false, not, ◌&&◌, ◌||◌, ◌==◌, Option, Some, None, Result, Ok, Err, is_some, is_none}
 use Rattle.std.specs.List.{AllByRecursion, slice_index_or}
 use Rattle.std.specs.Cmp.Lexicographic.{told_text}
-use Rattle.std.proofs.lemmas.Bool.{true≢false}
 use Rattle.std.proofs.lemmas.Bool.Decides.{eqb_tells}
 use Rattle.std.proofs.lemmas.List.{append-nil}
 use Rattle.std.proofs.Math.ListN.{get_or-map}
@@ -20,12 +19,11 @@ use Rattle.nb_host.specs.declared.refusals.Refusal.TheVariants.{FileExists, Unfi
 use Rattle.nb_model.specs.declared.reply.Reply.{Reply}
 use Rattle.nb_model.specs.declared.reply.Reply.TheVariants.{Done, Pages, Refused}
 use Rattle.nb_model.specs.declared.statement.Statement.{Statement}
-use Rattle.nb_model.specs.declared.statement.Statement.TheVariants.{CreateDb, OpenDb, PageNew, Write, Read, Free, Forced, Access, Sync, ShowHeader}
+use Rattle.nb_model.specs.declared.statement.Statement.TheVariants.{CreateDb, PageNew, Write, Read, Free, Forced, Access, Sync, ShowHeader}
 use Rattle.nb_model.specs.Image.{Image}
 use Rattle.nb_model.specs.Account.{Base, base_of, Kept, Entry, Missing, Plain, IsBase, Account, with_entry}
 use Rattle.nb_model.specs.Strokes.{Stroke, make, page, begin, ends, finish, fix, merge, on_base, records_of, base_in, base_after, records_after}
 use Rattle.nb_model.specs.Forms.{Draft, drafted, put, give_page, new_page}
-use Rattle.nb_model.specs.Built.{is_built}
 use Rattle.nb_model.specs.Causes.{Cause, not_database, when, is_free_entry}
 use Rattle.nb_model.specs.Owner.{delta_name, owner, owner_in, entry_of_files}
 use Rattle.nb_model.specs.Outcomes.{Turn, Begins, Copies, ClosesBackup, ClosesCopy, Ends, Merges, Finishes, Given, Seen, Outcome, says, unless, changes}
@@ -109,7 +107,7 @@ free_entry files account name same no_stray plain =
       where
         by : (t : Bool) → is_some (files (delta_name name)) ≡ t → is_some (files (delta_name name)) ≡ false
         by false is = is
-        by true is = elim (no_stray name is) [
+        by true is = elim (no_stray name plain is) [
           | inl base ↦ absurd (not_both (account.entry name) base.0 base.1 (same name plain ∙ ap (λ (f : File). entry_of_files name f (files (delta_name name))) none ∙ missing_entry name (files (delta_name name))))
           | inr standby ↦ absurd (not_some (files name) standby.0 standby.1 none)
         ]
@@ -197,11 +195,11 @@ not_created account given sessions session name size raw cache taken =
 -- The run of a script whose first statement is done, and of one whose first is refused.
 pub run_on : (account : Account) (given : Given) (session : ℕ) (first : Statement) (schedule : List ℕ) (sessions : List (List Statement)) (now last : Now) (rest : List Event)
     → (opening account given sessions session first).now ≡ Some now → IsPlayed schedule now rest last
-    → IsRun account given session first schedule sessions ((opening account given sessions session first).event ∷ rest) last.account
+    → IsRun account given session first schedule sessions ((opening account given sessions session first).event ∷ rest) last.account last.given
 run_on account given session first schedule sessions now last rest goes_on played = record {
   rest = rest;
   is = refl;
-  goes_on = subst (λ (n : Option Now). IsRest schedule (record { event = o.event; account = o.account; now = n }) rest last.account) (sym goes_on) (last, played, refl);
+  goes_on = subst (λ (n : Option Now). IsRest schedule (record { event = o.event; account = o.account; now = n }) given rest last.account last.given) (sym goes_on) (last, played, refl, refl);
 }
   where
     o : Opening
@@ -209,11 +207,11 @@ run_on account given session first schedule sessions now last rest goes_on playe
 
 pub run_ends : (account : Account) (given : Given) (session : ℕ) (first : Statement) (schedule : List ℕ) (sessions : List (List Statement)) (reply : Reply)
     → opening account given sessions session first ≡ refused_opening session reply account
-    → IsRun account given session first schedule sessions ((refused_opening session reply account).event ∷ []) account
+    → IsRun account given session first schedule sessions ((refused_opening session reply account).event ∷ []) account given
 run_ends account given session first schedule sessions reply refused = record {
   rest = [];
   is = ap (λ (o : Opening). o.event ∷ []) (sym refused);
-  goes_on = subst (λ (o : Opening). IsRest schedule o [] account) (sym refused) (refl, refl);
+  goes_on = subst (λ (o : Opening). IsRest schedule o given [] account given) (sym refused) (refl, refl, refl);
 }
 
 -- A turn that writes pages and makes no file, and behind which nothing is left to do.
@@ -272,17 +270,6 @@ sync_paged s session = record { made = refl; pages = tt; next = refl }
 pub header_paged : IsPaged ShowHeader
 unfolding first_turn header_turn
 header_paged s session = record { made = refl; pages = tt; next = refl }
-
--- So does each statement that the program does today.
-pub built_paged : (statement : Statement) → IsTrue (is_built statement) → IsPaged statement
-unfolding first_turn
-built_paged (CreateDb name size raw cache) h = λ s k. record { made = refl; pages = tt; next = refl }
-built_paged (OpenDb name cache) h = λ s k. record { made = refl; pages = tt; next = refl }
-built_paged PageNew h = new_paged
-built_paged (Write p text) h = write_paged p text
-built_paged (Read p) h = read_paged p
-built_paged (Free p) h = free_paged p
-built_paged other h = absurd (true≢false (sym h))
 
 -- what sessions have to do writes pages alone
 abbrev pub IsPagedTurn : Turn → Type 0

@@ -48,8 +48,8 @@ pub line-some : (session : ℕ) (reply : Reply) → 1 ≤ length (line_text sess
 unfolding line_text
 line-some session reply = omega (arith, length-append (decimal session) (58 ∷ (spaced (reply_words reply) ++ 10 ∷ [])))
 
--- how much an event without a reply says, and one with a reply
-output-quiet : (e : Event) (es : List Event) → e.reply ≡ None → output (e ∷ es) ≡ output es
+-- what an event without a reply says, and one with a reply
+pub output-quiet : (e : Event) (es : List Event) → e.reply ≡ None → output (e ∷ es) ≡ output es
 unfolding replies_of
 output-quiet e es none = ap (λ (r : Option Reply). text_of (with_reply e.session r (replies_of es))) none
 
@@ -57,7 +57,7 @@ text_of-cons : (session : ℕ) (r : Reply) (xs : List (ℕ × Reply)) → text_o
 unfolding text_of
 text_of-cons session r xs = refl
 
-output-line : (e : Event) (es : List Event) (r : Reply) → e.reply ≡ Some r → output (e ∷ es) ≡ line_text e.session r ++ output es
+pub output-line : (e : Event) (es : List Event) (r : Reply) → e.reply ≡ Some r → output (e ∷ es) ≡ line_text e.session r ++ output es
 unfolding replies_of
 output-line e es r some = ap (λ (x : Option Reply). text_of (with_reply e.session x (replies_of es))) some ∙ text_of-cons e.session r (replies_of es)
 

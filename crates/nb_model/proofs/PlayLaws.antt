@@ -1,20 +1,17 @@
 -- A well database stays well at each moment of a run of statements on pages.
-use Rattle.std.proofs.Common.{◌≡◌, inl, inr, ℕ, ◌+◌, ◌-◌, List, [], ◌∷◌, ◌++◌, length, map, take, get_or, refl, sym, ap, subst, ◌∙◌, arith}
-use Rattle.std.specs.Prelude.{true, IsTrue}
+use Rattle.std.proofs.Common.{◌≡◌, inl, inr, ℕ, ◌+◌, ◌-◌, List, [], ◌∷◌, ◌++◌, length, map, take, get_or, sym, ap, subst, ◌∙◌, arith}
+use Rattle.std.specs.Prelude.{true}
 use Rattle.std.specs.List.{AllByRecursion, slice_index_or}
-use Rattle.std.proofs.lemmas.Bool.{true≢false}
 use Rattle.std.proofs.lemmas.Bool.Decides.{leb_tells}
 use Rattle.std.proofs.lemmas.List.{append-nil, take-append-le, take_all}
 use Rattle.std.proofs.Math.ListN.{get_or-map}
 use Rattle.std.proofs.Math.Seq.{take-append-add}
 use Rattle.nb_model.specs.declared.statement.Statement.{Statement}
-use Rattle.nb_model.specs.declared.statement.Statement.TheVariants.{CreateDb, OpenDb, PageNew, Write, Read, Free}
 use Rattle.nb_model.specs.Account.{Base, Kept}
 use Rattle.nb_model.specs.Strokes.{Stroke, base_after, records_after}
 use Rattle.nb_model.specs.Outcomes.{Turn, Begins, Copies, ClosesBackup, ClosesCopy, Ends, Merges, Finishes}
 use Rattle.nb_model.specs.Turns.{turn}
 use Rattle.nb_model.specs.Run.{Now, base_now, outcome, take_turn, one_turn, play, strokes_of, begun}
-use Rattle.nb_model.specs.Built.{is_built}
 use Rattle.nb_model.specs.Well.{IsWellBase, StaysWell, is_on_pages, IsTurnOnPages}
 use Rattle.nb_model.proofs.StrokeLaws.{base_after-append, records_after-append}
 use Rattle.nb_model.proofs.RunLaws.{strokes_of-append, one_is, play_is}
@@ -131,13 +128,3 @@ begun_on_pages (s ∷ ss) h = (h.0, begun_on_pages ss h.1)
 pub first_on_pages : (now : Now) (sessions : List (List Statement)) → now.todo ≡ begun sessions → ((i : ℕ) → AllByRecursion (λ s. is_on_pages s ≡ true) (slice_index_or sessions i [])) → AreOnPages now
 first_on_pages now sessions is on i =
     subst (AllByRecursion IsTurnOnPages) (sym (ap (λ (todo : List (List Turn)). get_or todo i []) is ∙ get_or-map (map Begins) sessions i [])) (begun_on_pages (get_or sessions i []) (on i))
-
--- and all that the program does today are such statements.
-pub built_on_pages : (statement : Statement) → IsTrue (is_built statement) → is_on_pages statement ≡ true
-built_on_pages (CreateDb name size raw cache) h = refl
-built_on_pages (OpenDb name cache) h = refl
-built_on_pages PageNew h = refl
-built_on_pages (Write p text) h = refl
-built_on_pages (Read p) h = refl
-built_on_pages (Free p) h = refl
-built_on_pages other h = absurd (true≢false (sym h))

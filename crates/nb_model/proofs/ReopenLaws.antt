@@ -27,6 +27,8 @@ pub record IsReopened (account : Account) (given : Given) (sessions : List (List
   pub base : base_now now ≡ b
   pub name_is : now.name ≡ name
   pub account_is : now.account ≡ o.account
+  pub running : now.running ≡ None
+  pub given_is : now.given ≡ given
   pub todo : now.todo ≡ begun sessions
 
 no_stroke : (b : Base) → base_after b [] ≡ b
@@ -58,6 +60,8 @@ reopened account given sessions session name cache b there =
       base = ap base_in here ∙ base_in_base b;
       name_is = refl;
       account_is = sym (ap (λ (o : Opening). o.account) whole);
+      running = refl;
+      given_is = refl;
       todo = refl;
     }
 

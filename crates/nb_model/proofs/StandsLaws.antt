@@ -112,30 +112,9 @@ pub record StandsUnder (files : Files) (kept : List Kept) (name : List ℕ) (ent
   pub no_stray : IsTrue (is_some (files (delta_name name))) → ((b : Base) × (entry ≡ IsBase b)) ⊎ ((bytes : List ℕ) × (files name ≡ Some bytes) × IsTrue (is_applying bytes))
   pub standby : (bytes : List ℕ) (r : Kept) → files name ≡ Some bytes → IsTrue (is_applying bytes) → IsKeptAs kept (pending_of bytes) r → IsStopped kept bytes r
 
--- What is asked of the difference file beside it.
-pub record StandsBeside (files : Files) (account : Account) (name : List ℕ) : Type 0 where
-  pub holds : (bytes : List ℕ) → files (delta_name name) ≡ Some bytes → HoldsItsRecord account.kept bytes
-  pub no_stray : IsTrue (is_some (files (delta_name (delta_name name))))
-      → ((b : Base) × (account.entry (delta_name name) ≡ IsBase b)) ⊎ ((bytes : List ℕ) × (files (delta_name name) ≡ Some bytes) × IsTrue (is_applying bytes))
-  pub standby : (bytes : List ℕ) (r : Kept) → files (delta_name name) ≡ Some bytes → IsTrue (is_applying bytes) → IsKeptAs account.kept (pending_of bytes) r → IsStopped account.kept bytes r
-
--- one that stays as it was has it
-pub beside_stays : (old new : Files) (account : Account) (name : List ℕ) → Stands old account → is_delta name ≡ false → ((m : List ℕ) → m ≢ name → new m ≡ old m) → StandsBeside new account name
-beside_stays old new account name stands plain others = record {
-  holds = λ bytes there. stands.kept_records.levels (delta_name name) bytes (sym same ∙ there);
-  no_stray = λ beside. elim (stands.no_stray (delta_name name) (subst (λ (f : File). IsTrue (is_some f)) (others (delta_name (delta_name name)) (no_main (delta_name name) name plain)) beside)) [
-    | inl base ↦ inl base
-    | inr standby ↦ inr (standby.0, same ∙ standby.1, standby.2)
-  ];
-  standby = λ bytes r there applying named. stands.standbys (delta_name name) bytes r (sym same ∙ there) applying named;
-}
-  where
-    same : new (delta_name name) ≡ old (delta_name name)
-    same = others (delta_name name) (no_main name name plain)
-
 module _ (old new : Files) (account : Account) (name : List ℕ) (entry : Entry)
     (stands : Stands old account) (plain : is_delta name ≡ false) (others : (m : List ℕ) → m ≢ name → m ≢ delta_name name → new m ≡ old m)
-    (under : StandsUnder new account.kept name entry) (along : StandsBeside new account name) where
+    (under : StandsUnder new account.kept name entry) where
   abbrev next : Account
   next = with_entry name entry account
 
@@ -192,12 +171,9 @@ module _ (old new : Files) (account : Account) (name : List ℕ) (entry : Entry)
     distinct = stands.kept_records.distinct;
     not_nil = stands.kept_records.not_nil;
     stalled = λ n b e is. elim (whose n b e) [ inl w ↦ under.stalled b w is | inr w ↦ stands.kept_records.stalled n b w is ];
-    levels = λ n bytes there. elim (names_tell n name) [
+    levels = λ n bytes plain_n there. elim (names_tell n name) [
       | inl w ↦ under.holds bytes (ap new (sym w) ∙ there)
-      | inr w ↦ elim (names_tell n (delta_name name)) [
-        | inl v ↦ along.holds bytes (ap new (sym v) ∙ there)
-        | inr v ↦ stands.kept_records.levels n bytes (sym (others n w v) ∙ there)
-      ]
+      | inr w ↦ stands.kept_records.levels n bytes plain_n (sym (others n w (plain_other n plain_n)) ∙ there)
     ];
   }
 
@@ -206,31 +182,22 @@ module _ (old new : Files) (account : Account) (name : List ℕ) (entry : Entry)
   history = record { images = belonging (NamesItsPast account.kept) under.past stands.history.images; records = stands.history.records }
 
   no_stray : HasNoStrayDelta new next
-  no_stray n beside = elim (names_tell n name) [
+  no_stray n plain_n beside = elim (names_tell n name) [
     | inl w ↦ elim (under.no_stray (subst (λ (m : List ℕ). IsTrue (is_some (new (delta_name m)))) w beside)) [
       | inl base ↦ inl (base.0, here n w ∙ base.1)
       | inr standby ↦ inr (standby.0, ap new w ∙ standby.1, standby.2)
     ]
-    | inr w ↦ elim (names_tell n (delta_name name)) [
-      | inl v ↦ elim (along.no_stray (subst (λ (m : List ℕ). IsTrue (is_some (new (delta_name m)))) v beside)) [
-        | inl base ↦ inl (base.0, elsewhere n w ∙ ap account.entry v ∙ base.1)
-        | inr standby ↦ inr (standby.0, ap new v ∙ standby.1, standby.2)
-      ]
-      | inr v ↦ elim (stands.no_stray n (subst (λ (f : File). IsTrue (is_some f)) (delta_kept n w) beside)) [
-        | inl base ↦ inl (base.0, elsewhere n w ∙ base.1)
-        | inr standby ↦ inr (standby.0, others n w v ∙ standby.1, standby.2)
-      ]
+    | inr w ↦ elim (stands.no_stray n plain_n (subst (λ (f : File). IsTrue (is_some f)) (delta_kept n w) beside)) [
+      | inl base ↦ inl (base.0, elsewhere n w ∙ base.1)
+      | inr standby ↦ inr (standby.0, others n w (plain_other n plain_n) ∙ standby.1, standby.2)
     ]
   ]
 
   standbys : HasApplyingStandbys new next.kept
   unfolding with_entry
-  standbys n bytes r there applying kept = elim (names_tell n name) [
+  standbys n bytes r plain_n there applying kept = elim (names_tell n name) [
     | inl w ↦ under.standby bytes r (ap new (sym w) ∙ there) applying kept
-    | inr w ↦ elim (names_tell n (delta_name name)) [
-      | inl v ↦ along.standby bytes r (ap new (sym v) ∙ there) applying kept
-      | inr v ↦ stands.standbys n bytes r (sym (others n w v) ∙ there) applying kept
-    ]
+    | inr w ↦ stands.standbys n bytes r plain_n (sym (others n w (plain_other n plain_n)) ∙ there) applying kept
   ]
 
   -- So the files stand for the account with that entry, where the two files of the name change.
@@ -249,7 +216,7 @@ module _ (old new : Files) (account : Account) (name : List ℕ) (entry : Entry)
 pub stands_with_entry : (old new : Files) (account : Account) (name : List ℕ) (entry : Entry) → Stands old account → is_delta name ≡ false → ((m : List ℕ) → m ≢ name → new m ≡ old m) → StandsUnder new account.kept name entry
     → Stands new (with_entry name entry account)
 stands_with_entry old new account name entry stands plain others under =
-    stands_with_both old new account name entry stands plain (λ m other beside. others m other) under (beside_stays old new account name stands plain others)
+    stands_with_both old new account name entry stands plain (λ m other beside. others m other) under
 
 -- A database in the normal state, as its two files give it.
 module _ (files : Files) (kept : List Kept) (name : List ℕ) (image : Image) (holds : HoldsMain image (files name)) (opens : owner name (files name) (files (delta_name name)) ≡ Ok (base_of image))
@@ -319,13 +286,13 @@ module _ (files : Files) (a b : Account) (entries : (n : List ℕ) → a.entry n
       distinct = subst AreDistinct kept stands.kept_records.distinct;
       not_nil = subst HasNoNil kept stands.kept_records.not_nil;
       stalled = λ n base e is. subst (λ (rs : List Kept). (r : Kept) × IsKeptAs rs (image_guid base.image) r) kept (stands.kept_records.stalled n base (before n base e) is);
-      levels = λ n bytes there. subst (λ (rs : List Kept). HoldsItsRecord rs bytes) kept (stands.kept_records.levels n bytes there);
+      levels = λ n bytes plain there. subst (λ (rs : List Kept). HoldsItsRecord rs bytes) kept (stands.kept_records.levels n bytes plain there);
     };
     history = record {
       images = λ x belongs. subst (λ (rs : List Kept). NamesItsPast rs x) kept (stands.history.images x (belonged_before x belongs));
       records = subst HaveParents kept stands.history.records;
     };
-    no_stray = λ n beside. elim (stands.no_stray n beside) [
+    no_stray = λ n plain beside. elim (stands.no_stray n plain beside) [
       | inl base ↦ inl (base.0, sym (entries n) ∙ base.1)
       | inr standby ↦ inr standby
     ];

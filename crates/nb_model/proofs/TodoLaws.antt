@@ -12,14 +12,14 @@ use Rattle.nb_host.specs.declared.refusals.Refusal.TheVariants.{Usage, NotDataba
 use Rattle.nb_model.specs.declared.reply.Reply.{Reply}
 use Rattle.nb_model.specs.declared.reply.Reply.TheVariants.{Done, Refused}
 use Rattle.nb_model.specs.declared.statement.Statement.{Statement}
-use Rattle.nb_model.specs.declared.statement.Statement.TheVariants.{CreateDb, OpenDb, PageNew, Write, Read, Free, BeginBackup, CreateTable, DropTable, Insert, Update, Delete, Get, Scan, Forced, Access as SetAccess, Sync, ShowHeader, ShowPages, ShowImage, ShowCache}
+use Rattle.nb_model.specs.declared.statement.Statement.TheVariants.{CreateDb, OpenDb, PageNew, Write, Read, Free, BeginBackup, EndBackup, CreateTable, DropTable, Insert, Update, Delete, Get, Scan, Forced, Access as SetAccess, Sync, ShowHeader, ShowPages, ShowImage, ShowCache}
 use Rattle.nb_model.specs.Image.{Image}
 use Rattle.nb_model.specs.Forms.{Draft}
 use Rattle.nb_model.specs.Built.{is_built}
-use Rattle.nb_model.specs.Causes.{Cause, first_cause, when, read_only, not_raw, not_database, lowest_broken, not_of_form, no_room}
+use Rattle.nb_model.specs.Causes.{Cause, first_cause, when, read_only, not_raw, not_database, lowest_broken, not_of_form, no_room, runs_other}
 use Rattle.nb_model.specs.Chains.{Chain, Slot, Spot}
 use Rattle.nb_model.specs.Outcomes.{Turn, Begins, Copies, ClosesBackup, ClosesCopy, Ends, Merges, Finishes, Seen, Outcome, unless, changes}
-use Rattle.nb_model.specs.Pages.{new_turn, write_turn, read_turn, free_turn, begin_turn, forced_turn, access_turn, header_turn, image_turn, cache_turn}
+use Rattle.nb_model.specs.Pages.{new_turn, write_turn, read_turn, free_turn, begin_turn, end_turn, ends_by, forced_turn, access_turn, header_turn, image_turn, cache_turn}
 use Rattle.nb_model.specs.Tables.{with_spot, in_table, in_row, create_turn, drop_turn, insert_turn, update_turn, delete_turn, get_turn, scan_turn}
 use Rattle.nb_model.specs.Backups.{pages_turn}
 use Rattle.nb_model.specs.Turns.{first_turn, turn}
@@ -137,17 +137,6 @@ image_single s session = refl
 pub cache_single : IsSingle ShowCache
 unfolding first_turn cache_turn
 cache_single s session = refl
-
--- So is each statement that the program does today.
-pub built_single : (statement : Statement) → IsTrue (is_built statement) → IsSingle statement
-unfolding first_turn
-built_single (CreateDb name size raw cache) h = λ s k. refl
-built_single (OpenDb name cache) h = λ s k. refl
-built_single PageNew h = new_single
-built_single (Write p text) h = write_single p text
-built_single (Read p) h = read_single p
-built_single (Free p) h = free_single p
-built_single other h = absurd (true≢false (sym h))
 
 -- one number of an order: the session takes the first turn that it has to do, and where it has none it does nothing
 pub one_turn_is : (session : ℕ) (now : Now) (statement : Statement) (rest : List Turn) → slice_index_or now.todo (session - 1) [] ≡ Begins statement ∷ rest
@@ -454,6 +443,10 @@ other_raw image p = other_first _ (other_when _ _ (λ e. cc), (other_when _ _ (�
 other_read_only : (image : Image) → IsOther (read_only image)
 other_read_only image = other_when _ _ (λ e. cc)
 
+other_runs : (running : Option ℕ) (session : ℕ) → IsOther (runs_other running session)
+other_runs None session = none_other
+other_runs (Some other) session = other_when _ _ (λ e. cc)
+
 -- the reply to it isn't that refusal
 abbrev NoUsage : Outcome → Type 0
 NoUsage o = o.reply ≢ Some (Refused Usage)
@@ -502,14 +495,28 @@ pub read_never_usage : (s : Seen) (session p : ℕ) → (first_turn s session (R
 unfolding first_turn read_turn
 read_never_usage s session p = guarded_other s _ _ (other_first _ (other_raw s.base.image p, (other_when _ _ (λ e. cc), tt))) (λ e. cc)
 
+pub begin_never_usage : (s : Seen) (session : ℕ) → (first_turn s session BeginBackup).reply ≢ Some (Refused Usage)
+unfolding first_turn begin_turn
+begin_never_usage s session = guarded_other s _ _ (other_first _ (other_read_only s.base.image, (other_when _ _ (λ e. cc), (other_when _ _ (λ e. cc), tt)))) (λ e. cc)
+
+pub end_never_usage : (s : Seen) (session : ℕ) → (first_turn s session EndBackup).reply ≢ Some (Refused Usage)
+unfolding first_turn end_turn ends_by
+end_never_usage s session = guarded_other s _ _ (other_first _ (other_when _ _ (λ e. cc), (other_runs s.running session, tt))) (λ e. cc)
+
 pub built_never_usage : (statement : Statement) → IsTrue (is_built statement) → (s : Seen) (session : ℕ) → (first_turn s session statement).reply ≢ Some (Refused Usage)
-unfolding first_turn
+unfolding first_turn header_turn
 built_never_usage (CreateDb name size raw cache) h = λ s session e. cc
 built_never_usage (OpenDb name cache) h = λ s session e. cc
 built_never_usage PageNew h = λ s session. new_never_usage s session
 built_never_usage (Free p) h = λ s session. free_never_usage s session p
 built_never_usage (Write p text) h = λ s session. write_never_usage s session p text
 built_never_usage (Read p) h = λ s session. read_never_usage s session p
+built_never_usage BeginBackup h = λ s session. begin_never_usage s session
+built_never_usage EndBackup h = λ s session. end_never_usage s session
+built_never_usage (Forced on) h = λ s session. forced_never_usage s session on
+built_never_usage (SetAccess closed) h = λ s session. access_never_usage s session closed
+built_never_usage Sync h = λ s session e. cc
+built_never_usage ShowHeader h = λ s session e. cc
 built_never_usage other h = absurd (true≢false (sym h))
 
 -- the reply is a refusal

@@ -66,7 +66,8 @@ said_by other before events = quiet events
 -- a job that attaches: the run of its script, whose opening it doesn't say
 pub record IsAttaching (before : Account) (given : Given) (job : Job) (asks : Asks) (events : List Event) (after : Account) : Type 0 where
   pub whole : List Event
-  pub run : IsRun before given 1 (OpenDb asks.db usual_cache) [] (asks.statements ∷ replicate 15 []) whole after
+  pub left : Given
+  pub run : IsRun before given 1 (OpenDb asks.db usual_cache) [] (asks.statements ∷ replicate 15 []) whole after left
   pub said : events ≡ said_by job before whole
 
 -- one turn of session 1

@@ -28,6 +28,9 @@ pub mod WellTrail
 pub mod Waiting
 pub mod Pagewise
 pub mod Trail
+pub mod Steps
+pub mod NewGuids
+pub mod Gifts
 pub mod Earlier
 pub mod Words
 pub mod Jobs

@@ -156,18 +156,18 @@ opening account given sessions session (OpenDb name cache) =
     (done_opening session name cache [] (Opened (length image) (image_state image)) account given sessions)
 opening account given sessions session other = record { event = record { session = session; strokes = []; reply = None; made = None; syncs = true }; account = account; now = None }
 
--- the rest of a run, which ends where its first statement is refused
-abbrev pub IsRest : (schedule : List ℕ) → Opening → List Event → Account → Type 0
-IsRest schedule o events account = elim o.now as (λ now. Type 0) [
-  | None ↦ (events ≡ []) × (account ≡ o.account)
-  | Some now ↦ (last : Now) × IsPlayed schedule now events last × (account ≡ last.account)
+-- the rest of a run, which ends where its first statement is refused: its events, the account after, and what is still to be given
+abbrev pub IsRest : (schedule : List ℕ) → Opening → Given → List Event → Account → Given → Type 0
+IsRest schedule o given events account left = elim o.now as (λ now. Type 0) [
+  | None ↦ (events ≡ []) × (account ≡ o.account) × (left ≡ given)
+  | Some now ↦ (last : Now) × IsPlayed schedule now events last × (account ≡ last.account) × (left ≡ last.given)
 ]
 
--- The run of a script from an account: its events and the account after.
-pub record IsRun (before : Account) (given : Given) (first_session : ℕ) (first : Statement) (schedule : List ℕ) (sessions : List (List Statement)) (events : List Event) (after : Account) : Type 0 where
+-- The run of a script from an account: its events, the account after, and what is still to be given behind it.
+pub record IsRun (before : Account) (given : Given) (first_session : ℕ) (first : Statement) (schedule : List ℕ) (sessions : List (List Statement)) (events : List Event) (after : Account) (left : Given) : Type 0 where
   pub rest : List Event
   pub is : events ≡ (opening before given sessions first_session first).event ∷ rest
-  pub goes_on : IsRest schedule (opening before given sessions first_session first) rest after
+  pub goes_on : IsRest schedule (opening before given sessions first_session first) given rest after left
 
 -- the strokes of events
 unfoldable pub strokes_of : List Event → List Stroke

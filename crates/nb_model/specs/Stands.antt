@@ -101,12 +101,13 @@ pub record HoldsItsRecord (kept : List Kept) (bytes : List ℕ) : Type 0 where
   pub level : (c : Contents) (r : Kept) → read_level bytes ≡ Ok c → IsKeptAs kept c.head.guid r → IsFileOf kept c.version r bytes
   pub copy : (r : Kept) → is_header bytes ≡ true → state_of bytes ≡ 1 → length bytes % size_of bytes ≡ 0 → IsKeptAs kept (guid_of bytes) r → IsCopyOf r bytes
 
--- 4. GUIDs tell records apart, none is nil, a stalled database has its record, and files hold the records that they name.
+-- 4. GUIDs tell records apart, none is nil, a stalled database has its record, and files hold the records that they name. No job reads a
+-- difference file as one of them.
 pub record KeepsRecords (files : Files) (account : Account) : Type 0 where
   pub distinct : (r q : Kept) → Contains account.kept r → Contains account.kept q → r.guid ≡ q.guid → r ≡ q
   pub not_nil : (r : Kept) → Contains account.kept r → r.guid ≢ nil
   pub stalled : (name : List ℕ) (b : Base) → account.entry name ≡ IsBase b → image_state b.image ≡ 1 → (r : Kept) × IsKeptAs account.kept (image_guid b.image) r
-  pub levels : (name bytes : List ℕ) → files name ≡ Some bytes → HoldsItsRecord account.kept bytes
+  pub levels : (name bytes : List ℕ) → is_delta name ≡ false → files name ≡ Some bytes → HoldsItsRecord account.kept bytes
 
 -- the page is one of the history, whether the history's chain reaches it or not
 unfoldable pub is_history_page : Page → Bool
@@ -157,7 +158,7 @@ is_applying bytes = is_header bytes && state_of bytes == 3
 
 -- 6. A difference file stands beside a database or a standby in the applying state alone.
 abbrev pub HasNoStrayDelta : Files → Account → Type 0
-HasNoStrayDelta files account = (name : List ℕ) → IsTrue (is_some (files (delta_name name)))
+HasNoStrayDelta files account = (name : List ℕ) → is_delta name ≡ false → IsTrue (is_some (files (delta_name name)))
     → ((b : Base) × (account.entry name ≡ IsBase b)) ⊎ ((bytes : List ℕ) × (files name ≡ Some bytes) × IsTrue (is_applying bytes))
 
 -- A merge in place was stopped: the standby can be gone on with to the image of the record r. It holds each page of r that
@@ -173,7 +174,7 @@ pub record IsStopped (kept : List Kept) (bytes : List ℕ) (r : Kept) : Type 0 w
 
 -- 7. A standby in the applying state, whose pending GUID is that of a record, can be gone on with.
 abbrev pub HasApplyingStandbys : Files → List Kept → Type 0
-HasApplyingStandbys files kept = (name bytes : List ℕ) (r : Kept) → files name ≡ Some bytes → IsTrue (is_applying bytes) → IsKeptAs kept (pending_of bytes) r → IsStopped kept bytes r
+HasApplyingStandbys files kept = (name bytes : List ℕ) (r : Kept) → is_delta name ≡ false → files name ≡ Some bytes → IsTrue (is_applying bytes) → IsKeptAs kept (pending_of bytes) r → IsStopped kept bytes r
 
 -- all seven
 pub record Stands (files : Files) (account : Account) : Type 0 where

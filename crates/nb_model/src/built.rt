@@ -13,7 +13,13 @@ pub fn is_built(statement: &Statement) -> bool
         | Statement::PageNew
         | Statement::Write { .. }
         | Statement::Read { .. }
-        | Statement::Free { .. } => true,
+        | Statement::Free { .. }
+        | Statement::BeginBackup
+        | Statement::EndBackup
+        | Statement::Forced { .. }
+        | Statement::Access { .. }
+        | Statement::Sync
+        | Statement::ShowHeader => true,
         _ => false,
     }
 }

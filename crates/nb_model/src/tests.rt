@@ -49,6 +49,7 @@ fn names_of_tables(rt: HostRuntime) {
     assert!(rt; TableName::read("abcdefghijklmnopqrstuvwxyzabcde").is_none());
     assert!(rt; is_built(&Statement::Read { page: 0 }));
     assert!(rt; is_built(&Statement::Free { page: 5 }));
-    assert!(rt; !is_built(&Statement::BeginBackup));
+    assert!(rt; is_built(&Statement::EndBackup));
+    assert!(rt; !is_built(&Statement::ShowPages));
     assert!(rt; are_schedules_built());
 }

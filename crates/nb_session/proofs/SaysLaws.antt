@@ -51,6 +51,7 @@ says_nothing e old bytes timely = record {
   still = record { files = refl; left = record { back = λ m c is b. b; now = λ m c is n. n } };
   moments = before_saying old bytes timely;
   said = tt;
+  gave = record { guids = refl; times = refl };
 }
 
 -- the call of the host, whatever comes of its answer
@@ -62,6 +63,7 @@ says_line tells told result after old new bytes timely still says time done =
       still = still;
       moments = goes_on old old new _ _ (before_saying old bytes timely) time (while_saying old new bytes part.count still part.is);
       said = done;
+      gave = record { guids = says.guids; times = says.times };
     }
 
 -- a failure said nothing whole

@@ -1,5 +1,9 @@
 pub mod Causes
+pub mod Ready
 pub mod Stops
 pub mod Todo
 pub mod Replies
 pub mod Says
+pub mod Askers
+pub mod Acts
+pub mod Steps

@@ -1,18 +1,19 @@
 -- What a stop leaves while turns are taken, and what they did.
-use Rattle.std.specs.Prelude.{◌≡◌, ◌≢◌, ℕ, ◌≤◌, List, ◌++◌, length, take, Bool, Result, IfOk, if◌then◌else◌}
+use Rattle.std.specs.Prelude.{◌≡◌, ℕ, ◌≤◌, List, ◌++◌, length, take, Bool, Result, IfOk, if◌then◌else◌}
 use Rattle.nb_host.specs.Files.{Files}
 use Rattle.nb_host.specs.World.{World}
 use Rattle.nb_host.specs.Crash.{Leaves, Untouched}
 use Rattle.nb_host.specs.Moments.{AtEachMoment}
-use Rattle.nb_model.specs.Account.{Base}
-use Rattle.nb_model.specs.Strokes.{base_after}
-use Rattle.nb_model.specs.Owner.{delta_name}
-use Rattle.nb_model.specs.Well.{IsWellBase}
-use Rattle.nb_model.specs.Run.{Event, Now, Played, base_now, strokes_of, replies_of}
-use Rattle.nb_model.specs.Output.{output, acked, status_of}
-use Rattle.nb_engine.specs.declared.opened.Opened.{Opened}
-use Rattle.nb_engine.specs.Open.{Shows, IsOpen}
+use Rattle.nb_change.specs.Changes.{Other}
+use Rattle.nb_model.specs.Gifts.{WasGiven}
+use Rattle.nb_model.specs.Run.{Event, Now, Played, replies_of}
+use Rattle.nb_model.specs.Output.{output, status_of}
+use Rattle.nb_model.specs.Steps.{steps_of, after_steps, acked_steps}
+use Rattle.nb_model.specs.Trail.{Trail, StandsIn}
+use Rattle.nb_base.specs.Open.{OfFiles}
+use Rattle.nb_state.specs.Open.{Held, name_of}
 use Rattle.nb_session.specs.declared.stop.Stop.{Stop}
+use Rattle.nb_session.specs.Ready.{IsReady}
 
 -- What was said since `old` is a front of the lines of these events.
 pub record IsSaid (old : World) (events : List Event) (said : List ℕ) : Type 0 where
@@ -20,35 +21,32 @@ pub record IsSaid (old : World) (events : List Event) (said : List ℕ) : Type 0
   pub is : said ≡ old.said ++ part
   pub front : part ≡ take (length part) (output events)
 
--- so many strokes of these events, each acknowledged one among them
+-- so many steps of these events, each acknowledged one among them
 pub record IsFront (events : List Event) (said count : ℕ) : Type 0 where
-  pub most : count ≤ length (strokes_of events)
-  pub acknowledged : acked events said ≤ count
+  pub most : count ≤ length (steps_of events)
+  pub acknowledged : acked_steps events said ≤ count
 
--- While these events happen to a database that is open: a front of their lines was said, and the files stand for the database
--- after so many of their strokes, each acknowledged one among them. Other files are as a stop would have left them before.
-pub record StopLeft (old : World) (name : List ℕ) (base : Base) (events : List Event) (files : Files) (said : List ℕ) : Type 0 where
+-- While these events happen to a database that is open: a front of their lines was said, and the files hold what may be left of what
+-- was seen behind so many of their steps, each acknowledged one among them. Other files are as a stop would have left them before.
+pub record StopLeft (old : World) (name : List ℕ) (t : Trail) (events : List Event) (files : Files) (said : List ℕ) : Type 0 where
   pub out : IsSaid old events said
   pub count : ℕ
   pub front : IsFront events (length out.part) count
-  pub database : Shows name (base_after base (take count (strokes_of events))) (files name) (files (delta_name name))
-  pub others : (m : List ℕ) → m ≢ name → Leaves old m (files m)
+  pub database : StandsIn name (after_steps t (take count (steps_of events))) files
+  pub others : (m : List ℕ) → Other (OfFiles name) m → Leaves old m (files m)
 
--- The database is open as it stands between two turns, and it is well.
-pub record IsReady (w : World) (held : Opened) (now : Now) : Type 0 where
-  pub opened : IsOpen w held (base_now now)
-  pub well : IsWellBase now.account.kept (base_now now)
-
--- Turns were taken to their end: the database is open as they leave it, all their lines were said, and whether one was refused.
-pub record PlayedOut (refused : Bool) (old new : World) (held : Opened) (played : Played) : Type 0 where
-  pub ready : IsReady new held played.1
+-- Turns were taken to their end: the database is open as they leave it, all their lines were said, whether one was refused, and what
+-- was given is what they ask for.
+pub record PlayedOut (refused : Bool) (old new : World) (held : Held) (t : Trail) (now : Now) (played : Played) : Type 0 where
+  pub ready : IsReady new held (after_steps t (steps_of played.0)) played.1
   pub said : new.said ≡ old.said ++ output played.0
   pub status : status_of (replies_of played.0) ≡ (if refused then 1 else 0)
+  pub given : WasGiven old new now.given played.1.given
 
 -- Turns were taken, or some of them until a call of the host failed or memory ran out.
-pub record Plays (result : Result Bool Stop) (old new : World) (before after : Opened) (now : Now) (played : Played) : Type 0 where
-  pub stops : AtEachMoment old new (StopLeft old before.name (base_now now) played.0)
-  pub others : Untouched old new (λ m. m ≢ before.name)
-  pub others_read : (m : List ℕ) → m ≢ before.name → new.files m ≡ old.files m
-  pub name : after.name ≡ before.name
-  pub done : IfOk result (λ refused. PlayedOut refused old new after played)
+pub record Plays (result : Result Bool Stop) (old new : World) (before after : Held) (t : Trail) (now : Now) (played : Played) : Type 0 where
+  pub stops : AtEachMoment old new (StopLeft old (name_of before) t played.0)
+  pub others : Untouched old new (Other (OfFiles (name_of before)))
+  pub others_read : (m : List ℕ) → Other (OfFiles (name_of before)) m → new.files m ≡ old.files m
+  pub name : name_of after ≡ name_of before
+  pub done : IfOk result (λ refused. PlayedOut refused old new after t now played)

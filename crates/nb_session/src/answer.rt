@@ -1,17 +1,21 @@
 // A statement and the line of its reply.
-ghost use Rattle.std.specs.Prelude.{◌≡◌, ◌∷◌, IsTrue, List, true, false};
-ghost use Rattle.nb_host.specs.Calls.{Says, IsStill};
-ghost use Rattle.nb_host.specs.Moments.{PassesSaying, Passes};
+ghost use Rattle.std.specs.Prelude.{◌≡◌, ◌≢◌, ℕ, IsTrue, IfErr};
+ghost use Rattle.nb_change.specs.Counts.{CountsDevice};
+ghost use Rattle.nb_change.specs.Gave.{GaveNothing};
+ghost use Rattle.nb_model.specs.declared.statement.Statement.TheVariants.{PageNew, EndBackup};
 ghost use Rattle.nb_model.specs.Lines.{line_text};
-ghost use Rattle.nb_model.specs.Outcomes.{Turn, Begins};
-ghost use Rattle.nb_model.specs.Run.{Now, take_turn};
+ghost use Rattle.nb_model.specs.Outcomes.{Begins};
+ghost use Rattle.nb_model.specs.Run.{Now};
+ghost use Rattle.nb_model.specs.Sound.{IsSoundImage};
+ghost use Rattle.nb_model.specs.Trail.{Trail};
+ghost use Rattle.nb_base.specs.Takes.{IsNoRefusal};
 ghost use Rattle.nb_script.specs.Asked.{IsFurther};
-ghost use Rattle.nb_session.specs.Causes.{CountsStop};
+ghost use Rattle.nb_session.specs.Askers.{KeepsOthers};
+ghost use Rattle.nb_session.specs.Ready.{IsReady};
 ghost use Rattle.nb_session.specs.Replies.{is_refusal};
 ghost use Rattle.nb_session.specs.Says.{SaysLine};
-ghost use Rattle.nb_session.specs.Stops.{IsReady, Plays};
+ghost use Rattle.nb_session.specs.Steps.{Turns};
 
-use crate::Stop;
 use crate::statement::{do_statement, reply_to};
 use nb_engine::Engine;
 use nb_host::{Fault, Host};
@@ -20,13 +24,15 @@ use nb_model::{Reply, Statement};
 use std::alloc::Global;
 
 /// Says the line of a reply.
-pub fn say<H: Host>(alloc: Global, host: &mut H, session: u32, reply: &Reply) -> Result<(), Stop>
+pub fn say<H: Host>(alloc: Global, host: &mut H, session: u32, reply: &Reply) -> Result<(), Fault>
     ensures line { IsTrue H.tells → SaysLine result (H.world host.old) (H.world host.new) (line_text session reply.now) }
-    ensures cause { CountsStop result (H.faults host.old) (H.faults host.new) }
+    ensures gave { GaveNothing (H.world host.old) (H.world host.new) }
+    ensures cause { CountsDevice result (H.faults host.old) (H.faults host.new) }
+    ensures not_refused { IfErr result IsNoRefusal }
 {
     let line = match render(alloc, session, reply) {
         Ok(line) => line,
-        Err(_) => return Err(Stop::Memory),
+        Err(_) => return Err(Fault::Memory),
     };
     host.say(&line)?;
     Ok(())
@@ -41,18 +47,21 @@ fn is_refusal(reply: &Reply) -> bool
     }
 }
 
-/// Does a statement and says its reply, and answers whether it was refused.
+/// Does a statement in one turn and says its reply, and answers whether it was refused.
 pub fn answer<H: Host>(
     alloc: Global,
     host: &mut H,
     engine: &mut Engine,
     session: u32,
     statement: &Statement,
-) -> Result<bool, Stop>
-    requires { IsFurther statement.now }
-    ensures plays { (now : Now) (rest : List Turn) → IsTrue H.tells → IsReady (H.world host.old) engine.old now
-        → Plays result (H.world host.old) (H.world host.new) engine.old engine.new now (take_turn session (Begins statement.now ∷ rest) now) }
-    ensures cause { CountsStop result (H.faults host.old) (H.faults host.new) }
+) -> Result<bool, Fault>
+    requires asked { IsFurther statement.now }
+    requires single { statement.now ≢ EndBackup }
+    ensures turn { (now : Now) (t : Trail) → IsTrue H.tells → IsReady (H.world host.old) engine.old t now → (statement.now ≡ PageNew → IsSoundImage t.base.image)
+        → Turns (λ refused. refused) result (H.world host.old) (H.world host.new) engine.old engine.new t now session (Begins statement.now) }
+    ensures others { (number : ℕ) → KeepsOthers number engine.old engine.new }
+    ensures cause { CountsDevice result (H.faults host.old) (H.faults host.new) }
+    ensures not_refused { IfErr result IsNoRefusal }
 {
     let reply = reply_to(do_statement(alloc, host, engine, statement))?;
     say(alloc, host, session, &reply)?;

@@ -1,11 +1,13 @@
-//! Sessions take their turns on an open database, in the order of a script, and each says its replies.
+//! Sessions: the statements of a script on one database, taken in turns, and the line of each reply.
 //!
-//! It rests on `nb_engine` for what a statement does, on `nb_lines` for the lines and on `nb_script` for the order. A layer above may
-//! rely on this: `take_turns` plays the script as `nb_model` says; what was said at any moment is a front of the lines, and a stop
-//! then leaves the database after so many strokes, each acknowledged one among them.
+//! It rests on the engine for what a statement does, on `nb_sched` for the order of turns, and on `nb_lines` for the text of a reply. A
+//! layer above may rely on this: `take_turns` plays a script as the model does, turn by turn. At each moment a front of the lines was
+//! said, and a stop leaves what may be left of the database behind some of the steps, each acknowledged one among them.
 #![tactic(auto)]
 
 mod answer;
+mod merges;
+mod session;
 mod sessions;
 mod statement;
 mod stop;
@@ -13,3 +15,6 @@ mod stop;
 pub use answer::say;
 pub use sessions::take_turns;
 pub use stop::Stop;
+
+#[cfg(test)]
+mod tests;

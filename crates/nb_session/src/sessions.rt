@@ -1,113 +1,55 @@
-// Sessions take their turns in the order of a script.
-ghost use Rattle.std.specs.Prelude.{◌≡◌, ◌≤◌, ◌++◌, ℕ, IsTrue, OnOk, List, length, replicate, true, false};
-ghost use Rattle.std.specs.List.{AllByRecursion, slice_index_or};
-ghost use Rattle.nb_model.specs.declared.statement.Statement.{Statement};
-ghost use Rattle.nb_model.specs.Run.{Now, begun, one_turn, play, rounds};
-ghost use Rattle.nb_script.specs.Scripts.{statements_of};
-ghost use Rattle.nb_script.specs.Asked.{IsFurther, IsAskable};
+// The sessions of a script take their turns.
+ghost use Rattle.std.specs.Prelude.{◌≡◌, IsTrue, None};
+ghost use Rattle.nb_model.specs.Gifts.{Foretells};
+ghost use Rattle.nb_model.specs.Run.{Now, begun};
+ghost use Rattle.nb_model.specs.Trail.{Trail};
+ghost use Rattle.nb_script.specs.Asked.{IsAskable};
+ghost use Rattle.nb_session.specs.Acts.{Grows};
+ghost use Rattle.nb_session.specs.Askers.{first_askers, any_refused as some_refused};
 ghost use Rattle.nb_session.specs.Causes.{CountsStop};
-ghost use Rattle.nb_session.specs.Stops.{IsReady, Plays};
-ghost use Rattle.nb_session.specs.Todo.{IsLeft, PlaysWhole};
+ghost use Rattle.nb_session.specs.Ready.{IsReady, IsCalm};
+ghost use Rattle.nb_session.specs.Todo.{PlaysWhole};
 
 use crate::Stop;
-use crate::answer::answer;
+use crate::session::Session;
 use nb_engine::Engine;
-use nb_host::Host;
+use nb_host::{Fault, Host};
 use nb_script::Script;
 use std::alloc::Global;
 
-/// How many sessions a script has.
-const SESSIONS: usize = 16;
-
-/// All sessions in their order: one round of turns.
-const ROUND: [u32; SESSIONS] = [1, 2, 3, 4, 5, 6, 7, 8, 9, 10, 11, 12, 13, 14, 15, 16];
-
-/// One turn of a session, whose next statement has the number that stands for it in `next`. A session that has finished does nothing.
-fn take_turn<H: Host>(
-    alloc: Global,
-    host: &mut H,
-    engine: &mut Engine,
-    script: &Script,
-    session: u32,
-    next: &mut [usize],
-) -> Result<bool, Stop>
-    requires askable { IsAskable script.now }
-    requires sessions { length next.old ≡ 16 }
-    ensures plays { (now : Now) → IsTrue H.tells → IsReady (H.world host.old) engine.old now → IsLeft now script.now.sessions next.old
-        → Plays result (H.world host.old) (H.world host.new) engine.old engine.new now (one_turn session now) }
-    ensures left { (now : Now) → IsTrue H.tells → IsReady (H.world host.old) engine.old now → IsLeft now script.now.sessions next.old
-        → OnOk result (IsLeft (one_turn session now).1 script.now.sessions next.new) }
-    ensures cause { CountsStop result (H.faults host.old) (H.faults host.new) }
+/// All sessions of a script, the first of which is session 1.
+fn sessions_of<'a>(alloc: Global, script: &'a Script) -> [Session<'a>; 16]
+    ensures { result ≡ first_askers script.now }
 {
-    let place = session.saturating_sub(1) as usize;
-    if place >= script.session_count() as usize {
-        return Ok(false);
-    }
-    let statements = script.statements(place as u32 + 1);
-    let number = next[place];
-    if number >= statements.len() {
-        return Ok(false);
-    }
-    next[place] = number + 1;
-    answer(alloc, host, engine, session, &statements[number])
+    [
+        Session::new(alloc, 1, script.statements(1)),
+        Session::new(alloc, 2, script.statements(2)),
+        Session::new(alloc, 3, script.statements(3)),
+        Session::new(alloc, 4, script.statements(4)),
+        Session::new(alloc, 5, script.statements(5)),
+        Session::new(alloc, 6, script.statements(6)),
+        Session::new(alloc, 7, script.statements(7)),
+        Session::new(alloc, 8, script.statements(8)),
+        Session::new(alloc, 9, script.statements(9)),
+        Session::new(alloc, 10, script.statements(10)),
+        Session::new(alloc, 11, script.statements(11)),
+        Session::new(alloc, 12, script.statements(12)),
+        Session::new(alloc, 13, script.statements(13)),
+        Session::new(alloc, 14, script.statements(14)),
+        Session::new(alloc, 15, script.statements(15)),
+        Session::new(alloc, 16, script.statements(16)),
+    ]
 }
 
-/// One turn for each number of an order, and whether a statement was refused.
-fn take_order<H: Host>(
-    alloc: Global,
-    host: &mut H,
-    engine: &mut Engine,
-    script: &Script,
-    order: &[u32],
-    next: &mut [usize],
-) -> Result<bool, Stop>
-    requires askable { IsAskable script.now }
-    requires sessions { length next.old ≡ 16 }
-    ensures plays { (now : Now) → IsTrue H.tells → IsReady (H.world host.old) engine.old now → IsLeft now script.now.sessions next.old
-        → Plays result (H.world host.old) (H.world host.new) engine.old engine.new now (play order.now now) }
-    ensures left { (now : Now) → IsTrue H.tells → IsReady (H.world host.old) engine.old now → IsLeft now script.now.sessions next.old
-        → OnOk result (IsLeft (play order.now now).1 script.now.sessions next.new) }
-    ensures cause { CountsStop result (H.faults host.old) (H.faults host.new) }
+/// Whether a statement of one of the sessions was refused.
+fn any_refused<'a>(sessions: &[Session<'a>]) -> bool
+    ensures { result ≡ some_refused sessions.now }
 {
-    let mut refused = false;
-    for session in order {
-        refused |= take_turn(alloc, host, engine, script, *session, next)?;
+    let mut any = false;
+    for session in sessions {
+        any |= session.refused();
     }
-    Ok(refused)
-}
-
-/// So many rounds, in each of which every session has one turn.
-fn take_rounds<H: Host>(
-    alloc: Global,
-    host: &mut H,
-    engine: &mut Engine,
-    script: &Script,
-    count: usize,
-    next: &mut [usize],
-) -> Result<bool, Stop>
-    requires askable { IsAskable script.now }
-    requires sessions { length next.old ≡ 16 }
-    ensures plays { (now : Now) → IsTrue H.tells → IsReady (H.world host.old) engine.old now → IsLeft now script.now.sessions next.old
-        → Plays result (H.world host.old) (H.world host.new) engine.old engine.new now (play (rounds count) now) }
-    ensures cause { CountsStop result (H.faults host.old) (H.faults host.new) }
-{
-    let mut refused = false;
-    for _ in 0..count {
-        refused |= take_order(alloc, host, engine, script, &ROUND, next)?;
-    }
-    Ok(refused)
-}
-
-/// How many statements the session has that has the most of them.
-fn longest(script: &Script) -> usize
-    ensures most { (session : ℕ) → 1 ≤ session → session ≤ 16 → length (statements_of script.now session) ≤ result }
-    ensures sixteen { length script.now.sessions ≡ 16 }
-{
-    let mut most = 0;
-    for before in 0..script.session_count() {
-        most = most.max(script.statements(before + 1).len());
-    }
-    most
+    any
 }
 
 /// Plays a script on the open database, all but its first statement, to the end of every session. Answers whether a statement was
@@ -118,14 +60,20 @@ pub fn take_turns<H: Host>(
     engine: &mut Engine,
     script: &Script,
 ) -> Result<bool, Stop>
-    requires { IsAskable script.now }
-    ensures plays { (now : Now) → IsTrue H.tells → IsReady (H.world host.old) engine.old now → now.todo ≡ begun script.now.sessions
-        → PlaysWhole result (H.world host.old) (H.world host.new) engine.old engine.new now script.now.schedule }
+    requires askable { IsAskable script.now }
+    ensures plays { (now : Now) (t : Trail) → IsTrue H.tells → IsReady (H.world host.old) engine.old t now → now.todo ≡ begun script.now.sessions → now.running ≡ None → IsCalm now
+        → Foretells now.given (H.world host.old) (H.world host.new)
+        → PlaysWhole result (H.world host.old) (H.world host.new) engine.old engine.new t now script.now.schedule }
+    ensures grows { (now : Now) (t : Trail) → IsTrue H.tells → IsReady (H.world host.old) engine.old t now → now.todo ≡ begun script.now.sessions → now.running ≡ None → IsCalm now
+        → Grows (H.world host.old) (H.world host.new) }
     ensures cause { CountsStop result (H.faults host.old) (H.faults host.new) }
 {
-    let count = longest(script);
-    let mut next = [0; SESSIONS];
-    let scheduled = take_order(alloc, host, engine, script, script.schedule(), &mut next)?;
-    let rest = take_rounds(alloc, host, engine, script, count, &mut next)?;
-    Ok(scheduled | rest)
+    let mut all = sessions_of(alloc, script);
+    let sessions: &mut [Session<'_>] = &mut all;
+    match nb_sched::take_turns(sessions, host, engine, script.schedule()) {
+        Ok(()) => Ok(any_refused(sessions)),
+        Err(Fault::Device) => Err(Stop::Device),
+        Err(Fault::Memory) => Err(Stop::Memory),
+        Err(Fault::Refused(_)) => unreachable!(),
+    }
 }

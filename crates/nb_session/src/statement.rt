@@ -1,22 +1,45 @@
-// One statement of a session.
-ghost use Rattle.std.specs.Prelude.{◌≡◌, ℕ, IsTrue, OnOk, IfOk, Option, Some};
-ghost use Rattle.nb_change.specs.Apart.{Apart};
+// A statement that is done in one turn.
+ghost use Rattle.std.specs.Prelude.{◌≡◌, ◌≢◌, ℕ, IsTrue, IfErr, OnOk, IfOk, Option, Some};
 ghost use Rattle.nb_change.specs.Counts.{CountsDevice};
+ghost use Rattle.nb_base.specs.Open.{Agrees};
+ghost use Rattle.nb_model.specs.Account.{Base};
+ghost use Rattle.nb_state.specs.Open.{AgreesWith};
 ghost use Rattle.nb_model.specs.declared.reply.Reply.{Reply};
-ghost use Rattle.nb_model.specs.Outcomes.{Seen};
+ghost use Rattle.nb_model.specs.declared.statement.Statement.TheVariants.{PageNew, EndBackup};
+ghost use Rattle.nb_model.specs.Outcomes.{Begins};
+ghost use Rattle.nb_model.specs.Run.{Now};
 ghost use Rattle.nb_model.specs.Sound.{IsSoundImage};
-ghost use Rattle.nb_model.specs.Turns.{first_turn};
-ghost use Rattle.nb_engine.specs.Open.{IsOpen};
-ghost use Rattle.nb_engine.specs.Turn.{Does, Answers};
+ghost use Rattle.nb_model.specs.Trail.{Trail};
+ghost use Rattle.nb_base.specs.Takes.{IsNoRefusal};
 ghost use Rattle.nb_script.specs.Asked.{IsFurther};
-ghost use Rattle.nb_session.specs.Causes.{CountsStop};
-ghost use Rattle.nb_session.specs.Replies.{as_said, HasEnded};
+ghost use Rattle.nb_session.specs.Acts.{Says, MayAct};
+ghost use Rattle.nb_session.specs.Askers.{KeepsOthers};
+ghost use Rattle.nb_session.specs.Ready.{IsReady};
+ghost use Rattle.nb_session.specs.Replies.{some_said, HasEnded, header_of};
 
-use crate::Stop;
 use nb_engine::Engine;
 use nb_host::{Fault, Host};
 use nb_model::{Reply, Statement, Text};
 use std::alloc::Global;
+
+/// What the header of the open database says, and how many pages its difference file holds.
+fn header_shown(engine: &Engine) -> Reply
+    ensures { (b : Base) → Agrees engine.now.files b → AgreesWith engine.now b → result ≡ header_of b }
+{
+    let store = engine.store();
+    let state = store.state();
+    let delta = if state == 0 { 0 } else { store.delta_count() };
+    Reply::HeaderShown {
+        page_size: engine.page_size(),
+        pages: engine.count(),
+        state,
+        scn: store.scn(),
+        guid: store.guid(),
+        forced: engine.forced(),
+        access: engine.access(),
+        delta,
+    }
+}
 
 /// Does one statement that isn't the first of its script, in one turn.
 pub fn do_statement<H: Host>(
@@ -25,11 +48,11 @@ pub fn do_statement<H: Host>(
     engine: &mut Engine,
     statement: &Statement,
 ) -> Result<Reply, Fault>
-    requires { IsFurther statement.now }
-    ensures turn { (s : Seen) (session : ℕ) → IsTrue H.tells → IsOpen (H.world host.old) engine.old s.base → IsSoundImage s.base.image
-        → Does as_said result (H.world host.old) (H.world host.new) s.base engine.new (first_turn s session statement.now) }
-    ensures name { engine.new.name ≡ engine.old.name }
-    ensures apart { IsTrue H.tells → Apart (H.world host.old) (H.world host.new) engine.old.name }
+    requires asked { IsFurther statement.now }
+    requires single { statement.now ≢ EndBackup }
+    ensures turn { (now : Now) (t : Trail) (session : ℕ) → IsTrue H.tells → IsReady (H.world host.old) engine.old t now → (statement.now ≡ PageNew → IsSoundImage t.base.image)
+        → MayAct some_said result (H.world host.old) (H.world host.new) engine.old engine.new t now session (Begins statement.now) }
+    ensures others { (session : ℕ) → KeepsOthers session engine.old engine.new }
     ensures cause { CountsDevice result (H.faults host.old) (H.faults host.new) }
 {
     match statement {
@@ -51,20 +74,39 @@ pub fn do_statement<H: Host>(
             engine.page_free(host, *page)?;
             Ok(Reply::Done)
         }
+        Statement::BeginBackup => {
+            let scn = engine.begin(host)?;
+            Ok(Reply::Scn { scn })
+        }
+        Statement::Forced { on } => {
+            engine.set_forced(host, *on)?;
+            Ok(Reply::Done)
+        }
+        Statement::Access { read_only } => {
+            engine.set_access(host, *read_only)?;
+            Ok(Reply::Done)
+        }
+        Statement::Sync => {
+            engine.sync(host)?;
+            Ok(Reply::Done)
+        }
+        Statement::ShowHeader => Ok(header_shown(engine)),
         _ => unreachable!(),
     }
 }
 
-/// The reply to a statement: what it answered, or its refusal. A failure ends the run.
-pub fn reply_to(answer: Result<Reply, Fault>) -> Result<Reply, Stop>
-    ensures said { (said : Option Reply) → Answers as_said answer said → IfOk result (λ reply. said ≡ Some reply) }
+/// The reply to a statement: what it answered, or its refusal. A failure is passed on.
+pub fn reply_to(answer: Result<Reply, Fault>) -> Result<Reply, Fault>
+    ensures said { (said : Option Reply) → Says some_said answer said → IfOk result (λ reply. said ≡ Some reply) }
     ensures ended { OnOk result (HasEnded answer) }
-    ensures cause { (before after : ℕ) → CountsDevice answer before after → CountsStop result before after }
+    ensures failed { IfErr result (λ fault. answer ≡ Err fault) }
+    ensures not_refused { IfErr result IsNoRefusal }
+    ensures cause { (before after : ℕ) → CountsDevice answer before after → CountsDevice result before after }
 {
     match answer {
         Ok(reply) => Ok(reply),
         Err(Fault::Refused(refusal)) => Ok(Reply::Refused { refusal }),
-        Err(Fault::Device) => Err(Stop::Device),
-        Err(Fault::Memory) => Err(Stop::Memory),
+        Err(Fault::Device) => Err(Fault::Device),
+        Err(Fault::Memory) => Err(Fault::Memory),
     }
 }

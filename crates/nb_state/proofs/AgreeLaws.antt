@@ -30,6 +30,7 @@ module _ (held now : Held) (before after : Base) (state scn : ℕ) (guid : List 
       let long = header-long (first_page before.image) header in
       record {
         scn = scn_is ∙ sym (ap scn_of first ∙ control_scn state scn guid (first_page before.image) long sixteen low);
+        four = subst (λ (n : ℕ). n < 4294967296) (sym scn_is) low;
         guid = guid_is ∙ sym (ap guid_of first ∙ control_guid state scn guid (first_page before.image) long sixteen);
         forced = forced ∙ agrees.forced
             ∙ ap (λ n. not (n == 0)) (sym (ap (number_in 64 1) first
@@ -72,6 +73,7 @@ module _ (t : Trail) (p : ℕ) (bytes : Page) (fits : Fits p bytes t.base.image)
     agrees_first : p ≡ 0 → AgreesWith held t.base → AgreesWith flagged (after_stroke (page p bytes) t).base
     agrees_first e agrees = record {
       scn = agrees.scn ∙ sym scn_stays;
+      four = agrees.four;
       guid = agrees.guid ∙ sym guid_stays;
       forced = ap (λ (x : Page). not (number_in 64 1 x == 0)) (sym (first_written e));
       read_only = ap (λ (x : Page). not (number_in 65 1 x == 0)) (sym (first_written e));
@@ -80,6 +82,7 @@ module _ (t : Trail) (p : ℕ) (bytes : Page) (fits : Fits p bytes t.base.image)
     agrees_other : 0 < p → AgreesWith held t.base → AgreesWith same (after_stroke (page p bytes) t).base
     agrees_other some agrees = record {
       scn = agrees.scn ∙ sym scn_stays;
+      four = agrees.four;
       guid = agrees.guid ∙ sym guid_stays;
       forced = agrees.forced ∙ ap (λ (x : Page). not (number_in 64 1 x == 0)) (sym (first_stays some));
       read_only = agrees.read_only ∙ ap (λ (x : Page). not (number_in 65 1 x == 0)) (sym (first_stays some));

@@ -33,6 +33,7 @@ created files old new name size raw is =
           files = open_;
           agrees = record {
             scn = sym (fresh_scn size raw);
+            four = omega arith;
             guid = sym (ap guid_of (fresh_first size raw) ∙ no_guid size raw);
             forced = sym (fresh_forced size raw);
             read_only = sym (fresh_open size raw);

@@ -165,7 +165,7 @@ module _ (old new : World) (held : Held) (t : Trail) (is : IsOpen old held t) (f
   pub open_more : AreOpen new files t → files.entries ≡ held.files.entries → held.merged < length held.files.entries → AreMerged new files (held.merged + 1) → IsOpen new (record held { files = files; merged = held.merged + 1 }) t
   open_more opened entries inside merged = record {
     files = opened;
-    agrees = record { scn = is.agrees.scn; guid = is.agrees.guid; forced = is.agrees.forced; read_only = is.agrees.read_only };
+    agrees = record { scn = is.agrees.scn; four = is.agrees.four; guid = is.agrees.guid; forced = is.agrees.forced; read_only = is.agrees.read_only };
     merged = λ two. merged;
     most = λ two. omega (arith, inside, ap length entries);
   }
@@ -174,7 +174,7 @@ module _ (old new : World) (held : Held) (t : Trail) (is : IsOpen old held t) (f
 pub open_again : (w : World) (held : Held) (t : Trail) (session : ℕ) → IsOpen w held t → IsOpen w (record held { running = Some session; merged = 0 }) t
 open_again w held t session is = record {
   files = is.files;
-  agrees = record { scn = is.agrees.scn; guid = is.agrees.guid; forced = is.agrees.forced; read_only = is.agrees.read_only };
+  agrees = record { scn = is.agrees.scn; four = is.agrees.four; guid = is.agrees.guid; forced = is.agrees.forced; read_only = is.agrees.read_only };
   merged = λ two j none inside. absurd (omega (arith, none));
   most = λ two. omega arith;
 }
@@ -193,7 +193,7 @@ pub open_settled : (old new : World) (held : Held) (files : Rattle.nb_base.specs
     → ((k : ℕ) → AreMerged old held.files k → AreMerged new files k) → IsOpen new (record held { files = files }) (settled t.base)
 open_settled old new held files t is same opened merged = record {
   files = opened;
-  agrees = record { scn = is.agrees.scn; guid = is.agrees.guid; forced = is.agrees.forced; read_only = is.agrees.read_only };
+  agrees = record { scn = is.agrees.scn; four = is.agrees.four; guid = is.agrees.guid; forced = is.agrees.forced; read_only = is.agrees.read_only };
   merged = λ two. merged held.merged (is.merged (sym (ap (λ (f : Rattle.nb_base.specs.Open.Held). f.state) same) ∙ two));
   most = λ two. subst (λ (f : Rattle.nb_base.specs.Open.Held). held.merged ≤ length f.entries) (sym same) (is.most (sym (ap (λ (f : Rattle.nb_base.specs.Open.Held). f.state) same) ∙ two));
 }

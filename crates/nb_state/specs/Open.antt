@@ -1,5 +1,5 @@
 -- A database that is open.
-use Rattle.std.specs.Prelude.{◌≡◌, ◌≤◌, ℕ, List, length, Option, Bool}
+use Rattle.std.specs.Prelude.{◌≡◌, ◌<◌, ◌≤◌, ℕ, List, length, Option, Bool}
 use Rattle.nb_host.specs.World.{World}
 use Rattle.nb_model.specs.Account.{Base}
 use Rattle.nb_model.specs.Image.{image_scn, image_guid, is_forced, is_read_only}
@@ -29,6 +29,8 @@ name_of held = held.files.name
 -- its header says what is held of it
 pub record AgreesWith (held : Held) (b : Base) : Type 0 where
   pub scn : held.scn ≡ image_scn b.image
+  -- it has four bytes
+  pub four : held.scn < 4294967296
   pub guid : held.guid ≡ image_guid b.image
   pub forced : held.forced ≡ is_forced b.image
   pub read_only : held.read_only ≡ is_read_only b.image

@@ -1,5 +1,5 @@
 -- The turns of a backup: begin, end, and the merge.
-use Rattle.std.specs.Prelude.{◌≡◌, ◌⊎◌, ℕ, ◌+◌, ◌<◌, List, [], ◌∷◌, ◌++◌, length, Option, Some, None, Result, Ok, Err, OnOk, IfOk, ◌==◌}
+use Rattle.std.specs.Prelude.{◌≡◌, ◌⊎◌, ℕ, ◌+◌, ◌<◌, ◌≤◌, List, [], ◌∷◌, ◌++◌, length, Option, Some, None, Result, Ok, Err, OnOk, IfOk, ◌==◌}
 use Rattle.nb_host.specs.World.{World}
 use Rattle.nb_host.specs.declared.faults.Fault.{Fault}
 use Rattle.nb_host.specs.declared.refusals.Refusal.TheVariants.{WrongState}
@@ -51,6 +51,12 @@ pub record Ends (result : Result ℕ Fault) (old new : World) (before after : He
   pub gave : GaveNothing old new
   pub refused : WhereRefused result ((after ≡ before) × Quiet old new)
   pub name : name_of after ≡ name_of before
+
+-- How far a merge has come behind one turn more, whatever the host tells.
+abbrev pub GoesOn : Progress → (before after : Held) → Type 0
+GoesOn More before after =
+    (before.merged < length before.files.entries) × (after.merged ≡ before.merged + 1) × (after.files.state ≡ 2) × (after.running ≡ before.running) × (after.files.entries ≡ before.files.entries)
+GoesOn Finished before after = length before.files.entries ≤ before.merged
 
 -- One entry more is merged, or all are and the merge is over.
 abbrev pub MergesOn : Result Progress Fault → (new : World) (before after : Held) → Trail → Type 0

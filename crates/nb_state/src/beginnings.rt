@@ -26,6 +26,7 @@ fn open<H: Host>(host: &mut H, files: TwoFiles, page: &mut [u8]) -> Result<Store
     ensures opens { (t : Trail) → IsTrue H.tells → AreOpen (H.world host.old) files t → 0 < length t.base.image → IfOk result (λ store. IsOpen (H.world host.new) store t) }
     ensures files { IfOk result (λ store. store.files ≡ files) }
     ensures begins { IfOk result (λ store. (store.running ≡ None) × (store.merged ≡ 0)) }
+    ensures scn { IfOk result (λ store. store.scn < 4294967296) }
     ensures quiet { Quiet (H.world host.old) (H.world host.new) }
     ensures cause { CountsFault result (H.faults host.old) (H.faults host.new) }
 {
@@ -51,6 +52,7 @@ impl Store {
     pub fn attach<H: Host>(alloc: Global, host: &mut H, name: &Name) -> Result<Store, Fault>
         requires name { length name.now ≤ 94 }
         ensures attaches { IsTrue H.tells → Attaches result (H.world host.old) (H.world host.new) name.now }
+        ensures scn { IfOk result (λ store. store.scn < 4294967296) }
         ensures quiet { Quiet (H.world host.old) (H.world host.new) }
         ensures cause { CountsDevice result (H.faults host.old) (H.faults host.new) }
     {
@@ -74,6 +76,7 @@ impl Store {
         requires name { length name.now ≤ 94 }
         ensures creates { IsTrue H.tells → Creates result (H.world host.old) (H.world host.new) name.now (fresh page_size raw) }
         ensures page_size { IfOk result (λ store. store.files.page_size ≡ page_size) }
+        ensures scn { IfOk result (λ store. store.scn < 4294967296) }
         ensures cause { CountsDevice result (H.faults host.old) (H.faults host.new) }
     {
         let files = TwoFiles::create(alloc, host, name, page_size, raw)?;

@@ -77,7 +77,8 @@ impl Store {
 
     /// The backup state: 0 normal, 1 stalled, 2 merge.
     pub fn state(&self) -> u16
-        ensures { result ≡ self.now.files.state }
+        ensures value { result ≡ self.now.files.state }
+        ensures most { result ≤ 2 }
     {
         self.files.state()
     }

@@ -1,5 +1,5 @@
 // The turns of a backup: begin, end, and the merge.
-ghost use Rattle.std.specs.Prelude.{◌≡◌, ◌<◌, ◌+◌, ℕ, List, [], ◌∷◌, length, IsTrue, IfErr, IfOk, OnOk, Option, Some};
+ghost use Rattle.std.specs.Prelude.{◌≡◌, ◌≢◌, ◌<◌, ◌≤◌, ◌+◌, ℕ, List, [], ◌∷◌, length, IsTrue, IfErr, IfOk, OnOk, Option, Some};
 ghost use Rattle.nb_host.specs.Causes.{CountsFault};
 ghost use Rattle.nb_host.specs.declared.faults.Fault.TheVariants.{Memory};
 ghost use Rattle.nb_change.specs.Counts.{CountsDevice};
@@ -12,7 +12,7 @@ ghost use Rattle.nb_model.specs.Trail.{Trail};
 ghost use Rattle.nb_base.specs.Takes.{Takes, IsNoRefusal};
 ghost use Rattle.nb_state.specs.Open.{IsOpen, name_of};
 ghost use Rattle.nb_state.specs.Does.{Tested};
-ghost use Rattle.nb_state.specs.Turns.{Begins, Ends, Merges, GaveAtMost, begin_cause, end_cause};
+ghost use Rattle.nb_state.specs.Turns.{Begins, Ends, Merges, GaveAtMost, GoesOn, begin_cause, end_cause};
 
 use crate::Store;
 use nb_host::{Fault, Host, HostFault, Refusal};
@@ -57,6 +57,8 @@ impl Store {
     /// Tests whether a merge may begin for that session. The refusals are `WrongState` and `BackupRunning`, in this order.
     fn check_end(&self, session: u32) -> Result<(), Fault>
         ensures test { (image : Image) → self.now.files.state ≡ image_state image → Tested result (end_cause image self.now.running session) }
+        ensures some { OnOk result (1 ≤ self.now.files.state) }
+        ensures own { (other : ℕ) → self.now.running ≡ Some other → OnOk result (other ≡ session) }
         ensures cause { (faults : ℕ) → CountsDevice result faults faults }
     {
         if self.files.state() == 0 {
@@ -79,6 +81,8 @@ impl Store {
     pub fn begin<H: Host>(&mut self, host: &mut H) -> Result<u32, Fault>
         ensures begins { (t : Trail) (guid : List ℕ) (ask : Option Ask) → IsTrue H.tells → IsOpen (H.world host.old) self.old t → GaveAtMost (H.world host.old) (H.world host.new) guid
             → Begins result (H.world host.old) (H.world host.new) self.old self.new t guid ask }
+        ensures asks { IsTrue H.tells → (guid : List ℕ) × (length guid ≡ 16) × GaveAtMost (H.world host.old) (H.world host.new) guid }
+        ensures stays { self.old.files.state ≡ 2 → self.new ≡ self.old }
         ensures page_size { self.new.files.page_size ≡ self.old.files.page_size }
         ensures cause { CountsDevice result (H.faults host.old) (H.faults host.new) }
     {
@@ -112,6 +116,8 @@ impl Store {
     /// The refusals are `WrongState` and `BackupRunning`, in this order; a refused call changes nothing.
     pub fn end<H: Host>(&mut self, host: &mut H, session: u32) -> Result<u32, Fault>
         ensures ends { (t : Trail) → IsTrue H.tells → IsOpen (H.world host.old) self.old t → Ends result (H.world host.old) (H.world host.new) self.old self.new t session }
+        ensures stays { (other : ℕ) → self.old.running ≡ Some other → other ≢ session → self.new ≡ self.old }
+        ensures merge { OnOk result ((self.new.files.state ≡ 2) × (self.new.running ≡ Some session) × (self.new.merged ≡ 0)) }
         ensures page_size { self.new.files.page_size ≡ self.old.files.page_size }
         ensures cause { CountsDevice result (H.faults host.old) (H.faults host.new) }
     {
@@ -132,6 +138,7 @@ impl Store {
             → Takes result (H.world host.old) (H.world host.new) (name_of self.old) (IsOpen (H.world host.new) self.new) t (ends_stroke ∷ []) }
         ensures answer { self.old.scn < 4294967295 → IfOk result (λ scn. scn ≡ self.old.scn + 1) }
         ensures begins { OnOk result ((self.new.running ≡ Some session) × (self.new.merged ≡ 0)) }
+        ensures state { OnOk result (self.new.files.state ≡ 2) }
         ensures gave { GaveNothing (H.world host.old) (H.world host.new) }
         ensures name { name_of self.new ≡ name_of self.old }
         ensures page_size { self.new.files.page_size ≡ self.old.files.page_size }
@@ -149,6 +156,7 @@ impl Store {
     pub fn merge_turn<H: Host>(&mut self, host: &mut H) -> Result<Progress, Fault>
         requires merge { self.old.files.state ≡ 2 }
         ensures merges { (t : Trail) → IsTrue H.tells → IsOpen (H.world host.old) self.old t → HasNoZeros t.base.image → Merges result (H.world host.old) (H.world host.new) self.old self.new t }
+        ensures goes { IfOk result (λ progress. GoesOn progress self.old self.new) }
         ensures page_size { self.new.files.page_size ≡ self.old.files.page_size }
         ensures cause { CountsDevice result (H.faults host.old) (H.faults host.new) }
         ensures not_refused { IfErr result IsNoRefusal }

@@ -1,101 +1,124 @@
 -- What the call of the first statement gives to a run, whether it creates a database or opens one.
-use Rattle.std.proofs.Common.{◌≡◌, ◌≢◌, ℕ, List, [], ◌∷◌, ◌++◌, Bool, false, sym, ap, subst, ◌∙◌}
-use Rattle.std.specs.Prelude.{Result, Ok, Err, Some, IfOk, OnOk, if◌then◌else◌}
+use Rattle.std.proofs.Common.{◌≡◌, ◌≢◌, ℕ, List, ◌++◌, Bool, sym, ap, subst, ◌∙◌}
+use Rattle.std.specs.Prelude.{Result, Ok, Err, None, Some, IfOk, OnOk, if◌then◌else◌}
 use Rattle.nb_host.specs.World.{World}
-use Rattle.nb_host.specs.Crash.{Leaves, Untouched}
-use Rattle.nb_host.specs.Moments.{IsTimely, AtEachMoment}
+use Rattle.nb_host.specs.Crash.{Untouched}
+use Rattle.nb_host.specs.Moments.{AtEachMoment}
 use Rattle.nb_host.specs.declared.faults.Fault.{Fault}
 use Rattle.nb_host.specs.declared.faults.Fault.TheVariants.{Refused}
 use Rattle.nb_host.specs.declared.refusals.Refusal.{Refusal}
 use Rattle.nb_host.specs.declared.refusals.Refusal.TheVariants.{Usage}
+use Rattle.nb_change.specs.Changes.{Other}
+use Rattle.nb_change.specs.Gave.{GaveNothing}
 use Rattle.nb_page.specs.Quiet.{Quiet}
+use Rattle.nb_model.specs.declared.reply.Reply.{Reply}
 use Rattle.nb_model.specs.declared.reply.Reply.TheVariants.{Refused as RefusedReply}
-use Rattle.nb_model.specs.Account.{Kept, Account}
+use Rattle.nb_model.specs.Account.{Account}
 use Rattle.nb_model.specs.Lines.{line_text}
+use Rattle.nb_model.specs.Outcomes.{Given}
 use Rattle.nb_model.specs.Output.{status_after}
-use Rattle.nb_model.specs.Run.{Now, base_now, begun}
-use Rattle.nb_model.specs.Well.{IsWellBase}
+use Rattle.nb_model.specs.Run.{Event, Now, base_now, begun}
+use Rattle.nb_model.specs.Steps.{after_steps, steps_in}
+use Rattle.nb_model.specs.Trail.{settled}
 use Rattle.nb_model.proofs.TodoLaws.{status_refused}
+use Rattle.nb_base.specs.Open.{OfFiles}
+use Rattle.nb_state.specs.Open.{Held, name_of}
 use Rattle.nb_script.specs.Asked.{IsAskable}
 use Rattle.nb_script.specs.Scripts.{Plan}
-use Rattle.nb_engine.specs.declared.opened.Opened.{Opened}
-use Rattle.nb_engine.specs.Open.{IsOpen}
 use Rattle.nb_session.specs.declared.stop.Stop.{Stop}
-use Rattle.nb_session.specs.Replies.{is_refusal}
+use Rattle.nb_session.specs.Ready.{IsReady, IsCalm}
 use Rattle.nb_session.specs.Says.{SaysLine}
-use Rattle.nb_session.specs.Stops.{IsReady}
 use Rattle.nb_top.specs.declared.status.Status.{Status}
 use Rattle.nb_top.specs.declared.status.Status.TheVariants.{Refused as RefusedStatus}
-use Rattle.nb_top.specs.Performed.{RunLeft, RunsTo, StandsFor, IsPerformed, PlaysOpened, opened_reply, number_of}
-use Rattle.nb_top.proofs.QuietRuns.{runs_quietly, stands_quietly}
-use Rattle.nb_top.proofs.RefusedRuns.{no_given, refused_event, refused_runs}
+use Rattle.nb_top.specs.Performed.{RunsTo, HasSmallScn, IsPerformed, PlaysOpened, first_event, opened_reply, refused_at, number_of}
+use Rattle.nb_top.proofs.BegunRuns.{Left, start, first_one, begun_fails, begun_runs}
 use Rattle.nb_top.proofs.FirstLaws.{First}
-use Rattle.nb_top.proofs.BegunRuns.{events, begun_fails, begun_runs}
+use Rattle.nb_top.proofs.QuietRuns.{runs_quietly}
+use Rattle.nb_top.proofs.RefusedRuns.{refused_runs}
 
--- It was done: the database is open, no other file was touched and nothing was said.
-pub record FirstDone (old mid : World) (account : Account) (plan : Plan) (held : Opened) : Type 0 where
-  pub first : First account plan
-  pub says : first.reply ≡ opened_reply plan.first held.count
-  pub allowed : is_refusal first.reply ≡ false
-  pub named : held.name ≡ first.name
-  pub opened : IsOpen mid held (base_now first.now)
-  pub well : IsWellBase account.kept (base_now first.now)
-  pub alone : Untouched old mid (λ m. m ≢ first.name)
-  pub read : (m : List ℕ) → m ≢ first.name → mid.files m ≡ old.files m
+-- It was done: the database is open, no other file was touched, and nothing was said or given.
+pub record FirstDone (old mid : World) (account : Account) (given : Given) (plan : Plan) (askable : IsAskable plan) (held : Held) : Type 0 where
+  pub first : First account given plan
+  pub says : first.reply ≡ opened_reply plan.first held.files.count held.files.state
+  pub ready : IsReady mid held (settled (base_now first.now)) first.now
+  pub calm : IsCalm first.now
+  pub named : name_of held ≡ first.target.name
+  pub small : HasSmallScn account (Some first.target)
+  pub alone : Untouched old mid (Other (OfFiles first.target.name))
+  pub read : (m : List ℕ) → Other (OfFiles first.target.name) m → mid.files m ≡ old.files m
   pub silent : mid.said ≡ old.said
+  pub gave : GaveNothing old mid
+  pub stops : (n : ℕ) → AtEachMoment old mid (Left old account given plan askable first n)
 
 -- It was refused, and nothing happened.
-pub record FirstRefused (old mid : World) (account : Account) (plan : Plan) (refusal : Refusal) : Type 0 where
+pub record FirstRefused (old mid : World) (account : Account) (given : Given) (plan : Plan) (refusal : Refusal) : Type 0 where
   pub quiet : Quiet old mid
-  pub performed : IsPerformed (Ok plan) account no_given (refused_event plan.first_session refusal ∷ []) account
+  pub performed : IsPerformed (Ok plan) account given (refused_at plan.first_session refusal) account given
   pub not_usage : refusal ≢ Usage
 
--- While the statement is done, so many turns are to come behind it.
-pub record DoneLeft (old : World) (account : Account) (stands : StandsFor old account) (plan : Plan) (askable : IsAskable plan) (mid : World) (held : Opened) : Type 0 where
-  pub done : FirstDone old mid account plan held
-  pub stops : (n : ℕ) → AtEachMoment old mid (RunLeft old account (Some done.first.name) (events old account stands plan askable done.first n))
+pub record Beginning (old : World) (account : Account) (given : Given) (plan : Plan) (askable : IsAskable plan) (mid : World) (result : Result Held Fault) : Type 0 where
+  pub fails : (e : Stop) → RunsTo (Err e) old mid (Ok plan) account given
+  pub refused : (refusal : Refusal) → result ≡ Err (Refused refusal) → FirstRefused old mid account given plan refusal
+  pub done : (held : Held) → result ≡ Ok held → FirstDone old mid account given plan askable held
 
-pub record Beginning (old : World) (account : Account) (stands : StandsFor old account) (plan : Plan) (askable : IsAskable plan) (mid : World) (result : Result Opened Fault) : Type 0 where
-  pub fails : (e : Stop) → RunsTo (Err e) old mid (Ok plan) account
-  pub refused : (refusal : Refusal) → result ≡ Err (Refused refusal) → FirstRefused old mid account plan refusal
-  pub done : (held : Opened) → result ≡ Ok held → DoneLeft old account stands plan askable mid held
-
-module _ (old : World) (account : Account) (stands : StandsFor old account) (plan : Plan) (askable : IsAskable plan) (mid : World) where
+module _ (old : World) (account : Account) (given : Given) (plan : Plan) (askable : IsAskable plan) (mid : World) where
   -- a refusal is said
-  pub script_refused : (refusal : Refusal) → FirstRefused old mid account plan refusal → (new : World) {S E : Type 0} (told : Result S E) (status : Result Status Stop) → SaysLine told mid new (line_text plan.first_session (RefusedReply refusal))
-      → IfOk status (λ s. s ≡ RefusedStatus) → OnOk status (new.said ≡ mid.said ++ line_text plan.first_session (RefusedReply refusal)) → RunsTo status old new (Ok plan) account
+  pub script_refused : (refusal : Refusal) → FirstRefused old mid account given plan refusal → (new : World) {S E : Type 0} (told : Result S E) (status : Result Status Stop) → SaysLine told mid new (line_text plan.first_session (RefusedReply refusal))
+      → IfOk status (λ s. s ≡ RefusedStatus) → OnOk status (new.said ≡ mid.said ++ line_text plan.first_session (RefusedReply refusal)) → RunsTo status old new (Ok plan) account given
   script_refused refusal is new told status says ended said =
-      runs_quietly status old mid new (Ok plan) account stands is.quiet
-      (refused_runs mid new plan.first_session refusal account (Ok plan) (stands_quietly old mid account is.quiet stands) told status is.performed says (numbered status ended) said)
+      runs_quietly status old mid new (Ok plan) account given is.quiet
+      (refused_runs mid new plan.first_session refusal account given (Ok plan) told status is.performed says (numbered status ended) said)
     where
       numbered : (s : Result Status Stop) → IfOk s (λ x. x ≡ RefusedStatus) → IfOk s (λ x. number_of x ≡ status_after (RefusedReply refusal))
       numbered (Ok x) e = ap number_of e ∙ sym (status_refused refusal is.not_usage)
       numbered (Err x) e = tt
 
-  module _ (held : Opened) (is : DoneLeft old account stands plan askable mid held) where
+  module _ (held : Held) (is : FirstDone old mid account given plan askable held) where
     pub script_now : Now
-    script_now = is.done.first.now
+    script_now = is.first.now
 
     pub script_todo : script_now.todo ≡ begun plan.sessions
     unfolding script_now
-    script_todo = is.done.first.todo
+    script_todo = is.first.todo
 
-    pub script_ready : IsReady mid held script_now
+    pub script_running : script_now.running ≡ None
     unfolding script_now
-    script_ready = record { opened = is.done.opened; well = subst (λ (kept : List Kept). IsWellBase kept (base_now is.done.first.now)) (sym is.done.first.kept) is.done.well }
+    script_running = is.first.running
 
-    says_it : {r : Result Bool Stop} (new : World) (after : Opened) → PlaysOpened r mid new held after is.done.first.now plan (opened_reply plan.first held.count) → PlaysOpened r mid new held after is.done.first.now plan is.done.first.reply
-    says_it {r} new after plays = subst (PlaysOpened r mid new held after is.done.first.now plan) (sym is.done.says) plays
+    pub script_given : script_now.given ≡ given
+    unfolding script_now
+    script_given = is.first.given_is
+
+    pub script_ready : IsReady mid held (settled (base_now script_now)) script_now
+    unfolding script_now
+    script_ready = is.ready
+
+    pub script_calm : IsCalm script_now
+    unfolding script_now
+    script_calm = is.calm
+
+    -- the reply as it is said
+    abbrev said_first : Event
+    said_first = first_event plan.first_session is.first.strokes (opened_reply plan.first held.files.count held.files.state)
+
+    pub script_trail : after_steps (settled (start old account given plan askable is.first)) (steps_in said_first) ≡ settled (base_now script_now)
+    unfolding script_now
+    script_trail = ap (λ (r : Reply). after_steps (settled (start old account given plan askable is.first)) (steps_in (first_event plan.first_session is.first.strokes r))) (sym is.says) ∙ is.first.trail
+
+    says_it : {r : Result Bool Stop} (new : World) (after : Held) → PlaysOpened r mid new held after (start old account given plan askable is.first) said_first is.first.now plan
+        → PlaysOpened r mid new held after (start old account given plan askable is.first) (first_one old account given plan askable is.first) is.first.now plan
+    says_it {r} new after plays =
+        subst (λ (x : Reply). PlaysOpened r mid new held after (start old account given plan askable is.first) (first_event plan.first_session is.first.strokes x) is.first.now plan) (sym is.says) plays
 
     -- the turns ended early
-    pub script_ends_early : Leaves old is.done.first.name (old.files is.done.first.name) → (new : World) (after : Opened) (e : Stop) {f : Stop} → PlaysOpened (Err f) mid new held after script_now plan (opened_reply plan.first held.count) → RunsTo (Err e) old new (Ok plan) account
+    pub script_ends_early : (new : World) (after : Held) (e : Stop) {f : Stop} → PlaysOpened (Err f) mid new held after (start old account given plan askable is.first) said_first script_now plan → RunsTo (Err e) old new (Ok plan) account given
     unfolding script_now
-    script_ends_early there new after e plays =
-        begun_fails old account stands plan askable is.done.first is.done.allowed mid new there is.done.alone is.done.read is.done.silent is.stops held after is.done.named is.done.well e (says_it new after plays)
+    script_ends_early new after e plays =
+        begun_fails old account given plan askable is.first mid new is.alone is.read is.silent is.gave is.stops held after is.named is.small e (says_it new after plays)
 
     -- all turns were taken
-    pub script_ends : Leaves old is.done.first.name (old.files is.done.first.name) → (new : World) (after : Opened) → IsTimely new → ((m : List ℕ) → Leaves new m (new.files m)) → (refused : Bool) (status : Status) → number_of status ≡ (if refused then 1 else 0)
-        → PlaysOpened (Ok refused) mid new held after script_now plan (opened_reply plan.first held.count) → RunsTo (Ok status) old new (Ok plan) account
+    pub script_ends : (new : World) (after : Held) (refused : Bool) (status : Status) → number_of status ≡ (if refused then 1 else 0)
+        → PlaysOpened (Ok refused) mid new held after (start old account given plan askable is.first) said_first script_now plan → RunsTo (Ok status) old new (Ok plan) account given
     unfolding script_now
-    script_ends there new after timely reads refused status number plays =
-        begun_runs old account stands plan askable is.done.first is.done.allowed mid new there is.done.alone is.done.read is.done.silent is.stops held after is.done.named is.done.well timely reads refused status number (says_it new after plays)
+    script_ends new after refused status number plays =
+        begun_runs old account given plan askable is.first mid new is.alone is.read is.silent is.gave is.stops held after is.named is.small refused status number (says_it new after plays)

@@ -1,11 +1,10 @@
 -- A run whose first statement creates its database.
-use Rattle.std.proofs.Common.{◌≡◌, inl, inr, ⊎_elim, ℕ, ◌≤◌, List, [], ◌∷◌, ◌++◌, length, take, true, false, refl, sym, ap, subst, ◌∙◌, arith}
-use Rattle.std.specs.Prelude.{Bool, ◌&&◌, not, nat_le, is_some, Some, Result, Ok, Err, IsTrue}
+use Rattle.std.proofs.Common.{◌≡◌, inl, inr, ⊎_elim, ℕ, List, [], ◌∷◌, ◌++◌, length, take, true, false, refl, sym, ap, subst, ◌∙◌, arith}
+use Rattle.std.specs.Prelude.{Bool, ◌&&◌, not, nat_le, Some, Result, Ok, Err}
 use Rattle.std.proofs.lemmas.Bool.{and_parts, true≢false}
-use Rattle.std.proofs.lemmas.List.{append-nil}
+use Rattle.std.proofs.lemmas.List.{append-nil, take-append-le, take_all}
 use Rattle.nb_fields.specs.Free.{is_free_file}
 use Rattle.nb_fields.specs.Fresh.{fresh}
-use Rattle.nb_fields.specs.Places.{is_page_size}
 use Rattle.nb_host.specs.Files.{Files}
 use Rattle.nb_host.specs.Names.{is_name, is_delta}
 use Rattle.nb_host.specs.World.{World}
@@ -15,47 +14,41 @@ use Rattle.nb_host.specs.declared.faults.Fault.{Fault}
 use Rattle.nb_host.specs.declared.faults.Fault.TheVariants.{Refused}
 use Rattle.nb_host.specs.declared.refusals.Refusal.{Refusal}
 use Rattle.nb_host.specs.declared.refusals.Refusal.TheVariants.{FileExists, Usage}
-use Rattle.nb_change.specs.Apart.{ApartLeft, Apart}
-use Rattle.nb_change.specs.Change.{BothLeft}
-use Rattle.nb_change.proofs.MomentLaws.{both_hold}
-use Rattle.nb_change.proofs.NameLaws.{decide}
-use Rattle.nb_page.specs.Free.{is_free_name, has_delta}
+use Rattle.nb_change.specs.Changes.{ChangedLeft, Only}
+use Rattle.nb_change.proofs.MomentLaws.{weaker, untouched_fewer}
+use Rattle.nb_page.specs.Free.{is_free_name}
 use Rattle.nb_page.specs.Quiet.{Quiet}
-use Rattle.nb_model.specs.declared.reply.Reply.TheVariants.{Refused as RefusedReply}
+use Rattle.nb_model.specs.declared.reply.Reply.TheVariants.{Pages, Refused as RefusedReply}
 use Rattle.nb_model.specs.declared.statement.Statement.{Statement}
 use Rattle.nb_model.specs.declared.statement.Statement.TheVariants.{CreateDb}
-use Rattle.nb_model.specs.Image.{Image}
 use Rattle.nb_model.specs.Account.{Base, base_of, Account}
-use Rattle.nb_model.specs.Strokes.{Stroke, base_after, after}
 use Rattle.nb_model.specs.Causes.{is_free_entry}
+use Rattle.nb_model.specs.Image.{Image}
+use Rattle.nb_model.specs.Outcomes.{Given}
 use Rattle.nb_model.specs.Owner.{delta_name}
-use Rattle.nb_model.specs.Run.{Event, IsRun, base_now, strokes_of}
-use Rattle.nb_model.specs.Well.{IsWellBase, StaysWell}
+use Rattle.nb_model.specs.Run.{Event, IsRun, base_now}
+use Rattle.nb_model.specs.Steps.{Step, steps_in, steps_of}
+use Rattle.nb_model.specs.Trail.{Trail, ShowsIn, StandsIn, settled}
 use Rattle.nb_model.proofs.FreshImageLaws.{fresh_length}
-use Rattle.nb_model.proofs.OpeningLaws.{free_entry, not_created, run_ends}
-use Rattle.nb_model.proofs.PlayLaws.{play_well}
-use Rattle.nb_script.specs.Asked.{IsAskable, statement_count}
+use Rattle.nb_model.proofs.OpeningLaws.{not_created, run_ends}
+use Rattle.nb_model.proofs.StandsLaws.{no_main}
+use Rattle.nb_model.proofs.StepsLaws.{acked_steps_none, turns_before, steps_append, steps_length, steps_one}
+use Rattle.nb_model.proofs.TrailLaws.{shows_settled}
+use Rattle.nb_model.proofs.WellLaws.{fresh_well_base}
+use Rattle.nb_base.specs.Beginnings.{CreateLeft}
+use Rattle.nb_base.specs.Open.{OfFiles}
+use Rattle.nb_state.specs.Beginnings.{Creates, CreateAnswers, IsCreated}
+use Rattle.nb_state.specs.Open.{Held, IsOpen}
+use Rattle.nb_script.specs.Asked.{IsAskable}
 use Rattle.nb_script.specs.Fits.{FitsFirst}
 use Rattle.nb_script.specs.Scripts.{Plan}
-use Rattle.nb_engine.specs.declared.opened.Opened.{Opened}
-use Rattle.nb_engine.specs.Create.{CreateLeft, Creates, CreateAnswers}
-use Rattle.nb_engine.specs.Open.{Shows}
 use Rattle.nb_session.specs.declared.stop.Stop.{Stop}
 use Rattle.nb_session.specs.Stops.{IsSaid}
-use Rattle.nb_session.proofs.EventLaws.{acked_none}
-use Rattle.nb_top.specs.Performed.{RunLeft, RunsTo, StandsFor, IsPerformed, opens_unended, database_of, opened_reply}
-use Rattle.nb_top.proofs.HoldLaws.{holds_base, holds_free}
+use Rattle.nb_top.specs.Performed.{RunsTo, HasSmallScn, IsPerformed, opened_reply, refused_at, seen_after, target_of}
 use Rattle.nb_top.proofs.QuietRuns.{left_quietly}
-use Rattle.nb_top.proofs.RefusedRuns.{no_given, refused_event}
-use Rattle.nb_top.proofs.FirstLaws.{First, first_created, created_well, created_base, turns, turns_on_pages}
-use Rattle.nb_top.proofs.BegunRuns.{events, shown_entry, whole_strokes, first_fails}
-use Rattle.nb_top.proofs.Beginnings.{Beginning, FirstRefused, DoneLeft}
-use Rattle.nb_model.proofs.OutputLaws.{acked_in-none}
-
--- no stroke
-no_stroke : (b : Base) → base_after b [] ≡ b
-unfolding base_after
-no_stroke b = refl
+use Rattle.nb_top.proofs.FirstLaws.{First, first_created, created_base, turns}
+use Rattle.nb_top.proofs.BegunRuns.{Left, events, first_one, first_fails}
+use Rattle.nb_top.proofs.Beginnings.{Beginning, FirstRefused, FirstDone}
 
 -- a name that a database may have
 pub record BaseName (name : List ℕ) : Type 0 where
@@ -71,157 +64,162 @@ base_name name fits =
     let parts = and_parts (is_name name && nat_le (length name) 94) (not (is_delta name)) fits in
     record { short = (and_parts (is_name name) (nat_le (length name) 94) parts.0).1; plain = not_true (is_delta name) parts.1 }
 
--- a name is free in the account where the call that asks says so
-name_free : (files : Files) (account : Account) (name : List ℕ) → BaseName name → Rattle.nb_model.specs.Stands.Stands files account → is_free_name files name ≡ is_free_entry (account.entry name)
-unfolding is_free_name has_delta
-name_free files account name is stands =
-    ap (λ (b : Bool). is_free_file (files name) && not (b && is_some (files (delta_name name)))) is.short
-    ∙ sym (free_entry files account name stands.same_image stands.no_stray is.plain)
-
-module _ (old : World) (account : Account) (stands : StandsFor old account) (reads : (m : List ℕ) → Leaves old m (old.files m)) (plan : Plan) (askable : IsAskable plan) (name : List ℕ) (size raw cache : ℕ) (first_is : plan.first ≡ CreateDb name size raw cache) where
+module _ (old : World) (account : Account) (given : Given) (plan : Plan) (askable : IsAskable plan) (name : List ℕ) (size raw cache : ℕ) (first_is : plan.first ≡ CreateDb name size raw cache)
+    (knows : is_free_name old.files name ≡ is_free_entry (account.entry name)) where
   fits : FitsFirst (CreateDb name size raw cache)
   fits = subst FitsFirst first_is askable.first.fits
-
-  pub base : BaseName name
-  base = base_name name fits.0
-
-  is_size : IsTrue (is_page_size size)
-  is_size = fits.1
-
-  few : raw ≤ 65535
-  few = fits.2
 
   abbrev image : Image
   image = fresh size raw
 
-  free_is : is_free_name old.files name ≡ is_free_entry (account.entry name)
-  free_is = name_free old.files account name base stands.now
-
   -- the name isn't free
-  taken_performed : is_free_entry (account.entry name) ≡ false → IsPerformed (Ok plan) account no_given (refused_event plan.first_session (FileExists name) ∷ []) account
+  taken_performed : is_free_entry (account.entry name) ≡ false → IsPerformed (Ok plan) account given (refused_at plan.first_session (FileExists name)) account given
   taken_performed taken =
-      rw (ap (λ (s : Statement). opens_unended (record plan { first = s }) account) first_is, IsPerformed)
-      (subst (λ (first : Statement). IsRun account no_given plan.first_session first plan.schedule plan.sessions (refused_event plan.first_session (FileExists name) ∷ []) account) (sym first_is)
-      (run_ends account no_given plan.first_session (CreateDb name size raw cache) plan.schedule plan.sessions (RefusedReply (FileExists name)) (not_created account no_given plan.sessions plan.first_session name size raw cache taken)))
+      subst (λ (first : Statement). IsRun account given plan.first_session first plan.schedule plan.sessions (refused_at plan.first_session (FileExists name)) account given) (sym first_is)
+      (run_ends account given plan.first_session (CreateDb name size raw cache) plan.schedule plan.sessions (RefusedReply (FileExists name)) (not_created account given plan.sessions plan.first_session name size raw cache taken))
 
-  taken_fails : (new : World) (e : Stop) → is_free_entry (account.entry name) ≡ false → Quiet old new → RunsTo (Err e) old new (Ok plan) account
+  taken_fails : (new : World) (e : Stop) → is_free_entry (account.entry name) ≡ false → Quiet old new → RunsTo (Err e) old new (Ok plan) account given
   taken_fails new e taken quiet = record {
-    given = no_given;
-    events = refused_event plan.first_session (FileExists name) ∷ [];
+    events = refused_at plan.first_session (FileExists name);
     last = account;
+    left = given;
     performed = taken_performed taken;
-    stops = left_quietly old new account stands (database_of (Ok plan) (refused_event plan.first_session (FileExists name) ∷ [])) _ quiet;
+    opened = inl tt;
+    stops = left_quietly old new account (target_of (Ok plan) (refused_at plan.first_session (FileExists name))) _ quiet;
     finished = tt;
   }
 
+  true_false : true ≡ false → ⊥
+  true_false h = cc
+
   module _ (free : is_free_entry (account.entry name) ≡ true) where
-    abbrev first : First account plan
-    first = first_created account plan askable name base.plain size raw cache first_is free
+    abbrev first : First account given plan
+    first = first_created account given plan name size raw cache first_is free
+
+    -- it opens none
+    small : HasSmallScn account (Some first.target)
+    unfolding first_created
+    small e = absurd (true_false e)
 
     abbrev es : ℕ → List Event
-    es n = (turns plan first.now n).0
+    es n = events old account given plan askable first n
 
-    well : IsWellBase account.kept (base_now first.now)
-    well = created_well account plan askable name base.plain size raw cache first_is free is_size few
+    abbrev one : Event
+    one = first_one old account given plan askable first
 
-    stays : (n : ℕ) → StaysWell account.kept (base_now first.now) (strokes_of (es n))
-    stays n = (play_well account.kept (plan.schedule ++ Rattle.nb_model.specs.Run.rounds n) first.now (turns_on_pages plan askable first.now first.todo) well).stays
+    abbrev later : ℕ → List Event
+    later n = (turns plan first.now n).0
 
     -- while it is created
-    left_creating : (n : ℕ) (files : Files) (said : List ℕ) → BothLeft old name (delta_name name) (CreateLeft old name image) files said → ApartLeft old name files said → RunLeft old account (Some name) (events old account stands plan askable first n) files said
+    left_creating : (n : ℕ) (files : Files) (said : List ℕ) → ChangedLeft old (Only name) (CreateLeft old name image) files said → Left old account given plan askable first n files said
     unfolding first_created
-    left_creating n files said left alone = ⊎_elim was (⊎_elim unfinished made) left.both.main
+    left_creating n files said left = ⊎_elim was (⊎_elim unfinished whole) left.has
       where
-        out : IsSaid old (events old account stands plan askable first n) said
+        out : IsSaid old (es n) said
         out = record { part = []; is = left.output ∙ sym (append-nil old.said); front = refl }
 
-        was : Leaves old name (files name) → RunLeft old account (Some name) (events old account stands plan askable first n) files said
+        unasked : (m : List ℕ) → (OfFiles name m → ⊥) → Leaves old m (files m)
+        unasked m other = left.others m (λ e. other (inl e))
+
+        beside : Leaves old (delta_name name) (files (delta_name name))
+        beside = left.others (delta_name name) (no_main name name (base_name name fits.0).plain)
+
+        was : Leaves old name (files name) → Left old account given plan askable first n files said
         was is = record {
           out = out;
           count = 0;
-          front = record { most = omega arith; acknowledged = acked_none (events old account stands plan askable first n) };
-          database_file = inr (record { none = refl; unsaid = acked_in-none (events old account stands plan askable first n); file = inl is });
-          others = alone.others;
-          stands = stands.left files (λ m. elim (decide m name) [ inl e ↦ subst (λ (k : List ℕ). Leaves old k (files k)) (sym e) is | inr other ↦ alone.others m other ]);
+          front = record { most = omega arith; acknowledged = omega (arith, acked_steps_none (es n)) };
+          database = inr (record { none = refl; unsaid = turns_before (es n); main = inl is; delta = beside });
+          others = unasked;
         }
 
-        unfinished : is_free_file (files name) ≡ true → RunLeft old account (Some name) (events old account stands plan askable first n) files said
+        unfinished : is_free_file (files name) ≡ true → Left old account given plan askable first n files said
         unfinished is = record {
           out = out;
           count = 0;
-          front = record { most = omega arith; acknowledged = acked_none (events old account stands plan askable first n) };
-          database_file = inr (record { none = refl; unsaid = acked_in-none (events old account stands plan askable first n); file = inr is });
-          others = alone.others;
-          stands = holds_free old account stands name base.plain (reads name) files alone.others is (stands.free name (free_is ∙ free) (files (delta_name name)) left.both.delta);
+          front = record { most = omega arith; acknowledged = omega (arith, acked_steps_none (es n)) };
+          database = inr (record { none = refl; unsaid = turns_before (es n); main = inr (refl, is); delta = beside });
+          others = unasked;
         }
 
-        made : Shows name (base_of image) (files name) (files (delta_name name)) → RunLeft old account (Some name) (events old account stands plan askable first n) files said
-        made is =
-            let ss : List Stroke = strokes_of (es n) in
-            let shows : Shows name (base_after (base_now first.now) (take 0 ss)) (files name) (files (delta_name name)) =
-            subst (λ (b : Base). Shows name b (files name) (files (delta_name name))) (sym (no_stroke (base_now first.now))) (subst (λ (b : Base). Shows name b (files name) (files (delta_name name))) (sym (created_base account plan askable name base.plain size raw cache first_is free)) is) in
-            record {
-              out = out;
-              count = 1;
-              front = record { most = omega (arith, ap length (whole_strokes plan.first_session first.strokes first.reply (es n))); acknowledged = omega (arith, acked_none (events old account stands plan askable first n)) };
-              database_file = inl (shown_entry files name _ shows ∙ sym (first.then ss (stays n) 0)
-                  ∙ ap (λ (xs : List Stroke). (after name account (take 1 xs)).entry name) (sym (whole_strokes plan.first_session first.strokes first.reply (es n))));
-              others = alone.others;
-              stands = holds_base old account stands name base.plain (reads name) files alone.others (base_after (base_now first.now) (take 0 ss)) ((stays n).well 0) shows;
-            }
+        -- all steps of the creation
+        cut : take (length (steps_in one)) (steps_of (es n)) ≡ steps_in one
+        cut =
+            ap (take (length (steps_in one))) (steps_append (one ∷ []) (later n) ∙ ap (λ (ss : List Step). ss ++ steps_of (later n)) (steps_one one))
+            ∙ take-append-le (length (steps_in one)) (steps_in one) (steps_of (later n)) (omega arith) ∙ take_all (length (steps_in one)) (steps_in one) (omega arith)
+
+        seen : seen_after account name (take (length (steps_in one)) (steps_of (es n))) ≡ settled (base_of image)
+        seen = ap (seen_after account name) cut ∙ first.trail ∙ ap settled (created_base account given plan name size raw cache first_is free)
+
+        whole : ShowsIn name (base_of image) files → Left old account given plan askable first n files said
+        whole is = record {
+          out = out;
+          count = length (steps_in one);
+          front = record {
+            most = omega (arith, steps_length (one ∷ []) (later n), ap length (steps_one one));
+            acknowledged = omega (arith, acked_steps_none (es n));
+          };
+          database = inl (subst (λ (t : Trail). StandsIn name t files) (sym seen) (shows_settled name (base_of image) (files name) (files (delta_name name)) is));
+          others = unasked;
+        }
 
   -- nothing happened, whatever the run must have been
-  pub creating_unbegun : (new : World) (e : Stop) → Quiet old new → RunsTo (Err e) old new (Ok plan) account
+  pub creating_unbegun : (new : World) (e : Stop) → Quiet old new → RunsTo (Err e) old new (Ok plan) account given
   unfolding first_created
   creating_unbegun new e quiet = by (is_free_entry (account.entry name)) refl
     where
-      by : (free : Bool) → is_free_entry (account.entry name) ≡ free → RunsTo (Err e) old new (Ok plan) account
-      by true is = first_fails old account stands plan askable (first is) refl new e (left_quietly old new account stands _ _ quiet)
+      by : (free : Bool) → is_free_entry (account.entry name) ≡ free → RunsTo (Err e) old new (Ok plan) account given
+      by true is = first_fails old account given plan askable (first is) new e (inl (small is)) (λ n. left_quietly old new account _ _ quiet)
       by false is = taken_fails new e is quiet
 
-  module _ (mid : World) (result : Result Opened Fault) (creates : Creates result old mid name image) (apart : Apart old mid name) where
-    creating : (free : is_free_entry (account.entry name) ≡ true) (n : ℕ) → AtEachMoment old mid (RunLeft old account (Some name) (events old account stands plan askable (first free) n))
-    unfolding first_created
-    creating free n = both_hold old mid _ _ _ creates.left.moments apart.moments (λ files said left alone. left_creating free n files said left alone)
+  module _ (mid : World) (result : Result Held Fault) (creates : Creates result old mid name image) where
+    creating : (free : is_free_entry (account.entry name) ≡ true) (n : ℕ) → AtEachMoment old mid (Left old account given plan askable (first free) n)
+    creating free n = weaker old mid _ _ creates.left.moments (left_creating free n)
 
-    pub creates_begins : Beginning old account stands plan askable mid result
+    pub creates_begins : Beginning old account given plan askable mid result
     unfolding first_created
     creates_begins = record { fails = fails; refused = refused; done = done }
       where
-        fails : (e : Stop) → RunsTo (Err e) old mid (Ok plan) account
+        fails : (e : Stop) → RunsTo (Err e) old mid (Ok plan) account given
         fails e = by (is_free_entry (account.entry name)) refl
           where
-            by : (free : Bool) → is_free_entry (account.entry name) ≡ free → RunsTo (Err e) old mid (Ok plan) account
-            by true is = first_fails old account stands plan askable (first is) refl mid e (creating is (statement_count plan.sessions))
-            by false is = taken_fails mid e is (creates.taken (free_is ∙ is))
+            by : (free : Bool) → is_free_entry (account.entry name) ≡ free → RunsTo (Err e) old mid (Ok plan) account given
+            by true is = first_fails old account given plan askable (first is) mid e (inl (small is)) (creating is)
+            by false is = taken_fails mid e is (creates.taken (knows ∙ is))
 
-        refused : (refusal : Refusal) → result ≡ Err (Refused refusal) → FirstRefused old mid account plan refusal
+        refused : (refusal : Refusal) → result ≡ Err (Refused refusal) → FirstRefused old mid account given plan refusal
         refused refusal is =
-            let answer : CreateAnswers (Err (Refused refusal)) old mid name image = subst (λ (r : Result Opened Fault). CreateAnswers r old mid name image) is creates.answer in
+            let answer : CreateAnswers (Err (Refused refusal)) old mid name image = subst (λ (r : Result Held Fault). CreateAnswers r old mid name image) is creates.answer in
             record {
               quiet = creates.taken answer.0;
-              performed = subst (λ (r : Refusal). IsPerformed (Ok plan) account no_given (refused_event plan.first_session r ∷ []) account) (sym answer.1) (taken_performed (sym free_is ∙ answer.0));
+              performed = subst (λ (r : Refusal). IsPerformed (Ok plan) account given (refused_at plan.first_session r) account given) (sym answer.1) (taken_performed (sym knows ∙ answer.0));
               not_usage = λ e. exists_usage (sym answer.1 ∙ e);
             }
           where
             exists_usage : FileExists name ≡ Usage → ⊥
             exists_usage e = cc
 
-        done : (held : Opened) → result ≡ Ok held → DoneLeft old account stands plan askable mid held
+        done : (held : Held) → result ≡ Ok held → FirstDone old mid account given plan askable held
         done held is =
-            let answer : CreateAnswers (Ok held) old mid name image = subst (λ (r : Result Opened Fault). CreateAnswers r old mid name image) is creates.answer in
-            let free : is_free_entry (account.entry name) ≡ true = sym free_is ∙ answer.0 in
+            let answer : IsCreated held old mid name image = subst (λ (r : Result Held Fault). CreateAnswers r old mid name image) is creates.answer in
+            let free : is_free_entry (account.entry name) ≡ true = sym knows ∙ answer.was_free in
+            let one : First account given plan = first free in
+            let base : base_now one.now ≡ base_of image = created_base account given plan name size raw cache first_is free in
             record {
-              done = record {
-                first = first free;
-                says = ap Rattle.nb_model.specs.declared.reply.Reply.TheVariants.Pages (sym (answer.2.count ∙ fresh_length size raw)) ∙ ap (λ (s : Statement). opened_reply s held.count) (sym first_is);
-                allowed = refl;
-                named = answer.1;
-                opened = subst (Rattle.nb_engine.specs.Open.IsOpen mid held) (sym (created_base account plan askable name base.plain size raw cache first_is free)) answer.2;
-                well = well free;
-                alone = apart.now;
-                read = apart.reads;
-                silent = creates.left.silent.said;
+              first = one;
+              says = ap Pages (sym (answer.opened.files.agrees.count ∙ fresh_length size raw)) ∙ ap (λ (s : Statement). opened_reply s held.files.count held.files.state) (sym first_is);
+              ready = record {
+                opened = subst (λ (b : Base). IsOpen mid held (settled b)) (sym base) answer.opened;
+                base = refl;
+                named = answer.named ∙ sym one.name_is;
+                running = answer.nothing_runs ∙ sym one.running;
               };
+              calm = inl (subst (λ (b : Base). Rattle.nb_model.specs.Sound.IsSoundImage b.image) (sym base) (fresh_well_base [] size raw fits.1 fits.2).well.sound);
+              named = answer.named;
+              small = small free;
+              alone = untouched_fewer old mid _ _ creates.left.others (λ m other e. other (inl e));
+              read = λ m other. creates.left.others_read m (λ e. other (inl e));
+              silent = creates.left.said;
+              gave = creates.gave;
               stops = creating free;
             }

@@ -1,70 +1,140 @@
 -- The first reply of a run is said, and then turns are taken.
-use Rattle.std.proofs.Common.{◌≡◌, ℕ, List, ◌++◌, Bool, false, refl, sym, ap}
+use Rattle.std.proofs.Common.{◌≡◌, ℕ, List, [], ◌∷◌, ◌++◌, Bool, false, length, take, refl, sym, ap, subst, ◌∙◌, arith}
 use Rattle.std.specs.Prelude.{Result, Ok, Err}
 use Rattle.std.specs.Result.{IsErr}
+use Rattle.std.proofs.lemmas.List.{take_all}
+use Rattle.nb_host.specs.Files.{Files}
 use Rattle.nb_host.specs.World.{World}
+use Rattle.nb_host.specs.Calls.{IsStill}
+use Rattle.nb_host.specs.Crash.{Untouched}
+use Rattle.nb_host.specs.Moments.{AtEachMoment}
+use Rattle.nb_change.specs.Changes.{Other}
+use Rattle.nb_change.proofs.MomentLaws.{weaker, untouched_fewer}
 use Rattle.nb_model.specs.declared.reply.Reply.{Reply}
 use Rattle.nb_model.specs.declared.statement.Statement.{Statement}
 use Rattle.nb_model.specs.declared.statement.Statement.TheVariants.{OpenDb}
-use Rattle.nb_model.specs.Strokes.{Stroke, base_after}
+use Rattle.nb_model.specs.Account.{Base}
 use Rattle.nb_model.specs.Lines.{line_text}
-use Rattle.nb_model.specs.Output.{status_after}
-use Rattle.nb_model.specs.Run.{Now, base_now, begun, play, rounds}
-use Rattle.nb_model.proofs.OutputLaws.{strokes_one}
-use Rattle.nb_script.specs.Asked.{IsAskable, statement_count}
+use Rattle.nb_model.specs.Output.{output, status_after}
+use Rattle.nb_model.specs.Run.{Event, Now, Played, base_now, begun}
+use Rattle.nb_model.specs.Steps.{after_steps, steps_in, steps_of}
+use Rattle.nb_model.specs.Strokes.{Stroke}
+use Rattle.nb_model.specs.Trail.{Trail, StandsIn, settled}
+use Rattle.nb_model.proofs.OutputLaws.{output_one, status_one}
+use Rattle.nb_model.proofs.StepsLaws.{steps_one, acked_steps_most}
+use Rattle.nb_base.specs.Open.{OfFiles}
+use Rattle.nb_state.specs.Open.{Held, name_of}
+use Rattle.nb_script.specs.Asked.{IsAskable}
 use Rattle.nb_script.specs.Scripts.{Plan}
-use Rattle.nb_engine.specs.declared.opened.Opened.{Opened}
 use Rattle.nb_session.specs.declared.stop.Stop.{Stop}
-use Rattle.nb_session.specs.Says.{SaysLine}
-use Rattle.nb_session.specs.Stops.{IsReady}
+use Rattle.nb_session.specs.Ready.{IsReady}
+use Rattle.nb_session.specs.Says.{FrontSaid, SaysLine}
+use Rattle.nb_session.specs.Stops.{StopLeft, Plays}
 use Rattle.nb_session.specs.Todo.{PlaysWhole}
-use Rattle.nb_session.proofs.EventLaws.{line_said, line_unsaid, open_still, said_played}
-use Rattle.nb_session.proofs.PlayLaws.{IsAfter, plays_then, plays_failed, plays_cut}
-use Rattle.nb_top.specs.Performed.{PlaysOpened, opened_reply}
-use Rattle.nb_top.proofs.FirstLaws.{turns_finish}
-
--- it is no refusal
-pub opened_fine : (first : Statement) (pages : ℕ) → status_after (opened_reply first pages) ≡ 0
-opened_fine (OpenDb name cache) pages = refl
-opened_fine other pages = refl
+use Rattle.nb_session.proofs.EventLaws.{open_stays}
+use Rattle.nb_session.proofs.GiftLaws.{given_nothing}
+use Rattle.nb_session.proofs.PlayLaws.{plays_then, plays_failed, plays_cut}
+use Rattle.nb_top.specs.Performed.{PlaysOpened, first_event}
+use Rattle.nb_session.proofs.EndLaws.{HasEnd, turns_end}
+use Rattle.nb_top.proofs.FirstLaws.{turns}
+use Rattle.nb_top.proofs.RefusedRuns.{take_self}
 
 -- a result that is a failure
-pub opened_err : (result : Result Bool Stop) (old new : World) (before after : Opened) (now : Now) (plan : Plan) (reply : Reply) → IsErr result → ((e : Stop) → PlaysOpened (Err e) old new before after now plan reply) → PlaysOpened result old new before after now plan reply
-opened_err (Ok x) old new before after now plan reply is plays = absurd (no_err is)
+pub opened_err : (result : Result Bool Stop) (P : Result Bool Stop → Type 0) → IsErr result → ((e : Stop) → P (Err e)) → P result
+opened_err (Ok x) P is plays = absurd (no_err is)
   where
     no_err : IsErr {T = Bool} {E = Stop} (Ok x) → ⊥
     no_err h = cc
-opened_err (Err e) old new before after now plan reply is plays = plays e
+opened_err (Err e) P is plays = plays e
 
-module _ (old mid new : World) (held after : Opened) (now : Now) (plan : Plan) (askable : IsAskable plan) (ready : IsReady old held now) (todo : now.todo ≡ begun plan.sessions) (reply : Reply)
+-- what stands ready stays so while something is said
+pub ready_still : (old mid : World) (held : Held) (now : Now) → IsStill old mid → IsReady old held (settled (base_now now)) now → IsReady mid held (settled (base_now now)) now
+ready_still old mid held now still ready = record { opened = open_stays old mid held (settled (base_now now)) still ready.opened; base = ready.base; named = ready.named; running = ready.running }
+
+module _ (old mid new : World) (held after : Held) (start : Base) (now : Now) (plan : Plan) (askable : IsAskable plan) (ready : IsReady old held (settled (base_now now)) now) (todo : now.todo ≡ begun plan.sessions)
+    (strokes : List Stroke) (reply : Reply) (trail : after_steps (settled start) (steps_in (first_event plan.first_session strokes reply)) ≡ settled (base_now now))
     {S E : Type 0} (told : Result S E) (says : SaysLine told old mid (line_text plan.first_session reply)) where
-  -- the line wasn't said whole
-  pub reply_unsaid : (e : Stop) → PlaysOpened (Err e) old mid held held now plan reply
-  reply_unsaid e =
-      let n : ℕ = statement_count plan.sessions in
+  abbrev event : Event
+  event = first_event plan.first_session strokes reply
+
+  abbrev line : List ℕ
+  line = line_text plan.first_session reply
+
+  abbrev one : Played
+  one = (event ∷ [], now)
+
+  output_is : output (event ∷ []) ≡ line
+  output_is = output_one event reply refl
+
+  trail_is : after_steps (settled start) (steps_of (event ∷ [])) ≡ settled (base_now now)
+  trail_is = ap (after_steps (settled start)) (steps_one event) ∙ trail
+
+  all_steps : settled (base_now now) ≡ after_steps (settled start) (take (length (steps_of (event ∷ []))) (steps_of (event ∷ [])))
+  all_steps = sym trail_is ∙ ap (after_steps (settled start)) (sym (take_all (length (steps_of (event ∷ []))) (steps_of (event ∷ [])) (omega arith)))
+
+  -- while the line is said
+  saying : (files : Files) (said : List ℕ) → FrontSaid old line files said → StopLeft old (name_of held) (settled start) (event ∷ []) files said
+  saying files said front =
+      let part : List ℕ = take front.count line in
       record {
-        how_often = n;
-        plays = plays_cut old mid held held now (said_played old mid held now plan.first_session reply told says ready) (play (plan.schedule ++ rounds n) now).0 (play (plan.schedule ++ rounds n) now).1 e
-            (line_unsaid old mid held now plan.first_session reply told says ready e);
-        finished = turns_finish plan askable now todo;
+        out = record { part = part; is = front.is; front = take_self front.count line ∙ ap (take (length part)) (sym output_is) };
+        count = length (steps_of (event ∷ []));
+        front = record { most = omega arith; acknowledged = acked_steps_most (event ∷ []) (length part) };
+        database = subst (λ (t : Trail). StandsIn (name_of held) t files) all_steps (ready.opened.files.left files front.left);
+        others = λ m other. front.left m;
       }
 
-  pub ready_mid : IsReady mid held now
-  ready_mid = record { opened = open_still old mid held (base_now now) says.still ready.opened; well = ready.well }
+  stops : AtEachMoment old mid (StopLeft old (name_of held) (settled start) (event ∷ []))
+  stops = weaker old mid _ _ says.moments saying
 
-  no_strokes : IsAfter now (said_played old mid held now plan.first_session reply told says ready)
-  unfolding base_after
-  no_strokes = record { is = ap (λ (ss : List Stroke). base_after (base_now now) ss) (sym (strokes_one _)) }
+  untouched : Untouched old mid (Other (OfFiles (name_of held)))
+  untouched = untouched_fewer old mid _ _ says.still.left (λ m other. tt)
+
+  -- the line wasn't said whole
+  pub reply_unsaid : (e : Stop) → PlaysOpened (Err e) old mid held held start event now plan
+  reply_unsaid e =
+      let end : HasEnd plan.schedule now 0 = turns_end plan askable now todo 0 in
+      record {
+        how_often = end.how_often;
+        plays = plays_cut old mid held held (settled start) now one (turns plan now end.how_often).0 (turns plan now end.how_often).1 e
+            (record { stops = stops; others = untouched; others_read = λ m other. ap (λ (f : Files). f m) says.still.files; name = refl; done = tt });
+        finished = end.finished;
+      }
+
+  pub ready_mid : IsReady mid held (settled (base_now now)) now
+  ready_mid = ready_still old mid held now says.still ready
+
+  -- it was
+  reply_said : status_after reply ≡ 0 → mid.said ≡ old.said ++ line → Plays (Ok false) old mid held held (settled start) now one
+  reply_said fine said = record {
+    stops = stops;
+    others = untouched;
+    others_read = λ m other. ap (λ (f : Files). f m) says.still.files;
+    name = refl;
+    done = record {
+      ready = subst (λ (t : Trail). IsReady mid held t now) (sym trail_is) ready_mid;
+      said = said ∙ ap (λ (l : List ℕ). old.said ++ l) (sym output_is);
+      status = status_one event reply refl ∙ fine;
+      given = given_nothing old mid now.given now.given says.gave refl;
+    };
+  }
 
   -- turns behind it
-  pub reply_said_then : status_after reply ≡ 0 → mid.said ≡ old.said ++ line_text plan.first_session reply → (result : Result Bool Stop) → PlaysWhole result mid new held after now plan.schedule → PlaysOpened result old new held after now plan reply
+  pub reply_said_then : status_after reply ≡ 0 → mid.said ≡ old.said ++ line → (result : Result Bool Stop) → PlaysWhole result mid new held after (settled (base_now now)) now plan.schedule → PlaysOpened result old new held after start event now plan
   reply_said_then fine said (Ok refused) whole = record {
     how_often = whole.how_often;
-    plays = plays_then old mid new held held after now _ _ no_strokes false refused (line_said old mid held now plan.first_session reply told says ready said fine) whole.plays;
+    plays = plays_then old mid new held held after (settled start) now one (turns plan now whole.how_often) false refused (reply_said fine said)
+        (subst (λ (t : Trail). Plays (Ok refused) mid new held after t now (turns plan now whole.how_often)) (sym trail_is) whole.plays);
     finished = whole.finished;
   }
   reply_said_then fine said (Err e) whole = record {
     how_often = whole.how_often;
-    plays = plays_failed old mid new held held after now _ _ no_strokes false e (line_said old mid held now plan.first_session reply told says ready said fine) whole.plays;
+    plays = plays_failed old mid new held held after (settled start) now one (turns plan now whole.how_often) false e (reply_said fine said)
+        (subst (λ (t : Trail). Plays (Err e) mid new held after t now (turns plan now whole.how_often)) (sym trail_is) whole.plays);
     finished = whole.finished;
   }
+
+-- no reply of a database that is open is a refusal
+pub opened_fine : (first : Statement) (pages state : ℕ) → status_after (Rattle.nb_top.specs.Performed.opened_reply first pages state) ≡ 0
+opened_fine (OpenDb name cache) pages state = refl
+opened_fine other pages state = refl

@@ -1,52 +1,88 @@
 -- A run that begins with calls that change nothing.
-use Rattle.std.proofs.Common.{◌≡◌, ℕ, List, ◌++◌, true, sym, ap, subst, ◌∙◌}
+use Rattle.std.proofs.Common.{inl, inr, ⊎_elim, ℕ, List, [], ◌++◌, sym, ap, subst, ◌∙◌, refl}
 use Rattle.std.specs.Prelude.{Result, Ok, Err, IfOk, Option}
 use Rattle.nb_host.specs.Files.{Files}
 use Rattle.nb_host.specs.World.{World}
 use Rattle.nb_host.specs.Moments.{AtEachMoment}
 use Rattle.nb_host.specs.declared.refusals.Refusal.{Refusal}
-use Rattle.nb_host.specs.Calls.{IsStill}
-use Rattle.nb_change.proofs.MomentLaws.{joined, weaker, left_before}
-use Rattle.nb_page.specs.Free.{is_free_name}
+use Rattle.nb_change.specs.Gave.{GaveNothing}
+use Rattle.nb_change.proofs.MomentLaws.{joined, weaker}
 use Rattle.nb_page.specs.Quiet.{Quiet}
+use Rattle.nb_page.proofs.QuietLemmas.{quiet_joined}
 use Rattle.nb_model.specs.Account.{Account}
-use Rattle.nb_model.specs.Owner.{delta_name}
-use Rattle.nb_model.specs.Stands.{Stands}
-use Rattle.nb_model.specs.Run.{Event}
+use Rattle.nb_model.specs.Gifts.{Foretells, WasGiven}
+use Rattle.nb_model.specs.Outcomes.{Given}
 use Rattle.nb_model.specs.Output.{output}
+use Rattle.nb_model.specs.Run.{Event}
 use Rattle.nb_script.specs.Scripts.{Plan}
 use Rattle.nb_session.specs.declared.stop.Stop.{Stop}
+use Rattle.nb_session.proofs.GiftLaws.{given_nothing, given_joined}
 use Rattle.nb_top.specs.declared.status.Status.{Status}
-use Rattle.nb_top.specs.Performed.{RunLeft, RunsTo, Finished, StandsFor, database_of}
+use Rattle.nb_top.specs.Performed.{RunLeft, RunsTo, Finished, IsUndone, Knows, Target, target_of}
 use Rattle.nb_top.proofs.LeftLaws.{left_first, left_before_all}
 
--- where no file changes, what stood stands
-pub stands_still : (old mid : World) (account : Account) → IsStill old mid → StandsFor old account → StandsFor mid account
-stands_still old mid account still stands = record {
-  now = subst (λ (f : Files). Stands f account) (sym still.files) stands.now;
-  left = λ files left. stands.left files (λ n. left_before old mid _ still.left n (files n) tt (left n));
-  free = λ n free d left. stands.free n (subst (λ (f : Files). is_free_name f n ≡ true) still.files free) d (left_before old mid _ still.left (delta_name n) d tt left);
+-- nothing may be given
+abbrev pub no_given : Given
+no_given = record { guids = []; times = []; holds = [] }
+
+-- nothing was given
+pub quiet_gave : (old mid : World) → Quiet old mid → GaveNothing old mid
+quiet_gave old mid quiet = record { guids = quiet.guids; times = quiet.times }
+
+-- what is foretold is foretold behind calls that ask for nothing
+pub foretold_from : (old mid new : World) (given : Given) → GaveNothing old mid → Foretells given old new → Foretells given mid new
+foretold_from old mid new given none told = record {
+  ids = told.ids;
+  later_ids = told.later_ids;
+  clock = told.clock;
+  later_clock = told.later_clock;
+  guids = told.guids ∙ ap (λ (l : List (List ℕ)). l ++ told.ids) (sym none.guids);
+  guids_first = told.guids_first;
+  times = told.times ∙ ap (λ (l : List ℕ). l ++ told.clock) (sym none.times);
+  times_first = told.times_first;
 }
 
-pub stands_quietly : (old mid : World) (account : Account) → Quiet old mid → StandsFor old account → StandsFor mid account
-stands_quietly old mid account quiet stands = stands_still old mid account quiet.still stands
+-- and what was given then was given in all
+pub given_from : (old mid new : World) (given left : Given) → GaveNothing old mid → WasGiven mid new given left → WasGiven old new given left
+given_from old mid new given left none gave = given_joined old mid new given given left (given_nothing old mid given given none refl) gave
 
-finished_quietly : (result : Result Status Stop) (old mid new : World) (events : List Event) (last : Account) → Quiet old mid → IfOk result (λ status. Finished status mid new events last) → IfOk result (λ status. Finished status old new events last)
-finished_quietly (Ok status) old mid new events last quiet done = record { said = done.said ∙ ap (λ (l : List ℕ). l ++ output events) quiet.said; ended = done.ended; files = done.files }
-finished_quietly (Err e) old mid new events last quiet done = tt
+-- where no file changes, the account knows of them what it knew
+pub knows_quietly : (old mid : World) (account : Account) (asked : Result Plan Refusal) → Quiet old mid → Knows old.files account asked → Knows mid.files account asked
+knows_quietly old mid account asked quiet knows = subst (λ (f : Files). Knows f account asked) (sym quiet.still.files) knows
 
-pub runs_quietly : (result : Result Status Stop) (old mid new : World) (asked : Result Plan Refusal) (account : Account) → StandsFor old account → Quiet old mid → RunsTo result mid new asked account → RunsTo result old new asked account
-runs_quietly result old mid new asked account stands quiet runs = record {
-  given = runs.given;
+module _ (old mid new : World) (account : Account) (target : Option Target) (events : List Event) (quiet : Quiet old mid) where
+  finished_quietly : (result : Result Status Stop) (given left : Given) → IfOk result (λ status. Finished status mid new account target events given left) → IfOk result (λ status. Finished status old new account target events given left)
+  finished_quietly (Ok status) given left done = record {
+    said = done.said ∙ ap (λ (l : List ℕ). l ++ output events) quiet.said;
+    ended = done.ended;
+    gave = given_from old mid new given left (quiet_gave old mid quiet) done.gave;
+    database = done.database;
+    others = λ m unasked. done.others m unasked ∙ ap (λ (f : Files). f m) quiet.still.files;
+  }
+  finished_quietly (Err e) given left done = tt
+
+  stops_quietly : AtEachMoment mid new (RunLeft mid account target events) → AtEachMoment old new (RunLeft old account target events)
+  stops_quietly stops =
+      joined old mid new _ _ _ quiet.moments stops
+      (λ files said is. left_first old account target events files said is)
+      (λ files said left. left_before_all old mid quiet.still.left quiet.said account target events files said left)
+
+-- nothing was done before or behind them
+undone_quietly : (old mid new : World) (result : Result Status Stop) → Quiet old mid → IsUndone result mid new → IsUndone result old new
+undone_quietly old mid new (Ok status) quiet undone = undone
+undone_quietly old mid new (Err e) quiet undone = quiet_joined old mid new quiet undone
+
+pub runs_quietly : (result : Result Status Stop) (old mid new : World) (asked : Result Plan Refusal) (account : Account) (given : Given) → Quiet old mid → RunsTo result mid new asked account given → RunsTo result old new asked account given
+runs_quietly result old mid new asked account given quiet runs = record {
   events = runs.events;
   last = runs.last;
+  left = runs.left;
   performed = runs.performed;
-  stops = joined old mid new _ _ _ quiet.moments runs.stops
-      (λ files said is. left_first old account stands (database_of asked runs.events) runs.events files said is)
-      (λ files said left. left_before_all old mid quiet.still.left quiet.said account (database_of asked runs.events) runs.events files said left);
-  finished = finished_quietly result old mid new runs.events runs.last quiet runs.finished;
+  opened = ⊎_elim inl (λ undone. inr (undone_quietly old mid new result quiet undone)) runs.opened;
+  stops = stops_quietly old mid new account (target_of asked runs.events) runs.events quiet runs.stops;
+  finished = finished_quietly old mid new account (target_of asked runs.events) runs.events quiet result given runs.left runs.finished;
 }
 
 -- and nothing else happens: whatever the run must have been, nothing of it has happened
-pub left_quietly : (old new : World) (account : Account) → StandsFor old account → (database : Option (List ℕ)) (events : List Event) → Quiet old new → AtEachMoment old new (RunLeft old account database events)
-left_quietly old new account stands database events quiet = weaker old new _ _ quiet.moments (λ files said is. left_first old account stands database events files said is)
+pub left_quietly : (old new : World) (account : Account) (target : Option Target) (events : List Event) → Quiet old new → AtEachMoment old new (RunLeft old account target events)
+left_quietly old new account target events quiet = weaker old new _ _ quiet.moments (λ files said is. left_first old account target events files said is)

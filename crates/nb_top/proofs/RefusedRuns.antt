@@ -1,6 +1,6 @@
 -- A run that is refused at once.
-use Rattle.std.proofs.Common.{◌≡◌, ℕ, List, [], ◌∷◌, ◌++◌, length, take, refl, sym, ap, subst, ◌∙◌, arith}
-use Rattle.std.specs.Prelude.{Result, Ok, Err, IfOk, OnOk, Option, None, Some, true}
+use Rattle.std.proofs.Common.{◌≡◌, inl, ℕ, zero, suc, List, [], ◌∷◌, ◌++◌, length, take, refl, sym, ap, subst, ◌∙◌, arith}
+use Rattle.std.specs.Prelude.{Result, Ok, Err, IfOk, OnOk, Option, None}
 use Rattle.nb_host.specs.Files.{Files}
 use Rattle.nb_host.specs.World.{World}
 use Rattle.nb_host.specs.Moments.{AtEachMoment}
@@ -11,33 +11,32 @@ use Rattle.nb_model.specs.Account.{Account}
 use Rattle.nb_model.specs.Lines.{line_text}
 use Rattle.nb_model.specs.Outcomes.{Given}
 use Rattle.nb_model.specs.Run.{Event}
+use Rattle.nb_model.specs.Steps.{steps_of}
 use Rattle.nb_model.specs.Output.{status_after}
-use Rattle.nb_model.proofs.OutputLaws.{acked_most_strokes, strokes_one, output_one, status_one}
+use Rattle.nb_model.proofs.OutputLaws.{output_one, status_one}
+use Rattle.nb_model.proofs.StepsLaws.{acked_steps_most}
 use Rattle.nb_script.specs.Scripts.{Plan}
 use Rattle.nb_session.specs.declared.stop.Stop.{Stop}
 use Rattle.nb_session.specs.Says.{FrontSaid, SaysLine}
-use Rattle.nb_session.proofs.EventLaws.{take_self}
+use Rattle.nb_session.proofs.GiftLaws.{given_nothing}
 use Rattle.nb_top.specs.declared.status.Status.{Status}
-use Rattle.nb_top.proofs.QuietRuns.{stands_still}
-use Rattle.nb_top.specs.Performed.{RunLeft, RunsTo, Finished, StandsFor, IsPerformed, database_of, number_of}
+use Rattle.nb_top.specs.Performed.{RunLeft, RunsTo, Finished, HasSmallScn, IsPerformed, Target, first_event, target_of, number_of}
 
--- nothing is given
-abbrev pub no_given : Given
-no_given = record { guids = []; times = []; holds = [] }
+-- what is taken of a list is a front of it
+pub take_self : (n : ℕ) (l : List ℕ) → take n l ≡ take (length (take n l)) l
+take_self zero l = refl
+take_self (suc n) [] = refl
+take_self (suc n) (x ∷ l) = ap (λ (k : List ℕ). x ∷ k) (take_self n l)
 
--- a refusal of that session
-abbrev pub refused_event : (session : ℕ) → Refusal → Event
-refused_event session refusal = record { session = session; strokes = []; reply = Some (Refused refusal); made = None; syncs = true }
-
-module _ (old new : World) (session : ℕ) (refusal : Refusal) (account : Account) (asked : Result Plan Refusal) (stands : StandsFor old account) where
+module _ (old new : World) (session : ℕ) (refusal : Refusal) (account : Account) (given : Given) (asked : Result Plan Refusal) where
   abbrev event : Event
-  event = refused_event session refusal
+  event = first_event session [] (Refused refusal)
 
   -- no database is asked for
-  none_asked : database_of asked (event ∷ []) ≡ None
+  none_asked : target_of asked (event ∷ []) ≡ None
   none_asked = by asked
     where
-      by : (a : Result Plan Refusal) → database_of a (event ∷ []) ≡ None
+      by : (a : Result Plan Refusal) → target_of a (event ∷ []) ≡ None
       by (Ok plan) = refl
       by (Err r) = refl
 
@@ -47,29 +46,31 @@ module _ (old new : World) (session : ℕ) (refusal : Refusal) (account : Accoun
       let part : List ℕ = take front.count (line_text session (Refused refusal)) in
       record {
         out = record { part = part; is = front.is; front = take_self front.count (line_text session (Refused refusal)) ∙ ap (take (length part)) (sym (output_one event (Refused refusal) refl)) };
-        count = 0;
-        front = record { most = omega arith; acknowledged = omega (arith, acked_most_strokes (event ∷ []) (length part), ap length (strokes_one event)) };
-        database_file = tt;
+        count = length (steps_of (event ∷ []));
+        front = record { most = omega arith; acknowledged = acked_steps_most (event ∷ []) (length part) };
+        database = tt;
         others = λ m unasked. front.left m;
-        stands = stands.left files front.left;
       }
 
-  refused_finished : (result : Result Status Stop) → IfOk result (λ status. number_of status ≡ status_after (Refused refusal)) → OnOk result (new.said ≡ old.said ++ line_text session (Refused refusal)) → StandsFor new account
-      → IfOk result (λ status. Finished status old new (event ∷ []) account)
-  refused_finished (Ok status) number said after = record {
+  refused_finished : {S E : Type 0} (told : Result S E) (result : Result Status Stop) → SaysLine told old new (line_text session (Refused refusal)) → IfOk result (λ status. number_of status ≡ status_after (Refused refusal))
+      → OnOk result (new.said ≡ old.said ++ line_text session (Refused refusal)) → IfOk result (λ status. Finished status old new account None (event ∷ []) given given)
+  refused_finished told (Ok status) says number said = record {
     said = said ∙ ap (λ (l : List ℕ). old.said ++ l) (sym (output_one event (Refused refusal) refl));
     ended = number ∙ sym (status_one event (Refused refusal) refl);
-    files = after;
+    gave = given_nothing old new given given says.gave refl;
+    database = tt;
+    others = λ m unasked. ap (λ (f : Files). f m) says.still.files;
   }
-  refused_finished (Err e) number said after = tt
+  refused_finished told (Err e) says number said = tt
 
-  pub refused_runs : {S E : Type 0} (told : Result S E) (result : Result Status Stop) → IsPerformed asked account no_given (event ∷ []) account → SaysLine told old new (line_text session (Refused refusal))
-      → IfOk result (λ status. number_of status ≡ status_after (Refused refusal)) → OnOk result (new.said ≡ old.said ++ line_text session (Refused refusal)) → RunsTo result old new asked account
+  pub refused_runs : {S E : Type 0} (told : Result S E) (result : Result Status Stop) → IsPerformed asked account given (event ∷ []) account given → SaysLine told old new (line_text session (Refused refusal))
+      → IfOk result (λ status. number_of status ≡ status_after (Refused refusal)) → OnOk result (new.said ≡ old.said ++ line_text session (Refused refusal)) → RunsTo result old new asked account given
   refused_runs told result performed says number said = record {
-    given = no_given;
     events = event ∷ [];
     last = account;
+    left = given;
     performed = performed;
-    stops = subst (λ (d : Option (List ℕ)). AtEachMoment old new (RunLeft old account d (event ∷ []))) (sym none_asked) (weaker old new _ _ says.moments refused_left);
-    finished = refused_finished result number said (stands_still old new account says.still stands);
+    opened = inl (subst (HasSmallScn account) (sym none_asked) tt);
+    stops = subst (λ (d : Option Target). AtEachMoment old new (RunLeft old account d (event ∷ []))) (sym none_asked) (weaker old new _ _ says.moments refused_left);
+    finished = subst (λ (d : Option Target). IfOk result (λ status. Finished status old new account d (event ∷ []) given given)) (sym none_asked) (refused_finished told result says number said);
   }

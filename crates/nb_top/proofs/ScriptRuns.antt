@@ -1,26 +1,26 @@
 -- A script is run, from its first statement on.
-use Rattle.std.proofs.Common.{◌≡◌, ℕ, List, true, false, refl, ap, subst}
-use Rattle.std.specs.Prelude.{◌<◌, Some, Result, Ok, Err, IfOk, IfErr}
+use Rattle.std.proofs.Common.{◌≡◌, ℕ, ◌<◌, List, true, false, refl, subst}
+use Rattle.std.specs.Prelude.{Result, Ok, Err, IfOk, IfErr}
 use Rattle.std.specs.Result.{IsErr}
 use Rattle.nb_fields.specs.Fresh.{fresh}
 use Rattle.nb_host.specs.World.{World}
-use Rattle.nb_host.specs.Crash.{Leaves}
 use Rattle.nb_host.specs.declared.faults.Fault.{Fault}
 use Rattle.nb_host.specs.declared.refusals.Refusal.{Refusal}
-use Rattle.nb_change.specs.Apart.{Apart}
+use Rattle.nb_change.specs.Gave.{GaveNothing}
 use Rattle.nb_page.specs.Quiet.{Quiet}
 use Rattle.nb_model.specs.declared.statement.Statement.{Statement}
 use Rattle.nb_model.specs.declared.statement.Statement.TheVariants.{CreateDb, OpenDb}
 use Rattle.nb_model.specs.Account.{Account}
+use Rattle.nb_model.specs.Outcomes.{Given}
+use Rattle.nb_state.specs.Beginnings.{Attaches, Creates}
+use Rattle.nb_state.specs.Open.{Held}
 use Rattle.nb_script.specs.Asked.{IsFirst, IsAskable}
 use Rattle.nb_script.specs.Scripts.{Plan}
-use Rattle.nb_engine.specs.declared.opened.Opened.{Opened}
-use Rattle.nb_engine.specs.Attach.{Attaches}
-use Rattle.nb_engine.specs.Create.{Creates}
 use Rattle.nb_session.specs.declared.stop.Stop.{Stop}
 use Rattle.nb_top.specs.declared.status.Status.{Status}
-use Rattle.nb_top.specs.Performed.{RunsTo, StandsFor, database_named}
+use Rattle.nb_top.specs.Performed.{RunsTo, Knows, KnowsFirst}
 use Rattle.nb_top.proofs.Beginnings.{Beginning}
+use Rattle.nb_top.proofs.QuietRuns.{quiet_gave}
 use Rattle.nb_top.proofs.CreatingRuns.{creates_begins, creating_unbegun}
 use Rattle.nb_top.proofs.ReopeningRuns.{attaches_begins, open_fails}
 
@@ -47,32 +47,42 @@ pub data Opens (statement : Statement) : Type 0 where
   creates : (name : List ℕ) (size raw cache : ℕ) → statement ≡ CreateDb name size raw cache → Opens statement
   opens : (name : List ℕ) (cache : ℕ) → statement ≡ OpenDb name cache → Opens statement
 
-first_opens : (statement : Statement) → IsFirst statement → Opens statement
+pub first_opens : (statement : Statement) → IsFirst statement → Opens statement
 first_opens (CreateDb name size raw cache) first = creates name size raw cache refl
 first_opens (OpenDb name cache) first = opens name cache refl
 first_opens other first = absurd (false_true first.opens)
 
-module _ (old : World) (account : Account) (stands : StandsFor old account) (reads : (m : List ℕ) → Leaves old m (old.files m)) (plan : Plan) (askable : IsAskable plan) where
+module _ (old : World) (account : Account) (given : Given) (plan : Plan) (askable : IsAskable plan) (knows : Knows old.files account (Ok plan)) where
+  knows_first : (first : Statement) → plan.first ≡ first → KnowsFirst old.files account first
+  knows_first first is = subst (λ (s : Statement). KnowsFirst old.files account s) is knows
+
   -- nothing happened
-  pub script_unbegun : (new : World) (e : Stop) → Quiet old new → RunsTo (Err e) old new (Ok plan) account
+  pub script_unbegun : (new : World) (e : Stop) → Quiet old new → RunsTo (Err e) old new (Ok plan) account given
   script_unbegun new e quiet = by (first_opens plan.first askable.first)
     where
-      by : Opens plan.first → RunsTo (Err e) old new (Ok plan) account
-      by (creates name size raw cache is) = creating_unbegun old account stands reads plan askable name size raw cache is new e quiet
-      by (opens name cache is) = open_fails old account stands plan askable name cache is new e quiet
+      by : Opens plan.first → RunsTo (Err e) old new (Ok plan) account given
+      by (creates name size raw cache is) = creating_unbegun old account given plan askable name size raw cache is (knows_first (CreateDb name size raw cache) is) new e quiet
+      by (opens name cache is) = open_fails old account given plan askable name cache is (knows_first (OpenDb name cache) is) new e quiet
 
-  -- the call of the first statement
-  pub script_begins : (mid : World) (result : Result Opened Fault)
+  -- the call of the first statement asks for no GUID and no time
+  pub first_gave : (mid : World) (result : Result Held Fault)
+      → ((name : List ℕ) (size raw cache : ℕ) → plan.first ≡ CreateDb name size raw cache → Creates result old mid name (fresh size raw))
+      → ((name : List ℕ) (cache : ℕ) → plan.first ≡ OpenDb name cache → Quiet old mid) → GaveNothing old mid
+  first_gave mid result creating quiet = by (first_opens plan.first askable.first)
+    where
+      by : Opens plan.first → GaveNothing old mid
+      by (creates name size raw cache is) = (creating name size raw cache is).gave
+      by (opens name cache is) = quiet_gave old mid (quiet name cache is)
+
+  -- what it gives to the run
+  pub script_begins : (mid : World) (result : Result Held Fault)
       → ((name : List ℕ) (size raw cache : ℕ) → plan.first ≡ CreateDb name size raw cache → Creates result old mid name (fresh size raw))
       → ((name : List ℕ) (cache : ℕ) → plan.first ≡ OpenDb name cache → Attaches result old mid name)
-      → ((name : List ℕ) → database_named plan.first ≡ Some name → Apart old mid name)
+      → ((name : List ℕ) (cache : ℕ) → plan.first ≡ OpenDb name cache → Quiet old mid)
       → IfOk result (λ held. held.scn < 4294967296)
-      → Beginning old account stands plan askable mid result
-  script_begins mid result creating attaching apart scn = by (first_opens plan.first askable.first)
+      → Beginning old account given plan askable mid result
+  script_begins mid result creating attaching quiet scn = by (first_opens plan.first askable.first)
     where
-      low : (held : Opened) → result ≡ Ok held → held.scn < 4294967296
-      low held is = subst (λ (r : Result Opened Fault). IfOk r (λ x. x.scn < 4294967296)) is scn
-
-      by : Opens plan.first → Beginning old account stands plan askable mid result
-      by (creates name size raw cache is) = creates_begins old account stands reads plan askable name size raw cache is mid result (creating name size raw cache is) (apart name (ap database_named is))
-      by (opens name cache is) = attaches_begins old account stands plan askable name cache is mid result (attaching name cache is) (apart name (ap database_named is)) low
+      by : Opens plan.first → Beginning old account given plan askable mid result
+      by (creates name size raw cache is) = creates_begins old account given plan askable name size raw cache is (knows_first (CreateDb name size raw cache) is) mid result (creating name size raw cache is)
+      by (opens name cache is) = attaches_begins old account given plan askable name cache is (knows_first (OpenDb name cache) is) mid result (attaching name cache is) (quiet name cache is) scn

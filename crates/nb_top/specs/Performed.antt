@@ -1,50 +1,68 @@
--- What a run must do: the events of the job that the words name, and the account after.
-use Rattle.std.specs.Prelude.{◌≡◌, ◌≢◌, ◌⊎◌, ℕ, List, [], ◌∷◌, ◌++◌, length, take, Bool, true, false, not, ◌==◌, Option, None, Some, Result, Ok, Err, IfOk}
+-- What a run promises, from the words of the command line to its last reply.
+--
+-- The words ask for a script, or for a refusal. The script tells the events of the run one by one: whose turn, which strokes, which reply.
+-- Whatever stops the run, at each moment a front of its lines was said, and both files of its database can be opened and hold what may be
+-- left behind a front of its steps, with each acknowledged one among them. No other file changes. At its end all lines were said and all
+-- steps stand. Where the files stood for an account with the records of its backups, and the GUIDs that the outside gives are new, they
+-- stand for one at each moment, with the records of the backups that have begun by then.
+use Rattle.std.specs.Prelude.{◌≡◌, ◌≢◌, ◌⊎◌, ℕ, ◌<◌, List, [], ◌∷◌, ◌++◌, length, take, Bool, true, false, Option, None, Some, Result, Ok, Err, IfOk}
 use Rattle.std.specs.Global.{Vec}
 use Rattle.nb_fields.specs.Free.{is_free_file}
-use Rattle.nb_fields.specs.Header.{state_of}
 use Rattle.nb_host.specs.Files.{File, Files}
+use Rattle.nb_host.specs.Names.{is_delta}
 use Rattle.nb_host.specs.World.{World}
 use Rattle.nb_host.specs.Crash.{Leaves, LeavesAll}
 use Rattle.nb_host.specs.Moments.{AtEachMoment}
 use Rattle.nb_host.specs.declared.faults.Fault.{Fault}
 use Rattle.nb_host.specs.declared.faults.Fault.TheVariants.{Refused as RefusedFault, Device as DeviceFault, Memory as MemoryFault}
 use Rattle.nb_host.specs.declared.refusals.Refusal.{Refusal}
-use Rattle.nb_host.specs.declared.refusals.Refusal.TheVariants.{Usage, NoFile, Unfinished}
+use Rattle.nb_host.specs.declared.refusals.Refusal.TheVariants.{Usage, NoFile}
+use Rattle.nb_change.specs.Changes.{Other}
+use Rattle.nb_page.specs.Free.{is_free_name}
+use Rattle.nb_page.specs.Quiet.{Quiet}
+use Rattle.nb_model.specs.declared.job.Job.{Job}
+use Rattle.nb_model.specs.declared.job.Job.TheVariants.{Run}
 use Rattle.nb_model.specs.declared.reply.Reply.{Reply}
 use Rattle.nb_model.specs.declared.reply.Reply.TheVariants.{Refused, Pages, Opened as OpenedReply}
 use Rattle.nb_model.specs.declared.statement.Statement.{Statement}
 use Rattle.nb_model.specs.declared.statement.Statement.TheVariants.{CreateDb, OpenDb}
-use Rattle.nb_model.specs.Image.{image_state}
-use Rattle.nb_model.specs.Account.{Kept, Entry, Missing, Plain, IsBase, Account}
-use Rattle.nb_model.specs.Causes.{not_database}
-use Rattle.nb_model.specs.Strokes.{after}
-use Rattle.nb_model.specs.Owner.{delta_name, entry_in}
+use Rattle.nb_model.specs.Account.{Kept, Base, IsBase, Account}
+use Rattle.nb_model.specs.Causes.{is_free_entry}
+use Rattle.nb_model.specs.Gifts.{WasGiven}
+use Rattle.nb_model.specs.Image.{image_scn}
+use Rattle.nb_model.specs.NewGuids.{AreNew, guids_in}
 use Rattle.nb_model.specs.Outcomes.{Given}
-use Rattle.nb_model.specs.Output.{output, acked_in, status_of}
+use Rattle.nb_model.specs.Output.{output, status_of}
+use Rattle.nb_model.specs.Owner.{delta_name, entry_in}
 use Rattle.nb_model.specs.Run.{Event, Now, Played, IsRun, AreFinished, play, rounds, strokes_of, replies_of}
+use Rattle.nb_model.specs.Sound.{IsSoundImage}
 use Rattle.nb_model.specs.Stands.{Stands}
+use Rattle.nb_model.specs.Steps.{Step, steps_of, strokes_in, after_steps, acked_turns}
+use Rattle.nb_model.specs.Strokes.{Stroke, base_in, records_after}
+use Rattle.nb_model.specs.Trail.{Trail, StandsIn, ShowsIn, settled}
+use Rattle.nb_base.specs.Open.{OfFiles}
+use Rattle.nb_state.specs.Open.{Held}
 use Rattle.nb_script.specs.Scripts.{Plan, script_of}
-use Rattle.nb_model.specs.declared.job.Job.{Job}
-use Rattle.nb_model.specs.declared.job.Job.TheVariants.{Run}
-use Rattle.nb_top.specs.declared.status.Status.{Status}
-use Rattle.nb_top.specs.declared.status.Status.TheVariants.{Done, Refused as RefusedStatus, Usage as UsageStatus, Device, Memory}
 use Rattle.nb_session.specs.declared.stop.Stop.{Stop}
-use Rattle.nb_page.specs.Free.{is_free_name}
 use Rattle.nb_session.specs.Replies.{is_refusal}
 use Rattle.nb_session.specs.Stops.{IsSaid, IsFront, Plays}
-use Rattle.nb_engine.specs.declared.opened.Opened.{Opened}
+use Rattle.nb_top.specs.declared.status.Status.{Status}
+use Rattle.nb_top.specs.declared.status.Status.TheVariants.{Done, Refused as RefusedStatus, Usage as UsageStatus, Device, Memory}
 use Rattle.nb_top.specs.Jobs.{job_of}
+
+-- what the first statement of a run did, or what is said in place of a run
+abbrev pub first_event : (session : ℕ) → List Stroke → Reply → Event
+first_event session strokes reply = record { session = session; strokes = strokes; reply = Some reply; made = None; syncs = true }
 
 -- a refusal to that session, and that is all
 abbrev pub refused_at : (session : ℕ) → Refusal → List Event
-refused_at session refusal = record { session = session; strokes = []; reply = Some (Refused refusal); made = None; syncs = true } ∷ []
+refused_at session refusal = first_event session [] (Refused refusal) ∷ []
 
 -- the job is refused
 abbrev pub refused_job : Refusal → List Event
 refused_job refusal = refused_at 0 refusal
 
--- the script that a file spells, or why there is none
+-- The script that a file spells, or why there is none.
 abbrev pub script_in : (name : List ℕ) → File → Result Plan Refusal
 script_in name None = Err (NoFile name)
 script_in name (Some bytes) = script_of bytes
@@ -58,37 +76,85 @@ script_of_job files other = Err Usage
 abbrev pub script_asked : Files → (words : List (List ℕ)) → Result Plan Refusal
 script_asked files words = elim (job_of words) [ None ↦ Err Usage | Some job ↦ script_of_job files job ]
 
--- what stands under a name is a database's file, in another state than the normal one
-abbrev pub is_unended : Entry → Bool
-is_unended Missing = false
-is_unended (Plain bytes delta) = elim (not_database bytes) [ None ↦ not (state_of bytes == 0) | Some refusal ↦ false ]
-is_unended (IsBase b) = not (image_state b.image == 0)
+-- The run that is asked for: that of the script, or one refusal. `left` is what it leaves of what may be given.
+abbrev pub IsPerformed : Result Plan Refusal → (before : Account) → Given → List Event → (last : Account) → (left : Given) → Type 0
+IsPerformed (Err refusal) before given events last left = (events ≡ refused_job refusal) × (last ≡ before) × (left ≡ given)
+IsPerformed (Ok plan) before given events last left = IsRun before given plan.first_session plan.first plan.schedule plan.sessions events last left
 
--- the script opens such a file, which is refused today whatever the state
-abbrev pub opens_unended : Plan → Account → Bool
-opens_unended plan account = elim plan.first [ OpenDb name cache ↦ is_unended (account.entry name) | _ ↦ false ]
+-- the database of a run, which its first statement creates or opens
+pub record Target : Type 0 where
+  pub name : List ℕ
+  pub creates : Bool
 
--- The run of the words on these files: that of the script that they ask for, or one refusal.
-abbrev pub IsPerformed : Result Plan Refusal → (before : Account) → Given → List Event → (after : Account) → Type 0
-IsPerformed (Err refusal) before given events last = (events ≡ refused_job refusal) × (last ≡ before)
-IsPerformed (Ok plan) before given events last = elim (opens_unended plan before) as (λ z. Type 0) [
-  | true ↦ (events ≡ refused_at plan.first_session Unfinished) × (last ≡ before)
-  | false ↦ IsRun before given plan.first_session plan.first plan.schedule plan.sessions events last
+abbrev pub target_named : (first : Statement) → Option Target
+target_named first = elim first [
+  | CreateDb name page_size raw cache ↦ Some (record { name = name; creates = true })
+  | OpenDb name cache ↦ Some (record { name = name; creates = false })
+  | _ ↦ None
 ]
-
--- the database that a first statement creates or opens
-abbrev pub database_named : Statement → Option (List ℕ)
-database_named first = elim first [ CreateDb name page_size raw cache ↦ Some name | OpenDb name cache ↦ Some name | _ ↦ None ]
 
 -- the first reply is a refusal
 abbrev pub begins_refused : List Event → Bool
 begins_refused [] = false
 begins_refused (e ∷ es) = elim e.reply [ None ↦ false | Some reply ↦ is_refusal reply ]
 
--- the database that the run of a script creates or opens, if it isn't refused at once
-abbrev pub database_of : Result Plan Refusal → List Event → Option (List ℕ)
-database_of (Err refusal) events = None
-database_of (Ok plan) events = elim (begins_refused events) [ true ↦ None | false ↦ database_named plan.first ]
+-- the database of a run, if it isn't refused at once
+abbrev pub target_of : Result Plan Refusal → List Event → Option Target
+target_of (Err refusal) events = None
+target_of (Ok plan) events = elim (begins_refused events) [ true ↦ None | false ↦ target_named plan.first ]
+
+-- The account has under the name what the files hold there, and the inventories of a database agree with its pages.
+pub record HoldsUnder (files : Files) (account : Account) (name : List ℕ) : Type 0 where
+  pub same : account.entry name ≡ entry_in files name
+  pub sound : (b : Base) → account.entry name ≡ IsBase b → IsSoundImage b.image
+
+-- What a first statement asks the account for is what the files tell: whether a name is free, or the database that stands there. Of
+-- nothing else must the account know.
+abbrev pub KnowsFirst : Files → Account → (first : Statement) → Type 0
+KnowsFirst files account (CreateDb name page_size raw cache) = is_free_name files name ≡ is_free_entry (account.entry name)
+KnowsFirst files account (OpenDb name cache) = HoldsUnder files account name
+KnowsFirst files account other = Unit {0}
+
+-- so it is of the run that is asked for
+abbrev pub Knows : Files → Account → Result Plan Refusal → Type 0
+Knows files account (Err refusal) = Unit {0}
+Knows files account (Ok plan) = KnowsFirst files account plan.first
+
+-- the name isn't that of the database, nor of its difference file
+abbrev pub IsUnasked : Option Target → List ℕ → Type 0
+IsUnasked None m = Unit {0}
+IsUnasked (Some target) m = Other (OfFiles target.name) m
+
+-- what was seen of the database behind steps of a run
+abbrev pub seen_after : Account → (name : List ℕ) → List Step → Trail
+seen_after account name steps = after_steps (settled (base_in (account.entry name))) steps
+
+-- the records of backups behind them
+abbrev pub kept_after : Account → Option Target → List Step → List Kept
+kept_after account None steps = account.kept
+kept_after account (Some target) steps = account.kept ++ records_after (base_in (account.entry target.name)) (strokes_in steps)
+
+-- The run hasn't begun to change its database: nothing is acknowledged, and both files are as a stop would have left them before. Only
+-- where the run creates the database, the creation may also be stopped half way, and then the name is free.
+pub record IsUnbegun (old : World) (target : Target) (events : List Event) (said count : ℕ) (files : Files) : Type 0 where
+  pub none : count ≡ 0
+  pub unsaid : acked_turns events said ≡ 0
+  pub main : Leaves old target.name (files target.name) ⊎ ((target.creates ≡ true) × (is_free_file (files target.name) ≡ true))
+  pub delta : Leaves old (delta_name target.name) (files (delta_name target.name))
+
+-- The files hold what may be left of what was seen of the database behind so many steps, or the run hasn't begun.
+abbrev pub StandsAsked : (old : World) → Account → Option Target → List Event → (said count : ℕ) → Files → Type 0
+StandsAsked old account None events said count files = Unit {0}
+StandsAsked old account (Some target) events said count files = StandsIn target.name (seen_after account target.name (take count (steps_of events))) files ⊎ IsUnbegun old target events said count files
+
+-- At a moment of a run: a front of its lines was said, and a stop leaves the database behind so many of its steps, with each
+-- acknowledged one among them. Other files are as a stop would have left them before.
+pub record RunLeft (old : World) (account : Account) (target : Option Target) (events : List Event) (files : Files) (said : List ℕ) : Type 0 where
+  pub out : IsSaid old events said
+  pub count : ℕ
+  pub front : IsFront events (length out.part) count
+  pub database : StandsAsked old account target events (length out.part) count files
+  pub others : (m : List ℕ) → IsUnasked target m → Leaves old m (files m)
 
 -- the files stand for an account with these records of backups
 pub record HoldsKept (files : Files) (kept : List Kept) : Type 0 where
@@ -96,40 +162,25 @@ pub record HoldsKept (files : Files) (kept : List Kept) : Type 0 where
   pub stands : Stands files account
   pub same : account.kept ≡ kept
 
--- The files stand for the account, and whatever a stop now leaves stands for an account with the same records. Beside a free name a
--- stop brings no difference file back.
+-- The files stand for the account, and whatever a stop now leaves stands for an account with the same records of backups. Where a name is
+-- free and no difference file stands beside it, a stop brings none back. A run that came to its end leaves it so, and so does a stop
+-- for the next run.
 pub record StandsFor (w : World) (account : Account) : Type 0 where
   pub now : Stands w.files account
   pub left : (files : Files) → LeavesAll w files → HoldsKept files account.kept
-  pub free : (name : List ℕ) → is_free_name w.files name ≡ true → (d : File) → Leaves w (delta_name name) d → d ≡ None
+  pub free : (name : List ℕ) → is_delta name ≡ false → is_free_file (w.files name) ≡ true → w.files (delta_name name) ≡ None → (d : File) → Leaves w (delta_name name) d → d ≡ None
 
--- the name isn't that of the database
-abbrev pub IsUnasked : (database : Option (List ℕ)) → List ℕ → Type 0
-IsUnasked None m = Unit
-IsUnasked (Some name) m = m ≢ name
+-- The premise of what follows: the files stand for the account as the run begins, and the GUIDs that its backups take are new. Those are
+-- the GUIDs that were given in the call, and where it ended early also those that may still come.
+pub record IsSure (old : World) (account : Account) (events : List Event) : Type 0 where
+  pub stands : StandsFor old account
+  pub new : AreNew old account.kept (guids_in (strokes_of events))
 
--- Nothing of the run is acknowledged, and the file of the database is as a stop would have left it before, or its creation was
--- stopped so that its name is free.
-pub record IsUnbegun (old : World) (name : List ℕ) (events : List Event) (said count : ℕ) (files : Files) : Type 0 where
-  pub none : count ≡ 0
-  pub unsaid : acked_in events said ≡ None
-  pub file : Leaves old name (files name) ⊎ (is_free_file (files name) ≡ true)
-
--- Under the name stands what the account has after so many strokes, or the run isn't begun.
-abbrev pub StandsAsked : (old : World) → Account → (database : Option (List ℕ)) → List Event → (said count : ℕ) → Files → Type 0
-StandsAsked old account None events said count files = Unit
-StandsAsked old account (Some name) events said count files =
-    (entry_in files name ≡ (after name account (take count (strokes_of events))).entry name) ⊎ IsUnbegun old name events said count files
-
--- At a moment of a run: a front of its lines was said, and a stop leaves the database after so many of its strokes, each acknowledged
--- one among them. Other files, also the difference file, are as a stop would have left them before. The files stand for an account.
-pub record RunLeft (old : World) (account : Account) (database : Option (List ℕ)) (events : List Event) (files : Files) (said : List ℕ) : Type 0 where
-  pub out : IsSaid old events said
-  pub count : ℕ
-  pub front : IsFront events (length out.part) count
-  pub database_file : StandsAsked old account database events (length out.part) count files
-  pub others : (m : List ℕ) → IsUnasked database m → Leaves old m (files m)
-  pub stands : HoldsKept files account.kept
+-- At a moment of a run: what a stop leaves is what may be left behind a front of its steps. Where the run is sure, it stands for an account
+-- with the records of the backups that have begun in the same front.
+pub record RunStands (old : World) (account : Account) (target : Option Target) (events : List Event) (files : Files) (said : List ℕ) : Type 0 where
+  pub left : RunLeft old account target events files said
+  pub stands : IsSure old account events → HoldsKept files (kept_after account target (take left.count (steps_of events)))
 
 -- the number of a status that ends a run to its end
 abbrev pub number_of : Status → ℕ
@@ -139,32 +190,59 @@ number_of UsageStatus = 2
 number_of Device = 3
 number_of Memory = 4
 
--- a run to its end: all lines were said, the status is theirs, and the files stand for the account after
-pub record Finished (status : Status) (old new : World) (events : List Event) (last : Account) : Type 0 where
+-- the files as they read show what was seen last, and a stop leaves what may be left of all that was seen
+pub record IsEnded (new : World) (name : List ℕ) (t : Trail) : Type 0 where
+  pub shows : ShowsIn name t.base new.files
+  pub left : (files : Files) → LeavesAll new files → StandsIn name t files
+
+-- so it is of the database of a run behind all of its steps
+abbrev pub EndsIn : (new : World) → Account → Option Target → List Event → Type 0
+EndsIn new account None events = Unit {0}
+EndsIn new account (Some target) events = IsEnded new target.name (seen_after account target.name (steps_of events))
+
+-- A run to its end: all of its lines were said, the status is the one that they give, just what the run asks for was given, the database
+-- stands behind all of its steps, and other files read as before.
+pub record Finished (status : Status) (old new : World) (account : Account) (target : Option Target) (events : List Event) (given left : Given) : Type 0 where
   pub said : new.said ≡ old.said ++ output events
   pub ended : number_of status ≡ status_of (replies_of events)
-  pub files : StandsFor new last
+  pub gave : WasGiven old new given left
+  pub database : EndsIn new account target events
+  pub others : (m : List ℕ) → IsUnasked target m → new.files m ≡ old.files m
 
--- What a run does that a script asks for, from files that stand for an account: its events are those that the script must have. At each
--- moment a stop leaves a front of them, and at its end all is done.
-pub record RunsTo (result : Result Status Stop) (old new : World) (asked : Result Plan Refusal) (account : Account) : Type 0 where
-  pub given : Given
+-- the SCN of a database that the run opens is a number of 32 bits
+abbrev pub HasSmallScn : Account → Option Target → Type 0
+HasSmallScn account None = Unit {0}
+HasSmallScn account (Some target) = target.creates ≡ false → image_scn (base_in (account.entry target.name)).image < 4294967296
+
+-- it ended before anything was done
+abbrev pub IsUndone : Result Status Stop → (old new : World) → Type 0
+IsUndone (Ok status) old new = ⊥
+IsUndone (Err stop) old new = Quiet old new
+
+-- What a run does that a script asks for, where the account knows of the database what the files tell, and these are the GUIDs and times
+-- that were given and may still be: its events are those that the script must have. At each moment a stop leaves a front of them, and
+-- at its end all is done.
+pub record RunsTo (result : Result Status Stop) (old new : World) (asked : Result Plan Refusal) (account : Account) (given : Given) : Type 0 where
   pub events : List Event
   pub last : Account
-  pub performed : IsPerformed asked account given events last
-  pub stops : AtEachMoment old new (RunLeft old account (database_of asked events) events)
-  pub finished : IfOk result (λ status. Finished status old new events last)
+  pub left : Given
+  pub performed : IsPerformed asked account given events last left
+  pub opened : HasSmallScn account (target_of asked events) ⊎ IsUndone result old new
+  pub stops : AtEachMoment old new (RunLeft old account (target_of asked events) events)
+  pub finished : IfOk result (λ status. Finished status old new account (target_of asked events) events given left)
 
--- What `run` does on these words. The files as they read now are also what a stop may leave: so they are a front of the run where it
--- ended early.
-pub record Performs (status : Status) (old new : World) (asked : Result Plan Refusal) (account : Account) : Type 0 where
-  pub given : Given
+-- What `run` does on these words. Its events are those of the run that they ask for, with the account after it and what is left to give.
+-- At each moment a stop leaves a front of it. So do the files as they read now, where it ended early too. Where no call of the host failed
+-- and memory was enough, it came to its end, and where it was sure the files stand for the account after.
+pub record Performs (status : Status) (old new : World) (asked : Result Plan Refusal) (account : Account) (given : Given) : Type 0 where
   pub events : List Event
   pub last : Account
-  pub performed : IsPerformed asked account given events last
-  pub stops : AtEachMoment old new (RunLeft old account (database_of asked events) events)
-  pub now : RunLeft old account (database_of asked events) events new.files new.said
-  pub finished : status ≢ Device → status ≢ Memory → Finished status old new events last
+  pub left : Given
+  pub performed : IsPerformed asked account given events last left
+  pub stops : AtEachMoment old new (RunStands old account (target_of asked events) events)
+  pub now : RunStands old account (target_of asked events) events new.files new.said
+  pub finished : status ≢ Device → status ≢ Memory → Finished status old new account (target_of asked events) events given left
+  pub stands : status ≢ Device → status ≢ Memory → IsSure old account events → StandsFor new last
 
 -- what is read is the script, or why there is none; a failure says nothing of it
 abbrev pub IsRead : Result Plan Fault → Result Plan Refusal → Type 0
@@ -173,22 +251,19 @@ IsRead (Err (RefusedFault refusal)) meant = meant ≡ Err refusal
 IsRead (Err DeviceFault) meant = Unit
 IsRead (Err MemoryFault) meant = Unit
 
--- a reply that is said of a database that is open
-abbrev pub reply_said : (session : ℕ) → Reply → Event
-reply_said session reply = record { session = session; strokes = []; reply = Some reply; made = None; syncs = true }
+-- what is said of a database of so many pages, in that state, that a first statement has created or opened
+abbrev pub opened_reply : (first : Statement) (pages state : ℕ) → Reply
+opened_reply first pages state = elim first [ OpenDb name cache ↦ OpenedReply pages state | _ ↦ Pages pages ]
 
--- what is said of a database of so many pages that a first statement has created or opened
-abbrev pub opened_reply : (first : Statement) (pages : ℕ) → Reply
-opened_reply first pages = elim first [ OpenDb name cache ↦ OpenedReply pages 0 | _ ↦ Pages pages ]
-
--- the first reply and then all turns
+-- the first event and then all turns
 abbrev pub played_behind : Event → Played → Played
 played_behind event played = (event ∷ played.0, played.1)
 
--- The first reply was said, and then the script's turns were taken to their end, or some of them.
-pub record PlaysOpened (result : Result Bool Stop) (old new : World) (before after : Opened) (now : Now) (plan : Plan) (reply : Reply) : Type 0 where
+-- The reply of the first statement was said, and then the script's turns were taken to their end, or some of them. `start` stood before
+-- the strokes of the first statement.
+pub record PlaysOpened (result : Result Bool Stop) (old new : World) (before after : Held) (start : Base) (first : Event) (now : Now) (plan : Plan) : Type 0 where
   pub how_often : ℕ
-  pub plays : Plays result old new before after now (played_behind (reply_said plan.first_session reply) (play (plan.schedule ++ rounds how_often) now))
+  pub plays : Plays result old new before after (settled start) now (played_behind first (play (plan.schedule ++ rounds how_often) now))
   pub finished : AreFinished (play (plan.schedule ++ rounds how_often) now).1.todo
 
 -- what is read of a script's file: its bytes, or that it isn't there or is too long

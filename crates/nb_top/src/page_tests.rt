@@ -75,19 +75,70 @@ fn system_places_on_growth(rt: HostRuntime) -> Result<(), Fail> {
     Ok(())
 }
 
-/// A database whose header says that its backup isn't ended.
+/// A backup begins in one run and ends in another; what was written in between stands in each of them.
 #[test]
-fn unended_is_not_opened(rt: HostRuntime) -> Result<(), Fail> {
+fn open_in_each_state(rt: HostRuntime) -> Result<(), Fail> {
+    let cases = [
+        (
+            "1: create database 'a.db' page_size 1024 raw 8\n1: alter database begin backup\n1: write 6 'a'\n",
+            "1: ok pages 13\n1: ok scn 2\n1: ok\n",
+        ),
+        (
+            "1: open 'a.db'\n1: read 6\n1: alter database begin backup\n1: page new\n1: write 13 'b'\n",
+            "1: ok pages 13 state 1\n1: ok 'a'\n1: refused 6 WrongState 1\n1: ok page 13\n1: ok\n",
+        ),
+        (
+            "1: open 'a.db'\n1: alter database end backup\n2: write 6 'c'\n2: read 13\n2: alter database end backup\n",
+            "1: ok pages 14 state 1\n2: ok\n2: ok 'b'\n2: refused 27 BackupRunning 1\n1: ok scn 3\n",
+        ),
+        (
+            "1: open 'a.db'\n1: read 6\n1: read 13\n1: alter database end backup\n",
+            "1: ok pages 14 state 0\n1: ok 'c'\n1: ok 'b'\n1: refused 6 WrongState 0\n",
+        ),
+    ];
+    let mut host = MemHost::new(rt.alloc())?;
+    assert_eq!(rt; wrong_case(rt.alloc(), &mut host, &cases)?, None);
+    Ok(())
+}
+
+/// A database whose header says a state that its files don't have.
+#[test]
+fn not_opened(rt: HostRuntime) -> Result<(), Fail> {
     let name = Name::read("a.db").ok_or("no name")?;
-    let cases = [("1: open 'a.db'\n", "1: refused 8 Unfinished\n")];
-    for state in [1, 2, 3] {
+    let cases = [
+        (1, "1: refused 3 NoFile a.db.delta\n"),
+        (2, "1: refused 3 NoFile a.db.delta\n"),
+        (3, "1: refused 8 Unfinished\n"),
+    ];
+    for (state, lines) in cases {
         let mut host = host_after(rt.alloc(), FIRST_RUN)?;
         let mut bytes = database(&host).ok_or("no file")?.to_vec(rt.alloc())?;
         *bytes.get_mut(22).ok_or("no state")? = state;
         host.put_file(&name, &bytes)?;
-        assert_eq!(rt; wrong_case(rt.alloc(), &mut host, &cases)?, None);
+        assert_eq!(rt;
+            wrong_case(rt.alloc(), &mut host, &[("1: open 'a.db'\n", lines)])?,
+            None
+        );
         assert!(rt; database(&host) == Some(&bytes[..]));
     }
+    Ok(())
+}
+
+/// Writes that wait are kept by `sync`, and flags stay.
+#[test]
+fn flags(rt: HostRuntime) -> Result<(), Fail> {
+    let cases = [
+        (
+            "1: create database 'a.db' page_size 1024 raw 8\n1: forced writes off\n1: write 6 'a'\n1: sync\n1: access read_only\n1: write 6 'b'\n",
+            "1: ok pages 13\n1: ok\n1: ok\n1: ok\n1: ok\n1: refused 20 Access 1\n",
+        ),
+        (
+            "1: open 'a.db'\n1: free 6\n1: access read_write\n1: write 6 'b'\n1: read 6\n",
+            "1: ok pages 13 state 0\n1: refused 20 Access 1\n1: ok\n1: ok\n1: ok 'b'\n",
+        ),
+    ];
+    let mut host = MemHost::new(rt.alloc())?;
+    assert_eq!(rt; wrong_case(rt.alloc(), &mut host, &cases)?, None);
     Ok(())
 }
 

@@ -2,9 +2,12 @@
 ghost use Rattle.std.specs.Prelude.{◌≡◌, ◌≢◌, ◌⊎◌, ◌↔◌, None, map, string_bytes, IsTrue, IfOk};
 ghost use Rattle.nb_host.specs.Causes.{Rose};
 ghost use Rattle.nb_model.specs.Account.{Account};
+ghost use Rattle.nb_model.specs.Gifts.{Foretells};
+ghost use Rattle.nb_model.specs.Outcomes.{Given};
+ghost use Rattle.nb_session.specs.Acts.{Grows};
 ghost use Rattle.nb_session.specs.Causes.{CountsStop};
 ghost use Rattle.nb_top.specs.Jobs.{job_of, IsRun};
-ghost use Rattle.nb_top.specs.Performed.{Performs, RunsTo, StandsFor, script_asked, script_in, script_of_job};
+ghost use Rattle.nb_top.specs.Performed.{Knows, Performs, RunsTo, script_asked, script_in, script_of_job};
 
 use crate::Status;
 use crate::job::read_job;
@@ -16,8 +19,9 @@ use nb_session::Stop;
 use std::alloc::Global;
 
 fn run_file<H: Host>(alloc: Global, host: &mut H, name: &Name) -> Result<Status, Stop>
-    ensures runs { (account : Account) → IsTrue H.tells → StandsFor (H.world host.old) account
-        → RunsTo result (H.world host.old) (H.world host.new) (script_in name.now ((H.world host.old).files name.now)) account }
+    ensures runs { (account : Account) (given : Given) → IsTrue H.tells → Knows (H.world host.old).files account (script_in name.now ((H.world host.old).files name.now))
+        → Foretells given (H.world host.old) (H.world host.new) → RunsTo result (H.world host.old) (H.world host.new) (script_in name.now ((H.world host.old).files name.now)) account given }
+    ensures grows { (account : Account) → IsTrue H.tells → Knows (H.world host.old).files account (script_in name.now ((H.world host.old).files name.now)) → Grows (H.world host.old) (H.world host.new) }
     ensures done { IfOk result (λ status. (status ≡ Status.Done) ⊎ (status ≡ Status.Refused)) }
     ensures cause { CountsStop result (H.faults host.old) (H.faults host.new) }
 {
@@ -29,8 +33,9 @@ fn run_file<H: Host>(alloc: Global, host: &mut H, name: &Name) -> Result<Status,
 
 fn run_job<H: Host>(alloc: Global, host: &mut H, job: &Job) -> Result<Status, Stop>
     requires { IsRun job.now }
-    ensures runs { (account : Account) → IsTrue H.tells → StandsFor (H.world host.old) account
-        → RunsTo result (H.world host.old) (H.world host.new) (script_of_job (H.world host.old).files job.now) account }
+    ensures runs { (account : Account) (given : Given) → IsTrue H.tells → Knows (H.world host.old).files account (script_of_job (H.world host.old).files job.now)
+        → Foretells given (H.world host.old) (H.world host.new) → RunsTo result (H.world host.old) (H.world host.new) (script_of_job (H.world host.old).files job.now) account given }
+    ensures grows { (account : Account) → IsTrue H.tells → Knows (H.world host.old).files account (script_of_job (H.world host.old).files job.now) → Grows (H.world host.old) (H.world host.new) }
     ensures done { IfOk result (λ status. (status ≡ Status.Done) ⊎ (status ≡ Status.Refused)) }
     ensures cause { CountsStop result (H.faults host.old) (H.faults host.new) }
 {
@@ -41,8 +46,9 @@ fn run_job<H: Host>(alloc: Global, host: &mut H, job: &Job) -> Result<Status, St
 }
 
 fn do_job<H: Host>(alloc: Global, words: &[String], host: &mut H) -> Result<Status, Stop>
-    ensures runs { (account : Account) → IsTrue H.tells → StandsFor (H.world host.old) account
-        → RunsTo result (H.world host.old) (H.world host.new) (script_asked (H.world host.old).files (map string_bytes words.now)) account }
+    ensures runs { (account : Account) (given : Given) → IsTrue H.tells → Knows (H.world host.old).files account (script_asked (H.world host.old).files (map string_bytes words.now))
+        → Foretells given (H.world host.old) (H.world host.new) → RunsTo result (H.world host.old) (H.world host.new) (script_asked (H.world host.old).files (map string_bytes words.now)) account given }
+    ensures grows { (account : Account) → IsTrue H.tells → Knows (H.world host.old).files account (script_asked (H.world host.old).files (map string_bytes words.now)) → Grows (H.world host.old) (H.world host.new) }
     ensures usage { IfOk result (λ status. (status ≡ Status.Usage) ↔ (job_of (map string_bytes words.now) ≡ None)) }
     ensures done { IfOk result (λ status. (status ≡ Status.Usage) ⊎ ((status ≡ Status.Done) ⊎ (status ≡ Status.Refused))) }
     ensures cause { CountsStop result (H.faults host.old) (H.faults host.new) }
@@ -69,11 +75,17 @@ pub fn run<H: Host>(alloc: Global, words: &[String], host: &mut H) -> Status
     ensures usage { result ≡ Status.Usage → job_of (map string_bytes words.now) ≡ None }
     ensures no_job { job_of (map string_bytes words.now) ≡ None → result ≢ Status.Done × result ≢ Status.Refused }
 
-    // Where the files stand for an account as the call begins, and what a stop then leaves: the output is that of the run which the
-    // words ask for, the files then stand for the account after, and at each moment a stop leaves the account after a front of
-    // the strokes that holds every acknowledged one. So do the files as they read where the run ended early.
-    ensures performs { (account : Account) → IsTrue H.tells → StandsFor (H.world host.old) account
-        → Performs result (H.world host.old) (H.world host.new) (script_asked (H.world host.old).files (map string_bytes words.now)) account }
+    // Where an account knows of the database what the files tell as the call begins, and whatever GUIDs and times may still be given: the
+    // output is that of the run which the words ask for, and at each moment a stop leaves what may be left of the database behind a
+    // front of its steps that holds every acknowledged one, and other files as before. So do the files as they read where the run ended
+    // early. Where the files stand for the account and the GUIDs are new, they stand for one with the records behind that front, and at
+    // the end for the account after.
+    ensures performs { (account : Account) (given : Given) → IsTrue H.tells → Knows (H.world host.old).files account (script_asked (H.world host.old).files (map string_bytes words.now))
+        → Foretells given (H.world host.old) (H.world host.new)
+        → Performs result (H.world host.old) (H.world host.new) (script_asked (H.world host.old).files (map string_bytes words.now)) account given }
+    // There are such GUIDs and times.
+    ensures grows { (account : Account) → IsTrue H.tells → Knows (H.world host.old).files account (script_asked (H.world host.old).files (map string_bytes words.now))
+        → Grows (H.world host.old) (H.world host.new) }
 {
     match do_job(alloc, words, host) {
         Ok(status) => status,

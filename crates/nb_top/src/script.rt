@@ -1,21 +1,27 @@
 // A script is run: its database is created or opened, and its sessions take their turns.
-ghost use Rattle.std.specs.Prelude.{◌≡◌, ◌⊎◌, ◌<◌, ℕ, List, Some, Ok, Err, IsTrue, IfOk, IfErr, if◌then◌else◌};
+ghost use Rattle.std.specs.Prelude.{◌≡◌, ◌⊎◌, ℕ, ◌<◌, List, None, Some, Ok, Err, IsTrue, IfOk, IfErr, if◌then◌else◌};
 ghost use Rattle.nb_fields.specs.Fresh.{fresh};
 ghost use Rattle.nb_host.specs.declared.faults.Fault.TheVariants.{Refused};
-ghost use Rattle.nb_change.specs.Apart.{Apart};
 ghost use Rattle.nb_change.specs.Counts.{CountsDevice};
-ghost use Rattle.nb_model.specs.Account.{Account};
+ghost use Rattle.nb_change.specs.Gave.{GaveNothing};
+ghost use Rattle.nb_page.specs.Quiet.{Quiet};
+ghost use Rattle.nb_model.specs.Account.{Account, Base};
+ghost use Rattle.nb_model.specs.Gifts.{Foretells};
 ghost use Rattle.nb_model.specs.Lines.{line_text};
-ghost use Rattle.nb_model.specs.Run.{Now, begun};
+ghost use Rattle.nb_model.specs.Outcomes.{Given};
+ghost use Rattle.nb_model.specs.Run.{Now, base_now, begun};
+ghost use Rattle.nb_model.specs.Steps.{after_steps, steps_in};
+ghost use Rattle.nb_model.specs.Strokes.{Stroke};
+ghost use Rattle.nb_model.specs.Trail.{settled as settled_trail};
 ghost use Rattle.nb_model.specs.declared.reply.Reply.TheVariants.{Refused as RefusedReply};
 ghost use Rattle.nb_model.specs.declared.statement.Statement.TheVariants.{CreateDb, OpenDb};
-ghost use Rattle.nb_engine.specs.Create.{Creates};
-ghost use Rattle.nb_engine.specs.Attach.{Attaches};
+ghost use Rattle.nb_state.specs.Beginnings.{Attaches, Creates};
 ghost use Rattle.nb_script.specs.Asked.{IsFirst, IsAskable};
+ghost use Rattle.nb_session.specs.Acts.{Grows};
 ghost use Rattle.nb_session.specs.Causes.{CountsStop};
+ghost use Rattle.nb_session.specs.Ready.{IsReady, IsCalm};
 ghost use Rattle.nb_session.specs.Says.{SaysLine};
-ghost use Rattle.nb_session.specs.Stops.{IsReady};
-ghost use Rattle.nb_top.specs.Performed.{RunsTo, StandsFor, PlaysOpened, database_named, opened_reply, number_of};
+ghost use Rattle.nb_top.specs.Performed.{Knows, RunsTo, PlaysOpened, first_event, opened_reply, number_of};
 
 use crate::Status;
 use nb_engine::Engine;
@@ -39,6 +45,18 @@ pub fn settled<T>(answer: Result<T, Fault>) -> Result<Result<T, Refusal>, Stop>
     }
 }
 
+/// Says the line of a reply.
+fn say_line<H: Host>(alloc: Global, host: &mut H, session: u32, reply: &Reply) -> Result<(), Stop>
+    ensures line { IsTrue H.tells → SaysLine result (H.world host.old) (H.world host.new) (line_text session reply.now) }
+    ensures gave { GaveNothing (H.world host.old) (H.world host.new) }
+    ensures cause { CountsStop result (H.faults host.old) (H.faults host.new) }
+{
+    match settled(say(alloc, host, session, reply))? {
+        Ok(()) => Ok(()),
+        Err(_) => unreachable!(),
+    }
+}
+
 /// Says a refusal, which ends the job.
 pub fn refuse<H: Host>(
     alloc: Global,
@@ -48,9 +66,10 @@ pub fn refuse<H: Host>(
 ) -> Result<Status, Stop>
     ensures ok { IfOk result (λ status. status ≡ Status.Refused) }
     ensures line { IsTrue H.tells → SaysLine result (H.world host.old) (H.world host.new) (line_text session (RefusedReply refusal)) }
+    ensures gave { GaveNothing (H.world host.old) (H.world host.new) }
     ensures cause { CountsStop result (H.faults host.old) (H.faults host.new) }
 {
-    say(alloc, host, session, &Reply::Refused { refusal })?;
+    say_line(alloc, host, session, &Reply::Refused { refusal })?;
     Ok(Status::Refused)
 }
 
@@ -60,7 +79,7 @@ fn open<H: Host>(alloc: Global, host: &mut H, first: &Statement) -> Result<Engin
     ensures creates { (name : List ℕ) (size raw cache : ℕ) → IsTrue H.tells → first.now ≡ CreateDb name size raw cache
         → Creates result (H.world host.old) (H.world host.new) name (fresh size raw) }
     ensures attaches { (name : List ℕ) (cache : ℕ) → IsTrue H.tells → first.now ≡ OpenDb name cache → Attaches result (H.world host.old) (H.world host.new) name }
-    ensures apart { (name : List ℕ) → IsTrue H.tells → database_named first.now ≡ Some name → Apart (H.world host.old) (H.world host.new) name }
+    ensures quiet { (name : List ℕ) (cache : ℕ) → first.now ≡ OpenDb name cache → Quiet (H.world host.old) (H.world host.new) }
     ensures scn { IfOk result (λ engine. engine.scn < 4294967296) }
     ensures cause { CountsDevice result (H.faults host.old) (H.faults host.new) }
 {
@@ -76,12 +95,12 @@ fn open<H: Host>(alloc: Global, host: &mut H, first: &Statement) -> Result<Engin
     }
 }
 
-/// What the first statement says of the database that it has opened, with so many pages.
-fn first_reply(first: &Statement, pages: u32) -> Reply
-    ensures { result ≡ opened_reply first.now pages }
+/// What the first statement says of the database that it has opened, with so many pages, in that backup state.
+fn first_reply(first: &Statement, pages: u32, state: u16) -> Reply
+    ensures { result ≡ opened_reply first.now pages state }
 {
     match first {
-        Statement::OpenDb { .. } => Reply::Opened { pages, state: 0 },
+        Statement::OpenDb { .. } => Reply::Opened { pages, state },
         _ => Reply::Pages { pages },
     }
 }
@@ -94,12 +113,16 @@ fn run_opened<H: Host>(
     script: &Script,
 ) -> Result<bool, Stop>
     requires { IsAskable script.now }
-    ensures plays { (now : Now) → IsTrue H.tells → IsReady (H.world host.old) engine.old now → now.todo ≡ begun script.now.sessions
-        → PlaysOpened result (H.world host.old) (H.world host.new) engine.old engine.new now script.now (opened_reply script.now.first engine.old.count) }
+    ensures plays { (now : Now) (start : Base) (strokes : List Stroke) → IsTrue H.tells → IsReady (H.world host.old) engine.old (settled_trail (base_now now)) now → now.todo ≡ begun script.now.sessions
+        → now.running ≡ None → IsCalm now → Foretells now.given (H.world host.old) (H.world host.new)
+        → after_steps (settled_trail start) (steps_in (first_event script.now.first_session strokes (opened_reply script.now.first engine.old.files.count engine.old.files.state))) ≡ settled_trail (base_now now)
+        → PlaysOpened result (H.world host.old) (H.world host.new) engine.old engine.new start (first_event script.now.first_session strokes (opened_reply script.now.first engine.old.files.count engine.old.files.state)) now script.now }
+    ensures grows { (now : Now) → IsTrue H.tells → IsReady (H.world host.old) engine.old (settled_trail (base_now now)) now → now.todo ≡ begun script.now.sessions → now.running ≡ None → IsCalm now
+        → Grows (H.world host.old) (H.world host.new) }
     ensures cause { CountsStop result (H.faults host.old) (H.faults host.new) }
 {
-    let reply = first_reply(script.first(), engine.count());
-    say(alloc, host, script.first_session(), &reply)?;
+    let reply = first_reply(script.first(), engine.count(), engine.store().state());
+    say_line(alloc, host, script.first_session(), &reply)?;
     take_turns(alloc, host, engine, script)
 }
 
@@ -118,8 +141,9 @@ fn ended(refused: bool) -> Status
 /// Runs a script: its first statement, and then the turns of its sessions to their end. A first statement that is refused ends it.
 pub fn run_script<H: Host>(alloc: Global, host: &mut H, script: &Script) -> Result<Status, Stop>
     requires { IsAskable script.now }
-    ensures runs { (account : Account) → IsTrue H.tells → StandsFor (H.world host.old) account
-        → RunsTo result (H.world host.old) (H.world host.new) (Ok script.now) account }
+    ensures runs { (account : Account) (given : Given) → IsTrue H.tells → Knows (H.world host.old).files account (Ok script.now) → Foretells given (H.world host.old) (H.world host.new)
+        → RunsTo result (H.world host.old) (H.world host.new) (Ok script.now) account given }
+    ensures grows { (account : Account) → IsTrue H.tells → Knows (H.world host.old).files account (Ok script.now) → Grows (H.world host.old) (H.world host.new) }
     ensures done { IfOk result (λ status. (status ≡ Status.Done) ⊎ (status ≡ Status.Refused)) }
     ensures cause { CountsStop result (H.faults host.old) (H.faults host.new) }
 {

@@ -1,72 +1,147 @@
-use Rattle.std.proofs.Common.{refl, ap, sym, ◌∙◌}
-use Rattle.nb_model.specs.declared.reply.Reply.TheVariants.{Done, PageMade, Value}
-use Rattle.nb_model.specs.Pages.{write_turn}
-use Rattle.nb_engine.specs.Replies.{done, page_made, valued}
-use Rattle.nb_engine.proofs.ApartLaws.{quiet_apart}
-use Rattle.nb_session.specs.Replies.{as_said}
-use Rattle.nb_session.proofs.DoesLaws.{does_passed, does_then_memory, does_value, does_turn}
-use Rattle.nb_session.proofs.TurnLaws.{new_is, write_is, read_is, free_is}
+use Rattle.std.proofs.Common.{refl, ap, sym, subst, ◌∙◌}
+use Rattle.std.specs.Prelude.{Ok, Some}
+use Rattle.nb_host.specs.declared.faults.Fault.TheVariants.{Device}
+use Rattle.nb_model.specs.declared.reply.Reply.TheVariants.{Done, PageMade, Value, Scn}
+use Rattle.nb_model.specs.declared.statement.Statement.TheVariants.{Write, Read, PageNew, Free, BeginBackup, Forced, Access, ShowHeader}
+use Rattle.nb_model.specs.Account.{Base}
+use Rattle.nb_model.specs.Pages.{write_turn, header_turn}
+use Rattle.nb_model.specs.Sound.{IsSoundImage}
+use Rattle.nb_engine.specs.Replies.{done, page_made, valued, scn_is}
+use Rattle.nb_session.specs.Replies.{some_said}
+use Rattle.nb_session.proofs.ActLaws.{some_by, does_acts, may_passed, may_then_memory, may_value, sync_acts, sync_failed, begin_acts}
+use Rattle.nb_session.proofs.KeepLaws.{write_keeps, read_keeps, new_keeps, free_keeps, forced_keeps, access_keeps, write_is, read_is, new_is, free_is, begin_is, forced_is, access_is, header_is, header_keeps, no_sync}
+use Rattle.nb_session.proofs.HeaderLaws.{header_does}
+use Rattle.nb_session.proofs.TurnLaws.{seen_now}
+use Rattle.nb_state.proofs.TurnLaws.{no_call}
 use Rattle.nb_session.proofs.statement.do_statement.Goals as goal
 
-pub returns-in_err-page_write-in-Write-clause-turn :
-    goal.returns-in_err-page_write-in-Write-clause-turn
-returns-in_err-page_write-in-Write-clause-turn g c s session tells opened sound =
-    does_passed done as_said _ _ _ _ _ _ c.from_residual.result c.from_residual.ensures
-    (does_turn done _ _ _ _ _ _ _
+pub returns-in_err-page_write-in-Write-clause-turn : goal.returns-in_err-page_write-in-Write-clause-turn
+returns-in_err-page_write-in-Write-clause-turn g c now t session tells ready sound =
+    let s = seen_now now in
+    may_passed (some_by done) some_said _ _ _ _ t now session _ _ c.from_residual.result c.from_residual.ensures
+    (does_acts done _ _ _ _ _ t now session c.args.statement.now (write_turn s c.in-Write.page c.as_slice.result.now)
     (ap (λ text. write_turn s c.in-Write.page text) c.as_slice.ensures ∙ write_is s session c.args.statement.now c.in-Write.page c.in-Write.text c.in-Write.is)
-    (c.in_err-page_write-in-Write.ensures.turn s tells opened))
+    (no_sync _ (Write c.in-Write.page c.in-Write.text) c.in-Write.is refl) (write_keeps s c.in-Write.page c.as_slice.result.now) ready
+    (c.in_err-page_write-in-Write.ensures.turn s t tells ready.base ready.opened))
+
+pub returns-in_ok-page_write-in-Write-clause-turn : goal.returns-in_ok-page_write-in-Write-clause-turn
+returns-in_ok-page_write-in-Write-clause-turn g c now t session tells ready sound =
+    let s = seen_now now in
+    may_value (some_by done) some_said _ _ _ _ t now session _ c.in_ok-page_write-in-Write.field-0 Done refl
+    (does_acts done _ _ _ _ _ t now session c.args.statement.now (write_turn s c.in-Write.page c.as_slice.result.now)
+    (ap (λ text. write_turn s c.in-Write.page text) c.as_slice.ensures ∙ write_is s session c.args.statement.now c.in-Write.page c.in-Write.text c.in-Write.is)
+    (no_sync _ (Write c.in-Write.page c.in-Write.text) c.in-Write.is refl) (write_keeps s c.in-Write.page c.as_slice.result.now) ready
+    (c.in_ok-page_write-in-Write.ensures.turn s t tells ready.base ready.opened))
 
 pub returns-in_err-text-in-Read-clause-turn : goal.returns-in_err-text-in-Read-clause-turn
-returns-in_err-text-in-Read-clause-turn g c s session tells opened sound =
-    does_passed valued as_said _ _ _ _ _ _ c.from_residual-in_err-text-in-Read.result c.from_residual-in_err-text-in-Read.ensures
-    (does_turn valued _ _ _ _ _ _ _
-    (read_is s session c.args.statement.now c.in-Read.page c.in-Read.is) (c.in_err-text-in-Read.ensures.turn s tells opened))
+returns-in_err-text-in-Read-clause-turn g c now t session tells ready sound =
+    let s = seen_now now in
+    may_passed (some_by valued) some_said _ _ _ _ t now session _ _ c.from_residual-in_err-text-in-Read.result c.from_residual-in_err-text-in-Read.ensures
+    (does_acts valued _ _ _ _ _ t now session c.args.statement.now _ (read_is s session c.args.statement.now c.in-Read.page c.in-Read.is)
+    (no_sync _ (Read c.in-Read.page) c.in-Read.is refl) (read_keeps s c.in-Read.page) ready (c.in_err-text-in-Read.ensures.turn s t tells ready.base ready.opened))
 
 pub returns-in_err-new-in-Read-clause-turn : goal.returns-in_err-new-in-Read-clause-turn
-returns-in_err-new-in-Read-clause-turn g c s session tells opened sound =
-    does_then_memory valued as_said _ _ _ _ _ _ _ c.from_residual-in_err-new-in-Read.result c.in_err-new-in-Read.ensures.only_memory c.from_residual-in_err-new-in-Read.ensures
-    (does_turn valued _ _ _ _ _ _ _
-    (read_is s session c.args.statement.now c.in-Read.page c.in-Read.is) (c.in_ok-text-in-Read.ensures.turn s tells opened))
-
-pub returns-in_ok-page_write-in-Write-clause-turn :
-    goal.returns-in_ok-page_write-in-Write-clause-turn
-returns-in_ok-page_write-in-Write-clause-turn g c s session tells opened sound =
-    does_value done as_said _ _ _ _ _ c.in_ok-page_write-in-Write.field-0 Done refl
-    (does_turn done _ _ _ _ _ _ _
-    (ap (λ text. write_turn s c.in-Write.page text) c.as_slice.ensures ∙ write_is s session c.args.statement.now c.in-Write.page c.in-Write.text c.in-Write.is)
-    (c.in_ok-page_write-in-Write.ensures.turn s tells opened))
+returns-in_err-new-in-Read-clause-turn g c now t session tells ready sound =
+    let s = seen_now now in
+    may_then_memory (some_by valued) some_said _ _ _ _ t now session _ _ _ c.from_residual-in_err-new-in-Read.result c.in_err-new-in-Read.ensures.only_memory c.from_residual-in_err-new-in-Read.ensures
+    (does_acts valued _ _ _ _ _ t now session c.args.statement.now _ (read_is s session c.args.statement.now c.in-Read.page c.in-Read.is)
+    (no_sync _ (Read c.in-Read.page) c.in-Read.is refl) (read_keeps s c.in-Read.page) ready (c.in_ok-text-in-Read.ensures.turn s t tells ready.base ready.opened))
 
 pub returns-in_ok-new-in-Read-clause-turn : goal.returns-in_ok-new-in-Read-clause-turn
-returns-in_ok-new-in-Read-clause-turn g c s session tells opened sound =
-    does_value valued as_said _ _ _ _ _ c.in_ok-text-in-Read.text (Value c.in_ok-new-in-Read.field-0) (ap Value (sym (c.in_ok-new-in-Read.ensures.ok ∙ c.as_slice-in-Read.ensures.value)))
-    (does_turn valued _ _ _ _ _ _ _
-    (read_is s session c.args.statement.now c.in-Read.page c.in-Read.is) (c.in_ok-text-in-Read.ensures.turn s tells opened))
+returns-in_ok-new-in-Read-clause-turn g c now t session tells ready sound =
+    let s = seen_now now in
+    may_value (some_by valued) some_said _ _ _ _ t now session _ c.in_ok-text-in-Read.text (Value c.in_ok-new-in-Read.field-0)
+    (ap (λ text. Some (Value text)) (sym (c.in_ok-new-in-Read.ensures.ok ∙ c.as_slice-in-Read.ensures.value)))
+    (does_acts valued _ _ _ _ _ t now session c.args.statement.now _ (read_is s session c.args.statement.now c.in-Read.page c.in-Read.is)
+    (no_sync _ (Read c.in-Read.page) c.in-Read.is refl) (read_keeps s c.in-Read.page) ready (c.in_ok-text-in-Read.ensures.turn s t tells ready.base ready.opened))
 
 pub returns-in_err-page-in-PageNew-clause-turn : goal.returns-in_err-page-in-PageNew-clause-turn
-returns-in_err-page-in-PageNew-clause-turn g c s session tells opened sound =
-    does_passed page_made as_said _ _ _ _ _ _ c.from_residual-in_err-page-in-PageNew.result c.from_residual-in_err-page-in-PageNew.ensures
-    (does_turn page_made _ _ _ _ _ _ _ (new_is s session c.args.statement.now c.in-PageNew.is) (c.in_err-page-in-PageNew.ensures.turn s tells opened sound))
+returns-in_err-page-in-PageNew-clause-turn g c now t session tells ready sound =
+    let s = seen_now now in
+    may_passed (some_by page_made) some_said _ _ _ _ t now session _ _ c.from_residual-in_err-page-in-PageNew.result c.from_residual-in_err-page-in-PageNew.ensures
+    (does_acts page_made _ _ _ _ _ t now session c.args.statement.now _ (new_is s session c.args.statement.now c.in-PageNew.is)
+    (no_sync _ PageNew c.in-PageNew.is refl) (new_keeps s) ready
+    (c.in_err-page-in-PageNew.ensures.turn s t tells ready.base ready.opened (subst (λ (b : Base). IsSoundImage b.image) ready.base (sound c.in-PageNew.is))))
 
 pub returns-in_ok-page-in-PageNew-clause-turn : goal.returns-in_ok-page-in-PageNew-clause-turn
-returns-in_ok-page-in-PageNew-clause-turn g c s session tells opened sound =
-    does_value page_made as_said _ _ _ _ _ c.in_ok-page-in-PageNew.page (PageMade c.in_ok-page-in-PageNew.page) refl
-    (does_turn page_made _ _ _ _ _ _ _ (new_is s session c.args.statement.now c.in-PageNew.is) (c.in_ok-page-in-PageNew.ensures.turn s tells opened sound))
+returns-in_ok-page-in-PageNew-clause-turn g c now t session tells ready sound =
+    let s = seen_now now in
+    may_value (some_by page_made) some_said _ _ _ _ t now session _ c.in_ok-page-in-PageNew.page (PageMade c.in_ok-page-in-PageNew.page) refl
+    (does_acts page_made _ _ _ _ _ t now session c.args.statement.now _ (new_is s session c.args.statement.now c.in-PageNew.is)
+    (no_sync _ PageNew c.in-PageNew.is refl) (new_keeps s) ready
+    (c.in_ok-page-in-PageNew.ensures.turn s t tells ready.base ready.opened (subst (λ (b : Base). IsSoundImage b.image) ready.base (sound c.in-PageNew.is))))
 
 pub returns-in_err-page_free-in-Free-clause-turn : goal.returns-in_err-page_free-in-Free-clause-turn
-returns-in_err-page_free-in-Free-clause-turn g c s session tells opened sound =
-    does_passed done as_said _ _ _ _ _ _ c.from_residual-in_err-page_free-in-Free.result c.from_residual-in_err-page_free-in-Free.ensures
-    (does_turn done _ _ _ _ _ _ _ (free_is s session c.args.statement.now c.in-Free.page c.in-Free.is) (c.in_err-page_free-in-Free.ensures.turn s tells opened))
+returns-in_err-page_free-in-Free-clause-turn g c now t session tells ready sound =
+    let s = seen_now now in
+    may_passed (some_by done) some_said _ _ _ _ t now session _ _ c.from_residual-in_err-page_free-in-Free.result c.from_residual-in_err-page_free-in-Free.ensures
+    (does_acts done _ _ _ _ _ t now session c.args.statement.now _ (free_is s session c.args.statement.now c.in-Free.page c.in-Free.is)
+    (no_sync _ (Free c.in-Free.page) c.in-Free.is refl) (free_keeps s c.in-Free.page) ready (c.in_err-page_free-in-Free.ensures.turn s t tells ready.base ready.opened))
 
 pub returns-in_ok-page_free-in-Free-clause-turn : goal.returns-in_ok-page_free-in-Free-clause-turn
-returns-in_ok-page_free-in-Free-clause-turn g c s session tells opened sound =
-    does_value done as_said _ _ _ _ _ c.in_ok-page_free-in-Free.field-0 Done refl
-    (does_turn done _ _ _ _ _ _ _ (free_is s session c.args.statement.now c.in-Free.page c.in-Free.is) (c.in_ok-page_free-in-Free.ensures.turn s tells opened))
+returns-in_ok-page_free-in-Free-clause-turn g c now t session tells ready sound =
+    let s = seen_now now in
+    may_value (some_by done) some_said _ _ _ _ t now session _ c.in_ok-page_free-in-Free.field-0 Done refl
+    (does_acts done _ _ _ _ _ t now session c.args.statement.now _ (free_is s session c.args.statement.now c.in-Free.page c.in-Free.is)
+    (no_sync _ (Free c.in-Free.page) c.in-Free.is refl) (free_keeps s c.in-Free.page) ready (c.in_ok-page_free-in-Free.ensures.turn s t tells ready.base ready.opened))
 
-pub returns-in_err-text-in-Read-clause-apart : goal.returns-in_err-text-in-Read-clause-apart
-returns-in_err-text-in-Read-clause-apart g c tells = quiet_apart _ _ _ c.in_err-text-in-Read.ensures.quiet
+pub returns-in_err-set_forced-in-Forced-clause-turn : goal.returns-in_err-set_forced-in-Forced-clause-turn
+returns-in_err-set_forced-in-Forced-clause-turn g c now t session tells ready sound =
+    let s = seen_now now in
+    may_passed (some_by done) some_said _ _ _ _ t now session _ _ c.from_residual-in_err-set_forced-in-Forced.result c.from_residual-in_err-set_forced-in-Forced.ensures
+    (does_acts done _ _ _ _ _ t now session c.args.statement.now _ (forced_is s session c.args.statement.now c.in-Forced.on c.in-Forced.is)
+    (no_sync _ (Forced c.in-Forced.on) c.in-Forced.is refl) (forced_keeps s c.in-Forced.on) ready (c.in_err-set_forced-in-Forced.ensures.turn s t tells ready.base ready.opened))
 
-pub returns-in_err-new-in-Read-clause-apart : goal.returns-in_err-new-in-Read-clause-apart
-returns-in_err-new-in-Read-clause-apart g c tells = quiet_apart _ _ _ c.in_ok-text-in-Read.ensures.quiet
+pub returns-in_ok-set_forced-in-Forced-clause-turn : goal.returns-in_ok-set_forced-in-Forced-clause-turn
+returns-in_ok-set_forced-in-Forced-clause-turn g c now t session tells ready sound =
+    let s = seen_now now in
+    may_value (some_by done) some_said _ _ _ _ t now session _ c.in_ok-set_forced-in-Forced.field-0 Done refl
+    (does_acts done _ _ _ _ _ t now session c.args.statement.now _ (forced_is s session c.args.statement.now c.in-Forced.on c.in-Forced.is)
+    (no_sync _ (Forced c.in-Forced.on) c.in-Forced.is refl) (forced_keeps s c.in-Forced.on) ready (c.in_ok-set_forced-in-Forced.ensures.turn s t tells ready.base ready.opened))
 
-pub returns-in_ok-new-in-Read-clause-apart : goal.returns-in_ok-new-in-Read-clause-apart
-returns-in_ok-new-in-Read-clause-apart g c tells = quiet_apart _ _ _ c.in_ok-text-in-Read.ensures.quiet
+pub returns-in_err-set_access-in-Access-clause-turn : goal.returns-in_err-set_access-in-Access-clause-turn
+returns-in_err-set_access-in-Access-clause-turn g c now t session tells ready sound =
+    let s = seen_now now in
+    may_passed (some_by done) some_said _ _ _ _ t now session _ _ c.from_residual-in_err-set_access-in-Access.result c.from_residual-in_err-set_access-in-Access.ensures
+    (does_acts done _ _ _ _ _ t now session c.args.statement.now _ (access_is s session c.args.statement.now c.in-Access.read_only c.in-Access.is)
+    (no_sync _ (Access c.in-Access.read_only) c.in-Access.is refl) (access_keeps s c.in-Access.read_only) ready (c.in_err-set_access-in-Access.ensures.turn s t tells ready.base ready.opened))
+
+pub returns-in_ok-set_access-in-Access-clause-turn : goal.returns-in_ok-set_access-in-Access-clause-turn
+returns-in_ok-set_access-in-Access-clause-turn g c now t session tells ready sound =
+    let s = seen_now now in
+    may_value (some_by done) some_said _ _ _ _ t now session _ c.in_ok-set_access-in-Access.field-0 Done refl
+    (does_acts done _ _ _ _ _ t now session c.args.statement.now _ (access_is s session c.args.statement.now c.in-Access.read_only c.in-Access.is)
+    (no_sync _ (Access c.in-Access.read_only) c.in-Access.is refl) (access_keeps s c.in-Access.read_only) ready (c.in_ok-set_access-in-Access.ensures.turn s t tells ready.base ready.opened))
+
+pub returns-in_err-scn-in-BeginBackup-clause-turn : goal.returns-in_err-scn-in-BeginBackup-clause-turn
+returns-in_err-scn-in-BeginBackup-clause-turn g c now t session tells ready sound =
+    let asked = c.in_err-scn-in-BeginBackup.ensures.asks tells in
+    may_passed (some_by scn_is) some_said _ _ _ _ t now session _ _ c.from_residual-in_err-scn-in-BeginBackup.result c.from_residual-in_err-scn-in-BeginBackup.ensures
+    (begin_acts _ _ _ _ _ t now session c.args.statement.now (begin_is (seen_now now) session c.args.statement.now c.in-BeginBackup.is) (no_sync _ BeginBackup c.in-BeginBackup.is refl) ready asked.0 asked.1 asked.2
+    (λ s base gave. c.in_err-scn-in-BeginBackup.ensures.turn s t tells base ready.opened gave))
+
+pub returns-in_ok-scn-in-BeginBackup-clause-turn : goal.returns-in_ok-scn-in-BeginBackup-clause-turn
+returns-in_ok-scn-in-BeginBackup-clause-turn g c now t session tells ready sound =
+    let asked = c.in_ok-scn-in-BeginBackup.ensures.asks tells in
+    may_value (some_by scn_is) some_said _ _ _ _ t now session _ c.in_ok-scn-in-BeginBackup.scn (Scn c.in_ok-scn-in-BeginBackup.scn) refl
+    (begin_acts _ _ _ _ _ t now session c.args.statement.now (begin_is (seen_now now) session c.args.statement.now c.in-BeginBackup.is) (no_sync _ BeginBackup c.in-BeginBackup.is refl) ready asked.0 asked.1 asked.2
+    (λ s base gave. c.in_ok-scn-in-BeginBackup.ensures.turn s t tells base ready.opened gave))
+
+pub returns-in_ok-sync-in-Sync-clause-turn : goal.returns-in_ok-sync-in-Sync-clause-turn
+returns-in_ok-sync-in-Sync-clause-turn g c now t session tells ready sound =
+    may_value (λ v. Some Done) some_said _ _ _ _ t now session _ c.in_ok-sync-in-Sync.field-0 Done refl
+    (sync_acts _ _ _ _ t now session c.args.statement.now c.in-Sync.is ready c.in_ok-sync-in-Sync.ensures.same c.in_ok-sync-in-Sync.ensures.quiet c.in_ok-sync-in-Sync.field-0
+    (c.in_ok-sync-in-Sync.ensures.settled t tells ready.opened))
+
+pub returns-in_err-sync-in-Sync-clause-turn : goal.returns-in_err-sync-in-Sync-clause-turn
+returns-in_err-sync-in-Sync-clause-turn g c now t session tells ready sound =
+    may_passed some_said some_said _ _ _ _ t now session _ Device c.from_residual-in_err-sync-in-Sync.result c.from_residual-in_err-sync-in-Sync.ensures
+    (sync_failed _ _ _ _ t now session c.args.statement.now c.in-Sync.is ready c.in_err-sync-in-Sync.ensures.same c.in_err-sync-in-Sync.ensures.quiet some_said)
+
+pub returns-in-ShowHeader-clause-turn : goal.returns-in-ShowHeader-clause-turn
+returns-in-ShowHeader-clause-turn g c now t session tells ready sound =
+    let s = seen_now now in
+    let w = g.H.Host.world c.args.host.now in
+    let held = c.args.engine.now in
+    does_acts (λ r. r) (Ok c.header_shown.result) w w held held t now session c.args.statement.now (header_turn s) (header_is s session c.args.statement.now c.in-ShowHeader.is) (no_sync _ ShowHeader c.in-ShowHeader.is refl)
+    (header_keeps s) ready (header_does w held t s c.header_shown.result ready.base (no_call w (g.met.H.Host.timely _)) ready.opened (c.header_shown.ensures t.base ready.opened.files.agrees ready.opened.agrees))

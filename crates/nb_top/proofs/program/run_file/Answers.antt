@@ -1,22 +1,29 @@
 use Rattle.std.proofs.Common.{◌≡◌, sym, subst}
 use Rattle.std.specs.Prelude.{Ok, Err}
 use Rattle.nb_host.specs.declared.faults.Fault.TheVariants.{Refused}
-use Rattle.nb_top.specs.Performed.{RunsTo, IsRead, script_in}
-use Rattle.nb_top.proofs.QuietRuns.{runs_quietly, stands_quietly}
+use Rattle.nb_session.proofs.GiftLaws.{grows_none, grows_joined}
+use Rattle.nb_top.specs.Performed.{RunsTo, IsRead, Knows, script_in}
+use Rattle.nb_top.proofs.QuietRuns.{runs_quietly, knows_quietly, quiet_gave, foretold_from}
 use Rattle.nb_top.proofs.JobRuns.{unread_runs, job_refused, script_number}
 use Rattle.nb_top.proofs.ScriptRuns.{runs_err, settled_value, settled_refusal}
 use Rattle.nb_top.proofs.program.run_file.Goals as goal
 
 pub returns-in_err-script-clause-runs : goal.returns-in_err-script-clause-runs
-returns-in_err-script-clause-runs g c account tells stands =
+returns-in_err-script-clause-runs g c account given tells knows told =
     let old = g.H.Host.world c.args.host.now in
     let new = g.H.Host.world c.read_script.new.host in
     let name = c.args.name.now in
-    runs_err c.from_residual.result c.from_residual.ensures.0 (λ r. RunsTo r old new (script_in name (old.files name)) account)
-    (λ e. unread_runs old new name (old.files name) account e stands (g.met.H.Host.reads_left c.args.host.now tells) c.read_script.ensures.quiet)
+    runs_err c.from_residual.result c.from_residual.ensures.0 (λ r. RunsTo r old new (script_in name (old.files name)) account given)
+    (λ e. unread_runs old new name (old.files name) account given e knows c.read_script.ensures.quiet)
+
+pub returns-in_err-script-clause-grows : goal.returns-in_err-script-clause-grows
+returns-in_err-script-clause-grows g c account tells knows =
+    let old = g.H.Host.world c.args.host.now in
+    let new = g.H.Host.world c.read_script.new.host in
+    grows_none old new (quiet_gave old new c.read_script.ensures.quiet)
 
 pub returns-in-Ok-clause-runs : goal.returns-in-Ok-clause-runs
-returns-in-Ok-clause-runs g c account tells stands =
+returns-in-Ok-clause-runs g c account given tells knows told =
     let old = g.H.Host.world c.args.host.now in
     let mid = g.H.Host.world c.read_script.new.host in
     let new = g.H.Host.world c.run_script.new.host in
@@ -25,11 +32,25 @@ returns-in-Ok-clause-runs g c account tells stands =
     let quiet = c.read_script.ensures.quiet in
     let is = settled_value c.in_ok-script.field-0 c.in-Ok.script (λ value. c.read_script.result ≡ Ok value) c.in-Ok.is c.in_ok-script.ensures.value in
     let read : script_in name file ≡ Ok c.in-Ok.script = subst (λ r. IsRead r (script_in name file)) is (c.read_script.ensures.read tells) in
-    runs_quietly c.run_script.result old mid new (script_in name file) account stands quiet
-    (subst (λ asked. RunsTo c.run_script.result mid new asked account) (sym read) (c.run_script.ensures.runs account tells (stands_quietly old mid account quiet stands)))
+    runs_quietly c.run_script.result old mid new (script_in name file) account given quiet
+    (subst (λ asked. RunsTo c.run_script.result mid new asked account given) (sym read)
+    (c.run_script.ensures.runs account given tells (knows_quietly old mid account (Ok c.in-Ok.script) quiet (subst (Knows old.files account) read knows)) (foretold_from old mid new given (quiet_gave old mid quiet) told)))
+
+pub returns-in-Ok-clause-grows : goal.returns-in-Ok-clause-grows
+returns-in-Ok-clause-grows g c account tells knows =
+    let old = g.H.Host.world c.args.host.now in
+    let mid = g.H.Host.world c.read_script.new.host in
+    let new = g.H.Host.world c.run_script.new.host in
+    let name = c.args.name.now in
+    let file = old.files name in
+    let quiet = c.read_script.ensures.quiet in
+    let is = settled_value c.in_ok-script.field-0 c.in-Ok.script (λ value. c.read_script.result ≡ Ok value) c.in-Ok.is c.in_ok-script.ensures.value in
+    let read : script_in name file ≡ Ok c.in-Ok.script = subst (λ r. IsRead r (script_in name file)) is (c.read_script.ensures.read tells) in
+    grows_joined old mid new (grows_none old mid (quiet_gave old mid quiet))
+    (c.run_script.ensures.grows account tells (knows_quietly old mid account (Ok c.in-Ok.script) quiet (subst (Knows old.files account) read knows)))
 
 pub returns-in-Err-clause-runs : goal.returns-in-Err-clause-runs
-returns-in-Err-clause-runs g c account tells stands =
+returns-in-Err-clause-runs g c account given tells knows told =
     let old = g.H.Host.world c.args.host.now in
     let mid = g.H.Host.world c.read_script.new.host in
     let new = g.H.Host.world c.refuse.new.host in
@@ -40,5 +61,12 @@ returns-in-Err-clause-runs g c account tells stands =
     let is = settled_refusal c.in_ok-script.field-0 refusal (λ r. c.read_script.result ≡ Err (Refused r)) c.in-Err.is c.in_ok-script.ensures.refusal in
     let read : script_in name file ≡ Err refusal = subst (λ r. IsRead r (script_in name file)) is (c.read_script.ensures.read tells) in
     let says = c.refuse.ensures.line tells in
-    runs_quietly c.refuse.result old mid new (script_in name file) account stands quiet
-    (job_refused c.refuse.result c.refuse.result mid new (script_in name file) refusal account read (stands_quietly old mid account quiet stands) says (script_number name file refusal read c.refuse.result c.refuse.ensures.ok) says.said)
+    runs_quietly c.refuse.result old mid new (script_in name file) account given quiet
+    (job_refused c.refuse.result c.refuse.result mid new (script_in name file) refusal account given read says (script_number name file refusal read c.refuse.result c.refuse.ensures.ok) says.said)
+
+pub returns-in-Err-clause-grows : goal.returns-in-Err-clause-grows
+returns-in-Err-clause-grows g c account tells knows =
+    let old = g.H.Host.world c.args.host.now in
+    let mid = g.H.Host.world c.read_script.new.host in
+    let new = g.H.Host.world c.refuse.new.host in
+    grows_joined old mid new (grows_none old mid (quiet_gave old mid c.read_script.ensures.quiet)) (grows_none mid new c.refuse.ensures.gave)

@@ -1,82 +1,127 @@
-use Rattle.std.proofs.Common.{◌≡◌, ◌<◌, ℕ, sym, subst, ◌∙◌, arith}
-use Rattle.std.specs.Prelude.{true, false, Ok}
-use Rattle.nb_model.specs.Causes.{no_room}
-use Rattle.nb_model.specs.Image.{Page, image_scn, is_read_only}
-use Rattle.nb_model.specs.Pages.{new_turn}
-use Rattle.nb_model.proofs.NewSound.{lowest_between}
+use Rattle.std.proofs.Common.{◌≡◌, ◌<◌, ◌≤◌, ℕ, length, refl, sym, subst, ◌∙◌, arith}
+use Rattle.std.specs.Prelude.{true, false, Ok, Err}
+use Rattle.nb_host.specs.declared.faults.Fault.TheVariants.{Refused}
+use Rattle.nb_host.specs.declared.refusals.Refusal.TheVariants.{Access, NotDatabase}
 use Rattle.nb_page.proofs.QuietLemmas.{quiet_begun}
-use Rattle.nb_engine.specs.declared.opened.Opened.{Opened}
-use Rattle.nb_engine.specs.Open.{IsOpen}
-use Rattle.nb_engine.specs.Make.{new_raw}
-use Rattle.nb_engine.specs.Find.{HoldsMap}
+use Rattle.nb_model.specs.Account.{Base}
+use Rattle.nb_model.specs.Image.{image_scn, is_read_only}
+use Rattle.nb_model.specs.Causes.{no_room}
+use Rattle.nb_model.specs.Pages.{new_turn}
+use Rattle.nb_model.specs.Sound.{IsSoundImage}
+use Rattle.nb_state.specs.Open.{Held, IsOpen}
+use Rattle.nb_state.specs.Does.{Does}
+use Rattle.nb_state.proofs.MakesLaws.{open_still, makes_none, makes_after}
+use Rattle.nb_engine.specs.Make.{MakesSome, new_raw}
 use Rattle.nb_engine.specs.Replies.{page_made}
-use Rattle.nb_engine.proofs.TestLaws.{vec_whole}
-use Rattle.nb_engine.proofs.QuietDoes.{open_quiet, refused_does, passed_does}
-use Rattle.nb_engine.proofs.MakeLaws.{makes_after_quiet, makes_passed}
-use Rattle.nb_engine.proofs.NewTurn.{tested_as, header_of, well_of, new_closed, new_full, new_says, made_does, no_number}
+use Rattle.nb_engine.proofs.DoesLaws.{seeing, tested_does, refused_does, tries_passed}
+use Rattle.nb_engine.proofs.FullLaws.{lowest_most}
+use Rattle.nb_engine.proofs.NewTurn.{header_of, well_of, new_closed, new_full, new_says, made_does}
 use Rattle.nb_engine.proofs.engine.Engine.page_new.Goals as goal
 
-pub returns-then-self-clause-turn : goal.returns-then-self-clause-turn
-returns-then-self-clause-turn g c s tells shown sound =
-    let first = g.H.Host.world c.args.host.now in
-    let is = subst (λ (o : Opened). IsOpen first o s.base) (sym c.self.view_is) shown in
-    let closed : is_read_only s.base.image ≡ true = sym is.read_only ∙ c.if-self.true in
-    refused_does page_made first first c.args.self.now s (new_turn s) _ (quiet_begun first (g.met.H.Host.timely c.args.host.now)) shown (new_closed s closed)
+pub returns-then-is_read_only-clause-turn : goal.returns-then-is_read_only-clause-turn
+returns-then-is_read_only-clause-turn g c s t tells same is sound =
+    let w = g.H.Host.world c.args.host.now in
+    let here = subst (λ (h : Held). IsOpen w h t) (sym c.self.view_is) is in
+    let closed : is_read_only t.base.image ≡ true = sym here.agrees.read_only ∙ sym c.is_read_only.ensures ∙ c.if-is_read_only.true in
+    refused_does page_made (Access 1) w w _ _ t s new_turn same refl (quiet_begun w (g.met.H.Host.timely c.args.host.now)) is (new_closed (seeing s t.base) closed)
+
+pub returns-then-count-lt-FIRST_TO_GIVE-clause-turn : goal.returns-then-count-lt-FIRST_TO_GIVE-clause-turn
+returns-then-count-lt-FIRST_TO_GIVE-clause-turn g c s t tells same is sound =
+    let w = g.H.Host.world c.args.host.now in
+    let here = subst (λ (h : Held). IsOpen w h t) (sym c.self.view_is) is in
+    let least = (subst (λ (b : Base). IsSoundImage b.image) (sym same) sound).least in
+    absurd {A = Does {T = ℕ} page_made (Err (Refused (NotDatabase c.count-count.result))) w w c.args.self.now c.args.self.now t (new_turn s)} (omega (arith, least, here.files.agrees.count, c.count-count.ensures.value, c.if-count-lt-FIRST_TO_GIVE.true))
 
 pub returns-in_err-first-clause-turn : goal.returns-in_err-first-clause-turn
-returns-in_err-first-clause-turn g c s tells shown sound =
-    let first = g.H.Host.world c.args.host.now in
-    let held = c.self.inside.opened in
-    let is = subst (λ (o : Opened). IsOpen first o s.base) (sym c.self.view_is) shown in
-    let scn : image_scn s.base.image < 4294967296 = omega (arith, is.scn) in
-    let is_well = well_of first held s.base is c.self.invariant.0 scn sound in
-    let free : is_read_only s.base.image ≡ false = sym is.read_only ∙ c.if-self.false in
-    let header = header_of first held s.base (g.met.H.Host.reads_left c.args.host.now tells) is scn in
-    passed_does page_made _ _ held s (new_turn s) c.from_residual.result c.in_err-first.field-0.0 (no_room (new_raw s.base.image).0) c.from_residual.ensures c.in_err-first.ensures.quiet is
-    (tested_as ℕ (Unit {0}) c.in_err-first.field-0.0 _ (c.in_err-first.ensures.test s.base tells is header sound)) (new_full s free is_well)
+returns-in_err-first-clause-turn g c s t tells same is sound =
+    let w = g.H.Host.world c.args.host.now in
+    let here = subst (λ (h : Held). IsOpen w h t) (sym c.self.view_is) is in
+    let image = t.base.image in
+    let whole = subst (λ (b : Base). IsSoundImage b.image) (sym same) sound in
+    let scn : image_scn image < 4294967296 = omega (arith, here.agrees.scn, c.scn-scn.ensures) in
+    let free : is_read_only image ≡ false = sym here.agrees.read_only ∙ sym c.is_read_only.ensures ∙ c.if-is_read_only.false in
+    let is_well = well_of w _ t here c.self.invariant.0 scn whole in
+    let tests = c.in_err-first.ensures in
+    tested_does ℕ ℕ page_made _ _ _ _ _ _ t s new_turn (no_room (new_raw image).0) c.from_residual.ensures same (tests.same ∙ c.self.view_is) tests.quiet is
+    (tests.test t tells here (header_of w _ t here scn) whole) (new_full (seeing s t.base) free is_well)
 
 pub returns-in_err-number-clause-turn : goal.returns-in_err-number-clause-turn
-returns-in_err-number-clause-turn g c s tells shown sound =
-    let first = g.H.Host.world c.args.host.now in
-    let held = c.self.inside.opened in
-    let is = subst (λ (o : Opened). IsOpen first o s.base) (sym c.self.view_is) shown in
-    let scn : image_scn s.base.image < 4294967296 = omega (arith, is.scn) in
-    let is_well = well_of first held s.base is c.self.invariant.0 scn sound in
-    let free : is_read_only s.base.image ≡ false = sym is.read_only ∙ c.if-self.false in
-    let header = header_of first held s.base (g.met.H.Host.reads_left c.args.host.now tells) is scn in
-    let room = c.in_ok-first.ensures.test s.base tells is header sound in
-    let at = c.in_ok-first.ensures.value s.base tells is in
-    let quiet = c.in_ok-first.ensures.quiet in
-    let read : c.deref_mut-4.result.now ≡ c.check_new.new.map = vec_whole _ c.check_new.new.map _ _ c.deref_mut-4.ensures.value (omega (arith, c.check_new.auto.map, c.deref_mut.ensures.len)) in
-    let holds : HoldsMap s.base.image c.in_ok-first.first c.deref_mut-4.result.now = subst (λ (map : Page). HoldsMap s.base.image c.in_ok-first.first map) (sym read) (c.in_ok-first.ensures.map s.base tells is) in
-    let still = open_quiet _ _ held s.base quiet is in
-    made_does _ _ s c.make_new.new.self (new_turn s) (new_raw s.base.image).1 (new_raw s.base.image).0.strokes c.from_residual-in_err-number.result (new_says s free is_well room) (no_number _ _ _ c.from_residual-in_err-number.ensures)
-    (makes_passed {S = ℕ} c.from_residual-in_err-number.result c.in_err-number.field-0.0 _ _ s.base c.make_new.new.self _ c.from_residual-in_err-number.ensures
-    (makes_after_quiet _ _ _ _ s.base held c.make_new.new.self _ quiet is c.make_new.ensures.name (c.in_err-number.ensures.makes s.base tells still is_well at room holds)))
+returns-in_err-number-clause-turn g c s t tells same is sound =
+    let w = g.H.Host.world c.args.host.now in
+    let here = subst (λ (h : Held). IsOpen w h t) (sym c.self.view_is) is in
+    let image = t.base.image in
+    let whole = subst (λ (b : Base). IsSoundImage b.image) (sym same) sound in
+    let scn : image_scn image < 4294967296 = omega (arith, here.agrees.scn, c.scn-scn.ensures) in
+    let free : is_read_only image ≡ false = sym here.agrees.read_only ∙ sym c.is_read_only.ensures ∙ c.if-is_read_only.false in
+    let is_well = well_of w _ t here c.self.invariant.0 scn whole in
+    let tests = c.in_ok-first.ensures in
+    let room = tests.test t tells here (header_of w _ t here scn) whole in
+    let at = tests.value t tells here in
+    let low : c.in_ok-first.first ≤ length image = omega (arith, at, lowest_most image whole.least) in
+    let still = open_still _ _ _ _ t tests.same tests.quiet here in
+    let fault = c.in_err-number.field-0.0 in
+    let these = (c.in_err-number.ensures.makes t tells still at low (tests.map t tells here)).these (is_well, room) in
+    let result = c.from_residual-in_err-number.result in
+    tries_passed result fault (λ r. Does page_made r w (g.H.Host.world c.make_new.new.host) c.args.self.now c.make_new.new.store t (new_turn s)) c.from_residual-in_err-number.ensures
+    (made_does (Err fault) w _ c.args.self.now c.make_new.new.store t s (new_raw image).1 (new_raw image).0.strokes same (new_says (seeing s t.base) free is_well room) tt these.sure
+    (makes_after (Err fault) w _ _ _ _ _ t (new_raw image).0.strokes (tests.same ∙ c.self.view_is) tests.quiet is these.makes))
 
 pub returns-clause-turn : goal.returns-clause-turn
-returns-clause-turn g c s tells shown sound =
-    let first = g.H.Host.world c.args.host.now in
-    let held = c.self.inside.opened in
-    let is = subst (λ (o : Opened). IsOpen first o s.base) (sym c.self.view_is) shown in
-    let scn : image_scn s.base.image < 4294967296 = omega (arith, is.scn) in
-    let is_well = well_of first held s.base is c.self.invariant.0 scn sound in
-    let free : is_read_only s.base.image ≡ false = sym is.read_only ∙ c.if-self.false in
-    let header = header_of first held s.base (g.met.H.Host.reads_left c.args.host.now tells) is scn in
-    let room = c.in_ok-first.ensures.test s.base tells is header sound in
-    let at = c.in_ok-first.ensures.value s.base tells is in
-    let quiet = c.in_ok-first.ensures.quiet in
-    let read : c.deref_mut-4.result.now ≡ c.check_new.new.map = vec_whole _ c.check_new.new.map _ _ c.deref_mut-4.ensures.value (omega (arith, c.check_new.auto.map, c.deref_mut.ensures.len)) in
-    let holds : HoldsMap s.base.image c.in_ok-first.first c.deref_mut-4.result.now = subst (λ (map : Page). HoldsMap s.base.image c.in_ok-first.first map) (sym read) (c.in_ok-first.ensures.map s.base tells is) in
-    let still = open_quiet _ _ held s.base quiet is in
-    let made = c.in_ok-number.ensures.makes s.base tells still is_well at room holds in
-    made_does _ _ s c.make_new.new.self (new_turn s) (new_raw s.base.image).1 (new_raw s.base.image).0.strokes (Ok c.in_ok-number.number) (new_says s free is_well room) (c.in_ok-number.ensures.value s.base tells still is_well at room holds)
-    (makes_after_quiet _ _ _ _ s.base held c.make_new.new.self _ quiet is c.make_new.ensures.name made)
+returns-clause-turn g c s t tells same is sound =
+    let w = g.H.Host.world c.args.host.now in
+    let here = subst (λ (h : Held). IsOpen w h t) (sym c.self.view_is) is in
+    let image = t.base.image in
+    let whole = subst (λ (b : Base). IsSoundImage b.image) (sym same) sound in
+    let scn : image_scn image < 4294967296 = omega (arith, here.agrees.scn, c.scn-scn.ensures) in
+    let free : is_read_only image ≡ false = sym here.agrees.read_only ∙ sym c.is_read_only.ensures ∙ c.if-is_read_only.false in
+    let is_well = well_of w _ t here c.self.invariant.0 scn whole in
+    let tests = c.in_ok-first.ensures in
+    let room = tests.test t tells here (header_of w _ t here scn) whole in
+    let at = tests.value t tells here in
+    let low : c.in_ok-first.first ≤ length image = omega (arith, at, lowest_most image whole.least) in
+    let still = open_still _ _ _ _ t tests.same tests.quiet here in
+    let these = (c.in_ok-number.ensures.makes t tells still at low (tests.map t tells here)).these (is_well, room) in
+    made_does (Ok c.in_ok-number.number) w _ c.args.self.now c.make_new.new.store t s (new_raw image).1 (new_raw image).0.strokes same (new_says (seeing s t.base) free is_well room)
+    (c.in_ok-number.ensures.value t tells still at low (tests.map t tells here) is_well room) tt
+    (makes_after (Ok c.in_ok-number.number) w _ _ _ _ _ t (new_raw image).0.strokes (tests.same ∙ c.self.view_is) tests.quiet is these.makes)
 
-pub returns-then-first-self-clause-turn : goal.returns-then-first-self-clause-turn
-returns-then-first-self-clause-turn g c s tells shown sound =
-    let first = g.H.Host.world c.args.host.now in
-    let is = subst (λ (o : Opened). IsOpen first o s.base) (sym c.self.view_is) shown in
-    let at = c.in_ok-first.ensures.value s.base tells is in
-    let low = lowest_between s.base.image sound.least in
-    absurd (omega (arith, c.if-first-self.true, at, low.1, is.count))
+pub returns-then-is_read_only-clause-some : goal.returns-then-is_read_only-clause-some
+returns-then-is_read_only-clause-some g c t tells is =
+    let w = g.H.Host.world c.args.host.now in
+    record { made = _; makes = makes_none {T = ℕ} (Err (Refused (Access 1))) w w _ _ t refl (quiet_begun w (g.met.H.Host.timely c.args.host.now)) is }
+
+pub returns-then-count-lt-FIRST_TO_GIVE-clause-some : goal.returns-then-count-lt-FIRST_TO_GIVE-clause-some
+returns-then-count-lt-FIRST_TO_GIVE-clause-some g c t tells is =
+    let w = g.H.Host.world c.args.host.now in
+    record { made = _; makes = makes_none {T = ℕ} (Err (Refused (NotDatabase c.count-count.result))) w w _ _ t refl (quiet_begun w (g.met.H.Host.timely c.args.host.now)) is }
+
+pub returns-in_err-first-clause-some : goal.returns-in_err-first-clause-some
+returns-in_err-first-clause-some g c t tells is =
+    let tests = c.in_err-first.ensures in
+    record { made = _; makes = makes_none {T = ℕ} c.from_residual.result (g.H.Host.world c.args.host.now) _ _ _ t (tests.same ∙ c.self.view_is) tests.quiet is }
+
+pub returns-in_err-number-clause-some : goal.returns-in_err-number-clause-some
+returns-in_err-number-clause-some g c t tells is =
+    let w = g.H.Host.world c.args.host.now in
+    let here = subst (λ (h : Held). IsOpen w h t) (sym c.self.view_is) is in
+    let tests = c.in_ok-first.ensures in
+    let at = tests.value t tells here in
+    let least : 5 ≤ length t.base.image = omega (arith, here.files.agrees.count, c.count-count.ensures.value, c.if-count-lt-FIRST_TO_GIVE.false) in
+    let low : c.in_ok-first.first ≤ length t.base.image = omega (arith, at, lowest_most t.base.image least) in
+    let still = open_still _ _ _ _ t tests.same tests.quiet here in
+    let fault = c.in_err-number.field-0.0 in
+    let some = (c.in_err-number.ensures.makes t tells still at low (tests.map t tells here)).some in
+    tries_passed c.from_residual-in_err-number.result fault (λ r. MakesSome r w (g.H.Host.world c.make_new.new.host) c.args.self.now c.make_new.new.store t) c.from_residual-in_err-number.ensures
+    (record { made = some.made; makes = makes_after (Err fault) w _ _ _ _ _ t some.made (tests.same ∙ c.self.view_is) tests.quiet is some.makes })
+
+pub returns-clause-some : goal.returns-clause-some
+returns-clause-some g c t tells is =
+    let w = g.H.Host.world c.args.host.now in
+    let here = subst (λ (h : Held). IsOpen w h t) (sym c.self.view_is) is in
+    let tests = c.in_ok-first.ensures in
+    let at = tests.value t tells here in
+    let least : 5 ≤ length t.base.image = omega (arith, here.files.agrees.count, c.count-count.ensures.value, c.if-count-lt-FIRST_TO_GIVE.false) in
+    let low : c.in_ok-first.first ≤ length t.base.image = omega (arith, at, lowest_most t.base.image least) in
+    let still = open_still _ _ _ _ t tests.same tests.quiet here in
+    let some = (c.in_ok-number.ensures.makes t tells still at low (tests.map t tells here)).some in
+    record { made = some.made; makes = makes_after (Ok c.in_ok-number.number) w _ _ _ _ _ t some.made (tests.same ∙ c.self.view_is) tests.quiet is some.makes }

@@ -1,100 +1,106 @@
-use Rattle.std.proofs.Common.{◌≡◌, sym, subst, ◌∙◌, arith}
-use Rattle.nb_model.specs.Image.{page_at}
+use Rattle.std.proofs.Common.{◌≡◌, List, [], ◌∷◌, ◌++◌, refl, sym, subst, ◌∙◌, arith}
+use Rattle.std.specs.Prelude.{Ok, Err}
+use Rattle.nb_fields.specs.Payloads.{text_payload}
+use Rattle.nb_model.specs.declared.reply.Reply.TheVariants.{Done}
+use Rattle.nb_model.specs.Image.{Image, page_at}
+use Rattle.nb_model.specs.Strokes.{Stroke}
+use Rattle.nb_model.specs.Outcomes.{Seen}
 use Rattle.nb_model.specs.Pages.{write_turn}
-use Rattle.nb_engine.specs.declared.opened.Opened.{Opened}
-use Rattle.nb_engine.specs.Open.{IsOpen}
+use Rattle.nb_state.specs.Open.{Held, IsOpen}
+use Rattle.nb_state.proofs.MakesLaws.{open_still}
+use Rattle.nb_engine.specs.Tries.{Tries}
+use Rattle.nb_engine.specs.Put.{entry_cause, raise_strokes, raw_stroke}
 use Rattle.nb_engine.specs.Replies.{done}
 use Rattle.nb_engine.proofs.TestLaws.{vec_whole}
-use Rattle.nb_engine.proofs.QuietDoes.{open_quiet, passed_does}
-use Rattle.nb_engine.proofs.WriteLaws.{MayWrite, header_does, write_untaken, write_checked, raise_does, failed_write, written_does}
-use Rattle.nb_change.specs.Apart.{Apart}
-use Rattle.nb_engine.proofs.ApartLaws.{quiet_apart, quiet_then_apart, apart_then}
+use Rattle.nb_engine.proofs.MarkLaws.{entries_some}
+use Rattle.nb_engine.proofs.DoesLaws.{seeing, tested_does, tries_does, if_err, tries_passed, tries_after, tries_front}
+use Rattle.nb_engine.proofs.PutLaws.{put_stroke-after}
+use Rattle.nb_engine.proofs.WriteLaws.{no_header, write_untaken, write_checked, write_is, is_raw}
+use Rattle.nb_engine.proofs.PageLaws.{then_page}
 use Rattle.nb_engine.proofs.engine.Engine.page_write.Goals as goal
 
 pub returns-in_err-take_raw-clause-turn : goal.returns-in_err-take_raw-clause-turn
-returns-in_err-take_raw-clause-turn g c s tells shown =
-    let is = subst (λ (o : Opened). IsOpen (g.H.Host.world c.args.host.now) o s.base) (sym c.self.view_is) shown in
-    passed_does done _ _ c.self.inside.opened s (write_turn s c.args.number c.args.text.now) c.from_residual.result _ _ c.from_residual.ensures c.in_err-take_raw.ensures.quiet is
-    (c.in_err-take_raw.ensures.test s.base tells is) (write_untaken s c.args.number c.args.text.now)
+returns-in_err-take_raw-clause-turn g c s t tells same is =
+    let here = subst (λ (h : Held). IsOpen (g.H.Host.world c.args.host.now) h t) (sym c.self.view_is) is in
+    let raw = c.in_err-take_raw.ensures in
+    tested_does (Unit {0}) (Unit {0}) done _ _ _ _ _ _ t s (λ (x : Seen). write_turn x c.args.number c.args.text.now) _ c.from_residual.ensures same (raw.same ∙ c.self.view_is) raw.quiet is
+    (raw.reads t tells here).test (write_untaken (seeing s t.base) c.args.number c.args.text.now)
 
 pub returns-then-number-eq0-clause-turn : goal.returns-then-number-eq0-clause-turn
-returns-then-number-eq0-clause-turn g c s tells shown =
-    let is = subst (λ (o : Opened). IsOpen (g.H.Host.world c.args.host.now) o s.base) (sym c.self.view_is) shown in
-    header_does (g.H.Host.world c.args.host.now) (g.H.Host.world c.take_raw.new.host) c.self.inside.opened s c.args.number _ (write_turn s c.args.number c.args.text.now) (g.met.H.Host.reads_left c.args.host.now tells) is
-    (c.in_ok-take_raw.ensures.test s.base tells is) c.if-number-eq0.true
+returns-then-number-eq0-clause-turn g c s t tells same is =
+    let here = subst (λ (h : Held). IsOpen (g.H.Host.world c.args.host.now) h t) (sym c.self.view_is) is in
+    absurd (no_header t.base.image c.args.number is.files.agrees.header (c.in_ok-take_raw.ensures.reads t tells here).test c.if-number-eq0.true)
 
 pub returns-in_err-check_write-clause-turn : goal.returns-in_err-check_write-clause-turn
-returns-in_err-check_write-clause-turn g c s tells shown =
-    let is = subst (λ (o : Opened). IsOpen (g.H.Host.world c.args.host.now) o s.base) (sym c.self.view_is) shown in
-    passed_does done _ _ c.self.inside.opened s (write_turn s c.args.number c.args.text.now) c.from_residual-in_err-check_write.result _ _ c.from_residual-in_err-check_write.ensures c.in_ok-take_raw.ensures.quiet is
-    (c.in_err-check_write.ensures.test s.base.image is.read_only) (write_checked s c.args.number c.args.text.now (c.in_ok-take_raw.ensures.test s.base tells is))
+returns-in_err-check_write-clause-turn g c s t tells same is =
+    let here = subst (λ (h : Held). IsOpen (g.H.Host.world c.args.host.now) h t) (sym c.self.view_is) is in
+    let raw = c.in_ok-take_raw.ensures in
+    let still = open_still _ _ _ _ t raw.same raw.quiet here in
+    tested_does (Unit {0}) (Unit {0}) done _ _ _ _ _ _ t s (λ (x : Seen). write_turn x c.args.number c.args.text.now) _ c.from_residual-in_err-check_write.ensures same (raw.same ∙ c.self.view_is) raw.quiet is
+    (c.in_err-check_write.ensures.test t.base.image (c.is_read_only.ensures ∙ still.agrees.read_only)) (write_checked (seeing s t.base) c.args.number c.args.text.now (raw.reads t tells here).test)
 
 pub returns-in_err-raise_entry-clause-turn : goal.returns-in_err-raise_entry-clause-turn
-returns-in_err-raise_entry-clause-turn g c s tells shown =
-    let held = c.self.inside.opened in
-    let is = subst (λ (o : Opened). IsOpen (g.H.Host.world c.args.host.now) o s.base) (sym c.self.view_is) shown in
-    let quiet = c.in_ok-take_raw.ensures.quiet in
-    let still = open_quiet _ _ held s.base quiet is in
-    let may : MayWrite (g.H.Host.world c.args.host.now) held s c.args.number c.args.text.now =
-    record { is = is; size = c.self.invariant.0; raw = c.in_ok-take_raw.ensures.test s.base tells is; free = c.in_ok-check_write.ensures.test s.base.image is.read_only } in
-    raise_does (g.H.Host.world c.args.host.now) (g.H.Host.world c.take_raw.new.host) (g.H.Host.world c.raise_entry.new.host) held s c.args.number c.args.text.now may quiet
-    (c.raise_entry.ensures.left s.base tells still) c.from_residual-in_err-raise_entry.result c.in_err-raise_entry.field-0.0 c.from_residual-in_err-raise_entry.ensures
-    (c.in_err-raise_entry.ensures.test s.base tells still) (c.in_err-raise_entry.ensures.after s.base tells still)
+returns-in_err-raise_entry-clause-turn g c s t tells same is =
+    let image = t.base.image in
+    let p = c.args.number in
+    let text = c.args.text.now in
+    let old = g.H.Host.world c.args.host.now in
+    let new = g.H.Host.world c.raise_entry.new.host in
+    let here = subst (λ (h : Held). IsOpen old h t) (sym c.self.view_is) is in
+    let raw = c.in_ok-take_raw.ensures in
+    let still = open_still _ _ _ _ t raw.same raw.quiet here in
+    let some = entries_some _ image c.self.invariant.0 here.files.agrees.page_size in
+    let turn = write_is (seeing s t.base) p text (raw.reads t tells here).test (c.in_ok-check_write.ensures.test image (c.is_read_only.ensures ∙ still.agrees.read_only)) some in
+    let both : List Stroke = raise_strokes image p ++ raw_stroke image p text ∷ [] in
+    let fault = c.in_err-raise_entry.field-0.0 in
+    let result = c.from_residual-in_err-raise_entry.result in
+    let tries = tries_passed result fault (λ r. Tries r old new c.args.self.now c.raise_entry.new.store t (entry_cause image p) both) c.from_residual-in_err-raise_entry.ensures
+    (tries_front (Unit {0}) (Unit {0}) fault _ _ _ _ t _ (raise_strokes image p) (raw_stroke image p text ∷ [])
+    (tries_after {T = Unit {0}} (Err fault) _ _ _ _ _ _ t _ _ (raw.same ∙ c.self.view_is) raw.quiet is (c.in_err-raise_entry.ensures.tries t tells still))) in
+    tries_does done result old new _ _ t s (λ (x : Seen). write_turn x p text) _ Done both same turn (if_err result fault _ c.from_residual-in_err-raise_entry.ensures) tries
 
 pub returns-in_err-write_raw-clause-turn : goal.returns-in_err-write_raw-clause-turn
-returns-in_err-write_raw-clause-turn g c s tells shown =
-    let held = c.self.inside.opened in
-    let first = g.H.Host.world c.args.host.now in
-    let is = subst (λ (o : Opened). IsOpen first o s.base) (sym c.self.view_is) shown in
-    let quiet = c.in_ok-take_raw.ensures.quiet in
-    let still = open_quiet _ _ held s.base quiet is in
-    let may : MayWrite first held s c.args.number c.args.text.now =
-    record { is = is; size = c.self.invariant.0; raw = c.in_ok-take_raw.ensures.test s.base tells is; free = c.in_ok-check_write.ensures.test s.base.image is.read_only } in
-    let entry = c.in_ok-raise_entry.ensures in
-    let read : c.deref_mut-4.result.now ≡ page_at s.base.image c.args.number =
-    vec_whole _ c.take_raw.new.page _ _ c.deref_mut-4.ensures.value (omega (arith, c.take_raw.auto.page, c.deref_mut.ensures.len)) ∙ c.in_ok-take_raw.ensures.page s.base tells is in
-    failed_write first (g.H.Host.world c.take_raw.new.host) (g.H.Host.world c.raise_entry.new.host) held s c.args.number c.args.text.now may quiet (entry.left s.base tells still) (g.H.Host.world c.write_raw.new.host)
-    c.deref_mut-4.result.now (entry.test s.base tells still) (entry.after s.base tells still) read (λ b opened low same. c.write_raw.ensures.left b tells opened low same)
-    c.from_residual-in_err-write_raw.result c.from_residual-in_err-write_raw.ensures
+returns-in_err-write_raw-clause-turn g c s t tells same is =
+    let image = t.base.image in
+    let p = c.args.number in
+    let text = c.args.text.now in
+    let old = g.H.Host.world c.args.host.now in
+    let mid = g.H.Host.world c.raise_entry.new.host in
+    let new = g.H.Host.world c.write_raw.new.host in
+    let here = subst (λ (h : Held). IsOpen old h t) (sym c.self.view_is) is in
+    let raw = c.in_ok-take_raw.ensures in
+    let reads = raw.reads t tells here in
+    let still = open_still _ _ _ _ t raw.same raw.quiet here in
+    let some = entries_some _ image c.self.invariant.0 here.files.agrees.page_size in
+    let of_raw = is_raw image p reads.test in
+    let turn = write_is (seeing s t.base) p text reads.test (c.in_ok-check_write.ensures.test image (c.is_read_only.ensures ∙ still.agrees.read_only)) some in
+    let first = tries_after {T = Unit {0}} (Ok tt) old _ mid c.args.self.now _ c.raise_entry.new.store t _ _ (raw.same ∙ c.self.view_is) raw.quiet is (c.in_ok-raise_entry.ensures.tries t tells still) in
+    let read : c.deref_mut-2.result.now ≡ page_at image p = vec_whole _ c.take_raw.new.page _ _ c.deref_mut-2.ensures.value (omega (arith, c.take_raw.auto.page, c.deref_mut.ensures.len)) ∙ reads.page in
+    let fault = c.in_err-write_raw.field-0.0 in
+    let result = c.from_residual-in_err-write_raw.result in
+    let both : List Stroke = raise_strokes image p ++ raw_stroke image p text ∷ [] in
+    let tries = tries_passed result fault (λ r. Tries r old new c.args.self.now c.write_raw.new.store t (entry_cause image p) both) c.from_residual-in_err-write_raw.ensures
+    (then_page old mid _ _ t p of_raw.plain some first {T = Unit {0}} (Err fault) new _ c.deref_mut-2.result.now (λ (x : Image). raw_stroke x p text) of_raw.low read (put_stroke-after image _ p 8 (text_payload text))
+    c.in_err-write_raw.ensures.not_refused (λ u opened low is. c.in_err-write_raw.ensures.makes u tells opened low is)) in
+    tries_does done result old new _ _ t s (λ (x : Seen). write_turn x p text) _ Done both same turn (if_err result fault _ c.from_residual-in_err-write_raw.ensures) tries
 
 pub returns-clause-turn : goal.returns-clause-turn
-returns-clause-turn g c s tells shown =
-    let held = c.self.inside.opened in
-    let first = g.H.Host.world c.args.host.now in
-    let is = subst (λ (o : Opened). IsOpen first o s.base) (sym c.self.view_is) shown in
-    let quiet = c.in_ok-take_raw.ensures.quiet in
-    let still = open_quiet _ _ held s.base quiet is in
-    let may : MayWrite first held s c.args.number c.args.text.now =
-    record { is = is; size = c.self.invariant.0; raw = c.in_ok-take_raw.ensures.test s.base tells is; free = c.in_ok-check_write.ensures.test s.base.image is.read_only } in
-    let entry = c.in_ok-raise_entry.ensures in
-    let read : c.deref_mut-4.result.now ≡ page_at s.base.image c.args.number =
-    vec_whole _ c.take_raw.new.page _ _ c.deref_mut-4.ensures.value (omega (arith, c.take_raw.auto.page, c.deref_mut.ensures.len)) ∙ c.in_ok-take_raw.ensures.page s.base tells is in
-    written_does first (g.H.Host.world c.take_raw.new.host) (g.H.Host.world c.raise_entry.new.host) held s c.args.number c.args.text.now may quiet (entry.left s.base tells still) (g.H.Host.world c.write_raw.new.host)
-    c.deref_mut-4.result.now (entry.test s.base tells still) (entry.after s.base tells still) read (λ b opened low same. c.write_raw.ensures.left b tells opened low same)
-    (λ b opened low same. c.in_ok-write_raw.ensures.after b tells opened low same)
-
-pub returns-in_err-take_raw-clause-apart : goal.returns-in_err-take_raw-clause-apart
-returns-in_err-take_raw-clause-apart g c tells = subst (λ (o : Opened). Apart (g.H.Host.world c.args.host.now) (g.H.Host.world c.take_raw.new.host) o.name) c.self.view_is (quiet_apart _ _ _ c.in_err-take_raw.ensures.quiet)
-
-pub returns-then-number-eq0-clause-apart : goal.returns-then-number-eq0-clause-apart
-returns-then-number-eq0-clause-apart g c tells = subst (λ (o : Opened). Apart (g.H.Host.world c.args.host.now) (g.H.Host.world c.take_raw.new.host) o.name) c.self.view_is (quiet_apart _ _ _ c.in_ok-take_raw.ensures.quiet)
-
-pub returns-in_err-check_write-clause-apart : goal.returns-in_err-check_write-clause-apart
-returns-in_err-check_write-clause-apart g c tells = subst (λ (o : Opened). Apart (g.H.Host.world c.args.host.now) (g.H.Host.world c.take_raw.new.host) o.name) c.self.view_is (quiet_apart _ _ _ c.in_ok-take_raw.ensures.quiet)
-
-pub returns-in_err-raise_entry-clause-apart : goal.returns-in_err-raise_entry-clause-apart
-returns-in_err-raise_entry-clause-apart g c tells =
-    subst (λ (o : Opened). Apart (g.H.Host.world c.args.host.now) (g.H.Host.world c.raise_entry.new.host) o.name) c.self.view_is
-    (quiet_then_apart _ _ _ _ c.in_ok-take_raw.ensures.quiet (c.raise_entry.ensures.apart tells))
-
-pub returns-in_err-write_raw-clause-apart : goal.returns-in_err-write_raw-clause-apart
-returns-in_err-write_raw-clause-apart g c tells =
-    subst (λ (o : Opened). Apart (g.H.Host.world c.args.host.now) (g.H.Host.world c.write_raw.new.host) o.name) c.self.view_is
-    (apart_then _ _ _ _ (g.met.H.Host.timely c.raise_entry.new.host) (g.met.H.Host.reads_left c.raise_entry.new.host tells)
-    (quiet_then_apart _ _ _ _ c.in_ok-take_raw.ensures.quiet (c.raise_entry.ensures.apart tells)) (c.write_raw.ensures.apart tells))
-
-pub returns-clause-apart : goal.returns-clause-apart
-returns-clause-apart g c tells =
-    subst (λ (o : Opened). Apart (g.H.Host.world c.args.host.now) (g.H.Host.world c.write_raw.new.host) o.name) c.self.view_is
-    (apart_then _ _ _ _ (g.met.H.Host.timely c.raise_entry.new.host) (g.met.H.Host.reads_left c.raise_entry.new.host tells)
-    (quiet_then_apart _ _ _ _ c.in_ok-take_raw.ensures.quiet (c.raise_entry.ensures.apart tells)) (c.write_raw.ensures.apart tells))
+returns-clause-turn g c s t tells same is =
+    let image = t.base.image in
+    let p = c.args.number in
+    let text = c.args.text.now in
+    let old = g.H.Host.world c.args.host.now in
+    let mid = g.H.Host.world c.raise_entry.new.host in
+    let new = g.H.Host.world c.write_raw.new.host in
+    let here = subst (λ (h : Held). IsOpen old h t) (sym c.self.view_is) is in
+    let raw = c.in_ok-take_raw.ensures in
+    let reads = raw.reads t tells here in
+    let still = open_still _ _ _ _ t raw.same raw.quiet here in
+    let some = entries_some _ image c.self.invariant.0 here.files.agrees.page_size in
+    let of_raw = is_raw image p reads.test in
+    let turn = write_is (seeing s t.base) p text reads.test (c.in_ok-check_write.ensures.test image (c.is_read_only.ensures ∙ still.agrees.read_only)) some in
+    let first = tries_after {T = Unit {0}} (Ok tt) old _ mid c.args.self.now _ c.raise_entry.new.store t _ _ (raw.same ∙ c.self.view_is) raw.quiet is (c.in_ok-raise_entry.ensures.tries t tells still) in
+    let read : c.deref_mut-2.result.now ≡ page_at image p = vec_whole _ c.take_raw.new.page _ _ c.deref_mut-2.ensures.value (omega (arith, c.take_raw.auto.page, c.deref_mut.ensures.len)) ∙ reads.page in
+    let tries = then_page old mid _ _ t p of_raw.plain some first {T = Unit {0}} (Ok tt) new _ c.deref_mut-2.result.now (λ (x : Image). raw_stroke x p text) of_raw.low read (put_stroke-after image _ p 8 (text_payload text))
+    tt (λ u opened low is. c.in_ok-write_raw.ensures.makes u tells opened low is) in
+    tries_does done (Ok tt) old new _ _ t s (λ (x : Seen). write_turn x p text) _ Done _ same turn refl tries

@@ -1,4 +1,4 @@
-use Rattle.std.proofs.Common.{ℕ, List, [], ◌∷◌, sym, subst, ◌∙◌}
+use Rattle.std.proofs.Common.{inl, ℕ, List, [], ◌∷◌, replicate, refl, sym, subst, ◌∙◌}
 use Rattle.std.specs.Prelude.{Ok}
 use Rattle.nb_host.specs.World.{World}
 use Rattle.nb_host.specs.declared.faults.Fault.TheVariants.{Device}
@@ -42,3 +42,9 @@ returns-clause-begins g c t guid ask tells is may =
     let struck = still_struck old mid new held t (begin given ask ∷ []) is (g.met.H.Host.timely _) call.files call.log.said call.time takes.left in
     subst (λ (x : List ℕ). Begins (Ok c.in_ok-scn.scn) old new held after t x ask) (sym (given_guid old.guids new.guids given guid (with.gave.guids ∙ gave) may))
     (begin_done old mid new held after t given ask is allowed struck gave with.gave call.log.times with.running with.name c.in_ok-scn.scn with.answer takes.done)
+
+pub returns-in_err-check_begin-clause-asks : goal.returns-in_err-check_begin-clause-asks
+returns-in_err-check_begin-clause-asks g c tells = (replicate 16 0, refl, inl refl)
+
+pub returns-in_err-guid-clause-asks : goal.returns-in_err-guid-clause-asks
+returns-in_err-guid-clause-asks g c tells = (replicate 16 0, refl, inl (c.in_err-guid.ensures.log.guids tells))

@@ -1,0 +1,161 @@
+-- How a backup begins and ends by its turn.
+use Rattle.std.proofs.Common.{◌≡◌, ℕ, ◌+◌, List, [], ◌∷◌, refl, sym, ap, subst, ◌∙◌}
+use Rattle.std.specs.Prelude.{Option, Some, None, Result, Ok, Err}
+use Rattle.nb_host.specs.World.{World}
+use Rattle.nb_host.specs.declared.faults.Fault.{Fault}
+use Rattle.nb_host.specs.declared.faults.Fault.TheVariants.{Refused as RefusedFault, Device, Memory}
+use Rattle.nb_host.specs.declared.refusals.Refusal.{Refusal}
+use Rattle.nb_page.specs.Quiet.{Quiet}
+use Rattle.nb_model.specs.declared.reply.Reply.TheVariants.{Refused, Scn}
+use Rattle.nb_model.specs.Image.{image_scn}
+use Rattle.nb_model.specs.Account.{Base}
+use Rattle.nb_model.specs.Strokes.{Stroke, begin}
+use Rattle.nb_model.specs.Causes.{Cause, read_only, not_state, no_scn}
+use Rattle.nb_model.specs.Outcomes.{Seen, Outcome, next_guid, without_guid, says, unless}
+use Rattle.nb_model.specs.Pages.{begin_turn, end_turn, end_strokes, end_scn, ends_by}
+use Rattle.nb_model.specs.Trail.{Trail}
+use Rattle.nb_base.specs.Takes.{Strikes, after_strokes}
+use Rattle.nb_state.specs.Open.{Held, IsOpen, name_of}
+use Rattle.nb_state.specs.Does.{unless_by}
+use Rattle.nb_state.specs.Turns.{begin_cause, end_cause, Begins, Ends}
+use Rattle.nb_state.proofs.MakesLaws.{open_still, none_yet}
+use Rattle.nb_engine.specs.Turns.{DoesBegin, DoesEnd}
+use Rattle.nb_engine.proofs.CauseLaws.{unless_refused, unless_allowed, first_next, first_here}
+use Rattle.nb_engine.proofs.DoesLaws.{seeing}
+
+-- what a turn does that isn't refused, its strokes by the cause
+strokes_by : (s : Seen) (cause : Cause) (o : Outcome) → (unless s cause o).strokes ≡ unless_by cause o.strokes
+unfolding unless
+strokes_by s None o = refl
+strokes_by s (Some r) o = refl
+
+-- a backup that begins
+abbrev begun : Seen → Outcome
+begun s = record {
+  strokes = begin (next_guid s.given) None ∷ [];
+  reply = Some (Scn (image_scn s.base.image + 1));
+  next = [];
+  running = s.running;
+  made = None;
+  given = without_guid s.given;
+}
+
+begin_is : (s : Seen) → read_only s.base.image ≡ None → begin_turn s ≡ unless s (begin_cause s.base.image) (begun s)
+unfolding begin_turn
+begin_is s free = ap (λ (c : Cause). unless s c (begun s)) (first_next (read_only s.base.image) (not_state 0 s.base.image ∷ no_scn s.base.image ∷ []) free)
+
+pub begin_closed : (s : Seen) (r : Refusal) → read_only s.base.image ≡ Some r → begin_turn s ≡ says s (Refused r) []
+unfolding begin_turn
+begin_closed s r closed = unless_refused s _ (begun s) r (first_here (read_only s.base.image) _ r closed)
+
+-- it was refused before it began
+pub refused_begin : (r : Refusal) (old new : World) (a : Held) (t : Trail) (s : Seen) → t.base ≡ s.base → Quiet old new → IsOpen old a t → read_only t.base.image ≡ Some r → DoesBegin (Err (RefusedFault r)) old new a a t (next_guid s.given) (begin_turn s)
+refused_begin r old new a t s same quiet is closed =
+    subst (λ (x : Base). DoesBegin (Err (RefusedFault r)) old new a a t (next_guid s.given) (begin_turn (seeing s x))) same
+    (subst (λ (o : Outcome). DoesBegin (Err (RefusedFault r)) old new a a t (next_guid s.given) o) (sym (begin_closed (seeing s t.base) r closed)) (record {
+      answer = refl;
+      left = none_yet old new a t [] quiet is;
+      opened = open_still old new a a t refl quiet is;
+      gave = tt;
+      times = quiet.times;
+      refused = (refl, quiet);
+      running = refl;
+      name = refl;
+    }))
+
+module _ (old new : World) (a b : Held) (t : Trail) (s : Seen) (is : IsOpen old a t) where
+  abbrev here : Seen
+  here = seeing s t.base
+
+  -- it begins as the store does
+  pub does_begin : (result : Result ℕ Fault) → t.base ≡ s.base → read_only t.base.image ≡ None → Begins result old new a b t (next_guid s.given) None → DoesBegin result old new a b t (next_guid s.given) (begin_turn s)
+  does_begin result same free begins =
+      subst (λ (x : Base). DoesBegin result old new a b t (next_guid s.given) (begin_turn (seeing s x))) same
+      (subst (λ (o : Outcome). DoesBegin result old new a b t (next_guid s.given) o) (sym (begin_is here free)) (by result begins))
+    where
+      turn : Outcome
+      turn = unless here (begin_cause t.base.image) (begun here)
+
+      left : (strokes : List Stroke) → Strikes old new (name_of a) t (unless_by (begin_cause t.base.image) strokes) → strokes ≡ begin (next_guid s.given) None ∷ [] → Strikes old new (name_of a) t turn.strokes
+      left strokes struck e =
+          subst (λ (ss : List Stroke). Strikes old new (name_of a) t ss) (ap (λ (ss : List Stroke). unless_by (begin_cause t.base.image) ss) e ∙ sym (strokes_by here (begin_cause t.base.image) (begun here))) struck
+
+      by : (r : Result ℕ Fault) → Begins r old new a b t (next_guid s.given) None → DoesBegin r old new a b t (next_guid s.given) turn
+      by (Ok scn) is_begun =
+          let o = unless_allowed here (begin_cause t.base.image) (begun here) is_begun.test in
+          record {
+            answer = ap (λ (x : Outcome). x.reply) o ∙ ap (λ (n : ℕ). Some (Scn n)) (sym is_begun.answer);
+            left = left _ is_begun.left refl;
+            opened = subst (λ (x : Outcome). IsOpen new b (after_strokes t x.strokes)) (sym o) is_begun.opened;
+            gave = is_begun.gave;
+            times = is_begun.times;
+            refused = tt;
+            running = is_begun.running;
+            name = is_begun.name;
+          }
+      by (Err (RefusedFault r)) is_begun =
+          let o = unless_refused here (begin_cause t.base.image) (begun here) r is_begun.test in
+          record {
+            answer = ap (λ (x : Outcome). x.reply) o;
+            left = left _ is_begun.left refl;
+            opened = subst (λ (x : Outcome). IsOpen new b (after_strokes t x.strokes)) (sym o) (open_still old new a b t is_begun.refused.0 is_begun.refused.1 is);
+            gave = tt;
+            times = is_begun.times;
+            refused = is_begun.refused;
+            running = is_begun.running;
+            name = is_begun.name;
+          }
+      by (Err Device) is_begun = record { answer = tt; left = left _ is_begun.left refl; opened = tt; gave = tt; times = is_begun.times; refused = tt; running = is_begun.running; name = is_begun.name }
+      by (Err Memory) is_begun = record { answer = tt; left = left _ is_begun.left refl; opened = tt; gave = tt; times = is_begun.times; refused = tt; running = is_begun.running; name = is_begun.name }
+
+  -- and ends as the store does
+  pub does_end : (result : Result ℕ Fault) (session : ℕ) → t.base ≡ s.base → a.running ≡ s.running → Ends result old new a b t session → DoesEnd result old new a b t (end_scn t.base.image) (end_turn s session)
+  unfolding end_turn ends_by
+  does_end result session same runs ends =
+      subst (λ (x : Base). DoesEnd result old new a b t (end_scn t.base.image) (end_turn (seeing s x) session)) same
+      (subst (λ (o : Outcome). DoesEnd result old new a b t (end_scn t.base.image) o) (sym end_is) (by result ends))
+    where
+      cause : Cause
+      cause = end_cause t.base.image a.running session
+
+      ended : Outcome
+      ended = ends_by here session (Scn (end_scn t.base.image))
+
+      turn : Outcome
+      turn = unless here cause ended
+
+      end_is : end_turn here session ≡ turn
+      end_is = ap (λ (r : Option ℕ). unless here (end_cause t.base.image r session) ended) (sym runs)
+
+      left : Strikes old new (name_of a) t (unless_by cause (end_strokes t.base.image)) → Strikes old new (name_of a) t turn.strokes
+      left struck = subst (λ (ss : List Stroke). Strikes old new (name_of a) t ss) (sym (strokes_by here cause ended)) struck
+
+      by : (r : Result ℕ Fault) → Ends r old new a b t session → DoesEnd r old new a b t (end_scn t.base.image) turn
+      by (Ok scn) is_ended =
+          let o = unless_allowed here cause ended is_ended.test in
+          record {
+            says = ap (λ (x : Outcome). x.reply) o;
+            left = left is_ended.left;
+            opened = subst (λ (x : Outcome). IsOpen new b (after_strokes t x.strokes)) (sym o) is_ended.opened;
+            running = is_ended.begins.0 ∙ sym (ap (λ (x : Outcome). x.running) o);
+            answer = is_ended.answer;
+            merged = is_ended.begins.1;
+            gave = is_ended.gave;
+            refused = tt;
+            name = is_ended.name;
+          }
+      by (Err (RefusedFault r)) is_ended =
+          let o = unless_refused here cause ended r is_ended.test in
+          record {
+            says = ap (λ (x : Outcome). x.reply) o;
+            left = left is_ended.left;
+            opened = subst (λ (x : Outcome). IsOpen new b (after_strokes t x.strokes)) (sym o) (open_still old new a b t is_ended.refused.0 is_ended.refused.1 is);
+            running = ap (λ (h : Held). h.running) is_ended.refused.0 ∙ runs ∙ sym (ap (λ (x : Outcome). x.running) o);
+            answer = tt;
+            merged = tt;
+            gave = is_ended.gave;
+            refused = is_ended.refused;
+            name = is_ended.name;
+          }
+      by (Err Device) is_ended = record { says = tt; left = left is_ended.left; opened = tt; running = tt; answer = tt; merged = tt; gave = is_ended.gave; refused = tt; name = is_ended.name }
+      by (Err Memory) is_ended = record { says = tt; left = left is_ended.left; opened = tt; running = tt; answer = tt; merged = tt; gave = is_ended.gave; refused = tt; name = is_ended.name }

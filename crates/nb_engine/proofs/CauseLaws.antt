@@ -1,0 +1,68 @@
+-- The first of a turn's causes, and the turn that it makes.
+use Rattle.std.proofs.Common.{◌≡◌, List, [], ◌∷◌, ◌++◌, refl, ap, ◌∙◌}
+use Rattle.std.specs.Prelude.{Some, None}
+use Rattle.nb_host.specs.declared.refusals.Refusal.{Refusal}
+use Rattle.nb_model.specs.declared.reply.Reply.{Reply}
+use Rattle.nb_model.specs.declared.reply.Reply.TheVariants.{Refused}
+use Rattle.nb_model.specs.Strokes.{Stroke}
+use Rattle.nb_model.specs.Forms.{Draft}
+use Rattle.nb_model.specs.Causes.{Cause, first_cause, not_of_form, no_room}
+use Rattle.nb_model.specs.Outcomes.{Seen, Outcome, says, unless, changes}
+
+-- where there is a cause, and where there is none
+pub unless_refused : (s : Seen) (cause : Cause) (o : Outcome) (r : Refusal) → cause ≡ Some r → unless s cause o ≡ says s (Refused r) []
+unfolding unless
+unless_refused s cause o r e = ap (λ (c : Cause). unless s c o) e
+
+pub unless_allowed : (s : Seen) (cause : Cause) (o : Outcome) → cause ≡ None → unless s cause o ≡ o
+unfolding unless
+unless_allowed s cause o e = ap (λ (c : Cause). unless s c o) e
+
+-- the first of no causes, of causes behind one that doesn't apply, and behind one that does
+pub first_none : first_cause [] ≡ None
+unfolding first_cause
+first_none = refl
+
+pub first_next : (c : Cause) (cs : List Cause) → c ≡ None → first_cause (c ∷ cs) ≡ first_cause cs
+unfolding first_cause
+first_next c cs e = ap (λ (x : Cause). first_cause (x ∷ cs)) e
+
+pub first_here : (c : Cause) (cs : List Cause) (r : Refusal) → c ≡ Some r → first_cause (c ∷ cs) ≡ Some r
+unfolding first_cause
+first_here c cs r e = ap (λ (x : Cause). first_cause (x ∷ cs)) e
+
+-- and of a list of causes with others behind it
+pub first_front : (causes rest : List Cause) (r : Refusal) → first_cause causes ≡ Some r → first_cause (causes ++ rest) ≡ Some r
+unfolding first_cause
+first_front [] rest r e = cc
+first_front (None ∷ cs) rest r e = first_front cs rest r e
+first_front (Some refusal ∷ cs) rest r e = e
+
+pub first_rest : (causes rest : List Cause) → first_cause causes ≡ None → first_cause (causes ++ rest) ≡ first_cause rest
+unfolding first_cause
+first_rest [] rest e = refl
+first_rest (None ∷ cs) rest e = first_rest cs rest e
+first_rest (Some refusal ∷ cs) rest e = cc
+
+-- a change is refused by the first of its causes
+pub refused_by : (s : Seen) (causes : List Cause) (d : Draft) (reply : Reply) (r : Refusal) → first_cause causes ≡ Some r → changes s causes d reply ≡ says s (Refused r) []
+unfolding changes
+refused_by s causes d reply r e = unless_refused s _ (says s reply d.strokes) r (first_front causes (not_of_form d ∷ no_room d ∷ []) r e)
+
+-- and otherwise by what the draft finds
+pub judged_by : (s : Seen) (causes : List Cause) (d : Draft) (reply : Reply) → first_cause causes ≡ None
+    → changes s causes d reply ≡ unless s (first_cause (not_of_form d ∷ no_room d ∷ [])) (says s reply d.strokes)
+unfolding changes
+judged_by s causes d reply e = ap (λ (c : Cause). unless s c (says s reply d.strokes)) (first_rest causes (not_of_form d ∷ no_room d ∷ []) e)
+
+-- or allowed
+pub allowed : (s : Seen) (causes : List Cause) (d : Draft) (reply : Reply) → first_cause causes ≡ None → not_of_form d ≡ None → no_room d ≡ None → changes s causes d reply ≡ says s reply d.strokes
+allowed s causes d reply e form room =
+    judged_by s causes d reply e
+    ∙ unless_allowed s _ (says s reply d.strokes) (first_next (not_of_form d) (no_room d ∷ []) form ∙ first_next (no_room d) [] room ∙ first_none)
+
+-- strokes that are the same where no cause applies
+pub unless_these : (s : Seen) (cause : Cause) (reply : Reply) (xs ys : List Stroke) → (cause ≡ None → xs ≡ ys) → unless s cause (says s reply xs) ≡ unless s cause (says s reply ys)
+unfolding unless
+unless_these s None reply xs ys same = ap (λ (ss : List Stroke). says s reply ss) (same refl)
+unless_these s (Some refusal) reply xs ys same = refl

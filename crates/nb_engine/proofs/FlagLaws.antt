@@ -1,0 +1,71 @@
+-- A flag in page 0: the bytes that are written, and the turns that write them.
+use mir.Val.{bool_byte}
+use Rattle.std.proofs.Common.{◌≡◌, ◌≢◌, ℕ, ◌+◌, ◌<◌, ◌≤◌, List, [], ◌∷◌, ◌++◌, length, take, drop, refl, ap, ◌∙◌, arith}
+use Rattle.std.specs.Prelude.{Bool, true, false, not, Some, None}
+use Rattle.std.proofs.lemmas.List.{take-append-le, take-take, length-take-le}
+use Rattle.nb_fields.specs.Bytes.{bytes_of, with_part, is_zeros}
+use Rattle.nb_fields.specs.Header.{is_header}
+use Rattle.nb_host.specs.declared.refusals.Refusal.TheVariants.{WrongState}
+use Rattle.nb_model.specs.declared.reply.Reply.TheVariants.{Done}
+use Rattle.nb_model.specs.Image.{Page, Image, first_page, image_state}
+use Rattle.nb_model.specs.Lines.{flag}
+use Rattle.nb_model.specs.Strokes.{page}
+use Rattle.nb_model.specs.Causes.{read_only, not_state}
+use Rattle.nb_model.specs.Outcomes.{Seen, says, unless}
+use Rattle.nb_model.specs.Pages.{byte_strokes, forced_turn, access_turn}
+use Rattle.nb_model.proofs.HeaderLaws.{header-long, header-other, same-header}
+use Rattle.nb_model.proofs.ReadLaws.{eq_no, eq_yes}
+use Rattle.nb_base.specs.Open.{Fits}
+use Rattle.nb_engine.proofs.TestLaws.{applies, rests}
+
+-- a flag is one byte
+pub byte_is : (on : Bool) → bool_byte on ≡ flag on
+byte_is true = refl
+byte_is false = refl
+
+pub flag_byte : (on : Bool) → bytes_of 1 (flag on) ≡ flag on ∷ []
+unfolding bytes_of
+flag_byte true = refl
+flag_byte false = refl
+
+-- the first 64 bytes stay
+pub front_stays : (at : ℕ) (bytes old : Page) → 64 ≤ at → at ≤ length old → take 64 (with_part at bytes old) ≡ take 64 old
+front_stays at bytes old far long =
+    take-append-le 64 (take at old) (bytes ++ drop (at + length bytes) old) (omega (arith, far, length-take-le at old long)) ∙ take-take 64 at old far
+
+-- so the page isn't all zeros
+pub flagged-some : (at : ℕ) (bytes old new : Page) → new ≡ with_part at bytes old → 64 ≤ at → at ≤ length old → is_header old ≡ true → is_zeros new ≡ false
+flagged-some at bytes old new is far long header = header-other new (same-header new old (ap (take 64) is ∙ front_stays at bytes old far long) ∙ header)
+
+-- and it may be written
+pub flag_fits : (at : ℕ) (bytes old new : Page) (image : Image) → old ≡ first_page image → new ≡ with_part at bytes old → 64 ≤ at → at ≤ length old → Fits 0 new image
+flag_fits at bytes old new image first is far long = record {
+  low = omega arith;
+  front = λ e. ap (take 64) is ∙ front_stays at bytes old far long ∙ ap (take 64) first;
+}
+
+pub flag_strokes : (at value : ℕ) (on : Bool) (old new : Page) (image : Image) → value ≡ flag on → old ≡ first_page image → new ≡ with_part at (bytes_of 1 value) old → page 0 new ∷ [] ≡ byte_strokes at (flag on) image
+unfolding byte_strokes
+flag_strokes at value on old new image told first is =
+    ap (λ (x : Page). page 0 x ∷ []) (is ∙ ap (λ (v : ℕ). with_part at (bytes_of 1 v) old) told ∙ ap (λ (bytes : List ℕ). with_part at bytes old) (flag_byte on) ∙ ap (λ (x : Page). with_part at (flag on ∷ []) x) first)
+
+-- a database with a header has a page 0
+pub some_first : (image : Image) → is_header (first_page image) ≡ true → 0 < length image
+some_first [] header = absurd (omega (arith, header-long [] header))
+some_first (p ∷ ps) header = omega arith
+
+-- the turns, by their causes
+pub forced_is : (s : Seen) (on : Bool) → forced_turn s on ≡ unless s (read_only s.base.image) (says s Done (byte_strokes 64 (flag on) s.base.image))
+unfolding forced_turn
+forced_is s on = refl
+
+pub access_is : (s : Seen) (closed : Bool) → access_turn s closed ≡ unless s (not_state 0 s.base.image) (says s Done (byte_strokes 65 (flag closed) s.base.image))
+unfolding access_turn
+access_is s closed = refl
+
+-- whether the backup state forbids it
+pub state_other : (image : Image) → image_state image ≢ 0 → not_state 0 image ≡ Some (WrongState (image_state image))
+state_other image other = applies _ _ (ap not (eq_no (image_state image) 0 other))
+
+pub state_normal : (image : Image) → image_state image ≡ 0 → not_state 0 image ≡ None
+state_normal image normal = rests _ _ (ap not (eq_yes (image_state image) 0 normal))

@@ -1,0 +1,31 @@
+use Rattle.std.proofs.Common.{inl, ◌≡◌, replicate, refl, sym, subst, ◌∙◌}
+use Rattle.std.specs.Prelude.{true, None}
+use Rattle.nb_page.proofs.QuietLemmas.{quiet_begun}
+use Rattle.nb_model.specs.Image.{is_read_only}
+use Rattle.nb_model.specs.Causes.{read_only}
+use Rattle.nb_model.specs.Outcomes.{next_guid}
+use Rattle.nb_model.specs.Pages.{begin_turn}
+use Rattle.nb_state.specs.Open.{Held, IsOpen}
+use Rattle.nb_engine.specs.Turns.{DoesBegin}
+use Rattle.nb_engine.proofs.FreeLaws.{closed_cause, open_cause}
+use Rattle.nb_engine.proofs.BackupLaws.{does_begin, refused_begin}
+use Rattle.nb_engine.proofs.engine.Engine.begin.Goals as goal
+
+pub returns-then-is_read_only-clause-turn : goal.returns-then-is_read_only-clause-turn
+returns-then-is_read_only-clause-turn g c s t tells same is given =
+    let first = g.H.Host.world c.args.host.now in
+    let here = subst (λ (h : Held). IsOpen first h t) (sym c.self.view_is) is in
+    let closed : is_read_only t.base.image ≡ true = sym here.agrees.read_only ∙ sym c.is_read_only.ensures ∙ c.if-is_read_only.true in
+    refused_begin _ first first c.args.self.now t s same (quiet_begun first (g.met.H.Host.timely c.args.host.now)) is (closed_cause t.base.image closed)
+
+pub returns-clause-turn : goal.returns-clause-turn
+returns-clause-turn g c s t tells same is given =
+    let old = g.H.Host.world c.args.host.now in
+    let new = g.H.Host.world c.begin.new.host in
+    let here = subst (λ (h : Held). IsOpen old h t) (sym c.self.view_is) is in
+    let free : read_only t.base.image ≡ None = open_cause t.base.image (sym here.agrees.read_only ∙ sym c.is_read_only.ensures ∙ c.if-is_read_only.false) in
+    subst (λ (h : Held). DoesBegin c.begin.result old new h c.begin.new.self t (next_guid s.given) (begin_turn s)) c.self.view_is
+    (does_begin old new c.self.inside.store c.begin.new.self t s here c.begin.result same free (c.begin.ensures.begins t (next_guid s.given) None tells here given))
+
+pub returns-then-is_read_only-clause-asks : goal.returns-then-is_read_only-clause-asks
+returns-then-is_read_only-clause-asks g c tells = (replicate 16 0, refl, inl refl)

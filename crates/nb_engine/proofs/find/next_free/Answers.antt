@@ -1,0 +1,66 @@
+use Rattle.std.proofs.Common.{rules, ◌<◌, ◌≤◌, ℕ, length, sym, ap, subst, ◌∙◌, arith}
+use Rattle.std.specs.Prelude.{Option, Err, IsTrue, max}
+use Rattle.nb_fields.specs.Places.{is_page_size, bits_in}
+use Rattle.nb_fields.proofs.PlaceLemmas.{bits-least}
+use Rattle.nb_page.proofs.QuietLemmas.{quiet_joined}
+use Rattle.nb_model.specs.Image.{image_size}
+use Rattle.nb_model.specs.Causes.{Cause}
+use Rattle.nb_state.specs.Open.{Held}
+use Rattle.nb_state.specs.Does.{Tested}
+use Rattle.nb_state.proofs.MakesLaws.{open_still}
+use Rattle.nb_engine.proofs.FindLaws.{some_near, taken_behind, found_near, found_none, map_near, map_behind, map_last, inventory_sound}
+use Rattle.nb_engine.proofs.PlaceTests.{never_refused}
+use Rattle.nb_engine.proofs.find.next_free.Goals as goal
+
+pub returns-in_err-free-clause-sound : goal.returns-in_err-free-clause-sound
+returns-in_err-free-clause-sound g c t tells is sound =
+    let still = open_still _ _ _ _ t c.loop-page.invariant.same c.loop-page.invariant.quiet is in
+    let low : c.loop-page.page < length t.base.image = omega (arith, is.files.agrees.count, c.count-count.ensures.value, c.loop-page-test.true) in
+    let size : IsTrue (is_page_size (image_size t.base.image)) = subst (λ (s : ℕ). IsTrue (is_page_size s)) (c.page_size-page_size.ensures.value ∙ is.files.agrees.page_size) c.page_size-page_size.ensures.one_of in
+    never_refused (Option ℕ) ℕ _ _ _ c.from_residual.ensures
+    (subst (λ (cause : Cause). Tested {T = Option ℕ} (Err c.in_err-free.field-0.0) cause) (inventory_sound t.base.image c.loop-page.page size sound low) (c.in_err-free.ensures.reads t tells still).test)
+
+pub returns-in-Some-clause-value : goal.returns-in-Some-clause-value
+returns-in-Some-clause-value g c t tells is =
+    let still = open_still _ _ _ _ t c.loop-page.invariant.same c.loop-page.invariant.quiet is in
+    found_near t.base.image c.args.from c.loop-page.page c.in-Some.free (c.loop-page.invariant.taken t tells is) c.loop-page.invariant.behind
+    (some_near t.base.image c.loop-page.page _ c.in-Some.free _ c.in-Some.is (c.in_ok-free.ensures.found t tells still))
+
+pub returns-clause-value : goal.returns-clause-value
+returns-clause-value g c t tells is =
+    let count = c.count-count.ensures.value ∙ is.files.agrees.count in
+    let end : length t.base.image ≤ c.loop-page.page = omega (arith, count, c.loop-page-test.false) in
+    c.max.ensures ∙ ap (λ (n : ℕ). max c.args.from n) count ∙ found_none t.base.image c.args.from c.loop-page.page (c.loop-page.invariant.taken t tells is) end
+
+pub returns-in-Some-clause-map : goal.returns-in-Some-clause-map
+returns-in-Some-clause-map g c t tells is inside =
+    let still = open_still _ _ _ _ t c.loop-page.invariant.same c.loop-page.invariant.quiet is in
+    let read = c.in_ok-free.ensures.reads t tells still in
+    map_near t.base.image c.loop-page.page c.in-Some.free _ (some_near t.base.image c.loop-page.page _ c.in-Some.free _ c.in-Some.is (c.in_ok-free.ensures.found t tells still)) read.test read.page
+
+pub returns-clause-map : goal.returns-clause-map
+returns-clause-map g c t tells is =
+    let count = c.count-count.ensures.value ∙ is.files.agrees.count in
+    let end : length t.base.image ≤ c.loop-page.page = omega (arith, count, c.loop-page-test.false) in
+    map_last t.base.image c.args.from c.loop-page.page _ _ end (c.max.ensures ∙ ap (λ (n : ℕ). max c.args.from n) count) (c.loop-page.invariant.looked t tells is)
+
+pub loop-page-preserved : goal.loop-page-preserved
+loop-page-preserved g c = record {
+  behind = search rules;
+  taken = λ t tells is.
+      let still = open_still _ _ _ _ t c.loop-page.invariant.same c.loop-page.invariant.quiet is in
+      let same = c.page_size-page_size.ensures.value ∙ ap (λ (h : Held). h.files.page_size) (sym c.loop-page.invariant.same) in
+      taken_behind t.base.image c.args.from c.loop-page.page _ _ _ c.in_ok-free.field-0 same c.behind_bits-page.ensures c.in_default.is (c.loop-page.invariant.taken t tells is) (c.in_ok-free.ensures.found t tells still);
+  looked = λ t tells is inside.
+      let still = open_still _ _ _ _ t c.loop-page.invariant.same c.loop-page.invariant.quiet is in
+      let size = c.page_size-page_size.ensures.value ∙ is.files.agrees.page_size in
+      let low : c.loop-page.page < length t.base.image = omega (arith, is.files.agrees.count, c.count-count.ensures.value, c.loop-page-test.true) in
+      let least : 0 < bits_in c.page_size-page_size.result = omega (arith, bits-least c.page_size-page_size.result c.page_size-page_size.ensures.one_of) in
+      let read = c.in_ok-free.ensures.reads t tells still in
+      map_behind t.base.image c.page_size-page_size.result c.loop-page.page _ _ size least low c.behind_bits-page.ensures read.test read.page;
+  room = c.in_ok-free.ensures.room ∙ c.loop-page.invariant.room;
+  same = c.in_ok-free.ensures.same ∙ c.loop-page.invariant.same;
+  quiet = quiet_joined _ _ _ c.loop-page.invariant.quiet c.in_ok-free.ensures.quiet;
+  once = search rules;
+  cause = c.in_ok-free.ensures.cause ∙ c.loop-page.invariant.cause;
+}

@@ -1,0 +1,46 @@
+-- What the calls of a backup do of their turns.
+use Rattle.std.specs.Prelude.{◌≡◌, ◌∷◌, ℕ, List, [], ◌++◌, Option, Some, None, Result, Ok, Err, OnOk, IfOk}
+use Rattle.nb_host.specs.World.{World}
+use Rattle.nb_host.specs.declared.faults.Fault.{Fault}
+use Rattle.nb_host.specs.declared.faults.Fault.TheVariants.{Refused, Device, Memory}
+use Rattle.nb_page.specs.Quiet.{Quiet}
+use Rattle.nb_change.specs.Gave.{GaveNothing}
+use Rattle.nb_model.specs.declared.reply.Reply.{Reply}
+use Rattle.nb_model.specs.declared.reply.Reply.TheVariants.{Refused as RefusedBy}
+use Rattle.nb_model.specs.Outcomes.{Outcome}
+use Rattle.nb_model.specs.Trail.{Trail}
+use Rattle.nb_base.specs.Takes.{Strikes, after_strokes}
+use Rattle.nb_state.specs.Open.{Held, IsOpen, name_of}
+use Rattle.nb_state.specs.Does.{Answers, WhereEnded, WhereRefused}
+use Rattle.nb_engine.specs.Replies.{scn_is}
+
+-- A backup begins with this GUID, as its turn says; or it is refused, and changes nothing.
+pub record DoesBegin (result : Result ℕ Fault) (old new : World) (before after : Held) (t : Trail) (guid : List ℕ) (turn : Outcome) : Type 0 where
+  pub answer : Answers scn_is result turn.reply
+  pub left : Strikes old new (name_of before) t turn.strokes
+  pub opened : WhereEnded result (IsOpen new after (after_strokes t turn.strokes))
+  pub gave : OnOk result (new.guids ≡ old.guids ++ guid ∷ [])
+  pub times : new.times ≡ old.times
+  pub refused : WhereRefused result ((after ≡ before) × Quiet old new)
+  pub running : after.running ≡ before.running
+  pub name : name_of after ≡ name_of before
+
+-- nothing is said yet, or it is refused
+abbrev pub SaysNone : {T : Type 0} → Result T Fault → Option Reply → Type 0
+SaysNone (Ok value) said = said ≡ None
+SaysNone (Err (Refused refusal)) said = said ≡ Some (RefusedBy refusal)
+SaysNone (Err Device) said = Unit {0}
+SaysNone (Err Memory) said = Unit {0}
+
+-- The stalled state ends, as its turn says, which leaves the merge to later turns; or it is refused, and changes nothing.
+pub record DoesEnd (result : Result ℕ Fault) (old new : World) (before after : Held) (t : Trail) (scn : ℕ) (turn : Outcome) : Type 0 where
+  pub says : SaysNone result turn.reply
+  pub left : Strikes old new (name_of before) t turn.strokes
+  pub opened : WhereEnded result (IsOpen new after (after_strokes t turn.strokes))
+  pub running : WhereEnded result (after.running ≡ turn.running)
+  -- what is said once all is merged
+  pub answer : IfOk result (λ value. value ≡ scn)
+  pub merged : OnOk result (after.merged ≡ 0)
+  pub gave : GaveNothing old new
+  pub refused : WhereRefused result ((after ≡ before) × Quiet old new)
+  pub name : name_of after ≡ name_of before

@@ -1,0 +1,63 @@
+// A backup begins and ends, and what was changed meanwhile is merged.
+ghost use Rattle.std.specs.Prelude.{◌≡◌, ◌≢◌, ℕ, List, length, IsTrue, IfErr, IfOk, OnOk, Option, Some};
+ghost use Rattle.nb_change.specs.Counts.{CountsDevice};
+ghost use Rattle.nb_model.specs.Outcomes.{Seen, next_guid};
+ghost use Rattle.nb_model.specs.Pages.{begin_turn, end_turn, end_scn};
+ghost use Rattle.nb_model.specs.Sound.{HasNoZeros};
+ghost use Rattle.nb_model.specs.Trail.{Trail};
+ghost use Rattle.nb_base.specs.Takes.{IsNoRefusal};
+ghost use Rattle.nb_state.specs.Open.{IsOpen};
+ghost use Rattle.nb_state.specs.Turns.{GaveAtMost, GoesOn, Merges};
+ghost use Rattle.nb_engine.specs.Turns.{DoesBegin, DoesEnd};
+
+use crate::Engine;
+use nb_host::{Fault, Host, Refusal};
+use nb_state::Progress;
+
+impl Engine {
+    /// Begins a backup: what the database holds now is frozen for a copy, and statements go on changing it. It answers the new SCN, and
+    /// is kept for good.
+    ///
+    /// The refusals are `Access`, `WrongState` and `ScnExhausted`, in this order; a refused call changes nothing.
+    pub fn begin<H: Host>(&mut self, host: &mut H) -> Result<u32, Fault>
+        ensures turn { (s : Seen) (t : Trail) → IsTrue H.tells → t.base ≡ s.base → IsOpen (H.world host.old) self.old t
+            → GaveAtMost (H.world host.old) (H.world host.new) (next_guid s.given)
+            → DoesBegin result (H.world host.old) (H.world host.new) self.old self.new t (next_guid s.given) (begin_turn s) }
+        ensures asks { IsTrue H.tells → (guid : List ℕ) × (length guid ≡ 16) × GaveAtMost (H.world host.old) (H.world host.new) guid }
+        ensures stays { self.old.files.state ≡ 2 → self.new ≡ self.old }
+        ensures page_size { self.new.files.page_size ≡ self.old.files.page_size }
+        ensures cause { CountsDevice result (H.faults host.old) (H.faults host.new) }
+    {
+        if self.store.is_read_only() {
+            return Err(Fault::Refused(Refusal::Access { found: 1 }));
+        }
+        self.store.begin(host)
+    }
+
+    /// Ends the stalled state, for the session that asks for it, or begins anew a merge that was stopped. It answers the SCN, and is
+    /// kept for good. What was frozen is gone then, and merge turns are left to take.
+    ///
+    /// The refusals are `WrongState` and `BackupRunning`, in this order; a refused call changes nothing.
+    pub fn end<H: Host>(&mut self, host: &mut H, session: u32) -> Result<u32, Fault>
+        ensures turn { (s : Seen) (t : Trail) → IsTrue H.tells → t.base ≡ s.base → self.old.running ≡ s.running → IsOpen (H.world host.old) self.old t
+            → DoesEnd result (H.world host.old) (H.world host.new) self.old self.new t (end_scn t.base.image) (end_turn s session) }
+        ensures stays { (other : ℕ) → self.old.running ≡ Some other → other ≢ session → self.new ≡ self.old }
+        ensures merge { OnOk result ((self.new.files.state ≡ 2) × (self.new.running ≡ Some session) × (self.new.merged ≡ 0)) }
+        ensures page_size { self.new.files.page_size ≡ self.old.files.page_size }
+        ensures cause { CountsDevice result (H.faults host.old) (H.faults host.new) }
+    {
+        self.store.end(host, session)
+    }
+
+    /// Merges one page that was changed in the stalled state, or finishes the merge once all are.
+    pub fn merge_turn<H: Host>(&mut self, host: &mut H) -> Result<Progress, Fault>
+        requires merge { self.old.files.state ≡ 2 }
+        ensures merges { (t : Trail) → IsTrue H.tells → IsOpen (H.world host.old) self.old t → HasNoZeros t.base.image → Merges result (H.world host.old) (H.world host.new) self.old self.new t }
+        ensures goes { IfOk result (λ progress. GoesOn progress self.old self.new) }
+        ensures page_size { self.new.files.page_size ≡ self.old.files.page_size }
+        ensures cause { CountsDevice result (H.faults host.old) (H.faults host.new) }
+        ensures not_refused { IfErr result IsNoRefusal }
+    {
+        self.store.merge_turn(host)
+    }
+}

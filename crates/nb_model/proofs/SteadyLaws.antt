@@ -1,0 +1,135 @@
+-- What was seen of a database in a run is well at each step, with the records of the backups that have begun.
+use Rattle.std.proofs.Common.{◌≡◌, ℕ, zero, suc, ◌+◌, ◌≤◌, List, [], ◌∷◌, ◌++◌, length, take, refl, sym, ap, subst, ◌∙◌, arith, append_assoc}
+use Rattle.std.specs.Prelude.{Bool, None, true, false}
+use Rattle.std.proofs.lemmas.List.{append-nil}
+use Rattle.nb_model.specs.declared.statement.Statement.{Statement}
+use Rattle.nb_model.specs.Account.{Kept, Base}
+use Rattle.nb_model.specs.Image.{image_state, image_scn}
+use Rattle.nb_model.specs.Outcomes.{Seen}
+use Rattle.nb_model.specs.Sound.{HasHeader, IsSoundImage}
+use Rattle.nb_model.specs.Stands.{IsBegun}
+use Rattle.nb_model.specs.Steps.{Step, makes, settles, after_step, after_steps, made, strokes_in}
+use Rattle.nb_model.specs.Strokes.{Stroke, page, begin, ends, finish, on_base, records_of, records_after}
+use Rattle.nb_model.specs.Trail.{Trail, settled, settles_at, after_stroke, after_strokes}
+use Rattle.nb_model.specs.Turns.{first_turn}
+use Rattle.nb_model.specs.Well.{is_on_pages}
+use Rattle.nb_model.specs.WellTrail.{IsWellTrail}
+use Rattle.nb_model.proofs.ControlMay.{may_begin}
+use Rattle.nb_model.proofs.ControlSound.{MayControl, new_state, new_scn, new_guid, new_header, control_old}
+use Rattle.nb_model.proofs.ControlWell.{begin_well, ends_well, finish_well}
+use Rattle.nb_model.proofs.FitLaws.{AreFitting}
+use Rattle.nb_model.proofs.PagesFit.{HasNoRows, pages_fit}
+use Rattle.nb_model.proofs.TrailLaws.{trail_base}
+use Rattle.nb_model.proofs.WellTrailLaws.{fitting_well, settling_well}
+
+-- the records behind one step, and behind steps
+abbrev pub kept_step : List Kept → Trail → Step → List Kept
+kept_step kept t (makes s) = kept ++ records_of s t.base
+kept_step kept t settles = kept
+
+abbrev pub kept_along : List Kept → Trail → List Step → List Kept
+kept_along kept t [] = kept
+kept_along kept t (s ∷ ss) = kept_along (kept_step kept t s) (after_step s t) ss
+
+-- a begin keeps a record as a begin leaves it, for no level
+abbrev pub KeepsGood : Trail → Step → Type 0
+KeepsGood t (makes (begin guid ask)) = IsBegun (record { guid = guid; scn = image_scn t.base.image; ask = ask; image = (on_base (begin guid ask) t.base).image }) × (ask ≡ None)
+KeepsGood t other = Unit {0}
+
+-- What was seen is well before each step and behind all, with the records kept until then.
+abbrev pub WellAlong : List Kept → Trail → List Step → Type 0
+WellAlong kept t [] = IsWellTrail kept t
+WellAlong kept t (s ∷ ss) = IsWellTrail kept t × KeepsGood t s × WellAlong (kept_step kept t s) (after_step s t) ss
+
+pub along_first : (kept : List Kept) (t : Trail) (ss : List Step) → WellAlong kept t ss → IsWellTrail kept t
+along_first kept t [] w = w
+along_first kept t (s ∷ ss) w = w.0
+
+pub along_append : (kept : List Kept) (t : Trail) (xs ys : List Step) → WellAlong kept t xs → WellAlong (kept_along kept t xs) (after_steps t xs) ys → WellAlong kept t (xs ++ ys)
+unfolding after_steps
+along_append kept t [] ys a b = b
+along_append kept t (x ∷ xs) ys a b = (a.0, a.1, along_append (kept_step kept t x) (after_step x t) xs ys a.2 b)
+
+-- at each front of them, and behind it
+pub along_front : (kept : List Kept) (t : Trail) (ss : List Step) → WellAlong kept t ss → (k : ℕ) → WellAlong kept t (take k ss)
+along_front kept t ss w zero = along_first kept t ss w
+along_front kept t [] w (suc k) = w
+along_front kept t (s ∷ ss) w (suc k) = (w.0, w.1, along_front (kept_step kept t s) (after_step s t) ss w.2 k)
+
+pub along_last : (kept : List Kept) (t : Trail) (ss : List Step) → WellAlong kept t ss → IsWellTrail (kept_along kept t ss) (after_steps t ss)
+unfolding after_steps
+along_last kept t [] w = w
+along_last kept t (s ∷ ss) w = along_last (kept_step kept t s) (after_step s t) ss w.2
+
+pub kept_append : (kept : List Kept) (t : Trail) (xs ys : List Step) → kept_along kept t (xs ++ ys) ≡ kept_along (kept_along kept t xs) (after_steps t xs) ys
+unfolding after_steps
+kept_append kept t [] ys = refl
+kept_append kept t (x ∷ xs) ys = kept_append (kept_step kept t x) (after_step x t) xs ys
+
+stroke_seen : (t : Trail) (s : Stroke) → (after_stroke s t).base ≡ on_base s t.base
+unfolding after_stroke
+stroke_seen t s = trail_base s t
+
+-- they are the records of the strokes among the steps
+pub kept_is : (kept : List Kept) (t : Trail) (ss : List Step) → kept_along kept t ss ≡ kept ++ records_after t.base (strokes_in ss)
+unfolding strokes_in records_after after_step
+kept_is kept t [] = sym (append-nil kept)
+kept_is kept t (makes s ∷ ss) =
+    kept_is (kept ++ records_of s t.base) (after_stroke s t) ss ∙ ap (λ (b : Base). (kept ++ records_of s t.base) ++ records_after b (strokes_in ss)) (stroke_seen t s)
+    ∙ append_assoc kept (records_of s t.base) (records_after (on_base s t.base) (strokes_in ss))
+kept_is kept t (settles ∷ ss) = kept_is kept (settled t.base) ss
+
+-- A settled point behind steps, or none.
+pub settling_along : (kept : List Kept) (t : Trail) (waits : Bool) → IsWellTrail kept t → WellAlong kept t (elim waits as (λ z. List Step) [ true ↦ settles ∷ [] | false ↦ [] ])
+unfolding after_step
+settling_along kept t true w = (w, tt, settling_well kept t w)
+settling_along kept t false w = w
+
+-- strokes that write pages which fit
+made_along : (kept : List Kept) (t : Trail) (ss : List Stroke) → AreFitting HasNoRows t.base ss → IsWellTrail kept t → WellAlong kept t (made ss)
+unfolding made after_step records_of after_strokes
+made_along kept t [] fits w = w
+made_along kept t (page p bytes ∷ ss) fits w =
+    let later : IsWellTrail kept (after_stroke (page p bytes) t) = fitting_well kept (page p bytes ∷ []) t (fits.0, tt) w 1 in (
+      w,
+      tt,
+      subst (λ (rs : List Kept). WellAlong rs (after_stroke (page p bytes) t) (made ss)) (sym (append-nil kept))
+          (made_along kept (after_stroke (page p bytes) t) ss (subst (λ (b : Base). AreFitting HasNoRows b ss) (sym (stroke_seen t (page p bytes))) fits.1) later),
+    )
+made_along kept t (other ∷ ss) fits w = absurd fits.0
+
+-- statements on pages
+pub pages_along : (kept : List Kept) (statement : Statement) → is_on_pages statement ≡ true → (s : Seen) (session : ℕ) (t : Trail) → s.base ≡ t.base → IsWellTrail kept t → WellAlong kept t (made (first_turn s session statement).strokes)
+pages_along kept statement on s session t is w =
+    let header : HasHeader s.base.image = subst (λ (b : Base). HasHeader b.image) (sym is) (record { header = w.base.well.header; scn = w.base.well.scn }) in
+    let sound : IsSoundImage s.base.image = subst (λ (b : Base). IsSoundImage b.image) (sym is) w.base.well.sound in
+    made_along kept t (first_turn s session statement).strokes (subst (λ (b : Base). AreFitting HasNoRows b (first_turn s session statement).strokes) is (pages_fit statement on s session header sound)) w
+
+-- a backup begins
+pub begin_along : (kept : List Kept) (t : Trail) (guid : List ℕ) → IsWellTrail kept t → image_state t.base.image ≡ 0 → length guid ≡ 16 → image_scn t.base.image ≤ 4294967293 → WellAlong kept t (made (begin guid None ∷ []))
+unfolding made after_step after_stroke settles_at on_base
+begin_along kept t guid w normal sixteen room = (w, (good, refl), begin_well kept t.base w.base guid None normal sixteen room)
+  where
+    header : HasHeader t.base.image
+    header = record { header = w.base.well.header; scn = w.base.well.scn }
+
+    may : MayControl 1 (image_scn t.base.image + 1) guid t.base.image
+    may = may_begin t.base.image header guid sixteen room
+
+    good : IsBegun (record { guid = guid; scn = image_scn t.base.image; ask = None; image = (on_base (begin guid None) t.base).image })
+    good = record {
+      header = new_header 1 (image_scn t.base.image + 1) guid t.base.image header w.base.well.sound may;
+      state = new_state 1 (image_scn t.base.image + 1) guid t.base.image header w.base.well.sound may;
+      guid = new_guid 1 (image_scn t.base.image + 1) guid t.base.image header w.base.well.sound may;
+      scn = new_scn 1 (image_scn t.base.image + 1) guid t.base.image header w.base.well.sound may;
+      old = control_old 1 (image_scn t.base.image + 1) guid t.base.image header w.base.well.sound may (omega arith);
+    }
+
+-- the stalled state ends, and the merge
+pub ends_along : (kept : List Kept) (t : Trail) → IsWellTrail kept t → image_state t.base.image ≡ 1 → WellAlong kept t (made (ends ∷ []))
+unfolding made after_step after_stroke settles_at records_of
+ends_along kept t w stalled = (w, tt, subst (λ (rs : List Kept). IsWellTrail rs (settled (on_base ends t.base))) (sym (append-nil kept)) (ends_well kept t.base w.base stalled))
+
+pub finish_along : (kept : List Kept) (t : Trail) → IsWellTrail kept t → image_state t.base.image ≡ 2 → WellAlong kept t (made (finish ∷ []))
+unfolding made after_step after_stroke settles_at records_of
+finish_along kept t w merge = (w, tt, subst (λ (rs : List Kept). IsWellTrail rs (settled (on_base finish t.base))) (sym (append-nil kept)) (finish_well kept t.base w.base merge))

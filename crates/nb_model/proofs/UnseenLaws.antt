@@ -1,0 +1,83 @@
+-- Under a name that is free no database was seen.
+use Rattle.std.proofs.Common.{◌≡◌, ◌⊎◌, inl, inr, ℕ, zero, suc, ◌≤◌, List, [], ◌∷◌, length, take, drop, refl, sym, ap, subst, ◌∙◌, arith, length-take-le, take-take}
+use Rattle.std.specs.Prelude.{Bool, true, false, Some, Ok}
+use Rattle.std.proofs.lemmas.Bool.Decides.{leb_tells}
+use Rattle.nb_fields.specs.Bytes.{is_zeros}
+use Rattle.nb_fields.specs.Free.{is_free_file}
+use Rattle.nb_fields.specs.Header.{is_header, size_of, state_of}
+use Rattle.nb_host.specs.Files.{File}
+use Rattle.nb_model.specs.Account.{Base, base_of, Entry, Missing, Plain, IsBase}
+use Rattle.nb_model.specs.Causes.{is_free_entry}
+use Rattle.nb_model.specs.Image.{Page, Image, first_page, image_in, cut, trimmed}
+use Rattle.nb_model.specs.Owner.{owner}
+use Rattle.nb_model.specs.Strokes.{base_in}
+use Rattle.nb_model.proofs.FreeLaws.{free_header}
+use Rattle.nb_model.proofs.HeaderLaws.{header-long, same-header, same-number}
+use Rattle.nb_model.proofs.MainLaws.{some_page}
+use Rattle.nb_model.proofs.OpenedLaws.{HasMain, has_main, main_header, same_state}
+use Rattle.std.proofs.lemmas.Bool.{and_parts}
+
+-- page 0 stays where pages of zeros are cut off, or none does
+trimmed_first : (p : Page) (ps : List Page) → (first_page (trimmed (p ∷ ps)) ≡ p) ⊎ (trimmed (p ∷ ps) ≡ [])
+unfolding trimmed
+trimmed_first p ps = by (trimmed ps) (is_zeros p)
+  where
+    by : (rest : Image) (zeros : Bool)
+        → (first_page (elim rest as (λ z. Image) [ [] ↦ elim zeros as (λ z. Image) [ true ↦ [] | false ↦ p ∷ [] ] | q ∷ qs ↦ p ∷ q ∷ qs ]) ≡ p)
+        ⊎ (elim rest as (λ z. Image) [ [] ↦ elim zeros as (λ z. Image) [ true ↦ [] | false ↦ p ∷ [] ] | q ∷ qs ↦ p ∷ q ∷ qs ] ≡ [])
+    by [] true = inr refl
+    by [] false = inl refl
+    by (q ∷ qs) zeros = inl refl
+
+no_header : is_header (first_page []) ≡ true → ⊥
+no_header h = absurd (let some = some_page [] h in omega arith)
+
+none_kept : trimmed [] ≡ []
+unfolding trimmed
+none_kept = refl
+
+-- Where the image of a file's bytes has a header, it is the front of the file.
+image_front : (bytes : List ℕ) → is_header (first_page (image_in bytes)) ≡ true → take 64 (first_page (image_in bytes)) ≡ take 64 bytes
+unfolding image_in cut
+image_front bytes header = by (length bytes) header
+  where
+    size : ℕ
+    size = size_of bytes
+
+    none : is_header (first_page (trimmed [])) ≡ true → ⊥
+    none h = no_header (ap (λ (x : Image). is_header (first_page x)) (sym none_kept) ∙ h)
+
+    wide : size ≤ length bytes → is_header (take size bytes) ≡ true → 64 ≤ size
+    wide low h = omega (arith, header-long (take size bytes) h, length-take-le size bytes low)
+
+    first : (ps : List Page) → size ≤ length bytes → is_header (first_page (trimmed (take size bytes ∷ ps))) ≡ true → take 64 (first_page (trimmed (take size bytes ∷ ps))) ≡ take 64 bytes
+    first ps low h = elim (trimmed_first (take size bytes) ps) [
+      | inl same ↦ ap (take 64) same ∙ take-take 64 size bytes (wide low (ap is_header (sym same) ∙ h))
+      | inr gone ↦ absurd (no_header (ap (λ (x : Image). is_header (first_page x)) (sym gone) ∙ h))
+    ]
+
+    by : (most : ℕ) → is_header (first_page (trimmed (cut size most bytes))) ≡ true → take 64 (first_page (trimmed (cut size most bytes))) ≡ take 64 bytes
+    by zero h = absurd (none h)
+    by (suc most) h = elim (leb_tells size (length bytes)) [
+      | inl w ↦ rw (w.0, cut) (first (cut size most (drop size bytes)) w.1 (subst (λ (t : Bool). is_header (first_page (trimmed (elim t as (λ z. List Page) [ true ↦ take size bytes ∷ cut size most (drop size bytes) | false ↦ [] ]))) ≡ true) w.0 h))
+      | inr w ↦ absurd (none (subst (λ (t : Bool). is_header (first_page (trimmed (elim t as (λ z. List Page) [ true ↦ take size bytes ∷ cut size most (drop size bytes) | false ↦ [] ]))) ≡ true) w.0 h))
+    ]
+
+false_true : false ≡ true → ⊥
+false_true h = cc
+
+-- No two files show what stands for a database under a free name.
+pub unseen : (name : List ℕ) (entry : Entry) (m d : File) → is_free_entry entry ≡ true → owner name m d ≡ Ok (base_in entry) → ⊥
+unfolding is_free_entry base_in
+unseen name Missing m d free opens =
+    let main : HasMain (base_of []) m = has_main name (base_of []) m d opens in
+    no_header (main_header (base_of []) m main)
+unseen name (Plain bytes delta) m d free opens =
+    let b : Base = base_of (image_in bytes) in
+    let main : HasMain b m = has_main name b m d opens in
+    let header : is_header (first_page (image_in bytes)) ≡ true = main_header b m main in
+    let front : take 64 (first_page (image_in bytes)) ≡ take 64 bytes = image_front bytes header in
+    let same : state_of (first_page (image_in bytes)) ≡ state_of bytes = same-number (first_page (image_in bytes)) bytes front 22 2 (omega arith) in
+    let three : state_of bytes ≡ 3 = (free_header bytes (and_parts _ (is_free_file (Some bytes)) free).1 (sym (same-header (first_page (image_in bytes)) bytes front) ∙ header)).0 in
+    absurd (omega (arith, same, three, same_state b m main, main.state))
+unseen name (IsBase b) m d free opens = false_true free

@@ -1,0 +1,223 @@
+-- What the files of an accepted chain are: level 0, and the level files behind it.
+use Rattle.std.proofs.Common.{◌≡◌, ◌≢◌, ℕ, zero, suc, ◌+◌, ◌*◌, ◌<◌, ◌≤◌, List, [], ◌∷◌, length, take, drop, get_or, refl, sym, ap, subst, ◌∙◌, arith}
+use Rattle.std.specs.Prelude.{Bool, true, false, not, ◌==◌, Some, None, Result, Ok, Err, Contains}
+use Rattle.std.proofs.lemmas.Bool.{eqb-true, true≢false}
+use Rattle.std.proofs.lemmas.List.{take-take}
+use Rattle.nb_fields.specs.Bytes.{number_in}
+use Rattle.nb_fields.specs.Free.{is_free_file}
+use Rattle.nb_fields.specs.Header.{is_header, signature, state_of, size_of}
+use Rattle.nb_fields.proofs.HeaderLemmas.{is_header-take}
+use Rattle.nb_fields.proofs.PartLemmas.{number_in-take}
+use Rattle.nb_host.specs.Files.{File, Files}
+use Rattle.nb_host.specs.declared.refusals.Refusal.{Refusal}
+use Rattle.nb_host.specs.declared.refusals.Refusal.TheVariants.{NoFile, BadLevel, ChainLevel, ChainSize}
+use Rattle.nb_model.specs.Image.{Page, first_page}
+use Rattle.nb_model.specs.Causes.{Cause, first_cause, when}
+use Rattle.nb_model.specs.Levels.{Contents, begins_level, joined, read_level}
+use Rattle.nb_model.specs.Restoring.{Link, level_link, whole_link, is_bad_length, not_whole, first_link, not_behind, next_link, linked, next_links, verdict}
+use Rattle.nb_model.specs.Sound.{IsOfSize}
+use Rattle.nb_model.proofs.FreeLaws.{free_no_level, free_header}
+use Rattle.nb_model.proofs.ImageLaws.{page-joined}
+use Rattle.nb_restore.specs.Sources.{IsSource, AreSources}
+use Rattle.nb_restore.proofs.AnswerLaws.{ok_same, err_ok}
+
+-- causes of which none applies, one after another
+clear_head : (c : Cause) (cs : List Cause) → first_cause (c ∷ cs) ≡ None → (c ≡ None) × (first_cause cs ≡ None)
+unfolding first_cause
+clear_head None cs e = (refl, e)
+clear_head (Some r) cs e = absurd (some_none e)
+  where
+    some_none : Some r ≡ None → ⊥
+    some_none h = cc
+
+when_clear : (test : Bool) (r : Refusal) → when test r ≡ None → test ≡ false
+when_clear true r e = absurd (some_none e)
+  where
+    some_none : Some r ≡ None → ⊥
+    some_none h = cc
+when_clear false r e = refl
+
+not_false : (b : Bool) → not b ≡ false → b ≡ true
+not_false true e = refl
+not_false false e = absurd (true≢false e)
+
+-- a level file has the page size of the file before it
+behind_size : (k : ℕ) (last : Link) (name : List ℕ) (c : Contents) → not_behind k last name c ≡ None → c.head.size ≡ last.size
+unfolding not_behind
+behind_size k last name c none =
+    let size = clear_head _ _ (clear_head _ _ (clear_head _ _ none).1).1 in
+    eqb-true c.head.size last.size (not_false (c.head.size == last.size) (when_clear (not (c.head.size == last.size)) (ChainSize name c.head.size last.size) size.0))
+
+-- the file behind another is a level file
+record IsLevelFile (last : Link) (bytes : List ℕ) (l : Link) : Type 0 where
+  contents : Contents
+  read : read_level bytes ≡ Ok contents
+  size : contents.head.size ≡ last.size
+  is : l ≡ level_link contents
+
+level_file : (k : ℕ) (last : Link) (name bytes : List ℕ) (l : Link) → next_link k last name bytes ≡ Ok l → IsLevelFile last bytes l
+unfolding next_link
+level_file k last name bytes l e = by (begins_level bytes) (number_in 16 4 bytes == signature) (read_level bytes) refl e
+  where
+    behind : (c : Contents) → read_level bytes ≡ Ok c → (cause : Cause) → not_behind k last name c ≡ cause
+        → elim cause as (λ x. Result Link Refusal) [ Some refusal ↦ Err refusal | None ↦ Ok (level_link c) ] ≡ Ok l → IsLevelFile last bytes l
+    behind c read (Some r) is h = absurd (err_ok r l (Err r) refl h)
+    behind c read None is h = record { contents = c; read = read; size = behind_size k last name c is; is = ok_same l (level_link c) (Ok (level_link c)) h refl }
+
+    by : (begins signed : Bool) (r : Result Contents ℕ) → read_level bytes ≡ r
+        → elim begins as (λ x. Result Link Refusal) [
+          | false ↦ elim signed as (λ x. Result Link Refusal) [ true ↦ Err (ChainLevel name 0 k) | false ↦ Err (BadLevel name 0) ]
+          | true ↦ elim r as (λ x. Result Link Refusal) [
+            | Err at ↦ Err (BadLevel name at)
+            | Ok c ↦ elim (not_behind k last name c) as (λ x. Result Link Refusal) [ Some refusal ↦ Err refusal | None ↦ Ok (level_link c) ]
+          ]
+        ] ≡ Ok l → IsLevelFile last bytes l
+    by false true r is h = absurd (err_ok (ChainLevel name 0 k) l (Err (ChainLevel name 0 k)) refl h)
+    by false false r is h = absurd (err_ok (BadLevel name 0) l (Err (BadLevel name 0)) refl h)
+    by true signed (Err at) is h = absurd (err_ok (BadLevel name at) l (Err (BadLevel name at)) refl h)
+    by true signed (Ok c) is h = behind c is (not_behind k last name c) refl h
+
+-- links with one before them
+record IsLinked (l : Link) (links : List Link) (rest : Result (List Link) Refusal) : Type 0 where
+  more : List Link
+  all : links ≡ l ∷ more
+  is : rest ≡ Ok more
+
+linked_parts : (l : Link) (links : List Link) (rest : Result (List Link) Refusal) → linked l rest ≡ Ok links → IsLinked l links rest
+linked_parts l links (Ok more) e = record { more = more; all = ok_same links (l ∷ more) (Ok (l ∷ more)) e refl; is = refl }
+linked_parts l links (Err r) e = absurd (err_ok r links (Err r) refl e)
+
+module _ (files : Files) (target : List ℕ) (free : is_free_file (files target) ≡ true) where
+  -- no file that is free is the target's
+  free_there : (name bytes : List ℕ) → files name ≡ Some bytes → name ≡ target → is_free_file (Some bytes) ≡ true
+  free_there name bytes there same = ap is_free_file (sym there ∙ ap files same) ∙ free
+
+  source_of : (last : Link) (name bytes : List ℕ) (l : Link) (size : ℕ) → files name ≡ Some bytes → last.size ≡ size → IsLevelFile last bytes l → IsSource files target name size l
+  source_of last name bytes l size there same is = record {
+    apart = λ e. free_no_level bytes is.contents (free_there name bytes there e) is.read;
+    bytes = bytes;
+    there = there;
+    contents = is.contents;
+    read = is.read;
+    pages = ap (λ (x : Link). x.pages) is.is;
+    sized = ap (λ (x : Link). x.size) is.is ∙ is.size ∙ same;
+    same = is.size ∙ same;
+  }
+
+  -- the files behind level 0 are level files of its page size
+  pub sources : (size k : ℕ) (last : Link) (names : List (List ℕ)) (links : List Link) → last.size ≡ size → next_links files k last names ≡ Ok links → AreSources files target names size links
+  unfolding next_links
+  sources size k last [] links same e = subst (λ (ls : List Link). AreSources files target [] size ls) (ok_same [] links (Ok []) refl e) tt
+  sources size k last (name ∷ names) links same e = by (files name) refl e (λ l more next. sources size (k + 1) l names more next)
+    where
+      one : (bytes : List ℕ) → files name ≡ Some bytes → (answer : Result Link Refusal) → next_link k last name bytes ≡ answer
+          → elim answer as (λ x. Result (List Link) Refusal) [ Err refusal ↦ Err refusal | Ok l ↦ linked l (next_links files (k + 1) l names) ] ≡ Ok links
+          → ((l : Link) (more : List Link) → l.size ≡ size → next_links files (k + 1) l names ≡ Ok more → AreSources files target names size more) → AreSources files target (name ∷ names) size links
+      one bytes there (Err r) is h others = absurd (err_ok r links (Err r) refl h)
+      one bytes there (Ok l) is h others =
+          let source : IsSource files target name size l = source_of last name bytes l size there same (level_file k last name bytes l is) in
+          let parts = linked_parts l links (next_links files (k + 1) l names) h in
+          subst (λ (ls : List Link). AreSources files target (name ∷ names) size ls) (sym parts.all) (source, others l parts.more source.sized parts.is)
+
+      by : (file : File) → files name ≡ file
+          → elim file as (λ x. Result (List Link) Refusal) [
+            | None ↦ Err (NoFile name)
+            | Some bytes ↦ elim (next_link k last name bytes) as (λ x. Result (List Link) Refusal) [ Err refusal ↦ Err refusal | Ok l ↦ linked l (next_links files (k + 1) l names) ]
+          ] ≡ Ok links
+          → ((l : Link) (more : List Link) → l.size ≡ size → next_links files (k + 1) l names ≡ Ok more → AreSources files target names size more) → AreSources files target (name ∷ names) size links
+      by None is h others = absurd (err_ok (NoFile name) links (Err (NoFile name)) refl h)
+      by (Some bytes) is h others = one bytes is (next_link k last name bytes) refl h others
+
+-- an accepted chain begins with level 0
+pub record IsSplit (files : Files) (name : List ℕ) (others : List (List ℕ)) (links : List Link) : Type 0 where
+  pub bytes : List ℕ
+  pub there : files name ≡ Some bytes
+  pub first : Link
+  pub accepted : first_link name bytes ≡ Ok first
+  pub rest : List Link
+  pub all : links ≡ first ∷ rest
+  pub next : next_links files 1 first others ≡ Ok rest
+
+pub split_chain : (files : Files) (name : List ℕ) (others : List (List ℕ)) (links : List Link) → verdict files (name ∷ others) ≡ Ok links → IsSplit files name others links
+unfolding verdict
+split_chain files name others links e = by (files name) refl e
+  where
+    one : (bytes : List ℕ) → files name ≡ Some bytes → (answer : Result Link Refusal) → first_link name bytes ≡ answer
+        → elim answer as (λ x. Result (List Link) Refusal) [ Err refusal ↦ Err refusal | Ok l ↦ linked l (next_links files 1 l others) ] ≡ Ok links → IsSplit files name others links
+    one bytes there (Err r) is h = absurd (err_ok r links (Err r) refl h)
+    one bytes there (Ok l) is h =
+        let parts = linked_parts l links (next_links files 1 l others) h in
+        record { bytes = bytes; there = there; first = l; accepted = is; rest = parts.more; all = parts.all; next = parts.is }
+
+    by : (file : File) → files name ≡ file
+        → elim file as (λ x. Result (List Link) Refusal) [
+          | None ↦ Err (NoFile name)
+          | Some bytes ↦ elim (first_link name bytes) as (λ x. Result (List Link) Refusal) [ Err refusal ↦ Err refusal | Ok l ↦ linked l (next_links files 1 l others) ]
+        ] ≡ Ok links → IsSplit files name others links
+    by None is h = absurd (err_ok (NoFile name) links (Err (NoFile name)) refl h)
+    by (Some bytes) is h = one bytes is (first_link name bytes) refl h
+
+-- level 0 is a database in the stalled state
+pub record IsCopy (bytes : List ℕ) (l : Link) : Type 0 where
+  pub is : l ≡ whole_link bytes
+  pub header : is_header bytes ≡ true
+  pub stalled : state_of bytes ≡ 1
+
+whole_parts : (name bytes : List ℕ) → not_whole name bytes ≡ None → (is_header bytes ≡ true) × (state_of bytes ≡ 1)
+unfolding not_whole
+whole_parts name bytes e = by (is_header bytes) refl e
+  where
+    some_none : (r : Refusal) → Some r ≡ None → ⊥
+    some_none r h = cc
+
+    by : (header : Bool) → is_header bytes ≡ header
+        → elim header as (λ x. Cause) [
+          | false ↦ Some (BadLevel name 0)
+          | true ↦ first_cause (when (not (state_of bytes == 1)) (BadLevel name 22) ∷ when (is_bad_length bytes) (BadLevel name (length bytes)) ∷ [])
+        ] ≡ None → (is_header bytes ≡ true) × (state_of bytes ≡ 1)
+    by false is h = absurd (some_none (BadLevel name 0) h)
+    by true is h = (is, eqb-true (state_of bytes) 1 (not_false (state_of bytes == 1) (when_clear (not (state_of bytes == 1)) (BadLevel name 22) (clear_head _ _ h).0)))
+
+pub copy_of : (name bytes : List ℕ) (l : Link) → first_link name bytes ≡ Ok l → IsCopy bytes l
+unfolding first_link
+copy_of name bytes l e = by (begins_level bytes) (read_level bytes) (not_whole name bytes) refl e
+  where
+    by : (begins : Bool) (r : Result Contents ℕ) (cause : Cause) → not_whole name bytes ≡ cause
+        → elim begins as (λ x. Result Link Refusal) [
+          | true ↦ elim r as (λ x. Result Link Refusal) [ Err at ↦ Err (BadLevel name at) | Ok c ↦ Err (ChainLevel name c.head.level 0) ]
+          | false ↦ elim cause as (λ x. Result Link Refusal) [ Some refusal ↦ Err refusal | None ↦ Ok (whole_link bytes) ]
+        ] ≡ Ok l → IsCopy bytes l
+    by true (Err at) cause is h = absurd (err_ok (BadLevel name at) l (Err (BadLevel name at)) refl h)
+    by true (Ok c) cause is h = absurd (err_ok (ChainLevel name c.head.level 0) l (Err (ChainLevel name c.head.level 0)) refl h)
+    by false r (Some refusal) is h = absurd (err_ok refusal l (Err refusal) refl h)
+    by false r None is h = let parts = whole_parts name bytes is in record { is = ok_same l (whole_link bytes) (Ok (whole_link bytes)) h refl; header = parts.0; stalled = parts.1 }
+
+-- so its name isn't free
+pub copy_apart : (files : Files) (target name bytes : List ℕ) (l : Link) → is_free_file (files target) ≡ true → files name ≡ Some bytes → IsCopy bytes l → name ≢ target
+copy_apart files target name bytes l free there copy same = let applying = (free_header bytes (free_there files target free name bytes there same) copy.header).0 in absurd (omega (arith, applying, copy.stalled))
+
+-- its page 0 has the header of the file
+module _ (size : ℕ) (bytes : List ℕ) (pages : List Page) (is : bytes ≡ joined pages) (sizes : IsOfSize size pages) (some : 1 ≤ length pages) (wide : 64 ≤ size) where
+  page_0_is : first_page pages ≡ take size bytes
+  page_0_is =
+      sym (page-joined size 0 pages sizes (omega (arith, some))) ∙ ap (λ i. take size (drop i (joined pages))) (let e : 0 * size ≡ 0 = omega arith in e) ∙ ap (take size) (sym is)
+
+  front : take 64 (first_page pages) ≡ take 64 bytes
+  front = ap (take 64) page_0_is ∙ take-take 64 size bytes wide
+
+  pub page_0_header : is_header (first_page pages) ≡ is_header bytes
+  page_0_header = sym (is_header-take (first_page pages)) ∙ ap is_header front ∙ is_header-take bytes
+
+  pub page_0_size : size_of (first_page pages) ≡ size_of bytes
+  page_0_size = sym (number_in-take 64 24 4 (first_page pages) (omega arith)) ∙ ap (λ (x : List ℕ). number_in 24 4 x) front ∙ number_in-take 64 24 4 bytes (omega arith)
+
+-- none of the files is the target
+pub others_apart : (files : Files) (target : List ℕ) (size : ℕ) (names : List (List ℕ)) (links : List Link) → AreSources files target names size links → (k : ℕ) (name : List ℕ) → k < length names → get_or names k name ≡ name → name ≢ target
+others_apart files target size [] links sources k name below is = absurd (omega (arith, below))
+others_apart files target size (n ∷ names) [] sources k name below is = absurd sources
+others_apart files target size (n ∷ names) (l ∷ ls) sources zero name below is = λ same. sources.0.apart (is ∙ same)
+others_apart files target size (n ∷ names) (l ∷ ls) sources (suc k) name below is = others_apart files target size names ls sources.1 k name (omega (arith, below)) is
+
+pub all_apart : (files : Files) (target : List ℕ) (size : ℕ) (level_0 : List ℕ) (names : List (List ℕ)) (links : List Link) → level_0 ≢ target → AreSources files target names size links → (name : List ℕ) → Contains (level_0 ∷ names) name → name ≢ target
+all_apart files target size level_0 names links first sources name (zero, below, is) = λ same. first (is ∙ same)
+all_apart files target size level_0 names links first sources name (suc k, below, is) = others_apart files target size names links sources k name (omega (arith, below)) is

@@ -1,0 +1,83 @@
+-- The first 64 bytes of the target stay while pages behind page 0 are written.
+use Rattle.std.proofs.Common.{◌≡◌, inl, inr, ℕ, ◌+◌, ◌-◌, ◌*◌, ◌≤◌, List, ◌++◌, length, take, drop, replicate, sym, ap, subst, ◌∙◌, arith, length-append, mul-le-mul_right}
+use Rattle.std.specs.Prelude.{Bool, IsTrue, Some, Result, OnOk}
+use Rattle.std.proofs.lemmas.List.{take-append-le, take-take, length-take-le, length-replicate}
+use Rattle.nb_host.specs.Files.{File, Files, bytes_of, padded, put_at, with_file, with_page}
+use Rattle.nb_host.specs.World.{World}
+use Rattle.nb_host.specs.Crash.{PageLeft}
+use Rattle.nb_host.specs.Calls.{IsStill, WritesPage}
+use Rattle.nb_host.specs.Moments.{IsTimely, Passes}
+use Rattle.nb_change.specs.Changes.{Changes, Only, Moved}
+use Rattle.nb_change.proofs.NameLaws.{with_file-same}
+use Rattle.nb_change.proofs.ResultLaws.{whole_on_ok, on_ok_then}
+use Rattle.nb_change.proofs.CallLaws.{page_alone}
+use Rattle.nb_change.proofs.MovedLaws.{moved_begun, moved_still, moved_joined}
+use Rattle.nb_restore.specs.Copied.{BeginsWith, KeepsFront}
+
+-- zeros behind, and a page behind
+front_grown : (front : List ℕ) (n : ℕ) (b : File) → BeginsWith front b → BeginsWith front (Some (bytes_of b ++ replicate n 0))
+front_grown front n b begins = record {
+  long = omega (arith, length-append (bytes_of b) (replicate n 0), begins.long);
+  is = take-append-le 64 (bytes_of b) (replicate n 0) begins.long ∙ begins.is;
+}
+
+front_put : (front : List ℕ) (at : ℕ) (page : List ℕ) (b : File) → 64 ≤ at → BeginsWith front b → BeginsWith front (with_page b at page)
+unfolding put_at padded
+front_put front at page b far begins =
+    let bytes : List ℕ = bytes_of b in
+    let wide : List ℕ = bytes ++ replicate (at - length bytes) 0 in
+    let long : at ≤ length wide = omega (arith, length-append bytes (replicate (at - length bytes) 0), length-replicate {A = ℕ} (at - length bytes) 0) in
+    let part : length (take at wide) ≡ at = length-take-le at wide long in
+    record {
+      long = omega (arith, length-append (take at wide) (page ++ drop (at + length page) bytes), part, far);
+      is = take-append-le 64 (take at wide) (page ++ drop (at + length page) bytes) (omega (arith, far, part)) ∙ take-take 64 at wide far
+          ∙ take-append-le 64 bytes (replicate (at - length bytes) 0) begins.long ∙ begins.is;
+    }
+
+pub keeps_none : (b : File) → KeepsFront b b
+keeps_none b front begins = begins
+
+pub keeps_page : (at : ℕ) (page : List ℕ) (b c : File) → 64 ≤ at → PageLeft at page b c → KeepsFront b c
+keeps_page at page b c far (inl same) front begins = subst (λ (f : File). BeginsWith front f) (sym same) begins
+keeps_page at page b c far (inr (inl put)) front begins = subst (λ (f : File). BeginsWith front f) (sym put) (front_put front at page b far begins)
+keeps_page at page b c far (inr (inr (k, fits, grown))) front begins = subst (λ (f : File). BeginsWith front f) (sym grown) (front_grown front (k * length page) b begins)
+
+-- page n lies behind the header
+pub far_behind : (n size : ℕ) → 1 ≤ n → 1024 ≤ size → 64 ≤ n * size
+far_behind n size some wide = let low : 1 * size ≤ n * size = mul-le-mul_right size some in omega (arith, low, wide)
+
+-- the file under a name that was just given to it
+pub named : (old new : Files) (name : List ℕ) (file : File) → new ≡ with_file old name file → new name ≡ file
+named old new name file is = ap (λ (f : Files). f name) is ∙ with_file-same old name file
+
+-- at Ok the page was put
+pub put_on_ok : {T E : Type 0} (tells : Bool) (result : Result T E) (old new : World) (name : List ℕ) (at : ℕ) (page : List ℕ) → IsTrue tells → WritesPage tells result old new name at page → OnOk result (new.files name ≡ with_page (old.files name) at page)
+put_on_ok tells result old new name at page told writes = on_ok_then result (named old.files new.files name (with_page (old.files name) at page)) (whole_on_ok result old.files _ new.files (writes.files told))
+
+module _ (name : List ℕ) where
+  -- before the first call
+  pub front_begun : (old : World) → IsTimely old → Changes old old (Only name) (Moved old name KeepsFront)
+  front_begun old timely = moved_begun old (Only name) name KeepsFront timely (λ b was. keeps_none b)
+
+  -- a call that changes no file
+  pub front_still : (old new : World) → IsTimely old → IsStill old new → new.said ≡ old.said → Passes old new → Changes old new (Only name) (Moved old name KeepsFront)
+  front_still old new timely still silent time = moved_still old new (Only name) name KeepsFront timely still silent time (λ b was. keeps_none b)
+
+  -- a page behind page 0 is written, also where that fails
+  pub front_page : {T E : Type 0} (tells : Bool) (result : Result T E) (old new : World) (n : ℕ) (page : List ℕ) → IsTrue tells → 1 ≤ n → 1024 ≤ length page → IsTimely old → WritesPage tells result old new name (n * length page) page
+      → new.said ≡ old.said → Passes old new → Changes old new (Only name) (Moved old name KeepsFront)
+  front_page tells result old new n page told some wide timely writes silent time =
+      page_alone tells result old new name (n * length page) page KeepsFront told timely writes silent time (λ b c was next. keeps_page (n * length page) page b c (far_behind n (length page) some wide) next)
+
+  -- one run of calls after another
+  pub front_joined : (old mid new : World) → Changes old mid (Only name) (Moved old name KeepsFront) → Changes mid new (Only name) (Moved mid name KeepsFront) → Changes old new (Only name) (Moved old name KeepsFront)
+  front_joined old mid new first second =
+      moved_joined old mid new name KeepsFront KeepsFront KeepsFront first second (λ b c was by. by) (λ b c d was left one two front begins. two front (one front begins))
+
+  -- and then a call that changes no file, or a page behind page 0
+  pub front_then_still : (old mid new : World) → Changes old mid (Only name) (Moved old name KeepsFront) → IsTimely mid → IsStill mid new → new.said ≡ mid.said → Passes mid new → Changes old new (Only name) (Moved old name KeepsFront)
+  front_then_still old mid new so_far timely still silent time = front_joined old mid new so_far (front_still mid new timely still silent time)
+
+  pub front_then_page : {T E : Type 0} (tells : Bool) (result : Result T E) (old mid new : World) (n : ℕ) (page : List ℕ) → IsTrue tells → 1 ≤ n → 1024 ≤ length page → Changes old mid (Only name) (Moved old name KeepsFront) → IsTimely mid
+      → WritesPage tells result mid new name (n * length page) page → new.said ≡ mid.said → Passes mid new → Changes old new (Only name) (Moved old name KeepsFront)
+  front_then_page tells result old mid new n page told some wide so_far timely writes silent time = front_joined old mid new so_far (front_page tells result mid new n page told some wide timely writes silent time)

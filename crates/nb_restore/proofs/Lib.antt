@@ -1,0 +1,15 @@
+pub mod AnswerLaws
+pub mod CopiedLaws
+pub mod FrontLaws
+pub mod LevelLaws
+pub mod PageLaws
+pub mod TargetLaws
+pub mod HeadLaws
+pub mod FinishLaws
+pub mod ReadyLaws
+pub mod WholeLaws
+pub mod SourceLaws
+pub mod PlanLaws
+pub mod ChainLaws
+pub mod PreparedLaws
+pub mod RestoreLaws

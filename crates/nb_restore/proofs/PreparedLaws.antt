@@ -1,0 +1,157 @@
+-- An accepted chain is read again as what it was, and gives a plan.
+use Rattle.std.proofs.Common.{◌≡◌, ◌≢◌, ℕ, ◌*◌, ◌≤◌, List, [], ◌∷◌, length, get_or, sym, ap, subst, ◌∙◌, arith}
+use Rattle.std.specs.Prelude.{true, Some, None, Ok, Err, Contains}
+use Rattle.std.specs.Global.{Vec}
+use Rattle.std.proofs.lemmas.Bool.{and_parts}
+use Rattle.nb_fields.specs.Free.{is_free_file}
+use Rattle.nb_fields.specs.Header.{is_header, size_of}
+use Rattle.nb_fields.proofs.SizeLemmas.{size_facts}
+use Rattle.nb_host.specs.Files.{File, Files}
+use Rattle.nb_host.specs.declared.faults.Fault.{Fault}
+use Rattle.nb_host.specs.declared.faults.Fault.TheVariants.{Refused, Device, Memory}
+use Rattle.nb_page.specs.Free.{is_free_name}
+use Rattle.nb_page.specs.Header.{HasForm}
+use Rattle.nb_model.specs.Image.{Page, first_page, cut, trimmed}
+use Rattle.nb_model.specs.Levels.{joined}
+use Rattle.nb_model.specs.Restoring.{Link, whole_link, first_link, verdict, all_over, applied}
+use Rattle.nb_model.specs.Sound.{IsOfSize}
+use Rattle.nb_model.proofs.ImageLaws.{Pages, pages_of, cut-joined}
+use Rattle.nb_level.specs.Reading.{Reading}
+use Rattle.nb_chain.specs.declared.first_file.First.{First}
+use Rattle.nb_chain.specs.First.{FirstSays, FirstRefused}
+use Rattle.nb_chain.proofs.ImageLaws.{over}
+use Rattle.nb_chain.proofs.StartLemmas.{size_is}
+use Rattle.nb_restore.specs.Copied.{IsDone}
+use Rattle.nb_restore.specs.Plan.{IsAccepted, IsPrepared, PlanSays}
+use Rattle.nb_restore.specs.Sources.{IsLevel0, AreSources, AreReady, IsTaken}
+use Rattle.nb_restore.specs.Target.{IsPlan, IsUnfinishedPage}
+use Rattle.nb_restore.proofs.AnswerLaws.{ok_same, err_ok, some_same}
+use Rattle.nb_restore.proofs.ChainLaws.{sources, IsSplit, split_chain, IsCopy, copy_of, copy_apart, page_0_header, page_0_size, all_apart}
+
+-- the first name, asked for twice
+pub first_same : (names : List (List ℕ)) (n m : List ℕ) → 1 ≤ length names → n ≡ get_or names 0 n → m ≡ get_or names 0 m → m ≡ n
+first_same [] n m some is also = absurd (omega (arith, some))
+first_same (x ∷ xs) n m some is also = also ∙ sym is
+
+-- nothing but the device fails, and memory
+pub taken_fails : (T : Type 0) (P : T → Type 0) (files : Files) (target : List ℕ) (names : List (List ℕ)) (fault : Fault) → IsTaken {T = T} (Err fault) P → PlanSays files target names (Err fault)
+taken_fails T P files target names (Refused refusal) says = absurd says
+taken_fails T P files target names Device says = tt
+taken_fails T P files target names Memory says = tt
+
+pub done_fails : (T P : Type 0) (files : Files) (target : List ℕ) (names : List (List ℕ)) (fault : Fault) → IsDone {T = T} (Err fault) P → PlanSays files target names (Err fault)
+done_fails T P files target names (Refused refusal) says = absurd says
+done_fails T P files target names Device says = tt
+done_fails T P files target names Memory says = absurd says
+
+free_file : (files : Files) (name : List ℕ) → is_free_name files name ≡ true → is_free_file (files name) ≡ true
+unfolding is_free_name
+free_file files name free = (and_parts (is_free_file (files name)) _ free).0
+
+module _ (files : Files) (target : List ℕ) (names : List (List ℕ)) (count : ℕ) (accepted : IsAccepted files target names count) (name : List ℕ) (others : List (List ℕ)) (named : names ≡ name ∷ others) (now : Files) (still : now ≡ files) where
+  pub split : IsSplit files name others accepted.links
+  split = split_chain files name others accepted.links (ap (verdict files) (sym named) ∙ accepted.accepted)
+
+  free : is_free_file (files target) ≡ true
+  free = free_file files target accepted.free
+
+  there_now : now name ≡ Some split.bytes
+  there_now = ap (λ (f : Files). f name) still ∙ split.there
+
+  -- level 0 isn't refused
+  pub first_fails : (fault : Fault) → FirstSays (now name) name (Err fault) → PlanSays files target names (Err fault)
+  first_fails (Refused refusal) says = absurd (by (now name) there_now says)
+    where
+      by : (file : File) → file ≡ Some split.bytes → FirstRefused file name refusal → ⊥
+      by None there refused = none_some there
+        where
+          none_some : None ≡ Some split.bytes → ⊥
+          none_some h = cc
+      by (Some bytes) there refused = err_ok refusal split.first (first_link name bytes) refused (ap (first_link name) (some_same bytes split.bytes there) ∙ split.accepted)
+  first_fails Device says = tt
+  first_fails Memory says = tt
+
+  module _ (first : First) (says : FirstSays (now name) name (Ok first)) (form : HasForm first.header) (least : 5 ≤ first.pages) (most : first.pages ≤ 1048576) where
+    abbrev size : ℕ
+    size = first.header.page_size
+
+    abbrev bytes : List ℕ
+    bytes = says.0
+
+    there : files name ≡ Some bytes
+    there = ap (λ (f : Files). f name) (sym still) ∙ says.1
+
+    first_is : split.first ≡ whole_link bytes
+    first_is = ok_same split.first (whole_link bytes) (first_link name split.bytes) split.accepted (ap (first_link name) (some_same split.bytes bytes (sym split.there ∙ there)) ∙ says.2.accepted)
+
+    copy : IsCopy bytes (whole_link bytes)
+    copy = copy_of name bytes (whole_link bytes) says.2.accepted
+
+    same_size : size ≡ size_of bytes
+    same_size = size_is bytes first.header says.2.header
+
+    wide : 1024 ≤ size
+    wide = (size_facts size form.size).at_least
+
+    pub whole : Pages size bytes first.pages
+    whole = pages_of size first.pages bytes says.2.pages
+
+    some : 1 ≤ length whole.pages
+    some = omega (arith, whole.count, least)
+
+    -- level 0 and the files behind it
+    pub level_0 : IsLevel0 files target name size first.pages whole.pages
+    level_0 = record {
+      apart = copy_apart files target name bytes (whole_link bytes) free there copy;
+      there = there ∙ ap Some whole.is;
+      long = whole.count;
+      sizes = whole.sizes;
+      least = least;
+      most = most;
+      header = page_0_header size bytes whole.pages whole.is whole.sizes some (omega (arith, wide)) ∙ copy.header;
+      same = page_0_size size bytes whole.pages whole.is whole.sizes some (omega (arith, wide)) ∙ sym same_size;
+    }
+
+    pub behind : AreSources files target others size split.rest
+    behind = sources files target free size 1 split.first others split.rest (ap (λ (l : Link). l.size) first_is ∙ sym same_size) split.next
+
+    pub behind_now : (later : Files) (names_left : List (List ℕ)) → later ≡ files → names_left ≡ others → AreSources later target names_left size split.rest
+    behind_now later names_left same left = subst (λ (f : Files). AreSources f target names_left size split.rest) (sym same) (subst (λ (ns : List (List ℕ)). AreSources files target ns size split.rest) (sym left) behind)
+
+    -- the image of the chain is that of level 0, written over
+    gives : applied accepted.links ≡ trimmed (all_over split.rest whole.pages)
+    unfolding applied
+    gives =
+        let long : length bytes ≡ first.pages * size_of bytes = says.2.pages ∙ ap (λ k. first.pages * k) same_size in
+        let cut_is : cut (size_of bytes) first.pages bytes ≡ whole.pages =
+        ap (λ k. cut k first.pages bytes) (sym same_size) ∙ ap (cut size first.pages) whole.is ∙ cut-joined size first.pages whole.pages whole.sizes (omega (arith, wide)) (omega (arith, whole.count)) in
+        ap (λ (ls : List Link). trimmed (all_over ls [])) (split.all ∙ ap (λ (l : Link). l ∷ split.rest) first_is)
+        ∙ ap trimmed (over bytes first.pages split.rest (omega (arith, wide, same_size)) long ∙ ap (all_over split.rest) cut_is)
+
+    apart : (n : List ℕ) → Contains names n → n ≢ target
+    apart n among = all_apart files target size name others split.rest level_0.apart behind n (subst (λ (ns : List (List ℕ)). Contains ns n) named among)
+
+    -- what is answered of page 0, where it is read
+    pub page_0_of : (P : List Page → Type 0) (later : Files) (asked : List ℕ) (room : ℕ) → later ≡ files → asked ≡ name → room ≡ size
+        → ((ps : List Page) → later asked ≡ Some (joined ps) → IsOfSize room ps → 1 ≤ length ps → is_header (first_page ps) ≡ true → P ps) → P whole.pages
+    page_0_of P later asked room same is long answer =
+        answer whole.pages (ap later is ∙ ap (λ (f : Files). f name) same ∙ level_0.there) (subst (λ k. IsOfSize k whole.pages) (sym long) whole.sizes) some level_0.header
+
+    pub prepared : (start page : Vec ℕ) (readers : Vec Reading) (later : Files) → length page.items ≡ size → later ≡ files → AreReady later target size split.rest readers.items → (start.items ≡ first_page whole.pages) × IsUnfinishedPage page.items
+        → IsPrepared files target names (record { count = count; pages = first.pages; first = start; page = page; readers = readers })
+    prepared start page readers later long same ready read = record {
+      chain = accepted;
+      apart = apart;
+      level_0 = name;
+      others = others;
+      named = named;
+      pages = whole.pages;
+      links = split.rest;
+      gives = gives;
+      plan_is = subst (λ k. IsPlan files target name k first.pages readers.items start.items page.items whole.pages split.rest) (sym long) (record {
+        whole = level_0;
+        ready = subst (λ (f : Files). AreReady f target size split.rest readers.items) same ready;
+        page_0 = read.0;
+        stands = read.1;
+      });
+    }

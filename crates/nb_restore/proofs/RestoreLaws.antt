@@ -1,0 +1,89 @@
+-- What a restore leaves, from its plan on.
+use Rattle.std.proofs.Common.{◌≡◌, inl, inr, ⊎_elim, ℕ, List, length, get_or, sym, ap, subst, ◌∙◌}
+use Rattle.std.specs.Prelude.{Result, Ok, Err}
+use Rattle.std.proofs.lemmas.Bool.{true≢false}
+use Rattle.nb_host.specs.Files.{File, Files}
+use Rattle.nb_host.specs.World.{World}
+use Rattle.nb_host.specs.Crash.{LeavesAll}
+use Rattle.nb_host.specs.declared.faults.Fault.{Fault}
+use Rattle.nb_host.specs.declared.faults.Fault.TheVariants.{Refused, Device, Memory}
+use Rattle.nb_change.specs.Changes.{Changes, Only, NoNames, Remade}
+use Rattle.nb_change.specs.Gave.{GaveNothing}
+use Rattle.nb_change.proofs.ChangesLaws.{rested, kept_then}
+use Rattle.nb_change.proofs.GaveLaws.{nothing_joined}
+use Rattle.nb_change.proofs.MomentLaws.{left_before}
+use Rattle.nb_change.proofs.SettledLaws.{durable_is}
+use Rattle.nb_page.specs.Quiet.{Quiet}
+use Rattle.nb_model.specs.Image.{Page, Image}
+use Rattle.nb_model.specs.Main.{HoldsMain}
+use Rattle.nb_model.specs.Owner.{delta_name}
+use Rattle.nb_model.specs.Restoring.{Link, verdict, applied}
+use Rattle.nb_model.specs.Strokes.{fixed}
+use Rattle.nb_model.specs.Trail.{ShowsIn}
+use Rattle.nb_model.proofs.MainLaws.{owner_main}
+use Rattle.nb_restore.specs.declared.plan.Plan.{Plan}
+use Rattle.nb_restore.specs.Copied.{IsDone}
+use Rattle.nb_restore.specs.Plan.{IsPrepared}
+use Rattle.nb_restore.specs.Restore.{base_from, RestoreLeft, RestoreAnswers, Restores}
+use Rattle.nb_restore.specs.Target.{IsFreeOr, IsPlan, KeepsImage, restored}
+use Rattle.nb_restore.proofs.AnswerLaws.{err_ok}
+
+module _ (old mid new : World) (target : List ℕ) (names : List (List ℕ)) (plan : Plan) (quiet : Quiet old mid) (prepared : IsPrepared old.files target names plan) where
+  abbrev image : Image
+  image = restored prepared.pages prepared.links
+
+  abbrev links : List Link
+  links = prepared.chain.links
+
+  -- the plan, as it is asked for
+  pub plan_for : (level_0 : List ℕ) (first page : Page) → level_0 ≡ get_or names 0 level_0 → first ≡ plan.first.items → page ≡ plan.page.items
+      → IsPlan mid.files target level_0 (length page) plan.pages plan.readers.items first page prepared.pages prepared.links
+  plan_for level_0 first page is first_is page_is =
+      let named : level_0 ≡ prepared.level_0 = is ∙ ap (λ (ns : List (List ℕ)). get_or ns 0 level_0) prepared.named in
+      subst (λ (n : List ℕ). IsPlan mid.files target n (length page) plan.pages plan.readers.items first page prepared.pages prepared.links) (sym named)
+      (subst (λ (p : Page). IsPlan mid.files target prepared.level_0 (length page) plan.pages plan.readers.items p page prepared.pages prepared.links) (sym first_is)
+      (subst (λ (p : Page). IsPlan mid.files target prepared.level_0 (length p) plan.pages plan.readers.items plan.first.items p prepared.pages prepared.links) (sym page_is)
+      (subst (λ (f : Files). IsPlan f target prepared.level_0 (length plan.page.items) plan.pages plan.readers.items plan.first.items plan.page.items prepared.pages prepared.links) (sym quiet.still.files) prepared.plan_is)))
+
+  -- the file that holds the image is the database of the chain
+  shows : (files : Files) → HoldsMain image (files target) → ShowsIn target (base_from links) files
+  shows files holds = owner_main target (fixed (applied links)) (files target) (files (delta_name target)) (subst (λ (i : Image). HoldsMain i (files target)) (ap fixed (sym prepared.gives)) holds)
+
+  left_all : Changes mid new (Only target) (Remade mid target (IsFreeOr image)) → Changes old new (Only target) (RestoreLeft old target names)
+  left_all second =
+      kept_then old mid new (Only target) (Remade mid target (IsFreeOr image)) (RestoreLeft old target names) (rested old mid NoNames (LeavesAll old) quiet.still quiet.said quiet.moments (λ files left. left)) second (λ files left. inl (left target))
+      (λ files. ⊎_elim (λ was. inl (left_before old mid _ quiet.still.left target (files target) tt was))
+      (⊎_elim (λ free. inr (inl free)) (λ holds. inr (inr (links, prepared.chain.accepted, shows files holds)))))
+
+  gave_all : GaveNothing mid new → GaveNothing old new
+  gave_all gave = nothing_joined old mid new (record { guids = quiet.guids; times = quiet.times }) gave
+
+  restores : (result : Result ℕ Fault) → RestoreAnswers result old new target names → Changes mid new (Only target) (Remade mid target (IsFreeOr image)) → GaveNothing mid new → Restores result old new target names
+  restores result answer left gave = record {
+    answer = answer;
+    left = left_all left;
+    gave = gave_all gave;
+    taken = λ taken. absurd (true≢false (sym prepared.chain.free ∙ taken));
+    broken = λ refusal broken. absurd (err_ok refusal links (verdict old.files names) broken prepared.chain.accepted);
+  }
+
+  -- the device failed while the target was made
+  pub restore_fails : (T P : Type 0) (fault : Fault) → IsDone {T = T} (Err fault) P → Changes mid new (Only target) (Remade mid target (IsFreeOr image)) → GaveNothing mid new → Restores (Err fault) old new target names
+  restore_fails T P (Refused refusal) says left gave = absurd says
+  restore_fails T P Device says left gave = restores (Err Device) tt left gave
+  restore_fails T P Memory says left gave = absurd says
+
+  -- or the target is whole, and kept for good
+  pub restore_done : KeepsImage new target image → Changes mid new (Only target) (Remade mid target (IsFreeOr image)) → GaveNothing mid new → Restores (Ok plan.count) old new target names
+  restore_done keeps left gave =
+      restores (Ok plan.count) (
+        prepared.chain.free,
+        record {
+          links = links;
+          accepted = prepared.chain.accepted;
+          counted = prepared.chain.counted;
+          left = λ files leaves. shows files (subst (λ (f : File). HoldsMain image f) (sym (durable_is new target keeps.file keeps.kept.durable (files target) (leaves target))) keeps.holds);
+          shows = shows new.files (subst (λ (f : File). HoldsMain image f) (sym keeps.kept.reads) keeps.holds);
+          apart = prepared.apart;
+        },
+      ) left gave

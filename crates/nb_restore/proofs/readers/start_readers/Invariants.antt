@@ -1,0 +1,17 @@
+use Rattle.std.proofs.Common.{◌≡◌, List, ℕ, drop}
+use Rattle.std.specs.Prelude.{IsTrue}
+use Rattle.nb_model.specs.Restoring.{Link}
+use Rattle.nb_page.specs.Quiet.{Quiet}
+use Rattle.nb_restore.specs.Sources.{AreOfPages, AreSources}
+use Rattle.nb_restore.proofs.SourceLaws.{Started}
+use Rattle.nb_restore.proofs.readers.start_readers.Given as goal
+
+-- the files so far are ready to be read
+abbrev pub invariant-loop-place : goal.invariant-loop-place
+invariant-loop-place g l = record {
+  quiet : Quiet (g.H.Host.world l.fn.host) (g.H.Host.world l.host);
+  size : AreOfPages l.page_size l.readers.items;
+  cause : g.H.Host.faults l.host ≡ g.H.Host.faults l.fn.host;
+  so_far : IsTrue g.H.Host.tells → (target : List ℕ) (links : List Link) → AreSources (g.H.Host.world l.fn.host).files target (drop 1 l.files) l.page_size links
+      → Started (g.H.Host.world l.fn.host).files target l.page_size links (drop l.place l.files) l.readers.items;
+}

@@ -1,0 +1,27 @@
+use Rattle.nb_restore.specs.Target.{IsFree}
+use Rattle.nb_restore.proofs.FrontLaws.{named}
+use Rattle.nb_restore.proofs.TargetLaws.{made, page_made, sync_more, kept_page}
+use Rattle.nb_restore.proofs.target.begin.Goals as goal
+
+pub returns-in_err-make-clause-left : goal.returns-in_err-make-clause-left
+returns-in_err-make-clause-left g c tells is = let make = c.make.ensures in made _ _ _ _ _ tells (g.met.H.Host.timely _) make.files make.log.said make.time
+
+pub returns-in_err-write_page-clause-left : goal.returns-in_err-write_page-clause-left
+returns-in_err-write_page-clause-left g c tells is =
+    let make = c.in_ok-make.ensures in
+    let write = c.write_page.ensures in
+    page_made _ _ _ _ _ _ _ tells is (made _ _ _ _ _ tells (g.met.H.Host.timely _) make.files make.log.said make.time) make.files.done write.files write.log.said write.time
+
+pub returns-clause-left : goal.returns-clause-left
+returns-clause-left g c tells is =
+    let make = c.in_ok-make.ensures in
+    let write = c.in_ok-write_page.ensures in
+    let sync = c.sync.ensures in
+    let written = page_made _ _ _ _ _ _ _ tells is (made _ _ _ _ _ tells (g.met.H.Host.timely _) make.files make.log.said make.time) make.files.done write.files write.log.said write.time in
+    sync_more _ _ _ IsFree _ _ _ written sync.files sync.log.said sync.time
+
+pub returns-clause-begun : goal.returns-clause-begun
+returns-clause-begun g c tells =
+    let make = c.in_ok-make.ensures in
+    let write = c.in_ok-write_page.ensures in
+    kept_page _ _ _ _ _ _ _ tells (named _ _ c.args.target.now _ (make.files.files tells)) (named _ _ c.args.target.now _ (write.files.files tells)) c.sync.ensures.files

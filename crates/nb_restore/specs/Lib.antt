@@ -1,0 +1,5 @@
+pub mod Copied
+pub mod Sources
+pub mod Target
+pub mod Restore
+pub mod Plan

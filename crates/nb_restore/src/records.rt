@@ -1,0 +1,114 @@
+ghost use Rattle.std.specs.Prelude.{◌≡◌, ◌≢◌, ◌*◌, ◌≤◌, ◌<◌, ℕ, IsTrue, List, Ok, OnOk, Some, [], ◌∷◌, length, drop};
+ghost use Rattle.nb_fields.specs.Places.{is_page_size};
+ghost use Rattle.nb_host.specs.Causes.{CountsFault};
+ghost use Rattle.nb_host.specs.Files.{bytes_of};
+ghost use Rattle.nb_change.specs.Changes.{Changes, Only, Moved};
+ghost use Rattle.nb_change.specs.Counts.{CountsDevice};
+ghost use Rattle.nb_change.specs.Gave.{GaveNothing};
+ghost use Rattle.nb_model.specs.Image.{Page, Numbered};
+ghost use Rattle.nb_model.specs.Levels.{joined, numbered_from};
+ghost use Rattle.nb_model.specs.Restoring.{Link};
+ghost use Rattle.nb_model.specs.Sound.{IsOfSize};
+ghost use Rattle.nb_level.specs.Reading.{still_to_come};
+ghost use Rattle.nb_restore.specs.Copied.{IsDone, KeepsFront, Overwrites, OverwritesAll};
+ghost use Rattle.nb_restore.specs.Sources.{AreOfPages, AreReady};
+
+use nb_host::{Fault, Host, HostFault, Name, Refusal};
+use nb_level::{Item, LevelReader};
+
+/// Writes a page of the chain into the target. Page 0 is only noted: it comes last of all.
+fn put_page<H: Host>(
+    host: &mut H,
+    target: &Name,
+    number: u32,
+    page: &[u8],
+    first: &mut [u8],
+) -> Result<(), HostFault>
+    requires size { IsTrue (is_page_size (length page.now)) }
+    requires first { length first.old ≡ length page.now }
+    requires below { number < 1048576 }
+    ensures left { IsTrue H.tells → Changes (H.world host.old) (H.world host.new) (Only target.now) (Moved (H.world host.old) target.now KeepsFront) }
+    ensures pages { IsTrue H.tells → OnOk result (Overwrites (length page.now) ((number, page.now) ∷ []) ((H.world host.old).files target.now) ((H.world host.new).files target.now) first.old first.new) }
+    ensures gave { GaveNothing (H.world host.old) (H.world host.new) }
+    ensures cause { CountsFault result (H.faults host.old) (H.faults host.new) }
+{
+    if number == 0 {
+        first.copy_from_slice(page);
+        return Ok(());
+    }
+    host.write_page(target, number, page)
+}
+
+/// Copies the pages of level 0 from page 1 on, each as it stands there.
+pub(crate) fn copy_pages<H: Host>(
+    host: &mut H,
+    target: &Name,
+    file: &Name,
+    pages: u32,
+    page: &mut [u8],
+) -> Result<(), Fault>
+    requires size { IsTrue (is_page_size (length page.old)) }
+    requires most { pages ≤ 1048576 }
+    ensures left { IsTrue H.tells → Changes (H.world host.old) (H.world host.new) (Only target.now) (Moved (H.world host.old) target.now KeepsFront) }
+    ensures pages { IsTrue H.tells → (ps : List Page) → file.now ≢ target.now → (H.world host.old).files file.now ≡ Some (joined ps) → IsOfSize (length page.old) ps → length ps ≡ pages
+        → IsDone result ((first : Page) → Overwrites (length page.old) (numbered_from 1 (drop 1 ps)) ((H.world host.old).files target.now) ((H.world host.new).files target.now) first first) }
+    ensures gave { GaveNothing (H.world host.old) (H.world host.new) }
+    ensures cause { CountsDevice result (H.faults host.old) (H.faults host.new) }
+{
+    for number in 1..pages {
+        if !host.read_page(file, number, page)? {
+            return Err(Fault::Refused(Refusal::BadLevel {
+                name: file.copied(),
+                at: u64::from(number) * page.len() as u64,
+            }));
+        }
+        host.write_page(target, number, page)?;
+    }
+    Ok(())
+}
+
+/// Writes the pages of a level file over those of the files before it.
+fn write_level<H: Host>(
+    host: &mut H,
+    target: &Name,
+    reader: &mut LevelReader,
+    first: &mut [u8],
+    page: &mut [u8],
+) -> Result<(), Fault>
+    requires size { IsTrue (is_page_size (length page.old)) }
+    requires reader { reader.old.head.page_size ≡ length page.old }
+    requires first { length first.old ≡ length page.old }
+    ensures left { IsTrue H.tells → Changes (H.world host.old) (H.world host.new) (Only target.now) (Moved (H.world host.old) target.now KeepsFront) }
+    ensures pages { IsTrue H.tells → (records : List Numbered) → reader.old.name ≢ target.now → still_to_come (bytes_of ((H.world host.old).files reader.old.name)) reader.old ≡ Ok records
+        → IsDone result (Overwrites (length page.old) records ((H.world host.old).files target.now) ((H.world host.new).files target.now) first.old first.new) }
+    ensures gave { GaveNothing (H.world host.old) (H.world host.new) }
+    ensures cause { CountsDevice result (H.faults host.old) (H.faults host.new) }
+{
+    while let Item::PageAt(number) = reader.next(host, page)? {
+        put_page(host, target, number, page, first)?;
+    }
+    Ok(())
+}
+
+/// Writes the pages of each level file over those of the files before it, in order.
+pub(crate) fn write_levels<H: Host>(
+    host: &mut H,
+    target: &Name,
+    readers: Vec<LevelReader>,
+    first: &mut [u8],
+    page: &mut [u8],
+) -> Result<(), Fault>
+    requires size { IsTrue (is_page_size (length page.old)) }
+    requires readers { AreOfPages (length page.old) readers.items }
+    requires first { length first.old ≡ length page.old }
+    ensures left { IsTrue H.tells → Changes (H.world host.old) (H.world host.new) (Only target.now) (Moved (H.world host.old) target.now KeepsFront) }
+    ensures pages { IsTrue H.tells → (links : List Link) → AreReady (H.world host.old).files target.now (length page.old) links readers.items
+        → IsDone result (OverwritesAll (length page.old) links ((H.world host.old).files target.now) ((H.world host.new).files target.now) first.old first.new) }
+    ensures gave { GaveNothing (H.world host.old) (H.world host.new) }
+    ensures cause { CountsDevice result (H.faults host.old) (H.faults host.new) }
+{
+    for mut reader in readers {
+        write_level(host, target, &mut reader, first, page)?;
+    }
+    Ok(())
+}

@@ -1,0 +1,43 @@
+ghost use Rattle.std.specs.Prelude.{◌≤◌, length, IsTrue};
+ghost use Rattle.nb_change.specs.Counts.{CountsDevice};
+ghost use Rattle.nb_restore.specs.Restore.{Restores};
+
+use crate::plan::{Plan, prepare};
+use crate::target::write_target;
+use nb_host::{Fault, Host, Name};
+use std::alloc::Global;
+
+/// Restores a chain of 1 to 10 backup files into a new database, and answers how many pages that has.
+///
+/// The database is the image of the chain in the normal state: the pages of level 0, with the pages of each further level
+/// written over in their order, zeros between where a page lies past the end, and no pages of zeros at the end. It is kept
+/// for good before the call answers.
+///
+/// The refusals are `FileExists`, where the target's name isn't free, and then those of `nb_chain::check`, in its order. A
+/// refused call changes nothing. Neither does one that answers `Memory`: all memory is taken before the target is made.
+///
+/// A stop, and an answer of `Device`, leave the target as it was, or such that its name is free for another restore, or
+/// whole. Until then it can't be opened.
+pub fn restore<H: Host>(
+    alloc: Global,
+    host: &mut H,
+    target: &Name,
+    files: &[Name],
+) -> Result<u32, Fault>
+    requires some { 1 ≤ length files.now }
+    requires few { length files.now ≤ 10 }
+    ensures restores { IsTrue H.tells → Restores result (H.world host.old) (H.world host.new) target.now files.now }
+    ensures cause { CountsDevice result (H.faults host.old) (H.faults host.new) }
+{
+    let Plan {
+        count,
+        pages,
+        mut first,
+        mut page,
+        readers,
+    } = prepare(alloc, host, target, files)?;
+    write_target(
+        host, target, &files[0], pages, readers, &mut first, &mut page,
+    )?;
+    Ok(count)
+}

@@ -1,0 +1,204 @@
+-- What the calls of the engine make of a turn.
+use Rattle.std.proofs.Common.{◌≡◌, inl, inr, ℕ, List, [], ◌∷◌, ◌++◌, length, drop, replicate, refl, sym, ap, subst, ◌∙◌}
+use Rattle.std.specs.Prelude.{Result, Ok, Err, IsErr, IsErrAnd, Option, Some, true, false}
+use Rattle.std.specs.List.{slice_index_or}
+use Rattle.std.proofs.lemmas.List.{append-nil, append_cancel_left}
+use Rattle.nb_host.specs.World.{World}
+use Rattle.nb_host.specs.declared.faults.Fault.{Fault}
+use Rattle.nb_host.specs.declared.faults.Fault.TheVariants.{Refused, Device, Memory}
+use Rattle.nb_page.specs.Quiet.{Quiet}
+use Rattle.nb_change.specs.Gave.{GaveNothing}
+use Rattle.nb_model.specs.declared.reply.Reply.{Reply}
+use Rattle.nb_model.specs.declared.reply.Reply.TheVariants.{Done}
+use Rattle.nb_model.specs.declared.statement.Statement.{Statement}
+use Rattle.nb_model.specs.declared.statement.Statement.TheVariants.{Sync}
+use Rattle.nb_model.specs.Gifts.{Foretells, WasGiven}
+use Rattle.nb_model.specs.Outcomes.{Turn, Begins, Seen, Given, Outcome, next_guid, says}
+use Rattle.nb_model.specs.Pages.{begin_turn}
+use Rattle.nb_model.specs.Run.{Now, Event, base_now, outcome, event_of, is_sync}
+use Rattle.nb_model.specs.Steps.{Step, steps_in, after_steps, made, settles}
+use Rattle.nb_model.specs.Strokes.{Stroke}
+use Rattle.nb_model.specs.Trail.{Trail, settled}
+use Rattle.nb_model.specs.Turns.{first_turn}
+use Rattle.nb_model.proofs.StepsLaws.{steps_plain, after_settling}
+use Rattle.nb_base.specs.Takes.{Strikes, after_strokes}
+use Rattle.nb_state.specs.Open.{Held, IsOpen, name_of}
+use Rattle.nb_state.specs.Does.{WhereEnded, Answers, Does}
+use Rattle.nb_state.specs.Turns.{GaveAtMost}
+use Rattle.nb_state.proofs.MakesLaws.{where_ended, none_yet}
+use Rattle.nb_engine.specs.Replies.{scn_is}
+use Rattle.nb_engine.specs.Turns.{DoesBegin}
+use Rattle.nb_session.specs.Acts.{Says, Grows, Acts, MayAct}
+use Rattle.nb_session.specs.Ready.{IsReady}
+use Rattle.nb_session.proofs.EventLaws.{strokes_are_steps}
+use Rattle.nb_session.proofs.GiftLaws.{given_nothing, grows_none}
+use Rattle.nb_session.proofs.KeepLaws.{KeepsRun, begin_gives, begin_refused, begin_running, sync_is}
+use Rattle.nb_session.proofs.TurnLaws.{seen_now, outcome_is}
+
+-- a reply for each value
+abbrev pub some_by : {T : Type 0} → (T → Reply) → T → Option Reply
+some_by reply value = Some (reply value)
+
+as_says : {T : Type 0} (reply : T → Reply) (result : Result T Fault) (said : Option Reply) → Answers reply result said → Says (some_by reply) result said
+as_says reply (Ok value) said is = is
+as_says reply (Err (Refused refusal)) said is = is
+as_says reply (Err Device) said is = tt
+as_says reply (Err Memory) said is = tt
+
+-- what holds where a call ended, said otherwise
+pub ended_map : {T P Q : Type 0} (result : Result T Fault) → (P → Q) → WhereEnded result P → WhereEnded result Q
+ended_map (Ok value) f is = f is
+ended_map (Err (Refused refusal)) f is = f is
+ended_map (Err Device) f is = tt
+ended_map (Err Memory) f is = tt
+
+-- The answer of one call, said of another.
+module _ {T S : Type 0} (reply : T → Option Reply) (other : S → Option Reply) (old new : World) (a b : Held) (t : Trail) (now : Now) (session : ℕ) (turn : Turn) where
+  by_fault : (fault : Fault) → Acts reply (Err fault) old new a b t now session turn → Acts other (Err fault) old new a b t now session turn
+  by_fault (Refused refusal) acts = record { says = acts.says; left = acts.left; opened = acts.opened; running = acts.running; given = acts.given; name = acts.name }
+  by_fault Device acts = record { says = acts.says; left = acts.left; opened = acts.opened; running = acts.running; given = acts.given; name = acts.name }
+  by_fault Memory acts = record { says = acts.says; left = acts.left; opened = acts.opened; running = acts.running; given = acts.given; name = acts.name }
+
+  -- it is passed on at the exit of a `?`
+  pub may_passed : (fault : Fault) (result : Result S Fault) → IsErr result × IsErrAnd result (λ e. e ≡ fault) → MayAct reply (Err fault) old new a b t now session turn → MayAct other result old new a b t now session turn
+  may_passed fault (Ok value) is may = absurd is.1
+  may_passed fault (Err e) is may =
+      subst (λ (f : Fault). MayAct other (Err f) old new a b t now session turn) (sym is.1) (record { grows = may.grows; acts = λ told. by_fault fault (may.acts told) })
+
+  -- memory runs out behind it
+  pub may_then_memory : (value : T) (fault : Fault) (result : Result S Fault) → fault ≡ Memory → IsErr result × IsErrAnd result (λ e. e ≡ fault) → MayAct reply (Ok value) old new a b t now session turn → MayAct other result old new a b t now session turn
+  may_then_memory value fault (Ok x) memory is may = absurd is.1
+  may_then_memory value fault (Err e) memory is may =
+      subst (λ (f : Fault). MayAct other (Err f) old new a b t now session turn) (sym (is.1 ∙ memory)) (record {
+        grows = may.grows;
+        acts = λ told. let acts = may.acts told in record { says = tt; left = acts.left; opened = tt; running = tt; given = tt; name = acts.name };
+      })
+
+  -- the same value, said otherwise
+  pub may_value : (value : T) (said : S) → reply value ≡ other said → MayAct reply (Ok value) old new a b t now session turn → MayAct other (Ok said) old new a b t now session turn
+  may_value value said same may = record {
+    grows = may.grows;
+    acts = λ told. let acts = may.acts told in record { says = acts.says ∙ same; left = acts.left; opened = acts.opened; running = acts.running; given = acts.given; name = acts.name };
+  }
+
+-- the trail behind a turn that waits for nothing
+pub trail_plain : (t : Trail) (e : Event) → e.syncs ≡ false → after_strokes t e.strokes ≡ after_steps t (steps_in e)
+trail_plain t e plain = strokes_are_steps t e.strokes ∙ ap (after_steps t) (sym (steps_plain e plain))
+
+-- A statement that is done in one turn, for which nothing is given.
+pub does_acts : {T : Type 0} (reply : T → Reply) (result : Result T Fault) (old new : World) (a b : Held) (t : Trail) (now : Now) (session : ℕ) (statement : Statement) (o : Outcome)
+    → o ≡ first_turn (seen_now now) session statement → is_sync (Begins statement) ≡ false → KeepsRun (seen_now now) o → IsReady old a t now → Does reply result old new a b t o
+    → MayAct (some_by reply) result old new a b t now session (Begins statement)
+does_acts reply result old new a b t now session statement o turn_is plain keeps ready does =
+    let same : o ≡ outcome session (Begins statement) now = turn_is ∙ sym (outcome_is session statement now) in
+    record {
+      grows = grows_none old new does.makes.gave;
+      acts = λ told. record {
+        says = subst (λ (x : Outcome). Says (some_by reply) result x.reply) same (as_says reply result o.reply does.answer);
+        left = subst (λ (x : Outcome). Strikes old new (name_of a) t x.strokes) same does.makes.left;
+        opened = ended_map result (subst (IsOpen new b) (trail_plain t (event_of session (Begins statement) (outcome session (Begins statement) now)) plain))
+            (subst (λ (x : Outcome). WhereEnded result (IsOpen new b (after_strokes t x.strokes))) same does.makes.opened);
+        running = where_ended result _ (does.makes.goes.running ∙ ready.running ∙ sym (sym (ap (λ (x : Outcome). x.running) same) ∙ keeps.running));
+        given = where_ended result _ (given_nothing old new now.given (outcome session (Begins statement) now).given does.makes.gave (sym (ap (λ (x : Outcome). x.given) same) ∙ keeps.given));
+        name = does.makes.goes.name;
+      };
+    }
+
+-- `sync`
+module _ (old new : World) (a b : Held) (t : Trail) (now : Now) (session : ℕ) (statement : Statement) (is : statement ≡ Sync) (ready : IsReady old a t now) (same : b ≡ a) (quiet : Quiet old new) where
+  sync_turn : outcome session (Begins statement) now ≡ says (seen_now now) Done []
+  sync_turn = outcome_is session statement now ∙ sym (sync_is (seen_now now) session statement is)
+
+  sync_gave : GaveNothing old new
+  sync_gave = record { guids = quiet.guids; times = quiet.times }
+
+  sync_left : Strikes old new (name_of a) t (outcome session (Begins statement) now).strokes
+  sync_left = subst (λ (x : Outcome). Strikes old new (name_of a) t x.strokes) (sym sync_turn) (none_yet old new a t [] quiet ready.opened)
+
+  sync_steps : (o : Outcome) → o.strokes ≡ [] → settled t.base ≡ after_steps t (steps_in (event_of session (Begins statement) o))
+  unfolding made
+  sync_steps o none =
+      sym (after_settling t)
+      ∙ ap (λ (x : Statement). after_steps t (made [] ++ elim (is_sync (Begins x)) as (λ z. List Step) [ true ↦ settles ∷ [] | false ↦ [] ])) (sym is)
+      ∙ ap (λ (ss : List Stroke). after_steps t (made ss ++ elim (is_sync (Begins statement)) as (λ z. List Step) [ true ↦ settles ∷ [] | false ↦ [] ])) (sym none)
+
+  pub sync_acts : {T : Type 0} (value : T) → IsOpen new b (settled t.base) → MayAct (λ v. Some Done) (Ok value) old new a b t now session (Begins statement)
+  sync_acts value opened = record {
+    grows = grows_none old new sync_gave;
+    acts = λ told. record {
+      says = ap (λ (x : Outcome). x.reply) sync_turn;
+      left = sync_left;
+      opened = subst (IsOpen new b) (sync_steps (outcome session (Begins statement) now) (ap (λ (x : Outcome). x.strokes) sync_turn)) opened;
+      running = ap (λ (h : Held). h.running) same ∙ ready.running ∙ sym (ap (λ (x : Outcome). x.running) sync_turn);
+      given = given_nothing old new now.given (outcome session (Begins statement) now).given sync_gave (ap (λ (x : Outcome). x.given) sync_turn);
+      name = ap (λ (h : Held). name_of h) same;
+    };
+  }
+
+  pub sync_failed : {T : Type 0} (reply : T → Option Reply) → MayAct reply (Err Device) old new a b t now session (Begins statement)
+  sync_failed reply = record {
+    grows = grows_none old new sync_gave;
+    acts = λ told. record { says = tt; left = sync_left; opened = tt; running = tt; given = tt; name = ap (λ (h : Held). name_of h) same };
+  }
+
+-- a GUID that was given is the next one that is foretold
+next_is : (old new : World) (guid : List ℕ) (given : Given) → new.guids ≡ old.guids ++ guid ∷ [] → Foretells given old new → given.guids ≡ guid ∷ drop 1 given.guids
+next_is old new guid given gave told =
+    let ids : told.ids ≡ guid ∷ [] = append_cancel_left old.guids told.ids (guid ∷ []) (sym told.guids ∙ gave) in
+    let all : given.guids ≡ guid ∷ told.later_ids = told.guids_first ∙ ap (λ (l : List (List ℕ)). l ++ told.later_ids) ids in
+    all ∙ ap (λ (l : List (List ℕ)). guid ∷ l) (sym (ap (drop 1) all))
+
+next_guid_is : (guid : List ℕ) (given : Given) → given.guids ≡ guid ∷ drop 1 given.guids → next_guid given ≡ guid
+next_guid_is guid given is = ap (λ (l : List (List ℕ)). slice_index_or l 0 (replicate 16 0)) is
+
+at_most : (old new : World) (guid : List ℕ) (given : Given) → GaveAtMost old new guid → Foretells given old new → GaveAtMost old new (next_guid given)
+at_most old new guid given (inl none) told = inl none
+at_most old new guid given (inr gave) told = inr (gave ∙ ap (λ (id : List ℕ). old.guids ++ id ∷ []) (sym (next_guid_is guid given (next_is old new guid given gave told))))
+
+grows_at_most : (old new : World) (guid : List ℕ) → length guid ≡ 16 → GaveAtMost old new guid → new.times ≡ old.times → Grows old new
+grows_at_most old new guid sixteen (inl none) times = grows_none old new (record { guids = none; times = times })
+grows_at_most old new guid sixteen (inr gave) times = record { ids = guid ∷ []; clock = []; gave = record { guids = gave; times = times ∙ sym (append-nil old.times) }; sixteen = (sixteen, tt) }
+
+-- `alter database begin backup`
+module _ (result : Result ℕ Fault) (old new : World) (a b : Held) (t : Trail) (now : Now) (session : ℕ) (statement : Statement) (turn_is : begin_turn (seen_now now) ≡ first_turn (seen_now now) session statement)
+    (plain : is_sync (Begins statement) ≡ false) (ready : IsReady old a t now) (guid : List ℕ) (sixteen : length guid ≡ 16) (asked : GaveAtMost old new guid)
+    (begins : (s : Seen) → t.base ≡ s.base → GaveAtMost old new (next_guid s.given) → DoesBegin result old new a b t (next_guid s.given) (begin_turn s)) where
+  abbrev this : Outcome
+  this = outcome session (Begins statement) now
+
+  same : begin_turn (seen_now now) ≡ this
+  same = turn_is ∙ sym (outcome_is session statement now)
+
+  begin_times : new.times ≡ old.times
+  begin_times = (begins (record { base = base_now now; cache = now.cache; running = now.running; entry = now.account.entry; given = record { guids = guid ∷ []; times = []; holds = [] } }) ready.base asked).times
+
+  begin_given : (r : Result ℕ Fault) → DoesBegin r old new a b t (next_guid now.given) (begin_turn (seen_now now)) → Foretells now.given old new → WhereEnded r (WasGiven old new now.given (begin_turn (seen_now now)).given)
+  begin_given (Ok scn) does told =
+      subst (λ (left : Given). WasGiven old new now.given left) (sym (begin_gives (seen_now now) scn does.answer)) (record {
+        ids = next_guid now.given ∷ [];
+        clock = [];
+        guids = does.gave;
+        guids_first = next_is old new (next_guid now.given) now.given does.gave told;
+        times = does.times ∙ sym (append-nil old.times);
+        times_first = refl;
+      })
+  begin_given (Err (Refused refusal)) does told =
+      given_nothing old new now.given (begin_turn (seen_now now)).given (record { guids = does.refused.1.guids; times = does.refused.1.times }) (begin_refused (seen_now now) refusal does.answer)
+  begin_given (Err Device) does told = tt
+  begin_given (Err Memory) does told = tt
+
+  pub begin_acts : MayAct (some_by scn_is) result old new a b t now session (Begins statement)
+  begin_acts = record {
+    grows = grows_at_most old new guid sixteen asked begin_times;
+    acts = λ told.
+        let does = begins (seen_now now) ready.base (at_most old new guid now.given asked told) in
+        record {
+          says = subst (λ (x : Outcome). Says (some_by scn_is) result x.reply) same (as_says scn_is result (begin_turn (seen_now now)).reply does.answer);
+          left = subst (λ (x : Outcome). Strikes old new (name_of a) t x.strokes) same does.left;
+          opened = ended_map result (subst (IsOpen new b) (trail_plain t (event_of session (Begins statement) this) plain))
+              (subst (λ (x : Outcome). WhereEnded result (IsOpen new b (after_strokes t x.strokes))) same does.opened);
+          running = where_ended result _ (does.running ∙ ready.running ∙ sym (sym (ap (λ (x : Outcome). x.running) same) ∙ begin_running (seen_now now)));
+          given = subst (λ (x : Outcome). WhereEnded result (WasGiven old new now.given x.given)) same (begin_given result does told);
+          name = does.name;
+        };
+  }

@@ -1,0 +1,58 @@
+-- What is shown of the header of an open database.
+use Rattle.std.proofs.Common.{◌≡◌, ℕ, List, [], length, refl, sym, ap, ◌∙◌}
+use Rattle.std.specs.Prelude.{Bool, Ok, Some, true, false, ◌==◌}
+use Rattle.nb_host.specs.World.{World}
+use Rattle.nb_model.specs.declared.reply.Reply.{Reply}
+use Rattle.nb_model.specs.declared.reply.Reply.TheVariants.{HeaderShown}
+use Rattle.nb_model.specs.Account.{Base}
+use Rattle.nb_model.specs.Image.{image_size, image_state, image_scn, image_guid, is_forced, is_read_only}
+use Rattle.nb_model.specs.Lines.{flag}
+use Rattle.nb_model.specs.Outcomes.{Seen}
+use Rattle.nb_model.specs.Pages.{delta_count, header_turn}
+use Rattle.nb_model.specs.Trail.{Trail}
+use Rattle.nb_page.specs.Quiet.{Quiet}
+use Rattle.nb_base.specs.Open.{Agrees}
+use Rattle.nb_state.specs.Open.{Held, AgreesWith, IsOpen}
+use Rattle.nb_state.specs.Does.{Does}
+use Rattle.nb_state.proofs.MakesLaws.{makes_none}
+use Rattle.nb_session.specs.Replies.{header_of}
+
+-- its turn says that, and does nothing
+pub header_said : (s : Seen) → (header_turn s).reply ≡ Some (header_of s.base)
+unfolding header_turn
+header_said s = refl
+
+header_strokes : (s : Seen) → (header_turn s).strokes ≡ []
+unfolding header_turn
+header_strokes s = refl
+
+pub header_does : (w : World) (held : Held) (t : Trail) (s : Seen) (reply : Reply) → t.base ≡ s.base → Quiet w w → IsOpen w held t → reply ≡ header_of t.base → Does (λ r. r) (Ok reply) w w held held t (header_turn s)
+unfolding header_turn
+header_does w held t s reply base quiet is shown = record {
+  answer = ap Some (sym (shown ∙ ap header_of base));
+  makes = makes_none (Ok reply) w w held held t refl quiet is;
+  refused = tt;
+}
+
+-- in the normal state no entry counts
+pub delta_none : (b : Base) → image_state b.image ≡ 0 → delta_count b ≡ 0
+unfolding delta_count
+delta_none b normal = ap (λ (n : ℕ). elim (n == 0) as (λ z. ℕ) [ true ↦ 0 | false ↦ length b.diverted ]) normal
+
+pub delta_some : (b : Base) → (image_state b.image == 0) ≡ false → delta_count b ≡ length b.diverted
+unfolding delta_count
+delta_some b other = ap (λ (t : Bool). elim t as (λ z. ℕ) [ true ↦ 0 | false ↦ length b.diverted ]) other
+
+-- what is shown of all that is held
+pub shown : (held : Held) (b : Base) (size pages state scn : ℕ) (guid : List ℕ) (forced : Bool) (access delta : ℕ) → Agrees held.files b → AgreesWith held b
+    → size ≡ held.files.page_size → pages ≡ held.files.count → state ≡ held.files.state → scn ≡ held.scn → guid ≡ held.guid → forced ≡ held.forced → access ≡ flag held.read_only → delta ≡ delta_count b
+    → HeaderShown size pages state scn guid forced access delta ≡ header_of b
+shown held b size pages state scn guid forced access delta files agrees a p s n g f c d =
+    ap (λ (x : ℕ). HeaderShown x pages state scn guid forced access delta) (a ∙ files.page_size)
+    ∙ ap (λ (x : ℕ). HeaderShown (image_size b.image) x state scn guid forced access delta) (p ∙ files.count)
+    ∙ ap (λ (x : ℕ). HeaderShown (image_size b.image) (length b.image) x scn guid forced access delta) (s ∙ files.state)
+    ∙ ap (λ (x : ℕ). HeaderShown (image_size b.image) (length b.image) (image_state b.image) x guid forced access delta) (n ∙ agrees.scn)
+    ∙ ap (λ (x : List ℕ). HeaderShown (image_size b.image) (length b.image) (image_state b.image) (image_scn b.image) x forced access delta) (g ∙ agrees.guid)
+    ∙ ap (λ (x : Bool). HeaderShown (image_size b.image) (length b.image) (image_state b.image) (image_scn b.image) (image_guid b.image) x access delta) (f ∙ agrees.forced)
+    ∙ ap (λ (x : ℕ). HeaderShown (image_size b.image) (length b.image) (image_state b.image) (image_scn b.image) (image_guid b.image) (is_forced b.image) x delta) (c ∙ ap flag agrees.read_only)
+    ∙ ap (λ (x : ℕ). HeaderShown (image_size b.image) (length b.image) (image_state b.image) (image_scn b.image) (image_guid b.image) (is_forced b.image) (flag (is_read_only b.image)) x) d

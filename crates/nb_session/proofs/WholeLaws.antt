@@ -1,0 +1,208 @@
+-- A script that is played: its schedule, and then rounds until all sessions have finished.
+use Rattle.std.proofs.Common.{◌≡◌, ℕ, zero, suc, ◌+◌, ◌-◌, ◌≤◌, List, [], ◌∷◌, ◌++◌, length, map, get_or, append_assoc, inl, inr, refl, sym, ap, subst, ◌∙◌, arith}
+use Rattle.std.specs.Prelude.{Bool, IsTrue, Result, Ok, Err, Some, slice_get}
+use Rattle.std.specs.List.{AllByRecursion, range_with_len, slice_index_or}
+use Rattle.std.proofs.lemmas.Bool.{cases_lt}
+use Rattle.std.proofs.lemmas.List.{append-nil, get_or_past, length-map}
+use Rattle.std.proofs.Math.ListN.{get_or-map}
+use Rattle.nb_host.specs.World.{World}
+use Rattle.nb_host.specs.Moments.{IsTimely}
+use Rattle.nb_host.specs.declared.faults.Fault.{Fault}
+use Rattle.nb_host.specs.declared.faults.Fault.TheVariants.{Refused}
+use Rattle.nb_host.specs.declared.refusals.Refusal.{Refusal}
+use Rattle.nb_change.specs.Counts.{CountsDevice}
+use Rattle.nb_model.specs.Gifts.{Foretells}
+use Rattle.nb_model.specs.Outcomes.{Turn, Begins}
+use Rattle.nb_model.specs.Run.{Now, Played, one_turn, play, rounds, all_sessions, AreFinished, begun}
+use Rattle.nb_model.specs.Trail.{Trail}
+use Rattle.nb_model.proofs.RunLaws.{play-append}
+use Rattle.nb_sched.specs.Turns.{Scene, scene, agent_of, AllDone, IsReady as AreReady, TakesTurns, EndsWith, FailsBehind}
+use Rattle.nb_sched.proofs.TurnLaws.{turns_hold}
+use Rattle.nb_script.specs.Asked.{IsAskable}
+use Rattle.nb_script.specs.Fits.{IsSession}
+use Rattle.nb_script.specs.Scripts.{Plan}
+use Rattle.nb_state.specs.Open.{Held}
+use Rattle.nb_session.specs.declared.stop.Stop.{Stop}
+use Rattle.nb_session.specs.Acts.{Grows}
+use Rattle.nb_session.specs.Askers.{Asker, HasTodo, left_of, IsFit, any_refused, fresh_asker, first_askers}
+use Rattle.nb_session.specs.Ready.{IsReady, IsCalm}
+use Rattle.nb_session.specs.Stops.{Plays}
+use Rattle.nb_session.specs.Steps.{as_played}
+use Rattle.nb_session.specs.Todo.{PlaysWhole}
+use Rattle.nb_session.proofs.PlayLaws.{behind, trail_after, plays_failed, plays_cut}
+use Rattle.nb_session.proofs.SceneLaws.{sessions_kind, done_todo, agent_some, play_length, play_more, Holds, HoldsAt, rests_hold, moves_hold, none_hold, turn_plays, turn_grows, at_place}
+use Rattle.nb_session.proofs.GiftLaws.{foretold_first, grows_joined}
+use Rattle.nb_session.proofs.AllLaws.{all_append}
+use Rattle.nb_session.proofs.EndLaws.{turns_end}
+
+-- the numbers of sessions
+in_range : (first n : ℕ) → 1 ≤ first → first + n ≤ 17 → AllByRecursion IsSession (range_with_len first n)
+in_range first zero low high = tt
+in_range first (suc n) low high = ((low, omega arith), in_range (first + 1) n (omega arith) (omega arith))
+
+rounds_sessions : (n : ℕ) → AllByRecursion IsSession (rounds n)
+unfolding rounds
+rounds_sessions zero = tt
+rounds_sessions (suc n) = all_append IsSession all_sessions (rounds n) (in_range 1 16 (omega arith) (omega arith)) (rounds_sessions n)
+
+pub numbers_fit : (schedule : List ℕ) (n : ℕ) → AllByRecursion IsSession schedule → AllByRecursion IsSession (schedule ++ rounds n)
+numbers_fit schedule n all = all_append IsSession schedule (rounds n) all (rounds_sessions n)
+
+-- the sessions of a script before their first turns
+agent_from : (f : ℕ → Asker) (first n i : ℕ) (asker : Asker) → slice_get (map f (range_with_len first n)) i ≡ Some asker → asker ≡ f (first + i)
+agent_from f first zero i asker there = absurd cc
+agent_from f first (suc n) zero asker there = let here : asker ≡ f first = cc in let same : first ≡ first + 0 = omega arith in here ∙ ap f same
+agent_from f first (suc n) (suc i) asker there = let same : first + 1 + i ≡ first + suc i = omega arith in agent_from f (first + 1) n i asker there ∙ ap f same
+
+pub first_agent : (plan : Plan) (session : ℕ) (asker : Asker) → agent_of (first_askers plan) session ≡ Some asker → asker ≡ fresh_asker plan session
+first_agent plan zero asker there = absurd cc
+first_agent plan (suc place) asker there = let same : 1 + place ≡ suc place = omega arith in agent_from (fresh_asker plan) 1 16 place asker there ∙ ap (fresh_asker plan) same
+
+pub first_number : (plan : Plan) (session : ℕ) (asker : Asker) → agent_of (first_askers plan) session ≡ Some asker → asker.number ≡ session
+first_number plan session asker there = ap (λ (a : Asker). a.number) (first_agent plan session asker there)
+
+pub first_todo : (plan : Plan) (now : Now) (session : ℕ) (asker : Asker) → now.todo ≡ begun plan.sessions → agent_of (first_askers plan) session ≡ Some asker → HasTodo asker now
+first_todo plan now session asker begins there =
+    subst (λ (a : Asker). HasTodo a now) (sym (first_agent plan session asker there))
+    (ap (λ (todo : List (List Turn)). slice_index_or todo (session - 1) []) begins ∙ get_or-map (map Begins) plan.sessions (session - 1) [])
+
+-- where no place has a turn all have finished
+all_finished : (todo : List (List Turn)) → ((i : ℕ) → get_or todo i [] ≡ []) → AreFinished todo
+all_finished [] none = tt
+all_finished (ts ∷ todo) none = subst (λ (xs : List Turn). AreFinished (xs ∷ todo)) (sym (none 0)) (all_finished todo (λ i. none (suc i)))
+
+module _ {H : Type 0} (tells : Bool) (told : IsTrue tells) (world : H → World) (faults : H → ℕ) (old : H) (before : Held) (t : Trail) (now : Now) (plan : Plan) (askable : IsAskable plan) (how_often : ℕ)
+    (calm : IsCalm now) (timely : IsTimely (world old)) (ready : IsReady (world old) before t now) (begins : now.todo ≡ begun plan.sessions) where
+  abbrev order : List ℕ
+  order = plan.schedule ++ rounds how_often
+
+  numbers : AllByRecursion IsSession order
+  numbers = numbers_fit plan.schedule how_often askable.order.each
+
+  abbrev start : Scene Asker H Held
+  start = scene (first_askers plan) old before
+
+  begun_holds : Holds tells told world faults old before t now order numbers [] start
+  begun_holds = none_hold tells told world faults old before t now order numbers (first_askers plan) timely ready calm refl refl (first_number plan) (λ session asker there. first_todo plan now session asker begins there)
+
+  ends : (after : Scene Asker H Held) (answer : Result (Unit {0}) Fault) → TakesTurns (sessions_kind tells world faults) order start answer after
+      → EndsWith (sessions_kind tells world faults) (Holds tells told world faults old before t now order numbers) order answer after
+  ends after answer turns =
+      turns_hold (sessions_kind tells world faults) (Holds tells told world faults old before t now order numbers)
+      (λ front session s holds rests. rests_hold tells told world faults old before t now order numbers front session s holds rests)
+      (λ front session s s' holds move. moves_hold tells told world faults old before t now order numbers front session s s' holds move)
+      order start after answer begun_holds turns
+
+  todo_length : length (play order now).1.todo ≡ 16
+  todo_length = play_length order now ∙ ap length begins ∙ length-map plan.sessions (map Begins) ∙ askable.sixteen
+
+  -- to their end
+  pub whole_played : (after : Scene Asker H Held) → TakesTurns (sessions_kind tells world faults) order start (Ok tt) after → AllDone left_of after.agents → Foretells now.given (world old) (world after.host)
+      → PlaysWhole (Ok (any_refused after.agents)) (world old) (world after.host) before after.shared t now plan.schedule
+  whole_played after turns done foretold =
+      let here = ends after (Ok tt) turns [] (append-nil order) in
+      let far = here.so_far now.given foretold in
+      record {
+        how_often = how_often;
+        plays = far.plays;
+        finished = all_finished (play order now).1.todo (λ i. elim (cases_lt i 16) [
+          | inl low ↦ (
+              let one = agent_some after.agents (i + 1) (omega arith) (omega (arith, low, here.sixteen)) in
+              let place : one.0.number - 1 ≡ i = omega (arith, here.placed (i + 1) one.0 one.1) in
+              ap (λ (k : ℕ). get_or (play order now).1.todo k []) (sym place) ∙ far.todo (i + 1) one.0 one.1 ∙ done_todo one.0 (done (i + 1) one.0 one.1))
+          | inr high ↦ get_or_past (play order now).1.todo i [] (omega (arith, high, todo_length))
+        ]);
+      }
+
+  failed : (front rest : List ℕ) (session : ℕ) (mid new : World) (e1 e2 : Held) (r : Bool) (e : Stop) → order ≡ front ++ (session ∷ rest) → Plays (Ok r) (world old) mid before e1 t now (play front now)
+      → Plays (Err e) mid new e1 e2 (trail_after t (play front now)) (play front now).1 (one_turn session (play front now).1) → Plays (Err e) (world old) new before e2 t now (play order now)
+  failed front rest session mid new e1 e2 r e is first second =
+      let p : Played = play front now in
+      let two : Played = play (front ++ session ∷ []) now in
+      let more : two ≡ behind p (one_turn session p.1) = play_more front session now in
+      let both = plays_failed (world old) mid new before e1 e2 t now p (one_turn session p.1) r e first second in
+      let cut = plays_cut (world old) new before e2 t now two (play rest two.1).0 (play rest two.1).1 e (subst (Plays (Err e) (world old) new before e2 t now) (sym more) both) in
+      subst (Plays (Err e) (world old) new before e2 t now)
+      (sym (play-append (front ++ session ∷ []) rest now) ∙ ap (λ (xs : List ℕ). play xs now) (append_assoc front (session ∷ []) rest ∙ sym is)) cut
+
+  -- where one turn ended early
+  module _ (after : Scene Asker H Held) (fault : Fault) (turns : TakesTurns (sessions_kind tells world faults) order start (Err fault) after) where
+    abbrev e : FailsBehind (sessions_kind tells world faults) (Holds tells told world faults old before t now order numbers) order fault after
+    e = ends after (Err fault) turns
+
+    before_it : HoldsAt tells told world faults old before t now order numbers e.front e.last
+    before_it = e.holds (e.session ∷ e.rest) (sym e.is)
+
+    number : IsSession e.session
+    number = at_place IsSession e.front e.rest e.session (subst (AllByRecursion IsSession) e.is numbers)
+
+    last_grows : Grows (world e.last.host) (world after.host)
+    last_grows =
+        turn_grows tells told world faults old before t now order numbers e.front e.rest e.session e.last after (sym e.is) before_it number e.move.agent e.move.moved e.move.there e.move.agents e.move.same_session (Err fault) e.move.made
+
+    all_grow : Grows (world old) (world after.host)
+    all_grow = grows_joined (world old) (world e.last.host) (world after.host) before_it.grown last_grows
+
+    order_failed : (stop : Stop) → ((refused : Unit {0} → Bool) → as_played refused (Err fault) ≡ Err stop) → Foretells now.given (world old) (world after.host)
+        → Plays (Err stop) (world old) (world after.host) before after.shared t now (play order now)
+    order_failed stop same foretold =
+        let plays = turn_plays tells told world faults old before t now order numbers e.front e.rest e.session e.last after (sym e.is) before_it number e.move.agent e.move.moved e.move.there e.move.agents e.move.same_session
+        (Err fault) e.move.made now.given foretold in
+        let first = foretold_first (world old) (world e.last.host) (world after.host) now.given before_it.grown last_grows foretold in
+        failed e.front e.rest e.session (world e.last.host) (world after.host) e.last.shared after.shared _ stop e.is (before_it.so_far now.given first).plays
+        (subst (λ (r : Result Bool Stop). Plays r (world e.last.host) (world after.host) e.last.shared after.shared (trail_after t (play e.front now)) (play e.front now).1 (one_turn e.session (play e.front now).1)) (same (λ done. e.move.made.refused)) plays)
+
+    -- or until one ended early
+    pub whole_failed : (stop : Stop) → ((refused : Unit {0} → Bool) → as_played refused (Err fault) ≡ Err stop) → Foretells now.given (world old) (world after.host)
+        → PlaysWhole (Err stop) (world old) (world after.host) before after.shared t now plan.schedule
+    whole_failed stop same foretold =
+        let end = turns_end plan askable now begins how_often in
+        let p : Played = play order now in
+        let cut = plays_cut (world old) (world after.host) before after.shared t now p (play end.more p.1).0 (play end.more p.1).1 stop (order_failed stop same foretold) in
+        record {
+          how_often = end.how_often;
+          plays = subst (Plays (Err stop) (world old) (world after.host) before after.shared t now) (sym (play-append order end.more now) ∙ ap (λ (xs : List ℕ). play xs now) (sym end.is)) cut;
+          finished = end.finished;
+        }
+
+  -- what was given meanwhile
+  pub whole_grows : (answer : Result (Unit {0}) Fault) (after : Scene Asker H Held) → TakesTurns (sessions_kind tells world faults) order start answer after → Grows (world old) (world after.host)
+  whole_grows (Ok done) after turns = (ends after (Ok tt) turns [] (append-nil order)).grown
+  whole_grows (Err fault) after turns = all_grow after fault turns
+
+-- the same turns, of the sessions as they stand there
+pub turns_as : {H : Type 0} (tells : Bool) (world : H → World) (faults : H → ℕ) (schedule other : List ℕ) (agents others : List Asker) (n : ℕ) (host : H) (held : Held) (answer said : Result (Unit {0}) Fault) (after : Scene Asker H Held)
+    → other ≡ schedule → others ≡ agents → said ≡ answer → TakesTurns (sessions_kind tells world faults) (other ++ rounds n) (scene others host held) said after
+    → TakesTurns (sessions_kind tells world faults) (schedule ++ rounds n) (scene agents host held) answer after
+turns_as tells world faults schedule other agents others n host held answer said after same these is turns =
+    subst (λ (r : Result (Unit {0}) Fault). TakesTurns (sessions_kind tells world faults) (schedule ++ rounds n) (scene agents host held) r after) is
+    (subst (λ (xs : List ℕ). TakesTurns (sessions_kind tells world faults) (xs ++ rounds n) (scene agents host held) said after) same
+    (subst (λ (list : List Asker). TakesTurns (sessions_kind tells world faults) (other ++ rounds n) (scene list host held) said after) these turns))
+
+-- before their first turns the sessions stand in their places, and have what they need
+pub first_ready : {H : Type 0} (tells : Bool) (world : H → World) (faults : H → ℕ) (plan : Plan) → IsAskable plan → (agents : List Asker) (host : H) (held : Held) → agents ≡ first_askers plan
+    → AreReady (sessions_kind tells world faults) (scene agents host held)
+first_ready tells world faults plan askable agents host held first = record {
+  placed = λ session asker there. first_number plan session asker (subst (λ (list : List Asker). agent_of list session ≡ Some asker) first there);
+  fit = λ session asker there.
+      subst (λ (a : Asker). IsFit a held) (sym (first_agent plan session asker (subst (λ (list : List Asker). agent_of list session ≡ Some asker) first there)))
+      (record { asks = askable.further session; merge = tt });
+}
+
+-- The count of faults, and refusals.
+module _ {H : Type 0} (tells : Bool) (world : H → World) (faults : H → ℕ) (order : List ℕ) (start after : Scene Asker H Held) where
+  abbrev Stays : List ℕ → Scene Asker H Held → Type 0
+  Stays front s = faults s.host ≡ faults start.host
+
+  stays : (answer : Result (Unit {0}) Fault) → TakesTurns (sessions_kind tells world faults) order start answer after → EndsWith (sessions_kind tells world faults) Stays order answer after
+  stays answer turns =
+      turns_hold (sessions_kind tells world faults) Stays (λ front session s is rests. is) (λ front session s s' is move. move.made.cause ∙ is) order start after answer refl turns
+
+  pub whole_counts : (answer : Result (Unit {0}) Fault) → TakesTurns (sessions_kind tells world faults) order start answer after → CountsDevice answer (faults start.host) (faults after.host)
+  whole_counts (Ok done) turns = stays (Ok done) turns
+  whole_counts (Err fault) turns =
+      let e = stays (Err fault) turns in
+      subst (λ (n : ℕ). CountsDevice {T = Unit {0}} (Err fault) n (faults after.host)) e.holds e.move.made.cause
+
+  pub never_refused : (refusal : Refusal) → TakesTurns (sessions_kind tells world faults) order start (Err (Refused refusal)) after → ⊥
+  never_refused refusal turns = (stays (Err (Refused refusal)) turns).move.made.not_refused

@@ -1,0 +1,165 @@
+-- What is sure of the files of a run, where they stand for the account as it begins and the GUIDs that it takes are new.
+use Rattle.std.proofs.Common.{◌≡◌, inl, inr, ⊎_elim, ℕ, ◌-◌, ◌≤◌, List, [], ◌++◌, length, take, true, false, refl, sym, ap, subst, ◌∙◌}
+use Rattle.std.specs.Prelude.{not, Ok, Option, Some, None, is_some}
+use Rattle.std.proofs.lemmas.Bool.{and_parts, true≢false}
+use Rattle.std.proofs.lemmas.List.{append-nil}
+use Rattle.nb_fields.specs.Free.{is_free_file}
+use Rattle.nb_host.specs.Files.{File, Files, with_file}
+use Rattle.nb_host.specs.Names.{is_delta}
+use Rattle.nb_host.specs.World.{World}
+use Rattle.nb_host.specs.Crash.{Leaves, LeavesAll}
+use Rattle.nb_change.specs.Changes.{Other}
+use Rattle.nb_change.proofs.NameLaws.{decide, with_file-same, with_file-other}
+use Rattle.nb_model.specs.Account.{Kept, IsBase, Account, with_entry}
+use Rattle.nb_model.specs.Causes.{is_free_entry}
+use Rattle.nb_model.specs.NewGuids.{AreNew, guids_in}
+use Rattle.nb_model.specs.Owner.{delta_name, owner}
+use Rattle.nb_model.specs.Run.{Event, strokes_of}
+use Rattle.nb_model.specs.Stands.{Stands}
+use Rattle.nb_model.specs.Steps.{Step, after_steps, steps_of, strokes_in}
+use Rattle.nb_model.specs.Strokes.{base_in, records_after}
+use Rattle.nb_model.specs.Trail.{Trail, StandsIn, ShowsIn, settled}
+use Rattle.nb_model.specs.WellTrail.{IsWellTrail}
+use Rattle.nb_model.proofs.AccountLaws.{stands_grown}
+use Rattle.nb_model.proofs.FreeLaws.{stands_files}
+use Rattle.nb_model.proofs.GrownLaws.{new_unused, stands_along}
+use Rattle.nb_model.proofs.GuidLaws.{strokes_in_steps, last_steps_new, front_new}
+use Rattle.nb_model.proofs.OpenedLaws.{stands_with_well_in}
+use Rattle.nb_model.proofs.OpeningLaws.{free_entry, opened_in_use}
+use Rattle.nb_model.proofs.SteadyLaws.{along_front, along_last, kept_along, kept_is}
+use Rattle.nb_model.proofs.StandsLaws.{delta_same, no_main}
+use Rattle.nb_base.specs.Open.{OfFiles}
+use Rattle.nb_top.specs.Performed.{HoldsKept, IsEnded, IsUnbegun, StandsFor, Target, kept_after, seen_after}
+use Rattle.nb_top.proofs.OpenLaws.{none_shown}
+use Rattle.nb_top.proofs.SureLaws.{holds_along, holds_free}
+use Rattle.nb_top.proofs.WellRuns.{IsWellRun, seen_behind, kept_behind, cut_is}
+
+-- no record behind no step
+pub kept_none : (account : Account) (target : Option Target) → kept_after account target [] ≡ account.kept
+unfolding strokes_in records_after
+kept_none account None = refl
+kept_none account (Some target) = append-nil account.kept
+
+false_true : false ≡ true → ⊥
+false_true h = cc
+
+not_some : (file : File) → not (is_some file) ≡ true → file ≡ None
+not_some None h = refl
+not_some (Some bytes) h = absurd (false_true h)
+
+-- what is sure of the files of a run that is under way
+module _ (old : World) (account : Account) (stands : StandsFor old account) (reads : (m : List ℕ) → Leaves old m (old.files m)) (name : List ℕ) (plain : is_delta name ≡ false) (events : List Event) (last : Account)
+    (run : IsWellRun account name events last) (new : AreNew old account.kept (guids_in (strokes_of events))) where
+  further_new : AreNew old account.kept (guids_in (strokes_in run.further))
+  further_new = last_steps_new old account.kept run.first run.further (subst (λ ss. AreNew old account.kept (guids_in ss)) (sym (strokes_in_steps events) ∙ ap strokes_in run.steps) new)
+
+  -- they hold what may be left of what was seen
+  pub stood_holds : (count : ℕ) → length run.first ≤ count → (files : Files) → ((m : List ℕ) → Other (OfFiles name) m → Leaves old m (files m))
+      → StandsIn name (seen_after account name (take count (steps_of events))) files → HoldsKept files (account.kept ++ records_after (base_in (account.entry name)) (strokes_in (take count (steps_of events))))
+  stood_holds count low files others s =
+      let ss : List Step = take (count - length run.first) run.further in
+      let cut : take count (steps_of events) ≡ run.first ++ ss = cut_is account name events last run count low in
+      subst (λ (xs : List Step). HoldsKept files (account.kept ++ records_after (base_in (account.entry name)) (strokes_in xs))) (sym cut)
+      (subst (HoldsKept files) (sym (kept_behind account name events last run ss))
+      (holds_along old account stands reads name plain files others (settled run.base) ss (along_front account.kept (settled run.base) run.further run.along (count - length run.first))
+      (front_new old account.kept run.further further_new (count - length run.first))
+      (subst (λ (t : Trail). StandsIn name t files) (seen_behind account name events last run ss) (subst (λ (xs : List Step). StandsIn name (seen_after account name xs) files) cut s))))
+
+  -- it isn't begun
+  pub unbegun_holds : (target : Target) → target.name ≡ name → (target.creates ≡ true → is_free_entry (account.entry name) ≡ true) → (said count : ℕ) (files : Files)
+      → ((m : List ℕ) → Other (OfFiles name) m → Leaves old m (files m)) → IsUnbegun old target events said count files → HoldsKept files account.kept
+  unbegun_holds target named free said count files others none = ⊎_elim as_before (λ made. creating (free made.0) (ap (λ (n : List ℕ). is_free_file (files n)) (sym named) ∙ made.1)) none.main
+    where
+      delta : Leaves old (delta_name name) (files (delta_name name))
+      delta = subst (λ (n : List ℕ). Leaves old (delta_name n) (files (delta_name n))) named none.delta
+
+      as_before : Leaves old target.name (files target.name) → HoldsKept files account.kept
+      as_before main = stands.left files (λ m. elim (decide m name) [
+        | inl same ↦ subst (λ (n : List ℕ). Leaves old n (files n)) (named ∙ sym same) main
+        | inr off ↦ elim (decide m (delta_name name)) [
+          | inl same ↦ subst (λ (n : List ℕ). Leaves old n (files n)) (sym same) delta
+          | inr other ↦ others m (λ one. ⊎_elim off other one)
+        ]
+      ])
+
+      creating : is_free_entry (account.entry name) ≡ true → is_free_file (files name) ≡ true → HoldsKept files account.kept
+      creating was now_free =
+          let both = and_parts (is_free_file (old.files name)) (not (is_some (old.files (delta_name name)))) (sym (free_entry old.files account name stands.now.same_image stands.now.no_stray plain) ∙ was) in
+          holds_free old account stands reads name plain files others now_free (stands.free name plain both.0 (not_some (old.files (delta_name name)) both.1) (files (delta_name name)) delta)
+
+  -- at its end
+  abbrev trail : Trail
+  trail = after_steps (settled run.base) run.further
+
+  abbrev kept : List Kept
+  kept = kept_along account.kept (settled run.base) run.further
+
+  well : IsWellTrail kept trail
+  well = along_last account.kept (settled run.base) run.further run.along
+
+  trail_is : seen_after account name (steps_of events) ≡ trail
+  trail_is = ap (seen_after account name) run.steps ∙ seen_behind account name events last run run.further
+
+  last_kept : last.kept ≡ kept
+  last_kept = run.grown.kept ∙ sym (kept_is account.kept (settled run.base) run.further)
+
+  module _ (end : World) (ended : IsEnded end name (seen_after account name (steps_of events))) (read : (m : List ℕ) → Other (OfFiles name) m → end.files m ≡ old.files m)
+      (reads_end : (m : List ℕ) → Leaves end m (end.files m)) (left : (files : Files) → LeavesAll end files → (m : List ℕ) → Other (OfFiles name) m → Leaves old m (files m)) where
+    shows : ShowsIn name trail.base end.files
+    shows = subst (λ (t : Trail). ShowsIn name t.base end.files) trail_is ended.shows
+
+    now_stands : Stands end.files last
+    now_stands =
+        let grown : Account = record { entry = account.entry; kept = kept } in
+        let before : Stands old.files grown = stands_along old.files run.further account (settled run.base) stands.now run.along (new_unused old account.kept (guids_in (strokes_in run.further)) old.files further_new reads) in
+        stands_grown end.files name trail.base (records_after run.base (strokes_in run.further)) account last run.grown
+        (subst (λ (rs : List Kept). Stands end.files (with_entry name (IsBase trail.base) (record { entry = account.entry; kept = rs }))) (kept_is account.kept (settled run.base) run.further)
+        (stands_with_well_in old.files end.files grown name trail.base before plain (λ m off other. read m (λ one. ⊎_elim off other one)) shows well.base))
+
+    left_holds : (files : Files) → LeavesAll end files → HoldsKept files last.kept
+    left_holds files leaves =
+        subst (HoldsKept files) (sym last_kept)
+        (holds_along old account stands reads name plain files (left files leaves) (settled run.base) run.further run.along further_new (subst (λ (t : Trail). StandsIn name t files) trail_is (ended.left files leaves)))
+
+    -- a file that a stop may leave alone
+    with_one : (n : List ℕ) (d : File) → Leaves end n d → LeavesAll end (with_file end.files n d)
+    with_one n d is m = elim (decide m n) [
+      | inl same ↦ subst (λ (k : List ℕ). Leaves end k (with_file end.files n d k)) (sym same) (subst (Leaves end n) (sym (with_file-same end.files n d)) is)
+      | inr other ↦ subst (Leaves end m) (sym (with_file-other end.files n d m other)) (reads_end m)
+    ]
+
+    free_then : (n : List ℕ) → is_delta n ≡ false → is_free_file (end.files n) ≡ true → end.files (delta_name n) ≡ None → (d : File) → Leaves end (delta_name n) d → d ≡ None
+    free_then n plain_n free alone d is = elim (decide n name) [
+      | inl same ↦ absurd (in_use (end.files name) refl (ap (λ (k : List ℕ). is_free_file (end.files k)) (sym same) ∙ free))
+      | inr off ↦
+          let other : Other (OfFiles name) n = λ one. ⊎_elim off (λ e. no_main name n plain_n (sym e)) one in
+          let other_delta : Other (OfFiles name) (delta_name n) = λ one. ⊎_elim (λ e. no_main n name plain e) (λ e. off (delta_same n name e)) one in
+          stands.free n plain_n (ap is_free_file (sym (read n other)) ∙ free) (sym (read (delta_name n) other_delta) ∙ alone) d
+          (subst (Leaves old (delta_name n)) (with_file-same end.files (delta_name n) d) (left (with_file end.files (delta_name n) d) (with_one (delta_name n) d is) (delta_name n) other_delta))
+    ]
+      where
+        in_use : (file : File) → end.files name ≡ file → is_free_file (end.files name) ≡ true → ⊥
+        in_use None none is_free = none_shown name (end.files (delta_name name)) trail.base (subst (λ (f : File). owner name f (end.files (delta_name name)) ≡ Ok trail.base) none shows)
+        in_use (Some bytes) some is_free =
+            true≢false (sym is_free ∙ ap is_free_file some ∙ opened_in_use name bytes (end.files (delta_name name)) trail.base (subst (λ (f : File). owner name f (end.files (delta_name name)) ≡ Ok trail.base) some shows))
+
+    pub ended_stands : StandsFor end last
+    ended_stands = record { now = now_stands; left = left_holds; free = free_then }
+
+-- Nothing was done to any file.
+module _ (old new : World) (account : Account) (stands : StandsFor old account) (reads : (m : List ℕ) → Leaves new m (new.files m)) (read : (m : List ℕ) → new.files m ≡ old.files m)
+    (left : (files : Files) → LeavesAll new files → LeavesAll old files) where
+  with_that : (n : List ℕ) (d : File) → Leaves new n d → LeavesAll new (with_file new.files n d)
+  with_that n d is m = elim (decide m n) [
+    | inl same ↦ subst (λ (k : List ℕ). Leaves new k (with_file new.files n d k)) (sym same) (subst (Leaves new n) (sym (with_file-same new.files n d)) is)
+    | inr other ↦ subst (Leaves new m) (sym (with_file-other new.files n d m other)) (reads m)
+  ]
+
+  pub still_stands : StandsFor new account
+  still_stands = record {
+    now = stands_files old.files new.files account stands.now read;
+    left = λ files leaves. stands.left files (left files leaves);
+    free = λ n plain free alone d is.
+        stands.free n plain (ap is_free_file (sym (read n)) ∙ free) (sym (read (delta_name n)) ∙ alone) d
+        (subst (Leaves old (delta_name n)) (with_file-same new.files (delta_name n) d) (left (with_file new.files (delta_name n) d) (with_that (delta_name n) d is) (delta_name n)));
+  }

@@ -1,0 +1,317 @@
+-- Where the files stand for the account as a run begins, and the GUIDs that it takes are new, they stand for one at each moment.
+use Rattle.std.proofs.Common.{◌≡◌, ⊎_elim, ℕ, zero, suc, ◌<◌, ◌≤◌, List, [], ◌∷◌, ◌++◌, length, take, true, false, refl, sym, ap, subst, ◌∙◌, arith}
+use Rattle.std.specs.Prelude.{Bool, Result, Ok, Err, Option, Some, None, Contains}
+use Rattle.std.proofs.lemmas.List.Elements.{Contains-append_right}
+use Rattle.nb_fields.specs.Fresh.{fresh}
+use Rattle.nb_host.specs.Files.{Files}
+use Rattle.nb_host.specs.Names.{is_delta}
+use Rattle.nb_host.specs.World.{World}
+use Rattle.nb_host.specs.Crash.{Leaves}
+use Rattle.nb_host.specs.Moments.{IsTimely, AtEachMoment}
+use Rattle.nb_host.specs.declared.refusals.Refusal.{Refusal}
+use Rattle.nb_host.specs.declared.refusals.Refusal.TheVariants.{FileExists}
+use Rattle.nb_model.specs.declared.reply.Reply.{Reply}
+use Rattle.nb_model.specs.declared.reply.Reply.TheVariants.{Refused}
+use Rattle.nb_model.specs.declared.statement.Statement.{Statement}
+use Rattle.nb_model.specs.declared.statement.Statement.TheVariants.{CreateDb, OpenDb}
+use Rattle.nb_model.specs.Account.{Base, base_of, IsBase, Account}
+use Rattle.nb_model.specs.Causes.{is_free_entry}
+use Rattle.nb_model.specs.Image.{Image, image_scn}
+use Rattle.nb_model.specs.NewGuids.{AreNew, guids_in}
+use Rattle.nb_model.specs.Outcomes.{Given}
+use Rattle.nb_model.specs.Owner.{delta_name, owner, not_opened}
+use Rattle.nb_model.specs.Run.{Event, Opening, IsRun, IsRest, opening, refused_opening, strokes_of}
+use Rattle.nb_model.specs.Steps.{makes, settles, after_step, after_steps, made, steps_of, strokes_in}
+use Rattle.nb_model.specs.Strokes.{make, base_in, on_base, records_of, records_after}
+use Rattle.nb_model.specs.Trail.{Trail, StandsIn, settled, settles_at, after_stroke}
+use Rattle.nb_model.proofs.OpenedLaws.{opened_trail}
+use Rattle.nb_model.proofs.OpeningLaws.{IsCreated, created, not_created}
+use Rattle.nb_model.proofs.ReopenLaws.{IsReopened, reopened, not_reopened}
+use Rattle.nb_model.proofs.RunLaws.{base_in_base}
+use Rattle.nb_model.proofs.SteadyTurns.{AreSixteen, guids_append}
+use Rattle.nb_model.proofs.TrailLaws.{settled_shows}
+use Rattle.nb_model.proofs.UnseenLaws.{unseen}
+use Rattle.nb_model.proofs.WellTrailLaws.{fresh_trail}
+use Rattle.nb_script.specs.Asked.{IsAskable}
+use Rattle.nb_script.specs.Fits.{FitsFirst}
+use Rattle.nb_script.specs.Scripts.{Plan}
+use Rattle.nb_top.specs.declared.status.Status.{Status}
+use Rattle.nb_top.specs.Performed.{RunLeft, Finished, HasSmallScn, HoldsKept, IsPerformed, IsSure, StandsFor, Target, begins_refused, kept_after, seen_after, target_named, target_of}
+use Rattle.nb_top.proofs.CreatingRuns.{base_name}
+use Rattle.nb_top.proofs.OpenLaws.{shown_entry, refused_entry}
+use Rattle.nb_top.proofs.ScriptRuns.{Opens, creates, opens, first_opens}
+use Rattle.nb_top.proofs.SureFiles.{kept_none, stood_holds, unbegun_holds, ended_stands, still_stands}
+use Rattle.nb_top.proofs.WellRuns.{IsWellRun, IsWellBehind, rest_well}
+
+false_true : false ≡ true → ⊥
+false_true h = cc
+
+-- an event with a refusal begins no run
+refused_begins : (o : Opening) (session : ℕ) (refusal : Refusal) (account : Account) (events rest : List Event) → events ≡ o.event ∷ rest → o ≡ refused_opening session (Refused refusal) account → begins_refused events ≡ true
+refused_begins o session refusal account events rest is refused = ap begins_refused is ∙ ap (λ (x : Opening). begins_refused (x.event ∷ rest)) refused
+
+-- What is known of a run with a database: it is well behind its first steps, and where it creates the database the name was free.
+record IsSureRun (account : Account) (target : Target) (events : List Event) (last : Account) : Type 0 where
+  plain : is_delta target.name ≡ false
+  free : target.creates ≡ true → is_free_entry (account.entry target.name) ≡ true
+  run : IsWellRun account target.name events last
+  begun : (count : ℕ) (files : Files) → StandsIn target.name (seen_after account target.name (take count (steps_of events))) files → length run.first ≤ count
+
+-- the GUIDs of later turns have 16 bytes
+later_sixteen : (old : World) (account : Account) (e : Event) (rest : List Event) → AreNew old account.kept (guids_in (strokes_of (e ∷ rest))) → AreSixteen (strokes_of rest)
+unfolding strokes_of
+later_sixteen old account e rest new guid there =
+    (new.each guid (subst (λ (l : List (List ℕ)). Contains l guid) (sym (guids_append e.strokes (strokes_of rest))) (Contains-append_right (guids_in e.strokes) (guids_in (strokes_of rest)) guid there))).sixteen
+
+-- the steps of a first event
+created_steps : (session : ℕ) (image : Image) (reply : Reply) (rest : List Event)
+    → steps_of (record { session = session; strokes = make image ∷ []; reply = Some reply; made = None; syncs = true } ∷ rest) ≡ (makes (make image) ∷ []) ++ (settles ∷ steps_of rest)
+unfolding steps_of made
+created_steps session image reply rest = refl
+
+opened_steps : (session : ℕ) (reply : Reply) (rest : List Event) → steps_of (record { session = session; strokes = []; reply = Some reply; made = None; syncs = true } ∷ rest) ≡ settles ∷ steps_of rest
+unfolding steps_of made
+opened_steps session reply rest = refl
+
+made_seen : (b : Base) (image : Image) → after_steps (settled b) (makes (make image) ∷ []) ≡ settled (base_of image)
+unfolding after_steps after_step after_stroke settles_at on_base
+made_seen b image = refl
+
+made_keeps : (b : Base) (image : Image) → records_after b (strokes_in (makes (make image) ∷ [])) ≡ []
+unfolding strokes_in records_after records_of
+made_keeps b image = refl
+
+none_seen : (t : Trail) → after_steps t [] ≡ t
+unfolding after_steps
+none_seen t = refl
+
+none_keeps : (b : Base) → records_after b (strokes_in []) ≡ []
+unfolding strokes_in records_after
+none_keeps b = refl
+
+module _ (old : World) (account : Account) (given : Given) (plan : Plan) (askable : IsAskable plan) (events : List Event) (last : Account) (left : Given) (sure : IsSure old account events) (not_refused : begins_refused events ≡ false) where
+  -- it creates its database
+  module _ (name : List ℕ) (size raw cache : ℕ) (first_is : plan.first ≡ CreateDb name size raw cache) (runs : IsRun account given plan.first_session (CreateDb name size raw cache) plan.schedule plan.sessions events last left) where
+    abbrev o : Opening
+    o = opening account given plan.sessions plan.first_session (CreateDb name size raw cache)
+
+    fits : FitsFirst (CreateDb name size raw cache)
+    fits = subst FitsFirst first_is askable.first.fits
+
+    was_free : is_free_entry (account.entry name) ≡ true
+    was_free = by (is_free_entry (account.entry name)) refl
+      where
+        by : (t : Bool) → is_free_entry (account.entry name) ≡ t → is_free_entry (account.entry name) ≡ true
+        by true is = is
+        by false is =
+            absurd (false_true (sym not_refused ∙ refused_begins o plan.first_session (FileExists name) account events runs.rest runs.is (not_created account given plan.sessions plan.first_session name size raw cache is)))
+
+    new_one : IsCreated account given plan.sessions plan.first_session name size raw cache o
+    new_one = created account given plan.sessions plan.first_session name size raw cache was_free
+
+    abbrev image : Image
+    image = fresh size raw
+
+    behind : IsWellBehind account name (base_of image) runs.rest last
+    behind =
+        rest_well account plan askable o new_one.now name (base_of image) new_one.goes_on new_one.name_is new_one.account_is new_one.base new_one.here new_one.others new_one.kept new_one.todo (fresh_trail account.kept size raw fits.1 fits.2)
+        given runs.rest last left runs.goes_on (later_sixteen old account o.event runs.rest (subst (λ (es : List Event). AreNew old account.kept (guids_in (strokes_of es))) runs.is sure.new))
+
+    steps : steps_of events ≡ (makes (make image) ∷ []) ++ (settles ∷ steps_of runs.rest)
+    steps = ap steps_of runs.is ∙ ap (λ (e : Event). steps_of (e ∷ runs.rest)) new_one.event ∙ created_steps plan.first_session image _ runs.rest
+
+    run : IsWellRun account name events last
+    run = record {
+      first = makes (make image) ∷ [];
+      further = settles ∷ steps_of runs.rest;
+      steps = steps;
+      base = base_of image;
+      seen = made_seen (base_in (account.entry name)) image;
+      none = made_keeps (base_in (account.entry name)) image;
+      along = behind.along;
+      grown = behind.grown;
+    }
+
+    -- before it no database is there
+    begun : (count : ℕ) (files : Files) → StandsIn name (seen_after account name (take count (steps_of events))) files → 1 ≤ count
+    begun zero files s =
+        absurd (unseen name (account.entry name) (files name) (files (delta_name name)) was_free
+        (settled_shows name (base_in (account.entry name)) (files name) (files (delta_name name)) (subst (λ (t : Trail). StandsIn name t files) (none_seen (settled (base_in (account.entry name)))) s)))
+    begun (suc n) files s = omega arith
+
+    creating_sure : IsSureRun account (record { name = name; creates = true }) events last
+    unfolding run
+    creating_sure = record { plain = (base_name name fits.0).plain; free = λ e. was_free; run = run; begun = begun }
+
+  -- it opens it
+  module _ (name : List ℕ) (cache : ℕ) (first_is : plan.first ≡ OpenDb name cache) (runs : IsRun account given plan.first_session (OpenDb name cache) plan.schedule plan.sessions events last left)
+      (small : image_scn (base_in (account.entry name)).image < 4294967296) where
+    abbrev p : Opening
+    p = opening account given plan.sessions plan.first_session (OpenDb name cache)
+
+    opened_fits : FitsFirst (OpenDb name cache)
+    opened_fits = subst FitsFirst first_is askable.first.fits
+
+    opened_plain : is_delta name ≡ false
+    opened_plain = (base_name name opened_fits.0).plain
+
+    -- what stands there
+    record IsThere : Type 0 where
+      base : Base
+      is : account.entry name ≡ IsBase base
+
+    there : IsThere
+    there = by (owner name (old.files name) (old.files (delta_name name))) refl
+      where
+        by : (answer : Result Base Refusal) → owner name (old.files name) (old.files (delta_name name)) ≡ answer → IsThere
+        by (Ok b) is = record { base = b; is = sure.stands.now.same_image name opened_plain ∙ shown_entry old.files name b is }
+        by (Err r) is =
+            absurd (false_true (sym not_refused ∙ refused_begins p plan.first_session r account events runs.rest runs.is
+            (not_reopened account given plan.sessions plan.first_session name cache r (ap (not_opened name) (sure.stands.now.same_image name opened_plain) ∙ refused_entry name (old.files name) (old.files (delta_name name)) r is))))
+
+    abbrev b : Base
+    b = there.base
+
+    base_is : base_in (account.entry name) ≡ b
+    base_is = ap base_in there.is ∙ base_in_base b
+
+    again : IsReopened account given plan.sessions plan.first_session name b p
+    again = reopened account given plan.sessions plan.first_session name cache b there.is
+
+    opened_behind : IsWellBehind account name b runs.rest last
+    opened_behind =
+        rest_well account plan askable p again.now name b again.goes_on again.name_is again.account_is again.base again.here again.others again.kept again.todo
+        (opened_trail old.files account name b sure.stands.now opened_plain there.is (subst (λ (x : Base). image_scn x.image < 4294967296) base_is small))
+        given runs.rest last left runs.goes_on (later_sixteen old account p.event runs.rest (subst (λ (es : List Event). AreNew old account.kept (guids_in (strokes_of es))) runs.is sure.new))
+
+    opened_run : IsWellRun account name events last
+    opened_run = record {
+      first = [];
+      further = settles ∷ steps_of runs.rest;
+      steps = ap steps_of runs.is ∙ ap (λ (e : Event). steps_of (e ∷ runs.rest)) again.event ∙ opened_steps plan.first_session _ runs.rest;
+      base = b;
+      seen = none_seen (settled (base_in (account.entry name))) ∙ ap settled base_is;
+      none = none_keeps (base_in (account.entry name));
+      along = opened_behind.along;
+      grown = opened_behind.grown;
+    }
+
+    opening_sure : IsSureRun account (record { name = name; creates = false }) events last
+    unfolding opened_run
+    opening_sure = record { plain = opened_plain; free = λ e. absurd (false_true e); run = opened_run; begun = λ count files s. omega arith }
+
+  -- either
+  begins_sure : (target : Target) → target_named plan.first ≡ Some target → HasSmallScn account (Some target) → IsRun account given plan.first_session plan.first plan.schedule plan.sessions events last left → IsSureRun account target events last
+  begins_sure target named small runs = by (first_opens plan.first askable.first)
+    where
+      Runs : Statement → Type 0
+      Runs first = IsRun account given plan.first_session first plan.schedule plan.sessions events last left
+
+      same : (a c : Target) → Some a ≡ Some c → a ≡ c
+      same a c e = cc
+
+      by : Opens plan.first → IsSureRun account target events last
+      by (creates name size raw cache is) =
+          subst (λ (d : Target). IsSureRun account d events last) (same (record { name = name; creates = true }) target (ap target_named (sym is) ∙ named)) (creating_sure name size raw cache is (subst Runs is runs))
+      by (opens name cache is) =
+          let its : record { name = name; creates = false } ≡ target = same (record { name = name; creates = false }) target (ap target_named (sym is) ∙ named) in
+          subst (λ (d : Target). IsSureRun account d events last) its (opening_sure name cache is (subst Runs is runs) (subst (λ (d : Target). HasSmallScn account (Some d)) (sym its) small refl))
+
+-- A run whose first statement is refused leaves the account.
+refused_last : (schedule : List ℕ) (session : ℕ) (reply : Reply) (o : Opening) (account : Account) (given : Given) (rest : List Event) (last : Account) (left : Given) → o ≡ refused_opening session reply account
+    → IsRest schedule o given rest last left → last ≡ account
+refused_last schedule session reply o account given rest last left refused is = (subst (λ (x : Opening). IsRest schedule x given rest last left) refused is).1
+
+module _ (old : World) (account : Account) (given : Given) (plan : Plan) (askable : IsAskable plan) (events : List Event) (last : Account) (left : Given) (stands : StandsFor old account) (refused : begins_refused events ≡ true) where
+  refused_leaves : IsRun account given plan.first_session plan.first plan.schedule plan.sessions events last left → last ≡ account
+  refused_leaves runs = by (first_opens plan.first askable.first)
+    where
+      Runs : Statement → Type 0
+      Runs first = IsRun account given plan.first_session first plan.schedule plan.sessions events last left
+
+      creating : (name : List ℕ) (size raw cache : ℕ) → Runs (CreateDb name size raw cache) → last ≡ account
+      creating name size raw cache is = by_free (is_free_entry (account.entry name)) refl
+        where
+          by_free : (t : Bool) → is_free_entry (account.entry name) ≡ t → last ≡ account
+          by_free true free =
+              let one = created account given plan.sessions plan.first_session name size raw cache free in
+              absurd (false_true (sym (ap begins_refused (is.is ∙ ap (λ (e : Event). e ∷ is.rest) one.event)) ∙ refused))
+          by_free false taken =
+              refused_last plan.schedule plan.first_session _ (opening account given plan.sessions plan.first_session (CreateDb name size raw cache)) account given is.rest last left
+              (not_created account given plan.sessions plan.first_session name size raw cache taken) is.goes_on
+
+      opening_it : (name : List ℕ) (cache : ℕ) → is_delta name ≡ false → Runs (OpenDb name cache) → last ≡ account
+      opening_it name cache plain is = by_owner (owner name (old.files name) (old.files (delta_name name))) refl
+        where
+          by_owner : (answer : Result Base Refusal) → owner name (old.files name) (old.files (delta_name name)) ≡ answer → last ≡ account
+          by_owner (Ok b) shows =
+              let again = reopened account given plan.sessions plan.first_session name cache b (stands.now.same_image name plain ∙ shown_entry old.files name b shows) in
+              absurd (false_true (sym (ap begins_refused (is.is ∙ ap (λ (e : Event). e ∷ is.rest) again.event)) ∙ refused))
+          by_owner (Err r) why =
+              refused_last plan.schedule plan.first_session _ (opening account given plan.sessions plan.first_session (OpenDb name cache)) account given is.rest last left
+              (not_reopened account given plan.sessions plan.first_session name cache r (ap (not_opened name) (stands.now.same_image name plain) ∙ refused_entry name (old.files name) (old.files (delta_name name)) r why)) is.goes_on
+
+      by : Opens plan.first → last ≡ account
+      by (creates name size raw cache is) = creating name size raw cache (subst Runs is runs)
+      by (opens name cache is) = opening_it name cache (base_name name (subst FitsFirst is askable.first.fits).0).plain (subst Runs is runs)
+
+module _ (old : World) (asked : Result Plan Refusal) (askable : (plan : Plan) → asked ≡ Ok plan → IsAskable plan) (account : Account) (given : Given) (before : (name : List ℕ) → Leaves old name (old.files name))
+    (events : List Event) (last : Account) (left : Given) (performed : IsPerformed asked account given events last left) (sure : IsSure old account events) where
+  none_some : (target : Target) → None ≡ Some target → ⊥
+  none_some target h = cc
+
+  sure_run : (target : Target) → target_of asked events ≡ Some target → HasSmallScn account (Some target) → IsSureRun account target events last
+  sure_run target is small = by asked refl performed is
+    where
+      by : (a : Result Plan Refusal) → asked ≡ a → IsPerformed a account given events last left → target_of a events ≡ Some target → IsSureRun account target events last
+      by (Err refusal) e runs has = absurd (none_some target has)
+      by (Ok plan) e runs has = by_first (begins_refused events) refl has
+        where
+          by_first : (t : Bool) → begins_refused events ≡ t → elim t as (λ z. Option Target) [ true ↦ None | false ↦ target_named plan.first ] ≡ Some target → IsSureRun account target events last
+          by_first true refused h = absurd (none_some target h)
+          by_first false allowed h = begins_sure old account given plan (askable plan e) events last left sure allowed target h small runs
+
+  module _ (small : HasSmallScn account (target_of asked events)) where
+    pub sure_left : (files : Files) (said : List ℕ) (l : RunLeft old account (target_of asked events) events files said) → HoldsKept files (kept_after account (target_of asked events) (take l.count (steps_of events)))
+    sure_left files said = by (target_of asked events) refl small
+      where
+        by : (target : Option Target) → target_of asked events ≡ target → HasSmallScn account target → (l : RunLeft old account target events files said) → HoldsKept files (kept_after account target (take l.count (steps_of events)))
+        by None is few l = sure.stands.left files (λ m. l.others m tt)
+        by (Some target) is few l =
+            let known : IsSureRun account target events last = sure_run target is few in
+            ⊎_elim
+            (λ s. stood_holds old account sure.stands before target.name known.plain events last known.run sure.new l.count (known.begun l.count files s) files l.others s)
+            (λ none. subst (HoldsKept files) (sym (ap (λ (n : ℕ). kept_after account (Some target) (take n (steps_of events))) none.none ∙ kept_none account (Some target)))
+            (unbegun_holds old account sure.stands before target.name known.plain events last known.run sure.new target refl known.free (length l.out.part) l.count files l.others none))
+            l.database
+
+    -- a run without a database leaves the account
+    last_is : target_of asked events ≡ None → last ≡ account
+    last_is is = by asked refl performed is
+      where
+        some_none : (target : Target) → Some target ≡ None → ⊥
+        some_none target h = cc
+
+        by : (a : Result Plan Refusal) → asked ≡ a → IsPerformed a account given events last left → target_of a events ≡ None → last ≡ account
+        by (Err refusal) e runs has = runs.1
+        by (Ok plan) e runs has = by_first (begins_refused events) refl has
+          where
+            by_first : (t : Bool) → begins_refused events ≡ t → elim t as (λ z. Option Target) [ true ↦ None | false ↦ target_named plan.first ] ≡ None → last ≡ account
+            by_first true refused h = refused_leaves old account given plan (askable plan e) events last left sure.stands refused runs
+            by_first false allowed h = elim (first_opens plan.first (askable plan e).first) [
+              | creates name size raw cache first ↦ absurd (some_none (record { name = name; creates = true }) (sym (ap target_named first) ∙ h))
+              | opens name cache first ↦ absurd (some_none (record { name = name; creates = false }) (sym (ap target_named first) ∙ h))
+            ]
+
+    pub sure_end : (new : World) → IsTimely new → ((name : List ℕ) → Leaves new name (new.files name)) → AtEachMoment old new (RunLeft old account (target_of asked events) events) → (status : Status)
+        → Finished status old new account (target_of asked events) events given left → StandsFor new last
+    sure_end new timely reads stops status finished = by (target_of asked events) refl small stops finished
+      where
+        by : (target : Option Target) → target_of asked events ≡ target → HasSmallScn account target → AtEachMoment old new (RunLeft old account target events) → Finished status old new account target events given left → StandsFor new last
+        by None is few moments done =
+            subst (StandsFor new) (sym (last_is is))
+            (still_stands old new account sure.stands reads (λ m. done.others m tt) (λ files leaves m. (moments.each files new.said (timely.counts_now old.moment files moments.later leaves)).others m tt))
+        by (Some target) is few moments done =
+            let known : IsSureRun account target events last = sure_run target is few in
+            ended_stands old account sure.stands before target.name known.plain events last known.run sure.new new done.database done.others reads
+            (λ files leaves. (moments.each files new.said (timely.counts_now old.moment files moments.later leaves)).others)
