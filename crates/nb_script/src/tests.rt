@@ -48,6 +48,7 @@ const FURTHER_LINES: &[u8] = b"1: write 6 'hello'
 2: read 4294967295
 1: page new
 2: free 7
+1: alter database begin backup
 schedule 2 1 16
 seed 18446744073709551615
 1: read 4294967296
@@ -60,7 +61,7 @@ seed 18446744073709551615
 17: read 6
 1: write 6 'it's'
 1: open 'b.db'
-1: alter database begin backup
+1: alter database begin  backup
 schedule 17
 schedule
 seed 18446744073709551616";
@@ -74,7 +75,7 @@ fn lines(rt: HostRuntime) -> Result<(), Fail> {
     );
     assert_eq!(rt;
         verdicts(alloc, FIRST, FURTHER_LINES)?.as_slice(),
-        b"000000022222222222222".as_slice()
+        b"0000000022222222222222".as_slice()
     );
     assert_eq!(rt; refused_line(alloc, b"\n# only a comment\n"), Some(3));
     Ok(())
