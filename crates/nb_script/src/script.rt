@@ -31,8 +31,8 @@ impl Model for Script {
 }
 
 impl Script {
-    /// A script of one statement.
-    pub(crate) fn new(alloc: Global, session: u32, first: Statement, schedule: Vec<u32>) -> Script
+    /// A script of one statement, which session 1 to 16 asks, with an order of turns, empty where there is none. It takes no memory.
+    pub fn new(alloc: Global, session: u32, first: Statement, schedule: Vec<u32>) -> Script
         requires low { 1 ≤ session }
         requires high { session ≤ 16 }
         ensures { result ≡ started session first schedule.items }
@@ -63,8 +63,8 @@ impl Script {
         }
     }
 
-    /// One statement more, the last of its session. Where memory runs out the script stays as it is.
-    pub(crate) fn add(&mut self, session: u32, statement: Statement) -> Result<(), Fault>
+    /// One statement more, the last of its session, 1 to 16. Where memory runs out the script stays as it is.
+    pub fn add(&mut self, session: u32, statement: Statement) -> Result<(), Fault>
         requires low { 1 ≤ session }
         requires high { session ≤ 16 }
         ensures ok { OnOk result (self.new ≡ with_statement self.old (session, statement)) }

@@ -1,5 +1,5 @@
 use super::*;
-use nb_host::{Fault, Refusal};
+use nb_host::{Fault, Name, Refusal};
 use nb_model::Statement;
 use std::alloc::Global;
 use std::test::Fail;
@@ -116,6 +116,22 @@ schedule 1 2 1
 1: write 5 'x'
 1: read 6
 2: write 6 'y'
+";
+    assert_eq!(rt; text.as_slice(), wanted.as_slice());
+    Ok(())
+}
+
+#[test]
+fn a_script_is_put_together(rt: HostRuntime) -> Result<(), Fail> {
+    let name = Name::read("m.db").ok_or("no name")?;
+    let first = Statement::OpenDb { name, cache: 64 };
+    let mut script = Script::new(rt.alloc(), 1, first, Vec::new(rt.alloc()));
+    script.add(2, Statement::BeginBackup)?;
+    script.add(1, Statement::EndBackup)?;
+    let text = print(rt.alloc(), &script)?;
+    let wanted = b"1: open 'm.db' cache 64
+1: alter database end backup
+2: alter database begin backup
 ";
     assert_eq!(rt; text.as_slice(), wanted.as_slice());
     Ok(())
