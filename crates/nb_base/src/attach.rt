@@ -15,6 +15,7 @@ ghost use Rattle.nb_model.specs.Owner.{behind_entries};
 ghost use Rattle.nb_base.specs.Attach.{Tested, length_cause, start_cause, main_cause, IsStart, AttachesFor};
 
 use nb_delta::Delta;
+use nb_fields::are_zeros;
 use nb_fields::layouts::header;
 use nb_host::{Fault, Host, HostFault, Name, Refusal};
 use nb_page::read_header;
@@ -107,12 +108,6 @@ pub(crate) fn read_start<H: Host>(host: &mut H, name: &Name) -> Result<Start, Fa
     let mut first = [0; header::LENGTH];
     let count = host.read_at(name, 0, &mut first)?;
     start_of(&first[..count], len)
-}
-
-pub(crate) fn are_zeros(bytes: &[u8]) -> bool
-    ensures { result ≡ is_zeros bytes.now }
-{
-    bytes.iter().all(|byte| *byte == 0)
 }
 
 /// Whether page `number` of a file is all zeros, or isn't there.

@@ -2,7 +2,7 @@
 ghost use Rattle.std.specs.Prelude.{◌≤◌, IfOk, length};
 
 use crate::TwoFiles;
-use crate::attach::are_zeros;
+use nb_fields::are_zeros;
 use nb_host::{Fault, Host, Name, Refusal};
 use nb_mem::MemHost;
 use std::alloc::Global;
