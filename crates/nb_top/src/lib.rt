@@ -4,6 +4,8 @@
 //! for each reply, and what it promises of the replies, the files and a stop stands in its contract.
 #![tactic(auto)]
 
+#[cfg(test)]
+mod backup_tests;
 mod job;
 #[cfg(test)]
 mod page_tests;
@@ -11,6 +13,8 @@ mod program;
 mod reading;
 mod script;
 mod status;
+#[cfg(test)]
+mod stop_tests;
 #[cfg(test)]
 mod tests;
 
