@@ -6,6 +6,7 @@
 //! is touched.
 #![tactic(auto)]
 
+pub mod laws;
 mod plan;
 mod readers;
 mod records;
