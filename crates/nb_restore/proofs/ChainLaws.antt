@@ -39,7 +39,7 @@ when_clear true r e = absurd (some_none e)
     some_none h = cc
 when_clear false r e = refl
 
-not_false : (b : Bool) → not b ≡ false → b ≡ true
+pub not_false : (b : Bool) → not b ≡ false → b ≡ true
 not_false true e = refl
 not_false false e = absurd (true≢false e)
 

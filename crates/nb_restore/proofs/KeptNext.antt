@@ -8,7 +8,7 @@ use Rattle.nb_host.specs.Files.{Files}
 use Rattle.nb_host.specs.Names.{is_delta}
 use Rattle.nb_model.specs.Image.{Image, Numbered, first_page}
 use Rattle.nb_model.specs.Account.{Ask, Kept, Account}
-use Rattle.nb_model.specs.Levels.{Head, Contents, IsHead, joined, taken, head_then, head_in, head_for, file_for, file_of, level_bytes, read_level}
+use Rattle.nb_model.specs.Levels.{Head, Contents, IsHead, joined, taken, body_bytes, end_bytes, head_then, head_in, head_for, file_for, file_of, level_bytes, read_level}
 use Rattle.nb_model.specs.Line.{HoldsNext}
 use Rattle.nb_model.specs.Restoring.{Link}
 use Rattle.nb_model.specs.Stands.{nil, to_record, IsKeptAs, IsBegun, IsFileOf, Stands}
@@ -50,7 +50,8 @@ own_file version q = refl
 -- the level is written in two bytes
 same_level : (version : ℕ) (h : Head) (k : ℕ) (rs : List Numbered) → bytes_of 2 h.level ≡ bytes_of 2 k → level_bytes version h rs ≡ level_bytes version (record h { level = k }) rs
 unfolding level_bytes head_then
-same_level version h k rs e = ap (λ (bs : List ℕ). 78 ∷ 66 ∷ 65 ∷ 75 ∷ (bytes_of 2 version ++ (bs ++ _))) e
+same_level version h k rs e =
+    ap (λ (bs : List ℕ). 78 ∷ 66 ∷ 65 ∷ 75 ∷ (bytes_of 2 version ++ (bs ++ (h.guid ++ (h.previous ++ (bytes_of 4 h.size ++ (bytes_of 4 h.scn ++ (bytes_of 4 h.previous_scn ++ (body_bytes version rs ++ end_bytes (length rs)))))))))) e
 
 level_file_of : (version : ℕ) (q : Kept) (ask : Ask) → 1 ≤ ask.level → file_of version (with_ask (Some ask) q) ≡ level_bytes version (head_for q ask) (taken ask.previous_scn q.image)
 unfolding file_of file_for
