@@ -1,5 +1,5 @@
 -- A level file of a chain whose records are kept: it is the file of a record that goes on from the one before it.
-use Rattle.std.proofs.Common.{◌≡◌, ◌≢◌, ◌⊎◌, inl, inr, ℕ, ◌<◌, ◌≤◌, List, [], ◌∷◌, ◌++◌, length, take, refl, sym, ap, subst, ◌∙◌, arith}
+use Rattle.std.proofs.Common.{◌≡◌, ◌≢◌, inl, inr, ℕ, ◌≤◌, List, [], ◌∷◌, ◌++◌, length, take, refl, sym, ap, subst, ◌∙◌, arith}
 use Rattle.std.specs.Prelude.{Bool, true, false, ◌&&◌, ◌==◌, nat_le, Option, Some, None, Ok, Contains}
 use Rattle.std.proofs.lemmas.List.{take-append-le}
 use Rattle.nb_fields.specs.Bytes.{bytes_of}
@@ -11,11 +11,11 @@ use Rattle.nb_model.specs.Account.{Ask, Kept, Account}
 use Rattle.nb_model.specs.Levels.{Head, Contents, IsHead, joined, taken, body_bytes, end_bytes, head_then, head_in, head_for, file_for, file_of, level_bytes, read_level}
 use Rattle.nb_model.specs.Line.{HoldsNext}
 use Rattle.nb_model.specs.Restoring.{Link}
-use Rattle.nb_model.specs.Stands.{nil, to_record, IsKeptAs, IsBegun, IsFileOf, Stands}
+use Rattle.nb_model.specs.Stands.{nil, to_record, IsKeptAs, IsBegun, Stands}
 use Rattle.nb_model.proofs.HeaderLaws.{header-long, header-size, header-room, same-header}
 use Rattle.nb_model.proofs.MainLaws.{some_page}
 use Rattle.nb_model.proofs.ReadLaws.{eq_no}
-use Rattle.nb_model.proofs.StandsLaws.{names_tell, header_no_level}
+use Rattle.nb_model.proofs.StandsLaws.{header_no_level}
 use Rattle.nb_restore.proofs.AnswerLaws.{some_same}
 use Rattle.nb_restore.proofs.AskLaws.{with_ask, begun_with, guid_long}
 use Rattle.nb_restore.proofs.ChainLaws.{IsLevelFile}
@@ -23,13 +23,13 @@ use Rattle.nb_restore.proofs.ParentLaws.{LeadsTo, AsksFrom, own_asks, span_asks}
 use Rattle.nb_restore.proofs.ReadLaws.{IsRead, is_read, reads_level, reads_previous}
 
 -- pages with a header are no level file
-front_joined : (image : Image) → is_header (first_page image) ≡ true → take 64 (joined image) ≡ take 64 (first_page image)
-front_joined [] header = absurd (let some = some_page [] header in omega arith)
-front_joined (p ∷ ps) header = take-append-le 64 p (joined ps) (header-long p header)
+joined_first : (image : Image) → is_header (first_page image) ≡ true → take 64 (joined image) ≡ take 64 (first_page image)
+joined_first [] header = absurd (let some = some_page [] header in omega arith)
+joined_first (p ∷ ps) header = take-append-le 64 p (joined ps) (header-long p header)
 
 no_pages : (image : Image) (bytes : List ℕ) (c : Contents) → is_header (first_page image) ≡ true → read_level bytes ≡ Ok c → bytes ≡ joined image → ⊥
 no_pages image bytes c header reads is =
-    header_no_level bytes c (same-header bytes (first_page image) (ap (take 64) is ∙ front_joined image header) ∙ header) reads
+    header_no_level bytes c (same-header bytes (first_page image) (ap (take 64) is ∙ joined_first image header) ∙ header) reads
 
 -- so the file of a record that is read as a level is one
 file_level : (version : ℕ) (q : Kept) (o : Option Ask) (bytes : List ℕ) (c : Contents) → IsBegun q → read_level bytes ≡ Ok c → bytes ≡ file_for version q o

@@ -1,5 +1,5 @@
 -- What the records of backups go on from, in one step or in many.
-use Rattle.std.proofs.Common.{◌≡◌, ◌≢◌, ◌⊎◌, ℕ, ◌<◌, List, [], ◌∷◌, sym, subst, ◌∙◌, arith}
+use Rattle.std.proofs.Common.{◌≡◌, ◌≢◌, ◌<◌, List, [], ◌∷◌, sym, subst, ◌∙◌, arith}
 use Rattle.std.specs.Prelude.{Some, Contains}
 use Rattle.nb_host.specs.Files.{Files}
 use Rattle.nb_model.specs.Account.{Ask, Kept, Account}

@@ -1,8 +1,8 @@
 -- What is read of a level file: its version and its head, and what they are where a head was written.
-use Rattle.std.proofs.Common.{◌≡◌, ℕ, zero, suc, ◌+◌, ◌*◌, ◌/◌, ◌%◌, ◌<◌, List, [], ◌∷◌, ◌++◌, length, take, drop, refl, sym, ap, ◌∙◌, arith}
+use Rattle.std.proofs.Common.{◌≡◌, ℕ, zero, suc, ◌+◌, ◌*◌, ◌/◌, ◌%◌, List, ◌∷◌, length, take, refl, ap, ◌∙◌, arith}
 use Rattle.std.specs.Prelude.{true, ◌||◌, ◌&&◌, ◌==◌, nat_le, Option, Some, None, Result, Ok, Err}
 use Rattle.std.proofs.lemmas.List.{take_at, drop_at}
-use Rattle.nb_fields.specs.Bytes.{number_of, bytes_of, number_in, part}
+use Rattle.nb_fields.specs.Bytes.{number_of, bytes_of, number_in}
 use Rattle.nb_model.specs.Image.{Numbered}
 use Rattle.nb_model.specs.Levels.{Head, Contents, first_fault, head_then, head_in, with_head, read_pages, read_level, level_bytes}
 use Rattle.nb_restore.proofs.AnswerLaws.{ok_same, err_ok}
