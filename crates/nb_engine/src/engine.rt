@@ -116,6 +116,13 @@ impl Engine {
         self.store.count()
     }
 
+    /// How many pages the main file has.
+    pub fn main_count(&self) -> u32
+        ensures { result ≡ self.now.files.main_count }
+    {
+        self.store.main_count()
+    }
+
     /// Whether each page write is kept for good before the next.
     pub fn forced(&self) -> bool
         ensures { result ≡ self.now.forced }
@@ -153,6 +160,23 @@ impl Engine {
         ensures cause { CountsFault result (H.faults host.old) (H.faults host.new) }
     {
         self.store.read(host, number, into)
+    }
+
+    /// Fills in page `number` of the main file as it is frozen, in the stalled state.
+    pub fn read_main<H: Host>(
+        &mut self,
+        host: &mut H,
+        number: u32,
+        into: &mut [u8],
+    ) -> Result<(), HostFault>
+        requires size { length into.old ≡ self.old.files.page_size }
+        ensures page { (t : Trail) → IsTrue H.tells → IsOpen (H.world host.old) self.old t → self.old.files.state ≡ 1 → number < length t.base.frozen → OnOk result (into.new ≡ page_at t.base.frozen number) }
+        ensures same { self.new ≡ self.old }
+        ensures quiet { Quiet (H.world host.old) (H.world host.new) }
+        ensures once { IsTrue H.tells → (H.world host.new).reads ≤ (H.world host.old).reads + 1 }
+        ensures cause { CountsFault result (H.faults host.old) (H.faults host.new) }
+    {
+        self.store.read_main(host, number, into)
     }
 
     /// Keeps the database for good. It changes nothing.

@@ -3,3 +3,4 @@ pub mod Sources
 pub mod Target
 pub mod Restore
 pub mod Plan
+pub mod Kept
