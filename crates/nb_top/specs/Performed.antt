@@ -8,7 +8,6 @@
 -- stand for one at each moment, with the records of the backups that have begun by then.
 use Rattle.std.specs.Prelude.{◌≡◌, ◌≢◌, ◌⊎◌, ℕ, ◌<◌, List, [], ◌∷◌, ◌++◌, length, take, Bool, true, false, Option, None, Some, Result, Ok, Err, IfOk, if◌then◌else◌}
 use Rattle.std.specs.Global.{Vec}
-use Rattle.std.specs.List.{AllByRecursion}
 use Rattle.nb_fields.specs.Free.{is_free_file}
 use Rattle.nb_host.specs.Files.{File, Files}
 use Rattle.nb_host.specs.Names.{is_delta}
@@ -36,13 +35,14 @@ use Rattle.nb_model.specs.Output.{output, status_of}
 use Rattle.nb_model.specs.Owner.{delta_name, entry_in}
 use Rattle.nb_model.specs.Run.{Event, Now, Played, IsRun, AreFinished, play, rounds, strokes_of, replies_of}
 use Rattle.nb_model.specs.Sound.{IsSoundImage}
-use Rattle.nb_model.specs.Restoring.{Link, verdict, applied}
-use Rattle.nb_model.specs.Stands.{Stands, IsKeptAs}
+use Rattle.nb_model.specs.Restoring.{Link, verdict}
+use Rattle.nb_model.specs.Stands.{Stands}
 use Rattle.nb_model.specs.Steps.{Step, steps_of, strokes_in, after_steps, acked_turns}
 use Rattle.nb_model.specs.Strokes.{Stroke, base_in, records_after}
 use Rattle.nb_model.specs.Trail.{Trail, StandsIn, ShowsIn, settled}
 use Rattle.nb_base.specs.Open.{OfFiles}
 use Rattle.nb_state.specs.Open.{Held}
+use Rattle.nb_restore.specs.Kept.{AreKept, GivesKept}
 use Rattle.nb_script.specs.Scripts.{Plan}
 use Rattle.nb_session.specs.declared.stop.Stop.{Stop}
 use Rattle.nb_session.specs.Replies.{is_refusal}
@@ -172,10 +172,6 @@ pub record StandsFor (w : World) (account : Account) : Type 0 where
   pub left : (files : Files) → LeavesAll w files → HoldsKept files account.kept
   pub free : (name : List ℕ) → is_delta name ≡ false → is_free_file (w.files name) ≡ true → w.files (delta_name name) ≡ None → (d : File) → Leaves w (delta_name name) d → d ≡ None
 
--- each file of a chain has the GUID of a record
-abbrev pub AreKept : List Kept → List Link → Type 0
-AreKept kept links = AllByRecursion (λ (link : Link). (r : Kept) × IsKeptAs kept link.guid r) links
-
 -- a chain that is restored is one of backups whose records are kept
 abbrev pub HasKeptChain : Files → List Kept → Result Request Refusal → Type 0
 HasKeptChain files kept (Err refusal) = Unit {0}
@@ -190,19 +186,7 @@ pub record IsSure (old : World) (account : Account) (asked : Result Request Refu
   pub new : AreNew old account.kept (guids_in (strokes_of events))
   pub chain : HasKeptChain old.files account.kept asked
 
--- the GUID of the last file of a chain
-abbrev pub last_guid : List Link → List ℕ
-last_guid [] = []
-last_guid (l ∷ []) = l.guid
-last_guid (l ∷ m ∷ ls) = last_guid (m ∷ ls)
-
--- The chain gives the image that the begin of its last backup kept.
-pub record GivesKept (kept : List Kept) (links : List Link) : Type 0 where
-  pub backup : Kept
-  pub kept_as : IsKeptAs kept (last_guid links) backup
-  pub image : applied links ≡ backup.image
-
--- so does a chain that is restored
+-- a chain that is restored gives the image that the begin of its last backup kept
 abbrev pub RestoresKept : Files → List Kept → Result Request Refusal → Type 0
 RestoresKept files kept (Err refusal) = Unit {0}
 RestoresKept files kept (Ok (ToRun plan is_quiet)) = Unit {0}
