@@ -16,4 +16,4 @@ pub mod WellRuns
 pub mod SureFiles
 pub mod SureRuns
 pub mod JobRuns
-pub mod JobLemmas
+pub mod RequestLaws
