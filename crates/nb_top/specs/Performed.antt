@@ -29,7 +29,7 @@ use Rattle.nb_model.specs.Causes.{is_free_entry}
 use Rattle.nb_model.specs.Gifts.{WasGiven}
 use Rattle.nb_model.specs.Image.{image_scn}
 use Rattle.nb_model.specs.NewGuids.{AreNew, guids_in}
-use Rattle.nb_model.specs.Jobs.{quiet, restore_turn, account_behind}
+use Rattle.nb_model.specs.Jobs.{quiet, refusal_in, restore_turn, account_behind}
 use Rattle.nb_model.specs.Outcomes.{Given}
 use Rattle.nb_model.specs.Output.{output, status_of}
 use Rattle.nb_model.specs.Owner.{delta_name, entry_in}
@@ -68,6 +68,10 @@ pub record IsScriptRun (plan : Plan) (is_quiet : Bool) (before : Account) (given
   pub whole : List Event
   pub run : IsRun before given plan.first_session plan.first plan.schedule plan.sessions whole last left
   pub said : events ≡ (if is_quiet then quiet whole else whole)
+
+-- the first event as a run tells it
+abbrev pub told_first : (is_quiet : Bool) → Event → Event
+told_first is_quiet e = if is_quiet then record e { reply = refusal_in e.reply } else e
 
 -- What is asked for is done: the run of a script, the one turn of a restore, or one refusal. `left` is what it leaves of what may be given.
 abbrev pub IsPerformed : Files → Result Request Refusal → (before : Account) → Given → List Event → (last : Account) → (left : Given) → Type 0

@@ -1,5 +1,6 @@
 -- What the words of the command line ask for.
-use Rattle.std.specs.Prelude.{ℕ, Bool, true, false, List, [], ◌∷◌, replicate, Option, None, Some, Result, Ok, Err}
+use Rattle.std.specs.Prelude.{◌≡◌, ℕ, ◌≤◌, Bool, true, false, List, [], ◌∷◌, length, replicate, Option, None, Some, Result, Ok, Err}
+use Rattle.std.specs.List.{list_all}
 use Rattle.nb_host.specs.Files.{File, Files}
 use Rattle.nb_host.specs.declared.refusals.Refusal.{Refusal}
 use Rattle.nb_host.specs.declared.refusals.Refusal.TheVariants.{Usage, NoFile}
@@ -8,7 +9,7 @@ use Rattle.nb_model.specs.declared.job.Job.TheVariants.{Run, Stat, Gen, Backup, 
 use Rattle.nb_model.specs.declared.statement.Statement.{Statement}
 use Rattle.nb_model.specs.declared.statement.Statement.TheVariants.{OpenDb, BeginBackup, EndBackup}
 use Rattle.nb_model.specs.Jobs.{usual_cache}
-use Rattle.nb_model.specs.Words.{job_of}
+use Rattle.nb_model.specs.Words.{job_of, is_database, is_file}
 use Rattle.nb_script.specs.Scripts.{Plan, script_of}
 
 -- the jobs that are done today
@@ -24,6 +25,13 @@ is_job_built (Lock db) = true
 is_job_built (LockWithSize db) = false
 is_job_built (Unlock db) = true
 is_job_built (Fixup db) = false
+
+-- the names of such a job are those that words may give
+abbrev pub FitsJob : Job → Type 0
+FitsJob (Lock db) = is_database db ≡ true
+FitsJob (Unlock db) = is_database db ≡ true
+FitsJob (Restore db files) = (is_database db ≡ true) × (1 ≤ length files) × (length files ≤ 10) × (list_all is_file files ≡ true)
+FitsJob other = Unit {0}
 
 -- the job that the words name, of those that are done today
 abbrev pub built_job : Option Job → Option Job

@@ -4,17 +4,17 @@
 //! for each reply, and what it promises of the replies, the files and a stop stands in its contract.
 #![tactic(auto)]
 
-mod job;
 #[cfg(test)]
 mod page_tests;
 mod program;
 mod reading;
+mod request;
+mod restoring;
 mod script;
 mod status;
 #[cfg(test)]
 mod tests;
 
-pub use job::read_job;
 pub use nb_lines::render;
 pub use nb_model::Job;
 pub use program::run;

@@ -1,0 +1,33 @@
+// A database is restored from the files of a chain.
+ghost use Rattle.std.specs.Prelude.{◌≡◌, ◌⊎◌, ◌≤◌, length, Ok, IsTrue, IfOk};
+ghost use Rattle.nb_change.specs.Gave.{GaveNothing};
+ghost use Rattle.nb_model.specs.Account.{Account};
+ghost use Rattle.nb_model.specs.Gifts.{Foretells};
+ghost use Rattle.nb_model.specs.Outcomes.{Given};
+ghost use Rattle.nb_session.specs.Causes.{CountsStop};
+ghost use Rattle.nb_top.specs.Performed.{Knows, RunsTo};
+ghost use Rattle.nb_top.specs.Requests.{ToRestore};
+
+use crate::Status;
+use nb_host::{Host, Name};
+use nb_session::Stop;
+use std::alloc::Global;
+
+/// Restores a database from the files of a chain, the one of level 0 first.
+pub(crate) fn run_restore<H: Host>(
+    _alloc: Global,
+    _host: &mut H,
+    db: &Name,
+    files: &[Name],
+) -> Result<Status, Stop>
+    requires name { length db.now ≤ 94 }
+    requires some { 1 ≤ length files.now }
+    requires few { length files.now ≤ 10 }
+    ensures runs { (account : Account) (given : Given) → IsTrue H.tells → Knows (H.world _host.old).files account (Ok (ToRestore db.now files.now)) → Foretells given (H.world _host.old) (H.world _host.new)
+        → RunsTo result (H.world _host.old) (H.world _host.new) (Ok (ToRestore db.now files.now)) account given }
+    ensures gave { GaveNothing (H.world _host.old) (H.world _host.new) }
+    ensures done { IfOk result (λ status. (status ≡ Status.Done) ⊎ (status ≡ Status.Refused)) }
+    ensures cause { CountsStop result (H.faults _host.old) (H.faults _host.new) }
+{
+    Ok(Status::Done)
+}
