@@ -17,3 +17,5 @@ pub mod SureFiles
 pub mod SureRuns
 pub mod JobRuns
 pub mod RequestLaws
+pub mod ToldLaws
+pub mod RestoredRuns
