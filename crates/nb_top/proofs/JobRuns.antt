@@ -1,6 +1,6 @@
 -- A job is done, from the words to its end.
-use Rattle.std.proofs.Common.{◌≡◌, ◌≢◌, inl, ⊎_elim, ℕ, List, ◌++◌, take, refl, sym, ap, subst, ◌∙◌}
-use Rattle.std.specs.Prelude.{Bool, Result, Ok, Err, IfOk, IfErr, OnOk}
+use Rattle.std.proofs.Common.{◌≡◌, ◌≢◌, inl, inr, ⊎_elim, ℕ, List, [], ◌∷◌, ◌++◌, take, refl, sym, ap, subst, ◌∙◌}
+use Rattle.std.specs.Prelude.{false, Result, Ok, Err, IfOk, IfErr, OnOk}
 use Rattle.nb_host.specs.Files.{File, Files}
 use Rattle.nb_host.specs.World.{World}
 use Rattle.nb_host.specs.Crash.{Leaves}
@@ -11,23 +11,23 @@ use Rattle.nb_change.proofs.MomentLaws.{weaker}
 use Rattle.nb_page.specs.Quiet.{Quiet}
 use Rattle.nb_model.specs.declared.reply.Reply.TheVariants.{Refused as RefusedReply}
 use Rattle.nb_model.specs.Account.{Account}
+use Rattle.nb_model.specs.Jobs.{restore_turn, account_behind}
 use Rattle.nb_model.specs.Lines.{line_text}
 use Rattle.nb_model.specs.Outcomes.{Given}
 use Rattle.nb_model.specs.Output.{status_after}
 use Rattle.nb_model.specs.Steps.{steps_of}
 use Rattle.nb_model.proofs.TodoLaws.{status_refused}
-use Rattle.nb_script.specs.Asked.{IsAskable}
 use Rattle.nb_script.specs.Scripts.{Plan}
 use Rattle.nb_session.specs.declared.stop.Stop.{Stop}
 use Rattle.nb_session.specs.Says.{SaysLine}
 use Rattle.nb_top.specs.declared.status.Status.{Status}
 use Rattle.nb_top.specs.declared.status.Status.TheVariants.{Refused as RefusedStatus, Usage as UsageStatus, Device, Memory}
 use Rattle.nb_top.specs.Performed.{HasSmallScn, HoldsKept, RunLeft, RunStands, RunsTo, Performs, Finished, IsPerformed, IsSure, IsUndone, Knows, RestoresKept, StandsFor, kept_after, target_of, number_of, refused_job}
-use Rattle.nb_top.specs.Requests.{Request, ToRun, ToRestore, script_in, to_run}
+use Rattle.nb_top.specs.Requests.{Request, ToRun, ToRestore, request_asked, script_in, to_run}
 use Rattle.nb_top.proofs.LeftLaws.{left_first, first_count}
 use Rattle.nb_top.proofs.QuietRuns.{left_quietly}
 use Rattle.nb_top.proofs.RefusedRuns.{refused_runs}
-use Rattle.nb_top.proofs.RequestLaws.{CanBeAsked, askable_in}
+use Rattle.nb_top.proofs.RequestLaws.{CanBeAsked, askable_in, can_be_asked}
 use Rattle.nb_top.proofs.RestoredRuns.{restored_left, restored_end, restores_kept}
 use Rattle.nb_top.proofs.ScriptRead.{refused_script}
 use Rattle.nb_top.proofs.ScriptRuns.{script_unbegun}
@@ -50,10 +50,37 @@ unread_runs old new name file account given e knows quiet = by (script_in name f
       finished = tt;
     }
 
--- nothing was done of the run of a script
-pub unasked_runs : (old new : World) (plan : Plan) (is_quiet : Bool) (askable : IsAskable plan) (account : Account) (given : Given) (e : Stop) → Knows old.files account (Ok (ToRun plan is_quiet)) → Quiet old new
-    → RunsTo (Err e) old new (Ok (ToRun plan is_quiet)) account given
-unasked_runs old new plan is_quiet askable account given e knows quiet = script_unbegun old account given plan is_quiet askable knows new e quiet
+-- The words weren't read, for want of memory.
+module _ (old : World) (account : Account) (given : Given) (e : Stop) (quiet : Quiet old old) where
+  refused_unasked : (refusal : Refusal) → RunsTo (Err e) old old (Err refusal) account given
+  refused_unasked refusal = record {
+    events = refused_job refusal;
+    last = account;
+    left = given;
+    performed = (refl, refl, refl);
+    opened = inl tt;
+    stops = left_quietly old old account (target_of (Err refusal) (refused_job refusal)) (refused_job refusal) quiet;
+    finished = tt;
+  }
+
+  request_unasked : (r : Request) → CanBeAsked r → Knows old.files account (Ok r) → RunsTo (Err e) old old (Ok r) account given
+  request_unasked (ToRun plan is_quiet) can knows = script_unbegun old account given plan is_quiet can knows old e quiet
+  request_unasked (ToRestore db names) can knows = record {
+    events = restore_turn old.files account db names ∷ [];
+    last = account_behind db (restore_turn old.files account db names) account;
+    left = given;
+    performed = (refl, refl, refl);
+    opened = inr quiet;
+    stops = left_quietly old old account (target_of (Ok (ToRestore db names)) (restore_turn old.files account db names ∷ [])) (restore_turn old.files account db names ∷ []) quiet;
+    finished = tt;
+  }
+
+  pub unasked_runs : (words : List (List ℕ)) → Knows old.files account (request_asked old.files words) → RunsTo (Err e) old old (request_asked old.files words) account given
+  unasked_runs words = by (request_asked old.files words) refl
+    where
+      by : (asked : Result Request Refusal) → request_asked old.files words ≡ asked → Knows old.files account asked → RunsTo (Err e) old old asked account given
+      by (Err refusal) is knows = refused_unasked refusal
+      by (Ok r) is knows = request_unasked r (can_be_asked old.files r words is) knows
 
 -- a refusal to session 0
 pub job_refused : {S E : Type 0} (told : Result S E) (result : Result Status Stop) (old new : World) (asked : Result Request Refusal) (refusal : Refusal) (account : Account) (given : Given) → asked ≡ Err refusal

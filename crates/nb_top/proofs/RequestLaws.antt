@@ -1,20 +1,24 @@
 -- What the words ask for can be asked.
-use Rattle.std.proofs.Common.{◌≡◌, ℕ, zero, suc, ◌-◌, ◌≤◌, List, [], ◌∷◌, length, get_or, true, false, refl, sym, ap, subst, ◌∙◌, arith}
-use Rattle.std.specs.Prelude.{Bool, ◌&&◌, not, nat_le, Option, Some, None, Result, Ok, Err, IsTrue, replicate}
+use Rattle.std.proofs.Common.{◌≡◌, ◌⊎◌, ⊎_elim, ℕ, zero, suc, ◌-◌, ◌≤◌, List, [], ◌∷◌, length, get_or, true, false, refl, sym, ap, subst, ◌∙◌, arith}
+use Rattle.std.specs.Prelude.{Bool, ◌&&◌, ◌==◌, not, nat_le, slice_index, codes, Option, Some, None, Result, Ok, Err, IfOk, IfErr, IsTrue, replicate}
 use Rattle.std.specs.List.{AllByRecursion, list_all}
 use Rattle.std.proofs.lemmas.Bool.{and_parts, leb-true}
+use Rattle.uuid.specs.Text.{parsed_hyphenated}
 use Rattle.nb_host.specs.Files.{File, Files}
 use Rattle.nb_host.specs.Names.{is_name, is_delta, same_name}
+use Rattle.nb_host.specs.declared.faults.Fault.{Fault}
+use Rattle.nb_host.specs.declared.faults.Fault.TheVariants.{Refused, Memory}
 use Rattle.nb_host.specs.declared.refusals.Refusal.{Refusal}
 use Rattle.nb_host.specs.declared.refusals.Refusal.TheVariants.{Usage}
 use Rattle.nb_model.specs.declared.job.Job.{Job}
 use Rattle.nb_model.specs.declared.job.Job.TheVariants.{Run, Stat, Gen, Backup, BackupSince, Restore, Apply, Lock, LockWithSize, Unlock, Fixup}
 use Rattle.nb_model.specs.declared.statement.Statement.{Statement}
-use Rattle.nb_model.specs.declared.statement.Statement.TheVariants.{BeginBackup, EndBackup}
+use Rattle.nb_model.specs.declared.statement.Statement.TheVariants.{OpenDb, BeginBackup, EndBackup}
+use Rattle.nb_model.specs.Jobs.{usual_cache}
 use Rattle.nb_model.specs.Words.{Word, Read, are_flags, is_database, is_file, job_if, number_in_word, plain_job, backup_job, restore_job, apply_job, database_job, read_words, job_of_flags, job_read, job_of}
 use Rattle.nb_script.specs.Asked.{IsFurther, IsAskable}
 use Rattle.nb_script.specs.Fits.{IsBase}
-use Rattle.nb_script.specs.Scripts.{Plan}
+use Rattle.nb_script.specs.Scripts.{Plan, started, with_statement}
 use Rattle.nb_script.proofs.AskedLemmas.{answer_is_askable}
 use Rattle.nb_top.specs.Requests.{Request, ToRun, ToRestore, FitsJob, is_job_built, built_job, job_asked, script_in, to_run, plan_of, request_of, request_asked}
 
@@ -70,10 +74,33 @@ restore_fits (db ∷ files) = if_fits (is_database db && nat_le 1 (length files)
         (some.0, leb-true 1 (length files) some.1, leb-true (length files) 10 few.1, all.1)
 
 backup_fits : (plain : List Word) → IfJob (backup_job plain)
-backup_fits plain = grind
+backup_fits [] = tt
+backup_fits (since ∷ []) = tt
+backup_fits (since ∷ db ∷ []) = tt
+backup_fits (since ∷ db ∷ file ∷ []) = by (parsed_hyphenated since)
+  where
+    is_level : Bool
+    is_level = length since == 1 && (nat_le 48 (slice_index since 0) && nat_le (slice_index since 0) 57) && is_database db && is_file file
+
+    by : (guid : Option (List ℕ)) → IfJob (elim guid as (λ z. Option Job) [ Some g ↦ job_if (is_database db && is_file file) (BackupSince g db file) | None ↦ job_if is_level (Backup (slice_index since 0 - 48) db file) ])
+    by (Some g) = if_fits (is_database db && is_file file) (BackupSince g db file) (λ is. tt)
+    by None = if_fits is_level (Backup (slice_index since 0 - 48) db file) (λ is. tt)
+backup_fits (since ∷ db ∷ file ∷ w ∷ ws) = tt
 
 plain_fits : (plain : List Word) → IfJob (plain_job plain)
-plain_fits plain = grind
+plain_fits [] = tt
+plain_fits (verb ∷ []) = tt
+plain_fits (verb ∷ name ∷ []) = by (same_name verb (codes "run"))
+  where
+    by : (b : Bool) → IfJob (elim b as (λ z. Option Job) [ true ↦ job_if (is_file name) (Run name) | false ↦ job_if (same_name verb (codes "stat") && is_database name) (Stat name) ])
+    by true = if_fits (is_file name) (Run name) (λ is. tt)
+    by false = if_fits (same_name verb (codes "stat") && is_database name) (Stat name) (λ is. tt)
+plain_fits (verb ∷ number ∷ name ∷ []) = by (number_in_word number)
+  where
+    by : (n : Option ℕ) → IfJob (elim n as (λ z. Option Job) [ None ↦ None | Some k ↦ job_if (same_name verb (codes "gen") && is_file name) (Gen k name) ])
+    by None = tt
+    by (Some k) = if_fits (same_name verb (codes "gen") && is_file name) (Gen k name) (λ is. tt)
+plain_fits (verb ∷ number ∷ name ∷ w ∷ ws) = tt
 
 flags_fit : (flags : List ℕ) (rows : List (List ℕ × Option Job)) → AllByRecursion (λ (row : List ℕ × Option Job). IfJob row.1) rows → IfJob (job_of_flags flags rows)
 unfolding job_of_flags
@@ -147,6 +174,10 @@ plan_askable db statement is further = record {
   further = λ session. one_further statement further (session - 1);
 }
 
+-- it is put together statement by statement
+pub plan_added : (db : List ℕ) (statement : Statement) → with_statement (started 1 (OpenDb db usual_cache) []) (1, statement) ≡ plan_of db statement
+plan_added db statement = refl
+
 pub begin_askable : (db : List ℕ) → is_database db ≡ true → IsAskable (plan_of db BeginBackup)
 begin_askable db is = plan_askable db BeginBackup is (record { is_built = refl; opens_none = refl; fits = tt })
 
@@ -211,3 +242,15 @@ module _ (files : Files) (r : Request) where
       by : (job : Option Job) → job_of words ≡ job → elim (built_job job) as (λ z. Result Request Refusal) [ None ↦ Err Usage | Some k ↦ request_of files k ] ≡ Ok r → CanBeAsked r
       by None is e = none_asked Usage e
       by (Some job) is e = by_built job (is_job_built job) (fits_words words job is) e
+
+-- the answer of a reading
+pub asked_read : (files : Files) (words : List Word) (answer : Result Job Fault) (job : Job) → answer ≡ Ok job → IfOk answer (λ (j : Job). job_asked words ≡ Some j) → request_asked files words ≡ request_of files job
+asked_read files words answer job is read = asked_job files words job (subst (λ (a : Result Job Fault). IfOk a (λ (j : Job). job_asked words ≡ Some j)) is read)
+
+pub unread_words : (words : List Word) (answer : Result Job Fault) (refusal : Refusal) → answer ≡ Err (Refused refusal) → IfErr answer (λ (fault : Fault). (fault ≡ Memory) ⊎ ((fault ≡ Refused Usage) × (job_asked words ≡ None)))
+    → job_asked words ≡ None
+unread_words words answer refusal is why =
+    ⊎_elim (λ memory. absurd (refused_memory memory)) (λ usage. usage.1) (subst (λ (a : Result Job Fault). IfErr a (λ (fault : Fault). (fault ≡ Memory) ⊎ ((fault ≡ Refused Usage) × (job_asked words ≡ None)))) is why)
+  where
+    refused_memory : Refused refusal ≡ Memory → ⊥
+    refused_memory h = cc

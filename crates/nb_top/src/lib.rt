@@ -5,6 +5,8 @@
 #![tactic(auto)]
 
 #[cfg(test)]
+mod lock_tests;
+#[cfg(test)]
 mod page_tests;
 mod program;
 mod reading;

@@ -20,12 +20,11 @@ pub(crate) fn run_restore<H: Host>(
     db: &Name,
     files: &[Name],
 ) -> Result<Status, Stop>
-    requires name { length db.now ≤ 94 }
     requires some { 1 ≤ length files.now }
     requires few { length files.now ≤ 10 }
     ensures runs { (account : Account) (given : Given) → IsTrue H.tells → Knows (H.world _host.old).files account (Ok (ToRestore db.now files.now)) → Foretells given (H.world _host.old) (H.world _host.new)
         → RunsTo result (H.world _host.old) (H.world _host.new) (Ok (ToRestore db.now files.now)) account given }
-    ensures gave { GaveNothing (H.world _host.old) (H.world _host.new) }
+    ensures gave { IsTrue H.tells → GaveNothing (H.world _host.old) (H.world _host.new) }
     ensures done { IfOk result (λ status. (status ≡ Status.Done) ⊎ (status ≡ Status.Refused)) }
     ensures cause { CountsStop result (H.faults _host.old) (H.faults _host.new) }
 {
