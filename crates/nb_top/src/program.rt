@@ -78,7 +78,7 @@ fn run_job<H: Host>(alloc: Global, host: &mut H, job: &Job) -> Result<Status, St
     }
 }
 
-/// Refuses words that name no job.
+/// Refuses words that name no job that is done today.
 fn refuse_words<H: Host>(alloc: Global, host: &mut H) -> Result<Status, Stop>
     ensures usage { IfOk result (λ status. status ≡ Status.Usage) }
     ensures line { IsTrue H.tells → SaysLine result (H.world host.old) (H.world host.new) (line_text 0 (RefusedReply UsageRefusal)) }
@@ -106,14 +106,14 @@ fn do_job<H: Host>(alloc: Global, words: &[String], host: &mut H) -> Result<Stat
 /// Does the job that the words name, which are those of the command line without the program's own name.
 ///
 /// It says one line for each reply; a job that begins or ends a backup says nothing of the opening but why it is refused. Words that
-/// name no job, and a script that cannot be read, are refused to session 0. Where a call of the host fails or memory runs out, the
+/// name no job that is done today, and a script that cannot be read, are refused to session 0. Where a call of the host fails or memory runs out, the
 /// run ends at once and says nothing more.
 pub fn run<H: Host>(alloc: Global, words: &[String], host: &mut H) -> Status
     // The count of the host's faults rises in this call exactly where the answer is Device.
     ensures device { result ≡ Status.Device → Rose (H.faults host.old) (H.faults host.new) }
     ensures no_device { result ≢ Status.Device → H.faults host.new ≡ H.faults host.old }
 
-    // The words name no job exactly where the answer is Usage; want of memory or a fault may come first.
+    // The words name no job that is done today exactly where the answer is Usage; want of memory or a fault may come first.
     ensures usage { result ≡ Status.Usage → job_asked (map string_bytes words.now) ≡ None }
     ensures no_job { job_asked (map string_bytes words.now) ≡ None → result ≢ Status.Done × result ≢ Status.Refused }
 
