@@ -13,12 +13,11 @@ use Rattle.nb_host.specs.declared.refusals.Refusal.TheVariants.{Usage}
 use Rattle.nb_model.specs.declared.job.Job.{Job}
 use Rattle.nb_model.specs.declared.job.Job.TheVariants.{Run, Stat, Gen, Backup, BackupSince, Restore, Apply, Lock, LockWithSize, Unlock, Fixup}
 use Rattle.nb_model.specs.declared.statement.Statement.{Statement}
-use Rattle.nb_model.specs.declared.statement.Statement.TheVariants.{OpenDb, BeginBackup, EndBackup}
-use Rattle.nb_model.specs.Jobs.{usual_cache}
+use Rattle.nb_model.specs.declared.statement.Statement.TheVariants.{BeginBackup, EndBackup}
 use Rattle.nb_model.specs.Words.{Word, Read, are_flags, is_database, is_file, job_if, number_in_word, plain_job, backup_job, restore_job, apply_job, database_job, read_words, job_of_flags, job_read, job_of}
 use Rattle.nb_script.specs.Asked.{IsFurther, IsAskable}
 use Rattle.nb_script.specs.Fits.{IsBase}
-use Rattle.nb_script.specs.Scripts.{Plan, started, with_statement}
+use Rattle.nb_script.specs.Scripts.{Plan}
 use Rattle.nb_script.proofs.AskedLemmas.{answer_is_askable}
 use Rattle.nb_top.specs.Requests.{Request, ToRun, ToRestore, FitsJob, is_job_built, built_job, job_asked, script_in, to_run, plan_of, request_of, request_asked}
 
@@ -127,17 +126,7 @@ words_fit words = by (read_words words)
 pub fits_words : (words : List Word) (job : Job) → job_of words ≡ Some job → FitsJob job
 fits_words words job is = subst IfJob is (words_fit words)
 
--- the job that the words name, and whether it is done today
-pub words_built : (words : List Word) (job : Job) → job_of words ≡ Some job → is_job_built job ≡ true → job_asked words ≡ Some job
-words_built words job is built = ap built_job is ∙ ap (λ (b : Bool). elim b as (λ z. Option Job) [ true ↦ Some job | false ↦ None ]) built
-
-pub words_unbuilt : (words : List Word) (job : Job) → job_of words ≡ Some job → is_job_built job ≡ false → job_asked words ≡ None
-words_unbuilt words job is unbuilt = ap built_job is ∙ ap (λ (b : Bool). elim b as (λ z. Option Job) [ true ↦ Some job | false ↦ None ]) unbuilt
-
-pub words_none : (words : List Word) → job_of words ≡ None → job_asked words ≡ None
-words_none words is = ap built_job is
-
--- so is what they ask for
+-- what the words ask for
 pub asked_usage : (files : Files) (words : List Word) → job_asked words ≡ None → request_asked files words ≡ Err Usage
 asked_usage files words is = ap (λ (j : Option Job). elim j as (λ z. Result Request Refusal) [ None ↦ Err Usage | Some job ↦ request_of files job ]) is
 
@@ -173,10 +162,6 @@ plan_askable db statement is further = record {
   few = omega arith;
   further = λ session. one_further statement further (session - 1);
 }
-
--- it is put together statement by statement
-pub plan_added : (db : List ℕ) (statement : Statement) → with_statement (started 1 (OpenDb db usual_cache) []) (1, statement) ≡ plan_of db statement
-plan_added db statement = refl
 
 pub begin_askable : (db : List ℕ) → is_database db ≡ true → IsAskable (plan_of db BeginBackup)
 begin_askable db is = plan_askable db BeginBackup is (record { is_built = refl; opens_none = refl; fits = tt })

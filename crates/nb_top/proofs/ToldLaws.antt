@@ -121,5 +121,5 @@ module _ (session : ℕ) (strokes : List Stroke) (first : Statement) (pages stat
 -- saying nothing
 pub says_none : {T E : Type 0} (value : T) (old : World) → IsTimely old → SaysLine {T = T} {E = E} (Ok value) old old []
 says_none {T} {E} value old timely =
-    let none : SaysLine {T = T} {E = ℕ} (Err 0) old old [] = says_nothing 0 old [] timely in
+    let none : SaysLine {T = T} {E = ℕ} (Err 0) old old [] = says_nothing {T = T} {E = ℕ} 0 old [] timely in
     record { still = none.still; moments = none.moments; said = sym (append-nil old.said); gave = none.gave }

@@ -15,18 +15,18 @@ use std::alloc::Global;
 
 /// Restores a database from the files of a chain, the one of level 0 first.
 pub(crate) fn run_restore<H: Host>(
-    _alloc: Global,
-    _host: &mut H,
+    alloc: Global,
+    host: &mut H,
     db: &Name,
     files: &[Name],
 ) -> Result<Status, Stop>
     requires some { 1 ≤ length files.now }
     requires few { length files.now ≤ 10 }
-    ensures runs { (account : Account) (given : Given) → IsTrue H.tells → Knows (H.world _host.old).files account (Ok (ToRestore db.now files.now)) → Foretells given (H.world _host.old) (H.world _host.new)
-        → RunsTo result (H.world _host.old) (H.world _host.new) (Ok (ToRestore db.now files.now)) account given }
-    ensures gave { IsTrue H.tells → GaveNothing (H.world _host.old) (H.world _host.new) }
+    ensures runs { (account : Account) (given : Given) → IsTrue H.tells → Knows (H.world host.old).files account (Ok (ToRestore db.now files.now)) → Foretells given (H.world host.old) (H.world host.new)
+        → RunsTo result (H.world host.old) (H.world host.new) (Ok (ToRestore db.now files.now)) account given }
+    ensures gave { IsTrue H.tells → GaveNothing (H.world host.old) (H.world host.new) }
     ensures done { IfOk result (λ status. (status ≡ Status.Done) ⊎ (status ≡ Status.Refused)) }
-    ensures cause { CountsStop result (H.faults _host.old) (H.faults _host.new) }
+    ensures cause { CountsStop result (H.faults host.old) (H.faults host.new) }
 {
     Ok(Status::Done)
 }

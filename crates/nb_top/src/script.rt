@@ -140,7 +140,7 @@ fn run_opened<H: Host>(
         → now.running ≡ None → IsCalm now → Foretells now.given (H.world host.old) (H.world host.new)
         → after_steps (settled_trail start) (steps_in (first_event script.now.first_session strokes (opened_reply script.now.first engine.old.files.count engine.old.files.state))) ≡ settled_trail (base_now now)
         → PlaysOpened result (H.world host.old) (H.world host.new) engine.old engine.new start
-          (told_first is_quiet (first_event script.now.first_session strokes (opened_reply script.now.first engine.old.files.count engine.old.files.state))) now script.now }
+        (told_first is_quiet (first_event script.now.first_session strokes (opened_reply script.now.first engine.old.files.count engine.old.files.state))) now script.now }
     ensures grows { (now : Now) → IsTrue H.tells → IsReady (H.world host.old) engine.old (settled_trail (base_now now)) now → now.todo ≡ begun script.now.sessions → now.running ≡ None → IsCalm now
         → Grows (H.world host.old) (H.world host.new) }
     ensures cause { CountsStop result (H.faults host.old) (H.faults host.new) }
