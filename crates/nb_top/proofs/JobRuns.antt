@@ -15,6 +15,7 @@ use Rattle.nb_model.specs.Jobs.{restore_turn, account_behind}
 use Rattle.nb_model.specs.Lines.{line_text}
 use Rattle.nb_model.specs.Outcomes.{Given}
 use Rattle.nb_model.specs.Output.{status_after}
+use Rattle.nb_model.specs.Run.{Event}
 use Rattle.nb_model.specs.Steps.{steps_of}
 use Rattle.nb_model.proofs.TodoLaws.{status_refused}
 use Rattle.nb_script.specs.Scripts.{Plan}

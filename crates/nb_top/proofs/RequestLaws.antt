@@ -103,16 +103,16 @@ plain_fits (verb ∷ number ∷ name ∷ w ∷ ws) = tt
 flags_fit : (flags : List ℕ) (rows : List (List ℕ × Option Job)) → AllByRecursion (λ (row : List ℕ × Option Job). IfJob row.1) rows → IfJob (job_of_flags flags rows)
 unfolding job_of_flags
 flags_fit flags [] all = tt
-flags_fit flags (row ∷ rows) all = by (are_flags flags row.0)
+flags_fit flags (row ∷ rows) all = by (are_flags flags row.0) (flags_fit flags rows all.1)
   where
-    by : (b : Bool) → IfJob (elim b as (λ z. Option Job) [ true ↦ row.1 | false ↦ job_of_flags flags rows ])
-    by true = all.0
-    by false = flags_fit flags rows all.1
+    by : (b : Bool) → IfJob (job_of_flags flags rows) → IfJob (elim b as (λ z. Option Job) [ true ↦ row.1 | false ↦ job_of_flags flags rows ])
+    by true later = all.0
+    by false later = later
 
 read_fits : (read : Read) → IfJob (job_read read)
 unfolding job_read
 read_fits read = flags_fit read.flags _
-    (plain_fits read.plain, backup_fits read.plain, restore_fits read.plain, apply_fits read.plain, lock_fits read.plain, sized_fits read.plain, unlock_fits read.plain, fixup_fits read.plain, tt)
+    (plain_fits read.plain, (backup_fits read.plain, (restore_fits read.plain, (apply_fits read.plain, (lock_fits read.plain, (sized_fits read.plain, (unlock_fits read.plain, (fixup_fits read.plain, tt))))))))
 
 words_fit : (words : List Word) → IfJob (job_of words)
 unfolding job_of
@@ -199,10 +199,10 @@ module _ (files : Files) (r : Request) where
       never : Err refusal ≡ Ok r → ⊥
       never h = cc
 
-  this_asked : (q : Request) → CanBeAsked q → Ok q ≡ Ok r → CanBeAsked r
+  this_asked : (q : Request) → CanBeAsked q → ◌≡◌ {A = Result Request Refusal} (Ok q) (Ok r) → CanBeAsked r
   this_asked q can e = subst CanBeAsked (same e) can
     where
-      same : Ok q ≡ Ok r → q ≡ r
+      same : ◌≡◌ {A = Result Request Refusal} (Ok q) (Ok r) → q ≡ r
       same h = cc
 
   run_asked : (name : List ℕ) (s : Result Plan Refusal) → script_in name (files name) ≡ s → to_run s ≡ Ok r → CanBeAsked r

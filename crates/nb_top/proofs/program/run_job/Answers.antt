@@ -1,7 +1,8 @@
 use Rattle.std.proofs.Common.{sym, subst}
+use Rattle.std.specs.Prelude.{Ok}
 use Rattle.nb_session.proofs.GiftLaws.{grows_none}
 use Rattle.nb_top.specs.Performed.{RunsTo, Knows}
-use Rattle.nb_top.specs.Requests.{request_of}
+use Rattle.nb_top.specs.Requests.{ToRestore, request_of}
 use Rattle.nb_top.proofs.program.run_job.Goals as goal
 
 pub returns-in-Run-clause-runs : goal.returns-in-Run-clause-runs
@@ -21,7 +22,8 @@ returns-in-Restore-clause-runs g c account given tells knows told =
     let old = g.H.Host.world c.args.host.now in
     let new = g.H.Host.world c.run_restore.new.host in
     subst (λ job. RunsTo c.run_restore.result old new (request_of old.files job) account given) (sym c.in-Restore.is)
-    (c.run_restore.ensures.runs account given tells (subst (λ job. Knows old.files account (request_of old.files job)) c.in-Restore.is knows) told)
+    (subst (λ names. RunsTo c.run_restore.result old new (Ok (ToRestore c.in-Restore.db names)) account given) c.as_slice.ensures
+    (c.run_restore.ensures.runs account given tells (subst (λ job. Knows old.files account (request_of old.files job)) c.in-Restore.is knows) told))
 
 pub returns-in-Restore-clause-grows : goal.returns-in-Restore-clause-grows
 returns-in-Restore-clause-grows g c account tells knows = grows_none (g.H.Host.world c.args.host.now) (g.H.Host.world c.run_restore.new.host) (c.run_restore.ensures.gave tells)
