@@ -18,6 +18,5 @@ mod status;
 mod tests;
 
 pub use nb_lines::render;
-pub use nb_model::Job;
 pub use program::run;
 pub use status::Status;
