@@ -15,9 +15,11 @@ use Rattle.nb_model.specs.Run.{Event, account_after}
 use Rattle.nb_model.specs.Steps.{makes, settles, after_step, after_steps, made, steps_of}
 use Rattle.nb_model.specs.Strokes.{make, fixed, base_in, on_base}
 use Rattle.nb_model.specs.Trail.{settled, settles_at, after_stroke}
+use Rattle.nb_model.proofs.StepsLaws.{steps_one}
 use Rattle.nb_restore.specs.Restore.{base_from}
 use Rattle.nb_top.specs.Performed.{IsPerformed, seen_after}
 use Rattle.nb_top.specs.Requests.{ToRestore}
+use Rattle.nb_top.proofs.FirstLaws.{made_trail}
 
 -- the turn that makes the database which these files give
 abbrev pub made_turn : List Link → Event
@@ -88,9 +90,5 @@ unfolding steps_of made
 made_steps links = refl
 
 -- which leaves a settled point
-settled_behind : (b : Base) (image : Image) → after_steps (settled b) (makes (make image) ∷ settles ∷ []) ≡ settled (base_of image)
-unfolding after_steps after_step after_stroke settles_at on_base
-settled_behind b image = refl
-
 pub made_seen : (account : Account) (db : List ℕ) (links : List Link) → seen_after account db (steps_of (made_turn links ∷ [])) ≡ settled (base_from links)
-made_seen account db links = ap (seen_after account db) (made_steps links) ∙ settled_behind (base_in (account.entry db)) (fixed (applied links))
+made_seen account db links = ap (seen_after account db) (steps_one (made_turn links)) ∙ made_trail (base_in (account.entry db)) (fixed (applied links)) 1 (Pages (length (applied links)))

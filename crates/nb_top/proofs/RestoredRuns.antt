@@ -23,6 +23,7 @@ use Rattle.nb_model.specs.Trail.{Trail, StandsIn, settled, settles_at, after_str
 use Rattle.nb_model.specs.WellTrail.{IsWellTrail}
 use Rattle.nb_model.proofs.AccountLaws.{IsGrown}
 use Rattle.nb_model.proofs.SteadyLaws.{settling_along}
+use Rattle.nb_model.proofs.StepsLaws.{after_no_step}
 use Rattle.nb_model.proofs.TrailLaws.{settled_shows}
 use Rattle.nb_model.proofs.UnseenLaws.{unseen}
 use Rattle.nb_restore.specs.Kept.{GivesKept}
@@ -49,10 +50,6 @@ made_seen b image = refl
 made_keeps : (b : Base) (image : Image) → records_after b (strokes_in (makes (make image) ∷ [])) ≡ []
 unfolding strokes_in records_after records_of
 made_keeps b image = refl
-
-none_seen : (t : Trail) → after_steps t [] ≡ t
-unfolding after_steps
-none_seen t = refl
 
 -- the account behind it
 made_grown : (account : Account) (db : List ℕ) (image : Image) → IsGrown db (after_steps (settled (base_of image)) (settles ∷ [])).base (records_after (base_of image) (strokes_in (settles ∷ []))) account (account_after db (make image ∷ []) None account)
@@ -98,7 +95,7 @@ module _ (old : World) (db : List ℕ) (names : List (List ℕ)) (account : Acco
   begun : (count : ℕ) (files : Files) → StandsIn db (seen_after account db (take count (steps_of one))) files → 1 ≤ count
   begun zero files s =
       absurd (unseen db (account.entry db) (files db) (files (delta_name db)) free
-      (settled_shows db (base_in (account.entry db)) (files db) (files (delta_name db)) (subst (λ (t : Trail). StandsIn db t files) (none_seen (settled (base_in (account.entry db)))) s)))
+      (settled_shows db (base_in (account.entry db)) (files db) (files (delta_name db)) (subst (λ (t : Trail). StandsIn db t files) (after_no_step (settled (base_in (account.entry db)))) s)))
   begun (suc n) files s = omega arith
 
   made_left : (files : Files) (said : List ℕ) (l : RunLeft old account (Some target) one files said) → HoldsKept files (kept_after account (Some target) (take l.count (steps_of one)))
