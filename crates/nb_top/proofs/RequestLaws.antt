@@ -3,7 +3,6 @@ use Rattle.std.proofs.Common.{◌≡◌, ◌⊎◌, ⊎_elim, ℕ, zero, suc, �
 use Rattle.std.specs.Prelude.{Bool, ◌&&◌, ◌==◌, not, nat_le, slice_index, codes, Option, Some, None, Result, Ok, Err, IfOk, IfErr, IsTrue, replicate}
 use Rattle.std.specs.List.{AllByRecursion, list_all}
 use Rattle.std.proofs.lemmas.Bool.{and_parts, leb-true}
-use Rattle.uuid.specs.Text.{parsed_hyphenated}
 use Rattle.nb_host.specs.Files.{File, Files}
 use Rattle.nb_host.specs.Names.{is_name, is_delta, same_name}
 use Rattle.nb_host.specs.declared.faults.Fault.{Fault}
@@ -76,7 +75,7 @@ backup_fits : (plain : List Word) → IfJob (backup_job plain)
 backup_fits [] = tt
 backup_fits (since ∷ []) = tt
 backup_fits (since ∷ db ∷ []) = tt
-backup_fits (since ∷ db ∷ file ∷ []) = by (parsed_hyphenated since)
+backup_fits (since ∷ db ∷ file ∷ []) = by _
   where
     is_level : Bool
     is_level = length since == 1 && (nat_le 48 (slice_index since 0) && nat_le (slice_index since 0) 57) && is_database db && is_file file

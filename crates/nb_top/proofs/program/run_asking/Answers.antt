@@ -20,8 +20,8 @@ returns-in_err-script-clause-grows g c account tells knows =
     let old = g.H.Host.world c.args.host.now in
     grows_none old old (quiet_gave old old (quiet_begun old (g.met.H.Host.timely c.args.host.now)))
 
-pub returns-in-Ok-clause-runs : goal.returns-in-Ok-clause-runs
-returns-in-Ok-clause-runs g c account given tells knows told =
+pub returns-clause-runs : goal.returns-clause-runs
+returns-clause-runs g c account given tells knows told =
     let old = g.H.Host.world c.args.host.now in
     let new = g.H.Host.world c.run_script.new.host in
     let plan = plan_of c.args.db.now c.args.statement in
@@ -30,8 +30,8 @@ returns-in-Ok-clause-runs g c account given tells knows told =
     subst (λ p. RunsTo c.run_script.result old new (Ok (ToRun p true)) account given) same
     (c.run_script.ensures.runs account given tells (subst (λ p. Knows old.files account (Ok (ToRun p true))) (sym same) knows) told)
 
-pub returns-in-Ok-clause-grows : goal.returns-in-Ok-clause-grows
-returns-in-Ok-clause-grows g c account tells knows =
+pub returns-clause-grows : goal.returns-clause-grows
+returns-clause-grows g c account tells knows =
     let old = g.H.Host.world c.args.host.now in
     let plan = plan_of c.args.db.now c.args.statement in
     let is = settled_value c.in_ok-script.field-0 c.in-Ok.script (λ value. c.script_asking.result ≡ Ok value) c.in-Ok.is c.in_ok-script.ensures.value in

@@ -8,8 +8,8 @@ use Rattle.nb_top.proofs.script.say_opened.Goals as goal
 pub returns-then-is_quiet-clause-line : goal.returns-then-is_quiet-clause-line
 returns-then-is_quiet-clause-line g c tells = rw c.if-is_quiet.true (says_none _ (g.H.Host.world c.args.host.now) (g.met.H.Host.timely c.args.host.now))
 
-pub returns-else-is_quiet-clause-line : goal.returns-else-is_quiet-clause-line
-returns-else-is_quiet-clause-line g c tells =
+pub returns-clause-line : goal.returns-clause-line
+returns-clause-line g c tells =
     let plan = c.args.script.now in
     let held = c.args.engine.now in
     let line = ap (λ s. line_text s c.first_reply-reply.result) c.first_session.ensures.value
