@@ -75,20 +75,20 @@ first_fine name bytes = by (begins_level bytes) (read_level bytes)
 behind_other : (k : ℕ) (last : Link) (name : List ℕ) (c : Contents) → IsOther (not_behind k last name c)
 unfolding not_behind
 behind_other k last name c = other_first (
-  when (not (c.head.level == k)) (ChainLevel name c.head.level k)
-  ∷ when (not (same_name c.head.previous last.guid)) (ChainGuid name c.head.previous last.guid)
-  ∷ when (not (c.head.size == last.size)) (ChainSize name c.head.size last.size)
-  ∷ when (not (c.head.previous_scn == last.scn)) (ChainScn name c.head.previous_scn last.scn)
-  ∷ []) (
-    other_when (not (c.head.level == k)) (ChainLevel name c.head.level k) (chain_level name c.head.level k),
-    (
-      other_when (not (same_name c.head.previous last.guid)) (ChainGuid name c.head.previous last.guid) (chain_guid name c.head.previous last.guid),
+    when (not (c.head.level == k)) (ChainLevel name c.head.level k)
+    ∷ when (not (same_name c.head.previous last.guid)) (ChainGuid name c.head.previous last.guid)
+    ∷ when (not (c.head.size == last.size)) (ChainSize name c.head.size last.size)
+    ∷ when (not (c.head.previous_scn == last.scn)) (ChainScn name c.head.previous_scn last.scn)
+    ∷ []) (
+      other_when (not (c.head.level == k)) (ChainLevel name c.head.level k) (chain_level name c.head.level k),
       (
-        other_when (not (c.head.size == last.size)) (ChainSize name c.head.size last.size) (chain_size name c.head.size last.size),
-        (other_when (not (c.head.previous_scn == last.scn)) (ChainScn name c.head.previous_scn last.scn) (chain_scn name c.head.previous_scn last.scn), tt),
+        other_when (not (same_name c.head.previous last.guid)) (ChainGuid name c.head.previous last.guid) (chain_guid name c.head.previous last.guid),
+        (
+          other_when (not (c.head.size == last.size)) (ChainSize name c.head.size last.size) (chain_size name c.head.size last.size),
+          (other_when (not (c.head.previous_scn == last.scn)) (ChainScn name c.head.previous_scn last.scn) (chain_scn name c.head.previous_scn last.scn), tt),
+        ),
       ),
-    ),
-  )
+    )
 
 next_fine : (k : ℕ) (last : Link) (name bytes : List ℕ) → IsFine (next_link k last name bytes)
 unfolding next_link

@@ -180,8 +180,8 @@ module _ (old : World) (account : Account) (given : Given) (db : List ℕ) (name
       restore_refused told end new says ended said =
           let quiet : Quiet old mid = refuses_it.0 in
           let performed : IsPerformed mid.files asked account given (only_refusal refusal ∷ []) account given =
-              subst (λ (f : Files). IsPerformed f asked account given (only_refusal refusal ∷ []) account given) (sym quiet.still.files)
-              (refused_performed old.files account db names given refusal (refused_turn old.files account db names refusal why)) in
+          subst (λ (f : Files). IsPerformed f asked account given (only_refusal refusal ∷ []) account given) (sym quiet.still.files)
+          (refused_performed old.files account db names given refusal (refused_turn old.files account db names refusal why)) in
           runs_quietly end old mid new asked account given quiet (refused_runs mid new 1 refusal account given asked told end performed says (number end ended) said)
 
     -- It is done, and so many pages are said.

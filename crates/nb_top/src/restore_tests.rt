@@ -90,7 +90,8 @@ fn refused_restores(rt: HostRuntime) -> Result<(), Fail> {
 1: refused 3 NoFile no.0
 1: refused 16 ChainLevel a.0 0 1
 1: refused 15 BadLevel c.db.delta.0 0
-".as_slice(),
+"
+                .as_slice(),
             None
         )
     );
