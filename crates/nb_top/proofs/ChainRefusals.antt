@@ -1,6 +1,6 @@
 -- A chain of files is never refused as words are that name no job.
-use Rattle.std.proofs.Common.{◌≡◌, ◌≢◌, ℕ, ◌+◌, ◌/◌, ◌%◌, List, [], ◌∷◌, length, true, false, ap, sym, subst, ◌∙◌}
-use Rattle.std.specs.Prelude.{Bool, ◌==◌, not, Option, None, Some, Result, Ok, Err}
+use Rattle.std.proofs.Common.{◌≡◌, ◌≢◌, ℕ, ◌+◌, List, [], ◌∷◌, length, true, false, ap, subst}
+use Rattle.std.specs.Prelude.{Bool, ◌==◌, not, None, Some, Result, Ok, Err}
 use Rattle.nb_fields.specs.Bytes.{number_in}
 use Rattle.nb_fields.specs.Header.{is_header, signature, state_of}
 use Rattle.nb_host.specs.Files.{File, Files}

@@ -5,16 +5,15 @@ use Rattle.nb_host.specs.Files.{Files}
 use Rattle.nb_host.specs.declared.refusals.Refusal.{Refusal}
 use Rattle.nb_host.specs.declared.refusals.Refusal.TheVariants.{FileExists}
 use Rattle.nb_model.specs.declared.reply.Reply.TheVariants.{Pages}
-use Rattle.nb_model.specs.Account.{Base, base_of, Account}
+use Rattle.nb_model.specs.Account.{Account}
 use Rattle.nb_model.specs.Causes.{is_free_entry}
-use Rattle.nb_model.specs.Image.{Image}
 use Rattle.nb_model.specs.Jobs.{only_turn, only_refusal, restore_turn, account_behind}
 use Rattle.nb_model.specs.Outcomes.{Given}
 use Rattle.nb_model.specs.Restoring.{Link, verdict, applied}
 use Rattle.nb_model.specs.Run.{Event, account_after}
-use Rattle.nb_model.specs.Steps.{makes, settles, after_step, after_steps, made, steps_of}
-use Rattle.nb_model.specs.Strokes.{make, fixed, base_in, on_base}
-use Rattle.nb_model.specs.Trail.{settled, settles_at, after_stroke}
+use Rattle.nb_model.specs.Steps.{makes, settles, made, steps_of}
+use Rattle.nb_model.specs.Strokes.{make, fixed, base_in}
+use Rattle.nb_model.specs.Trail.{settled}
 use Rattle.nb_model.proofs.StepsLaws.{steps_one}
 use Rattle.nb_restore.specs.Restore.{base_from}
 use Rattle.nb_top.specs.Performed.{IsPerformed, seen_after}
