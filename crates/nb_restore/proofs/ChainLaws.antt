@@ -1,6 +1,7 @@
 -- What the files of an accepted chain are: level 0, and the level files behind it.
 use Rattle.std.proofs.Common.{◌≡◌, ◌≢◌, ℕ, zero, suc, ◌+◌, ◌*◌, ◌<◌, ◌≤◌, List, [], ◌∷◌, length, take, drop, get_or, refl, sym, ap, subst, ◌∙◌, arith}
 use Rattle.std.specs.Prelude.{Bool, true, false, not, ◌==◌, Some, None, Result, Ok, Err, Contains}
+use Rattle.std.specs.Cmp.Lexicographic.{told_text}
 use Rattle.std.proofs.lemmas.Bool.{eqb-true, true≢false}
 use Rattle.std.proofs.lemmas.List.{take-take}
 use Rattle.nb_fields.specs.Bytes.{number_in}
@@ -9,11 +10,12 @@ use Rattle.nb_fields.specs.Header.{is_header, signature, state_of, size_of}
 use Rattle.nb_fields.proofs.HeaderLemmas.{is_header-take}
 use Rattle.nb_fields.proofs.PartLemmas.{number_in-take}
 use Rattle.nb_host.specs.Files.{File, Files}
+use Rattle.nb_host.specs.Names.{same_name}
 use Rattle.nb_host.specs.declared.refusals.Refusal.{Refusal}
-use Rattle.nb_host.specs.declared.refusals.Refusal.TheVariants.{NoFile, BadLevel, ChainLevel, ChainSize}
+use Rattle.nb_host.specs.declared.refusals.Refusal.TheVariants.{NoFile, BadLevel, ChainLevel, ChainGuid, ChainSize, ChainScn}
 use Rattle.nb_model.specs.Image.{Page, first_page}
 use Rattle.nb_model.specs.Causes.{Cause, first_cause, when}
-use Rattle.nb_model.specs.Levels.{Contents, begins_level, joined, read_level}
+use Rattle.nb_model.specs.Levels.{Head, Contents, begins_level, joined, read_level}
 use Rattle.nb_model.specs.Restoring.{Link, level_link, whole_link, is_bad_length, not_whole, first_link, not_behind, next_link, linked, next_links, verdict}
 use Rattle.nb_model.specs.Sound.{IsOfSize}
 use Rattle.nb_model.proofs.FreeLaws.{free_no_level, free_header}
@@ -37,32 +39,49 @@ when_clear true r e = absurd (some_none e)
     some_none h = cc
 when_clear false r e = refl
 
-not_false : (b : Bool) → not b ≡ false → b ≡ true
+pub not_false : (b : Bool) → not b ≡ false → b ≡ true
 not_false true e = refl
 not_false false e = absurd (true≢false e)
 
--- a level file has the page size of the file before it
-behind_size : (k : ℕ) (last : Link) (name : List ℕ) (c : Contents) → not_behind k last name c ≡ None → c.head.size ≡ last.size
+passed : (test : Bool) (r : Refusal) → when (not test) r ≡ None → test ≡ true
+passed test r e = not_false test (when_clear (not test) r e)
+
+-- what the head of a level file in place k names of the file before it
+pub record GoesBehind (k : ℕ) (last : Link) (h : Head) : Type 0 where
+  pub level : h.level ≡ k
+  pub previous : h.previous ≡ last.guid
+  pub size : h.size ≡ last.size
+  pub previous_scn : h.previous_scn ≡ last.scn
+
+goes_behind : (k : ℕ) (last : Link) (name : List ℕ) (c : Contents) → not_behind k last name c ≡ None → GoesBehind k last c.head
 unfolding not_behind
-behind_size k last name c none =
-    let size = clear_head _ _ (clear_head _ _ (clear_head _ _ none).1).1 in
-    eqb-true c.head.size last.size (not_false (c.head.size == last.size) (when_clear (not (c.head.size == last.size)) (ChainSize name c.head.size last.size) size.0))
+goes_behind k last name c none =
+    let level = clear_head _ _ none in
+    let guid = clear_head _ _ level.1 in
+    let size = clear_head _ _ guid.1 in
+    let scn = clear_head _ _ size.1 in
+    record {
+      level = eqb-true c.head.level k (passed (c.head.level == k) (ChainLevel name c.head.level k) level.0);
+      previous = told_text c.head.previous last.guid true (sym (passed (same_name c.head.previous last.guid) (ChainGuid name c.head.previous last.guid) guid.0));
+      size = eqb-true c.head.size last.size (passed (c.head.size == last.size) (ChainSize name c.head.size last.size) size.0);
+      previous_scn = eqb-true c.head.previous_scn last.scn (passed (c.head.previous_scn == last.scn) (ChainScn name c.head.previous_scn last.scn) scn.0);
+    }
 
 -- the file behind another is a level file
-record IsLevelFile (last : Link) (bytes : List ℕ) (l : Link) : Type 0 where
-  contents : Contents
-  read : read_level bytes ≡ Ok contents
-  size : contents.head.size ≡ last.size
-  is : l ≡ level_link contents
+pub record IsLevelFile (k : ℕ) (last : Link) (bytes : List ℕ) (l : Link) : Type 0 where
+  pub contents : Contents
+  pub read : read_level bytes ≡ Ok contents
+  pub behind : GoesBehind k last contents.head
+  pub is : l ≡ level_link contents
 
-level_file : (k : ℕ) (last : Link) (name bytes : List ℕ) (l : Link) → next_link k last name bytes ≡ Ok l → IsLevelFile last bytes l
+level_file : (k : ℕ) (last : Link) (name bytes : List ℕ) (l : Link) → next_link k last name bytes ≡ Ok l → IsLevelFile k last bytes l
 unfolding next_link
 level_file k last name bytes l e = by (begins_level bytes) (number_in 16 4 bytes == signature) (read_level bytes) refl e
   where
     behind : (c : Contents) → read_level bytes ≡ Ok c → (cause : Cause) → not_behind k last name c ≡ cause
-        → elim cause as (λ x. Result Link Refusal) [ Some refusal ↦ Err refusal | None ↦ Ok (level_link c) ] ≡ Ok l → IsLevelFile last bytes l
+        → elim cause as (λ x. Result Link Refusal) [ Some refusal ↦ Err refusal | None ↦ Ok (level_link c) ] ≡ Ok l → IsLevelFile k last bytes l
     behind c read (Some r) is h = absurd (err_ok r l (Err r) refl h)
-    behind c read None is h = record { contents = c; read = read; size = behind_size k last name c is; is = ok_same l (level_link c) (Ok (level_link c)) h refl }
+    behind c read None is h = record { contents = c; read = read; behind = goes_behind k last name c is; is = ok_same l (level_link c) (Ok (level_link c)) h refl }
 
     by : (begins signed : Bool) (r : Result Contents ℕ) → read_level bytes ≡ r
         → elim begins as (λ x. Result Link Refusal) [
@@ -71,7 +90,7 @@ level_file k last name bytes l e = by (begins_level bytes) (number_in 16 4 bytes
             | Err at ↦ Err (BadLevel name at)
             | Ok c ↦ elim (not_behind k last name c) as (λ x. Result Link Refusal) [ Some refusal ↦ Err refusal | None ↦ Ok (level_link c) ]
           ]
-        ] ≡ Ok l → IsLevelFile last bytes l
+        ] ≡ Ok l → IsLevelFile k last bytes l
     by false true r is h = absurd (err_ok (ChainLevel name 0 k) l (Err (ChainLevel name 0 k)) refl h)
     by false false r is h = absurd (err_ok (BadLevel name 0) l (Err (BadLevel name 0)) refl h)
     by true signed (Err at) is h = absurd (err_ok (BadLevel name at) l (Err (BadLevel name at)) refl h)
@@ -87,46 +106,64 @@ linked_parts : (l : Link) (links : List Link) (rest : Result (List Link) Refusal
 linked_parts l links (Ok more) e = record { more = more; all = ok_same links (l ∷ more) (Ok (l ∷ more)) e refl; is = refl }
 linked_parts l links (Err r) e = absurd (err_ok r links (Err r) refl e)
 
+-- the files behind another begin with a level file
+pub record IsNextSplit (files : Files) (k : ℕ) (last : Link) (name : List ℕ) (names : List (List ℕ)) (links : List Link) : Type 0 where
+  pub bytes : List ℕ
+  pub there : files name ≡ Some bytes
+  pub link : Link
+  pub accepted : next_link k last name bytes ≡ Ok link
+  pub level : IsLevelFile k last bytes link
+  pub rest : List Link
+  pub all : links ≡ link ∷ rest
+  pub next : next_links files (k + 1) link names ≡ Ok rest
+
+pub split_next : (files : Files) (k : ℕ) (last : Link) (name : List ℕ) (names : List (List ℕ)) (links : List Link) → next_links files k last (name ∷ names) ≡ Ok links → IsNextSplit files k last name names links
+unfolding next_links
+split_next files k last name names links e = by (files name) refl e
+  where
+    one : (bytes : List ℕ) → files name ≡ Some bytes → (answer : Result Link Refusal) → next_link k last name bytes ≡ answer
+        → elim answer as (λ x. Result (List Link) Refusal) [ Err refusal ↦ Err refusal | Ok l ↦ linked l (next_links files (k + 1) l names) ] ≡ Ok links → IsNextSplit files k last name names links
+    one bytes there (Err r) is h = absurd (err_ok r links (Err r) refl h)
+    one bytes there (Ok l) is h =
+        let parts = linked_parts l links (next_links files (k + 1) l names) h in
+        record { bytes = bytes; there = there; link = l; accepted = is; level = level_file k last name bytes l is; rest = parts.more; all = parts.all; next = parts.is }
+
+    by : (file : File) → files name ≡ file
+        → elim file as (λ x. Result (List Link) Refusal) [
+          | None ↦ Err (NoFile name)
+          | Some bytes ↦ elim (next_link k last name bytes) as (λ x. Result (List Link) Refusal) [ Err refusal ↦ Err refusal | Ok l ↦ linked l (next_links files (k + 1) l names) ]
+        ] ≡ Ok links → IsNextSplit files k last name names links
+    by None is h = absurd (err_ok (NoFile name) links (Err (NoFile name)) refl h)
+    by (Some bytes) is h = one bytes is (next_link k last name bytes) refl h
+
+pub none_next : (files : Files) (k : ℕ) (last : Link) (links : List Link) → next_links files k last [] ≡ Ok links → [] ≡ links
+unfolding next_links
+none_next files k last links e = ok_same [] links (Ok []) refl e
+
 module _ (files : Files) (target : List ℕ) (free : is_free_file (files target) ≡ true) where
   -- no file that is free is the target's
   free_there : (name bytes : List ℕ) → files name ≡ Some bytes → name ≡ target → is_free_file (Some bytes) ≡ true
   free_there name bytes there same = ap is_free_file (sym there ∙ ap files same) ∙ free
 
-  source_of : (last : Link) (name bytes : List ℕ) (l : Link) (size : ℕ) → files name ≡ Some bytes → last.size ≡ size → IsLevelFile last bytes l → IsSource files target name size l
-  source_of last name bytes l size there same is = record {
+  source_of : (k : ℕ) (last : Link) (name bytes : List ℕ) (l : Link) (size : ℕ) → files name ≡ Some bytes → last.size ≡ size → IsLevelFile k last bytes l → IsSource files target name size l
+  source_of k last name bytes l size there same is = record {
     apart = λ e. free_no_level bytes is.contents (free_there name bytes there e) is.read;
     bytes = bytes;
     there = there;
     contents = is.contents;
     read = is.read;
     pages = ap (λ (x : Link). x.pages) is.is;
-    sized = ap (λ (x : Link). x.size) is.is ∙ is.size ∙ same;
-    same = is.size ∙ same;
+    sized = ap (λ (x : Link). x.size) is.is ∙ is.behind.size ∙ same;
+    same = is.behind.size ∙ same;
   }
 
   -- the files behind level 0 are level files of its page size
   pub sources : (size k : ℕ) (last : Link) (names : List (List ℕ)) (links : List Link) → last.size ≡ size → next_links files k last names ≡ Ok links → AreSources files target names size links
-  unfolding next_links
-  sources size k last [] links same e = subst (λ (ls : List Link). AreSources files target [] size ls) (ok_same [] links (Ok []) refl e) tt
-  sources size k last (name ∷ names) links same e = by (files name) refl e (λ l more next. sources size (k + 1) l names more next)
-    where
-      one : (bytes : List ℕ) → files name ≡ Some bytes → (answer : Result Link Refusal) → next_link k last name bytes ≡ answer
-          → elim answer as (λ x. Result (List Link) Refusal) [ Err refusal ↦ Err refusal | Ok l ↦ linked l (next_links files (k + 1) l names) ] ≡ Ok links
-          → ((l : Link) (more : List Link) → l.size ≡ size → next_links files (k + 1) l names ≡ Ok more → AreSources files target names size more) → AreSources files target (name ∷ names) size links
-      one bytes there (Err r) is h others = absurd (err_ok r links (Err r) refl h)
-      one bytes there (Ok l) is h others =
-          let source : IsSource files target name size l = source_of last name bytes l size there same (level_file k last name bytes l is) in
-          let parts = linked_parts l links (next_links files (k + 1) l names) h in
-          subst (λ (ls : List Link). AreSources files target (name ∷ names) size ls) (sym parts.all) (source, others l parts.more source.sized parts.is)
-
-      by : (file : File) → files name ≡ file
-          → elim file as (λ x. Result (List Link) Refusal) [
-            | None ↦ Err (NoFile name)
-            | Some bytes ↦ elim (next_link k last name bytes) as (λ x. Result (List Link) Refusal) [ Err refusal ↦ Err refusal | Ok l ↦ linked l (next_links files (k + 1) l names) ]
-          ] ≡ Ok links
-          → ((l : Link) (more : List Link) → l.size ≡ size → next_links files (k + 1) l names ≡ Ok more → AreSources files target names size more) → AreSources files target (name ∷ names) size links
-      by None is h others = absurd (err_ok (NoFile name) links (Err (NoFile name)) refl h)
-      by (Some bytes) is h others = one bytes is (next_link k last name bytes) refl h others
+  sources size k last [] links same e = subst (λ (ls : List Link). AreSources files target [] size ls) (none_next files k last links e) tt
+  sources size k last (name ∷ names) links same e =
+      let n = split_next files k last name names links e in
+      let source : IsSource files target name size n.link = source_of k last name n.bytes n.link size n.there same n.level in
+      subst (λ (ls : List Link). AreSources files target (name ∷ names) size ls) (sym n.all) (source, sources size (k + 1) n.link names n.rest source.sized n.next)
 
 -- an accepted chain begins with level 0
 pub record IsSplit (files : Files) (name : List ℕ) (others : List (List ℕ)) (links : List Link) : Type 0 where
@@ -162,8 +199,9 @@ pub record IsCopy (bytes : List ℕ) (l : Link) : Type 0 where
   pub is : l ≡ whole_link bytes
   pub header : is_header bytes ≡ true
   pub stalled : state_of bytes ≡ 1
+  pub whole : is_bad_length bytes ≡ false
 
-whole_parts : (name bytes : List ℕ) → not_whole name bytes ≡ None → (is_header bytes ≡ true) × (state_of bytes ≡ 1)
+whole_parts : (name bytes : List ℕ) → not_whole name bytes ≡ None → (is_header bytes ≡ true) × (state_of bytes ≡ 1) × (is_bad_length bytes ≡ false)
 unfolding not_whole
 whole_parts name bytes e = by (is_header bytes) refl e
   where
@@ -174,9 +212,12 @@ whole_parts name bytes e = by (is_header bytes) refl e
         → elim header as (λ x. Cause) [
           | false ↦ Some (BadLevel name 0)
           | true ↦ first_cause (when (not (state_of bytes == 1)) (BadLevel name 22) ∷ when (is_bad_length bytes) (BadLevel name (length bytes)) ∷ [])
-        ] ≡ None → (is_header bytes ≡ true) × (state_of bytes ≡ 1)
+        ] ≡ None → (is_header bytes ≡ true) × (state_of bytes ≡ 1) × (is_bad_length bytes ≡ false)
     by false is h = absurd (some_none (BadLevel name 0) h)
-    by true is h = (is, eqb-true (state_of bytes) 1 (not_false (state_of bytes == 1) (when_clear (not (state_of bytes == 1)) (BadLevel name 22) (clear_head _ _ h).0)))
+    by true is h =
+        let state = clear_head _ _ h in
+        let long = clear_head _ _ state.1 in
+        (is, eqb-true (state_of bytes) 1 (passed (state_of bytes == 1) (BadLevel name 22) state.0), when_clear (is_bad_length bytes) (BadLevel name (length bytes)) long.0)
 
 pub copy_of : (name bytes : List ℕ) (l : Link) → first_link name bytes ≡ Ok l → IsCopy bytes l
 unfolding first_link
@@ -190,7 +231,7 @@ copy_of name bytes l e = by (begins_level bytes) (read_level bytes) (not_whole n
     by true (Err at) cause is h = absurd (err_ok (BadLevel name at) l (Err (BadLevel name at)) refl h)
     by true (Ok c) cause is h = absurd (err_ok (ChainLevel name c.head.level 0) l (Err (ChainLevel name c.head.level 0)) refl h)
     by false r (Some refusal) is h = absurd (err_ok refusal l (Err refusal) refl h)
-    by false r None is h = let parts = whole_parts name bytes is in record { is = ok_same l (whole_link bytes) (Ok (whole_link bytes)) h refl; header = parts.0; stalled = parts.1 }
+    by false r None is h = let parts = whole_parts name bytes is in record { is = ok_same l (whole_link bytes) (Ok (whole_link bytes)) h refl; header = parts.0; stalled = parts.1; whole = parts.2 }
 
 -- so its name isn't free
 pub copy_apart : (files : Files) (target name bytes : List ℕ) (l : Link) → is_free_file (files target) ≡ true → files name ≡ Some bytes → IsCopy bytes l → name ≢ target

@@ -31,7 +31,8 @@ use Rattle.nb_restore.proofs.TargetLaws.{free_front}
 abbrev pub normal_page : Page → Page
 normal_page page = with_part 22 (bytes_of 2 0) page
 
-two : length (bytes_of 2 0) ≡ 2
+-- the state has two bytes
+pub two : length (bytes_of 2 0) ≡ 2
 unfolding bytes_of
 two = refl
 
@@ -45,10 +46,11 @@ module _ (page : Page) (is : is_header page ≡ true) where
   pub normal-state : state_of (normal_page page) ≡ 0
   normal-state = number_in-with_part 22 2 0 page (omega arith) (omega (arith, long))
 
-  before : (by v : ℕ) → by + v ≤ 22 → number_in by v (normal_page page) ≡ number_in by v page
+  -- any other field stays
+  pub before : (by v : ℕ) → by + v ≤ 22 → number_in by v (normal_page page) ≡ number_in by v page
   before by v low = number_in-with_part_other 22 2 by v (bytes_of 2 0) page two (omega (arith, long)) (inr low)
 
-  past : (by v : ℕ) → 24 ≤ by → number_in by v (normal_page page) ≡ number_in by v page
+  pub past : (by v : ℕ) → 24 ≤ by → number_in by v (normal_page page) ≡ number_in by v page
   past by v low = number_in-with_part_other 22 2 by v (bytes_of 2 0) page two (omega (arith, long)) (inl (omega (arith, low)))
 
   pub normal-size : size_of (normal_page page) ≡ size_of page

@@ -86,7 +86,7 @@ end-headed size at count rest all e = by (first_fault ((count == 0, at) ∷ ends
     by None h = subst (λ (x : List Numbered). AreHeaded size x) (ok_same [] all (Ok []) refl h) tt
 
 -- tests of which none fails, one after another
-clear_head : (t : Bool × ℕ) (ts : List (Bool × ℕ)) → first_fault (t ∷ ts) ≡ None → (t.0 ≡ false) × (first_fault ts ≡ None)
+pub clear_head : (t : Bool × ℕ) (ts : List (Bool × ℕ)) → first_fault (t ∷ ts) ≡ None → (t.0 ≡ false) × (first_fault ts ≡ None)
 unfolding first_fault
 clear_head (true, at) ts e = absurd (some_none e)
   where
@@ -193,7 +193,7 @@ with_head-is version h (Ok rs) c e =
 with_head-is version h (Err at) c e = absurd (err_ok at c (Err at) refl e)
 
 -- the tests of a head
-abbrev head_tests : (bytes : List ℕ) → List Test
+abbrev pub head_tests : (bytes : List ℕ) → List Test
 head_tests bytes =
     (not (begins_level bytes), 0)
     ∷ ends_before 52 0 bytes

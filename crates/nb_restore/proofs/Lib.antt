@@ -13,3 +13,10 @@ pub mod PlanLaws
 pub mod ChainLaws
 pub mod PreparedLaws
 pub mod RestoreLaws
+pub mod AskLaws
+pub mod ParentLaws
+pub mod ReadLaws
+pub mod KeptFirst
+pub mod KeptNext
+pub mod KeptLaws
+pub mod FixedLaws

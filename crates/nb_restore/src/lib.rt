@@ -3,9 +3,10 @@
 //! It rests on `nb_chain`, which accepts the chain and refuses what is none, and on `nb_level`, which reads level files. A
 //! layer above may rely on this: nothing is made before the whole chain is accepted and all memory is taken; from then on
 //! a stop leaves the target as it was, or with its name free, or with the database that the chain gives; and no other file
-//! is touched.
+//! is touched. `laws` says what a chain of kept backups gives.
 #![tactic(auto)]
 
+pub mod laws;
 mod plan;
 mod readers;
 mod records;

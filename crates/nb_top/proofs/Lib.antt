@@ -18,4 +18,7 @@ pub mod SureRuns
 pub mod JobRuns
 pub mod RequestLaws
 pub mod ToldLaws
+pub mod ChainRefusals
+pub mod RestoreTurns
+pub mod RestoringRuns
 pub mod RestoredRuns

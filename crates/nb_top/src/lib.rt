@@ -11,6 +11,8 @@ mod page_tests;
 mod program;
 mod reading;
 mod request;
+#[cfg(test)]
+mod restore_tests;
 mod restoring;
 mod script;
 mod status;

@@ -47,7 +47,12 @@ pub fn settled<T>(answer: Result<T, Fault>) -> Result<Result<T, Refusal>, Stop>
 }
 
 /// Says the line of a reply.
-fn say_line<H: Host>(alloc: Global, host: &mut H, session: u32, reply: &Reply) -> Result<(), Stop>
+pub fn say_line<H: Host>(
+    alloc: Global,
+    host: &mut H,
+    session: u32,
+    reply: &Reply,
+) -> Result<(), Stop>
     ensures line { IsTrue H.tells → SaysLine result (H.world host.old) (H.world host.new) (line_text session reply.now) }
     ensures gave { GaveNothing (H.world host.old) (H.world host.new) }
     ensures cause { CountsStop result (H.faults host.old) (H.faults host.new) }
