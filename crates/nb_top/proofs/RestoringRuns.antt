@@ -21,7 +21,7 @@ use Rattle.nb_model.specs.Causes.{is_free_entry}
 use Rattle.nb_model.specs.Jobs.{only_refusal, restore_turn, account_behind}
 use Rattle.nb_model.specs.Lines.{line_text}
 use Rattle.nb_model.specs.Outcomes.{Given}
-use Rattle.nb_model.specs.Output.{output, status_after}
+use Rattle.nb_model.specs.Output.{status_after}
 use Rattle.nb_model.specs.Owner.{delta_name}
 use Rattle.nb_model.specs.Restoring.{Link, verdict, applied}
 use Rattle.nb_model.specs.Run.{Event}
