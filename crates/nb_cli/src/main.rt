@@ -10,8 +10,8 @@ ghost use Rattle.nb_host.specs.Causes.{Rose};
 ghost use Rattle.nb_model.specs.Account.{Account};
 ghost use Rattle.nb_model.specs.Gifts.{Foretells};
 ghost use Rattle.nb_model.specs.Outcomes.{Given};
-ghost use Rattle.nb_top.specs.Jobs.{job_of};
-ghost use Rattle.nb_top.specs.Performed.{Knows, Performs, script_asked};
+ghost use Rattle.nb_top.specs.Performed.{Knows, Performs};
+ghost use Rattle.nb_top.specs.Requests.{job_asked, request_asked};
 ghost use Rattle.nb_cli.specs.Exit.{number_of};
 
 use nb_file::FileHost;
@@ -35,11 +35,11 @@ fn words(rt: &(impl Env + AllocGlobal)) -> io::Result<Vec<String>> {
 /// Does what the words ask, or tells why they couldn't be read: a word that is no text names no job.
 fn status_of<H: Host>(alloc: Global, words: io::Result<Vec<String>>, host: &mut H) -> Status
     // Words that were read are those of the run.
-    ensures usage { result ≡ Status.Usage → IfOk words (λ words. job_of (map string_bytes words.items) ≡ None) }
-    ensures no_job { IfOk words (λ words. job_of (map string_bytes words.items) ≡ None → result ≢ Status.Done × result ≢ Status.Refused) }
-    ensures performs { IfOk words (λ words. (account : Account) (given : Given) → IsTrue H.tells → Knows (H.world host.old).files account (script_asked (H.world host.old).files (map string_bytes words.items))
+    ensures usage { result ≡ Status.Usage → IfOk words (λ words. job_asked (map string_bytes words.items) ≡ None) }
+    ensures no_job { IfOk words (λ words. job_asked (map string_bytes words.items) ≡ None → result ≢ Status.Done × result ≢ Status.Refused) }
+    ensures performs { IfOk words (λ words. (account : Account) (given : Given) → IsTrue H.tells → Knows (H.world host.old).files account (request_asked (H.world host.old).files (map string_bytes words.items))
         → Foretells given (H.world host.old) (H.world host.new)
-        → Performs result (H.world host.old) (H.world host.new) (script_asked (H.world host.old).files (map string_bytes words.items)) account given) }
+        → Performs result (H.world host.old) (H.world host.new) (request_asked (H.world host.old).files (map string_bytes words.items)) account given) }
 
     // Others make it Usage, where memory and the host suffice to say so.
     ensures no_text { IfErr words (λ error. error_kind error ≢ ErrorKind.OutOfMemory → (result ≡ Status.Usage) ⊎ (result ≡ Status.Device) ⊎ (result ≡ Status.Memory)) }

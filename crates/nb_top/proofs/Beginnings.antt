@@ -30,14 +30,16 @@ use Rattle.nb_session.specs.Ready.{IsReady, IsCalm}
 use Rattle.nb_session.specs.Says.{SaysLine}
 use Rattle.nb_top.specs.declared.status.Status.{Status}
 use Rattle.nb_top.specs.declared.status.Status.TheVariants.{Refused as RefusedStatus}
-use Rattle.nb_top.specs.Performed.{RunsTo, HasSmallScn, IsPerformed, PlaysOpened, first_event, opened_reply, refused_at, number_of}
+use Rattle.nb_top.specs.Performed.{RunsTo, HasSmallScn, PlaysOpened, first_event, opened_reply, refused_at, told_first, number_of}
+use Rattle.nb_top.specs.Requests.{ToRun}
 use Rattle.nb_top.proofs.BegunRuns.{Left, start, first_one, begun_fails, begun_runs}
 use Rattle.nb_top.proofs.FirstLaws.{First}
 use Rattle.nb_top.proofs.QuietRuns.{runs_quietly}
+use Rattle.nb_top.proofs.ToldLaws.{Ran, performed_refused}
 use Rattle.nb_top.proofs.RefusedRuns.{refused_runs}
 
 -- It was done: the database is open, no other file was touched, and nothing was said or given.
-pub record FirstDone (old mid : World) (account : Account) (given : Given) (plan : Plan) (askable : IsAskable plan) (held : Held) : Type 0 where
+pub record FirstDone (old mid : World) (account : Account) (given : Given) (plan : Plan) (is_quiet : Bool) (askable : IsAskable plan) (held : Held) : Type 0 where
   pub first : First account given plan
   pub says : first.reply ≡ opened_reply plan.first held.files.count held.files.state
   pub ready : IsReady mid held (settled (base_now first.now)) first.now
@@ -48,32 +50,33 @@ pub record FirstDone (old mid : World) (account : Account) (given : Given) (plan
   pub read : (m : List ℕ) → Other (OfFiles first.target.name) m → mid.files m ≡ old.files m
   pub silent : mid.said ≡ old.said
   pub gave : GaveNothing old mid
-  pub stops : (n : ℕ) → AtEachMoment old mid (Left old account given plan askable first n)
+  pub stops : (n : ℕ) → AtEachMoment old mid (Left old account given plan is_quiet askable first n)
 
 -- It was refused, and nothing happened.
 pub record FirstRefused (old mid : World) (account : Account) (given : Given) (plan : Plan) (refusal : Refusal) : Type 0 where
   pub quiet : Quiet old mid
-  pub performed : IsPerformed (Ok plan) account given (refused_at plan.first_session refusal) account given
+  pub ran : Ran account given plan (refused_at plan.first_session refusal) account given
   pub not_usage : refusal ≢ Usage
 
-pub record Beginning (old : World) (account : Account) (given : Given) (plan : Plan) (askable : IsAskable plan) (mid : World) (result : Result Held Fault) : Type 0 where
-  pub fails : (e : Stop) → RunsTo (Err e) old mid (Ok plan) account given
+pub record Beginning (old : World) (account : Account) (given : Given) (plan : Plan) (is_quiet : Bool) (askable : IsAskable plan) (mid : World) (result : Result Held Fault) : Type 0 where
+  pub fails : (e : Stop) → RunsTo (Err e) old mid (Ok (ToRun plan is_quiet)) account given
   pub refused : (refusal : Refusal) → result ≡ Err (Refused refusal) → FirstRefused old mid account given plan refusal
-  pub done : (held : Held) → result ≡ Ok held → FirstDone old mid account given plan askable held
+  pub done : (held : Held) → result ≡ Ok held → FirstDone old mid account given plan is_quiet askable held
 
-module _ (old : World) (account : Account) (given : Given) (plan : Plan) (askable : IsAskable plan) (mid : World) where
+module _ (old : World) (account : Account) (given : Given) (plan : Plan) (is_quiet : Bool) (askable : IsAskable plan) (mid : World) where
   -- a refusal is said
   pub script_refused : (refusal : Refusal) → FirstRefused old mid account given plan refusal → (new : World) {S E : Type 0} (told : Result S E) (status : Result Status Stop) → SaysLine told mid new (line_text plan.first_session (RefusedReply refusal))
-      → IfOk status (λ s. s ≡ RefusedStatus) → OnOk status (new.said ≡ mid.said ++ line_text plan.first_session (RefusedReply refusal)) → RunsTo status old new (Ok plan) account given
+      → IfOk status (λ s. s ≡ RefusedStatus) → OnOk status (new.said ≡ mid.said ++ line_text plan.first_session (RefusedReply refusal)) → RunsTo status old new (Ok (ToRun plan is_quiet)) account given
   script_refused refusal is new told status says ended said =
-      runs_quietly status old mid new (Ok plan) account given is.quiet
-      (refused_runs mid new plan.first_session refusal account given (Ok plan) told status is.performed says (numbered status ended) said)
+      runs_quietly status old mid new (Ok (ToRun plan is_quiet)) account given is.quiet
+      (refused_runs mid new plan.first_session refusal account given (Ok (ToRun plan is_quiet)) told status (performed_refused is_quiet plan account given plan.first_session refusal account given is.ran) says (numbered status ended)
+      said)
     where
       numbered : (s : Result Status Stop) → IfOk s (λ x. x ≡ RefusedStatus) → IfOk s (λ x. number_of x ≡ status_after (RefusedReply refusal))
       numbered (Ok x) e = ap number_of e ∙ sym (status_refused refusal is.not_usage)
       numbered (Err x) e = tt
 
-  module _ (held : Held) (is : FirstDone old mid account given plan askable held) where
+  module _ (held : Held) (is : FirstDone old mid account given plan is_quiet askable held) where
     pub script_now : Now
     script_now = is.first.now
 
@@ -97,28 +100,32 @@ module _ (old : World) (account : Account) (given : Given) (plan : Plan) (askabl
     unfolding script_now
     script_calm = is.calm
 
-    -- the reply as it is said
+    -- the first statement with its reply
+    abbrev done_first : Event
+    done_first = first_event plan.first_session is.first.strokes (opened_reply plan.first held.files.count held.files.state)
+
+    -- as it is told
     abbrev said_first : Event
-    said_first = first_event plan.first_session is.first.strokes (opened_reply plan.first held.files.count held.files.state)
+    said_first = told_first is_quiet done_first
 
-    pub script_trail : after_steps (settled (start old account given plan askable is.first)) (steps_in said_first) ≡ settled (base_now script_now)
+    pub script_trail : after_steps (settled (start old account given plan is_quiet askable is.first)) (steps_in done_first) ≡ settled (base_now script_now)
     unfolding script_now
-    script_trail = ap (λ (r : Reply). after_steps (settled (start old account given plan askable is.first)) (steps_in (first_event plan.first_session is.first.strokes r))) (sym is.says) ∙ is.first.trail
+    script_trail = ap (λ (r : Reply). after_steps (settled (start old account given plan is_quiet askable is.first)) (steps_in (first_event plan.first_session is.first.strokes r))) (sym is.says) ∙ is.first.trail
 
-    says_it : {r : Result Bool Stop} (new : World) (after : Held) → PlaysOpened r mid new held after (start old account given plan askable is.first) said_first is.first.now plan
-        → PlaysOpened r mid new held after (start old account given plan askable is.first) (first_one old account given plan askable is.first) is.first.now plan
+    says_it : {r : Result Bool Stop} (new : World) (after : Held) → PlaysOpened r mid new held after (start old account given plan is_quiet askable is.first) said_first is.first.now plan
+        → PlaysOpened r mid new held after (start old account given plan is_quiet askable is.first) (first_one old account given plan is_quiet askable is.first) is.first.now plan
     says_it {r} new after plays =
-        subst (λ (x : Reply). PlaysOpened r mid new held after (start old account given plan askable is.first) (first_event plan.first_session is.first.strokes x) is.first.now plan) (sym is.says) plays
+        subst (λ (x : Reply). PlaysOpened r mid new held after (start old account given plan is_quiet askable is.first) (told_first is_quiet (first_event plan.first_session is.first.strokes x)) is.first.now plan) (sym is.says) plays
 
     -- the turns ended early
-    pub script_ends_early : (new : World) (after : Held) (e : Stop) {f : Stop} → PlaysOpened (Err f) mid new held after (start old account given plan askable is.first) said_first script_now plan → RunsTo (Err e) old new (Ok plan) account given
+    pub script_ends_early : (new : World) (after : Held) (e : Stop) {f : Stop} → PlaysOpened (Err f) mid new held after (start old account given plan is_quiet askable is.first) said_first script_now plan → RunsTo (Err e) old new (Ok (ToRun plan is_quiet)) account given
     unfolding script_now
     script_ends_early new after e plays =
-        begun_fails old account given plan askable is.first mid new is.alone is.read is.silent is.gave is.stops held after is.named is.small e (says_it new after plays)
+        begun_fails old account given plan is_quiet askable is.first mid new is.alone is.read is.silent is.gave is.stops held after is.named is.small e (says_it new after plays)
 
     -- all turns were taken
     pub script_ends : (new : World) (after : Held) (refused : Bool) (status : Status) → number_of status ≡ (if refused then 1 else 0)
-        → PlaysOpened (Ok refused) mid new held after (start old account given plan askable is.first) said_first script_now plan → RunsTo (Ok status) old new (Ok plan) account given
+        → PlaysOpened (Ok refused) mid new held after (start old account given plan is_quiet askable is.first) said_first script_now plan → RunsTo (Ok status) old new (Ok (ToRun plan is_quiet)) account given
     unfolding script_now
     script_ends new after refused status number plays =
-        begun_runs old account given plan askable is.first mid new is.alone is.read is.silent is.gave is.stops held after is.named is.small refused status number (says_it new after plays)
+        begun_runs old account given plan is_quiet askable is.first mid new is.alone is.read is.silent is.gave is.stops held after is.named is.small refused status number (says_it new after plays)

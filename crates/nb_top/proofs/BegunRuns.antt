@@ -1,6 +1,6 @@
 -- A run behind its first statement.
-use Rattle.std.proofs.Common.{◌≡◌, ◌⊎◌, inl, inr, ⊎_elim, ℕ, List, ◌∷◌, ◌++◌, sym, ap, subst, ◌∙◌}
-use Rattle.std.specs.Prelude.{Bool, Option, Some, Ok, Err, if◌then◌else◌}
+use Rattle.std.proofs.Common.{◌≡◌, ◌⊎◌, inl, inr, ⊎_elim, ℕ, List, ◌∷◌, ◌++◌, true, false, sym, ap, subst, ◌∙◌}
+use Rattle.std.specs.Prelude.{Bool, Option, None, Some, Ok, Err, if◌then◌else◌}
 use Rattle.nb_host.specs.Files.{Files}
 use Rattle.nb_host.specs.World.{World}
 use Rattle.nb_host.specs.Crash.{Untouched}
@@ -13,7 +13,7 @@ use Rattle.nb_model.specs.Account.{Base, Account}
 use Rattle.nb_model.specs.Gifts.{WasGiven}
 use Rattle.nb_model.specs.Outcomes.{Given}
 use Rattle.nb_model.specs.Output.{output}
-use Rattle.nb_model.specs.Run.{Event}
+use Rattle.nb_model.specs.Run.{Event, AreFinished}
 use Rattle.nb_model.specs.Steps.{steps_of}
 use Rattle.nb_model.specs.Strokes.{base_in}
 use Rattle.nb_model.specs.Trail.{settled}
@@ -24,14 +24,16 @@ use Rattle.nb_script.specs.Scripts.{Plan}
 use Rattle.nb_session.specs.declared.stop.Stop.{Stop}
 use Rattle.nb_session.specs.Stops.{StopLeft}
 use Rattle.nb_top.specs.declared.status.Status.{Status}
-use Rattle.nb_top.specs.Performed.{RunLeft, RunsTo, Finished, HasSmallScn, IsEnded, PlaysOpened, Target, first_event, seen_after, target_of, number_of}
+use Rattle.nb_top.specs.Performed.{RunLeft, RunsTo, Finished, HasSmallScn, IsEnded, IsPerformed, PlaysOpened, Target, begins_refused, first_event, seen_after, target_named, target_of, told_first, number_of}
+use Rattle.nb_top.specs.Requests.{ToRun}
 use Rattle.nb_session.proofs.EndLaws.{HasEnd, turns_end}
 use Rattle.nb_top.proofs.FirstLaws.{First, turns}
 use Rattle.nb_top.proofs.QuietRuns.{given_from}
+use Rattle.nb_top.proofs.ToldLaws.{told_begins, told_cons, performed_told}
 
-module _ (old : World) (account : Account) (given : Given) (plan : Plan) (askable : IsAskable plan) (first : First account given plan) where
+module _ (old : World) (account : Account) (given : Given) (plan : Plan) (is_quiet : Bool) (askable : IsAskable plan) (first : First account given plan) where
   abbrev pub first_one : Event
-  first_one = first_event plan.first_session first.strokes first.reply
+  first_one = told_first is_quiet (first_event plan.first_session first.strokes first.reply)
 
   abbrev pub events : ℕ → List Event
   events n = first_one ∷ (turns plan first.now n).0
@@ -45,25 +47,34 @@ module _ (old : World) (account : Account) (given : Given) (plan : Plan) (askabl
   abbrev pub Left : ℕ → Files → List ℕ → Type 0
   Left n = RunLeft old account (Some first.target) (events n)
 
-  -- the database is asked for, since its reply is no refusal
-  target_is : (n : ℕ) → target_of (Ok plan) (events n) ≡ Some first.target
-  target_is n = rw (first.allowed, target_of) first.named
+  -- its reply is no refusal, so the database is asked for
+  begins : (n : ℕ) → begins_refused (events n) ≡ false
+  begins n =
+      let done : Event = first_event plan.first_session first.strokes first.reply in
+      ap begins_refused (told_cons is_quiet done (turns plan first.now n).0) ∙ told_begins is_quiet (done ∷ (turns plan first.now n).0) ∙ first.allowed
 
-  with_target : (n : ℕ) (from new : World) → AtEachMoment from new (Left n) → AtEachMoment from new (RunLeft old account (target_of (Ok plan) (events n)) (events n))
+  target_is : (n : ℕ) → target_of (Ok (ToRun plan is_quiet)) (events n) ≡ Some first.target
+  target_is n = ap (λ (b : Bool). elim b as (λ z. Option Target) [ true ↦ None | false ↦ target_named plan.first ]) (begins n) ∙ first.named
+
+  with_target : (n : ℕ) (from new : World) → AtEachMoment from new (Left n) → AtEachMoment from new (RunLeft old account (target_of (Ok (ToRun plan is_quiet)) (events n)) (events n))
   with_target n from new is = subst (λ (d : Option Target). AtEachMoment from new (RunLeft old account d (events n))) (sym (target_is n)) is
 
-  opened_with : (n : ℕ) → HasSmallScn account (Some first.target) → HasSmallScn account (target_of (Ok plan) (events n))
+  opened_with : (n : ℕ) → HasSmallScn account (Some first.target) → HasSmallScn account (target_of (Ok (ToRun plan is_quiet)) (events n))
   opened_with n = subst (HasSmallScn account) (sym (target_is n))
 
+  performed : (n : ℕ) → AreFinished (turns plan first.now n).1.todo → IsPerformed old.files (Ok (ToRun plan is_quiet)) account given (events n) (turns plan first.now n).1.account (turns plan first.now n).1.given
+  performed n finished =
+      performed_told is_quiet plan account given (first_event plan.first_session first.strokes first.reply) (turns plan first.now n).0 (turns plan first.now n).1.account (turns plan first.now n).1.given (first.ran n finished)
+
   -- it ended early, in the first statement
-  pub first_fails : (new : World) (e : Stop) → HasSmallScn account (Some first.target) ⊎ Quiet old new → ((n : ℕ) → AtEachMoment old new (Left n)) → RunsTo (Err e) old new (Ok plan) account given
+  pub first_fails : (new : World) (e : Stop) → HasSmallScn account (Some first.target) ⊎ Quiet old new → ((n : ℕ) → AtEachMoment old new (Left n)) → RunsTo (Err e) old new (Ok (ToRun plan is_quiet)) account given
   first_fails new e opened stops =
       let end : HasEnd plan.schedule first.now 0 = turns_end plan askable first.now first.todo 0 in
       record {
         events = events end.how_often;
         last = (turns plan first.now end.how_often).1.account;
         left = (turns plan first.now end.how_often).1.given;
-        performed = first.performed end.how_often end.finished;
+        performed = performed end.how_often end.finished;
         opened = ⊎_elim (λ small. inl (opened_with end.how_often small)) inr opened;
         stops = with_target end.how_often old new (stops end.how_often);
         finished = tt;
@@ -88,24 +99,24 @@ module _ (old : World) (account : Account) (given : Given) (plan : Plan) (askabl
         (λ files said left. left_behind n files said (subst (λ (m : List ℕ). StopLeft mid m (settled start) (events n) files said) named left))
 
     -- the turns ended early
-    pub begun_fails : (e : Stop) {f : Stop} → PlaysOpened (Err f) mid new held after start first_one first.now plan → RunsTo (Err e) old new (Ok plan) account given
+    pub begun_fails : (e : Stop) {f : Stop} → PlaysOpened (Err f) mid new held after start first_one first.now plan → RunsTo (Err e) old new (Ok (ToRun plan is_quiet)) account given
     begun_fails e plays = record {
       events = events plays.how_often;
       last = (turns plan first.now plays.how_often).1.account;
       left = (turns plan first.now plays.how_often).1.given;
-      performed = first.performed plays.how_often plays.finished;
+      performed = performed plays.how_often plays.finished;
       opened = inl (opened_with plays.how_often small);
       stops = with_target plays.how_often old new (stops_behind plays.how_often plays.plays.stops);
       finished = tt;
     }
 
     -- all turns were taken
-    pub begun_runs : (refused : Bool) (status : Status) → number_of status ≡ (if refused then 1 else 0) → PlaysOpened (Ok refused) mid new held after start first_one first.now plan → RunsTo (Ok status) old new (Ok plan) account given
+    pub begun_runs : (refused : Bool) (status : Status) → number_of status ≡ (if refused then 1 else 0) → PlaysOpened (Ok refused) mid new held after start first_one first.now plan → RunsTo (Ok status) old new (Ok (ToRun plan is_quiet)) account given
     begun_runs refused status number plays = record {
       events = events n;
       last = (turns plan first.now n).1.account;
       left = (turns plan first.now n).1.given;
-      performed = first.performed n plays.finished;
+      performed = performed n plays.finished;
       opened = inl (opened_with n small);
       stops = with_target n old new (stops_behind n plays.plays.stops);
       finished = subst (λ (d : Option Target). Finished status old new account d (events n) given (turns plan first.now n).1.given) (sym (target_is n)) done;

@@ -44,11 +44,13 @@ use Rattle.nb_script.specs.Fits.{FitsFirst}
 use Rattle.nb_script.specs.Scripts.{Plan}
 use Rattle.nb_session.specs.declared.stop.Stop.{Stop}
 use Rattle.nb_session.specs.Stops.{IsSaid}
-use Rattle.nb_top.specs.Performed.{RunsTo, HasSmallScn, IsPerformed, opened_reply, refused_at, seen_after, target_of}
+use Rattle.nb_top.specs.Performed.{RunsTo, HasSmallScn, first_event, opened_reply, refused_at, seen_after, target_of}
+use Rattle.nb_top.specs.Requests.{ToRun}
 use Rattle.nb_top.proofs.QuietRuns.{left_quietly}
 use Rattle.nb_top.proofs.FirstLaws.{First, first_created, created_base, turns}
 use Rattle.nb_top.proofs.BegunRuns.{Left, events, first_one, first_fails}
 use Rattle.nb_top.proofs.Beginnings.{Beginning, FirstRefused, FirstDone}
+use Rattle.nb_top.proofs.ToldLaws.{Ran, told_first_steps, performed_refused}
 
 -- a name that a database may have
 pub record BaseName (name : List ℕ) : Type 0 where
@@ -64,7 +66,7 @@ base_name name fits =
     let parts = and_parts (is_name name && nat_le (length name) 94) (not (is_delta name)) fits in
     record { short = (and_parts (is_name name) (nat_le (length name) 94) parts.0).1; plain = not_true (is_delta name) parts.1 }
 
-module _ (old : World) (account : Account) (given : Given) (plan : Plan) (askable : IsAskable plan) (name : List ℕ) (size raw cache : ℕ) (first_is : plan.first ≡ CreateDb name size raw cache)
+module _ (old : World) (account : Account) (given : Given) (plan : Plan) (is_quiet : Bool) (askable : IsAskable plan) (name : List ℕ) (size raw cache : ℕ) (first_is : plan.first ≡ CreateDb name size raw cache)
     (knows : is_free_name old.files name ≡ is_free_entry (account.entry name)) where
   fits : FitsFirst (CreateDb name size raw cache)
   fits = subst FitsFirst first_is askable.first.fits
@@ -73,19 +75,19 @@ module _ (old : World) (account : Account) (given : Given) (plan : Plan) (askabl
   image = fresh size raw
 
   -- the name isn't free
-  taken_performed : is_free_entry (account.entry name) ≡ false → IsPerformed (Ok plan) account given (refused_at plan.first_session (FileExists name)) account given
-  taken_performed taken =
+  taken_ran : is_free_entry (account.entry name) ≡ false → Ran account given plan (refused_at plan.first_session (FileExists name)) account given
+  taken_ran taken =
       subst (λ (first : Statement). IsRun account given plan.first_session first plan.schedule plan.sessions (refused_at plan.first_session (FileExists name)) account given) (sym first_is)
       (run_ends account given plan.first_session (CreateDb name size raw cache) plan.schedule plan.sessions (RefusedReply (FileExists name)) (not_created account given plan.sessions plan.first_session name size raw cache taken))
 
-  taken_fails : (new : World) (e : Stop) → is_free_entry (account.entry name) ≡ false → Quiet old new → RunsTo (Err e) old new (Ok plan) account given
+  taken_fails : (new : World) (e : Stop) → is_free_entry (account.entry name) ≡ false → Quiet old new → RunsTo (Err e) old new (Ok (ToRun plan is_quiet)) account given
   taken_fails new e taken quiet = record {
     events = refused_at plan.first_session (FileExists name);
     last = account;
     left = given;
-    performed = taken_performed taken;
+    performed = performed_refused is_quiet plan account given plan.first_session (FileExists name) account given (taken_ran taken);
     opened = inl tt;
-    stops = left_quietly old new account (target_of (Ok plan) (refused_at plan.first_session (FileExists name))) _ quiet;
+    stops = left_quietly old new account (target_of (Ok (ToRun plan is_quiet)) (refused_at plan.first_session (FileExists name))) _ quiet;
     finished = tt;
   }
 
@@ -102,16 +104,16 @@ module _ (old : World) (account : Account) (given : Given) (plan : Plan) (askabl
     small e = absurd (true_false e)
 
     abbrev es : ℕ → List Event
-    es n = events old account given plan askable first n
+    es n = events old account given plan is_quiet askable first n
 
     abbrev one : Event
-    one = first_one old account given plan askable first
+    one = first_one old account given plan is_quiet askable first
 
     abbrev later : ℕ → List Event
     later n = (turns plan first.now n).0
 
     -- while it is created
-    left_creating : (n : ℕ) (files : Files) (said : List ℕ) → ChangedLeft old (Only name) (CreateLeft old name image) files said → Left old account given plan askable first n files said
+    left_creating : (n : ℕ) (files : Files) (said : List ℕ) → ChangedLeft old (Only name) (CreateLeft old name image) files said → Left old account given plan is_quiet askable first n files said
     unfolding first_created
     left_creating n files said left = ⊎_elim was (⊎_elim unfinished whole) left.has
       where
@@ -124,7 +126,7 @@ module _ (old : World) (account : Account) (given : Given) (plan : Plan) (askabl
         beside : Leaves old (delta_name name) (files (delta_name name))
         beside = left.others (delta_name name) (no_main name name (base_name name fits.0).plain)
 
-        was : Leaves old name (files name) → Left old account given plan askable first n files said
+        was : Leaves old name (files name) → Left old account given plan is_quiet askable first n files said
         was is = record {
           out = out;
           count = 0;
@@ -133,7 +135,7 @@ module _ (old : World) (account : Account) (given : Given) (plan : Plan) (askabl
           others = unasked;
         }
 
-        unfinished : is_free_file (files name) ≡ true → Left old account given plan askable first n files said
+        unfinished : is_free_file (files name) ≡ true → Left old account given plan is_quiet askable first n files said
         unfinished is = record {
           out = out;
           count = 0;
@@ -149,9 +151,11 @@ module _ (old : World) (account : Account) (given : Given) (plan : Plan) (askabl
             ∙ take-append-le (length (steps_in one)) (steps_in one) (steps_of (later n)) (omega arith) ∙ take_all (length (steps_in one)) (steps_in one) (omega arith)
 
         seen : seen_after account name (take (length (steps_in one)) (steps_of (es n))) ≡ settled (base_of image)
-        seen = ap (seen_after account name) cut ∙ first.trail ∙ ap settled (created_base account given plan name size raw cache first_is free)
+        seen =
+            ap (seen_after account name) cut ∙ ap (seen_after account name) (told_first_steps is_quiet (first_event plan.first_session first.strokes first.reply)) ∙ first.trail
+            ∙ ap settled (created_base account given plan name size raw cache first_is free)
 
-        whole : ShowsIn name (base_of image) files → Left old account given plan askable first n files said
+        whole : ShowsIn name (base_of image) files → Left old account given plan is_quiet askable first n files said
         whole is = record {
           out = out;
           count = length (steps_in one);
@@ -164,27 +168,27 @@ module _ (old : World) (account : Account) (given : Given) (plan : Plan) (askabl
         }
 
   -- nothing happened, whatever the run must have been
-  pub creating_unbegun : (new : World) (e : Stop) → Quiet old new → RunsTo (Err e) old new (Ok plan) account given
+  pub creating_unbegun : (new : World) (e : Stop) → Quiet old new → RunsTo (Err e) old new (Ok (ToRun plan is_quiet)) account given
   unfolding first_created
   creating_unbegun new e quiet = by (is_free_entry (account.entry name)) refl
     where
-      by : (free : Bool) → is_free_entry (account.entry name) ≡ free → RunsTo (Err e) old new (Ok plan) account given
-      by true is = first_fails old account given plan askable (first is) new e (inl (small is)) (λ n. left_quietly old new account _ _ quiet)
+      by : (free : Bool) → is_free_entry (account.entry name) ≡ free → RunsTo (Err e) old new (Ok (ToRun plan is_quiet)) account given
+      by true is = first_fails old account given plan is_quiet askable (first is) new e (inl (small is)) (λ n. left_quietly old new account _ _ quiet)
       by false is = taken_fails new e is quiet
 
   module _ (mid : World) (result : Result Held Fault) (creates : Creates result old mid name image) where
-    creating : (free : is_free_entry (account.entry name) ≡ true) (n : ℕ) → AtEachMoment old mid (Left old account given plan askable (first free) n)
+    creating : (free : is_free_entry (account.entry name) ≡ true) (n : ℕ) → AtEachMoment old mid (Left old account given plan is_quiet askable (first free) n)
     creating free n = weaker old mid _ _ creates.left.moments (left_creating free n)
 
-    pub creates_begins : Beginning old account given plan askable mid result
+    pub creates_begins : Beginning old account given plan is_quiet askable mid result
     unfolding first_created
     creates_begins = record { fails = fails; refused = refused; done = done }
       where
-        fails : (e : Stop) → RunsTo (Err e) old mid (Ok plan) account given
+        fails : (e : Stop) → RunsTo (Err e) old mid (Ok (ToRun plan is_quiet)) account given
         fails e = by (is_free_entry (account.entry name)) refl
           where
-            by : (free : Bool) → is_free_entry (account.entry name) ≡ free → RunsTo (Err e) old mid (Ok plan) account given
-            by true is = first_fails old account given plan askable (first is) mid e (inl (small is)) (creating is)
+            by : (free : Bool) → is_free_entry (account.entry name) ≡ free → RunsTo (Err e) old mid (Ok (ToRun plan is_quiet)) account given
+            by true is = first_fails old account given plan is_quiet askable (first is) mid e (inl (small is)) (creating is)
             by false is = taken_fails mid e is (creates.taken (knows ∙ is))
 
         refused : (refusal : Refusal) → result ≡ Err (Refused refusal) → FirstRefused old mid account given plan refusal
@@ -192,14 +196,14 @@ module _ (old : World) (account : Account) (given : Given) (plan : Plan) (askabl
             let answer : CreateAnswers (Err (Refused refusal)) old mid name image = subst (λ (r : Result Held Fault). CreateAnswers r old mid name image) is creates.answer in
             record {
               quiet = creates.taken answer.0;
-              performed = subst (λ (r : Refusal). IsPerformed (Ok plan) account given (refused_at plan.first_session r) account given) (sym answer.1) (taken_performed (sym knows ∙ answer.0));
+              ran = subst (λ (r : Refusal). Ran account given plan (refused_at plan.first_session r) account given) (sym answer.1) (taken_ran (sym knows ∙ answer.0));
               not_usage = λ e. exists_usage (sym answer.1 ∙ e);
             }
           where
             exists_usage : FileExists name ≡ Usage → ⊥
             exists_usage e = cc
 
-        done : (held : Held) → result ≡ Ok held → FirstDone old mid account given plan askable held
+        done : (held : Held) → result ≡ Ok held → FirstDone old mid account given plan is_quiet askable held
         done held is =
             let answer : IsCreated held old mid name image = subst (λ (r : Result Held Fault). CreateAnswers r old mid name image) is creates.answer in
             let free : is_free_entry (account.entry name) ≡ true = sym knows ∙ answer.was_free in

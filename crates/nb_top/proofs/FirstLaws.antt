@@ -1,6 +1,6 @@
 -- The first statement of a run, and the run that comes behind it.
 use Rattle.std.proofs.Common.{◌≡◌, ℕ, List, [], ◌∷◌, ◌++◌, length, true, false, refl, sym, ap, subst, ◌∙◌}
-use Rattle.std.specs.Prelude.{None, Some, Ok}
+use Rattle.std.specs.Prelude.{None, Some}
 use Rattle.nb_fields.specs.Fresh.{fresh, fresh_count}
 use Rattle.nb_model.specs.declared.reply.Reply.{Reply}
 use Rattle.nb_model.specs.declared.reply.Reply.TheVariants.{Pages, Opened}
@@ -20,7 +20,8 @@ use Rattle.nb_model.proofs.OpeningLaws.{IsCreated, created, run_on}
 use Rattle.nb_model.proofs.ReopenLaws.{IsReopened, reopened}
 use Rattle.nb_script.specs.Scripts.{Plan}
 use Rattle.nb_session.specs.Replies.{is_refusal}
-use Rattle.nb_top.specs.Performed.{IsPerformed, Target, first_event, target_named}
+use Rattle.nb_top.specs.Performed.{Target, first_event, target_named}
+use Rattle.nb_top.proofs.ToldLaws.{Ran}
 
 -- the turns behind it
 abbrev pub turns : Plan → Now → ℕ → Played
@@ -41,12 +42,12 @@ pub record First (account : Account) (given : Given) (plan : Plan) : Type 0 wher
   pub given_is : now.given ≡ given
   -- behind it the database stands settled
   pub trail : after_steps (settled (base_in (account.entry target.name))) (steps_in (first_event plan.first_session strokes reply)) ≡ settled (base_now now)
-  pub performed : (n : ℕ) → AreFinished (turns plan now n).1.todo
-      → IsPerformed (Ok plan) account given (first_event plan.first_session strokes reply ∷ (turns plan now n).0) (turns plan now n).1.account (turns plan now n).1.given
+  pub ran : (n : ℕ) → AreFinished (turns plan now n).1.todo
+      → Ran account given plan (first_event plan.first_session strokes reply ∷ (turns plan now n).0) (turns plan now n).1.account (turns plan now n).1.given
 
 -- the plan's first statement is that one
 with_first : (account : Account) (given : Given) (plan : Plan) (first : Statement) → plan.first ≡ first → (events : List Event) (last : Account) (left : Given)
-    → IsRun account given plan.first_session first plan.schedule plan.sessions events last left → IsPerformed (Ok plan) account given events last left
+    → IsRun account given plan.first_session first plan.schedule plan.sessions events last left → Ran account given plan events last left
 with_first account given plan first is events last left runs = subst (λ (s : Statement). IsRun account given plan.first_session s plan.schedule plan.sessions events last left) (sym is) runs
 
 -- a creation and no stroke leave a settled point
@@ -64,9 +65,9 @@ module _ (account : Account) (given : Given) (plan : Plan) (name : List ℕ) whe
     abbrev new_one : IsCreated account given plan.sessions plan.first_session name size raw cache (opening account given plan.sessions plan.first_session (CreateDb name size raw cache))
     new_one = created account given plan.sessions plan.first_session name size raw cache free
 
-    pub created_performed : (n : ℕ) → AreFinished (turns plan new_one.now n).1.todo
-        → IsPerformed (Ok plan) account given (first_event plan.first_session (make (fresh size raw) ∷ []) (Pages (fresh_count size raw)) ∷ (turns plan new_one.now n).0) (turns plan new_one.now n).1.account (turns plan new_one.now n).1.given
-    created_performed n finished =
+    pub created_ran : (n : ℕ) → AreFinished (turns plan new_one.now n).1.todo
+        → Ran account given plan (first_event plan.first_session (make (fresh size raw) ∷ []) (Pages (fresh_count size raw)) ∷ (turns plan new_one.now n).0) (turns plan new_one.now n).1.account (turns plan new_one.now n).1.given
+    created_ran n finished =
         let played : Played = turns plan new_one.now n in
         with_first account given plan (CreateDb name size raw cache) first_is _ played.1.account played.1.given
         (subst (λ (event : Event). IsRun account given plan.first_session (CreateDb name size raw cache) plan.schedule plan.sessions (event ∷ played.0) played.1.account played.1.given) new_one.event
@@ -86,7 +87,7 @@ module _ (account : Account) (given : Given) (plan : Plan) (name : List ℕ) whe
       running = new_one.running;
       given_is = new_one.given_is;
       trail = made_trail (base_in (account.entry name)) (fresh size raw) plan.first_session (Pages (fresh_count size raw)) ∙ ap settled (sym new_one.base);
-      performed = created_performed;
+      ran = created_ran;
     }
 
     pub created_base : base_now first_created.now ≡ base_of (fresh size raw)
@@ -98,9 +99,9 @@ module _ (account : Account) (given : Given) (plan : Plan) (name : List ℕ) whe
     abbrev again : IsReopened account given plan.sessions plan.first_session name b (opening account given plan.sessions plan.first_session (OpenDb name cache))
     again = reopened account given plan.sessions plan.first_session name cache b there
 
-    pub opened_performed : (n : ℕ) → AreFinished (turns plan again.now n).1.todo
-        → IsPerformed (Ok plan) account given (first_event plan.first_session [] (Opened (length b.image) (image_state b.image)) ∷ (turns plan again.now n).0) (turns plan again.now n).1.account (turns plan again.now n).1.given
-    opened_performed n finished =
+    pub opened_ran : (n : ℕ) → AreFinished (turns plan again.now n).1.todo
+        → Ran account given plan (first_event plan.first_session [] (Opened (length b.image) (image_state b.image)) ∷ (turns plan again.now n).0) (turns plan again.now n).1.account (turns plan again.now n).1.given
+    opened_ran n finished =
         let played : Played = turns plan again.now n in
         with_first account given plan (OpenDb name cache) first_is _ played.1.account played.1.given
         (subst (λ (event : Event). IsRun account given plan.first_session (OpenDb name cache) plan.schedule plan.sessions (event ∷ played.0) played.1.account played.1.given) again.event
@@ -120,7 +121,7 @@ module _ (account : Account) (given : Given) (plan : Plan) (name : List ℕ) whe
       running = again.running;
       given_is = again.given_is;
       trail = kept_trail (base_in (account.entry name)) plan.first_session (Opened (length b.image) (image_state b.image)) ∙ ap (λ e. settled (base_in e)) there ∙ ap settled (base_in_base b) ∙ ap settled (sym again.base);
-      performed = opened_performed;
+      ran = opened_ran;
     }
 
     pub opened_base : base_now first_opened.now ≡ b

@@ -1,6 +1,6 @@
 -- A job is done, from the words to its end.
-use Rattle.std.proofs.Common.{◌≡◌, ◌≢◌, inl, ⊎_elim, ℕ, List, ◌++◌, take, refl, sym, ap, subst, ◌∙◌}
-use Rattle.std.specs.Prelude.{Result, Ok, Err, Option, Some, None, IfOk, IfErr, OnOk}
+use Rattle.std.proofs.Common.{◌≡◌, ◌≢◌, inl, inr, ⊎_elim, ℕ, List, [], ◌∷◌, ◌++◌, take, refl, sym, ap, subst, ◌∙◌}
+use Rattle.std.specs.Prelude.{false, Result, Ok, Err, IfOk, IfErr, OnOk}
 use Rattle.nb_host.specs.Files.{File, Files}
 use Rattle.nb_host.specs.World.{World}
 use Rattle.nb_host.specs.Crash.{Leaves}
@@ -9,62 +9,39 @@ use Rattle.nb_host.specs.declared.refusals.Refusal.{Refusal}
 use Rattle.nb_host.specs.declared.refusals.Refusal.TheVariants.{Usage}
 use Rattle.nb_change.proofs.MomentLaws.{weaker}
 use Rattle.nb_page.specs.Quiet.{Quiet}
-use Rattle.nb_model.specs.declared.job.Job.{Job}
-use Rattle.nb_model.specs.declared.job.Job.TheVariants.{Run}
 use Rattle.nb_model.specs.declared.reply.Reply.TheVariants.{Refused as RefusedReply}
 use Rattle.nb_model.specs.Account.{Account}
+use Rattle.nb_model.specs.Jobs.{restore_turn, account_behind}
 use Rattle.nb_model.specs.Lines.{line_text}
 use Rattle.nb_model.specs.Outcomes.{Given}
 use Rattle.nb_model.specs.Output.{status_after}
+use Rattle.nb_model.specs.Run.{Event}
 use Rattle.nb_model.specs.Steps.{steps_of}
 use Rattle.nb_model.proofs.TodoLaws.{status_refused}
-use Rattle.nb_script.specs.Asked.{IsAskable}
 use Rattle.nb_script.specs.Scripts.{Plan}
-use Rattle.nb_script.proofs.AskedLemmas.{answer_is_askable}
 use Rattle.nb_session.specs.declared.stop.Stop.{Stop}
 use Rattle.nb_session.specs.Says.{SaysLine}
 use Rattle.nb_top.specs.declared.status.Status.{Status}
-use Rattle.nb_top.specs.declared.status.Status.TheVariants.{Refused as RefusedStatus, Device, Memory}
-use Rattle.nb_top.specs.Jobs.{job_of}
-use Rattle.nb_top.specs.Performed.{HoldsKept, RunStands, RunsTo, Performs, Finished, IsSure, IsUndone, Knows, StandsFor, kept_after, target_of, number_of, refused_job, script_in, script_of_job, script_asked}
+use Rattle.nb_top.specs.declared.status.Status.TheVariants.{Refused as RefusedStatus, Usage as UsageStatus, Device, Memory}
+use Rattle.nb_top.specs.Performed.{HasSmallScn, HoldsKept, RunLeft, RunStands, RunsTo, Performs, Finished, IsPerformed, IsSure, IsUndone, Knows, RestoresKept, StandsFor, kept_after, target_of, number_of, refused_job}
+use Rattle.nb_top.specs.Requests.{Request, ToRun, ToRestore, request_asked, script_in, to_run}
 use Rattle.nb_top.proofs.LeftLaws.{left_first, first_count}
 use Rattle.nb_top.proofs.QuietRuns.{left_quietly}
 use Rattle.nb_top.proofs.RefusedRuns.{refused_runs}
+use Rattle.nb_top.proofs.RequestLaws.{CanBeAsked, askable_in, can_be_asked}
+use Rattle.nb_top.proofs.RestoredRuns.{restored_left, restored_end, restores_kept}
 use Rattle.nb_top.proofs.ScriptRead.{refused_script}
 use Rattle.nb_top.proofs.ScriptRuns.{script_unbegun}
-use Rattle.nb_top.proofs.SureFiles.{kept_none}
-use Rattle.nb_top.proofs.SureRuns.{sure_left, sure_end}
-
--- a script that a file spells can be asked
-askable_in : (name : List ℕ) (file : File) (plan : Plan) → script_in name file ≡ Ok plan → IsAskable plan
-askable_in name None plan is = absurd (err_ok is)
-  where
-    err_ok : script_in name None ≡ Ok plan → ⊥
-    err_ok h = cc
-askable_in name (Some bytes) plan is = answer_is_askable bytes (Ok plan) is
-
-err_plan : (refusal : Refusal) (plan : Plan) → Err refusal ≡ Ok plan → ⊥
-err_plan refusal plan h = cc
-
--- so can the script that words ask for
-pub askable_asked : (files : Files) (words : List (List ℕ)) (plan : Plan) → script_asked files words ≡ Ok plan → IsAskable plan
-askable_asked files words plan = by (job_of words)
-  where
-    of_job : (job : Job) → script_of_job files job ≡ Ok plan → IsAskable plan
-    of_job (Run name) is = askable_in name (files name) plan is
-    of_job other is = absurd (err_plan Usage plan is)
-
-    by : (job : Option Job) → elim job as (λ z. Result Plan Refusal) [ None ↦ Err Usage | Some job ↦ script_of_job files job ] ≡ Ok plan → IsAskable plan
-    by None is = absurd (err_plan Usage plan is)
-    by (Some job) is = of_job job is
+use Rattle.nb_top.proofs.SureFiles.{kept_none, still_stands}
+use Rattle.nb_top.proofs.SureRuns.{script_left, script_end}
 
 -- its file wasn't read
-pub unread_runs : (old new : World) (name : List ℕ) (file : File) (account : Account) (given : Given) (e : Stop) → Knows old.files account (script_in name file) → Quiet old new → RunsTo (Err e) old new (script_in name file) account given
-unread_runs old new name file account given e knows quiet = by (script_in name file) refl
+pub unread_runs : (old new : World) (name : List ℕ) (file : File) (account : Account) (given : Given) (e : Stop) → Knows old.files account (to_run (script_in name file)) → Quiet old new → RunsTo (Err e) old new (to_run (script_in name file)) account given
+unread_runs old new name file account given e knows quiet = by (script_in name file) refl knows
   where
-    by : (asked : Result Plan Refusal) → script_in name file ≡ asked → RunsTo (Err e) old new asked account given
-    by (Ok plan) is = script_unbegun old account given plan (askable_in name file plan is) (subst (Knows old.files account) is knows) new e quiet
-    by (Err refusal) is = record {
+    by : (read : Result Plan Refusal) → script_in name file ≡ read → Knows old.files account (to_run read) → RunsTo (Err e) old new (to_run read) account given
+    by (Ok plan) is known = script_unbegun old account given plan false (askable_in name file plan is) known new e quiet
+    by (Err refusal) is known = record {
       events = refused_job refusal;
       last = account;
       left = given;
@@ -74,25 +51,81 @@ unread_runs old new name file account given e knows quiet = by (script_in name f
       finished = tt;
     }
 
+-- The words weren't read, for want of memory.
+module _ (old : World) (account : Account) (given : Given) (e : Stop) (quiet : Quiet old old) where
+  refused_unasked : (refusal : Refusal) → RunsTo (Err e) old old (Err refusal) account given
+  refused_unasked refusal = record {
+    events = refused_job refusal;
+    last = account;
+    left = given;
+    performed = (refl, refl, refl);
+    opened = inl tt;
+    stops = left_quietly old old account (target_of (Err refusal) (refused_job refusal)) (refused_job refusal) quiet;
+    finished = tt;
+  }
+
+  request_unasked : (r : Request) → CanBeAsked r → Knows old.files account (Ok r) → RunsTo (Err e) old old (Ok r) account given
+  request_unasked (ToRun plan is_quiet) can knows = script_unbegun old account given plan is_quiet can knows old e quiet
+  request_unasked (ToRestore db names) can knows = record {
+    events = restore_turn old.files account db names ∷ [];
+    last = account_behind db (restore_turn old.files account db names) account;
+    left = given;
+    performed = (refl, refl, refl);
+    opened = inr quiet;
+    stops = left_quietly old old account (target_of (Ok (ToRestore db names)) (restore_turn old.files account db names ∷ [])) (restore_turn old.files account db names ∷ []) quiet;
+    finished = tt;
+  }
+
+  pub unasked_runs : (words : List (List ℕ)) → Knows old.files account (request_asked old.files words) → RunsTo (Err e) old old (request_asked old.files words) account given
+  unasked_runs words = by (request_asked old.files words) refl
+    where
+      by : (asked : Result Request Refusal) → request_asked old.files words ≡ asked → Knows old.files account asked → RunsTo (Err e) old old asked account given
+      by (Err refusal) is knows = refused_unasked refusal
+      by (Ok r) is knows = request_unasked r (can_be_asked old.files r words is) knows
+
 -- a refusal to session 0
-pub job_refused : {S E : Type 0} (told : Result S E) (result : Result Status Stop) (old new : World) (asked : Result Plan Refusal) (refusal : Refusal) (account : Account) (given : Given) → asked ≡ Err refusal
+pub job_refused : {S E : Type 0} (told : Result S E) (result : Result Status Stop) (old new : World) (asked : Result Request Refusal) (refusal : Refusal) (account : Account) (given : Given) → asked ≡ Err refusal
     → SaysLine told old new (line_text 0 (RefusedReply refusal)) → IfOk result (λ status. number_of status ≡ status_after (RefusedReply refusal)) → OnOk result (new.said ≡ old.said ++ line_text 0 (RefusedReply refusal)) → RunsTo result old new asked account given
 job_refused told result old new asked refusal account given is says number said =
-    subst (λ (a : Result Plan Refusal). RunsTo result old new a account given) (sym is) (refused_runs old new 0 refusal account given (Err refusal) told result (refl, refl, refl) says number said)
+    subst (λ (a : Result Request Refusal). RunsTo result old new a account given) (sym is) (refused_runs old new 0 refusal account given (Err refusal) told result (refl, refl, refl) says number said)
 
 -- of a script
 pub script_number : (name : List ℕ) (file : File) (refusal : Refusal) → script_in name file ≡ Err refusal → (result : Result Status Stop) → IfOk result (λ status. status ≡ RefusedStatus) → IfOk result (λ status. number_of status ≡ status_after (RefusedReply refusal))
 script_number name file refusal is (Ok status) ended = ap number_of ended ∙ sym (status_refused refusal (refused_script name file refusal is))
 script_number name file refusal is (Err e) ended = tt
 
--- which script the words ask for
-pub asked_usage : (files : Files) (words : List (List ℕ)) → None ≡ job_of words → script_asked files words ≡ Err Usage
-asked_usage files words is = ap (λ (j : Option Job). elim j as (λ z. Result Plan Refusal) [ None ↦ Err Usage | Some job ↦ script_of_job files job ]) (sym is)
+-- of words that name no job
+pub usage_number : (result : Result Status Stop) → IfOk result (λ status. status ≡ UsageStatus) → IfOk result (λ status. number_of status ≡ status_after (RefusedReply Usage))
+usage_number (Ok status) ended = ap number_of ended
+usage_number (Err e) ended = tt
 
-pub asked_job : (files : Files) (words : List (List ℕ)) (job : Job) → Some job ≡ job_of words → script_asked files words ≡ script_of_job files job
-asked_job files words job is = ap (λ (j : Option Job). elim j as (λ z. Result Plan Refusal) [ None ↦ Err Usage | Some k ↦ script_of_job files k ]) (sym is)
+-- Where it is sure, what a stop leaves stands for an account.
+module _ (old : World) (account : Account) (given : Given) (before : (name : List ℕ) → Leaves old name (old.files name)) (events : List Event) (last : Account) (left : Given) where
+  sure_left : (asked : Result Request Refusal) → ((r : Request) → asked ≡ Ok r → CanBeAsked r) → IsPerformed old.files asked account given events last left → IsSure old account asked events → HasSmallScn account (target_of asked events)
+      → (files : Files) (said : List ℕ) (l : RunLeft old account (target_of asked events) events files said) → HoldsKept files (kept_after account (target_of asked events) (take l.count (steps_of events)))
+  sure_left (Err refusal) allowed performed sure small files said l = sure.stands.left files (λ m. l.others m tt)
+  sure_left (Ok (ToRun plan is_quiet)) allowed performed sure small files said l = script_left old plan is_quiet (allowed (ToRun plan is_quiet) refl) account given before events last left performed sure small files said l
+  sure_left (Ok (ToRestore db names)) allowed performed sure small files said l = restored_left old db names account given (allowed (ToRestore db names) refl) before events last left performed sure files said l
 
-module _ (old new : World) (asked : Result Plan Refusal) (askable : (plan : Plan) → asked ≡ Ok plan → IsAskable plan) (account : Account) (given : Given) (before : (name : List ℕ) → Leaves old name (old.files name))
+  -- at its end
+  sure_end : (asked : Result Request Refusal) → ((r : Request) → asked ≡ Ok r → CanBeAsked r) → IsPerformed old.files asked account given events last left → IsSure old account asked events → HasSmallScn account (target_of asked events)
+      → (new : World) → IsTimely new → ((name : List ℕ) → Leaves new name (new.files name)) → AtEachMoment old new (RunLeft old account (target_of asked events) events) → (status : Status)
+      → Finished status old new account (target_of asked events) events given left → StandsFor new last
+  sure_end (Err refusal) allowed performed sure small new timely reads stops status done =
+      subst (StandsFor new) (sym performed.1)
+      (still_stands old new account sure.stands reads (λ m. done.others m tt) (λ files leaves m. (stops.each files new.said (timely.counts_now old.moment files stops.later leaves)).others m tt))
+  sure_end (Ok (ToRun plan is_quiet)) allowed performed sure small new timely reads stops status done =
+      script_end old plan is_quiet (allowed (ToRun plan is_quiet) refl) account given before events last left performed sure small new timely reads stops status done
+  sure_end (Ok (ToRestore db names)) allowed performed sure small new timely reads stops status done =
+      restored_end old db names account given (allowed (ToRestore db names) refl) before events last left performed sure new timely reads status stops done
+
+  -- what is restored
+  sure_kept : (asked : Result Request Refusal) → ((r : Request) → asked ≡ Ok r → CanBeAsked r) → IsSure old account asked events → RestoresKept old.files account.kept asked
+  sure_kept (Err refusal) allowed sure = tt
+  sure_kept (Ok (ToRun plan is_quiet)) allowed sure = tt
+  sure_kept (Ok (ToRestore db names)) allowed sure = restores_kept old db names account (allowed (ToRestore db names) refl) events sure
+
+module _ (old new : World) (asked : Result Request Refusal) (allowed : (r : Request) → asked ≡ Ok r → CanBeAsked r) (account : Account) (given : Given) (before : (name : List ℕ) → Leaves old name (old.files name))
     (timely : IsTimely new) (reads : (name : List ℕ) → Leaves new name (new.files name)) where
   abbrev Runs : Result Status Stop → Type 0
   Runs result = RunsTo result old new asked account given
@@ -110,17 +143,17 @@ module _ (old new : World) (asked : Result Plan Refusal) (askable : (plan : Plan
       → (status ≢ Device → status ≢ Memory → IfErr result (λ e. ⊥) × Finished status old new account (target_of asked runs.events) runs.events given runs.left) → Performs status old new asked account given
   performs status result runs ends = ⊎_elim
       (λ small.
-      with_stops (weaker old new _ _ runs.stops (λ files said left. record { left = left; stands = λ sure. sure_left old asked askable account given before runs.events runs.last runs.left runs.performed sure small files said left }))
-      (λ d m sure. sure_end old asked askable account given before runs.events runs.last runs.left runs.performed sure small new timely reads runs.stops status (ends d m).1))
+      with_stops (weaker old new _ _ runs.stops (λ files said left. record { left = left; stands = λ sure. sure_left old account given before runs.events runs.last runs.left asked allowed runs.performed sure small files said left }))
+      (λ d m sure. sure_end old account given before runs.events runs.last runs.left asked allowed runs.performed sure small new timely reads runs.stops status (ends d m).1))
       (λ undone.
       with_stops (weaker old new _ _ (undone_quiet result undone).moments nothing_left)
       (λ d m. never_ended result undone (ends d m).0))
       runs.opened
     where
       At : Files → List ℕ → Type 0
-      At = RunStands old account (target_of asked runs.events) runs.events
+      At = RunStands old account asked runs.events
 
-      with_stops : AtEachMoment old new At → (status ≢ Device → status ≢ Memory → IsSure old account runs.events → StandsFor new runs.last) → Performs status old new asked account given
+      with_stops : AtEachMoment old new At → (status ≢ Device → status ≢ Memory → IsSure old account asked runs.events → StandsFor new runs.last) → Performs status old new asked account given
       with_stops stops ended = record {
         events = runs.events;
         last = runs.last;
@@ -130,6 +163,7 @@ module _ (old new : World) (asked : Result Plan Refusal) (askable : (plan : Plan
         now = stops.each new.files new.said (timely.counts_now old.moment new.files stops.later reads);
         finished = λ d m. (ends d m).1;
         stands = ended;
+        restores = sure_kept old account given before runs.events runs.last runs.left asked allowed;
       }
 
       nothing_left : (files : Files) (said : List ℕ) → IsNow old files said → At files said

@@ -16,4 +16,9 @@ pub mod WellRuns
 pub mod SureFiles
 pub mod SureRuns
 pub mod JobRuns
-pub mod JobLemmas
+pub mod RequestLaws
+pub mod ToldLaws
+pub mod ChainRefusals
+pub mod RestoreTurns
+pub mod RestoringRuns
+pub mod RestoredRuns

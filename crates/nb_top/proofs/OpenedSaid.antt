@@ -1,4 +1,4 @@
--- The first reply of a run is said, and then turns are taken.
+-- The first reply of a run is said, if it says one, and then turns are taken.
 use Rattle.std.proofs.Common.{◌≡◌, ℕ, List, [], ◌∷◌, ◌++◌, Bool, false, length, take, refl, sym, ap, subst, ◌∙◌, arith}
 use Rattle.std.specs.Prelude.{Result, Ok, Err}
 use Rattle.std.specs.Result.{IsErr}
@@ -10,17 +10,11 @@ use Rattle.nb_host.specs.Crash.{Untouched}
 use Rattle.nb_host.specs.Moments.{AtEachMoment}
 use Rattle.nb_change.specs.Changes.{Other}
 use Rattle.nb_change.proofs.MomentLaws.{weaker, untouched_fewer}
-use Rattle.nb_model.specs.declared.reply.Reply.{Reply}
-use Rattle.nb_model.specs.declared.statement.Statement.{Statement}
-use Rattle.nb_model.specs.declared.statement.Statement.TheVariants.{OpenDb}
 use Rattle.nb_model.specs.Account.{Base}
-use Rattle.nb_model.specs.Lines.{line_text}
-use Rattle.nb_model.specs.Output.{output, status_after}
-use Rattle.nb_model.specs.Run.{Event, Now, Played, base_now, begun}
+use Rattle.nb_model.specs.Output.{output, status_of}
+use Rattle.nb_model.specs.Run.{Event, Now, Played, base_now, begun, replies_of}
 use Rattle.nb_model.specs.Steps.{after_steps, steps_in, steps_of}
-use Rattle.nb_model.specs.Strokes.{Stroke}
 use Rattle.nb_model.specs.Trail.{Trail, StandsIn, settled}
-use Rattle.nb_model.proofs.OutputLaws.{output_one, status_one}
 use Rattle.nb_model.proofs.StepsLaws.{steps_one, acked_steps_most}
 use Rattle.nb_base.specs.Open.{OfFiles}
 use Rattle.nb_state.specs.Open.{Held, name_of}
@@ -34,7 +28,7 @@ use Rattle.nb_session.specs.Todo.{PlaysWhole}
 use Rattle.nb_session.proofs.EventLaws.{open_stays}
 use Rattle.nb_session.proofs.GiftLaws.{given_nothing}
 use Rattle.nb_session.proofs.PlayLaws.{plays_then, plays_failed, plays_cut}
-use Rattle.nb_top.specs.Performed.{PlaysOpened, first_event}
+use Rattle.nb_top.specs.Performed.{PlaysOpened}
 use Rattle.nb_session.proofs.EndLaws.{HasEnd, turns_end}
 use Rattle.nb_top.proofs.FirstLaws.{turns}
 use Rattle.nb_top.proofs.RefusedRuns.{take_self}
@@ -52,19 +46,10 @@ pub ready_still : (old mid : World) (held : Held) (now : Now) → IsStill old mi
 ready_still old mid held now still ready = record { opened = open_stays old mid held (settled (base_now now)) still ready.opened; base = ready.base; named = ready.named; running = ready.running }
 
 module _ (old mid new : World) (held after : Held) (start : Base) (now : Now) (plan : Plan) (askable : IsAskable plan) (ready : IsReady old held (settled (base_now now)) now) (todo : now.todo ≡ begun plan.sessions)
-    (strokes : List Stroke) (reply : Reply) (trail : after_steps (settled start) (steps_in (first_event plan.first_session strokes reply)) ≡ settled (base_now now))
-    {S E : Type 0} (told : Result S E) (says : SaysLine told old mid (line_text plan.first_session reply)) where
-  abbrev event : Event
-  event = first_event plan.first_session strokes reply
-
-  abbrev line : List ℕ
-  line = line_text plan.first_session reply
-
+    (event : Event) (line : List ℕ) (output_is : output (event ∷ []) ≡ line) (trail : after_steps (settled start) (steps_in event) ≡ settled (base_now now))
+    {S E : Type 0} (told : Result S E) (says : SaysLine told old mid line) where
   abbrev one : Played
   one = (event ∷ [], now)
-
-  output_is : output (event ∷ []) ≡ line
-  output_is = output_one event reply refl
 
   trail_is : after_steps (settled start) (steps_of (event ∷ [])) ≡ settled (base_now now)
   trail_is = ap (after_steps (settled start)) (steps_one event) ∙ trail
@@ -105,7 +90,7 @@ module _ (old mid new : World) (held after : Held) (start : Base) (now : Now) (p
   ready_mid = ready_still old mid held now says.still ready
 
   -- it was
-  reply_said : status_after reply ≡ 0 → mid.said ≡ old.said ++ line → Plays (Ok false) old mid held held (settled start) now one
+  reply_said : status_of (replies_of (event ∷ [])) ≡ 0 → mid.said ≡ old.said ++ line → Plays (Ok false) old mid held held (settled start) now one
   reply_said fine said = record {
     stops = stops;
     others = untouched;
@@ -114,13 +99,13 @@ module _ (old mid new : World) (held after : Held) (start : Base) (now : Now) (p
     done = record {
       ready = subst (λ (t : Trail). IsReady mid held t now) (sym trail_is) ready_mid;
       said = said ∙ ap (λ (l : List ℕ). old.said ++ l) (sym output_is);
-      status = status_one event reply refl ∙ fine;
+      status = fine;
       given = given_nothing old mid now.given now.given says.gave refl;
     };
   }
 
   -- turns behind it
-  pub reply_said_then : status_after reply ≡ 0 → mid.said ≡ old.said ++ line → (result : Result Bool Stop) → PlaysWhole result mid new held after (settled (base_now now)) now plan.schedule → PlaysOpened result old new held after start event now plan
+  pub reply_said_then : status_of (replies_of (event ∷ [])) ≡ 0 → mid.said ≡ old.said ++ line → (result : Result Bool Stop) → PlaysWhole result mid new held after (settled (base_now now)) now plan.schedule → PlaysOpened result old new held after start event now plan
   reply_said_then fine said (Ok refused) whole = record {
     how_often = whole.how_often;
     plays = plays_then old mid new held held after (settled start) now one (turns plan now whole.how_often) false refused (reply_said fine said)
@@ -133,8 +118,3 @@ module _ (old mid new : World) (held after : Held) (start : Base) (now : Now) (p
         (subst (λ (t : Trail). Plays (Err e) mid new held after t now (turns plan now whole.how_often)) (sym trail_is) whole.plays);
     finished = whole.finished;
   }
-
--- no reply of a database that is open is a refusal
-pub opened_fine : (first : Statement) (pages state : ℕ) → status_after (Rattle.nb_top.specs.Performed.opened_reply first pages state) ≡ 0
-opened_fine (OpenDb name cache) pages state = refl
-opened_fine other pages state = refl

@@ -14,11 +14,11 @@ use Rattle.nb_model.specs.Gifts.{Foretells, WasGiven}
 use Rattle.nb_model.specs.Outcomes.{Given}
 use Rattle.nb_model.specs.Output.{output}
 use Rattle.nb_model.specs.Run.{Event}
-use Rattle.nb_script.specs.Scripts.{Plan}
 use Rattle.nb_session.specs.declared.stop.Stop.{Stop}
 use Rattle.nb_session.proofs.GiftLaws.{given_nothing, given_joined}
 use Rattle.nb_top.specs.declared.status.Status.{Status}
-use Rattle.nb_top.specs.Performed.{RunLeft, RunsTo, Finished, IsUndone, Knows, Target, target_of}
+use Rattle.nb_top.specs.Performed.{RunLeft, RunsTo, Finished, IsPerformed, IsUndone, Knows, Target, target_of}
+use Rattle.nb_top.specs.Requests.{Request}
 use Rattle.nb_top.proofs.LeftLaws.{left_first, left_before_all}
 
 -- nothing may be given
@@ -47,7 +47,7 @@ pub given_from : (old mid new : World) (given left : Given) → GaveNothing old 
 given_from old mid new given left none gave = given_joined old mid new given given left (given_nothing old mid given given none refl) gave
 
 -- where no file changes, the account knows of them what it knew
-pub knows_quietly : (old mid : World) (account : Account) (asked : Result Plan Refusal) → Quiet old mid → Knows old.files account asked → Knows mid.files account asked
+pub knows_quietly : (old mid : World) (account : Account) (asked : Result Request Refusal) → Quiet old mid → Knows old.files account asked → Knows mid.files account asked
 knows_quietly old mid account asked quiet knows = subst (λ (f : Files). Knows f account asked) (sym quiet.still.files) knows
 
 module _ (old mid new : World) (account : Account) (target : Option Target) (events : List Event) (quiet : Quiet old mid) where
@@ -72,12 +72,12 @@ undone_quietly : (old mid new : World) (result : Result Status Stop) → Quiet o
 undone_quietly old mid new (Ok status) quiet undone = undone
 undone_quietly old mid new (Err e) quiet undone = quiet_joined old mid new quiet undone
 
-pub runs_quietly : (result : Result Status Stop) (old mid new : World) (asked : Result Plan Refusal) (account : Account) (given : Given) → Quiet old mid → RunsTo result mid new asked account given → RunsTo result old new asked account given
+pub runs_quietly : (result : Result Status Stop) (old mid new : World) (asked : Result Request Refusal) (account : Account) (given : Given) → Quiet old mid → RunsTo result mid new asked account given → RunsTo result old new asked account given
 runs_quietly result old mid new asked account given quiet runs = record {
   events = runs.events;
   last = runs.last;
   left = runs.left;
-  performed = runs.performed;
+  performed = subst (λ (f : Files). IsPerformed f asked account given runs.events runs.last runs.left) quiet.still.files runs.performed;
   opened = ⊎_elim inl (λ undone. inr (undone_quietly old mid new result quiet undone)) runs.opened;
   stops = stops_quietly old mid new account (target_of asked runs.events) runs.events quiet runs.stops;
   finished = finished_quietly old mid new account (target_of asked runs.events) runs.events quiet result given runs.left runs.finished;

@@ -15,12 +15,12 @@ use Rattle.nb_model.specs.Steps.{steps_of}
 use Rattle.nb_model.specs.Output.{status_after}
 use Rattle.nb_model.proofs.OutputLaws.{output_one, status_one}
 use Rattle.nb_model.proofs.StepsLaws.{acked_steps_most}
-use Rattle.nb_script.specs.Scripts.{Plan}
 use Rattle.nb_session.specs.declared.stop.Stop.{Stop}
 use Rattle.nb_session.specs.Says.{FrontSaid, SaysLine}
 use Rattle.nb_session.proofs.GiftLaws.{given_nothing}
 use Rattle.nb_top.specs.declared.status.Status.{Status}
 use Rattle.nb_top.specs.Performed.{RunLeft, RunsTo, Finished, HasSmallScn, IsPerformed, Target, first_event, target_of, number_of}
+use Rattle.nb_top.specs.Requests.{Request}
 
 -- what is taken of a list is a front of it
 pub take_self : (n : ℕ) (l : List ℕ) → take n l ≡ take (length (take n l)) l
@@ -28,7 +28,7 @@ take_self zero l = refl
 take_self (suc n) [] = refl
 take_self (suc n) (x ∷ l) = ap (λ (k : List ℕ). x ∷ k) (take_self n l)
 
-module _ (old new : World) (session : ℕ) (refusal : Refusal) (account : Account) (given : Given) (asked : Result Plan Refusal) where
+module _ (old new : World) (session : ℕ) (refusal : Refusal) (account : Account) (given : Given) (asked : Result Request Refusal) where
   abbrev event : Event
   event = first_event session [] (Refused refusal)
 
@@ -36,8 +36,8 @@ module _ (old new : World) (session : ℕ) (refusal : Refusal) (account : Accoun
   none_asked : target_of asked (event ∷ []) ≡ None
   none_asked = by asked
     where
-      by : (a : Result Plan Refusal) → target_of a (event ∷ []) ≡ None
-      by (Ok plan) = refl
+      by : (a : Result Request Refusal) → target_of a (event ∷ []) ≡ None
+      by (Ok request) = refl
       by (Err r) = refl
 
   -- a front of its line was said
@@ -63,7 +63,7 @@ module _ (old new : World) (session : ℕ) (refusal : Refusal) (account : Accoun
   }
   refused_finished told (Err e) says number said = tt
 
-  pub refused_runs : {S E : Type 0} (told : Result S E) (result : Result Status Stop) → IsPerformed asked account given (event ∷ []) account given → SaysLine told old new (line_text session (Refused refusal))
+  pub refused_runs : {S E : Type 0} (told : Result S E) (result : Result Status Stop) → IsPerformed old.files asked account given (event ∷ []) account given → SaysLine told old new (line_text session (Refused refusal))
       → IfOk result (λ status. number_of status ≡ status_after (Refused refusal)) → OnOk result (new.said ≡ old.said ++ line_text session (Refused refusal)) → RunsTo result old new asked account given
   refused_runs told result performed says number said = record {
     events = event ∷ [];

@@ -1,6 +1,6 @@
 -- A run whose first statement opens its database.
 use Rattle.std.proofs.Common.{◌≡◌, inl, inr, ℕ, ◌<◌, List, refl, sym, ap, subst, ◌∙◌}
-use Rattle.std.specs.Prelude.{Result, Ok, Err, IfOk}
+use Rattle.std.specs.Prelude.{Bool, Result, Ok, Err, IfOk}
 use Rattle.nb_host.specs.World.{World}
 use Rattle.nb_host.specs.declared.faults.Fault.{Fault}
 use Rattle.nb_host.specs.declared.faults.Fault.TheVariants.{Refused}
@@ -26,17 +26,19 @@ use Rattle.nb_state.specs.Open.{Held, IsOpen}
 use Rattle.nb_script.specs.Asked.{IsAskable}
 use Rattle.nb_script.specs.Scripts.{Plan}
 use Rattle.nb_session.specs.declared.stop.Stop.{Stop}
-use Rattle.nb_top.specs.Performed.{RunsTo, HoldsUnder, IsPerformed, opened_reply, refused_at}
+use Rattle.nb_top.specs.Performed.{RunsTo, HoldsUnder, opened_reply, refused_at}
+use Rattle.nb_top.specs.Requests.{ToRun}
 use Rattle.nb_top.proofs.QuietRuns.{left_quietly, quiet_gave}
 use Rattle.nb_top.proofs.FirstLaws.{First, first_opened, opened_base}
 use Rattle.nb_top.proofs.BegunRuns.{first_fails}
 use Rattle.nb_top.proofs.Beginnings.{Beginning, FirstRefused, FirstDone}
+use Rattle.nb_top.proofs.ToldLaws.{Ran, performed_refused}
 use Rattle.nb_top.proofs.OpenLaws.{shown_entry, refused_entry, owner_never_usage}
 
-module _ (old : World) (account : Account) (given : Given) (plan : Plan) (askable : IsAskable plan) (name : List ℕ) (cache : ℕ) (first_is : plan.first ≡ OpenDb name cache) (knows : HoldsUnder old.files account name) where
+module _ (old : World) (account : Account) (given : Given) (plan : Plan) (is_quiet : Bool) (askable : IsAskable plan) (name : List ℕ) (cache : ℕ) (first_is : plan.first ≡ OpenDb name cache) (knows : HoldsUnder old.files account name) where
   -- what the call tells is what the run must say
-  refused_performed : (refusal : Refusal) → owner name (old.files name) (old.files (delta_name name)) ≡ Err refusal → IsPerformed (Ok plan) account given (refused_at plan.first_session refusal) account given
-  refused_performed refusal is =
+  refused_ran : (refusal : Refusal) → owner name (old.files name) (old.files (delta_name name)) ≡ Err refusal → Ran account given plan (refused_at plan.first_session refusal) account given
+  refused_ran refusal is =
       subst (λ (first : Statement). IsRun account given plan.first_session first plan.schedule plan.sessions (refused_at plan.first_session refusal) account given) (sym first_is)
       (run_ends account given plan.first_session (OpenDb name cache) plan.schedule plan.sessions (RefusedReply refusal)
       (not_reopened account given plan.sessions plan.first_session name cache refusal
@@ -46,32 +48,32 @@ module _ (old : World) (account : Account) (given : Given) (plan : Plan) (askabl
   there b opens = knows.same ∙ shown_entry old.files name b opens
 
   -- nothing happened, whatever the run must have been
-  pub open_fails : (new : World) (e : Stop) → Quiet old new → RunsTo (Err e) old new (Ok plan) account given
+  pub open_fails : (new : World) (e : Stop) → Quiet old new → RunsTo (Err e) old new (Ok (ToRun plan is_quiet)) account given
   open_fails new e quiet = by (owner name (old.files name) (old.files (delta_name name))) refl
     where
-      by : (answer : Result Base Refusal) → owner name (old.files name) (old.files (delta_name name)) ≡ answer → RunsTo (Err e) old new (Ok plan) account given
+      by : (answer : Result Base Refusal) → owner name (old.files name) (old.files (delta_name name)) ≡ answer → RunsTo (Err e) old new (Ok (ToRun plan is_quiet)) account given
       by (Err refusal) is = record {
         events = refused_at plan.first_session refusal;
         last = account;
         left = given;
-        performed = refused_performed refusal is;
+        performed = performed_refused is_quiet plan account given plan.first_session refusal account given (refused_ran refusal is);
         opened = inl tt;
         stops = left_quietly old new account _ _ quiet;
         finished = tt;
       }
-      by (Ok b) is = first_fails old account given plan askable (first_opened account given plan name cache first_is b (there b is)) new e (inr quiet) (λ n. left_quietly old new account _ _ quiet)
+      by (Ok b) is = first_fails old account given plan is_quiet askable (first_opened account given plan name cache first_is b (there b is)) new e (inr quiet) (λ n. left_quietly old new account _ _ quiet)
 
   module _ (mid : World) (result : Result Held Fault) (attaches : Attaches result old mid name) (quiet : Quiet old mid) (scn : IfOk result (λ held. held.scn < 4294967296)) where
-    pub attaches_begins : Beginning old account given plan askable mid result
+    pub attaches_begins : Beginning old account given plan is_quiet askable mid result
     unfolding first_opened
     attaches_begins = record { fails = λ e. open_fails mid e quiet; refused = is_refused; done = done }
       where
         is_refused : (refusal : Refusal) → result ≡ Err (Refused refusal) → FirstRefused old mid account given plan refusal
         is_refused refusal is =
             let answer : owner name (old.files name) (old.files (delta_name name)) ≡ Err refusal = subst (λ (r : Result Held Fault). Attaches r old mid name) is attaches in
-            record { quiet = quiet; performed = refused_performed refusal answer; not_usage = λ e. owner_never_usage name (old.files name) (old.files (delta_name name)) (answer ∙ ap Err e) }
+            record { quiet = quiet; ran = refused_ran refusal answer; not_usage = λ e. owner_never_usage name (old.files name) (old.files (delta_name name)) (answer ∙ ap Err e) }
 
-        done : (held : Held) → result ≡ Ok held → FirstDone old mid account given plan askable held
+        done : (held : Held) → result ≡ Ok held → FirstDone old mid account given plan is_quiet askable held
         done held is =
             let answer : IsAttached held old mid name = subst (λ (r : Result Held Fault). Attaches r old mid name) is attaches in
             let b : Base = answer.base in

@@ -12,7 +12,7 @@ use Rattle.nb_script.specs.Lines.{lines_of, left}
 use Rattle.nb_script.specs.FirstLine.{first_at}
 use Rattle.nb_script.specs.Statements.{statement_at}
 use Rattle.nb_script.specs.Scripts.{Plan, Numbered, started, with_statement, or_bad, with_lines, order_in, with_order, of_lines, script_of}
-use Rattle.nb_top.specs.Performed.{script_in}
+use Rattle.nb_top.specs.Requests.{script_in}
 
 -- not for words
 abbrev pub IsForScript : Result Plan Refusal → Type 0

@@ -1,6 +1,6 @@
 -- A script is run, from its first statement on.
 use Rattle.std.proofs.Common.{◌≡◌, ℕ, ◌<◌, List, true, false, refl, subst}
-use Rattle.std.specs.Prelude.{Result, Ok, Err, IfOk, IfErr}
+use Rattle.std.specs.Prelude.{Bool, Result, Ok, Err, IfOk, IfErr}
 use Rattle.std.specs.Result.{IsErr}
 use Rattle.nb_fields.specs.Fresh.{fresh}
 use Rattle.nb_host.specs.World.{World}
@@ -19,6 +19,7 @@ use Rattle.nb_script.specs.Scripts.{Plan}
 use Rattle.nb_session.specs.declared.stop.Stop.{Stop}
 use Rattle.nb_top.specs.declared.status.Status.{Status}
 use Rattle.nb_top.specs.Performed.{RunsTo, Knows, KnowsFirst}
+use Rattle.nb_top.specs.Requests.{ToRun}
 use Rattle.nb_top.proofs.Beginnings.{Beginning}
 use Rattle.nb_top.proofs.QuietRuns.{quiet_gave}
 use Rattle.nb_top.proofs.CreatingRuns.{creates_begins, creating_unbegun}
@@ -52,17 +53,17 @@ first_opens (CreateDb name size raw cache) first = creates name size raw cache r
 first_opens (OpenDb name cache) first = opens name cache refl
 first_opens other first = absurd (false_true first.opens)
 
-module _ (old : World) (account : Account) (given : Given) (plan : Plan) (askable : IsAskable plan) (knows : Knows old.files account (Ok plan)) where
+module _ (old : World) (account : Account) (given : Given) (plan : Plan) (is_quiet : Bool) (askable : IsAskable plan) (knows : Knows old.files account (Ok (ToRun plan is_quiet))) where
   knows_first : (first : Statement) → plan.first ≡ first → KnowsFirst old.files account first
   knows_first first is = subst (λ (s : Statement). KnowsFirst old.files account s) is knows
 
   -- nothing happened
-  pub script_unbegun : (new : World) (e : Stop) → Quiet old new → RunsTo (Err e) old new (Ok plan) account given
+  pub script_unbegun : (new : World) (e : Stop) → Quiet old new → RunsTo (Err e) old new (Ok (ToRun plan is_quiet)) account given
   script_unbegun new e quiet = by (first_opens plan.first askable.first)
     where
-      by : Opens plan.first → RunsTo (Err e) old new (Ok plan) account given
-      by (creates name size raw cache is) = creating_unbegun old account given plan askable name size raw cache is (knows_first (CreateDb name size raw cache) is) new e quiet
-      by (opens name cache is) = open_fails old account given plan askable name cache is (knows_first (OpenDb name cache) is) new e quiet
+      by : Opens plan.first → RunsTo (Err e) old new (Ok (ToRun plan is_quiet)) account given
+      by (creates name size raw cache is) = creating_unbegun old account given plan is_quiet askable name size raw cache is (knows_first (CreateDb name size raw cache) is) new e quiet
+      by (opens name cache is) = open_fails old account given plan is_quiet askable name cache is (knows_first (OpenDb name cache) is) new e quiet
 
   -- the call of the first statement asks for no GUID and no time
   pub first_gave : (mid : World) (result : Result Held Fault)
@@ -80,9 +81,9 @@ module _ (old : World) (account : Account) (given : Given) (plan : Plan) (askabl
       → ((name : List ℕ) (cache : ℕ) → plan.first ≡ OpenDb name cache → Attaches result old mid name)
       → ((name : List ℕ) (cache : ℕ) → plan.first ≡ OpenDb name cache → Quiet old mid)
       → IfOk result (λ held. held.scn < 4294967296)
-      → Beginning old account given plan askable mid result
+      → Beginning old account given plan is_quiet askable mid result
   script_begins mid result creating attaching quiet scn = by (first_opens plan.first askable.first)
     where
-      by : Opens plan.first → Beginning old account given plan askable mid result
-      by (creates name size raw cache is) = creates_begins old account given plan askable name size raw cache is (knows_first (CreateDb name size raw cache) is) mid result (creating name size raw cache is)
-      by (opens name cache is) = attaches_begins old account given plan askable name cache is (knows_first (OpenDb name cache) is) mid result (attaching name cache is) (quiet name cache is) scn
+      by : Opens plan.first → Beginning old account given plan is_quiet askable mid result
+      by (creates name size raw cache is) = creates_begins old account given plan is_quiet askable name size raw cache is (knows_first (CreateDb name size raw cache) is) mid result (creating name size raw cache is)
+      by (opens name cache is) = attaches_begins old account given plan is_quiet askable name cache is (knows_first (OpenDb name cache) is) mid result (attaching name cache is) (quiet name cache is) scn

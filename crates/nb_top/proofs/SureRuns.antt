@@ -21,7 +21,7 @@ use Rattle.nb_model.specs.NewGuids.{AreNew, guids_in}
 use Rattle.nb_model.specs.Outcomes.{Given}
 use Rattle.nb_model.specs.Owner.{delta_name, owner, not_opened}
 use Rattle.nb_model.specs.Run.{Event, Opening, IsRun, IsRest, opening, refused_opening, strokes_of}
-use Rattle.nb_model.specs.Steps.{makes, settles, after_step, after_steps, made, steps_of, strokes_in}
+use Rattle.nb_model.specs.Steps.{Step, makes, settles, after_step, after_steps, made, steps_of, strokes_in}
 use Rattle.nb_model.specs.Strokes.{make, base_in, on_base, records_of, records_after}
 use Rattle.nb_model.specs.Trail.{Trail, StandsIn, settled, settles_at, after_stroke}
 use Rattle.nb_model.proofs.OpenedLaws.{opened_trail}
@@ -36,11 +36,13 @@ use Rattle.nb_script.specs.Asked.{IsAskable}
 use Rattle.nb_script.specs.Fits.{FitsFirst}
 use Rattle.nb_script.specs.Scripts.{Plan}
 use Rattle.nb_top.specs.declared.status.Status.{Status}
-use Rattle.nb_top.specs.Performed.{RunLeft, Finished, HasSmallScn, HoldsKept, IsPerformed, IsSure, StandsFor, Target, begins_refused, kept_after, seen_after, target_named, target_of}
+use Rattle.nb_top.specs.Performed.{RunLeft, Finished, HasSmallScn, HoldsKept, IsScriptRun, IsSure, StandsFor, Target, begins_refused, kept_after, seen_after, target_named, target_of}
+use Rattle.nb_top.specs.Requests.{Request, ToRun}
 use Rattle.nb_top.proofs.CreatingRuns.{base_name}
 use Rattle.nb_top.proofs.OpenLaws.{shown_entry, refused_entry}
 use Rattle.nb_top.proofs.ScriptRuns.{Opens, creates, opens, first_opens}
 use Rattle.nb_top.proofs.SureFiles.{kept_none, stood_holds, unbegun_holds, ended_stands, still_stands}
+use Rattle.nb_top.proofs.ToldLaws.{told_steps, told_strokes, told_begins}
 use Rattle.nb_top.proofs.WellRuns.{IsWellRun, IsWellBehind, rest_well}
 
 false_true : false ≡ true → ⊥
@@ -89,7 +91,8 @@ none_keeps : (b : Base) → records_after b (strokes_in []) ≡ []
 unfolding strokes_in records_after
 none_keeps b = refl
 
-module _ (old : World) (account : Account) (given : Given) (plan : Plan) (askable : IsAskable plan) (events : List Event) (last : Account) (left : Given) (sure : IsSure old account events) (not_refused : begins_refused events ≡ false) where
+module _ (old : World) (account : Account) (given : Given) (plan : Plan) (askable : IsAskable plan) (events : List Event) (last : Account) (left : Given) (stands : StandsFor old account)
+    (new : AreNew old account.kept (guids_in (strokes_of events))) (not_refused : begins_refused events ≡ false) where
   -- it creates its database
   module _ (name : List ℕ) (size raw cache : ℕ) (first_is : plan.first ≡ CreateDb name size raw cache) (runs : IsRun account given plan.first_session (CreateDb name size raw cache) plan.schedule plan.sessions events last left) where
     abbrev o : Opening
@@ -115,7 +118,7 @@ module _ (old : World) (account : Account) (given : Given) (plan : Plan) (askabl
     behind : IsWellBehind account name (base_of image) runs.rest last
     behind =
         rest_well account plan askable o new_one.now name (base_of image) new_one.goes_on new_one.name_is new_one.account_is new_one.base new_one.here new_one.others new_one.kept new_one.todo (fresh_trail account.kept size raw fits.1 fits.2)
-        given runs.rest last left runs.goes_on (later_sixteen old account o.event runs.rest (subst (λ (es : List Event). AreNew old account.kept (guids_in (strokes_of es))) runs.is sure.new))
+        given runs.rest last left runs.goes_on (later_sixteen old account o.event runs.rest (subst (λ (es : List Event). AreNew old account.kept (guids_in (strokes_of es))) runs.is new))
 
     steps : steps_of events ≡ (makes (make image) ∷ []) ++ (settles ∷ steps_of runs.rest)
     steps = ap steps_of runs.is ∙ ap (λ (e : Event). steps_of (e ∷ runs.rest)) new_one.event ∙ created_steps plan.first_session image _ runs.rest
@@ -164,10 +167,10 @@ module _ (old : World) (account : Account) (given : Given) (plan : Plan) (askabl
     there = by (owner name (old.files name) (old.files (delta_name name))) refl
       where
         by : (answer : Result Base Refusal) → owner name (old.files name) (old.files (delta_name name)) ≡ answer → IsThere
-        by (Ok b) is = record { base = b; is = sure.stands.now.same_image name opened_plain ∙ shown_entry old.files name b is }
+        by (Ok b) is = record { base = b; is = stands.now.same_image name opened_plain ∙ shown_entry old.files name b is }
         by (Err r) is =
             absurd (false_true (sym not_refused ∙ refused_begins p plan.first_session r account events runs.rest runs.is
-            (not_reopened account given plan.sessions plan.first_session name cache r (ap (not_opened name) (sure.stands.now.same_image name opened_plain) ∙ refused_entry name (old.files name) (old.files (delta_name name)) r is))))
+            (not_reopened account given plan.sessions plan.first_session name cache r (ap (not_opened name) (stands.now.same_image name opened_plain) ∙ refused_entry name (old.files name) (old.files (delta_name name)) r is))))
 
     abbrev b : Base
     b = there.base
@@ -181,8 +184,8 @@ module _ (old : World) (account : Account) (given : Given) (plan : Plan) (askabl
     opened_behind : IsWellBehind account name b runs.rest last
     opened_behind =
         rest_well account plan askable p again.now name b again.goes_on again.name_is again.account_is again.base again.here again.others again.kept again.todo
-        (opened_trail old.files account name b sure.stands.now opened_plain there.is (subst (λ (x : Base). image_scn x.image < 4294967296) base_is small))
-        given runs.rest last left runs.goes_on (later_sixteen old account p.event runs.rest (subst (λ (es : List Event). AreNew old account.kept (guids_in (strokes_of es))) runs.is sure.new))
+        (opened_trail old.files account name b stands.now opened_plain there.is (subst (λ (x : Base). image_scn x.image < 4294967296) base_is small))
+        given runs.rest last left runs.goes_on (later_sixteen old account p.event runs.rest (subst (λ (es : List Event). AreNew old account.kept (guids_in (strokes_of es))) runs.is new))
 
     opened_run : IsWellRun account name events last
     opened_run = record {
@@ -255,25 +258,53 @@ module _ (old : World) (account : Account) (given : Given) (plan : Plan) (askabl
       by (creates name size raw cache is) = creating name size raw cache (subst Runs is runs)
       by (opens name cache is) = opening_it name cache (base_name name (subst FitsFirst is askable.first.fits).0).plain (subst Runs is runs)
 
-module _ (old : World) (asked : Result Plan Refusal) (askable : (plan : Plan) → asked ≡ Ok plan → IsAskable plan) (account : Account) (given : Given) (before : (name : List ℕ) → Leaves old name (old.files name))
-    (events : List Event) (last : Account) (left : Given) (performed : IsPerformed asked account given events last left) (sure : IsSure old account events) where
+-- So it is of what is told of the run, which has the same steps.
+told_sure : (account : Account) (target : Target) (whole events : List Event) (last : Account) → steps_of whole ≡ steps_of events → IsSureRun account target whole last → IsSureRun account target events last
+told_sure account target whole events last same known = record {
+  plain = known.plain;
+  free = known.free;
+  run = record {
+    first = known.run.first;
+    further = known.run.further;
+    steps = sym same ∙ known.run.steps;
+    base = known.run.base;
+    seen = known.run.seen;
+    none = known.run.none;
+    along = known.run.along;
+    grown = known.run.grown;
+  };
+  begun = λ count files s. known.begun count files (subst (λ (ss : List Step). StandsIn target.name (seen_after account target.name (take count ss)) files) (sym same) s);
+}
+
+-- The run of a script.
+module _ (old : World) (plan : Plan) (is_quiet : Bool) (askable : IsAskable plan) (account : Account) (given : Given) (before : (name : List ℕ) → Leaves old name (old.files name)) (events : List Event) (last : Account)
+    (left : Given) (performed : IsScriptRun plan is_quiet account given events last left) (sure : IsSure old account (Ok (ToRun plan is_quiet)) events) where
+  abbrev asked : Result Request Refusal
+  asked = Ok (ToRun plan is_quiet)
+
   none_some : (target : Target) → None ≡ Some target → ⊥
   none_some target h = cc
 
+  whole_steps : steps_of performed.whole ≡ steps_of events
+  whole_steps = sym (ap steps_of performed.said ∙ told_steps is_quiet performed.whole)
+
+  whole_new : AreNew old account.kept (guids_in (strokes_of performed.whole))
+  whole_new = subst (λ ss. AreNew old account.kept (guids_in ss)) (ap strokes_of performed.said ∙ told_strokes is_quiet performed.whole) sure.new
+
+  whole_begins : begins_refused performed.whole ≡ begins_refused events
+  whole_begins = sym (ap begins_refused performed.said ∙ told_begins is_quiet performed.whole)
+
   sure_run : (target : Target) → target_of asked events ≡ Some target → HasSmallScn account (Some target) → IsSureRun account target events last
-  sure_run target is small = by asked refl performed is
+  sure_run target is small = by (begins_refused events) refl is
     where
-      by : (a : Result Plan Refusal) → asked ≡ a → IsPerformed a account given events last left → target_of a events ≡ Some target → IsSureRun account target events last
-      by (Err refusal) e runs has = absurd (none_some target has)
-      by (Ok plan) e runs has = by_first (begins_refused events) refl has
-        where
-          by_first : (t : Bool) → begins_refused events ≡ t → elim t as (λ z. Option Target) [ true ↦ None | false ↦ target_named plan.first ] ≡ Some target → IsSureRun account target events last
-          by_first true refused h = absurd (none_some target h)
-          by_first false allowed h = begins_sure old account given plan (askable plan e) events last left sure allowed target h small runs
+      by : (t : Bool) → begins_refused events ≡ t → elim t as (λ z. Option Target) [ true ↦ None | false ↦ target_named plan.first ] ≡ Some target → IsSureRun account target events last
+      by true refused h = absurd (none_some target h)
+      by false allowed h = told_sure account target performed.whole events last whole_steps
+          (begins_sure old account given plan askable performed.whole last left sure.stands whole_new (whole_begins ∙ allowed) target h small performed.run)
 
   module _ (small : HasSmallScn account (target_of asked events)) where
-    pub sure_left : (files : Files) (said : List ℕ) (l : RunLeft old account (target_of asked events) events files said) → HoldsKept files (kept_after account (target_of asked events) (take l.count (steps_of events)))
-    sure_left files said = by (target_of asked events) refl small
+    pub script_left : (files : Files) (said : List ℕ) (l : RunLeft old account (target_of asked events) events files said) → HoldsKept files (kept_after account (target_of asked events) (take l.count (steps_of events)))
+    script_left files said = by (target_of asked events) refl small
       where
         by : (target : Option Target) → target_of asked events ≡ target → HasSmallScn account target → (l : RunLeft old account target events files said) → HoldsKept files (kept_after account target (take l.count (steps_of events)))
         by None is few l = sure.stands.left files (λ m. l.others m tt)
@@ -287,25 +318,21 @@ module _ (old : World) (asked : Result Plan Refusal) (askable : (plan : Plan) �
 
     -- a run without a database leaves the account
     last_is : target_of asked events ≡ None → last ≡ account
-    last_is is = by asked refl performed is
+    last_is is = by (begins_refused events) refl is
       where
         some_none : (target : Target) → Some target ≡ None → ⊥
         some_none target h = cc
 
-        by : (a : Result Plan Refusal) → asked ≡ a → IsPerformed a account given events last left → target_of a events ≡ None → last ≡ account
-        by (Err refusal) e runs has = runs.1
-        by (Ok plan) e runs has = by_first (begins_refused events) refl has
-          where
-            by_first : (t : Bool) → begins_refused events ≡ t → elim t as (λ z. Option Target) [ true ↦ None | false ↦ target_named plan.first ] ≡ None → last ≡ account
-            by_first true refused h = refused_leaves old account given plan (askable plan e) events last left sure.stands refused runs
-            by_first false allowed h = elim (first_opens plan.first (askable plan e).first) [
-              | creates name size raw cache first ↦ absurd (some_none (record { name = name; creates = true }) (sym (ap target_named first) ∙ h))
-              | opens name cache first ↦ absurd (some_none (record { name = name; creates = false }) (sym (ap target_named first) ∙ h))
-            ]
+        by : (t : Bool) → begins_refused events ≡ t → elim t as (λ z. Option Target) [ true ↦ None | false ↦ target_named plan.first ] ≡ None → last ≡ account
+        by true refused h = refused_leaves old account given plan askable performed.whole last left sure.stands (whole_begins ∙ refused) performed.run
+        by false allowed h = elim (first_opens plan.first askable.first) [
+          | creates name size raw cache first ↦ absurd (some_none (record { name = name; creates = true }) (sym (ap target_named first) ∙ h))
+          | opens name cache first ↦ absurd (some_none (record { name = name; creates = false }) (sym (ap target_named first) ∙ h))
+        ]
 
-    pub sure_end : (new : World) → IsTimely new → ((name : List ℕ) → Leaves new name (new.files name)) → AtEachMoment old new (RunLeft old account (target_of asked events) events) → (status : Status)
+    pub script_end : (new : World) → IsTimely new → ((name : List ℕ) → Leaves new name (new.files name)) → AtEachMoment old new (RunLeft old account (target_of asked events) events) → (status : Status)
         → Finished status old new account (target_of asked events) events given left → StandsFor new last
-    sure_end new timely reads stops status finished = by (target_of asked events) refl small stops finished
+    script_end new timely reads stops status finished = by (target_of asked events) refl small stops finished
       where
         by : (target : Option Target) → target_of asked events ≡ target → HasSmallScn account target → AtEachMoment old new (RunLeft old account target events) → Finished status old new account target events given left → StandsFor new last
         by None is few moments done =

@@ -1,11 +1,12 @@
 -- What a run promises, from the words of the command line to its last reply.
 --
--- The words ask for a script, or for a refusal. The script tells the events of the run one by one: whose turn, which strokes, which reply.
+-- The words ask for the run of a script, for a restore, or for a refusal. Each tells the events of the run one by one: whose turn, which
+-- strokes, which reply.
 -- Whatever stops the run, at each moment a front of its lines was said, and both files of its database can be opened and hold what may be
 -- left behind a front of its steps, with each acknowledged one among them. No other file changes. At its end all lines were said and all
 -- steps stand. Where the files stood for an account with the records of its backups, and the GUIDs that the outside gives are new, they
 -- stand for one at each moment, with the records of the backups that have begun by then.
-use Rattle.std.specs.Prelude.{◌≡◌, ◌≢◌, ◌⊎◌, ℕ, ◌<◌, List, [], ◌∷◌, ◌++◌, length, take, Bool, true, false, Option, None, Some, Result, Ok, Err, IfOk}
+use Rattle.std.specs.Prelude.{◌≡◌, ◌≢◌, ◌⊎◌, ℕ, ◌<◌, List, [], ◌∷◌, ◌++◌, length, take, Bool, true, false, Option, None, Some, Result, Ok, Err, IfOk, if◌then◌else◌}
 use Rattle.std.specs.Global.{Vec}
 use Rattle.nb_fields.specs.Free.{is_free_file}
 use Rattle.nb_host.specs.Files.{File, Files}
@@ -16,12 +17,9 @@ use Rattle.nb_host.specs.Moments.{AtEachMoment}
 use Rattle.nb_host.specs.declared.faults.Fault.{Fault}
 use Rattle.nb_host.specs.declared.faults.Fault.TheVariants.{Refused as RefusedFault, Device as DeviceFault, Memory as MemoryFault}
 use Rattle.nb_host.specs.declared.refusals.Refusal.{Refusal}
-use Rattle.nb_host.specs.declared.refusals.Refusal.TheVariants.{Usage, NoFile}
 use Rattle.nb_change.specs.Changes.{Other}
 use Rattle.nb_page.specs.Free.{is_free_name}
 use Rattle.nb_page.specs.Quiet.{Quiet}
-use Rattle.nb_model.specs.declared.job.Job.{Job}
-use Rattle.nb_model.specs.declared.job.Job.TheVariants.{Run}
 use Rattle.nb_model.specs.declared.reply.Reply.{Reply}
 use Rattle.nb_model.specs.declared.reply.Reply.TheVariants.{Refused, Pages, Opened as OpenedReply}
 use Rattle.nb_model.specs.declared.statement.Statement.{Statement}
@@ -31,24 +29,27 @@ use Rattle.nb_model.specs.Causes.{is_free_entry}
 use Rattle.nb_model.specs.Gifts.{WasGiven}
 use Rattle.nb_model.specs.Image.{image_scn}
 use Rattle.nb_model.specs.NewGuids.{AreNew, guids_in}
+use Rattle.nb_model.specs.Jobs.{quiet, refusal_in, restore_turn, account_behind}
 use Rattle.nb_model.specs.Outcomes.{Given}
 use Rattle.nb_model.specs.Output.{output, status_of}
 use Rattle.nb_model.specs.Owner.{delta_name, entry_in}
 use Rattle.nb_model.specs.Run.{Event, Now, Played, IsRun, AreFinished, play, rounds, strokes_of, replies_of}
 use Rattle.nb_model.specs.Sound.{IsSoundImage}
+use Rattle.nb_model.specs.Restoring.{Link, verdict}
 use Rattle.nb_model.specs.Stands.{Stands}
 use Rattle.nb_model.specs.Steps.{Step, steps_of, strokes_in, after_steps, acked_turns}
 use Rattle.nb_model.specs.Strokes.{Stroke, base_in, records_after}
 use Rattle.nb_model.specs.Trail.{Trail, StandsIn, ShowsIn, settled}
 use Rattle.nb_base.specs.Open.{OfFiles}
 use Rattle.nb_state.specs.Open.{Held}
-use Rattle.nb_script.specs.Scripts.{Plan, script_of}
+use Rattle.nb_restore.specs.Kept.{AreKept, GivesKept}
+use Rattle.nb_script.specs.Scripts.{Plan}
 use Rattle.nb_session.specs.declared.stop.Stop.{Stop}
 use Rattle.nb_session.specs.Replies.{is_refusal}
 use Rattle.nb_session.specs.Stops.{IsSaid, IsFront, Plays}
 use Rattle.nb_top.specs.declared.status.Status.{Status}
 use Rattle.nb_top.specs.declared.status.Status.TheVariants.{Done, Refused as RefusedStatus, Usage as UsageStatus, Device, Memory}
-use Rattle.nb_top.specs.Jobs.{job_of}
+use Rattle.nb_top.specs.Requests.{Request, ToRun, ToRestore, script_in}
 
 -- what the first statement of a run did, or what is said in place of a run
 abbrev pub first_event : (session : ℕ) → List Stroke → Reply → Event
@@ -62,24 +63,23 @@ refused_at session refusal = first_event session [] (Refused refusal) ∷ []
 abbrev pub refused_job : Refusal → List Event
 refused_job refusal = refused_at 0 refusal
 
--- The script that a file spells, or why there is none.
-abbrev pub script_in : (name : List ℕ) → File → Result Plan Refusal
-script_in name None = Err (NoFile name)
-script_in name (Some bytes) = script_of bytes
+-- The run of a script, with what is said of it: a quiet one says of its first statement only why it is refused.
+pub record IsScriptRun (plan : Plan) (is_quiet : Bool) (before : Account) (given : Given) (events : List Event) (last : Account) (left : Given) : Type 0 where
+  pub whole : List Event
+  pub run : IsRun before given plan.first_session plan.first plan.schedule plan.sessions whole last left
+  pub said : events ≡ (if is_quiet then quiet whole else whole)
 
--- the script of a job, of which one is done today
-abbrev pub script_of_job : Files → Job → Result Plan Refusal
-script_of_job files (Run name) = script_in name (files name)
-script_of_job files other = Err Usage
+-- the first event as a run tells it
+abbrev pub told_first : (is_quiet : Bool) → Event → Event
+told_first is_quiet e = if is_quiet then record e { reply = refusal_in e.reply } else e
 
--- the script that the words ask for, or why there is none
-abbrev pub script_asked : Files → (words : List (List ℕ)) → Result Plan Refusal
-script_asked files words = elim (job_of words) [ None ↦ Err Usage | Some job ↦ script_of_job files job ]
-
--- The run that is asked for: that of the script, or one refusal. `left` is what it leaves of what may be given.
-abbrev pub IsPerformed : Result Plan Refusal → (before : Account) → Given → List Event → (last : Account) → (left : Given) → Type 0
-IsPerformed (Err refusal) before given events last left = (events ≡ refused_job refusal) × (last ≡ before) × (left ≡ given)
-IsPerformed (Ok plan) before given events last left = IsRun before given plan.first_session plan.first plan.schedule plan.sessions events last left
+-- What is asked for is done: the run of a script, the one turn of a restore, or one refusal. `left` is what it leaves of what may be given.
+abbrev pub IsPerformed : Files → Result Request Refusal → (before : Account) → Given → List Event → (last : Account) → (left : Given) → Type 0
+IsPerformed files (Err refusal) before given events last left = (events ≡ refused_job refusal) × (last ≡ before) × (left ≡ given)
+IsPerformed files (Ok (ToRun plan is_quiet)) before given events last left = IsScriptRun plan is_quiet before given events last left
+IsPerformed files (Ok (ToRestore db names)) before given events last left =
+    let turn : Event = restore_turn files before db names in
+    (events ≡ turn ∷ []) × (last ≡ account_behind db turn before) × (left ≡ given)
 
 -- the database of a run, which its first statement creates or opens
 pub record Target : Type 0 where
@@ -98,10 +98,15 @@ abbrev pub begins_refused : List Event → Bool
 begins_refused [] = false
 begins_refused (e ∷ es) = elim e.reply [ None ↦ false | Some reply ↦ is_refusal reply ]
 
+-- the database that is asked for
+abbrev pub target_asked : Request → Option Target
+target_asked (ToRun plan is_quiet) = target_named plan.first
+target_asked (ToRestore db names) = Some (record { name = db; creates = true })
+
 -- the database of a run, if it isn't refused at once
-abbrev pub target_of : Result Plan Refusal → List Event → Option Target
+abbrev pub target_of : Result Request Refusal → List Event → Option Target
 target_of (Err refusal) events = None
-target_of (Ok plan) events = elim (begins_refused events) [ true ↦ None | false ↦ target_named plan.first ]
+target_of (Ok request) events = elim (begins_refused events) [ true ↦ None | false ↦ target_asked request ]
 
 -- The account has under the name what the files hold there, and the inventories of a database agree with its pages.
 pub record HoldsUnder (files : Files) (account : Account) (name : List ℕ) : Type 0 where
@@ -115,10 +120,11 @@ KnowsFirst files account (CreateDb name page_size raw cache) = is_free_name file
 KnowsFirst files account (OpenDb name cache) = HoldsUnder files account name
 KnowsFirst files account other = Unit {0}
 
--- so it is of the run that is asked for
-abbrev pub Knows : Files → Account → Result Plan Refusal → Type 0
+-- so it is of what is asked for: of a restore, whether the name of its target is free
+abbrev pub Knows : Files → Account → Result Request Refusal → Type 0
 Knows files account (Err refusal) = Unit {0}
-Knows files account (Ok plan) = KnowsFirst files account plan.first
+Knows files account (Ok (ToRun plan is_quiet)) = KnowsFirst files account plan.first
+Knows files account (Ok (ToRestore db names)) = is_free_name files db ≡ is_free_entry (account.entry db)
 
 -- the name isn't that of the database, nor of its difference file
 abbrev pub IsUnasked : Option Target → List ℕ → Type 0
@@ -170,17 +176,31 @@ pub record StandsFor (w : World) (account : Account) : Type 0 where
   pub left : (files : Files) → LeavesAll w files → HoldsKept files account.kept
   pub free : (name : List ℕ) → is_delta name ≡ false → is_free_file (w.files name) ≡ true → w.files (delta_name name) ≡ None → (d : File) → Leaves w (delta_name name) d → d ≡ None
 
--- The premise of what follows: the files stand for the account as the run begins, and the GUIDs that its backups take are new. Those are
--- the GUIDs that were given in the call, and where it ended early also those that may still come.
-pub record IsSure (old : World) (account : Account) (events : List Event) : Type 0 where
+-- a chain that is restored is one of backups whose records are kept
+abbrev pub HasKeptChain : Files → List Kept → Result Request Refusal → Type 0
+HasKeptChain files kept (Err refusal) = Unit {0}
+HasKeptChain files kept (Ok (ToRun plan is_quiet)) = Unit {0}
+HasKeptChain files kept (Ok (ToRestore db names)) = (links : List Link) → verdict files names ≡ Ok links → AreKept kept links
+
+-- The premise of what follows: the files stand for the account as the run begins, the GUIDs that its backups take are new, and the files
+-- that it restores from are those of backups whose records are kept. The GUIDs are those that were given in the call, and where it ended
+-- early also those that may still come.
+pub record IsSure (old : World) (account : Account) (asked : Result Request Refusal) (events : List Event) : Type 0 where
   pub stands : StandsFor old account
   pub new : AreNew old account.kept (guids_in (strokes_of events))
+  pub chain : HasKeptChain old.files account.kept asked
+
+-- a chain that is restored gives the image that the begin of its last backup kept
+abbrev pub RestoresKept : Files → List Kept → Result Request Refusal → Type 0
+RestoresKept files kept (Err refusal) = Unit {0}
+RestoresKept files kept (Ok (ToRun plan is_quiet)) = Unit {0}
+RestoresKept files kept (Ok (ToRestore db names)) = (links : List Link) → verdict files names ≡ Ok links → GivesKept kept links
 
 -- At a moment of a run: what a stop leaves is what may be left behind a front of its steps. Where the run is sure, it stands for an account
 -- with the records of the backups that have begun in the same front.
-pub record RunStands (old : World) (account : Account) (target : Option Target) (events : List Event) (files : Files) (said : List ℕ) : Type 0 where
-  pub left : RunLeft old account target events files said
-  pub stands : IsSure old account events → HoldsKept files (kept_after account target (take left.count (steps_of events)))
+pub record RunStands (old : World) (account : Account) (asked : Result Request Refusal) (events : List Event) (files : Files) (said : List ℕ) : Type 0 where
+  pub left : RunLeft old account (target_of asked events) events files said
+  pub stands : IsSure old account asked events → HoldsKept files (kept_after account (target_of asked events) (take left.count (steps_of events)))
 
 -- the number of a status that ends a run to its end
 abbrev pub number_of : Status → ℕ
@@ -222,27 +242,29 @@ IsUndone (Err stop) old new = Quiet old new
 -- What a run does that a script asks for, where the account knows of the database what the files tell, and these are the GUIDs and times
 -- that were given and may still be: its events are those that the script must have. At each moment a stop leaves a front of them, and
 -- at its end all is done.
-pub record RunsTo (result : Result Status Stop) (old new : World) (asked : Result Plan Refusal) (account : Account) (given : Given) : Type 0 where
+pub record RunsTo (result : Result Status Stop) (old new : World) (asked : Result Request Refusal) (account : Account) (given : Given) : Type 0 where
   pub events : List Event
   pub last : Account
   pub left : Given
-  pub performed : IsPerformed asked account given events last left
+  pub performed : IsPerformed old.files asked account given events last left
   pub opened : HasSmallScn account (target_of asked events) ⊎ IsUndone result old new
   pub stops : AtEachMoment old new (RunLeft old account (target_of asked events) events)
   pub finished : IfOk result (λ status. Finished status old new account (target_of asked events) events given left)
 
 -- What `run` does on these words. Its events are those of the run that they ask for, with the account after it and what is left to give.
 -- At each moment a stop leaves a front of it. So do the files as they read now, where it ended early too. Where no call of the host failed
--- and memory was enough, it came to its end, and where it was sure the files stand for the account after.
-pub record Performs (status : Status) (old new : World) (asked : Result Plan Refusal) (account : Account) (given : Given) : Type 0 where
+-- and memory was enough, it came to its end, and where it was sure the files stand for the account after. A chain that it is asked to restore
+-- gives the image that the begin of its last backup kept.
+pub record Performs (status : Status) (old new : World) (asked : Result Request Refusal) (account : Account) (given : Given) : Type 0 where
   pub events : List Event
   pub last : Account
   pub left : Given
-  pub performed : IsPerformed asked account given events last left
-  pub stops : AtEachMoment old new (RunStands old account (target_of asked events) events)
-  pub now : RunStands old account (target_of asked events) events new.files new.said
+  pub performed : IsPerformed old.files asked account given events last left
+  pub stops : AtEachMoment old new (RunStands old account asked events)
+  pub now : RunStands old account asked events new.files new.said
   pub finished : status ≢ Device → status ≢ Memory → Finished status old new account (target_of asked events) events given left
-  pub stands : status ≢ Device → status ≢ Memory → IsSure old account events → StandsFor new last
+  pub stands : status ≢ Device → status ≢ Memory → IsSure old account asked events → StandsFor new last
+  pub restores : IsSure old account asked events → RestoresKept old.files account.kept asked
 
 -- what is read is the script, or why there is none; a failure says nothing of it
 abbrev pub IsRead : Result Plan Fault → Result Plan Refusal → Type 0

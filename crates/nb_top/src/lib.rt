@@ -6,11 +6,16 @@
 
 #[cfg(test)]
 mod backup_tests;
-mod job;
+#[cfg(test)]
+mod lock_tests;
 #[cfg(test)]
 mod page_tests;
 mod program;
 mod reading;
+mod request;
+#[cfg(test)]
+mod restore_tests;
+mod restoring;
 mod script;
 mod status;
 #[cfg(test)]
@@ -18,8 +23,6 @@ mod stop_tests;
 #[cfg(test)]
 mod tests;
 
-pub use job::read_job;
 pub use nb_lines::render;
-pub use nb_model::Job;
 pub use program::run;
 pub use status::Status;

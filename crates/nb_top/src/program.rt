@@ -1,90 +1,132 @@
 // A job, from the words to the last reply.
-ghost use Rattle.std.specs.Prelude.{◌≡◌, ◌≢◌, ◌⊎◌, ◌↔◌, None, map, string_bytes, IsTrue, IfOk};
+ghost use Rattle.std.specs.Prelude.{◌≡◌, ◌≢◌, ◌⊎◌, ◌↔◌, true, None, Ok, map, string_bytes, IsTrue, IfOk};
 ghost use Rattle.nb_host.specs.Causes.{Rose};
+ghost use Rattle.nb_host.specs.declared.refusals.Refusal.TheVariants.{Usage as UsageRefusal};
+ghost use Rattle.nb_change.specs.Gave.{GaveNothing};
 ghost use Rattle.nb_model.specs.Account.{Account};
 ghost use Rattle.nb_model.specs.Gifts.{Foretells};
+ghost use Rattle.nb_model.specs.Lines.{line_text};
 ghost use Rattle.nb_model.specs.Outcomes.{Given};
+ghost use Rattle.nb_model.specs.declared.reply.Reply.TheVariants.{Refused as RefusedReply};
+ghost use Rattle.nb_script.specs.Asked.{IsAskable};
 ghost use Rattle.nb_session.specs.Acts.{Grows};
 ghost use Rattle.nb_session.specs.Causes.{CountsStop};
-ghost use Rattle.nb_top.specs.Jobs.{job_of, IsRun};
-ghost use Rattle.nb_top.specs.Performed.{Knows, Performs, RunsTo, script_asked, script_in, script_of_job};
+ghost use Rattle.nb_session.specs.Says.{SaysLine};
+ghost use Rattle.nb_top.specs.Performed.{Knows, Performs, RunsTo};
+ghost use Rattle.nb_top.specs.Requests.{FitsJob, ToRun, is_job_built, job_asked, plan_of, request_asked, request_of, script_in, to_run};
 
 use crate::Status;
-use crate::job::read_job;
 use crate::reading::read_script;
+use crate::request::{read_built, script_asking};
+use crate::restoring::run_restore;
 use crate::script::{refuse, run_script, settled};
 use nb_host::{Host, Name, Refusal};
-use nb_model::Job;
+use nb_model::{Job, Statement};
 use nb_session::Stop;
 use std::alloc::Global;
 
+/// Runs the script of that name.
 fn run_file<H: Host>(alloc: Global, host: &mut H, name: &Name) -> Result<Status, Stop>
-    ensures runs { (account : Account) (given : Given) → IsTrue H.tells → Knows (H.world host.old).files account (script_in name.now ((H.world host.old).files name.now))
-        → Foretells given (H.world host.old) (H.world host.new) → RunsTo result (H.world host.old) (H.world host.new) (script_in name.now ((H.world host.old).files name.now)) account given }
-    ensures grows { (account : Account) → IsTrue H.tells → Knows (H.world host.old).files account (script_in name.now ((H.world host.old).files name.now)) → Grows (H.world host.old) (H.world host.new) }
+    ensures runs { (account : Account) (given : Given) → IsTrue H.tells → Knows (H.world host.old).files account (to_run (script_in name.now ((H.world host.old).files name.now)))
+        → Foretells given (H.world host.old) (H.world host.new) → RunsTo result (H.world host.old) (H.world host.new) (to_run (script_in name.now ((H.world host.old).files name.now))) account given }
+    ensures grows { (account : Account) → IsTrue H.tells → Knows (H.world host.old).files account (to_run (script_in name.now ((H.world host.old).files name.now))) → Grows (H.world host.old) (H.world host.new) }
     ensures done { IfOk result (λ status. (status ≡ Status.Done) ⊎ (status ≡ Status.Refused)) }
     ensures cause { CountsStop result (H.faults host.old) (H.faults host.new) }
 {
     match settled(read_script(alloc, host, name))? {
-        Ok(script) => run_script(alloc, host, &script),
+        Ok(script) => run_script(alloc, host, &script, false),
         Err(refusal) => refuse(alloc, host, 0, refusal),
     }
 }
 
+/// Opens a database and asks it one thing. Of the opening it says only why it is refused.
+fn run_asking<H: Host>(
+    alloc: Global,
+    host: &mut H,
+    db: &Name,
+    statement: Statement,
+) -> Result<Status, Stop>
+    requires { IsAskable (plan_of db.now statement) }
+    ensures runs { (account : Account) (given : Given) → IsTrue H.tells → Knows (H.world host.old).files account (Ok (ToRun (plan_of db.now statement) true)) → Foretells given (H.world host.old) (H.world host.new)
+        → RunsTo result (H.world host.old) (H.world host.new) (Ok (ToRun (plan_of db.now statement) true)) account given }
+    ensures grows { (account : Account) → IsTrue H.tells → Knows (H.world host.old).files account (Ok (ToRun (plan_of db.now statement) true)) → Grows (H.world host.old) (H.world host.new) }
+    ensures done { IfOk result (λ status. (status ≡ Status.Done) ⊎ (status ≡ Status.Refused)) }
+    ensures cause { CountsStop result (H.faults host.old) (H.faults host.new) }
+{
+    match settled(script_asking(alloc, db, statement))? {
+        Ok(script) => run_script(alloc, host, &script, true),
+        Err(_) => unreachable!(),
+    }
+}
+
+/// Does a job that is done today.
 fn run_job<H: Host>(alloc: Global, host: &mut H, job: &Job) -> Result<Status, Stop>
-    requires { IsRun job.now }
-    ensures runs { (account : Account) (given : Given) → IsTrue H.tells → Knows (H.world host.old).files account (script_of_job (H.world host.old).files job.now)
-        → Foretells given (H.world host.old) (H.world host.new) → RunsTo result (H.world host.old) (H.world host.new) (script_of_job (H.world host.old).files job.now) account given }
-    ensures grows { (account : Account) → IsTrue H.tells → Knows (H.world host.old).files account (script_of_job (H.world host.old).files job.now) → Grows (H.world host.old) (H.world host.new) }
+    requires built { IsTrue (is_job_built job.now) }
+    requires fits { FitsJob job.now }
+    ensures runs { (account : Account) (given : Given) → IsTrue H.tells → Knows (H.world host.old).files account (request_of (H.world host.old).files job.now)
+        → Foretells given (H.world host.old) (H.world host.new) → RunsTo result (H.world host.old) (H.world host.new) (request_of (H.world host.old).files job.now) account given }
+    ensures grows { (account : Account) → IsTrue H.tells → Knows (H.world host.old).files account (request_of (H.world host.old).files job.now) → Grows (H.world host.old) (H.world host.new) }
     ensures done { IfOk result (λ status. (status ≡ Status.Done) ⊎ (status ≡ Status.Refused)) }
     ensures cause { CountsStop result (H.faults host.old) (H.faults host.new) }
 {
     match job {
         Job::Run { script } => run_file(alloc, host, script),
+        Job::Restore { db, files } => run_restore(alloc, host, db, files.as_slice()),
+        Job::Lock { db } => run_asking(alloc, host, db, Statement::BeginBackup),
+        Job::Unlock { db } => run_asking(alloc, host, db, Statement::EndBackup),
         _ => unreachable!(),
     }
 }
 
+/// Refuses words that name no job that is done today.
+fn refuse_words<H: Host>(alloc: Global, host: &mut H) -> Result<Status, Stop>
+    ensures usage { IfOk result (λ status. status ≡ Status.Usage) }
+    ensures line { IsTrue H.tells → SaysLine result (H.world host.old) (H.world host.new) (line_text 0 (RefusedReply UsageRefusal)) }
+    ensures gave { GaveNothing (H.world host.old) (H.world host.new) }
+    ensures cause { CountsStop result (H.faults host.old) (H.faults host.new) }
+{
+    refuse(alloc, host, 0, Refusal::Usage)?;
+    Ok(Status::Usage)
+}
+
 fn do_job<H: Host>(alloc: Global, words: &[String], host: &mut H) -> Result<Status, Stop>
-    ensures runs { (account : Account) (given : Given) → IsTrue H.tells → Knows (H.world host.old).files account (script_asked (H.world host.old).files (map string_bytes words.now))
-        → Foretells given (H.world host.old) (H.world host.new) → RunsTo result (H.world host.old) (H.world host.new) (script_asked (H.world host.old).files (map string_bytes words.now)) account given }
-    ensures grows { (account : Account) → IsTrue H.tells → Knows (H.world host.old).files account (script_asked (H.world host.old).files (map string_bytes words.now)) → Grows (H.world host.old) (H.world host.new) }
-    ensures usage { IfOk result (λ status. (status ≡ Status.Usage) ↔ (job_of (map string_bytes words.now) ≡ None)) }
+    ensures runs { (account : Account) (given : Given) → IsTrue H.tells → Knows (H.world host.old).files account (request_asked (H.world host.old).files (map string_bytes words.now))
+        → Foretells given (H.world host.old) (H.world host.new) → RunsTo result (H.world host.old) (H.world host.new) (request_asked (H.world host.old).files (map string_bytes words.now)) account given }
+    ensures grows { (account : Account) → IsTrue H.tells → Knows (H.world host.old).files account (request_asked (H.world host.old).files (map string_bytes words.now)) → Grows (H.world host.old) (H.world host.new) }
+    ensures usage { IfOk result (λ status. (status ≡ Status.Usage) ↔ (job_asked (map string_bytes words.now) ≡ None)) }
     ensures done { IfOk result (λ status. (status ≡ Status.Usage) ⊎ ((status ≡ Status.Done) ⊎ (status ≡ Status.Refused))) }
     ensures cause { CountsStop result (H.faults host.old) (H.faults host.new) }
 {
-    match read_job(words) {
+    match settled(read_built(alloc, words))? {
         Ok(job) => run_job(alloc, host, &job),
-        Err(_) => {
-            refuse(alloc, host, 0, Refusal::Usage)?;
-            Ok(Status::Usage)
-        }
+        Err(_) => refuse_words(alloc, host),
     }
 }
 
 /// Does the job that the words name, which are those of the command line without the program's own name.
 ///
-/// It says one line for each reply. A job that cannot be read, or a script, is refused to session 0. Where a call of the
-/// host fails or memory runs out, the run ends at once and says nothing more.
+/// It says one line for each reply; a job that begins or ends a backup says nothing of the opening but why it is refused. Words that
+/// name no job that is done today, and a script that cannot be read, are refused to session 0. Where a call of the host fails or memory runs out, the
+/// run ends at once and says nothing more.
 pub fn run<H: Host>(alloc: Global, words: &[String], host: &mut H) -> Status
     // The count of the host's faults rises in this call exactly where the answer is Device.
     ensures device { result ≡ Status.Device → Rose (H.faults host.old) (H.faults host.new) }
     ensures no_device { result ≢ Status.Device → H.faults host.new ≡ H.faults host.old }
 
-    // The words name no job exactly where the answer is Usage; want of memory or a fault may come first.
-    ensures usage { result ≡ Status.Usage → job_of (map string_bytes words.now) ≡ None }
-    ensures no_job { job_of (map string_bytes words.now) ≡ None → result ≢ Status.Done × result ≢ Status.Refused }
+    // The words name no job that is done today exactly where the answer is Usage; want of memory or a fault may come first.
+    ensures usage { result ≡ Status.Usage → job_asked (map string_bytes words.now) ≡ None }
+    ensures no_job { job_asked (map string_bytes words.now) ≡ None → result ≢ Status.Done × result ≢ Status.Refused }
 
     // Where an account knows of the database what the files tell as the call begins, and whatever GUIDs and times may still be given: the
     // output is that of the run which the words ask for, and at each moment a stop leaves what may be left of the database behind a
     // front of its steps that holds every acknowledged one, and other files as before. So do the files as they read where the run ended
     // early. Where the files stand for the account and the GUIDs are new, they stand for one with the records behind that front, and at
     // the end for the account after.
-    ensures performs { (account : Account) (given : Given) → IsTrue H.tells → Knows (H.world host.old).files account (script_asked (H.world host.old).files (map string_bytes words.now))
+    ensures performs { (account : Account) (given : Given) → IsTrue H.tells → Knows (H.world host.old).files account (request_asked (H.world host.old).files (map string_bytes words.now))
         → Foretells given (H.world host.old) (H.world host.new)
-        → Performs result (H.world host.old) (H.world host.new) (script_asked (H.world host.old).files (map string_bytes words.now)) account given }
+        → Performs result (H.world host.old) (H.world host.new) (request_asked (H.world host.old).files (map string_bytes words.now)) account given }
     // There are such GUIDs and times.
-    ensures grows { (account : Account) → IsTrue H.tells → Knows (H.world host.old).files account (script_asked (H.world host.old).files (map string_bytes words.now))
+    ensures grows { (account : Account) → IsTrue H.tells → Knows (H.world host.old).files account (request_asked (H.world host.old).files (map string_bytes words.now))
         → Grows (H.world host.old) (H.world host.new) }
 {
     match do_job(alloc, words, host) {

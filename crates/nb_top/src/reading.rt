@@ -3,7 +3,8 @@ ghost use Rattle.std.specs.Prelude.{IsTrue, IfOk};
 ghost use Rattle.nb_change.specs.Counts.{CountsDevice};
 ghost use Rattle.nb_page.specs.Quiet.{Quiet};
 ghost use Rattle.nb_script.specs.Asked.{IsAskable};
-ghost use Rattle.nb_top.specs.Performed.{IsRead, IsFileRead, script_in};
+ghost use Rattle.nb_top.specs.Performed.{IsRead, IsFileRead};
+ghost use Rattle.nb_top.specs.Requests.{script_in};
 
 use nb_host::{Fault, Host, Name, Refusal};
 use nb_script::{MOST_BYTES, Script, parse};

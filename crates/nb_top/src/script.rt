@@ -1,5 +1,5 @@
 // A script is run: its database is created or opened, and its sessions take their turns.
-ghost use Rattle.std.specs.Prelude.{◌≡◌, ◌⊎◌, ℕ, ◌<◌, List, None, Some, Ok, Err, IsTrue, IfOk, IfErr, if◌then◌else◌};
+ghost use Rattle.std.specs.Prelude.{◌≡◌, ◌⊎◌, ℕ, ◌<◌, List, [], None, Some, Ok, Err, IsTrue, IfOk, IfErr, if◌then◌else◌};
 ghost use Rattle.nb_fields.specs.Fresh.{fresh};
 ghost use Rattle.nb_host.specs.declared.faults.Fault.TheVariants.{Refused};
 ghost use Rattle.nb_change.specs.Counts.{CountsDevice};
@@ -21,7 +21,8 @@ ghost use Rattle.nb_session.specs.Acts.{Grows};
 ghost use Rattle.nb_session.specs.Causes.{CountsStop};
 ghost use Rattle.nb_session.specs.Ready.{IsReady, IsCalm};
 ghost use Rattle.nb_session.specs.Says.{SaysLine};
-ghost use Rattle.nb_top.specs.Performed.{Knows, RunsTo, PlaysOpened, first_event, opened_reply, number_of};
+ghost use Rattle.nb_top.specs.Performed.{Knows, RunsTo, PlaysOpened, first_event, opened_reply, told_first, number_of};
+ghost use Rattle.nb_top.specs.Requests.{ToRun};
 
 use crate::Status;
 use nb_engine::Engine;
@@ -46,7 +47,12 @@ pub fn settled<T>(answer: Result<T, Fault>) -> Result<Result<T, Refusal>, Stop>
 }
 
 /// Says the line of a reply.
-fn say_line<H: Host>(alloc: Global, host: &mut H, session: u32, reply: &Reply) -> Result<(), Stop>
+pub fn say_line<H: Host>(
+    alloc: Global,
+    host: &mut H,
+    session: u32,
+    reply: &Reply,
+) -> Result<(), Stop>
     ensures line { IsTrue H.tells → SaysLine result (H.world host.old) (H.world host.new) (line_text session reply.now) }
     ensures gave { GaveNothing (H.world host.old) (H.world host.new) }
     ensures cause { CountsStop result (H.faults host.old) (H.faults host.new) }
@@ -105,24 +111,46 @@ fn first_reply(first: &Statement, pages: u32, state: u16) -> Reply
     }
 }
 
-/// Says the reply of the first statement, and then the sessions take their turns. Answers whether a statement was refused.
+/// Says the reply of the first statement that has opened the database. A quiet run says nothing of it.
+fn say_opened<H: Host>(
+    alloc: Global,
+    host: &mut H,
+    engine: &Engine,
+    script: &Script,
+    is_quiet: bool,
+) -> Result<(), Stop>
+    ensures line { IsTrue H.tells → SaysLine result (H.world host.old) (H.world host.new)
+        (if is_quiet then [] else line_text script.now.first_session (opened_reply script.now.first engine.now.files.count engine.now.files.state)) }
+    ensures gave { GaveNothing (H.world host.old) (H.world host.new) }
+    ensures cause { CountsStop result (H.faults host.old) (H.faults host.new) }
+{
+    if is_quiet {
+        return Ok(());
+    }
+    let reply = first_reply(script.first(), engine.count(), engine.store().state());
+    say_line(alloc, host, script.first_session(), &reply)
+}
+
+/// Says the reply of the first statement, where the run isn't quiet, and then the sessions take their turns. Answers whether a statement
+/// was refused.
 fn run_opened<H: Host>(
     alloc: Global,
     host: &mut H,
     engine: &mut Engine,
     script: &Script,
+    is_quiet: bool,
 ) -> Result<bool, Stop>
     requires { IsAskable script.now }
     ensures plays { (now : Now) (start : Base) (strokes : List Stroke) → IsTrue H.tells → IsReady (H.world host.old) engine.old (settled_trail (base_now now)) now → now.todo ≡ begun script.now.sessions
         → now.running ≡ None → IsCalm now → Foretells now.given (H.world host.old) (H.world host.new)
         → after_steps (settled_trail start) (steps_in (first_event script.now.first_session strokes (opened_reply script.now.first engine.old.files.count engine.old.files.state))) ≡ settled_trail (base_now now)
-        → PlaysOpened result (H.world host.old) (H.world host.new) engine.old engine.new start (first_event script.now.first_session strokes (opened_reply script.now.first engine.old.files.count engine.old.files.state)) now script.now }
+        → PlaysOpened result (H.world host.old) (H.world host.new) engine.old engine.new start
+        (told_first is_quiet (first_event script.now.first_session strokes (opened_reply script.now.first engine.old.files.count engine.old.files.state))) now script.now }
     ensures grows { (now : Now) → IsTrue H.tells → IsReady (H.world host.old) engine.old (settled_trail (base_now now)) now → now.todo ≡ begun script.now.sessions → now.running ≡ None → IsCalm now
         → Grows (H.world host.old) (H.world host.new) }
     ensures cause { CountsStop result (H.faults host.old) (H.faults host.new) }
 {
-    let reply = first_reply(script.first(), engine.count(), engine.store().state());
-    say_line(alloc, host, script.first_session(), &reply)?;
+    say_opened(alloc, host, engine, script, is_quiet)?;
     take_turns(alloc, host, engine, script)
 }
 
@@ -138,18 +166,24 @@ fn ended(refused: bool) -> Status
     }
 }
 
-/// Runs a script: its first statement, and then the turns of its sessions to their end. A first statement that is refused ends it.
-pub fn run_script<H: Host>(alloc: Global, host: &mut H, script: &Script) -> Result<Status, Stop>
+/// Runs a script: its first statement, and then the turns of its sessions to their end. A first statement that is refused ends it. A
+/// quiet run says of the first statement only why it is refused.
+pub fn run_script<H: Host>(
+    alloc: Global,
+    host: &mut H,
+    script: &Script,
+    is_quiet: bool,
+) -> Result<Status, Stop>
     requires { IsAskable script.now }
-    ensures runs { (account : Account) (given : Given) → IsTrue H.tells → Knows (H.world host.old).files account (Ok script.now) → Foretells given (H.world host.old) (H.world host.new)
-        → RunsTo result (H.world host.old) (H.world host.new) (Ok script.now) account given }
-    ensures grows { (account : Account) → IsTrue H.tells → Knows (H.world host.old).files account (Ok script.now) → Grows (H.world host.old) (H.world host.new) }
+    ensures runs { (account : Account) (given : Given) → IsTrue H.tells → Knows (H.world host.old).files account (Ok (ToRun script.now is_quiet)) → Foretells given (H.world host.old) (H.world host.new)
+        → RunsTo result (H.world host.old) (H.world host.new) (Ok (ToRun script.now is_quiet)) account given }
+    ensures grows { (account : Account) → IsTrue H.tells → Knows (H.world host.old).files account (Ok (ToRun script.now is_quiet)) → Grows (H.world host.old) (H.world host.new) }
     ensures done { IfOk result (λ status. (status ≡ Status.Done) ⊎ (status ≡ Status.Refused)) }
     ensures cause { CountsStop result (H.faults host.old) (H.faults host.new) }
 {
     match settled(open(alloc, host, script.first()))? {
         Ok(mut engine) => {
-            let refused = run_opened(alloc, host, &mut engine, script)?;
+            let refused = run_opened(alloc, host, &mut engine, script, is_quiet)?;
             Ok(ended(refused))
         }
         Err(refusal) => refuse(alloc, host, script.first_session(), refusal),

@@ -366,7 +366,7 @@ fn faulty_words(rt: HostRuntime) -> Result<(), Fail> {
         (&[], Status::Usage),
         (&["run"], Status::Usage),
         (&["run", "no.delta"], Status::Usage),
-        (&["-R", "run", "no"], Status::Usage),
+        (&["-S", "no"], Status::Usage),
         (&["run", "--", "no"], Status::Refused),
         (&["run", "no"], Status::Refused),
     ];

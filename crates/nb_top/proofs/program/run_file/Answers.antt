@@ -1,8 +1,9 @@
-use Rattle.std.proofs.Common.{◌≡◌, sym, subst}
-use Rattle.std.specs.Prelude.{Ok, Err}
+use Rattle.std.proofs.Common.{◌≡◌, ap, sym, subst}
+use Rattle.std.specs.Prelude.{Ok, Err, false}
 use Rattle.nb_host.specs.declared.faults.Fault.TheVariants.{Refused}
 use Rattle.nb_session.proofs.GiftLaws.{grows_none, grows_joined}
-use Rattle.nb_top.specs.Performed.{RunsTo, IsRead, Knows, script_in}
+use Rattle.nb_top.specs.Performed.{RunsTo, IsRead, Knows}
+use Rattle.nb_top.specs.Requests.{ToRun, script_in, to_run}
 use Rattle.nb_top.proofs.QuietRuns.{runs_quietly, knows_quietly, quiet_gave, foretold_from}
 use Rattle.nb_top.proofs.JobRuns.{unread_runs, job_refused, script_number}
 use Rattle.nb_top.proofs.ScriptRuns.{runs_err, settled_value, settled_refusal}
@@ -13,7 +14,7 @@ returns-in_err-script-clause-runs g c account given tells knows told =
     let old = g.H.Host.world c.args.host.now in
     let new = g.H.Host.world c.read_script.new.host in
     let name = c.args.name.now in
-    runs_err c.from_residual.result c.from_residual.ensures.0 (λ r. RunsTo r old new (script_in name (old.files name)) account given)
+    runs_err c.from_residual.result c.from_residual.ensures.0 (λ r. RunsTo r old new (to_run (script_in name (old.files name))) account given)
     (λ e. unread_runs old new name (old.files name) account given e knows c.read_script.ensures.quiet)
 
 pub returns-in_err-script-clause-grows : goal.returns-in_err-script-clause-grows
@@ -31,10 +32,11 @@ returns-in-Ok-clause-runs g c account given tells knows told =
     let file = old.files name in
     let quiet = c.read_script.ensures.quiet in
     let is = settled_value c.in_ok-script.field-0 c.in-Ok.script (λ value. c.read_script.result ≡ Ok value) c.in-Ok.is c.in_ok-script.ensures.value in
-    let read : script_in name file ≡ Ok c.in-Ok.script = subst (λ r. IsRead r (script_in name file)) is (c.read_script.ensures.read tells) in
-    runs_quietly c.run_script.result old mid new (script_in name file) account given quiet
+    let read : to_run (script_in name file) ≡ Ok (ToRun c.in-Ok.script false) = ap to_run (subst (λ r. IsRead r (script_in name file)) is (c.read_script.ensures.read tells)) in
+    runs_quietly c.run_script.result old mid new (to_run (script_in name file)) account given quiet
     (subst (λ asked. RunsTo c.run_script.result mid new asked account given) (sym read)
-    (c.run_script.ensures.runs account given tells (knows_quietly old mid account (Ok c.in-Ok.script) quiet (subst (Knows old.files account) read knows)) (foretold_from old mid new given (quiet_gave old mid quiet) told)))
+    (c.run_script.ensures.runs account given tells (knows_quietly old mid account (Ok (ToRun c.in-Ok.script false)) quiet (subst (Knows old.files account) read knows))
+    (foretold_from old mid new given (quiet_gave old mid quiet) told)))
 
 pub returns-in-Ok-clause-grows : goal.returns-in-Ok-clause-grows
 returns-in-Ok-clause-grows g c account tells knows =
@@ -45,9 +47,9 @@ returns-in-Ok-clause-grows g c account tells knows =
     let file = old.files name in
     let quiet = c.read_script.ensures.quiet in
     let is = settled_value c.in_ok-script.field-0 c.in-Ok.script (λ value. c.read_script.result ≡ Ok value) c.in-Ok.is c.in_ok-script.ensures.value in
-    let read : script_in name file ≡ Ok c.in-Ok.script = subst (λ r. IsRead r (script_in name file)) is (c.read_script.ensures.read tells) in
+    let read : to_run (script_in name file) ≡ Ok (ToRun c.in-Ok.script false) = ap to_run (subst (λ r. IsRead r (script_in name file)) is (c.read_script.ensures.read tells)) in
     grows_joined old mid new (grows_none old mid (quiet_gave old mid quiet))
-    (c.run_script.ensures.grows account tells (knows_quietly old mid account (Ok c.in-Ok.script) quiet (subst (Knows old.files account) read knows)))
+    (c.run_script.ensures.grows account tells (knows_quietly old mid account (Ok (ToRun c.in-Ok.script false)) quiet (subst (Knows old.files account) read knows)))
 
 pub returns-in-Err-clause-runs : goal.returns-in-Err-clause-runs
 returns-in-Err-clause-runs g c account given tells knows told =
@@ -61,8 +63,8 @@ returns-in-Err-clause-runs g c account given tells knows told =
     let is = settled_refusal c.in_ok-script.field-0 refusal (λ r. c.read_script.result ≡ Err (Refused r)) c.in-Err.is c.in_ok-script.ensures.refusal in
     let read : script_in name file ≡ Err refusal = subst (λ r. IsRead r (script_in name file)) is (c.read_script.ensures.read tells) in
     let says = c.refuse.ensures.line tells in
-    runs_quietly c.refuse.result old mid new (script_in name file) account given quiet
-    (job_refused c.refuse.result c.refuse.result mid new (script_in name file) refusal account given read says (script_number name file refusal read c.refuse.result c.refuse.ensures.ok) says.said)
+    runs_quietly c.refuse.result old mid new (to_run (script_in name file)) account given quiet
+    (job_refused c.refuse.result c.refuse.result mid new (to_run (script_in name file)) refusal account given (ap to_run read) says (script_number name file refusal read c.refuse.result c.refuse.ensures.ok) says.said)
 
 pub returns-in-Err-clause-grows : goal.returns-in-Err-clause-grows
 returns-in-Err-clause-grows g c account tells knows =

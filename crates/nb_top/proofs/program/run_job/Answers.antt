@@ -1,8 +1,53 @@
-use Rattle.std.proofs.Common.{subst}
-use Rattle.nb_top.specs.Performed.{Knows, script_of_job}
+use Rattle.std.proofs.Common.{sym, subst}
+use Rattle.std.specs.Prelude.{Ok}
+use Rattle.nb_session.proofs.GiftLaws.{grows_none}
+use Rattle.nb_top.specs.Performed.{RunsTo, Knows}
+use Rattle.nb_top.specs.Requests.{ToRestore, request_of}
 use Rattle.nb_top.proofs.program.run_job.Goals as goal
 
-pub returns-clause-grows : goal.returns-clause-grows
-returns-clause-grows g c account tells knows =
+pub returns-in-Run-clause-runs : goal.returns-in-Run-clause-runs
+returns-in-Run-clause-runs g c account given tells knows told =
     let old = g.H.Host.world c.args.host.now in
-    c.run_file.ensures.grows account tells (subst (λ job. Knows old.files account (script_of_job old.files job)) c.in-Run.is knows)
+    let new = g.H.Host.world c.run_file.new.host in
+    subst (λ job. RunsTo c.run_file.result old new (request_of old.files job) account given) (sym c.in-Run.is)
+    (c.run_file.ensures.runs account given tells (subst (λ job. Knows old.files account (request_of old.files job)) c.in-Run.is knows) told)
+
+pub returns-in-Run-clause-grows : goal.returns-in-Run-clause-grows
+returns-in-Run-clause-grows g c account tells knows =
+    let old = g.H.Host.world c.args.host.now in
+    c.run_file.ensures.grows account tells (subst (λ job. Knows old.files account (request_of old.files job)) c.in-Run.is knows)
+
+pub returns-in-Restore-clause-runs : goal.returns-in-Restore-clause-runs
+returns-in-Restore-clause-runs g c account given tells knows told =
+    let old = g.H.Host.world c.args.host.now in
+    let new = g.H.Host.world c.run_restore.new.host in
+    subst (λ job. RunsTo c.run_restore.result old new (request_of old.files job) account given) (sym c.in-Restore.is)
+    (subst (λ names. RunsTo c.run_restore.result old new (Ok (ToRestore c.in-Restore.db names)) account given) c.as_slice.ensures
+    (c.run_restore.ensures.runs account given tells (subst (λ job. Knows old.files account (request_of old.files job)) c.in-Restore.is knows) told))
+
+pub returns-in-Restore-clause-grows : goal.returns-in-Restore-clause-grows
+returns-in-Restore-clause-grows g c account tells knows = grows_none (g.H.Host.world c.args.host.now) (g.H.Host.world c.run_restore.new.host) (c.run_restore.ensures.gave tells)
+
+pub returns-in-Lock-clause-runs : goal.returns-in-Lock-clause-runs
+returns-in-Lock-clause-runs g c account given tells knows told =
+    let old = g.H.Host.world c.args.host.now in
+    let new = g.H.Host.world c.run_asking.new.host in
+    subst (λ job. RunsTo c.run_asking.result old new (request_of old.files job) account given) (sym c.in-Lock.is)
+    (c.run_asking.ensures.runs account given tells (subst (λ job. Knows old.files account (request_of old.files job)) c.in-Lock.is knows) told)
+
+pub returns-in-Lock-clause-grows : goal.returns-in-Lock-clause-grows
+returns-in-Lock-clause-grows g c account tells knows =
+    let old = g.H.Host.world c.args.host.now in
+    c.run_asking.ensures.grows account tells (subst (λ job. Knows old.files account (request_of old.files job)) c.in-Lock.is knows)
+
+pub returns-in-Unlock-clause-runs : goal.returns-in-Unlock-clause-runs
+returns-in-Unlock-clause-runs g c account given tells knows told =
+    let old = g.H.Host.world c.args.host.now in
+    let new = g.H.Host.world c.run_asking-in-Unlock.new.host in
+    subst (λ job. RunsTo c.run_asking-in-Unlock.result old new (request_of old.files job) account given) (sym c.in-Unlock.is)
+    (c.run_asking-in-Unlock.ensures.runs account given tells (subst (λ job. Knows old.files account (request_of old.files job)) c.in-Unlock.is knows) told)
+
+pub returns-in-Unlock-clause-grows : goal.returns-in-Unlock-clause-grows
+returns-in-Unlock-clause-grows g c account tells knows =
+    let old = g.H.Host.world c.args.host.now in
+    c.run_asking-in-Unlock.ensures.grows account tells (subst (λ job. Knows old.files account (request_of old.files job)) c.in-Unlock.is knows)

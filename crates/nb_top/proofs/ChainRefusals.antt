@@ -1,0 +1,138 @@
+-- A chain of files is never refused as words are that name no job.
+use Rattle.std.proofs.Common.{◌≡◌, ◌≢◌, ℕ, ◌+◌, List, [], ◌∷◌, length, true, false, ap, subst}
+use Rattle.std.specs.Prelude.{Bool, ◌==◌, not, None, Some, Result, Ok, Err}
+use Rattle.nb_fields.specs.Bytes.{number_in}
+use Rattle.nb_fields.specs.Header.{is_header, signature, state_of}
+use Rattle.nb_host.specs.Files.{File, Files}
+use Rattle.nb_host.specs.Names.{same_name}
+use Rattle.nb_host.specs.declared.refusals.Refusal.{Refusal}
+use Rattle.nb_host.specs.declared.refusals.Refusal.TheVariants.{Usage, NoFile, BadLevel, ChainLevel, ChainGuid, ChainSize, ChainScn}
+use Rattle.nb_model.specs.Causes.{Cause, first_cause, when}
+use Rattle.nb_model.specs.Levels.{Contents, read_level, begins_level}
+use Rattle.nb_model.specs.Restoring.{Link, whole_link, level_link, is_bad_length, not_whole, first_link, not_behind, next_link, linked, next_links, verdict}
+use Rattle.nb_model.proofs.TodoLaws.{IsOther, other_first, other_when}
+
+-- it isn't refused, or for another reason
+abbrev IsFine : {T : Type 0} → Result T Refusal → Type 0
+IsFine (Ok value) = Unit {0}
+IsFine (Err refusal) = refusal ≢ Usage
+
+no_file : (name : List ℕ) → NoFile name ≢ Usage
+no_file name h = cc
+
+bad_level : (name : List ℕ) (at : ℕ) → BadLevel name at ≢ Usage
+bad_level name at h = cc
+
+chain_level : (name : List ℕ) (a b : ℕ) → ChainLevel name a b ≢ Usage
+chain_level name a b h = cc
+
+chain_guid : (name a b : List ℕ) → ChainGuid name a b ≢ Usage
+chain_guid name a b h = cc
+
+chain_size : (name : List ℕ) (a b : ℕ) → ChainSize name a b ≢ Usage
+chain_size name a b h = cc
+
+chain_scn : (name : List ℕ) (a b : ℕ) → ChainScn name a b ≢ Usage
+chain_scn name a b h = cc
+
+some_other : (r : Refusal) → r ≢ Usage → IsOther (Some r)
+some_other r h e = h (same e)
+  where
+    same : Some r ≡ Some Usage → r ≡ Usage
+    same k = cc
+
+-- a cause that refuses, or what comes where none does
+by_cause : (c : Cause) (l : Link) → IsOther c → IsFine (elim c as (λ z. Result Link Refusal) [ Some refusal ↦ Err refusal | None ↦ Ok l ])
+by_cause None l h = tt
+by_cause (Some r) l h = λ e. h (ap (λ (x : Refusal). Some x) e)
+
+whole_other : (name bytes : List ℕ) → IsOther (not_whole name bytes)
+unfolding not_whole
+whole_other name bytes = by (is_header bytes)
+  where
+    by : (t : Bool) → IsOther (elim t as (λ z. Cause) [
+      | false ↦ Some (BadLevel name 0)
+      | true ↦ first_cause (when (not (state_of bytes == 1)) (BadLevel name 22) ∷ when (is_bad_length bytes) (BadLevel name (length bytes)) ∷ [])
+    ])
+    by false = some_other (BadLevel name 0) (bad_level name 0)
+    by true = other_first (when (not (state_of bytes == 1)) (BadLevel name 22) ∷ when (is_bad_length bytes) (BadLevel name (length bytes)) ∷ []) (
+      other_when (not (state_of bytes == 1)) (BadLevel name 22) (bad_level name 22),
+      (other_when (is_bad_length bytes) (BadLevel name (length bytes)) (bad_level name (length bytes)), tt),
+    )
+
+first_fine : (name bytes : List ℕ) → IsFine (first_link name bytes)
+unfolding first_link
+first_fine name bytes = by (begins_level bytes) (read_level bytes)
+  where
+    by : (t : Bool) (r : Result Contents ℕ) → IsFine (elim t as (λ z. Result Link Refusal) [
+      | true ↦ elim r as (λ z. Result Link Refusal) [ Err at ↦ Err (BadLevel name at) | Ok c ↦ Err (ChainLevel name c.head.level 0) ]
+      | false ↦ elim (not_whole name bytes) as (λ z. Result Link Refusal) [ Some refusal ↦ Err refusal | None ↦ Ok (whole_link bytes) ]
+    ])
+    by true (Err at) = bad_level name at
+    by true (Ok c) = chain_level name c.head.level 0
+    by false r = by_cause (not_whole name bytes) (whole_link bytes) (whole_other name bytes)
+
+behind_other : (k : ℕ) (last : Link) (name : List ℕ) (c : Contents) → IsOther (not_behind k last name c)
+unfolding not_behind
+behind_other k last name c = other_first (
+    when (not (c.head.level == k)) (ChainLevel name c.head.level k)
+    ∷ when (not (same_name c.head.previous last.guid)) (ChainGuid name c.head.previous last.guid)
+    ∷ when (not (c.head.size == last.size)) (ChainSize name c.head.size last.size)
+    ∷ when (not (c.head.previous_scn == last.scn)) (ChainScn name c.head.previous_scn last.scn)
+    ∷ []) (
+      other_when (not (c.head.level == k)) (ChainLevel name c.head.level k) (chain_level name c.head.level k),
+      (
+        other_when (not (same_name c.head.previous last.guid)) (ChainGuid name c.head.previous last.guid) (chain_guid name c.head.previous last.guid),
+        (
+          other_when (not (c.head.size == last.size)) (ChainSize name c.head.size last.size) (chain_size name c.head.size last.size),
+          (other_when (not (c.head.previous_scn == last.scn)) (ChainScn name c.head.previous_scn last.scn) (chain_scn name c.head.previous_scn last.scn), tt),
+        ),
+      ),
+    )
+
+next_fine : (k : ℕ) (last : Link) (name bytes : List ℕ) → IsFine (next_link k last name bytes)
+unfolding next_link
+next_fine k last name bytes = by (begins_level bytes) (number_in 16 4 bytes == signature) (read_level bytes)
+  where
+    by : (t signed : Bool) (r : Result Contents ℕ) → IsFine (elim t as (λ z. Result Link Refusal) [
+      | false ↦ elim signed as (λ z. Result Link Refusal) [ true ↦ Err (ChainLevel name 0 k) | false ↦ Err (BadLevel name 0) ]
+      | true ↦ elim r as (λ z. Result Link Refusal) [
+        | Err at ↦ Err (BadLevel name at)
+        | Ok c ↦ elim (not_behind k last name c) as (λ z. Result Link Refusal) [ Some refusal ↦ Err refusal | None ↦ Ok (level_link c) ]
+      ]
+    ])
+    by false true r = chain_level name 0 k
+    by false false r = bad_level name 0
+    by true signed (Err at) = bad_level name at
+    by true signed (Ok c) = by_cause (not_behind k last name c) (level_link c) (behind_other k last name c)
+
+linked_fine : (l : Link) (rest : Result (List Link) Refusal) → IsFine rest → IsFine (linked l rest)
+linked_fine l (Ok links) h = tt
+linked_fine l (Err refusal) h = h
+
+-- a file that is there, and those behind it
+file_fine : (answer : Result Link Refusal) (rest : Link → Result (List Link) Refusal) → IsFine answer → ((l : Link) → IsFine (rest l))
+    → IsFine (elim answer as (λ z. Result (List Link) Refusal) [ Err refusal ↦ Err refusal | Ok l ↦ linked l (rest l) ])
+file_fine (Ok l) rest h later = linked_fine l (rest l) (later l)
+file_fine (Err refusal) rest h later = h
+
+named_fine : (name : List ℕ) (file : File) (link : List ℕ → Result Link Refusal) (rest : Link → Result (List Link) Refusal) → ((bytes : List ℕ) → IsFine (link bytes)) → ((l : Link) → IsFine (rest l))
+    → IsFine (elim file as (λ z. Result (List Link) Refusal) [
+      | None ↦ Err (NoFile name)
+      | Some bytes ↦ elim (link bytes) as (λ z. Result (List Link) Refusal) [ Err refusal ↦ Err refusal | Ok l ↦ linked l (rest l) ]
+    ])
+named_fine name None link rest h later = no_file name
+named_fine name (Some bytes) link rest h later = file_fine (link bytes) rest (h bytes) later
+
+nexts_fine : (files : Files) (k : ℕ) (last : Link) (names : List (List ℕ)) → IsFine (next_links files k last names)
+unfolding next_links
+nexts_fine files k last [] = tt
+nexts_fine files k last (name ∷ names) = named_fine name (files name) (next_link k last name) (λ (l : Link). next_links files (k + 1) l names) (next_fine k last name) (λ l. nexts_fine files (k + 1) l names)
+
+chain_fine : (files : Files) (names : List (List ℕ)) → IsFine (verdict files names)
+unfolding verdict
+chain_fine files [] = tt
+chain_fine files (name ∷ names) = named_fine name (files name) (first_link name) (λ (l : Link). next_links files 1 l names) (first_fine name) (λ l. nexts_fine files 1 l names)
+
+pub refused_chain : (files : Files) (names : List (List ℕ)) (refusal : Refusal) → verdict files names ≡ Err refusal → refusal ≢ Usage
+refused_chain files names refusal is = subst (λ (r : Result (List Link) Refusal). IsFine r) is (chain_fine files names)

@@ -1,0 +1,240 @@
+-- What the words ask for can be asked.
+use Rattle.std.proofs.Common.{◌≡◌, ◌⊎◌, ⊎_elim, ℕ, zero, suc, ◌-◌, ◌≤◌, List, [], ◌∷◌, length, get_or, true, false, refl, ap, subst, arith}
+use Rattle.std.specs.Prelude.{Bool, ◌&&◌, ◌==◌, not, nat_le, slice_index, codes, Option, Some, None, Result, Ok, Err, IfOk, IfErr, replicate}
+use Rattle.std.specs.List.{AllByRecursion, list_all}
+use Rattle.std.proofs.lemmas.Bool.{and_parts, leb-true}
+use Rattle.nb_host.specs.Files.{File, Files}
+use Rattle.nb_host.specs.Names.{is_name, is_delta, same_name}
+use Rattle.nb_host.specs.declared.faults.Fault.{Fault}
+use Rattle.nb_host.specs.declared.faults.Fault.TheVariants.{Refused, Memory}
+use Rattle.nb_host.specs.declared.refusals.Refusal.{Refusal}
+use Rattle.nb_host.specs.declared.refusals.Refusal.TheVariants.{Usage}
+use Rattle.nb_model.specs.declared.job.Job.{Job}
+use Rattle.nb_model.specs.declared.job.Job.TheVariants.{Run, Stat, Gen, Backup, BackupSince, Restore, Apply, Lock, LockWithSize, Unlock, Fixup}
+use Rattle.nb_model.specs.declared.statement.Statement.{Statement}
+use Rattle.nb_model.specs.declared.statement.Statement.TheVariants.{BeginBackup, EndBackup}
+use Rattle.nb_model.specs.Words.{Word, Read, are_flags, is_database, is_file, job_if, number_in_word, plain_job, backup_job, restore_job, apply_job, database_job, read_words, job_of_flags, job_read, job_of}
+use Rattle.nb_script.specs.Asked.{IsFurther, IsAskable}
+use Rattle.nb_script.specs.Fits.{IsBase}
+use Rattle.nb_script.specs.Scripts.{Plan}
+use Rattle.nb_script.proofs.AskedLemmas.{answer_is_askable}
+use Rattle.nb_top.specs.Requests.{Request, ToRun, ToRestore, FitsJob, is_job_built, built_job, job_asked, script_in, to_run, plan_of, request_of, request_asked}
+
+-- The statements of a script can be asked today. The names of a restore are none that a difference file may have, and there is a first file.
+abbrev pub CanBeAsked : Request → Type 0
+CanBeAsked (ToRun plan is_quiet) = IsAskable plan
+CanBeAsked (ToRestore db names) = (is_delta db ≡ false) × AllByRecursion (λ (name : List ℕ). is_delta name ≡ false) names × (1 ≤ length names)
+
+-- The names of a job that words give.
+abbrev IfJob : Option Job → Type 0
+IfJob None = Unit {0}
+IfJob (Some job) = FitsJob job
+
+if_fits : (b : Bool) (job : Job) → (b ≡ true → FitsJob job) → IfJob (job_if b job)
+if_fits true job fits = fits refl
+if_fits false job fits = tt
+
+lock_fits : (plain : List Word) → IfJob (database_job Lock plain)
+lock_fits [] = tt
+lock_fits (db ∷ []) = if_fits (is_database db) (Lock db) (λ is. is)
+lock_fits (db ∷ w ∷ ws) = tt
+
+unlock_fits : (plain : List Word) → IfJob (database_job Unlock plain)
+unlock_fits [] = tt
+unlock_fits (db ∷ []) = if_fits (is_database db) (Unlock db) (λ is. is)
+unlock_fits (db ∷ w ∷ ws) = tt
+
+sized_fits : (plain : List Word) → IfJob (database_job LockWithSize plain)
+sized_fits [] = tt
+sized_fits (db ∷ []) = if_fits (is_database db) (LockWithSize db) (λ is. tt)
+sized_fits (db ∷ w ∷ ws) = tt
+
+fixup_fits : (plain : List Word) → IfJob (database_job Fixup plain)
+fixup_fits [] = tt
+fixup_fits (db ∷ []) = if_fits (is_database db) (Fixup db) (λ is. tt)
+fixup_fits (db ∷ w ∷ ws) = tt
+
+apply_fits : (plain : List Word) → IfJob (apply_job plain)
+apply_fits [] = tt
+apply_fits (db ∷ []) = tt
+apply_fits (db ∷ file ∷ []) = if_fits (is_database db && is_file file) (Apply db file) (λ is. tt)
+apply_fits (db ∷ file ∷ w ∷ ws) = tt
+
+restore_fits : (plain : List Word) → IfJob (restore_job plain)
+restore_fits [] = tt
+restore_fits (db ∷ files) = if_fits (is_database db && nat_le 1 (length files) && nat_le (length files) 10 && list_all is_file files) (Restore db files) fits
+  where
+    fits : (is_database db && nat_le 1 (length files) && nat_le (length files) 10 && list_all is_file files) ≡ true → FitsJob (Restore db files)
+    fits is =
+        let all = and_parts (is_database db && nat_le 1 (length files) && nat_le (length files) 10) (list_all is_file files) is in
+        let few = and_parts (is_database db && nat_le 1 (length files)) (nat_le (length files) 10) all.0 in
+        let some = and_parts (is_database db) (nat_le 1 (length files)) few.0 in
+        (some.0, leb-true 1 (length files) some.1, leb-true (length files) 10 few.1, all.1)
+
+backup_fits : (plain : List Word) → IfJob (backup_job plain)
+backup_fits [] = tt
+backup_fits (since ∷ []) = tt
+backup_fits (since ∷ db ∷ []) = tt
+backup_fits (since ∷ db ∷ file ∷ []) = by _
+  where
+    is_level : Bool
+    is_level = length since == 1 && (nat_le 48 (slice_index since 0) && nat_le (slice_index since 0) 57) && is_database db && is_file file
+
+    by : (guid : Option (List ℕ)) → IfJob (elim guid as (λ z. Option Job) [ Some g ↦ job_if (is_database db && is_file file) (BackupSince g db file) | None ↦ job_if is_level (Backup (slice_index since 0 - 48) db file) ])
+    by (Some g) = if_fits (is_database db && is_file file) (BackupSince g db file) (λ is. tt)
+    by None = if_fits is_level (Backup (slice_index since 0 - 48) db file) (λ is. tt)
+backup_fits (since ∷ db ∷ file ∷ w ∷ ws) = tt
+
+plain_fits : (plain : List Word) → IfJob (plain_job plain)
+plain_fits [] = tt
+plain_fits (verb ∷ []) = tt
+plain_fits (verb ∷ name ∷ []) = by (same_name verb (codes "run"))
+  where
+    by : (b : Bool) → IfJob (elim b as (λ z. Option Job) [ true ↦ job_if (is_file name) (Run name) | false ↦ job_if (same_name verb (codes "stat") && is_database name) (Stat name) ])
+    by true = if_fits (is_file name) (Run name) (λ is. tt)
+    by false = if_fits (same_name verb (codes "stat") && is_database name) (Stat name) (λ is. tt)
+plain_fits (verb ∷ number ∷ name ∷ []) = by (number_in_word number)
+  where
+    by : (n : Option ℕ) → IfJob (elim n as (λ z. Option Job) [ None ↦ None | Some k ↦ job_if (same_name verb (codes "gen") && is_file name) (Gen k name) ])
+    by None = tt
+    by (Some k) = if_fits (same_name verb (codes "gen") && is_file name) (Gen k name) (λ is. tt)
+plain_fits (verb ∷ number ∷ name ∷ w ∷ ws) = tt
+
+flags_fit : (flags : List ℕ) (rows : List (List ℕ × Option Job)) → AllByRecursion (λ (row : List ℕ × Option Job). IfJob row.1) rows → IfJob (job_of_flags flags rows)
+unfolding job_of_flags
+flags_fit flags [] all = tt
+flags_fit flags (row ∷ rows) all = by (are_flags flags row.0) (flags_fit flags rows all.1)
+  where
+    by : (b : Bool) → IfJob (job_of_flags flags rows) → IfJob (elim b as (λ z. Option Job) [ true ↦ row.1 | false ↦ job_of_flags flags rows ])
+    by true later = all.0
+    by false later = later
+
+read_fits : (read : Read) → IfJob (job_read read)
+unfolding job_read
+read_fits read = flags_fit read.flags _
+    (plain_fits read.plain, (backup_fits read.plain, (restore_fits read.plain, (apply_fits read.plain, (lock_fits read.plain, (sized_fits read.plain, (unlock_fits read.plain, (fixup_fits read.plain, tt))))))))
+
+words_fit : (words : List Word) → IfJob (job_of words)
+unfolding job_of
+words_fit words = by (read_words words)
+  where
+    by : (read : Option Read) → IfJob (elim read as (λ z. Option Job) [ None ↦ None | Some r ↦ job_read r ])
+    by None = tt
+    by (Some r) = read_fits r
+
+pub fits_words : (words : List Word) (job : Job) → job_of words ≡ Some job → FitsJob job
+fits_words words job is = subst IfJob is (words_fit words)
+
+-- what the words ask for
+pub asked_usage : (files : Files) (words : List Word) → job_asked words ≡ None → request_asked files words ≡ Err Usage
+asked_usage files words is = ap (λ (j : Option Job). elim j as (λ z. Result Request Refusal) [ None ↦ Err Usage | Some job ↦ request_of files job ]) is
+
+pub asked_job : (files : Files) (words : List Word) (job : Job) → job_asked words ≡ Some job → request_asked files words ≡ request_of files job
+asked_job files words job is = ap (λ (j : Option Job). elim j as (λ z. Result Request Refusal) [ None ↦ Err Usage | Some k ↦ request_of files k ]) is
+
+-- The script of a job that asks a database one thing.
+none_further : (n i : ℕ) → AllByRecursion IsFurther (get_or (replicate n []) i [])
+none_further zero i = tt
+none_further (suc n) zero = tt
+none_further (suc n) (suc i) = none_further n i
+
+one_further : (statement : Statement) → IsFurther statement → (i : ℕ) → AllByRecursion IsFurther (get_or ((statement ∷ []) ∷ replicate 15 []) i [])
+one_further statement is zero = (is, tt)
+one_further statement is (suc i) = none_further 15 i
+
+swapped : (a b d : Bool) → (a && d && b) ≡ true → (a && b && d) ≡ true
+swapped true true true h = refl
+swapped true true false h = h
+swapped true false true h = h
+swapped true false false h = h
+swapped false b d h = h
+
+base_given : (db : List ℕ) → is_database db ≡ true → IsBase db
+base_given db is = swapped (is_name db) (nat_le (length db) 94) (not (is_delta db)) is
+
+pub plan_askable : (db : List ℕ) (statement : Statement) → is_database db ≡ true → IsFurther statement → IsAskable (plan_of db statement)
+plan_askable db statement is further = record {
+  asker = (omega arith, omega arith);
+  first = record { is_built = refl; opens = refl; fits = (base_given db is, omega arith, omega arith) };
+  order = record { few = omega arith; each = tt };
+  sixteen = refl;
+  few = omega arith;
+  further = λ session. one_further statement further (session - 1);
+}
+
+pub begin_askable : (db : List ℕ) → is_database db ≡ true → IsAskable (plan_of db BeginBackup)
+begin_askable db is = plan_askable db BeginBackup is (record { is_built = refl; opens_none = refl; fits = tt })
+
+pub end_askable : (db : List ℕ) → is_database db ≡ true → IsAskable (plan_of db EndBackup)
+end_askable db is = plan_askable db EndBackup is (record { is_built = refl; opens_none = refl; fits = tt })
+
+-- A script that a file spells can be asked.
+err_ok : (refusal : Refusal) (plan : Plan) → Err refusal ≡ Ok plan → ⊥
+err_ok refusal plan h = cc
+
+pub askable_in : (name : List ℕ) (file : File) (plan : Plan) → script_in name file ≡ Ok plan → IsAskable plan
+askable_in name None plan is = absurd (err_ok _ plan is)
+askable_in name (Some bytes) plan is = answer_is_askable bytes (Ok plan) is
+
+not_true : (b : Bool) → not b ≡ true → b ≡ false
+not_true true h = cc
+not_true false h = refl
+
+-- no file that words name is a difference file
+plain_file : (name : List ℕ) → is_file name ≡ true → is_delta name ≡ false
+plain_file name is = not_true (is_delta name) (and_parts (is_name name) (not (is_delta name)) is).1
+
+plain_files : (names : List (List ℕ)) → list_all is_file names ≡ true → AllByRecursion (λ (name : List ℕ). is_delta name ≡ false) names
+plain_files [] all = tt
+plain_files (name ∷ names) all = let parts = and_parts (is_file name) (list_all is_file names) all in (plain_file name parts.0, plain_files names parts.1)
+
+restore_asked : (db : List ℕ) (names : List (List ℕ)) → FitsJob (Restore db names) → CanBeAsked (ToRestore db names)
+restore_asked db names fits = (plain_file db (and_parts (is_file db) (nat_le (length db) 94) fits.0).0, plain_files names fits.3, fits.1)
+
+-- What the words ask for can be asked.
+module _ (files : Files) (r : Request) where
+  none_asked : (refusal : Refusal) → Err refusal ≡ Ok r → CanBeAsked r
+  none_asked refusal h = absurd (never h)
+    where
+      never : Err refusal ≡ Ok r → ⊥
+      never h = cc
+
+  this_asked : (q : Request) → CanBeAsked q → ◌≡◌ {A = Result Request Refusal} (Ok q) (Ok r) → CanBeAsked r
+  this_asked q can e = subst CanBeAsked (same e) can
+    where
+      same : ◌≡◌ {A = Result Request Refusal} (Ok q) (Ok r) → q ≡ r
+      same h = cc
+
+  run_asked : (name : List ℕ) (s : Result Plan Refusal) → script_in name (files name) ≡ s → to_run s ≡ Ok r → CanBeAsked r
+  run_asked name (Ok plan) is e = this_asked (ToRun plan false) (askable_in name (files name) plan is) e
+  run_asked name (Err refusal) is e = none_asked refusal e
+
+  job_can : (job : Job) → FitsJob job → request_of files job ≡ Ok r → CanBeAsked r
+  job_can (Run name) fits e = run_asked name (script_in name (files name)) refl e
+  job_can (Lock db) fits e = this_asked (ToRun (plan_of db BeginBackup) true) (begin_askable db fits) e
+  job_can (Unlock db) fits e = this_asked (ToRun (plan_of db EndBackup) true) (end_askable db fits) e
+  job_can (Restore db names) fits e = this_asked (ToRestore db names) (restore_asked db names fits) e
+  job_can other fits e = none_asked Usage e
+
+  pub can_be_asked : (words : List Word) → request_asked files words ≡ Ok r → CanBeAsked r
+  can_be_asked words = by (job_of words) refl
+    where
+      by_built : (job : Job) (b : Bool) → FitsJob job → elim (elim b as (λ z. Option Job) [ true ↦ Some job | false ↦ None ]) as (λ z. Result Request Refusal) [ None ↦ Err Usage | Some k ↦ request_of files k ] ≡ Ok r → CanBeAsked r
+      by_built job true fits e = job_can job fits e
+      by_built job false fits e = none_asked Usage e
+
+      by : (job : Option Job) → job_of words ≡ job → elim (built_job job) as (λ z. Result Request Refusal) [ None ↦ Err Usage | Some k ↦ request_of files k ] ≡ Ok r → CanBeAsked r
+      by None is e = none_asked Usage e
+      by (Some job) is e = by_built job (is_job_built job) (fits_words words job is) e
+
+-- the answer of a reading
+pub asked_read : (files : Files) (words : List Word) (answer : Result Job Fault) (job : Job) → answer ≡ Ok job → IfOk answer (λ (j : Job). job_asked words ≡ Some j) → request_asked files words ≡ request_of files job
+asked_read files words answer job is read = asked_job files words job (subst (λ (a : Result Job Fault). IfOk a (λ (j : Job). job_asked words ≡ Some j)) is read)
+
+pub unread_words : (words : List Word) (answer : Result Job Fault) (refusal : Refusal) → answer ≡ Err (Refused refusal) → IfErr answer (λ (fault : Fault). (fault ≡ Memory) ⊎ ((fault ≡ Refused Usage) × (job_asked words ≡ None)))
+    → job_asked words ≡ None
+unread_words words answer refusal is why =
+    ⊎_elim (λ memory. absurd (refused_memory memory)) (λ usage. usage.1) (subst (λ (a : Result Job Fault). IfErr a (λ (fault : Fault). (fault ≡ Memory) ⊎ ((fault ≡ Refused Usage) × (job_asked words ≡ None)))) is why)
+  where
+    refused_memory : Refused refusal ≡ Memory → ⊥
+    refused_memory h = cc

@@ -1,0 +1,93 @@
+-- The one turn of a restore: what it must be, and what stands behind it.
+use Rattle.std.proofs.Common.{◌≡◌, ◌⊎◌, inl, inr, ℕ, List, [], ◌∷◌, length, true, false, refl, sym, ap, ◌∙◌}
+use Rattle.std.specs.Prelude.{Bool, None, Result, Ok, Err}
+use Rattle.nb_host.specs.Files.{Files}
+use Rattle.nb_host.specs.declared.refusals.Refusal.{Refusal}
+use Rattle.nb_host.specs.declared.refusals.Refusal.TheVariants.{FileExists}
+use Rattle.nb_model.specs.declared.reply.Reply.TheVariants.{Pages}
+use Rattle.nb_model.specs.Account.{Account}
+use Rattle.nb_model.specs.Causes.{is_free_entry}
+use Rattle.nb_model.specs.Jobs.{only_turn, only_refusal, restore_turn, account_behind}
+use Rattle.nb_model.specs.Outcomes.{Given}
+use Rattle.nb_model.specs.Restoring.{Link, verdict, applied}
+use Rattle.nb_model.specs.Run.{Event, account_after}
+use Rattle.nb_model.specs.Steps.{makes, settles, made, steps_of}
+use Rattle.nb_model.specs.Strokes.{make, fixed, base_in}
+use Rattle.nb_model.specs.Trail.{settled}
+use Rattle.nb_model.proofs.StepsLaws.{steps_one}
+use Rattle.nb_restore.specs.Restore.{base_from}
+use Rattle.nb_top.specs.Performed.{IsPerformed, seen_after}
+use Rattle.nb_top.specs.Requests.{ToRestore}
+use Rattle.nb_top.proofs.FirstLaws.{made_trail}
+
+-- the turn that makes the database which these files give
+abbrev pub made_turn : List Link → Event
+made_turn links = only_turn (Pages (length (applied links))) (make (fixed (applied links)) ∷ [])
+
+-- why a restore is refused: the name of its target isn't free, or the files are no chain
+abbrev pub WhyRefused : Files → Account → (db : List ℕ) (names : List (List ℕ)) → Refusal → Type 0
+WhyRefused files account db names refusal =
+    ((is_free_entry (account.entry db) ≡ false) × (refusal ≡ FileExists db))
+    ⊎ ((is_free_entry (account.entry db) ≡ true) × (verdict files names ≡ Err refusal))
+
+-- The turn is refused, or it makes the database that the files give.
+pub data RestoreTurn (files : Files) (account : Account) (db : List ℕ) (names : List (List ℕ)) : Type 0 where
+  refuses : (refusal : Refusal) → WhyRefused files account db names refusal → restore_turn files account db names ≡ only_refusal refusal → RestoreTurn files account db names
+  restores : (links : List Link) → is_free_entry (account.entry db) ≡ true → verdict files names ≡ Ok links → restore_turn files account db names ≡ made_turn links → RestoreTurn files account db names
+
+module _ (files : Files) (account : Account) (db : List ℕ) (names : List (List ℕ)) where
+  taken_turn : is_free_entry (account.entry db) ≡ false → restore_turn files account db names ≡ only_refusal (FileExists db)
+  unfolding restore_turn
+  taken_turn taken = rw (taken, restore_turn) refl
+
+  broken_turn : (refusal : Refusal) → is_free_entry (account.entry db) ≡ true → verdict files names ≡ Err refusal → restore_turn files account db names ≡ only_refusal refusal
+  unfolding restore_turn
+  broken_turn refusal free broken = rw (free, restore_turn) (rw (broken, restore_turn) refl)
+
+  -- it is refused
+  pub refused_turn : (refusal : Refusal) → WhyRefused files account db names refusal → restore_turn files account db names ≡ only_refusal refusal
+  refused_turn refusal (inl taken) = taken_turn taken.0 ∙ ap only_refusal (sym taken.1)
+  refused_turn refusal (inr broken) = broken_turn refusal broken.0 broken.1
+
+  -- it makes the database
+  pub done_turn : (links : List Link) → is_free_entry (account.entry db) ≡ true → verdict files names ≡ Ok links → restore_turn files account db names ≡ made_turn links
+  unfolding restore_turn
+  done_turn links free accepted = rw (free, restore_turn) (rw (accepted, restore_turn) refl)
+
+  -- There is nothing else that it may be.
+  pub turn_is : RestoreTurn files account db names
+  turn_is = by (is_free_entry (account.entry db)) refl
+    where
+      by : (free : Bool) → is_free_entry (account.entry db) ≡ free → RestoreTurn files account db names
+      by false is = let why : WhyRefused files account db names (FileExists db) = inl (is, refl) in refuses (FileExists db) why (refused_turn (FileExists db) why)
+      by true is = of_verdict (verdict files names) refl
+        where
+          of_verdict : (answer : Result (List Link) Refusal) → verdict files names ≡ answer → RestoreTurn files account db names
+          of_verdict (Ok links) accepted = restores links is accepted (done_turn links is accepted)
+          of_verdict (Err refusal) broken = let why : WhyRefused files account db names refusal = inr (is, broken) in refuses refusal why (refused_turn refusal why)
+
+  -- a refused one leaves the account
+  pub refused_account : (refusal : Refusal) → account_behind db (only_refusal refusal) account ≡ account
+  unfolding account_behind
+  refused_account refusal = refl
+
+  pub made_account : (links : List Link) → account_behind db (made_turn links) account ≡ account_after db (make (fixed (applied links)) ∷ []) None account
+  unfolding account_behind
+  made_account links = refl
+
+  -- what is asked for is done by it
+  pub refused_performed : (given : Given) (refusal : Refusal) → restore_turn files account db names ≡ only_refusal refusal → IsPerformed files (Ok (ToRestore db names)) account given (only_refusal refusal ∷ []) account given
+  refused_performed given refusal is = (ap (λ (e : Event). e ∷ []) (sym is), sym (ap (λ (e : Event). account_behind db e account) is ∙ refused_account refusal), refl)
+
+  pub made_performed : (given : Given) (links : List Link) → restore_turn files account db names ≡ made_turn links
+      → IsPerformed files (Ok (ToRestore db names)) account given (made_turn links ∷ []) (account_behind db (made_turn links) account) given
+  made_performed given links is = (ap (λ (e : Event). e ∷ []) (sym is), ap (λ (e : Event). account_behind db e account) (sym is), refl)
+
+-- the database is made, and kept for good
+pub made_steps : (links : List Link) → steps_of (made_turn links ∷ []) ≡ makes (make (fixed (applied links))) ∷ settles ∷ []
+unfolding steps_of made
+made_steps links = refl
+
+-- which leaves a settled point
+pub made_seen : (account : Account) (db : List ℕ) (links : List Link) → seen_after account db (steps_of (made_turn links ∷ [])) ≡ settled (base_from links)
+made_seen account db links = ap (seen_after account db) (steps_one (made_turn links)) ∙ made_trail (base_in (account.entry db)) (fixed (applied links)) 1 (Pages (length (applied links)))

@@ -1,0 +1,75 @@
+-- What the words of the command line ask for.
+use Rattle.std.specs.Prelude.{◌≡◌, ℕ, ◌≤◌, Bool, true, false, List, [], ◌∷◌, length, replicate, Option, None, Some, Result, Ok, Err}
+use Rattle.std.specs.List.{list_all}
+use Rattle.nb_host.specs.Files.{File, Files}
+use Rattle.nb_host.specs.declared.refusals.Refusal.{Refusal}
+use Rattle.nb_host.specs.declared.refusals.Refusal.TheVariants.{Usage, NoFile}
+use Rattle.nb_model.specs.declared.job.Job.{Job}
+use Rattle.nb_model.specs.declared.job.Job.TheVariants.{Run, Stat, Gen, Backup, BackupSince, Restore, Apply, Lock, LockWithSize, Unlock, Fixup}
+use Rattle.nb_model.specs.declared.statement.Statement.{Statement}
+use Rattle.nb_model.specs.declared.statement.Statement.TheVariants.{OpenDb, BeginBackup, EndBackup}
+use Rattle.nb_model.specs.Jobs.{usual_cache}
+use Rattle.nb_model.specs.Words.{job_of, is_database, is_file}
+use Rattle.nb_script.specs.Scripts.{Plan, script_of}
+
+-- the jobs that are done today
+abbrev pub is_job_built : Job → Bool
+is_job_built (Run script) = true
+is_job_built (Stat db) = false
+is_job_built (Gen number script) = false
+is_job_built (Backup level db file) = false
+is_job_built (BackupSince guid db file) = false
+is_job_built (Restore db files) = true
+is_job_built (Apply db file) = false
+is_job_built (Lock db) = true
+is_job_built (LockWithSize db) = false
+is_job_built (Unlock db) = true
+is_job_built (Fixup db) = false
+
+-- the names of such a job are those that words may give
+abbrev pub FitsJob : Job → Type 0
+FitsJob (Lock db) = is_database db ≡ true
+FitsJob (Unlock db) = is_database db ≡ true
+FitsJob (Restore db files) = (is_database db ≡ true) × (1 ≤ length files) × (length files ≤ 10) × (list_all is_file files ≡ true)
+FitsJob other = Unit {0}
+
+-- the job that the words name, of those that are done today
+abbrev pub built_job : Option Job → Option Job
+built_job None = None
+built_job (Some job) = elim (is_job_built job) [ true ↦ Some job | false ↦ None ]
+
+abbrev pub job_asked : (words : List (List ℕ)) → Option Job
+job_asked words = built_job (job_of words)
+
+-- What a job asks for.
+pub data Request : Type 0 where
+  -- the run of a script; of a quiet one the first statement says only why it is refused
+  ToRun : (plan : Plan) (is_quiet : Bool) → Request
+  -- a database that the files of a chain give
+  ToRestore : (db : List ℕ) (names : List (List ℕ)) → Request
+
+-- the script that a file spells, or why there is none
+abbrev pub script_in : (name : List ℕ) → File → Result Plan Refusal
+script_in name None = Err (NoFile name)
+script_in name (Some bytes) = script_of bytes
+
+-- to run it
+abbrev pub to_run : Result Plan Refusal → Result Request Refusal
+to_run (Ok plan) = Ok (ToRun plan false)
+to_run (Err refusal) = Err refusal
+
+-- the script of a job that opens a database and asks it one thing
+abbrev pub plan_of : (db : List ℕ) → Statement → Plan
+plan_of db statement = record { first_session = 1; first = OpenDb db usual_cache; schedule = []; sessions = (statement ∷ []) ∷ replicate 15 [] }
+
+-- what a job asks for, or why it is refused
+abbrev pub request_of : Files → Job → Result Request Refusal
+request_of files (Run script) = to_run (script_in script (files script))
+request_of files (Lock db) = Ok (ToRun (plan_of db BeginBackup) true)
+request_of files (Unlock db) = Ok (ToRun (plan_of db EndBackup) true)
+request_of files (Restore db names) = Ok (ToRestore db names)
+request_of files other = Err Usage
+
+-- what the words ask for
+abbrev pub request_asked : Files → (words : List (List ℕ)) → Result Request Refusal
+request_asked files words = elim (job_asked words) [ None ↦ Err Usage | Some job ↦ request_of files job ]
