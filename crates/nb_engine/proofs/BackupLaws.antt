@@ -8,7 +8,7 @@ use Rattle.nb_host.specs.declared.refusals.Refusal.{Refusal}
 use Rattle.nb_page.specs.Quiet.{Quiet}
 use Rattle.nb_model.specs.declared.reply.Reply.TheVariants.{Refused, Scn}
 use Rattle.nb_model.specs.Image.{image_scn}
-use Rattle.nb_model.specs.Account.{Base}
+use Rattle.nb_model.specs.Account.{Base, Ask}
 use Rattle.nb_model.specs.Strokes.{Stroke, begin}
 use Rattle.nb_model.specs.Causes.{Cause, read_only, not_state, no_scn}
 use Rattle.nb_model.specs.Outcomes.{Seen, Outcome, next_guid, without_guid, says, unless}
@@ -16,10 +16,10 @@ use Rattle.nb_model.specs.Pages.{begin_turn, end_turn, end_strokes, end_scn, end
 use Rattle.nb_model.specs.Trail.{Trail}
 use Rattle.nb_base.specs.Takes.{Strikes, after_strokes}
 use Rattle.nb_state.specs.Open.{Held, IsOpen, name_of}
-use Rattle.nb_state.specs.Does.{unless_by}
+use Rattle.nb_state.specs.Does.{Tested, unless_by}
 use Rattle.nb_state.specs.Turns.{begin_cause, end_cause, Begins, Ends}
 use Rattle.nb_state.proofs.MakesLaws.{open_still, none_yet}
-use Rattle.nb_engine.specs.Turns.{DoesBegin, DoesEnd}
+use Rattle.nb_engine.specs.Turns.{DoesBegin, DoesEnd, Starts, starting_cause}
 use Rattle.nb_engine.proofs.CauseLaws.{unless_refused, unless_allowed, first_next, first_here}
 use Rattle.nb_engine.proofs.DoesLaws.{seeing}
 
@@ -159,3 +159,33 @@ module _ (old new : World) (a b : Held) (t : Trail) (s : Seen) (is : IsOpen old 
           }
       by (Err Device) is_ended = record { says = tt; left = left is_ended.left; opened = tt; running = tt; answer = tt; merged = tt; gave = is_ended.gave; refused = tt; name = is_ended.name }
       by (Err Memory) is_ended = record { says = tt; left = left is_ended.left; opened = tt; running = tt; answer = tt; merged = tt; gave = is_ended.gave; refused = tt; name = is_ended.name }
+
+-- A backup that is asked for is refused before it begins, or begins as in the store.
+module _ (t : Trail) (guid : List ℕ) (ask : Option Ask) where
+  pub not_started : {r : Refusal} (w : World) (a : Held) → Quiet w w → IsOpen w a t → read_only t.base.image ≡ Some r → Starts (Err (RefusedFault r)) w w a a t guid ask
+  not_started {r = r} w a quiet is closed = record {
+    test = first_here (read_only t.base.image) (not_state 0 t.base.image ∷ no_scn t.base.image ∷ []) r closed;
+    left = none_yet w w a t _ quiet is;
+    opened = tt;
+    answer = tt;
+    gave = tt;
+    times = refl;
+    refused = (refl, quiet);
+    running = refl;
+    name = refl;
+  }
+
+  pub started : (result : Result ℕ Fault) (old new : World) (a b : Held) → read_only t.base.image ≡ None → Begins result old new a b t guid ask → Starts result old new a b t guid ask
+  started result old new a b free begins =
+      let same : starting_cause t.base.image ≡ begin_cause t.base.image = first_next (read_only t.base.image) (not_state 0 t.base.image ∷ no_scn t.base.image ∷ []) free in
+      record {
+        test = subst (λ (c : Cause). Tested result c) (sym same) begins.test;
+        left = subst (λ (c : Cause). Strikes old new (name_of a) t (unless_by c (begin guid ask ∷ []))) (sym same) begins.left;
+        opened = begins.opened;
+        answer = begins.answer;
+        gave = begins.gave;
+        times = begins.times;
+        refused = begins.refused;
+        running = begins.running;
+        name = begins.name;
+      }

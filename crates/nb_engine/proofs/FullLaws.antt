@@ -1,10 +1,9 @@
 -- The rounds of the search for a new page, and when no page is left.
-use Rattle.std.proofs.Common.{◌≡◌, ◌≢◌, inl, inr, ℕ, zero, suc, ◌+◌, ◌-◌, ◌*◌, ◌/◌, ◌%◌, ◌<◌, ◌≤◌, List, [], length, refl, sym, ap, subst, ◌∙◌, arith, mul-le-mul_right}
+use Rattle.std.proofs.Common.{◌≡◌, ◌≢◌, inl, inr, ℕ, zero, suc, ◌+◌, ◌-◌, ◌*◌, ◌/◌, ◌%◌, ◌<◌, ◌≤◌, List, length, refl, sym, ap, subst, ◌∙◌, arith, mul-le-mul_right}
 use Rattle.std.specs.Prelude.{Bool, true, false, ◌==◌, ◌&&◌, ◌||◌, nat_lt, IsTrue}
 use Rattle.std.proofs.lemmas.Bool.{true≢false, and_parts, or_cases, or_left, or_from, eqb-true}
 use Rattle.std.proofs.lemmas.Bool.Decides.{eqb_tells, leb_tells}
 use Rattle.nb_fields.specs.Places.{is_page_size, entries_in, bits_in, is_inventory_place, is_scn_place, is_system_place}
-use Rattle.nb_fields.specs.Payloads.{text_payload}
 use Rattle.nb_fields.proofs.PlaceLemmas.{entries-least}
 use Rattle.nb_model.specs.Image.{Image, image_size, image_scn}
 use Rattle.nb_model.specs.Forms.{Draft, drafted, wrote, written, needs, is_kind, inventory_of, scn_page_of, scn_entry, is_free_page, has_entry, entry_written, entry_raised, raised, put, set_bit, take_page, lowest_free, system_kind, system_page, new_within, new_page}
@@ -160,92 +159,91 @@ pub system_full : (p : ℕ) (d : Draft) → (system_page p d).full ≡ d.full
 unfolding system_page
 system_full p d = chosen (λ (e : Draft). e.full ≡ d.full) (is_kind d.image (system_kind d.image p) p) _ _ refl (put_full p _ _ d)
 
-abbrev empty : ℕ → List ℕ
-empty p = text_payload []
+-- A page of any kind and with any payload.
+module _ (kind : ℕ) (payload : ℕ → List ℕ) where
+  -- whether no page is left after so many tries
+  abbrev full_within : (tries : ℕ) → Image → Bool
+  full_within tries image = (new_within tries kind payload (drafted image)).0.full
 
--- whether no page is left after so many tries
-abbrev full_within : (tries : ℕ) → Image → Bool
-full_within tries image = (new_within tries 8 empty (drafted image)).0.full
+  last_is : (image : Image) → full_within zero image ≡ true
+  unfolding new_within
+  last_is image = refl
 
-last_is : (image : Image) → full_within zero image ≡ true
-unfolding new_within
-last_is image = refl
+  -- One try in a sound image, where a page is left to try.
+  module _ (image : Image) (h : IsWhole image) (below : lowest_free image < 1048576) where
+    abbrev p : ℕ
+    p = lowest_free image
 
--- One try in a sound image, where a page is left to try.
-module _ (image : Image) (h : IsWhole image) (below : lowest_free image < 1048576) where
-  abbrev p : ℕ
-  p = lowest_free image
+    abbrev after : Image
+    after = (rounds.round p image).image
 
-  abbrev after : Image
-  after = (rounds.round p image).image
+    pub place : IsPlace image p
+    place = record { behind = let five = (lowest_finds image).low in omega (arith, five); there = lowest_most image h.sound.least; most = below }
 
-  pub place : IsPlace image p
-  place = record { behind = let five = (lowest_finds image).low in omega (arith, five); there = lowest_most image h.sound.least; most = below }
+    module _ (system : is_system_place (image_size image) p ≡ true) where
+      leaves : Round image after p
+      leaves = round_leaves image h p place system (lowest_finds image).low
 
-  module _ (system : is_system_place (image_size image) p ≡ true) where
-    leaves : Round image after p
-    leaves = round_leaves image h p place system (lowest_finds image).low
+      after_well : IsWhole after
+      after_well = rounds.round_well image h p place system (let five = (lowest_finds image).low in omega (arith, five))
 
-    after_well : IsWhole after
-    after_well = rounds.round_well image h p place system (let five = (lowest_finds image).low in omega (arith, five))
+      -- the search goes on
+      more_is : (left : ℕ) → full_within (suc left) image ≡ (full_within left after || false)
+      more_is left = ap (λ (made : Draft × ℕ). made.0.full) (rounds.new_more image h kind payload left below system) ∙ ap (λ (t : Bool). full_within left after || t) (take_full p (system_page p (drafted image)) ∙ system_full p (drafted image))
 
-    -- the search goes on
-    more_is : (left : ℕ) → full_within (suc left) image ≡ (full_within left after || false)
-    more_is left = ap (λ (made : Draft × ℕ). made.0.full) (rounds.new_more image h 8 empty left below system) ∙ ap (λ (t : Bool). full_within left after || t) (take_full p (system_page p (drafted image)) ∙ system_full p (drafted image))
+    -- or a page is found
+    found_is : (left : ℕ) → is_system_place (image_size image) p ≡ false → full_within (suc left) image ≡ false
+    found_is left plain =
+        ap (λ (made : Draft × ℕ). made.0.full) (rounds.new_last image h kind payload left below plain)
+        ∙ take_full p (put p kind (payload p) (drafted image)) ∙ put_full p kind (payload p) (drafted image)
 
-  -- or a page is found
-  found_is : (left : ℕ) → is_system_place (image_size image) p ≡ false → full_within (suc left) image ≡ false
-  found_is left plain =
-      ap (λ (made : Draft × ℕ). made.0.full) (rounds.new_last image h 8 empty left below plain)
-      ∙ take_full p (put p 8 (empty p) (drafted image)) ∙ put_full p 8 (empty p) (drafted image)
+  -- where there is room, a page is found before the tries end
+  room_left : (tries : ℕ) (image : Image) → IsWhole image → (q : ℕ) → IsRoom image q → q < lowest_free image + tries → full_within tries image ≡ false
+  room_left zero image h q room near = let behind = (lowest_place image).before q room in absurd (omega (arith, near, behind))
+  room_left (suc left) image h q room near = by (λ y well_y there close. room_left left y well_y q there close) (is_system_place (image_size image) (lowest_free image)) refl
+    where
+      behind : lowest_free image ≤ q
+      behind = (lowest_place image).before q room
 
--- where there is room, a page is found before the tries end
-room_left : (tries : ℕ) (image : Image) → IsWhole image → (q : ℕ) → IsRoom image q → q < lowest_free image + tries → full_within tries image ≡ false
-room_left zero image h q room near = let behind = (lowest_place image).before q room in absurd (omega (arith, near, behind))
-room_left (suc left) image h q room near = by (λ y well_y there close. room_left left y well_y q there close) (is_system_place (image_size image) (lowest_free image)) refl
-  where
-    behind : lowest_free image ≤ q
-    behind = (lowest_place image).before q room
+      below : lowest_free image < 1048576
+      below = let most = room.most in omega (arith, most, behind)
 
-    below : lowest_free image < 1048576
-    below = let most = room.most in omega (arith, most, behind)
+      by : ((y : Image) → IsWhole y → IsRoom y q → q < lowest_free y + left → full_within left y ≡ false) → (t : Bool) → is_system_place (image_size image) (lowest_free image) ≡ t → full_within (suc left) image ≡ false
+      by again false f = found_is image h below left f
+      by again true f =
+          let y : Image = (rounds.round (lowest_free image) image).image in
+          let round : Round image y (lowest_free image) = leaves image h below f in
+          let on : lowest_free image < lowest_free y = further image y h.sound.least round in
+          more_is image h below f left
+          ∙ or_from (full_within left y) false (again y (after_well image h below f) (room_on image y (lowest_free image) q (lowest_most image h.sound.least) round f room) (omega (arith, near, on))) refl
 
-    by : ((y : Image) → IsWhole y → IsRoom y q → q < lowest_free y + left → full_within left y ≡ false) → (t : Bool) → is_system_place (image_size image) (lowest_free image) ≡ t → full_within (suc left) image ≡ false
-    by again false f = found_is image h below left f
-    by again true f =
-        let y : Image = (rounds.round (lowest_free image) image).image in
-        let round : Round image y (lowest_free image) = leaves image h below f in
-        let on : lowest_free image < lowest_free y = further image y h.sound.least round in
-        more_is image h below f left
-        ∙ or_from (full_within left y) false (again y (after_well image h below f) (room_on image y (lowest_free image) q (lowest_most image h.sound.least) round f room) (omega (arith, near, on))) refl
+  -- and where there is none, none is found
+  no_room_left : (tries : ℕ) (image : Image) → IsWhole image → HasNoRoom image → full_within tries image ≡ true
+  no_room_left zero image h none = last_is image
+  no_room_left (suc left) image h none = by_full (λ y well_y still. no_room_left left y well_y still) (full_within (suc left) image) refl
+    where
+      by_place : ((y : Image) → IsWhole y → HasNoRoom y → full_within left y ≡ true) → lowest_free image < 1048576 → (t : Bool) → is_system_place (image_size image) (lowest_free image) ≡ t → full_within (suc left) image ≡ true
+      by_place again below false f = absurd (none (lowest_free image) (room_at image (lowest_free image) (lowest_place image) below f))
+      by_place again below true f =
+          let y : Image = (rounds.round (lowest_free image) image).image in
+          more_is image h below f left
+          ∙ or_left (full_within left y) false (again y (after_well image h below f) (λ q room. none q (room_back image y (lowest_free image) q (leaves image h below f) f room)))
 
--- and where there is none, none is found
-no_room_left : (tries : ℕ) (image : Image) → IsWhole image → HasNoRoom image → full_within tries image ≡ true
-no_room_left zero image h none = last_is image
-no_room_left (suc left) image h none = by_full (λ y well_y still. no_room_left left y well_y still) (full_within (suc left) image) refl
-  where
-    by_place : ((y : Image) → IsWhole y → HasNoRoom y → full_within left y ≡ true) → lowest_free image < 1048576 → (t : Bool) → is_system_place (image_size image) (lowest_free image) ≡ t → full_within (suc left) image ≡ true
-    by_place again below false f = absurd (none (lowest_free image) (room_at image (lowest_free image) (lowest_place image) below f))
-    by_place again below true f =
-        let y : Image = (rounds.round (lowest_free image) image).image in
-        more_is image h below f left
-        ∙ or_left (full_within left y) false (again y (after_well image h below f) (λ q room. none q (room_back image y (lowest_free image) q (leaves image h below f) f room)))
+      by_full : ((y : Image) → IsWhole y → HasNoRoom y → full_within left y ≡ true) → (t : Bool) → full_within (suc left) image ≡ t → full_within (suc left) image ≡ true
+      by_full again true e = e
+      by_full again false e = by_place again (rounds.found image h kind payload (suc left) e).at.most (is_system_place (image_size image) (lowest_free image)) refl
 
-    by_full : ((y : Image) → IsWhole y → HasNoRoom y → full_within left y ≡ true) → (t : Bool) → full_within (suc left) image ≡ t → full_within (suc left) image ≡ true
-    by_full again true e = e
-    by_full again false e = by_place again (rounds.found image h 8 empty (suc left) e).at.most (is_system_place (image_size image) (lowest_free image)) refl
+  -- A new page is refused for want of room exactly where there is none.
+  module _ (image : Image) (header : HasHeader image) (sound : IsSoundImage image) where
+    h : IsWhole image
+    h = record { fields = header_fields image header; sound = sound }
 
--- A new page is refused for want of room exactly where there is none.
-module _ (image : Image) (header : HasHeader image) (sound : IsSoundImage image) where
-  h : IsWhole image
-  h = record { fields = header_fields image header; sound = sound }
+    pub has_page : (q : ℕ) → IsRoom image q → (new_page kind payload (drafted image)).0.full ≡ false
+    has_page q room =
+        let near = near_room image q h.fields sound.least room in
+        let low : 5 ≤ lowest_free image = (lowest_finds image).low in
+        let close = near.1.1 in
+        room_left (length image + 4) image h near.0 near.1.0 (omega (arith, close, low))
 
-  pub has_page : (q : ℕ) → IsRoom image q → (new_page 8 empty (drafted image)).0.full ≡ false
-  has_page q room =
-      let near = near_room image q h.fields sound.least room in
-      let low : 5 ≤ lowest_free image = (lowest_finds image).low in
-      let close = near.1.1 in
-      room_left (length image + 4) image h near.0 near.1.0 (omega (arith, close, low))
-
-  pub has_none : HasNoRoom image → (new_page 8 empty (drafted image)).0.full ≡ true
-  has_none none = no_room_left (length image + 4) image h none
+    pub has_none : HasNoRoom image → (new_page kind payload (drafted image)).0.full ≡ true
+    has_none none = no_room_left (length image + 4) image h none

@@ -17,3 +17,11 @@ pub mod FullLaws
 pub mod WhereLaws
 pub mod NewLaws
 pub mod NewTurn
+pub mod NameLaws
+pub mod SlotLaws
+pub mod WalkLaws
+pub mod LinkLaws
+pub mod RowLaws
+pub mod GrowLaws
+pub mod RoomLaws
+pub mod KeepLaws

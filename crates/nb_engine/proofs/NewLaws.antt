@@ -3,7 +3,6 @@ use Rattle.std.proofs.Common.{◌≡◌, ℕ, ◌+◌, ◌-◌, ◌<◌, ◌≤�
 use Rattle.std.specs.Prelude.{Bool, true, false, Some, None, Result, Ok, Err, IsErr, IsErrAnd, IsTrue}
 use Rattle.std.proofs.lemmas.Bool.{or_parts}
 use Rattle.nb_fields.specs.Places.{is_page_size, is_system_place}
-use Rattle.nb_fields.specs.Payloads.{text_payload}
 use Rattle.nb_host.specs.World.{World}
 use Rattle.nb_host.specs.declared.faults.Fault.{Fault}
 use Rattle.nb_host.specs.declared.refusals.Refusal.{Refusal}
@@ -30,7 +29,7 @@ use Rattle.nb_engine.specs.Tries.{Tries}
 use Rattle.nb_engine.specs.Put.{entry_cause}
 use Rattle.nb_engine.specs.Mark.{mark_cause, mark_strokes}
 use Rattle.nb_engine.specs.Find.{IsMap, HoldsMap}
-use Rattle.nb_engine.specs.Make.{IsWell, IsOnward, MakesWhere, page_strokes, new_raw, round, behind}
+use Rattle.nb_engine.specs.Make.{IsWell, IsOnward, MakesWhere, page_strokes, new_of, round, behind}
 use Rattle.nb_engine.proofs.CauseLaws.{first_here}
 use Rattle.nb_engine.proofs.DoesLaws.{tries_passed}
 use Rattle.nb_engine.proofs.FindLaws.{finds}
@@ -106,52 +105,53 @@ put_of b p kind payload = put_keeps (IsOf b) (drafts_are b) p kind payload (draf
 pub round_is : (b : Base) (p : ℕ) → IsOf b (round b.image p)
 round_is b p = set_bit_keeps (IsOf b) (drafts_are b) 0 p (system_page p (drafted b.image)) (system_of b p)
 
-abbrev empty : ℕ → List ℕ
-empty p = text_payload []
+-- the same payload for each number
+abbrev pub told : List ℕ → ℕ → List ℕ
+told payload = λ p. payload
 
 -- What is left to make of a new page, whose search comes to that place next.
-pub record Rest (image : Image) (place : ℕ) (strokes : List Stroke) (number : ℕ) : Type 0 where
+pub record Rest (kind : ℕ) (payload : List ℕ) (image : Image) (place : ℕ) (strokes : List Stroke) (number : ℕ) : Type 0 where
   pub left : ℕ
   pub is_well : IsWell image
   pub at : lowest_free image ≡ place
-  pub room : (new_within left 8 empty (drafted image)).0.full ≡ false
-  pub strokes_are : (new_within left 8 empty (drafted image)).0.strokes ≡ strokes
-  pub number_is : (new_within left 8 empty (drafted image)).1 ≡ number
+  pub room : (new_within left kind (told payload) (drafted image)).0.full ≡ false
+  pub strokes_are : (new_within left kind (told payload) (drafted image)).0.strokes ≡ strokes
+  pub number_is : (new_within left kind (told payload) (drafted image)).1 ≡ number
 
 not_full : (t : Bool) (r : Refusal) → when t r ≡ None → t ≡ false
 not_full false r e = refl
 not_full true r e = cc
 
-pub all_left : (image : Image) (place : ℕ) → IsWell image → place ≡ lowest_free image → no_room (new_raw image).0 ≡ None → Rest image place (new_raw image).0.strokes (new_raw image).1
-all_left image place is at room = record { left = length image + 4; is_well = is; at = sym at; room = not_full (new_raw image).0.full (Full 1048576) room; strokes_are = refl; number_is = refl }
+pub all_left : (kind : ℕ) (payload : List ℕ) (image : Image) (place : ℕ) → IsWell image → place ≡ lowest_free image → no_room (new_of kind payload image).0 ≡ None → Rest kind payload image place (new_of kind payload image).0.strokes (new_of kind payload image).1
+all_left kind payload image place is at room = record { left = length image + 4; is_well = is; at = sym at; room = not_full (new_of kind payload image).0.full (Full 1048576) room; strokes_are = refl; number_is = refl }
 
 -- a round at a system place
-pub record Onward (image : Image) (place : ℕ) (strokes : List Stroke) (number : ℕ) : Type 0 where
+pub record Onward (kind : ℕ) (payload : List ℕ) (image : Image) (place : ℕ) (strokes : List Stroke) (number : ℕ) : Type 0 where
   pub rest_strokes : List Stroke
   pub strokes_are : strokes ≡ (round image place).strokes ++ rest_strokes
-  pub rest : Rest (round image place).image (behind image place) rest_strokes number
+  pub rest : Rest kind payload (round image place).image (behind image place) rest_strokes number
   pub below : behind image place < 1048576
 
-pub onward : (image : Image) (place : ℕ) (strokes : List Stroke) (number : ℕ) → Rest image place strokes number → is_system_place (image_size image) place ≡ true → Onward image place strokes number
-onward image place strokes number rest system = subst (λ (n : ℕ). Onward image n strokes number) rest.at (at_lowest (subst (λ (n : ℕ). is_system_place (image_size image) n ≡ true) (sym rest.at) system))
+pub onward : (kind : ℕ) (payload : List ℕ) (image : Image) (place : ℕ) (strokes : List Stroke) (number : ℕ) → Rest kind payload image place strokes number → is_system_place (image_size image) place ≡ true → Onward kind payload image place strokes number
+onward kind payload image place strokes number rest system = subst (λ (n : ℕ). Onward kind payload image n strokes number) rest.at (at_lowest (subst (λ (n : ℕ). is_system_place (image_size image) n ≡ true) (sym rest.at) system))
   where
-    at_lowest : is_system_place (image_size image) (lowest_free image) ≡ true → Onward image (lowest_free image) strokes number
+    at_lowest : is_system_place (image_size image) (lowest_free image) ≡ true → Onward kind payload image (lowest_free image) strokes number
     at_lowest there =
         let p : ℕ = lowest_free image in
         let h : IsWhole image = well image rest.is_well in
-        let here : IsFound image rest.left p = found image h 8 empty rest.left rest.room in
+        let here : IsFound image rest.left p = found image h kind (told payload) rest.left rest.room in
         let after : Image = (round image p).image in
         let two : 2 ≤ p = (let five = here.five in omega (arith, five)) in
         let well_after : IsWhole after = rounds.round_well image h p here.at there two in
-        let more : new_within rest.left 8 empty (drafted image) ≡ joined_new (round image p) (new_within here.left 8 empty (drafted after)) =
-        ap (λ (n : ℕ). new_within n 8 empty (drafted image)) here.tries_is ∙ new_more image h 8 empty here.left here.at.most there in
-        let room : (new_within here.left 8 empty (drafted after)).0.full ≡ false =
-        (or_parts (new_within here.left 8 empty (drafted after)).0.full (round image p).full (sym (ap (λ (x : Draft × ℕ). x.0.full) more) ∙ rest.room)).0 in
+        let more : new_within rest.left kind (told payload) (drafted image) ≡ joined_new (round image p) (new_within here.left kind (told payload) (drafted after)) =
+        ap (λ (n : ℕ). new_within n kind (told payload) (drafted image)) here.tries_is ∙ new_more image h kind (told payload) here.left here.at.most there in
+        let room : (new_within here.left kind (told payload) (drafted after)).0.full ≡ false =
+        (or_parts (new_within here.left kind (told payload) (drafted after)).0.full (round image p).full (sym (ap (λ (x : Draft × ℕ). x.0.full) more) ∙ rest.room)).0 in
         let low : p < length after = subst (λ (x : Image). p < length x) (sym (rounds.round_image image h p here.at there two)) (rounds.take_long (system_page p (drafted image)).image (rounds.system_well image h p here.at there) p two (rounds.system_low image h p here.at there)) in
-        let next : lowest_free after ≡ behind image p = lowest_behind after p here.five low (λ q five le. new_next image h 8 empty there here.at.most q five le) in
-        let next_found : IsFound after here.left (lowest_free after) = found after well_after 8 empty here.left room in
+        let next : lowest_free after ≡ behind image p = lowest_behind after p here.five low (λ q five le. new_next image h kind (told payload) there here.at.most q five le) in
+        let next_found : IsFound after here.left (lowest_free after) = found after well_after kind (told payload) here.left room in
         record {
-          rest_strokes = (new_within here.left 8 empty (drafted after)).0.strokes;
+          rest_strokes = (new_within here.left kind (told payload) (drafted after)).0.strokes;
           strokes_are = sym rest.strokes_are ∙ ap (λ (x : Draft × ℕ). x.0.strokes) more;
           rest = record {
             left = here.left;
@@ -165,47 +165,47 @@ onward image place strokes number rest system = subst (λ (n : ℕ). Onward imag
         }
 
 -- the last round
-pub record AtLast (image : Image) (place : ℕ) (strokes : List Stroke) (number : ℕ) : Type 0 where
-  pub strokes_are : strokes ≡ (take_page place (put place 8 (text_payload []) (drafted image))).strokes
+pub record AtLast (kind : ℕ) (payload : List ℕ) (image : Image) (place : ℕ) (strokes : List Stroke) (number : ℕ) : Type 0 where
+  pub strokes_are : strokes ≡ (take_page place (put place kind payload (drafted image))).strokes
   pub number_is : place ≡ number
 
-pub at_last : (image : Image) (place : ℕ) (strokes : List Stroke) (number : ℕ) → Rest image place strokes number → is_system_place (image_size image) place ≡ false → AtLast image place strokes number
-at_last image place strokes number rest plain = subst (λ (n : ℕ). AtLast image n strokes number) rest.at (at_lowest (subst (λ (n : ℕ). is_system_place (image_size image) n ≡ false) (sym rest.at) plain))
+pub at_last : (kind : ℕ) (payload : List ℕ) (image : Image) (place : ℕ) (strokes : List Stroke) (number : ℕ) → Rest kind payload image place strokes number → is_system_place (image_size image) place ≡ false → AtLast kind payload image place strokes number
+at_last kind payload image place strokes number rest plain = subst (λ (n : ℕ). AtLast kind payload image n strokes number) rest.at (at_lowest (subst (λ (n : ℕ). is_system_place (image_size image) n ≡ false) (sym rest.at) plain))
   where
-    at_lowest : is_system_place (image_size image) (lowest_free image) ≡ false → AtLast image (lowest_free image) strokes number
+    at_lowest : is_system_place (image_size image) (lowest_free image) ≡ false → AtLast kind payload image (lowest_free image) strokes number
     at_lowest there =
         let p : ℕ = lowest_free image in
         let h : IsWhole image = well image rest.is_well in
-        let here : IsFound image rest.left p = found image h 8 empty rest.left rest.room in
-        let last : new_within rest.left 8 empty (drafted image) ≡ (take_page p (put p 8 (text_payload []) (drafted image)), p) =
-        ap (λ (n : ℕ). new_within n 8 empty (drafted image)) here.tries_is ∙ new_last image h 8 empty here.left here.at.most there in
+        let here : IsFound image rest.left p = found image h kind (told payload) rest.left rest.room in
+        let last : new_within rest.left kind (told payload) (drafted image) ≡ (take_page p (put p kind payload (drafted image)), p) =
+        ap (λ (n : ℕ). new_within n kind (told payload) (drafted image)) here.tries_is ∙ new_last image h kind (told payload) here.left here.at.most there in
         record { strokes_are = sym rest.strokes_are ∙ ap (λ (x : Draft × ℕ). x.0.strokes) last; number_is = sym (ap (λ (x : Draft × ℕ). x.1) last) ∙ rest.number_is }
 
 -- What is left of these strokes behind those that are done.
-pub record RestOf (image : Image) (place : ℕ) (done strokes : List Stroke) (number : ℕ) : Type 0 where
+pub record RestOf (kind : ℕ) (payload : List ℕ) (image : Image) (place : ℕ) (done strokes : List Stroke) (number : ℕ) : Type 0 where
   pub rest_strokes : List Stroke
   pub strokes_are : strokes ≡ done ++ rest_strokes
-  pub rest : Rest image place rest_strokes number
+  pub rest : Rest kind payload image place rest_strokes number
 
 -- What was made of a new page so far, and where P holds, what is left.
-pub record SoFar (P : Type 0) (old now : World) (a b : Held) (t : Trail) (place : ℕ) (strokes : List Stroke) (number : ℕ) (map : Page) : Type 0 where
+pub record SoFar (kind : ℕ) (payload : List ℕ) (P : Type 0) (old now : World) (a b : Held) (t : Trail) (place : ℕ) (strokes : List Stroke) (number : ℕ) (map : Page) : Type 0 where
   pub done : List Stroke
   pub makes : Makes {T = Unit {0}} (Ok tt) old now a b t done
   pub low : place ≤ length (after_strokes t done).base.image
   pub holds : HoldsMap (after_strokes t done).base.image place map
-  pub rest : P → RestOf (after_strokes t done).base.image place done strokes number
+  pub rest : P → RestOf kind payload (after_strokes t done).base.image place done strokes number
 
-pub so_far_begun : (w : World) (a : Held) (t : Trail) (place : ℕ) (map : Page) → Quiet w w → IsOpen w a t → place ≡ lowest_free t.base.image → place ≤ length t.base.image → HoldsMap t.base.image place map
-    → SoFar (IsWell t.base.image × (no_room (new_raw t.base.image).0 ≡ None)) w w a a t place (new_raw t.base.image).0.strokes (new_raw t.base.image).1 map
-so_far_begun w a t place map quiet is at low holds = record {
+pub so_far_begun : (kind : ℕ) (payload : List ℕ) (w : World) (a : Held) (t : Trail) (place : ℕ) (map : Page) → Quiet w w → IsOpen w a t → place ≡ lowest_free t.base.image → place ≤ length t.base.image → HoldsMap t.base.image place map
+    → SoFar kind payload (IsWell t.base.image × (no_room (new_of kind payload t.base.image).0 ≡ None)) w w a a t place (new_of kind payload t.base.image).0.strokes (new_of kind payload t.base.image).1 map
+so_far_begun kind payload w a t place map quiet is at low holds = record {
   done = [];
   makes = makes_none (Ok tt) w w a a t refl quiet is;
   low = low;
   holds = holds;
-  rest = λ p. record { rest_strokes = (new_raw t.base.image).0.strokes; strokes_are = refl; rest = all_left t.base.image place p.0 at p.1 };
+  rest = λ p. record { rest_strokes = (new_of kind payload t.base.image).0.strokes; strokes_are = refl; rest = all_left kind payload t.base.image place p.0 at p.1 };
 }
 
-module _ (P : Type 0) (old mid new : World) (a b c : Held) (t : Trail) (place : ℕ) (strokes : List Stroke) (number : ℕ) (map : Page) (so : SoFar P old mid a b t place strokes number map) where
+module _ (kind : ℕ) (payload : List ℕ) (P : Type 0) (old mid new : World) (a b c : Held) (t : Trail) (place : ℕ) (strokes : List Stroke) (number : ℕ) (map : Page) (so : SoFar kind payload P old mid a b t place strokes number map) where
   abbrev u : Trail
   u = after_strokes t so.done
 
@@ -217,8 +217,8 @@ module _ (P : Type 0) (old mid new : World) (a b c : Held) (t : Trail) (place : 
   Rounds = IsWell x × (behind x place < 1048576)
 
   module _ (system : is_system_place (image_size x) place ≡ true) where
-    on : (p : P) → Onward x place (so.rest p).rest_strokes number
-    on p = onward x place (so.rest p).rest_strokes number (so.rest p).rest system
+    on : (p : P) → Onward kind payload x place (so.rest p).rest_strokes number
+    on p = onward kind payload x place (so.rest p).rest_strokes number (so.rest p).rest system
 
     rounds_there : P → Rounds
     rounds_there p = ((so.rest p).rest.is_well, (on p).below)
@@ -243,7 +243,7 @@ module _ (P : Type 0) (old mid new : World) (a b c : Held) (t : Trail) (place : 
     })
 
     -- or the search goes on
-    pub round_done : (next : ℕ) (then : Page) → MakesWhere Rounds (λ n y. IsOnward y place n then) (Ok next) mid new b c u (round x place).strokes → SoFar P old new a c t next strokes number then
+    pub round_done : (next : ℕ) (then : Page) → MakesWhere Rounds (λ n y. IsOnward y place n then) (Ok next) mid new b c u (round x place).strokes → SoFar kind payload P old new a c t next strokes number then
     round_done next then second =
         let more : List Stroke = second.some.made in
         let done : List Stroke = so.done ++ more in
@@ -262,22 +262,22 @@ module _ (P : Type 0) (old mid new : World) (a b c : Held) (t : Trail) (place : 
               record {
                 rest_strokes = (on p).rest_strokes;
                 strokes_are = grouped p ∙ sym (append_assoc so.done (round x place).strokes (on p).rest_strokes) ∙ ap (λ (ss : List Stroke). (so.done ++ ss) ++ (on p).rest_strokes) (sym same);
-                rest = subst (λ (n : ℕ). Rest (after_strokes t done).base.image n (on p).rest_strokes number) (sym found)
-                    (subst (λ (y : Image). Rest y (behind x place) (on p).rest_strokes number) (sym (ap (λ (v : Trail). v.base.image) joined ∙ image)) (on p).rest);
+                rest = subst (λ (n : ℕ). Rest kind payload (after_strokes t done).base.image n (on p).rest_strokes number) (sym found)
+                    (subst (λ (y : Image). Rest kind payload y (behind x place) (on p).rest_strokes number) (sym (ap (λ (v : Trail). v.base.image) joined ∙ image)) (on p).rest);
               };
         }
 
   module _ (plain : is_system_place (image_size x) place ≡ false) where
-    last : (p : P) → AtLast x place (so.rest p).rest_strokes number
-    last p = at_last x place (so.rest p).rest_strokes number (so.rest p).rest plain
+    last : (p : P) → AtLast kind payload x place (so.rest p).rest_strokes number
+    last p = at_last kind payload x place (so.rest p).rest_strokes number (so.rest p).rest plain
 
     pub last_number : P → place ≡ number
     last_number p = (last p).number_is
 
     -- the new page itself
-    pub last_round : {T : Type 0} (V : T → Image → Type 0) (result : Result T Fault) → MakesWhere (IsWell x) V result mid new b c u (take_page place (put place 8 (text_payload []) (drafted x))).strokes
+    pub last_round : {T : Type 0} (V : T → Image → Type 0) (result : Result T Fault) → MakesWhere (IsWell x) V result mid new b c u (take_page place (put place kind payload (drafted x))).strokes
         → MakesWhere P V result old new a c t strokes
     last_round V result second =
-        where_then {S = Unit {0}} tt P (Unit {0}) (IsWell x) (λ value y. Unit {0}) V result old mid new a b c t so.done (take_page place (put place 8 (text_payload []) (drafted x))).strokes strokes
+        where_then {S = Unit {0}} tt P (Unit {0}) (IsWell x) (λ value y. Unit {0}) V result old mid new a b c t so.done (take_page place (put place kind payload (drafted x))).strokes strokes
         (record { some = record { made = so.done; makes = so.makes }; ends = tt; these = λ q. record { sure = tt; makes = so.makes; same = refl } }) (λ p. tt) (λ p same. (so.rest p).rest.is_well)
         (λ p same. sym ((so.rest p).strokes_are ∙ ap (λ (ss : List Stroke). so.done ++ ss) (last p).strokes_are)) second

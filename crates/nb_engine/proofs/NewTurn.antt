@@ -1,6 +1,7 @@
 -- What making a new page does of its turn.
 use Rattle.std.proofs.Common.{◌≡◌, ◌<◌, ◌+◌, ℕ, List, [], ◌∷◌, length, refl, sym, ap, subst, ◌∙◌}
 use Rattle.std.specs.Prelude.{true, false, IsTrue, Some, None, Result, Ok, Err, IfOk, IfErr}
+use Rattle.nb_fields.specs.Bytes.{bytes_of}
 use Rattle.nb_fields.specs.Places.{is_page_size}
 use Rattle.nb_fields.specs.Payloads.{text_payload}
 use Rattle.nb_host.specs.World.{World}
@@ -28,6 +29,11 @@ use Rattle.nb_engine.proofs.TestLaws.{applies, rests}
 use Rattle.nb_engine.proofs.CauseLaws.{unless_refused, unless_allowed, first_none, first_next, first_here, refused_by, judged_by, allowed}
 use Rattle.nb_engine.proofs.DoesLaws.{seeing, tries_made, tries_does}
 use Rattle.nb_engine.proofs.MakeLaws.{well}
+
+-- the bytes of the empty text
+pub empty_is : 0 ∷ 0 ∷ [] ≡ text_payload []
+unfolding text_payload bytes_of
+empty_is = refl
 
 -- the facts of an open database that the laws of images ask for
 pub header_of : (w : World) (held : Held) (t : Trail) → IsOpen w held t → image_scn t.base.image < 4294967296 → HasHeader t.base.image

@@ -24,7 +24,7 @@ use Rattle.nb_engine.specs.Put.{not_taken}
 use Rattle.nb_engine.proofs.CauseLaws.{first_none, first_next, first_here, first_front, first_rest, unless_refused, unless_allowed}
 
 -- tests from facts, and facts from tests
-le_yes : (a b : ℕ) → a ≤ b → nat_le a b ≡ true
+pub le_yes : (a b : ℕ) → a ≤ b → nat_le a b ≡ true
 le_yes a b h = elim (leb_tells a b) [ inl w ↦ w.0 | inr w ↦ absurd (omega (arith, w.1, h)) ]
 
 pub not_false : IsTrue false → ⊥
@@ -107,14 +107,14 @@ module _ (image : Image) (p : ℕ) where
   bit_read : (map : Page) (bit : ℕ) → ReadsBit image p map bit → get_or (bits map) bit 0 ≡ bit_of inventory (bit_number image p)
   bit_read map bit reads = get_or-bits map bit 0 reads.inside ∙ ap (λ (m : Page). bit_of m bit) reads.page ∙ ap (bit_of inventory) reads.number
 
-  free_read : (map : Page) (bit : ℕ) → ReadsBit image p map bit → get_or (bits map) bit 0 ≢ 0 → is_free_page image p ≡ true
+  pub free_read : (map : Page) (bit : ℕ) → ReadsBit image p map bit → get_or (bits map) bit 0 ≢ 0 → is_free_page image p ≡ true
   unfolding is_free_page
   free_read map bit reads some =
       let small : bit_of inventory (bit_number image p) < 2 = bit_at-lt _ _ in
       let other : bit_of inventory (bit_number image p) ≢ 0 = λ e. some (bit_read map bit reads ∙ e) in
       eq_yes _ 1 (omega (arith, small, other))
 
-  used_read : (map : Page) (bit : ℕ) → ReadsBit image p map bit → get_or (bits map) bit 0 ≡ 0 → is_free_page image p ≡ false
+  pub used_read : (map : Page) (bit : ℕ) → ReadsBit image p map bit → get_or (bits map) bit 0 ≡ 0 → is_free_page image p ≡ false
   unfolding is_free_page
   used_read map bit reads none =
       let read : bit_of inventory (bit_number image p) ≡ 0 = sym (bit_read map bit reads) ∙ none in

@@ -5,3 +5,5 @@ pub mod Turns
 pub mod Replies
 pub mod Find
 pub mod Make
+pub mod History
+pub mod Room

@@ -34,9 +34,13 @@ system_strokes image p = elim (is_kind image (system_kind image p) p) [ true ↦
 abbrev pub system_cause : Image → (p : ℕ) → Cause
 system_cause image p = elim (is_kind image (system_kind image p) p) [ true ↦ None | false ↦ entry_cause image p ]
 
--- a new raw page with the empty text, and its number
+-- a new page of that kind with that payload, whatever its number, and the number
+abbrev pub new_of : (kind : ℕ) (payload : List ℕ) → Image → Draft × ℕ
+new_of kind payload image = new_page kind (λ p. payload) (drafted image)
+
+-- a raw page with the empty text
 abbrev pub new_raw : Image → Draft × ℕ
-new_raw image = new_page 8 (λ p. text_payload []) (drafted image)
+new_raw image = new_of 8 (text_payload []) image
 
 -- a round of the search for it at a system place: the system page is there, and is taken
 abbrev pub round : Image → (place : ℕ) → Draft

@@ -1,5 +1,5 @@
 -- What the calls of a backup do of their turns.
-use Rattle.std.specs.Prelude.{◌≡◌, ◌∷◌, ℕ, List, [], ◌++◌, Option, Some, None, Result, Ok, Err, OnOk, IfOk}
+use Rattle.std.specs.Prelude.{◌≡◌, ◌∷◌, ℕ, ◌+◌, List, [], ◌++◌, Option, Some, None, Result, Ok, Err, OnOk, IfOk}
 use Rattle.nb_host.specs.World.{World}
 use Rattle.nb_host.specs.declared.faults.Fault.{Fault}
 use Rattle.nb_host.specs.declared.faults.Fault.TheVariants.{Refused, Device, Memory}
@@ -7,11 +7,15 @@ use Rattle.nb_page.specs.Quiet.{Quiet}
 use Rattle.nb_change.specs.Gave.{GaveNothing}
 use Rattle.nb_model.specs.declared.reply.Reply.{Reply}
 use Rattle.nb_model.specs.declared.reply.Reply.TheVariants.{Refused as RefusedBy}
+use Rattle.nb_model.specs.Account.{Ask}
+use Rattle.nb_model.specs.Image.{Image, image_scn}
+use Rattle.nb_model.specs.Causes.{Cause, first_cause, read_only, not_state, no_scn}
+use Rattle.nb_model.specs.Strokes.{begin}
 use Rattle.nb_model.specs.Outcomes.{Outcome}
 use Rattle.nb_model.specs.Trail.{Trail}
 use Rattle.nb_base.specs.Takes.{Strikes, after_strokes}
 use Rattle.nb_state.specs.Open.{Held, IsOpen, name_of}
-use Rattle.nb_state.specs.Does.{Answers, WhereEnded, WhereRefused}
+use Rattle.nb_state.specs.Does.{Tested, Answers, WhereEnded, WhereRefused, unless_by}
 use Rattle.nb_engine.specs.Replies.{scn_is}
 
 -- A backup begins with this GUID, as its turn says; or it is refused, and changes nothing.
@@ -43,4 +47,20 @@ pub record DoesEnd (result : Result ℕ Fault) (old new : World) (before after :
   pub merged : OnOk result (after.merged ≡ 0)
   pub gave : GaveNothing old new
   pub refused : WhereRefused result ((after ≡ before) × Quiet old new)
+  pub name : name_of after ≡ name_of before
+
+-- why no backup begins in a database
+abbrev pub starting_cause : Image → Cause
+starting_cause image = first_cause (read_only image ∷ not_state 0 image ∷ no_scn image ∷ [])
+
+-- A backup begins with this GUID and whatever is asked of its copy; or it is refused, and changes nothing.
+pub record Starts (result : Result ℕ Fault) (old new : World) (before after : Held) (t : Trail) (guid : List ℕ) (ask : Option Ask) : Type 0 where
+  pub test : Tested result (starting_cause t.base.image)
+  pub left : Strikes old new (name_of before) t (unless_by (starting_cause t.base.image) (begin guid ask ∷ []))
+  pub opened : OnOk result (IsOpen new after (after_strokes t (begin guid ask ∷ [])))
+  pub answer : IfOk result (λ scn. scn ≡ image_scn t.base.image + 1)
+  pub gave : OnOk result (new.guids ≡ old.guids ++ guid ∷ [])
+  pub times : new.times ≡ old.times
+  pub refused : WhereRefused result ((after ≡ before) × Quiet old new)
+  pub running : after.running ≡ before.running
   pub name : name_of after ≡ name_of before

@@ -1,6 +1,7 @@
 // A backup begins and ends, and what was changed meanwhile is merged.
 ghost use Rattle.std.specs.Prelude.{◌≡◌, ◌≢◌, ℕ, List, length, IsTrue, IfErr, IfOk, OnOk, Option, Some};
 ghost use Rattle.nb_change.specs.Counts.{CountsDevice};
+ghost use Rattle.nb_model.specs.Account.{Ask};
 ghost use Rattle.nb_model.specs.Outcomes.{Seen, next_guid};
 ghost use Rattle.nb_model.specs.Pages.{begin_turn, end_turn, end_scn};
 ghost use Rattle.nb_model.specs.Sound.{HasNoZeros};
@@ -8,7 +9,7 @@ ghost use Rattle.nb_model.specs.Trail.{Trail};
 ghost use Rattle.nb_base.specs.Takes.{IsNoRefusal};
 ghost use Rattle.nb_state.specs.Open.{IsOpen};
 ghost use Rattle.nb_state.specs.Turns.{GaveAtMost, GoesOn, Merges};
-ghost use Rattle.nb_engine.specs.Turns.{DoesBegin, DoesEnd};
+ghost use Rattle.nb_engine.specs.Turns.{DoesBegin, DoesEnd, Starts};
 
 use crate::Engine;
 use nb_host::{Fault, Host, Refusal};
@@ -23,6 +24,8 @@ impl Engine {
         ensures turn { (s : Seen) (t : Trail) → IsTrue H.tells → t.base ≡ s.base → IsOpen (H.world host.old) self.old t
             → GaveAtMost (H.world host.old) (H.world host.new) (next_guid s.given)
             → DoesBegin result (H.world host.old) (H.world host.new) self.old self.new t (next_guid s.given) (begin_turn s) }
+        ensures starts { (t : Trail) (guid : List ℕ) (ask : Option Ask) → IsTrue H.tells → IsOpen (H.world host.old) self.old t → GaveAtMost (H.world host.old) (H.world host.new) guid
+            → Starts result (H.world host.old) (H.world host.new) self.old self.new t guid ask }
         ensures asks { IsTrue H.tells → (guid : List ℕ) × (length guid ≡ 16) × GaveAtMost (H.world host.old) (H.world host.new) guid }
         ensures stays { self.old.files.state ≡ 2 → self.new ≡ self.old }
         ensures page_size { self.new.files.page_size ≡ self.old.files.page_size }

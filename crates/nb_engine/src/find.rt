@@ -1,18 +1,18 @@
 // The search for a free page, and the tests before a new page. Nothing changes.
-ghost use Rattle.std.specs.Prelude.{◌≡◌, ◌+◌, ◌-◌, ◌*◌, ◌/◌, ◌<◌, ◌≤◌, [], true, IsTrue, IfOk, OnOk, IfSome, MatchOption, None, length};
-ghost use Rattle.nb_fields.specs.Payloads.{text_payload};
+ghost use Rattle.std.specs.Prelude.{◌≡◌, ◌+◌, ◌-◌, ◌*◌, ◌/◌, ◌<◌, ◌≤◌, ℕ, List, true, IsTrue, IfOk, OnOk, IfSome, MatchOption, None, length};
 ghost use Rattle.nb_fields.specs.Places.{is_page_size, bits_in, is_system_place};
 ghost use Rattle.nb_change.specs.Counts.{CountsDevice};
 ghost use Rattle.nb_page.specs.Quiet.{Quiet};
 ghost use Rattle.nb_model.specs.Image.{Page, Image, image_size};
 ghost use Rattle.nb_model.specs.Causes.{not_kind, no_room};
-ghost use Rattle.nb_model.specs.Forms.{inventory_of, free_from, lowest_free, drafted, new_page};
+ghost use Rattle.nb_model.specs.Forms.{inventory_of, free_from, lowest_free};
 ghost use Rattle.nb_model.specs.Sound.{IsSoundImage, HasHeader};
 ghost use Rattle.nb_model.specs.Trail.{Trail};
 ghost use Rattle.nb_state.specs.Open.{IsOpen};
 ghost use Rattle.nb_state.specs.Does.{Tested};
 ghost use Rattle.nb_engine.specs.Put.{Reads};
 ghost use Rattle.nb_engine.specs.Find.{AreTaken, IsFreeNear, IsNextPlace, IsMap, EndsAt, HoldsMap, RefusesFull, IsWayReady, not_there, no_entry_page, not_ready};
+ghost use Rattle.nb_engine.specs.Make.{new_of};
 
 use crate::pages::{InventoryPage, ScnPage};
 use nb_fields::layouts::inventory::BITS_AT;
@@ -128,7 +128,7 @@ pub(crate) fn next_free<H: Host>(
 
 /// Tests the SCN page that has the entry of page `number`, if that is below the length: else it is about to be made. The refusal is
 /// `NotDatabase` of it.
-fn check_entry<H: Host>(
+pub(crate) fn check_entry<H: Host>(
     store: &mut Store,
     host: &mut H,
     number: u32,
@@ -264,8 +264,8 @@ pub(crate) fn check_new<H: Host>(
 ) -> Result<u32, Fault>
     requires map_room { length map.old ≡ store.old.files.page_size }
     requires scn_room { length scn_page.old ≡ store.old.files.page_size }
-    ensures test { (t : Trail) → IsTrue H.tells → IsOpen (H.world host.old) store.old t → HasHeader t.base.image → IsSoundImage t.base.image
-        → Tested result (no_room (new_page 8 (λ p. text_payload []) (drafted t.base.image)).0) }
+    ensures test { (t : Trail) (kind : ℕ) (payload : List ℕ) → IsTrue H.tells → IsOpen (H.world host.old) store.old t → HasHeader t.base.image → IsSoundImage t.base.image
+        → Tested result (no_room (new_of kind payload t.base.image).0) }
     ensures tested { (t : Trail) → IsTrue H.tells → IsOpen (H.world host.old) store.old t → OnOk result (IsWayReady t.base.image 5) }
     ensures value { (t : Trail) → IsTrue H.tells → IsOpen (H.world host.old) store.old t → IfOk result (λ page. page ≡ lowest_free t.base.image) }
     ensures map { (t : Trail) → IsTrue H.tells → IsOpen (H.world host.old) store.old t → IfOk result (λ page. HoldsMap t.base.image page map.new) }

@@ -5,7 +5,8 @@
 //! table of turns of `nb_model`. A layer above may rely on this: each call answers what its turn says and makes the turn's strokes
 //! in order, in every backup state; at each moment a stop leaves what may be left of what was seen behind a front of them, and once
 //! the call has answered a value or a refusal the database is open behind all of them. A new page does so where the inventories agree
-//! with the pages; of any other database it says that it makes some strokes.
+//! with the pages; of any other database it says that it makes some strokes. The history of the backups is read page by page; a row
+//! takes two calls, one that keeps a slot for it and one that writes it, so that a backup that has begun finds its slot.
 #![tactic(auto)]
 
 mod backup;
@@ -13,15 +14,23 @@ mod engine;
 mod find;
 mod flags;
 mod free;
+mod history;
 mod make;
 mod mark;
 mod new_page;
 mod pages;
 mod put;
 mod reads;
+mod room;
+mod rows;
+mod walk;
 mod write;
 
 pub use engine::Engine;
+pub use rows::HistoryRow;
+pub use walk::Room;
 
+#[cfg(test)]
+mod history_tests;
 #[cfg(test)]
 mod tests;

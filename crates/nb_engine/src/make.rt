@@ -2,7 +2,6 @@
 ghost use Rattle.std.specs.Prelude.{◌≡◌, ℕ, ◌+◌, ◌<◌, ◌≤◌, List, [], true, false, None, IsTrue, IfErr, IfOk, OnOk, length};
 ghost use Rattle.nb_fields.specs.Kinds.{code_of};
 ghost use Rattle.nb_fields.specs.Page.{with_payload};
-ghost use Rattle.nb_fields.specs.Payloads.{text_payload};
 ghost use Rattle.nb_fields.specs.Places.{is_page_size, is_system_place};
 ghost use Rattle.nb_host.specs.Causes.{CountsFault};
 ghost use Rattle.nb_change.specs.Counts.{CountsDevice};
@@ -16,7 +15,7 @@ ghost use Rattle.nb_state.specs.Does.{Goes};
 ghost use Rattle.nb_engine.specs.Tries.{Tries};
 ghost use Rattle.nb_engine.specs.Put.{entry_cause};
 ghost use Rattle.nb_engine.specs.Find.{HoldsMap};
-ghost use Rattle.nb_engine.specs.Make.{IsWell, IsOnward, MakesWhere, page_strokes, system_strokes, system_cause, new_raw, round, behind};
+ghost use Rattle.nb_engine.specs.Make.{IsWell, IsOnward, MakesWhere, page_strokes, system_strokes, system_cause, new_of, round, behind};
 
 use crate::find::{MOST_PAGES, hold_map, is_system_place, next_free};
 use crate::mark::{mark, put_map};
@@ -24,8 +23,11 @@ use crate::pages::{InventoryPage, ScnPage};
 use crate::put::raise_entry;
 use nb_fields::PageKind;
 use nb_host::{Fault, Host, HostFault, Refusal};
-use nb_page::{put_text, read_head, stamp};
+use nb_page::{read_head, stamp};
 use nb_state::Store;
+
+/// Where the payload of a page begins.
+const HEAD: usize = 16;
 
 /// What stands at a system place.
 fn system_kind(page_size: u32, place: u32) -> PageKind
@@ -99,7 +101,7 @@ fn has_page<H: Host>(
 
 /// Writes page `number`, below the length or at it, with what stands behind the head in `page`, its SCN entry first. The refusal is
 /// `NotDatabase` of its SCN page.
-fn put_page<H: Host>(
+pub(crate) fn put_page<H: Host>(
     store: &mut Store,
     host: &mut H,
     number: u32,
@@ -153,11 +155,24 @@ fn make_system<H: Host>(
     Ok(())
 }
 
-/// Makes page `number` a raw page with the empty text. The refusal is `NotDatabase` of its SCN page.
-fn make_raw<H: Host>(
+/// Makes these bytes what stands behind the head of a page, and zeros behind them.
+fn put_payload(page: &mut [u8], payload: &[u8])
+    requires size { IsTrue (is_page_size (length page.old)) }
+    requires short { length payload.now ≤ 1008 }
+    ensures { page.new ≡ with_payload page.old payload.now }
+{
+    let end = HEAD + payload.len();
+    page[HEAD..end].copy_from_slice(payload);
+    page[end..].fill(0);
+}
+
+/// Makes page `number` one of that kind with that payload. The refusal is `NotDatabase` of its SCN page.
+fn make_page<H: Host>(
     store: &mut Store,
     host: &mut H,
     number: u32,
+    kind: PageKind,
+    payload: &[u8],
     page: &mut [u8],
     scn_page: &mut ScnPage,
 ) -> Result<(), Fault>
@@ -166,15 +181,16 @@ fn make_raw<H: Host>(
     requires scn_room { length scn_page.old ≡ store.old.files.page_size }
     requires low { 0 < number }
     requires high { number < 1048576 }
+    requires short { length payload.now ≤ 1008 }
     ensures tries { (t : Trail) → IsTrue H.tells → IsOpen (H.world host.old) store.old t → number ≤ length t.base.image
-        → Tries result (H.world host.old) (H.world host.new) store.old store.new t (entry_cause t.base.image number) (page_strokes t.base.image number 8 (text_payload [])) }
+        → Tries result (H.world host.old) (H.world host.new) store.old store.new t (entry_cause t.base.image number) (page_strokes t.base.image number (code_of kind) payload.now) }
     ensures goes { Goes store.old store.new }
     ensures scn_room { length scn_page.new ≡ length scn_page.old }
     ensures cause { CountsDevice result (H.faults host.old) (H.faults host.new) }
 {
     take_old(store, host, number, page)?;
-    put_text(page, &[]);
-    put_page(store, host, number, PageKind::Raw, page, scn_page)?;
+    put_payload(page, payload);
+    put_page(store, host, number, kind, page, scn_page)?;
     Ok(())
 }
 
@@ -206,12 +222,14 @@ fn take_place<H: Host>(
     Ok(())
 }
 
-/// Makes page `number` a raw page with the empty text, and takes it. Its inventory page is in `map`. The refusals are `NotDatabase` of
+/// Makes page `number` one of that kind with that payload, and takes it. Its inventory page is in `map`. The refusals are `NotDatabase` of
 /// its SCN page, and of that of its inventory page.
 fn take_new<H: Host>(
     store: &mut Store,
     host: &mut H,
     number: u32,
+    kind: PageKind,
+    payload: &[u8],
     page: &mut [u8],
     map: &mut InventoryPage,
     scn_page: &mut ScnPage,
@@ -222,14 +240,15 @@ fn take_new<H: Host>(
     requires scn_room { length scn_page.old ≡ store.old.files.page_size }
     requires low { 5 ≤ number }
     requires high { number < 1048576 }
+    requires short { length payload.now ≤ 1008 }
     ensures makes { (t : Trail) → IsTrue H.tells → IsOpen (H.world host.old) store.old t → number ≤ length t.base.image → is_system_place (image_size t.base.image) number ≡ false → HoldsMap t.base.image number map.old
-        → MakesWhere (IsWell t.base.image) (λ value image. number < length image) result (H.world host.old) (H.world host.new) store.old store.new t (take_page number (put number 8 (text_payload []) (drafted t.base.image))).strokes }
+        → MakesWhere (IsWell t.base.image) (λ value image. number < length image) result (H.world host.old) (H.world host.new) store.old store.new t (take_page number (put number (code_of kind) payload.now (drafted t.base.image))).strokes }
     ensures goes { Goes store.old store.new }
     ensures map_room { length map.new ≡ length map.old }
     ensures scn_room { length scn_page.new ≡ length scn_page.old }
     ensures cause { CountsDevice result (H.faults host.old) (H.faults host.new) }
 {
-    make_raw(store, host, number, page, scn_page)?;
+    make_page(store, host, number, kind, payload, page, scn_page)?;
     put_map(store, host, number, false, map, scn_page)?;
     Ok(())
 }
@@ -270,13 +289,15 @@ fn pass_place<H: Host>(
     Ok(next)
 }
 
-/// Makes a new raw page with the empty text and answers its number. The search for its place comes to `first` at first, and the
+/// Makes a new page of that kind with that payload and answers its number. The search for its place comes to `first` at first, and the
 /// system places on its way get their pages and are taken. Where no system page stands at `first`, its inventory page is in `map`,
 /// and isn't read again.
 pub(crate) fn make_new<H: Host>(
     store: &mut Store,
     host: &mut H,
     first: u32,
+    kind: PageKind,
+    payload: &[u8],
     page: &mut [u8],
     map: &mut InventoryPage,
     scn_page: &mut ScnPage,
@@ -287,10 +308,13 @@ pub(crate) fn make_new<H: Host>(
     requires scn_room { length scn_page.old ≡ store.old.files.page_size }
     requires low { 5 ≤ first }
     requires high { first < 1048576 }
+    requires short { length payload.now ≤ 1008 }
     ensures makes { (t : Trail) → IsTrue H.tells → IsOpen (H.world host.old) store.old t → first ≡ lowest_free t.base.image → first ≤ length t.base.image → HoldsMap t.base.image first map.old
-        → MakesWhere (IsWell t.base.image × (no_room (new_raw t.base.image).0 ≡ None)) (λ number image. number < length image) result (H.world host.old) (H.world host.new) store.old store.new t (new_raw t.base.image).0.strokes }
+        → MakesWhere (IsWell t.base.image × (no_room (new_of (code_of kind) payload.now t.base.image).0 ≡ None)) (λ number image. number < length image) result (H.world host.old) (H.world host.new) store.old store.new t (new_of (code_of kind) payload.now t.base.image).0.strokes }
     ensures value { (t : Trail) → IsTrue H.tells → IsOpen (H.world host.old) store.old t → first ≡ lowest_free t.base.image → first ≤ length t.base.image → HoldsMap t.base.image first map.old
-        → IsWell t.base.image → no_room (new_raw t.base.image).0 ≡ None → IfOk result (λ number. number ≡ (new_raw t.base.image).1) }
+        → IsWell t.base.image → no_room (new_of (code_of kind) payload.now t.base.image).0 ≡ None → IfOk result (λ number. number ≡ (new_of (code_of kind) payload.now t.base.image).1) }
+    ensures least { IfOk result (λ number. 5 ≤ number) }
+    ensures most { IfOk result (λ number. number < 1048576) }
     ensures goes { Goes store.old store.new }
     ensures map_room { length map.new ≡ length map.old }
     ensures scn_room { length scn_page.new ≡ length scn_page.old }
@@ -301,6 +325,6 @@ pub(crate) fn make_new<H: Host>(
     while is_system_place(page_size, place) {
         place = pass_place(store, host, place, page, map, scn_page)?;
     }
-    take_new(store, host, place, page, map, scn_page)?;
+    take_new(store, host, place, kind, payload, page, map, scn_page)?;
     Ok(place)
 }

@@ -16,7 +16,11 @@ ghost use Rattle.nb_engine.specs.Make.{MakesSome};
 use crate::Engine;
 use crate::find::{FIRST_TO_GIVE, check_new};
 use crate::make::make_new;
+use nb_fields::PageKind;
 use nb_host::{Fault, Host, Refusal};
+
+/// What stands behind the head of a raw page with the empty text.
+const EMPTY_TEXT: [u8; 2] = [0; 2];
 
 impl Engine {
     /// Makes a raw page with the empty text, and answers its number: the lowest free page, or a page at the end where none is free. Where
@@ -52,6 +56,8 @@ impl Engine {
             &mut self.store,
             host,
             first,
+            PageKind::Raw,
+            &EMPTY_TEXT,
             &mut self.page,
             &mut self.map,
             &mut self.scn_page,

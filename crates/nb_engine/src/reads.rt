@@ -29,6 +29,7 @@ pub(crate) fn take_system<H: Host>(
     requires size { IsTrue (is_page_size (length into.old)) }
     requires room { length into.old ≡ store.old.files.page_size }
     ensures reads { (t : Trail) → IsTrue H.tells → IsOpen (H.world host.old) store.old t → Reads result t.base.image (not_kind t.base.image (code_of kind) place) place into.new }
+    ensures below { OnOk result (place < store.old.files.count) }
     ensures same { store.new ≡ store.old }
     ensures quiet { Quiet (H.world host.old) (H.world host.new) }
     ensures once { IsTrue H.tells → 0 < place → (H.world host.new).reads ≤ (H.world host.old).reads + 1 }

@@ -1,27 +1,26 @@
-use Rattle.std.proofs.Common.{ℕ, [], ◌∙◌}
-use Rattle.nb_fields.specs.Payloads.{text_payload}
-use Rattle.nb_model.specs.Forms.{drafted, new_page}
+use Rattle.std.proofs.Common.{ℕ, ◌∙◌}
 use Rattle.nb_state.proofs.MakesLaws.{open_still}
+use Rattle.nb_engine.specs.Make.{new_of}
 use Rattle.nb_engine.proofs.FindLaws.{lowest_is}
 use Rattle.nb_engine.proofs.PlaceTests.{first_place, room_tested, room_found, way_begins}
 use Rattle.nb_engine.proofs.FullLaws.{has_page, has_none}
 use Rattle.nb_engine.proofs.find.check_new.Goals as goal
 
 pub returns-in_err-check_places-clause-test : goal.returns-in_err-check_places-clause-test
-returns-in_err-check_places-clause-test g c t tells is header sound =
+returns-in_err-check_places-clause-test g c t kind payload tells is header sound =
     let image = t.base.image in
     let still = open_still _ _ _ _ t c.in_ok-page.ensures.same c.in_ok-page.ensures.quiet is in
     let first = first_place image c.in_ok-page.page (c.in_ok-page.ensures.value t tells is) in
-    room_tested (Unit {0}) ℕ _ _ image (new_page 8 (λ p. text_payload []) (drafted image)).0 c.from_residual-in_err-check_places.ensures
-    (c.in_err-check_places.ensures.full t tells still first (c.in_ok-page.ensures.map t tells is) sound) (has_none image header sound)
+    room_tested (Unit {0}) ℕ _ _ image (new_of kind payload image).0 c.from_residual-in_err-check_places.ensures
+    (c.in_err-check_places.ensures.full t tells still first (c.in_ok-page.ensures.map t tells is) sound) (has_none kind (λ p. payload) image header sound)
 
 pub returns-clause-test : goal.returns-clause-test
-returns-clause-test g c t tells is header sound =
+returns-clause-test g c t kind payload tells is header sound =
     let image = t.base.image in
     let still = open_still _ _ _ _ t c.in_ok-page.ensures.same c.in_ok-page.ensures.quiet is in
     let first = first_place image c.in_ok-page.page (c.in_ok-page.ensures.value t tells is) in
     let way = c.in_ok-check_places.ensures.tested t tells still first (c.in_ok-page.ensures.map t tells is) in
-    room_found (new_page 8 (λ p. text_payload []) (drafted image)).0 (has_page image header sound way.end way.room)
+    room_found (new_of kind payload image).0 (has_page kind (λ p. payload) image header sound way.end way.room)
 
 pub returns-clause-tested : goal.returns-clause-tested
 returns-clause-tested g c t tells is =

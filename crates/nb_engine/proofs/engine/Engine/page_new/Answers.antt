@@ -1,5 +1,6 @@
-use Rattle.std.proofs.Common.{◌≡◌, ◌<◌, ◌≤◌, ℕ, length, refl, sym, subst, ◌∙◌, arith}
+use Rattle.std.proofs.Common.{◌≡◌, ◌<◌, ◌≤◌, ℕ, List, [], ◌∷◌, length, refl, sym, subst, ◌∙◌, arith}
 use Rattle.std.specs.Prelude.{true, false, Ok, Err}
+use Rattle.nb_fields.specs.Payloads.{text_payload}
 use Rattle.nb_host.specs.declared.faults.Fault.TheVariants.{Refused}
 use Rattle.nb_host.specs.declared.refusals.Refusal.TheVariants.{Access, NotDatabase}
 use Rattle.nb_page.proofs.QuietLemmas.{quiet_begun}
@@ -9,13 +10,13 @@ use Rattle.nb_model.specs.Causes.{no_room}
 use Rattle.nb_model.specs.Pages.{new_turn}
 use Rattle.nb_model.specs.Sound.{IsSoundImage}
 use Rattle.nb_state.specs.Open.{Held, IsOpen}
-use Rattle.nb_state.specs.Does.{Does}
+use Rattle.nb_state.specs.Does.{Makes, Does}
 use Rattle.nb_state.proofs.MakesLaws.{open_still, makes_none, makes_after}
-use Rattle.nb_engine.specs.Make.{MakesSome, new_raw}
+use Rattle.nb_engine.specs.Make.{MakesSome, new_raw, new_of}
 use Rattle.nb_engine.specs.Replies.{page_made}
 use Rattle.nb_engine.proofs.DoesLaws.{seeing, tested_does, refused_does, tries_passed}
 use Rattle.nb_engine.proofs.FullLaws.{lowest_most}
-use Rattle.nb_engine.proofs.NewTurn.{header_of, well_of, new_closed, new_full, new_says, made_does}
+use Rattle.nb_engine.proofs.NewTurn.{empty_is, header_of, well_of, new_closed, new_full, new_says, made_does}
 use Rattle.nb_engine.proofs.engine.Engine.page_new.Goals as goal
 
 pub returns-then-is_read_only-clause-turn : goal.returns-then-is_read_only-clause-turn
@@ -43,7 +44,7 @@ returns-in_err-first-clause-turn g c s t tells same is sound =
     let is_well = well_of w _ t here c.self.invariant.0 scn whole in
     let tests = c.in_err-first.ensures in
     tested_does ℕ ℕ page_made _ _ _ _ _ _ t s new_turn (no_room (new_raw image).0) c.from_residual.ensures same (tests.same ∙ c.self.view_is) tests.quiet is
-    (tests.test t tells here (header_of w _ t here scn) whole) (new_full (seeing s t.base) free is_well)
+    (tests.test t 8 (text_payload []) tells here (header_of w _ t here scn) whole) (new_full (seeing s t.base) free is_well)
 
 pub returns-in_err-number-clause-turn : goal.returns-in_err-number-clause-turn
 returns-in_err-number-clause-turn g c s t tells same is sound =
@@ -55,16 +56,17 @@ returns-in_err-number-clause-turn g c s t tells same is sound =
     let free : is_read_only image ≡ false = sym here.agrees.read_only ∙ sym c.is_read_only.ensures ∙ c.if-is_read_only.false in
     let is_well = well_of w _ t here c.self.invariant.0 scn whole in
     let tests = c.in_ok-first.ensures in
-    let room = tests.test t tells here (header_of w _ t here scn) whole in
+    let room = tests.test t 8 (text_payload []) tells here (header_of w _ t here scn) whole in
+    let for_zeros = tests.test t 8 (0 ∷ 0 ∷ []) tells here (header_of w _ t here scn) whole in
     let at = tests.value t tells here in
     let low : c.in_ok-first.first ≤ length image = omega (arith, at, lowest_most image whole.least) in
     let still = open_still _ _ _ _ t tests.same tests.quiet here in
     let fault = c.in_err-number.field-0.0 in
-    let these = (c.in_err-number.ensures.makes t tells still at low (tests.map t tells here)).these (is_well, room) in
+    let these = (c.in_err-number.ensures.makes t tells still at low (tests.map t tells here)).these (is_well, for_zeros) in
     let result = c.from_residual-in_err-number.result in
     tries_passed result fault (λ r. Does page_made r w (g.H.Host.world c.make_new.new.host) c.args.self.now c.make_new.new.store t (new_turn s)) c.from_residual-in_err-number.ensures
     (made_does (Err fault) w _ c.args.self.now c.make_new.new.store t s (new_raw image).1 (new_raw image).0.strokes same (new_says (seeing s t.base) free is_well room) tt these.sure
-    (makes_after (Err fault) w _ _ _ _ _ t (new_raw image).0.strokes (tests.same ∙ c.self.view_is) tests.quiet is these.makes))
+    (makes_after (Err fault) w _ _ _ _ _ t (new_raw image).0.strokes (tests.same ∙ c.self.view_is) tests.quiet is (subst (λ (xs : List ℕ). Makes {T = ℕ} (Err fault) (g.H.Host.world c.check_new.new.host) (g.H.Host.world c.make_new.new.host) c.check_new.new.store c.make_new.new.store t (new_of 8 xs image).0.strokes) empty_is these.makes)))
 
 pub returns-clause-turn : goal.returns-clause-turn
 returns-clause-turn g c s t tells same is sound =
@@ -76,14 +78,15 @@ returns-clause-turn g c s t tells same is sound =
     let free : is_read_only image ≡ false = sym here.agrees.read_only ∙ sym c.is_read_only.ensures ∙ c.if-is_read_only.false in
     let is_well = well_of w _ t here c.self.invariant.0 scn whole in
     let tests = c.in_ok-first.ensures in
-    let room = tests.test t tells here (header_of w _ t here scn) whole in
+    let room = tests.test t 8 (text_payload []) tells here (header_of w _ t here scn) whole in
+    let for_zeros = tests.test t 8 (0 ∷ 0 ∷ []) tells here (header_of w _ t here scn) whole in
     let at = tests.value t tells here in
     let low : c.in_ok-first.first ≤ length image = omega (arith, at, lowest_most image whole.least) in
     let still = open_still _ _ _ _ t tests.same tests.quiet here in
-    let these = (c.in_ok-number.ensures.makes t tells still at low (tests.map t tells here)).these (is_well, room) in
+    let these = (c.in_ok-number.ensures.makes t tells still at low (tests.map t tells here)).these (is_well, for_zeros) in
     made_does (Ok c.in_ok-number.number) w _ c.args.self.now c.make_new.new.store t s (new_raw image).1 (new_raw image).0.strokes same (new_says (seeing s t.base) free is_well room)
-    (c.in_ok-number.ensures.value t tells still at low (tests.map t tells here) is_well room) tt
-    (makes_after (Ok c.in_ok-number.number) w _ _ _ _ _ t (new_raw image).0.strokes (tests.same ∙ c.self.view_is) tests.quiet is these.makes)
+    (subst (λ (xs : List ℕ). c.in_ok-number.number ≡ (new_of 8 xs image).1) empty_is (c.in_ok-number.ensures.value t tells still at low (tests.map t tells here) is_well for_zeros)) tt
+    (makes_after (Ok c.in_ok-number.number) w _ _ _ _ _ t (new_raw image).0.strokes (tests.same ∙ c.self.view_is) tests.quiet is (subst (λ (xs : List ℕ). Makes (Ok c.in_ok-number.number) (g.H.Host.world c.check_new.new.host) (g.H.Host.world c.make_new.new.host) c.check_new.new.store c.make_new.new.store t (new_of 8 xs image).0.strokes) empty_is these.makes))
 
 pub returns-then-is_read_only-clause-some : goal.returns-then-is_read_only-clause-some
 returns-then-is_read_only-clause-some g c t tells is =

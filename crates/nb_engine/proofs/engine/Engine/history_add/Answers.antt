@@ -1,0 +1,46 @@
+use Rattle.std.proofs.Common.{◌<◌, ℕ, sym, subst, arith}
+use Rattle.std.specs.Prelude.{Ok, Err, IfErr}
+use Rattle.nb_model.specs.Image.{image_scn}
+use Rattle.nb_model.specs.Forms.{drafted}
+use Rattle.nb_model.specs.Chains.{backup_slot, put_slot}
+use Rattle.nb_model.proofs.PutSound.{IsPlace}
+use Rattle.nb_base.specs.Takes.{IsNoRefusal}
+use Rattle.nb_state.specs.Open.{Held, IsOpen}
+use Rattle.nb_engine.specs.Tries.{Tries}
+use Rattle.nb_engine.specs.Put.{entry_cause}
+use Rattle.nb_engine.proofs.DoesLaws.{tries_passed}
+use Rattle.nb_engine.proofs.MakeLaws.{entry_none}
+use Rattle.nb_engine.proofs.NewTurn.{well_of}
+use Rattle.nb_engine.proofs.WhereLaws.{sure_of}
+use Rattle.nb_engine.proofs.engine.Engine.history_add.Goals as goal
+
+pub returns-in_err-add_row-clause-tries : goal.returns-in_err-add_row-clause-tries
+returns-in_err-add_row-clause-tries g c t tells is low =
+    let w = g.H.Host.world c.args.host.now in
+    let here = subst (λ (h : Held). IsOpen w h t) (sym c.self.view_is) is in
+    let row = c.args.row.now in
+    let strokes = (put_slot c.args.room.now.page c.args.room.now.slot (backup_slot row.level row.scn row.time row.guid row.name) (drafted t.base.image)).strokes in
+    let new = g.H.Host.world c.add_row.new.host in
+    tries_passed c.from_residual.result c.in_err-add_row.field-0.0 (λ r. Tries r w new c.args.self.now c.add_row.new.store t (entry_cause t.base.image c.args.room.now.page) strokes) c.from_residual.ensures
+    (subst (λ (h : Held). Tries {T = Unit {0}} (Err c.in_err-add_row.field-0.0) w new h c.add_row.new.store t (entry_cause t.base.image c.args.room.now.page) strokes) c.self.view_is (c.in_err-add_row.ensures.tries t tells here low))
+
+pub returns-clause-tries : goal.returns-clause-tries
+returns-clause-tries g c t tells is low =
+    let w = g.H.Host.world c.args.host.now in
+    let here = subst (λ (h : Held). IsOpen w h t) (sym c.self.view_is) is in
+    let row = c.args.row.now in
+    let strokes = (put_slot c.args.room.now.page c.args.room.now.slot (backup_slot row.level row.scn row.time row.guid row.name) (drafted t.base.image)).strokes in
+    let new = g.H.Host.world c.add_row.new.host in
+    subst (λ (h : Held). Tries {T = Unit {0}} (Ok tt) w new h c.add_row.new.store t (entry_cause t.base.image c.args.room.now.page) strokes) c.self.view_is (c.in_ok-add_row.ensures.tries t tells here low)
+
+pub returns-in_err-add_row-clause-sure : goal.returns-in_err-add_row-clause-sure
+returns-in_err-add_row-clause-sure g c t tells is low sound =
+    let w = g.H.Host.world c.args.host.now in
+    let image = t.base.image in
+    let p : ℕ = c.args.room.now.page in
+    let here = subst (λ (h : Held). IsOpen w h t) (sym c.self.view_is) is in
+    let scn : image_scn image < 4294967296 = omega (arith, here.agrees.scn, c.scn-scn.ensures) in
+    let is_well = well_of w _ t here c.self.invariant.0 scn sound in
+    let at : IsPlace image p = record { behind = omega (arith, c.requires.placed.low); there = omega (arith, low); most = c.requires.placed.high } in
+    tries_passed c.from_residual.result c.in_err-add_row.field-0.0 (λ r. IfErr r IsNoRefusal) c.from_residual.ensures
+    (sure_of {T = Unit {0}} (Err c.in_err-add_row.field-0.0) (entry_cause image p) (entry_none image p is_well at) (c.in_err-add_row.ensures.tries t tells here low).test)

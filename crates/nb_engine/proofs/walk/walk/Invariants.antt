@@ -1,0 +1,24 @@
+use Rattle.std.proofs.Common.{◌≡◌, ◌+◌, ◌-◌, ◌<◌, ◌≤◌, length}
+use Rattle.std.specs.Prelude.{IsTrue, IfSome}
+use Rattle.nb_page.specs.Quiet.{Quiet}
+use Rattle.nb_model.specs.Trail.{Trail}
+use Rattle.nb_state.specs.Open.{IsOpen}
+use Rattle.nb_engine.specs.History.{IsPlaced}
+use Rattle.nb_engine.proofs.WalkLaws.{Walks}
+use Rattle.nb_engine.proofs.walk.walk.Given as goal
+
+abbrev pub invariant-loop-left : goal.invariant-loop-left
+invariant-loop-left g l = record {
+  walks : (t : Trail) → IsTrue g.H.Host.tells → IsOpen (g.H.Host.world l.fn.host) l.fn.store t → Walks t.base.image l.fn.wanted l.left l.number l.walked;
+  placed : IfSome l.walked.room (IsPlaced l.fn.store.files.page_size);
+  low : 0 < l.number;
+  few : l.left ≤ l.fn.store.files.count;
+  room : length l.page ≡ length l.fn.page;
+  same : l.store ≡ l.fn.store;
+  quiet : Quiet (g.H.Host.world l.fn.host) (g.H.Host.world l.host);
+  once : IsTrue g.H.Host.tells → (g.H.Host.world l.host).reads ≤ (g.H.Host.world l.fn.host).reads + (l.fn.store.files.count - l.left);
+  cause : g.H.Host.faults l.host ≡ g.H.Host.faults l.fn.host;
+}
+
+abbrev pub decreases-loop-left : goal.decreases-loop-left
+decreases-loop-left g l = l.left

@@ -1,0 +1,46 @@
+-- The slot that is kept for a row of the history.
+use Rattle.std.specs.Prelude.{◌≡◌, ℕ, List, [], ◌∷◌, drop, length, nat_le}
+use Rattle.nb_fields.specs.Bytes.{bytes_of, with_part}
+use Rattle.nb_fields.specs.Payloads.{data_payload}
+use Rattle.nb_host.specs.declared.refusals.Refusal.TheVariants.{NotDatabase}
+use Rattle.nb_model.specs.Image.{Image, page_at}
+use Rattle.nb_model.specs.Forms.{Draft, drafted, needs, inventory_of, scn_page_of}
+use Rattle.nb_model.specs.Causes.{Cause, first_cause, when, broken_at, not_of_form, no_room, no_scn}
+use Rattle.nb_model.specs.Chains.{History, pages_of}
+use Rattle.nb_model.specs.Backups.{room_in, needs_taken}
+use Rattle.nb_engine.specs.declared.walk.Room.{Room}
+use Rattle.nb_engine.specs.Put.{entry_cause}
+use Rattle.nb_engine.specs.Make.{new_of}
+
+-- why no slot is kept
+abbrev pub room_cause : Image → Cause
+room_cause image = first_cause (broken_at (pages_of History image) ∷ not_of_form (room_in image).draft ∷ no_room (room_in image).draft ∷ no_scn image ∷ [])
+
+-- it is the slot of the definition
+pub record IsRoomIn (image : Image) (room : Room) : Type 0 where
+  pub page : room.page ≡ (room_in image).page
+  pub slot : room.slot ≡ (room_in image).slot
+
+-- why a free slot of page p isn't kept
+abbrev pub taken_draft : Image → ℕ → Draft
+taken_draft image p = needs_taken p (needs 10 (scn_page_of image p) (needs 2 (inventory_of image p) (drafted image)))
+
+-- what stands behind the head of a page of the history without a row
+abbrev pub no_rows : List ℕ
+no_rows = data_payload 0 1 []
+
+-- the new page of the history, and its number
+abbrev pub new_link : Image → Draft × ℕ
+new_link image = new_of 5 no_rows image
+
+-- what stands behind the head of page p when that is linked to the next
+abbrev pub linked_payload : Image → (p next : ℕ) → List ℕ
+linked_payload image p next = drop 16 (with_part 16 (bytes_of 4 next) (page_at image p))
+
+-- why it isn't linked
+abbrev pub link_cause : Image → ℕ → Cause
+link_cause image p = first_cause (when (nat_le (length image) p) (NotDatabase p) ∷ entry_cause image p ∷ [])
+
+-- why the history doesn't grow, where the inventories agree with the pages
+abbrev pub grow_cause : Image → Cause
+grow_cause image = first_cause (no_room (new_link image).0 ∷ no_scn image ∷ [])

@@ -1,0 +1,228 @@
+// Room for a row of the history: a free slot whose page is taken, or a new page behind the last.
+ghost use Rattle.std.specs.Prelude.{◌≡◌, ◌<◌, ◌≤◌, ℕ, List, [], ◌∷◌, IsTrue, IfOk, length};
+ghost use Rattle.nb_fields.specs.Places.{is_page_size};
+ghost use Rattle.nb_change.specs.Counts.{CountsDevice};
+ghost use Rattle.nb_page.specs.Quiet.{Quiet};
+ghost use Rattle.nb_fields.specs.Page.{kind_of};
+ghost use Rattle.nb_model.specs.Image.{Image, image_scn, page_at};
+ghost use Rattle.nb_model.specs.Causes.{first_cause, not_kind, not_of_form, no_scn};
+ghost use Rattle.nb_model.specs.Chains.{History, last_of, put_slot, backup_slot, grown};
+ghost use Rattle.nb_model.specs.Forms.{drafted, inventory_of, scn_page_of, is_free_page};
+ghost use Rattle.nb_model.specs.Sound.{IsSoundImage};
+ghost use Rattle.nb_model.specs.Trail.{Trail};
+ghost use Rattle.nb_state.specs.Open.{IsOpen};
+ghost use Rattle.nb_state.specs.Does.{Tested, Goes};
+ghost use Rattle.nb_engine.specs.History.{IsPlaced};
+ghost use Rattle.nb_engine.specs.Make.{MakesSome, page_strokes};
+ghost use Rattle.nb_engine.specs.Put.{entry_cause};
+ghost use Rattle.nb_engine.specs.Room.{taken_draft, linked_payload, link_cause, grow_cause};
+ghost use Rattle.nb_engine.specs.Tries.{Tries};
+
+use crate::find::{check_entry, check_new};
+use crate::make::{make_new, put_page};
+use crate::pages::{InventoryPage, ScnPage};
+use crate::rows::{HistoryRow, put_slot};
+use crate::walk::Room;
+use nb_fields::PageKind;
+use nb_fields::layouts::data;
+use nb_host::{Fault, Host, Refusal};
+use nb_state::Store;
+
+/// A backup and its end need two SCNs more.
+const LAST_SCN: u32 = u32::MAX - 2;
+
+/// What stands behind the head of a page of the history without a row: no next page, and the history as its owner.
+const NO_ROWS: [u8; 16] = [0, 0, 0, 0, 1, 0, 0, 0, 0, 0, 0, 0, 0, 0, 0, 0];
+
+/// Tests that a backup that begins at this SCN may end. The refusal is `ScnExhausted`.
+fn check_scn(scn: u32) -> Result<(), Fault>
+    ensures test { (image : Image) → scn ≡ image_scn image → Tested result (no_scn image) }
+    ensures cause { (faults : ℕ) → CountsDevice result faults faults }
+{
+    if scn > LAST_SCN {
+        return Err(Fault::Refused(Refusal::ScnExhausted { scn }));
+    }
+    Ok(())
+}
+
+/// Whether the inventory page of page `number` says that it is free. The refusal is `NotDatabase` of the inventory page.
+fn is_free<H: Host>(
+    store: &mut Store,
+    host: &mut H,
+    number: u32,
+    map: &mut InventoryPage,
+) -> Result<bool, Fault>
+    requires room { length map.old ≡ store.old.files.page_size }
+    requires number { number < 1048576 }
+    ensures test { (t : Trail) → IsTrue H.tells → IsOpen (H.world host.old) store.old t → Tested result (not_kind t.base.image 2 (inventory_of t.base.image number)) }
+    ensures value { (t : Trail) → IsTrue H.tells → IsOpen (H.world host.old) store.old t → IfOk result (λ free. free ≡ is_free_page t.base.image number) }
+    ensures room { length map.new ≡ length map.old }
+    ensures same { store.new ≡ store.old }
+    ensures quiet { Quiet (H.world host.old) (H.world host.new) }
+    ensures cause { CountsDevice result (H.faults host.old) (H.faults host.new) }
+{
+    let page_size = store.page_size();
+    let (k, bit) = nb_pip::covers(page_size, number);
+    map.read(store, host, nb_pip::place_of(page_size, k))?;
+    if map.is_used(bit) {
+        return Ok(false);
+    }
+    Ok(true)
+}
+
+/// Tests the SCN page that has page `number`. The refusal is `NotDatabase` of it.
+fn check_scn_page<H: Host>(
+    store: &mut Store,
+    host: &mut H,
+    number: u32,
+    scn_page: &mut ScnPage,
+) -> Result<(), Fault>
+    requires room { length scn_page.old ≡ store.old.files.page_size }
+    requires number { number < 1048576 }
+    ensures test { (t : Trail) → IsTrue H.tells → IsOpen (H.world host.old) store.old t → Tested result (not_kind t.base.image 10 (scn_page_of t.base.image number)) }
+    ensures room { length scn_page.new ≡ length scn_page.old }
+    ensures same { store.new ≡ store.old }
+    ensures quiet { Quiet (H.world host.old) (H.world host.new) }
+    ensures cause { CountsDevice result (H.faults host.old) (H.faults host.new) }
+{
+    let page_size = store.page_size();
+    let (k, _) = nb_scn::covers(page_size, number);
+    scn_page.read(store, host, nb_scn::place_of(page_size, k))?;
+    Ok(())
+}
+
+/// Tests that the inventory pages are of their kind that have page `number`, a page of the history with a free slot, and that it is taken:
+/// then no other statement takes it before the row is written.
+///
+/// The refusals are `NotDatabase` of the inventory page, of the SCN page and of the page itself, and `ScnExhausted`, in this order.
+pub(crate) fn check_room<H: Host>(
+    store: &mut Store,
+    host: &mut H,
+    number: u32,
+    map: &mut InventoryPage,
+    scn_page: &mut ScnPage,
+) -> Result<(), Fault>
+    requires size { IsTrue (is_page_size store.old.files.page_size) }
+    requires map_room { length map.old ≡ store.old.files.page_size }
+    requires scn_room { length scn_page.old ≡ store.old.files.page_size }
+    requires low { 0 < number }
+    requires high { number < 1048576 }
+    ensures test { (t : Trail) → IsTrue H.tells → IsOpen (H.world host.old) store.old t → kind_of (page_at t.base.image number) ≡ 5
+        → Tested result (first_cause (not_of_form (taken_draft t.base.image number) ∷ no_scn t.base.image ∷ [])) }
+    ensures map_room { length map.new ≡ length map.old }
+    ensures scn_room { length scn_page.new ≡ length scn_page.old }
+    ensures same { store.new ≡ store.old }
+    ensures quiet { Quiet (H.world host.old) (H.world host.new) }
+    ensures cause { CountsDevice result (H.faults host.old) (H.faults host.new) }
+{
+    let scn = store.scn();
+    let free = is_free(store, host, number, map)?;
+    check_scn_page(store, host, number, scn_page)?;
+    if free {
+        return Err(Fault::Refused(Refusal::NotDatabase { page: number }));
+    }
+    check_scn(scn)?;
+    Ok(())
+}
+
+/// Links page `last`, a data page, to page `next`. The refusals are `NotDatabase` of the page, where it is past the end, and of its SCN page.
+fn link<H: Host>(
+    store: &mut Store,
+    host: &mut H,
+    last: u32,
+    next: u32,
+    page: &mut [u8],
+    scn_page: &mut ScnPage,
+) -> Result<(), Fault>
+    requires size { IsTrue (is_page_size (length page.old)) }
+    requires room { length page.old ≡ store.old.files.page_size }
+    requires scn_room { length scn_page.old ≡ store.old.files.page_size }
+    requires low { 0 < last }
+    requires high { last < 1048576 }
+    ensures tries { (t : Trail) → IsTrue H.tells → IsOpen (H.world host.old) store.old t
+        → Tries result (H.world host.old) (H.world host.new) store.old store.new t (link_cause t.base.image last) (page_strokes t.base.image last 5 (linked_payload t.base.image last next)) }
+    ensures goes { Goes store.old store.new }
+    ensures scn_room { length scn_page.new ≡ length scn_page.old }
+    ensures cause { CountsDevice result (H.faults host.old) (H.faults host.new) }
+{
+    if last >= store.count() {
+        return Err(Fault::Refused(Refusal::NotDatabase { page: last }));
+    }
+    store.read(host, last, page)?;
+    data::Next::put(page, u64::from(next));
+    put_page(store, host, last, PageKind::Data, page, scn_page)?;
+    Ok(())
+}
+
+/// Makes a new page behind `last`, the last page of the history, which is linked to it once it stands. It answers its number.
+///
+/// The refusals are `NotDatabase` of an inventory page that isn't of its kind, `Full` and `ScnExhausted`, in this order, before the first
+/// write.
+pub(crate) fn grow<H: Host>(
+    store: &mut Store,
+    host: &mut H,
+    last: u32,
+    page: &mut [u8],
+    map: &mut InventoryPage,
+    scn_page: &mut ScnPage,
+) -> Result<u32, Fault>
+    requires size { IsTrue (is_page_size (length page.old)) }
+    requires room { length page.old ≡ store.old.files.page_size }
+    requires map_room { length map.old ≡ store.old.files.page_size }
+    requires scn_room { length scn_page.old ≡ store.old.files.page_size }
+    requires low { 0 < last }
+    requires high { last < 1048576 }
+    ensures makes { (t : Trail) (pages : List ℕ) → IsTrue H.tells → IsOpen (H.world host.old) store.old t → IsSoundImage t.base.image → last ≡ last_of pages → last < length t.base.image
+        → Tries result (H.world host.old) (H.world host.new) store.old store.new t (grow_cause t.base.image) (grown History pages [] (drafted t.base.image)).0.strokes }
+    ensures value { (t : Trail) (pages : List ℕ) → IsTrue H.tells → IsOpen (H.world host.old) store.old t → IsSoundImage t.base.image → IfOk result (λ number. number ≡ (grown History pages [] (drafted t.base.image)).1) }
+    ensures some { (t : Trail) → IsTrue H.tells → IsOpen (H.world host.old) store.old t → 5 ≤ length t.base.image → MakesSome result (H.world host.old) (H.world host.new) store.old store.new t }
+    ensures least { IfOk result (λ number. 5 ≤ number) }
+    ensures most { IfOk result (λ number. number < 1048576) }
+    ensures goes { Goes store.old store.new }
+    ensures map_room { length map.new ≡ length map.old }
+    ensures scn_room { length scn_page.new ≡ length scn_page.old }
+    ensures cause { CountsDevice result (H.faults host.old) (H.faults host.new) }
+{
+    let scn = store.scn();
+    check_entry(store, host, last, scn_page)?;
+    let first = check_new(store, host, map, scn_page)?;
+    check_scn(scn)?;
+    let number = make_new(
+        store,
+        host,
+        first,
+        PageKind::Data,
+        &NO_ROWS,
+        page,
+        map,
+        scn_page,
+    )?;
+    link(store, host, last, number, page, scn_page)?;
+    Ok(number)
+}
+
+/// Writes a row into a slot. The refusal is `NotDatabase` of the SCN page of its page.
+pub(crate) fn add_row<H: Host>(
+    store: &mut Store,
+    host: &mut H,
+    room: &Room,
+    row: &HistoryRow,
+    page: &mut [u8],
+    scn_page: &mut ScnPage,
+) -> Result<(), Fault>
+    requires size { IsTrue (is_page_size (length page.old)) }
+    requires page_room { length page.old ≡ store.old.files.page_size }
+    requires scn_room { length scn_page.old ≡ store.old.files.page_size }
+    requires placed { IsPlaced store.old.files.page_size room.now }
+    ensures tries { (t : Trail) → IsTrue H.tells → IsOpen (H.world host.old) store.old t → room.now.page < length t.base.image
+        → Tries result (H.world host.old) (H.world host.new) store.old store.new t (entry_cause t.base.image room.now.page)
+        (put_slot room.now.page room.now.slot (backup_slot row.now.level row.now.scn row.now.time row.now.guid row.now.name) (drafted t.base.image)).strokes }
+    ensures goes { Goes store.old store.new }
+    ensures scn_room { length scn_page.new ≡ length scn_page.old }
+    ensures cause { CountsDevice result (H.faults host.old) (H.faults host.new) }
+{
+    store.read(host, room.page, page)?;
+    put_slot(page, room.slot, row);
+    put_page(store, host, room.page, PageKind::Data, page, scn_page)?;
+    Ok(())
+}

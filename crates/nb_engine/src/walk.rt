@@ -1,0 +1,167 @@
+// A walk over the backup history, page by page along its links. Nothing changes.
+ghost use Rattle.std.specs.Prelude.{◌≡◌, ◌+◌, ◌<◌, ◌≤◌, ◌*◌, ℕ, List, [], ◌∷◌, ◌++◌, true, IsTrue, IfOk, IfSome, OnOk, length};
+ghost use Rattle.std.specs.List.{list_all};
+ghost use Rattle.nb_fields.specs.Places.{is_page_size};
+ghost use Rattle.nb_change.specs.Counts.{CountsDevice};
+ghost use Rattle.nb_page.specs.Quiet.{Quiet};
+ghost use Rattle.nb_model.specs.Image.{page_at};
+ghost use Rattle.nb_model.specs.Causes.{broken_at};
+ghost use Rattle.nb_model.specs.Chains.{History, Spot, is_slot, slots_in, spots_on, next_in, pages_of, found_pages, spots, last_of};
+ghost use Rattle.nb_model.specs.Trail.{Trail};
+ghost use Rattle.nb_state.specs.Open.{IsOpen};
+ghost use Rattle.nb_state.specs.Does.{Tested};
+ghost use Rattle.nb_engine.specs.History.{gathered, not_linked, IsPlaced};
+
+use crate::reads::take_system;
+use crate::rows::{HistoryRow, Wanted, read_row, use_of};
+use nb_fields::PageKind;
+use nb_fields::layouts::{data, header};
+use nb_host::{Fault, Host, Refusal};
+use nb_state::Store;
+
+/// What stands in the owner field of each page of the history.
+const OWNER: u64 = 1;
+
+/// A slot of the history that is kept for a row.
+#[derive(Clone, Copy, Debug, PartialEq, Eq)]
+pub struct Room {
+    /// The page that has it.
+    pub page: u32,
+    /// Its number there, from 0.
+    pub slot: u32,
+}
+
+/// What a walk has come by.
+#[derive(Drop)]
+pub(crate) struct Walked {
+    /// The last row that is looked for.
+    pub(crate) row: Option<HistoryRow>,
+    /// The first free slot.
+    pub(crate) room: Option<Room>,
+}
+
+/// Comes by one slot, and answers whether it is of the form.
+fn add_slot(walked: &mut Walked, wanted: &Wanted, slot: &[u8], place: Room) -> bool
+    requires { length slot.now ≡ 256 }
+    ensures form { result ≡ is_slot History slot.now }
+    ensures walked { (ss : List Spot) → walked.old ≡ gathered wanted.now ss → result ≡ true
+        → walked.new ≡ gathered wanted.now (ss ++ record { page = place.page; slot = place.slot; bytes = slot.now } ∷ []) }
+    ensures placed { (size : ℕ) → IfSome walked.old.room (IsPlaced size) → IsPlaced size place → IfSome walked.new.room (IsPlaced size) }
+{
+    let used = use_of(slot);
+    if used == 0 {
+        if walked.room.is_none() {
+            walked.room = Some(place);
+        }
+        return true;
+    }
+    if used != 1 {
+        return false;
+    }
+    match read_row(slot) {
+        Some(row) => {
+            if wanted.is_met_by(&row) {
+                walked.row = Some(row);
+            }
+            true
+        }
+        None => false,
+    }
+}
+
+/// Comes by the slots of page `number` up to the first that is not of the form, and answers whether there is none.
+fn add_slots(walked: &mut Walked, wanted: &Wanted, page: &[u8], number: u32) -> bool
+    requires size { IsTrue (is_page_size (length page.now)) }
+    requires low { 0 < number }
+    requires high { number < 1048576 }
+    ensures form { result ≡ list_all (is_slot History) (slots_in page.now) }
+    ensures walked { (ss : List Spot) → walked.old ≡ gathered wanted.now ss → result ≡ true → walked.new ≡ gathered wanted.now (ss ++ spots_on number 0 (slots_in page.now)) }
+    ensures placed { IfSome walked.old.room (IsPlaced (length page.now)) → IfSome walked.new.room (IsPlaced (length page.now)) }
+{
+    let count = ((page.len() - data::SLOTS_AT) / data::SLOT) as u32;
+    let mut slot = 0;
+    while slot < count {
+        let from = data::SLOTS_AT + data::SLOT * slot as usize;
+        let place = Room { page: number, slot };
+        if !add_slot(walked, wanted, &page[from..from + data::SLOT], place) {
+            return false;
+        }
+        slot += 1;
+    }
+    true
+}
+
+/// Comes by page `number`, and answers the page that it is linked to, or 0. The refusal is `NotDatabase` of the page, where it isn't one of
+/// the history.
+fn take_link<H: Host>(
+    store: &mut Store,
+    host: &mut H,
+    number: u32,
+    page: &mut [u8],
+    wanted: &Wanted,
+    walked: &mut Walked,
+) -> Result<u32, Fault>
+    requires size { IsTrue (is_page_size (length page.old)) }
+    requires room { length page.old ≡ store.old.files.page_size }
+    requires low { 0 < number }
+    ensures test { (t : Trail) → IsTrue H.tells → IsOpen (H.world host.old) store.old t → Tested result (not_linked t.base.image number) }
+    ensures next { (t : Trail) → IsTrue H.tells → IsOpen (H.world host.old) store.old t → IfOk result (λ next. next ≡ next_in (page_at t.base.image number)) }
+    ensures walked { (t : Trail) (ss : List Spot) → IsTrue H.tells → IsOpen (H.world host.old) store.old t → walked.old ≡ gathered wanted.now ss
+        → OnOk result (walked.new ≡ gathered wanted.now (ss ++ spots_on number 0 (slots_in (page_at t.base.image number)))) }
+    ensures placed { IfSome walked.old.room (IsPlaced store.old.files.page_size) → OnOk result (IfSome walked.new.room (IsPlaced store.old.files.page_size)) }
+    ensures below { OnOk result (number < 1048576) }
+    ensures same { store.new ≡ store.old }
+    ensures quiet { Quiet (H.world host.old) (H.world host.new) }
+    ensures once { IsTrue H.tells → (H.world host.new).reads ≤ (H.world host.old).reads + 1 }
+    ensures cause { CountsDevice result (H.faults host.old) (H.faults host.new) }
+{
+    // A page that is read is below the length, and so below the most pages that there may be.
+    let _count = store.count();
+    take_system(store, host, number, PageKind::Data, page)?;
+    if data::Owner::get(page) != OWNER {
+        return Err(Fault::Refused(Refusal::NotDatabase { page: number }));
+    }
+    if !add_slots(walked, wanted, page, number) {
+        return Err(Fault::Refused(Refusal::NotDatabase { page: number }));
+    }
+    Ok(data::Next::get(page) as u32)
+}
+
+/// Comes by all slots of the history, and answers its last page too. The refusal is `NotDatabase` of the first page that breaks the form:
+/// a history that leads back into itself has more pages than the database.
+pub(crate) fn walk<H: Host>(
+    store: &mut Store,
+    host: &mut H,
+    page: &mut [u8],
+    wanted: &Wanted,
+) -> Result<(Walked, u32), Fault>
+    requires size { IsTrue (is_page_size (length page.old)) }
+    requires room { length page.old ≡ store.old.files.page_size }
+    ensures test { (t : Trail) → IsTrue H.tells → IsOpen (H.world host.old) store.old t → Tested result (broken_at (pages_of History t.base.image)) }
+    ensures walked { (t : Trail) → IsTrue H.tells → IsOpen (H.world host.old) store.old t → IfOk result (λ (walked, last). walked ≡ gathered wanted.now (spots History t.base.image)) }
+    ensures last { (t : Trail) → IsTrue H.tells → IsOpen (H.world host.old) store.old t → IfOk result (λ (walked, last). last ≡ last_of (found_pages History t.base.image)) }
+    ensures placed { IfOk result (λ (walked, last). IfSome walked.room (IsPlaced store.old.files.page_size)) }
+    ensures low { IfOk result (λ (walked, last). 0 < last) }
+    ensures high { IfOk result (λ (walked, last). last < 1048576) }
+    ensures same { store.new ≡ store.old }
+    ensures quiet { Quiet (H.world host.old) (H.world host.new) }
+    ensures once { (t : Trail) → IsTrue H.tells → IsOpen (H.world host.old) store.old t → OnOk result ((H.world host.new).reads ≤ (H.world host.old).reads + length (found_pages History t.base.image)) }
+    ensures most { IsTrue H.tells → (H.world host.new).reads ≤ (H.world host.old).reads + store.old.files.count }
+    ensures cause { CountsDevice result (H.faults host.old) (H.faults host.new) }
+{
+    let mut walked = Walked {
+        row: None,
+        room: None,
+    };
+    let mut number = header::HISTORY_PAGE;
+    let mut left = store.count();
+    while left > 0 {
+        let next = take_link(store, host, number, page, wanted, &mut walked)?;
+        if next == 0 {
+            return Ok((walked, number));
+        }
+        number = next;
+        left -= 1;
+    }
+    Err(Fault::Refused(Refusal::NotDatabase { page: number }))
+}
