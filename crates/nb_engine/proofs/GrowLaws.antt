@@ -16,7 +16,7 @@ use Rattle.nb_model.specs.Trail.{Trail}
 use Rattle.nb_model.specs.Forms.{Draft, drafted, old_page, put, take_page, wrote, written, no_page, lowest_free, searched, system_page, new_within, has_entry, scn_page_of}
 use Rattle.nb_model.specs.Causes.{Cause, not_kind, no_room, no_scn}
 use Rattle.nb_model.specs.Chains.{History, last_of, grown}
-use Rattle.nb_model.proofs.DraftLaws.{IsKept, IsOf, drafts_are, drafted_is, new_keeps}
+use Rattle.nb_model.proofs.DraftLaws.{IsKept, IsOf, drafts_are, drafted_is, put_keeps, new_keeps}
 use Rattle.nb_model.proofs.DraftJoin.{join_put, join_set_bit}
 use Rattle.nb_model.proofs.FitLaws.{IsWhole}
 use Rattle.nb_model.proofs.NewSound.{searched_image}
@@ -29,7 +29,7 @@ use Rattle.nb_state.specs.Open.{Held}
 use Rattle.nb_state.specs.Does.{Makes, unless_by}
 use Rattle.nb_state.proofs.MakesLaws.{makes_then, makes_front}
 use Rattle.nb_engine.specs.Find.{no_entry_page, not_there}
-use Rattle.nb_engine.specs.Make.{IsWell, MakesSome, page_strokes}
+use Rattle.nb_engine.specs.Make.{IsWell, MakesSome, page_strokes, new_of}
 use Rattle.nb_engine.specs.Room.{no_rows, new_link, linked_payload, link_cause, grow_cause}
 use Rattle.nb_engine.specs.Tries.{Tries}
 use Rattle.nb_engine.proofs.DoesLaws.{unless_none, tries_made}
@@ -161,6 +161,20 @@ grown_strokes image pages =
 pub grown_number : (image : Image) (pages : List ℕ) → (grown History pages [] (drafted image)).1 ≡ (new_link image).1
 unfolding grown
 grown_number image pages = refl
+
+-- the new page is below the length, and stays so
+pub new_below : (t : Trail) (bytes : List ℕ) (number : ℕ) (strokes : List Stroke) → number < length (after_strokes t strokes).base.image → strokes ≡ (new_of 5 bytes t.base.image).0.strokes → number < length (new_of 5 bytes t.base.image).0.image
+new_below t bytes number strokes low same =
+    let of : IsOf t.base (new_of 5 bytes t.base.image).0 = new_keeps (IsOf t.base) (drafts_are t.base) (length t.base.image + 4) 5 (told bytes) (drafted t.base.image) (drafted_is t.base) in
+    subst (λ (x : Image). number < length x) (image_is t 0 (new_of 5 bytes t.base.image).0 of strokes same) low
+
+pub grown_below : (image : Image) (pages : List ℕ) (number : ℕ) → number < length (new_link image).0.image → number < length (grown History pages [] (drafted image)).0.image
+unfolding grown
+grown_below image pages number low =
+    let n : ℕ = length (new_link image).0.image in
+    let long =
+    put_keeps (λ d. n ≤ length d.image) (long_kept n) (last_of pages) 5 (linked_payload (new_link image).0.image (last_of pages) (new_link image).1) (new_link image).0 (omega arith) in
+    omega (arith, low, long)
 
 -- why it doesn't grow
 module _ (image : Image) where

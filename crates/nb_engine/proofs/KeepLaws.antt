@@ -14,7 +14,7 @@ use Rattle.nb_model.specs.Chains.{History, Spot, pages_of, found_pages, spots, f
 use Rattle.nb_model.specs.Backups.{Room as Kept, room_in, needs_taken}
 use Rattle.nb_model.proofs.DraftJoin.{join_put}
 use Rattle.nb_model.proofs.FitLaws.{IsWhole}
-use Rattle.nb_model.proofs.PutSound.{IsPlace}
+use Rattle.nb_model.proofs.PutSound.{IsPlace, needs_image}
 use Rattle.nb_model.proofs.RoundLaws as rounds
 use Rattle.nb_model.proofs.RoundLaws.{new_unbroken}
 use Rattle.nb_state.specs.Open.{Held}
@@ -31,7 +31,7 @@ use Rattle.nb_engine.proofs.FullLaws.{put_full}
 use Rattle.nb_engine.proofs.GrowLaws.{whole, new_long, no_rows_short}
 use Rattle.nb_engine.proofs.MakeLaws.{well}
 use Rattle.nb_engine.proofs.NewLaws.{told}
-use Rattle.nb_engine.proofs.WalkLaws.{last_data}
+use Rattle.nb_engine.proofs.WalkLaws.{IsData, last_data}
 
 -- what a test of inventories leaves
 needs_leaves : (kind p : ℕ) (d : Draft) → ((needs kind p d).strokes ≡ d.strokes) × ((needs kind p d).full ≡ d.full)
@@ -69,6 +69,18 @@ module _ (image : Image) (p : ℕ) where
   kept_full : (taken_draft image p).full ≡ false
   kept_full = (taken_leaves p second).1 ∙ (needs_leaves 10 (scn_page_of image p) first).1 ∙ (needs_leaves 2 (inventory_of image p) (drafted image)).1
 
+taken_image : (p : ℕ) (d : Draft) → (needs_taken p d).image ≡ d.image
+unfolding needs_taken
+taken_image p d = by (is_free_page d.image p)
+  where
+    by : (t : Bool) → (elim t as (λ z. Draft) [ true ↦ record d { broken = p ∷ d.broken } | false ↦ d ]).image ≡ d.image
+    by true = refl
+    by false = refl
+
+kept_image : (image : Image) (p : ℕ) → (taken_draft image p).image ≡ image
+kept_image image p =
+    taken_image p (needs 10 (scn_page_of image p) (needs 2 (inventory_of image p) (drafted image))) ∙ needs_image 10 (scn_page_of image p) (needs 2 (inventory_of image p) (drafted image)) ∙ needs_image 2 (inventory_of image p) (drafted image)
+
 -- a cause that doesn't apply
 skip : (a b : Cause) (cs : List Cause) → b ≡ None → first_cause (a ∷ b ∷ cs) ≡ first_cause (a ∷ cs)
 unfolding first_cause
@@ -101,6 +113,9 @@ module _ (image : Image) where
     pub kept_room : (room : Room) → room.page ≡ s.page → room.slot ≡ s.slot → IsRoomIn image room
     kept_room room f h = record { page = f ∙ sym (ap (λ (k : Kept). k.page) kept_is); slot = h ∙ sym (ap (λ (k : Kept). k.slot) kept_is) }
 
+    pub kept_below : (room : Room) → room.page ≡ s.page → IsData image s.page → room.page < length (room_in image).draft.image
+    kept_below room f is = let low = is.low in omega (arith, low, f, ap (λ (k : Kept). length k.draft.image) kept_is, ap length (kept_image image s.page))
+
     pub kept_none : (room_in image).draft.strokes ≡ []
     kept_none = ap (λ (k : Kept). k.draft.strokes) kept_is ∙ kept_strokes image s.page
 
@@ -117,6 +132,9 @@ module _ (image : Image) where
 
     pub grown_room : (number : ℕ) → number ≡ grows.1 → IsRoomIn image (record { page = number; slot = 0 })
     grown_room number f = record { page = f ∙ sym (ap (λ (k : Kept). k.page) grows_is); slot = sym (ap (λ (k : Kept). k.slot) grows_is) }
+
+    pub grown_low : (number : ℕ) → number < length grows.0.image → number < length (room_in image).draft.image
+    grown_low number low = omega (arith, low, ap (λ (k : Kept). length k.draft.image) grows_is)
 
     pub grown_draft : (room_in image).draft.strokes ≡ grows.0.strokes
     grown_draft = ap (λ (k : Kept). k.draft.strokes) grows_is

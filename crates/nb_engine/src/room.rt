@@ -175,6 +175,7 @@ pub(crate) fn grow<H: Host>(
     ensures makes { (t : Trail) (pages : List ℕ) → IsTrue H.tells → IsOpen (H.world host.old) store.old t → IsSoundImage t.base.image → last ≡ last_of pages → last < length t.base.image
         → Tries result (H.world host.old) (H.world host.new) store.old store.new t (grow_cause t.base.image) (grown History pages [] (drafted t.base.image)).0.strokes }
     ensures value { (t : Trail) (pages : List ℕ) → IsTrue H.tells → IsOpen (H.world host.old) store.old t → IsSoundImage t.base.image → IfOk result (λ number. number ≡ (grown History pages [] (drafted t.base.image)).1) }
+    ensures below { (t : Trail) (pages : List ℕ) → IsTrue H.tells → IsOpen (H.world host.old) store.old t → IsSoundImage t.base.image → IfOk result (λ number. number < length (grown History pages [] (drafted t.base.image)).0.image) }
     ensures some { (t : Trail) → IsTrue H.tells → IsOpen (H.world host.old) store.old t → 5 ≤ length t.base.image → MakesSome result (H.world host.old) (H.world host.new) store.old store.new t }
     ensures least { IfOk result (λ number. 5 ≤ number) }
     ensures most { IfOk result (λ number. number < 1048576) }

@@ -15,7 +15,7 @@ use Rattle.nb_engine.specs.Room.{no_rows, new_link, linked_payload, link_cause, 
 use Rattle.nb_engine.specs.Tries.{Tries}
 use Rattle.nb_engine.proofs.DoesLaws.{tries_early, tries_passed, tries_after}
 use Rattle.nb_engine.proofs.FullLaws.{lowest_most}
-use Rattle.nb_engine.proofs.GrowLaws.{rows_are, entry_free, grow_full, grow_spent, grown_number, grown_front, grown_failed, grown_done, some_failed, some_done}
+use Rattle.nb_engine.proofs.GrowLaws.{rows_are, entry_free, grow_full, grow_spent, grown_number, new_below, grown_below, grown_front, grown_failed, grown_done, some_failed, some_done}
 use Rattle.nb_engine.proofs.NewTurn.{header_of, well_of}
 use Rattle.nb_engine.proofs.room.grow.Goals as goal
 
@@ -161,6 +161,30 @@ returns-clause-value g c t pages tells is sound =
     let same = tests.same ∙ entry.same in
     let n : ℕ = c.in_ok-number.number in
     subst (λ (xs : List ℕ). n ≡ (new_of 5 xs image).1) rows_are (c.in_ok-number.ensures.value t tells still at first_low (tests.map t tells here) is_well for_bytes) ∙ sym (grown_number image pages)
+
+pub returns-clause-below : goal.returns-clause-below
+returns-clause-below g c t pages tells is sound =
+    let image = t.base.image in
+    let w = g.H.Host.world c.args.host.now in
+    let scn : image_scn image < 4294967296 = omega (arith, is.agrees.scn, c.scn-scn.ensures) in
+    let is_well : IsWell image = well_of _ _ t is (subst (λ (n : ℕ). IsTrue (is_page_size n)) c.requires.room c.requires.size) scn sound in
+    let entry = c.in_ok-check_entry.ensures in
+    let here = open_still _ _ _ _ t entry.same entry.quiet is in
+    let tests = c.in_ok-first.ensures in
+    let header = header_of _ _ t here scn in
+    let room = tests.test t 5 no_rows tells here header sound in
+    let for_bytes = subst (λ (xs : List ℕ). no_room (new_of 5 xs image).0 ≡ None) (sym rows_are) room in
+    let spent = c.in_ok-check_scn.ensures.test image (c.scn-scn.ensures ∙ is.agrees.scn) in
+    let at = tests.value t tells here in
+    let first_low : c.in_ok-first.first ≤ length image = omega (arith, at, lowest_most image sound.least) in
+    let still = open_still _ _ _ _ t tests.same tests.quiet here in
+    let mid = g.H.Host.world c.check_new.new.host in
+    let begun = quiet_joined _ _ _ entry.quiet tests.quiet in
+    let same = tests.same ∙ entry.same in
+    let n : ℕ = c.in_ok-number.number in
+    let all = c.in_ok-number.ensures.makes t tells still at first_low (tests.map t tells here) in
+    let low = subst (λ (xs : List ℕ). n < length (new_of 5 xs image).0.image) rows_are (new_below t _ n all.some.made all.ends (all.these (is_well, for_bytes)).same) in
+    grown_below image pages n low
 
 pub returns-in_err-check_entry-clause-some : goal.returns-in_err-check_entry-clause-some
 returns-in_err-check_entry-clause-some g c t tells is least =

@@ -18,7 +18,7 @@ use Rattle.nb_engine.specs.Room.{room_cause, taken_draft, grow_cause}
 use Rattle.nb_engine.specs.Tries.{Tries}
 use Rattle.nb_engine.proofs.CauseLaws.{first_here}
 use Rattle.nb_engine.proofs.DoesLaws.{tries_early, tries_passed, tries_made, tries_after}
-use Rattle.nb_engine.proofs.KeepLaws.{kept_room, kept_none, kept_cause, grown_room, grown_draft, grown_cause, room_some, room_none, tries_other, tries_valued}
+use Rattle.nb_engine.proofs.KeepLaws.{kept_room, kept_below, kept_none, kept_cause, grown_room, grown_low, grown_draft, grown_cause, room_some, room_none, tries_other, tries_valued}
 use Rattle.nb_engine.proofs.MakeLaws.{tries_named}
 use Rattle.nb_engine.proofs.NewTurn.{well_of}
 use Rattle.nb_engine.proofs.WalkLaws.{last_data, spot_data, history_least}
@@ -149,6 +149,40 @@ returns-in_ok-number-in-None-clause-room g c t tells is sound =
     let is_well = well_of w _ t here c.self.invariant.0 scn sound in
     let strokes : List Stroke = (grown History pages [] (drafted image)).0.strokes in
     grown_room image none c.in_ok-number-in-None.number (c.in_ok-number-in-None.ensures.value t pages tells still sound)
+
+pub returns-in_ok-check_room-in-Some-clause-below : goal.returns-in_ok-check_room-in-Some-clause-below
+returns-in_ok-check_room-in-Some-clause-below g c t tells is sound =
+    let w = g.H.Host.world c.args.host.now in
+    let here = subst (λ (h : Held). IsOpen w h t) (sym c.self.view_is) is in
+    let image = t.base.image in
+    let walked = c.in_ok-walked.ensures in
+    let linked = walked.test t tells here in
+    let still = open_still _ _ _ _ t walked.same walked.quiet here in
+    let same = walked.same ∙ c.self.view_is in
+    let kept = room_some (free_spot (spots History image)) c.in-Some.room (sym (ap (λ (x : Walked). x.room) (walked.walked t tells here)) ∙ c.in-Some.is) in
+    let data_page = spot_data image linked kept.spot kept.is in
+    let kind : kind_of (page_at image c.in-Some.room.page) ≡ 5 = ap (λ (n : ℕ). kind_of (page_at image n)) kept.page ∙ data_page.kind in
+    let cause_is = ap (λ (n : ℕ). first_cause (not_of_form (taken_draft image n) ∷ no_scn image ∷ [])) kept.page ∙ kept_cause image kept.spot kept.is linked in
+    kept_below image kept.spot kept.is c.in-Some.room kept.page data_page
+
+pub returns-in_ok-number-in-None-clause-below : goal.returns-in_ok-number-in-None-clause-below
+returns-in_ok-number-in-None-clause-below g c t tells is sound =
+    let w = g.H.Host.world c.args.host.now in
+    let here = subst (λ (h : Held). IsOpen w h t) (sym c.self.view_is) is in
+    let image = t.base.image in
+    let walked = c.in_ok-walked.ensures in
+    let linked = walked.test t tells here in
+    let still = open_still _ _ _ _ t walked.same walked.quiet here in
+    let same = walked.same ∙ c.self.view_is in
+    let none : free_spot (spots History image) ≡ None = room_none (free_spot (spots History image)) (sym (ap (λ (x : Walked). x.room) (walked.walked t tells here)) ∙ c.in-None.is) in
+    let pages : List ℕ = found_pages History image in
+    let last_is = walked.last t tells here in
+    let last_some : 0 < last_of pages = omega (arith, walked.low, last_is) in
+    let there : c.in_ok-walked.last < length image = omega (arith, (last_data image linked).low, last_is) in
+    let scn : image_scn image < 4294967296 = omega (arith, here.agrees.scn, c.scn-scn.ensures) in
+    let is_well = well_of w _ t here c.self.invariant.0 scn sound in
+    let strokes : List Stroke = (grown History pages [] (drafted image)).0.strokes in
+    grown_low image none c.in_ok-number-in-None.number (c.in_ok-number-in-None.ensures.below t pages tells still sound)
 
 pub returns-in_err-walked-clause-some : goal.returns-in_err-walked-clause-some
 returns-in_err-walked-clause-some g c t tells is =
