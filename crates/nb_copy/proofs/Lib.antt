@@ -1,0 +1,4 @@
+pub mod QuietLaws
+pub mod BlankLaws
+pub mod FrontLaws
+pub mod CopyLaws
