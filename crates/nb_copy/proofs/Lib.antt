@@ -2,3 +2,5 @@ pub mod QuietLaws
 pub mod BlankLaws
 pub mod FrontLaws
 pub mod CopyLaws
+pub mod TornLaws
+pub mod RunLaws

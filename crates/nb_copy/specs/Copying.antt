@@ -1,15 +1,12 @@
 -- A file that is made with all pages of a frozen image.
-use Rattle.std.specs.Prelude.{◌≡◌, ℕ, zero, suc, ◌+◌, ◌<◌, ◌≤◌, List, [], ◌∷◌, length, take, drop, replicate, Some, Result, Ok, Err, IsTrue}
+use Rattle.std.specs.Prelude.{◌≡◌, ℕ, zero, suc, ◌≤◌, List, [], ◌∷◌, length, take, drop, replicate, Some, IsTrue}
 use Rattle.nb_fields.specs.Places.{is_page_size}
 use Rattle.nb_host.specs.Files.{File}
 use Rattle.nb_host.specs.World.{World}
-use Rattle.nb_host.specs.declared.faults.HostFault.{HostFault}
-use Rattle.nb_state.specs.declared.turns.Progress.{Progress}
-use Rattle.nb_state.specs.declared.turns.Progress.TheVariants.{More, Finished}
 use Rattle.nb_model.specs.Image.{Page, Image, first_page}
 use Rattle.nb_model.specs.Levels.{joined}
 use Rattle.nb_model.specs.Sound.{IsOfSize}
-use Rattle.nb_copy.specs.Making.{IsBlank, IsKept}
+use Rattle.nb_copy.specs.Making.{IsBlank}
 
 -- What a contract sees of such a copier: its file, the size of a page, how many pages the frozen image has, which one the next turn
 -- deals with, and page 0, which waits from the first turn on.
@@ -44,18 +41,6 @@ pub record IsBegun (w : World) (copy : Copying) (frozen : Image) : Type 0 where
 pub record IsCopying (w : World) (copy : Copying) (frozen : Image) : Type 0 where
   pub of : IsOf copy frozen
   pub begun : 1 ≤ copy.next → IsBegun w copy frozen
-
--- what a turn answers: one page more was dealt with, or all were before and the file is whole and kept for good
-abbrev pub CopyTurn : Result Progress HostFault → (new : World) (before after : Copying) (frozen : Image) → Type 0
-CopyTurn (Ok More) new before after frozen = IsCopying new after frozen
-CopyTurn (Ok Finished) new before after frozen = IsKept new before.name (joined frozen)
-CopyTurn (Err fault) new before after frozen = Unit {0}
-
--- whether a page was left, and that the next one follows
-abbrev pub CopyCounts : Result Progress HostFault → (before after : Copying) → Type 0
-CopyCounts (Ok More) before after = (before.next < before.count) × (after ≡ record before { next = before.next + 1; first = after.first })
-CopyCounts (Ok Finished) before after = (before.next ≡ before.count) × (after ≡ before)
-CopyCounts (Err fault) before after = Unit {0}
 
 -- what holds of the fields of every copier
 pub record IsCopier (size count next first page : ℕ) : Type 0 where
