@@ -99,9 +99,10 @@ module _ (r : Numbered) where
 
   grows_cons : (s t : Stretch) (ss more waits : List Stretch) → Grows (t ∷ ss) more waits → Grows (s ∷ t ∷ ss) more waits
   grows_cons s t ss more waits is =
-      let some : 1 ≤ length (added r (t ∷ ss)) = added_some (t ∷ ss) in
-      (complete_cons s (added r (t ∷ ss)) some ∙ ap (λ (l : List Stretch). s ∷ l) is.0 ∙ sym (ap (λ (l : List Stretch). l ++ more) (complete_cons s (t ∷ ss) (omega arith))),
-       incomplete_cons s (added r (t ∷ ss)) some ∙ is.1)
+      let some : 1 ≤ length (added r (t ∷ ss)) = added_some (t ∷ ss) in (
+        complete_cons s (added r (t ∷ ss)) some ∙ ap (λ (l : List Stretch). s ∷ l) is.0 ∙ sym (ap (λ (l : List Stretch). l ++ more) (complete_cons s (t ∷ ss) (omega arith))),
+        incomplete_cons s (added r (t ∷ ss)) some ∙ is.1,
+      )
 
   -- a run waits exactly where it has fewer than 16 pages
   full_or_not : (s : Stretch) → ((nat_lt (length s.pages) 16 ≡ true) × (complete (s ∷ []) ≡ []) × (incomplete (s ∷ []) ≡ s ∷ [])) ⊎ ((nat_lt (length s.pages) 16 ≡ false) × (complete (s ∷ []) ≡ s ∷ []) × (incomplete (s ∷ []) ≡ []))
