@@ -4,3 +4,6 @@ pub mod FrontLaws
 pub mod CopyLaws
 pub mod TornLaws
 pub mod RunLaws
+pub mod ReadAgain
+pub mod UnfinishedLaws
+pub mod NoLevelLaws
