@@ -1,6 +1,6 @@
 -- While page 0 isn't written, the file begins with zeros, so its name is free.
 use Rattle.std.proofs.Common.{◌≡◌, inl, inr, ℕ, zero, suc, ◌+◌, ◌-◌, ◌*◌, ◌≤◌, List, [], ◌∷◌, ◌++◌, length, take, drop, replicate, refl, sym, ap, subst, ◌∙◌, arith, length-append}
-use Rattle.std.specs.Prelude.{true, None, Some, ◌==◌, ◌&&◌}
+use Rattle.std.specs.Prelude.{true, None, Some, ◌==◌}
 use Rattle.std.proofs.lemmas.Bool.{or_left, and_from, and_parts}
 use Rattle.std.proofs.lemmas.List.{take-append-le, take-take, length-take-le, length-replicate}
 use Rattle.nb_fields.specs.Bytes.{is_zeros}

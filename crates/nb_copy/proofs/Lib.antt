@@ -2,8 +2,3 @@ pub mod QuietLaws
 pub mod BlankLaws
 pub mod FrontLaws
 pub mod CopyLaws
-pub mod TornLaws
-pub mod RunLaws
-pub mod ReadAgain
-pub mod UnfinishedLaws
-pub mod NoLevelLaws

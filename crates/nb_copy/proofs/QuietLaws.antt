@@ -1,14 +1,14 @@
 -- Calls on the one file that is made, behind calls that change nothing.
-use Rattle.std.proofs.Common.{◌≡◌, ◌≢◌, inl, inr, ⊎_elim, ℕ, ◌+◌, ◌≤◌, List, refl, sym, ap, subst, ◌∙◌, arith}
+use Rattle.std.proofs.Common.{◌≡◌, inl, inr, ⊎_elim, ℕ, List, ap, subst, ◌∙◌}
 use Rattle.std.specs.Prelude.{Bool, IsTrue, Result, Some, OnOk}
 use Rattle.nb_host.specs.Files.{File, Files, with_file}
 use Rattle.nb_host.specs.World.{World}
-use Rattle.nb_host.specs.Crash.{Leaves, LeavesAll, IsDurable}
+use Rattle.nb_host.specs.Crash.{IsDurable}
 use Rattle.nb_host.specs.Calls.{Syncs}
 use Rattle.nb_host.specs.Moments.{Passes}
-use Rattle.nb_change.specs.Changes.{Names, Other, Changes, Only, Remade}
+use Rattle.nb_change.specs.Changes.{Changes, Only, Remade}
 use Rattle.nb_change.specs.Gave.{GaveNothing}
-use Rattle.nb_change.proofs.ChangesLaws.{begun, rested, composed, all_before, still_more}
+use Rattle.nb_change.proofs.ChangesLaws.{rested, composed, still_more}
 use Rattle.nb_change.proofs.MomentLaws.{left_before}
 use Rattle.nb_change.proofs.NameLaws.{with_file-same}
 use Rattle.nb_change.proofs.ResultLaws.{on_ok_then}
@@ -44,3 +44,7 @@ pub sync_kept : {T E : Type 0} (tells : Bool) (result : Result T E) (old new : W
 sync_kept tells result old new name bytes told reads syncs =
     let same : new.files name ≡ Some bytes = ap (λ (f : Files). f name) syncs.still.files ∙ reads in
     on_ok_then result (λ (durable : IsDurable new name (new.files name)). record { durable = subst (λ (f : File). IsDurable new name f) same durable; reads = same }) (synced tells result old new name told syncs)
+
+-- the same name
+pub renamed : (old new : World) (n m : List ℕ) (made : File → Type 0) → n ≡ m → Changes old new (Only n) (Remade old n made) → Changes old new (Only m) (Remade old m made)
+renamed old new n m made same changes = subst (λ (x : List ℕ). Changes old new (Only x) (Remade old x made)) same changes

@@ -1,5 +1,3 @@
 pub mod Making
 pub mod Copying
-pub mod Gathering
-pub mod LevelCopying
 pub mod Turns

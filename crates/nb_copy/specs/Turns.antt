@@ -8,7 +8,6 @@ use Rattle.nb_model.specs.Image.{Image}
 use Rattle.nb_model.specs.Levels.{joined}
 use Rattle.nb_copy.specs.Making.{IsKept}
 use Rattle.nb_copy.specs.Copying.{Copying, IsCopying}
-use Rattle.nb_copy.specs.LevelCopying.{LevelCopying, IsLevelCopying, whole_level}
 
 -- what a turn of a copy answers: one page more was dealt with, or all were before and the file is whole and kept for good
 abbrev pub CopyTurn : Result Progress HostFault → (new : World) (before after : Copying) (frozen : Image) → Type 0
@@ -21,16 +20,3 @@ abbrev pub CopyCounts : Result Progress HostFault → (before after : Copying) �
 CopyCounts (Ok More) before after = (before.next < before.count) × (after ≡ record before { next = before.next + 1; first = after.first })
 CopyCounts (Ok Finished) before after = (before.next ≡ before.count) × (after ≡ before)
 CopyCounts (Err fault) before after = Unit {0}
-
--- what a turn of a level answers: one page more was dealt with, or all were before and the file is whole and kept for good
-abbrev pub LevelTurn : Result Progress HostFault → (new : World) (before after : LevelCopying) (frozen : Image) → Type 0
-LevelTurn (Ok More) new before after frozen = IsLevelCopying new after frozen
-LevelTurn (Ok Finished) new before after frozen = IsKept new before.name (whole_level before frozen)
-LevelTurn (Err fault) new before after frozen = Unit {0}
-
--- whether a page was left, and that the next one follows
-abbrev pub LevelCounts : Result Progress HostFault → (before after : LevelCopying) → Type 0
-LevelCounts (Ok More) before after =
-    (before.next < before.count) × (after ≡ record before { next = before.next + 1; written = after.written; run = after.run; scn_page = after.scn_page })
-LevelCounts (Ok Finished) before after = (before.next ≡ before.count) × (after ≡ record before { run = after.run })
-LevelCounts (Err fault) before after = Unit {0}
