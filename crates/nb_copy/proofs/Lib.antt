@@ -13,3 +13,5 @@ pub mod WaitingLaws
 pub mod GatherLaws
 pub mod HeadLaws
 pub mod CloseLaws
+pub mod PlaceLaws
+pub mod LevelLaws
