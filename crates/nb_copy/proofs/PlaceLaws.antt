@@ -1,14 +1,18 @@
 -- Where the SCN entry of a page stands, and which pages need none.
 use Rattle.std.proofs.Common.{◌≡◌, ◌≢◌, ◌⊎◌, inl, inr, ℕ, zero, suc, ◌+◌, ◌-◌, ◌*◌, ◌/◌, ◌%◌, ◌<◌, ◌≤◌, length, refl, sym, ap, subst, ◌∙◌, arith}
-use Rattle.std.specs.Prelude.{true, false, IsTrue, ◌==◌, ◌&&◌, ◌||◌, nat_lt}
+use Rattle.std.specs.Prelude.{true, false, slice_index, IsTrue, ◌==◌, ◌&&◌, ◌||◌, nat_lt}
 use Rattle.std.proofs.Math.Nat.{div-eq_of_lt, mod-eq-sub-div-mul, div-mul-le_self, lt-div-mul-add}
 use Rattle.std.proofs.lemmas.Nat.{div-mul-add}
 use Rattle.std.proofs.lemmas.Bool.{and_parts, or_cases, eqb-true}
 use Rattle.nb_fields.specs.Places.{is_page_size, entries_in, scn_place, is_scn_place}
 use Rattle.nb_fields.proofs.SizeLemmas.{size_facts}
-use Rattle.nb_model.specs.Image.{Image, image_size}
-use Rattle.nb_model.specs.Forms.{scn_page_of}
-use Rattle.nb_engine.proofs.RaiseLaws.{scn_page-is}
+use Rattle.nb_fields.specs.Page.{stamp_of}
+use Rattle.nb_model.specs.Image.{Page, Image, image_size, page_at}
+use Rattle.nb_model.specs.Sound.{HasEntries}
+use Rattle.nb_scn.specs.Entries.{entries}
+use Rattle.nb_engine.proofs.PutLaws.{other-with}
+use Rattle.nb_model.specs.Forms.{scn_page_of, scn_entry}
+use Rattle.nb_engine.proofs.RaiseLaws.{scn_page-is, entry-is}
 use Rattle.nb_copy.proofs.FitLaws.{lt_tells}
 
 -- an SCN page that isn't the first stands at the first page that it has an entry for
@@ -67,3 +71,15 @@ pub ready_place : (image : Image) (size p : ℕ) → size ≡ image_size image �
 ready_place image size p same is some other =
     let facts = size_facts size is in
     ap (λ n. scn_place n ((p - 1) / entries_in n)) (sym same) ∙ ap (scn_place size) (same_place size p (omega (arith, facts.at_least)) some other) ∙ ap (λ n. scn_place n (p / entries_in n)) same
+
+-- an SCN page's entries are in itself
+pub own_page : (image : Image) (size p : ℕ) → size ≡ image_size image → IsTrue (is_page_size size) → is_scn_place size p ≡ true → scn_page_of image p ≡ p
+own_page image size p same is place = ap (λ n. scn_place n (p / entries_in n)) (sym same) ∙ scn_own size p is place
+
+-- a page whose entry isn't above an SCN has no stamp above it
+pub entry_low : (image : Image) (size p index scn value : ℕ) (old : Page) → HasEntries image → size ≡ image_size image → index ≡ p % entries_in size → size ≡ length old → index < entries_in size → old ≡ page_at image (scn_page_of image p)
+    → value ≡ slice_index (entries old) index → value ≤ scn → 1 ≤ p → p < length image → is_scn_place size p ≡ false → stamp_of (page_at image p) ≤ scn
+entry_low image size p index scn value old has same number long inside is found low some below other =
+    let known : slice_index (entries old) index ≡ scn_entry image p = entry-is image size p index old same number long inside is in
+    let stamp = has.no_lower p below (other-with image p size same (λ e. absurd (omega (arith, e, some))) other) in
+    omega (arith, stamp, known, found, low)
