@@ -12,6 +12,7 @@ use Rattle.nb_model.proofs.ImageLaws.{all-take}
 use Rattle.nb_copy.specs.Gathering.{MayHave}
 use Rattle.nb_copy.specs.LevelCopying.{LevelCopying, IsLevelOf, taken_below}
 use Rattle.nb_copy.proofs.RunLaws.{tells}
+use Rattle.nb_copy.proofs.CloseLaws.{taken_none}
 
 weaker : (n : ℕ) (rs : List Numbered) → AreRising (n + 1) rs → AreRising n rs
 weaker n [] is = tt
@@ -68,3 +69,14 @@ module _ (copy : LevelCopying) (frozen : Image) (of : IsLevelOf copy frozen) whe
     rising = taken_rise 0 copy.file.head.previous_scn (take k frozen) (omega (arith, length-take-le k frozen low, low, of.sound.most));
     sizes = taken_sizes copy.file.head.page_size 0 copy.file.head.previous_scn (take k frozen) (all-take (λ x. length x ≡ copy.file.head.page_size) k frozen (subst (λ n. IsOfSize n frozen) (sym of.size) of.sound.sizes));
   }
+
+-- with the page that is dealt with
+pub next_taken : (copy : LevelCopying) (frozen : Image) → IsLevelOf copy frozen → (k scn : ℕ) (page : Page) → k < length frozen → page ≡ page_at frozen k → scn ≡ copy.file.head.previous_scn
+    → taken_below k copy frozen ++ taken_from k scn (page ∷ []) ≡ taken_below (k + 1) copy frozen
+next_taken copy frozen of k scn page low is same =
+    ap (λ (p : Page). taken_below k copy frozen ++ taken_from k scn (p ∷ [])) is ∙ ap (λ n. taken_below k copy frozen ++ taken_from k n (page_at frozen k ∷ [])) same ∙ sym (below_next copy frozen of k low)
+
+-- and without it, where its stamp isn't above the SCN
+pub next_passed : (copy : LevelCopying) (frozen : Image) → IsLevelOf copy frozen → (k : ℕ) → k < length frozen → stamp_of (page_at frozen k) ≤ copy.file.head.previous_scn → taken_below k copy frozen ≡ taken_below (k + 1) copy frozen
+next_passed copy frozen of k low stamp =
+    sym (append-nil (taken_below k copy frozen)) ∙ ap (λ (rs : List Numbered). taken_below k copy frozen ++ rs) (sym (taken_none k copy.file.head.previous_scn (page_at frozen k) stamp)) ∙ sym (below_next copy frozen of k low)

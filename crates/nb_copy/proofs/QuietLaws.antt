@@ -1,14 +1,14 @@
 -- Calls on the one file that is made, behind calls that change nothing.
-use Rattle.std.proofs.Common.{◌≡◌, inl, inr, ⊎_elim, ℕ, List, ap, subst, ◌∙◌}
+use Rattle.std.proofs.Common.{◌≡◌, refl, inl, inr, ⊎_elim, ℕ, List, ap, subst, ◌∙◌}
 use Rattle.std.specs.Prelude.{Bool, IsTrue, Result, Some, OnOk}
 use Rattle.nb_host.specs.Files.{File, Files, with_file}
 use Rattle.nb_host.specs.World.{World}
-use Rattle.nb_host.specs.Crash.{IsDurable}
+use Rattle.nb_host.specs.Crash.{IsDurable, Leaves}
 use Rattle.nb_host.specs.Calls.{Syncs}
 use Rattle.nb_host.specs.Moments.{Passes}
 use Rattle.nb_change.specs.Changes.{Changes, Only, Remade}
 use Rattle.nb_change.specs.Gave.{GaveNothing}
-use Rattle.nb_change.proofs.ChangesLaws.{rested, composed, still_more}
+use Rattle.nb_change.proofs.ChangesLaws.{rested, composed, remade_on, still_more}
 use Rattle.nb_change.proofs.MomentLaws.{left_before}
 use Rattle.nb_change.proofs.NameLaws.{with_file-same}
 use Rattle.nb_change.proofs.ResultLaws.{on_ok_then}
@@ -48,3 +48,8 @@ sync_kept tells result old new name bytes told reads syncs =
 -- the same name
 pub renamed : (old new : World) (n m : List ℕ) (made : File → Type 0) → n ≡ m → Changes old new (Only n) (Remade old n made) → Changes old new (Only m) (Remade old m made)
 renamed old new n m made same changes = subst (λ (x : List ℕ). Changes old new (Only x) (Remade old x made)) same changes
+
+-- one run of calls on it after another
+pub remade_twice : (old mid new : World) (name : List ℕ) (made : File → Type 0) → Leaves mid name (mid.files name) → Changes old mid (Only name) (Remade old name made) → Changes mid new (Only name) (Remade mid name made) → Changes old new (Only name) (Remade old name made)
+remade_twice old mid new name made was first second =
+    remade_on old mid new (Only name) (Remade old name made) (Remade old name made) name made (mid.files name) first second refl was (λ files has. has) (λ before files left has is done others. inr done)

@@ -146,8 +146,7 @@ impl LevelCopy {
             → Changes (H.world host.old) (H.world host.new) (Only self.old.file.name) (Remade (H.world host.old) self.old.file.name IsUnfinished) }
         ensures begun { (t : Trail) → IsTrue H.tells → IsOpen (H.world host.old) engine.old t → engine.old.files.state ≡ 1 → IsLevelOf self.old t.base.frozen → IsFresh self.old
             → OnOk result (HasTaken (H.world host.new) self.new.file (taken_below 1 self.old t.base.frozen)) }
-        ensures same { OnOk result (self.new ≡ record self.old { file = record self.old.file { written = self.new.file.written; run = self.new.file.run }; page = self.new.page }) }
-        ensures most { OnOk result (self.new.file.written ≤ 1) }
+        ensures same { OnOk result (self.new ≡ record self.old { file = record self.old.file { written = self.new.file.written; run = self.new.file.run }; next = 1; page = self.new.page }) }
         ensures engine { engine.new ≡ engine.old }
         ensures gave { GaveNothing (H.world host.old) (H.world host.new) }
         ensures once { IsTrue H.tells → (H.world host.new).reads ≤ (H.world host.old).reads + 1 }
@@ -155,6 +154,7 @@ impl LevelCopy {
     {
         engine.read_main(host, 0, &mut self.page)?;
         self.file.make(host)?;
+        self.next = 1;
         self.file.take(host, 0, &self.page)
     }
 
@@ -169,15 +169,17 @@ impl LevelCopy {
             → OnOk result (HasTaken (H.world host.new) self.new.file (taken_below (self.old.next + 1) self.old t.base.frozen)) }
         ensures entries { (t : Trail) → IsTrue H.tells → IsOpen (H.world host.old) engine.old t → engine.old.files.state ≡ 1 → IsLevelOf self.old t.base.frozen → HasEntriesOf self.old t.base.frozen
             → OnOk result (self.new.scn_page ≡ page_at t.base.frozen (scn_page_of t.base.frozen self.old.next)) }
-        ensures same { OnOk result (self.new ≡ record self.old { file = record self.old.file { written = self.new.file.written; run = self.new.file.run }; scn_page = self.new.scn_page; page = self.new.page }) }
-        ensures most { OnOk result (self.new.file.written ≤ self.old.file.written + 1) }
+        ensures same { OnOk result (self.new ≡ record self.old { file = record self.old.file { written = self.new.file.written; run = self.new.file.run }; next = self.old.next + 1; scn_page = self.new.scn_page; page = self.new.page }) }
         ensures engine { engine.new ≡ engine.old }
         ensures gave { GaveNothing (H.world host.old) (H.world host.new) }
         ensures twice { IsTrue H.tells → (H.world host.new).reads ≤ (H.world host.old).reads + 2 }
         ensures cause { CountsFault result (H.faults host.old) (H.faults host.new) }
     {
-        if self.fetch(host, engine)? {
-            self.file.take(host, self.next, &self.page)?;
+        let number = self.next;
+        let may_be_changed = self.fetch(host, engine)?;
+        self.next = number + 1;
+        if may_be_changed {
+            self.file.take(host, number, &self.page)?;
         }
         Ok(())
     }
@@ -212,7 +214,6 @@ impl LevelCopy {
         } else {
             self.copy_page(host, engine)?;
         }
-        self.next += 1;
         Ok(Progress::More)
     }
 }

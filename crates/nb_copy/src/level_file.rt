@@ -103,7 +103,7 @@ impl LevelFile {
             → Changes (H.world host.old) (H.world host.new) (Only self.old.name) (Remade (H.world host.old) self.old.name IsUnfinished) }
         ensures taken { IsTrue H.tells → (rs : List Numbered) → HasTaken (H.world host.old) self.old rs → MayHave self.old.head (rs ++ (number, page.now) ∷ []) → OnOk result (HasTaken (H.world host.new) self.new (rs ++ (number, page.now) ∷ [])) }
         ensures same { self.new ≡ record self.old { written = self.new.written; run = self.new.run } }
-        ensures more { OnOk result (self.new.written ≡ self.old.written + 1) }
+        ensures more { self.new.written ≡ self.old.written + 1 }
         ensures log { IsSilent (H.world host.old) (H.world host.new) }
         ensures cause { CountsFault result (H.faults host.old) (H.faults host.new) }
     {
@@ -135,7 +135,7 @@ impl LevelFile {
         ensures taken { IsTrue H.tells → (rs : List Numbered) → HasTaken (H.world host.old) self.old rs → MayHave self.old.head (rs ++ taken_from number self.old.head.previous_scn (page.now ∷ []))
             → OnOk result (HasTaken (H.world host.new) self.new (rs ++ taken_from number self.old.head.previous_scn (page.now ∷ []))) }
         ensures same { self.new ≡ record self.old { written = self.new.written; run = self.new.run } }
-        ensures most { OnOk result (self.new.written ≤ self.old.written + 1) }
+        ensures most { self.new.written ≤ self.old.written + 1 }
         ensures log { IsSilent (H.world host.old) (H.world host.new) }
         ensures cause { CountsFault result (H.faults host.old) (H.faults host.new) }
     {
