@@ -9,7 +9,10 @@ use Rattle.nb_model.specs.Image.{Page, Image, Numbered, page_at, image_size}
 use Rattle.nb_model.specs.Levels.{AreRising, AreOfSize, taken_from, taken}
 use Rattle.nb_model.specs.Sound.{IsOfSize}
 use Rattle.nb_model.proofs.ImageLaws.{all-take}
-use Rattle.nb_copy.specs.Gathering.{MayHave}
+use Rattle.nb_host.specs.Files.{File, Files}
+use Rattle.nb_host.specs.World.{World}
+use Rattle.nb_page.specs.Quiet.{Quiet}
+use Rattle.nb_copy.specs.Gathering.{LevelWriting, HasTaken, MayHave}
 use Rattle.nb_copy.specs.LevelCopying.{LevelCopying, IsLevelOf, taken_below}
 use Rattle.nb_copy.proofs.RunLaws.{tells}
 use Rattle.nb_copy.proofs.CloseLaws.{taken_none}
@@ -80,3 +83,11 @@ next_taken copy frozen of k scn page low is same =
 pub next_passed : (copy : LevelCopying) (frozen : Image) → IsLevelOf copy frozen → (k : ℕ) → k < length frozen → stamp_of (page_at frozen k) ≤ copy.file.head.previous_scn → taken_below k copy frozen ≡ taken_below (k + 1) copy frozen
 next_passed copy frozen of k low stamp =
     sym (append-nil (taken_below k copy frozen)) ∙ ap (λ (rs : List Numbered). taken_below k copy frozen ++ rs) (sym (taken_none k copy.file.head.previous_scn (page_at frozen k) stamp)) ∙ sym (below_next copy frozen of k low)
+
+-- calls that change nothing keep what was taken
+pub taken_quiet : (old new : World) (file : LevelWriting) (rs : List Numbered) → Quiet old new → HasTaken old file rs → HasTaken new file rs
+taken_quiet old new file rs quiet has = record {
+  stands = record { reads = ap (λ (f : Files). f file.name) quiet.still.files ∙ has.stands.reads; torn = λ c now. has.stands.torn c (quiet.still.left.now file.name c tt now) };
+  waits = has.waits;
+  counted = has.counted;
+}
