@@ -1,5 +1,5 @@
 -- What a level takes of a frozen image, one page after another.
-use Rattle.std.proofs.Common.{◌≡◌, ◌≢◌, inl, inr, ℕ, zero, suc, ◌+◌, ◌<◌, ◌≤◌, List, [], ◌∷◌, ◌++◌, length, take, refl, sym, ap, subst, ◌∙◌, arith, length-append}
+use Rattle.std.proofs.Common.{◌≡◌, ◌≢◌, inl, inr, ℕ, zero, suc, ◌+◌, ◌-◌, ◌<◌, ◌≤◌, List, [], ◌∷◌, ◌++◌, length, take, refl, sym, ap, subst, ◌∙◌, arith, length-append}
 use Rattle.std.specs.Prelude.{true, false, nat_lt, OnOk, Result, Ok, Err, Bool}
 use Rattle.std.proofs.lemmas.Bool.Decides.{leb_tells}
 use Rattle.std.proofs.lemmas.List.{append-nil, take_all, length-take-le}
@@ -13,7 +13,8 @@ use Rattle.nb_host.specs.Files.{File, Files}
 use Rattle.nb_host.specs.World.{World}
 use Rattle.nb_page.specs.Quiet.{Quiet}
 use Rattle.nb_copy.specs.Gathering.{LevelWriting, HasTaken, MayHave}
-use Rattle.nb_copy.specs.LevelCopying.{LevelCopying, IsLevelOf, taken_below}
+use Rattle.nb_model.specs.Forms.{scn_page_of}
+use Rattle.nb_copy.specs.LevelCopying.{LevelCopying, IsLevelOf, IsLevelBegun, IsLevelCopying, taken_below}
 use Rattle.nb_copy.proofs.RunLaws.{tells}
 use Rattle.nb_copy.proofs.CloseLaws.{taken_none}
 
@@ -91,3 +92,18 @@ taken_quiet old new file rs quiet has = record {
   waits = has.waits;
   counted = has.counted;
 }
+
+-- one page more was dealt with
+pub level_next : (w : World) (before after : LevelCopying) (frozen : Image) → IsLevelOf before frozen
+    → after ≡ record { file = record before.file { written = after.file.written; run = after.file.run }; count = before.count; next = before.next + 1; scn_page = after.scn_page; page = after.page }
+    → HasTaken w after.file (taken_below (before.next + 1) before frozen) → after.scn_page ≡ page_at frozen (scn_page_of frozen before.next) → IsLevelCopying w after frozen
+level_next w before after frozen of same has entries =
+    let next : after.next ≡ before.next + 1 = ap (λ (v : LevelCopying). v.next) same in
+    record {
+      of = subst (λ (v : LevelCopying). IsLevelOf v frozen) (sym same) (record { long = of.long; sound = of.sound; size = of.size; formed = of.formed });
+      fresh = λ none. absurd (omega (arith, none, next));
+      begun = λ some. record {
+        has = subst (λ (v : LevelCopying). HasTaken w after.file (taken_below v.next v frozen)) (sym same) has;
+        entries = λ two. entries ∙ ap (λ n. page_at frozen (scn_page_of frozen n)) (let e : before.next ≡ after.next - 1 = omega (arith, next) in e);
+      };
+    }
