@@ -1,29 +1,24 @@
 -- A level file goes on by a run that is appended.
-use Rattle.std.proofs.Common.{◌≡◌, ◌≢◌, ◌⊎◌, inl, inr, ⊎_elim, ℕ, zero, suc, ◌+◌, ◌*◌, ◌<◌, ◌≤◌, List, [], ◌∷◌, ◌++◌, length, take, refl, sym, ap, subst, ◌∙◌, arith, length-append, append_assoc}
-use Rattle.std.specs.Prelude.{true, false, nat_lt, Bool, IsTrue, None, Some, Result, Ok, Err}
+use Rattle.std.proofs.Common.{◌≡◌, ◌≢◌, inl, inr, ⊎_elim, ℕ, ◌+◌, ◌<◌, List, [], ◌∷◌, ◌++◌, length, sym, ap, subst, ◌∙◌, arith, length-append, append_assoc}
+use Rattle.std.specs.Prelude.{Some, Result, Ok, Err}
 use Rattle.std.proofs.lemmas.List.{append-nil}
 use Rattle.nb_fields.specs.Bytes.{bytes_of as number_bytes}
-use Rattle.nb_fields.specs.Free.{is_free_file}
-use Rattle.nb_host.specs.Files.{File, Files, bytes_of, with_file, with_bytes}
+use Rattle.nb_host.specs.Files.{File, Files, bytes_of, with_bytes}
 use Rattle.nb_host.specs.World.{World}
-use Rattle.nb_host.specs.Crash.{Leaves, LeavesAll, AppendLeft, IsTornFrom}
-use Rattle.nb_host.specs.Calls.{Steps}
+use Rattle.nb_host.specs.Crash.{AppendLeft}
 use Rattle.nb_host.specs.Moments.{IsTimely}
 use Rattle.nb_change.specs.Changes.{Changes, ChangedLeft, Only, Remade}
-use Rattle.nb_change.proofs.MomentLaws.{started, goes_on, left_before}
+use Rattle.nb_change.proofs.MomentLaws.{started, goes_on}
 use Rattle.nb_change.proofs.NameLaws.{with_file-same, with_file-other}
 use Rattle.nb_level.specs.declared.head.LevelHead.{LevelHead}
 use Rattle.nb_level.specs.Heads.{head_of}
 use Rattle.nb_level.specs.Adding.{TwoLeft, IsWhileAdding, AddsTwo}
-use Rattle.nb_model.specs.Image.{Page, Numbered}
-use Rattle.nb_model.specs.Levels.{IsHead, AreRising, AreOfSize, Stretch, head_then, joined, run_bytes, runs_behind, runs_of}
-use Rattle.nb_model.specs.Sound.{IsOfSize}
-use Rattle.nb_model.proofs.GatherLaws.{total, gathered_total}
-use Rattle.nb_model.proofs.ImageLaws.{all-append}
+use Rattle.nb_model.specs.Levels.{IsHead, Stretch, head_then, joined, run_bytes}
+use Rattle.nb_model.proofs.GatherLaws.{total}
 use Rattle.nb_copy.specs.Making.{IsUnfinished}
-use Rattle.nb_copy.specs.Gathering.{Waiting, Holds, HoldsAll, Reads, IsTornFile, MayHave, complete, incomplete, level_front}
+use Rattle.nb_copy.specs.Gathering.{Waiting, Holds, Reads, IsTornFile, level_front}
 use Rattle.nb_copy.proofs.TornLaws.{torn_of, torn_is, torn_longer, torn_more}
-use Rattle.nb_copy.proofs.UnfinishedLaws.{IsFit, AreFit}
+use Rattle.nb_copy.proofs.UnfinishedLaws.{AreFit}
 use Rattle.nb_copy.proofs.NoLevelLaws.{head_more, no_backup}
 
 -- bytes that were appended are lost or torn

@@ -1,6 +1,6 @@
 -- A level file is closed: its last run, and the end behind a sync.
-use Rattle.std.proofs.Common.{◌≡◌, ◌≢◌, ◌⊎◌, inl, inr, ⊎_elim, ℕ, suc, ◌+◌, ◌<◌, ◌≤◌, List, [], ◌∷◌, ◌++◌, length, refl, sym, ap, subst, ◌∙◌, arith}
-use Rattle.std.specs.Prelude.{Bool, true, false, nat_lt, IsTrue, Some, Result, Ok, Err, OnOk}
+use Rattle.std.proofs.Common.{◌≡◌, ◌≢◌, inl, inr, ℕ, suc, ◌<◌, ◌≤◌, List, [], ◌∷◌, ◌++◌, length, refl, sym, ap, subst, ◌∙◌, arith}
+use Rattle.std.specs.Prelude.{Bool, IsTrue, Some, Result, Ok, Err, OnOk}
 use Rattle.std.proofs.lemmas.Bool.Decides.{leb_tells}
 use Rattle.std.proofs.lemmas.List.{append-nil}
 use Rattle.nb_fields.specs.Bytes.{bytes_of as number_bytes}
@@ -19,14 +19,13 @@ use Rattle.nb_level.specs.declared.head.LevelHead.{LevelHead}
 use Rattle.nb_level.specs.Heads.{head_of}
 use Rattle.nb_level.specs.Adding.{AddsTwo}
 use Rattle.nb_model.specs.Image.{Page, Numbered}
-use Rattle.nb_model.specs.Levels.{Stretch, head_then, body_bytes, run_bytes, runs_of, end_bytes, level_bytes, taken_from}
+use Rattle.nb_model.specs.Levels.{Stretch, body_bytes, run_bytes, runs_of, end_bytes, level_bytes, taken_from}
 use Rattle.nb_model.proofs.GatherLaws.{total}
-use Rattle.nb_copy.specs.Gathering.{Waiting, LevelWriting, Holds, HoldsAll, Reads, HasTaken, MayHave, complete, incomplete, level_front}
-use Rattle.nb_copy.specs.Making.{IsUnfinished, IsUnfinishedOr, IsKept, IsNoBackup}
+use Rattle.nb_copy.specs.Gathering.{LevelWriting, Holds, Reads, HasTaken, MayHave, complete, incomplete, level_front}
+use Rattle.nb_copy.specs.Making.{IsUnfinished, IsUnfinishedOr}
 use Rattle.nb_copy.proofs.AppendLaws.{run_read, run_left}
 use Rattle.nb_copy.proofs.FitLaws.{RunsFit, runs_fit, complete_all, total_runs}
 use Rattle.nb_copy.proofs.NoLevelLaws.{head_more, no_backup, end_torn}
-use Rattle.nb_copy.proofs.QuietLaws.{sync_then, sync_kept}
 use Rattle.nb_copy.proofs.TornLaws.{Torn, torn_self, torn_of}
 use Rattle.nb_copy.proofs.UnfinishedLaws.{AreFit}
 use Rattle.nb_copy.proofs.WaitingLaws.{none_waits, one_waits}

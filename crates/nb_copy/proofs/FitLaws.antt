@@ -1,10 +1,9 @@
 -- The runs of pages that a level file may have are such as a level file may have.
-use Rattle.std.proofs.Common.{◌≡◌, ◌⊎◌, inl, inr, ℕ, zero, suc, ◌+◌, ◌<◌, ◌≤◌, List, [], ◌∷◌, ◌++◌, length, refl, sym, ap, subst, ◌∙◌, arith, length-append}
-use Rattle.std.specs.Prelude.{Bool, true, false, ◌&&◌, ◌==◌, nat_lt}
+use Rattle.std.proofs.Common.{◌≡◌, ◌⊎◌, inl, inr, ℕ, suc, ◌+◌, ◌<◌, ◌≤◌, List, [], ◌∷◌, ◌++◌, length, refl, sym, ap, subst, arith, length-append}
+use Rattle.std.specs.Prelude.{true, ◌&&◌, ◌==◌, nat_lt}
 use Rattle.std.proofs.lemmas.Bool.{and_parts, eqb-true}
 use Rattle.std.proofs.lemmas.Bool.Decides.{leb_tells}
 use Rattle.nb_level.specs.declared.head.LevelHead.{LevelHead}
-use Rattle.nb_level.specs.Heads.{head_of}
 use Rattle.nb_model.specs.Image.{Page, Numbered}
 use Rattle.nb_model.specs.Levels.{AreRising, AreOfSize, Stretch, runs_behind, runs_of}
 use Rattle.nb_model.proofs.GatherLaws.{total, gathered_total}

@@ -1,7 +1,7 @@
 -- A level file takes a page.
-use Rattle.std.proofs.Common.{◌≡◌, ◌≢◌, ◌⊎◌, inl, inr, ⊎_elim, ℕ, ◌+◌, ◌<◌, ◌≤◌, List, [], ◌∷◌, ◌++◌, length, refl, sym, ap, subst, ◌∙◌, arith, length-append}
+use Rattle.std.proofs.Common.{◌≡◌, ◌≢◌, ◌⊎◌, inl, inr, ℕ, ◌+◌, ◌<◌, List, [], ◌∷◌, ◌++◌, length, refl, sym, ap, subst, ◌∙◌, arith}
 use Rattle.std.specs.Prelude.{Bool, true, false, ◌&&◌, ◌||◌, ◌==◌, nat_lt, Result, Ok}
-use Rattle.std.proofs.lemmas.Bool.{and_parts, or_cases, eqb-true}
+use Rattle.std.proofs.lemmas.Bool.{and_parts, eqb-true}
 use Rattle.std.proofs.lemmas.Bool.Decides.{eqb_tells}
 use Rattle.nb_fields.specs.Bytes.{bytes_of}
 use Rattle.nb_host.specs.World.{World}
@@ -13,13 +13,13 @@ use Rattle.nb_model.specs.Image.{Numbered}
 use Rattle.nb_model.specs.Levels.{Stretch, runs_of}
 use Rattle.nb_model.proofs.GatherLaws.{total}
 use Rattle.nb_model.proofs.ReadLaws.{eq_yes}
-use Rattle.nb_copy.specs.Gathering.{Waiting, LevelWriting, Holds, HoldsAll, Reads, HasTaken, MayHave, complete, incomplete, level_front}
+use Rattle.nb_copy.specs.Gathering.{Waiting, Holds, HoldsAll, Reads, HasTaken, MayHave, complete, incomplete, level_front}
 use Rattle.nb_copy.specs.Making.{IsUnfinished}
 use Rattle.nb_copy.proofs.AppendLaws.{run_read, run_left}
 use Rattle.nb_copy.proofs.FitLaws.{RunsFit, runs_fit, may_front, lt_tells}
 use Rattle.nb_copy.proofs.RunLaws.{no_both, one_run, longer_run, goes_on, Grows, runs_added, grown_none, grown_other, grown_more, grown_full}
 use Rattle.nb_copy.proofs.UnfinishedLaws.{AreFit}
-use Rattle.nb_copy.proofs.WaitingLaws.{none_waits, one_waits, holds_one, holds_longer, goes_as, taken_still, taken_with, longer_front}
+use Rattle.nb_copy.proofs.WaitingLaws.{none_waits, one_waits, holds_one, holds_longer, goes_as, taken_still, taken_with}
 
 -- the page may go into the run
 abbrev pub may_join : Waiting → Numbered → Bool

@@ -1,7 +1,6 @@
 -- A level file is made with its head.
-use Rattle.std.proofs.Common.{◌≡◌, ◌≢◌, inl, inr, ⊎_elim, ℕ, ◌<◌, ◌≤◌, List, [], ◌++◌, length, refl, sym, ap, subst, ◌∙◌, arith}
-use Rattle.std.specs.Prelude.{Bool, true, IsTrue, Some, Result, Ok, Err, OnOk}
-use Rattle.nb_fields.specs.Free.{is_free_file}
+use Rattle.std.proofs.Common.{◌≡◌, inl, ℕ, ◌<◌, List, [], length, refl, sym, ap, subst, ◌∙◌, arith}
+use Rattle.std.specs.Prelude.{Bool, IsTrue, Some, Result, Ok, Err, OnOk}
 use Rattle.nb_host.specs.Files.{File, Files, bytes_of, with_bytes}
 use Rattle.nb_host.specs.World.{World}
 use Rattle.nb_host.specs.Crash.{AppendLeft}

@@ -1,20 +1,18 @@
 -- What a level takes of a frozen image, one page after another.
-use Rattle.std.proofs.Common.{◌≡◌, ◌≢◌, inl, inr, ℕ, zero, suc, ◌+◌, ◌-◌, ◌<◌, ◌≤◌, List, [], ◌∷◌, ◌++◌, length, take, refl, sym, ap, subst, ◌∙◌, arith, length-append}
-use Rattle.std.specs.Prelude.{true, false, nat_lt, OnOk, Result, Ok, Err, Bool}
-use Rattle.std.proofs.lemmas.Bool.Decides.{leb_tells}
+use Rattle.std.proofs.Common.{◌≡◌, inl, inr, ℕ, zero, suc, ◌+◌, ◌-◌, ◌<◌, ◌≤◌, List, [], ◌∷◌, ◌++◌, length, take, refl, sym, ap, subst, ◌∙◌, arith}
+use Rattle.std.specs.Prelude.{nat_lt}
 use Rattle.std.proofs.lemmas.List.{append-nil, take_all, length-take-le}
 use Rattle.nb_fields.specs.Page.{stamp_of}
-use Rattle.nb_level.specs.Heads.{head_of}
-use Rattle.nb_model.specs.Image.{Page, Image, Numbered, page_at, image_size}
+use Rattle.nb_model.specs.Image.{Page, Image, Numbered, page_at}
 use Rattle.nb_model.specs.Levels.{AreRising, AreOfSize, taken_from, taken}
 use Rattle.nb_model.specs.Sound.{IsOfSize}
 use Rattle.nb_model.proofs.ImageLaws.{all-take}
-use Rattle.nb_host.specs.Files.{File, Files}
+use Rattle.nb_host.specs.Files.{Files}
 use Rattle.nb_host.specs.World.{World}
 use Rattle.nb_page.specs.Quiet.{Quiet}
 use Rattle.nb_copy.specs.Gathering.{LevelWriting, HasTaken, MayHave}
 use Rattle.nb_model.specs.Forms.{scn_page_of}
-use Rattle.nb_copy.specs.LevelCopying.{LevelCopying, IsLevelOf, IsLevelBegun, IsLevelCopying, taken_below}
+use Rattle.nb_copy.specs.LevelCopying.{LevelCopying, IsLevelOf, IsLevelCopying, taken_below}
 use Rattle.nb_copy.proofs.RunLaws.{tells}
 use Rattle.nb_copy.proofs.CloseLaws.{taken_none}
 

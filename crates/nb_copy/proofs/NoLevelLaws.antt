@@ -1,9 +1,9 @@
 -- What is left of a level file before its end is whole is no backup.
-use Rattle.std.proofs.Common.{◌≡◌, ◌≢◌, ◌⊎◌, inl, inr, ⊎_elim, ℕ, zero, suc, ◌+◌, ◌*◌, ◌/◌, ◌%◌, ◌<◌, ◌≤◌, List, [], ◌∷◌, ◌++◌, length, take, drop, refl, sym, ap, subst, ◌∙◌, arith, length-append, append_assoc}
-use Rattle.std.specs.Prelude.{Bool, true, false, not, ◌&&◌, ◌||◌, ◌==◌, nat_le, nat_lt, IsTrue, None, Some, Option, Result, Ok, Err}
+use Rattle.std.proofs.Common.{◌≡◌, ◌⊎◌, inl, inr, ⊎_elim, ℕ, suc, ◌+◌, ◌/◌, ◌%◌, ◌<◌, List, [], ◌∷◌, ◌++◌, length, take, drop, refl, sym, ap, subst, ◌∙◌, arith, length-append, append_assoc}
+use Rattle.std.specs.Prelude.{Bool, true, false, not, ◌&&◌, ◌||◌, ◌==◌, nat_le, nat_lt, IsTrue, None, Some, Result, Ok, Err}
 use Rattle.std.proofs.lemmas.Bool.{eqb-true, or_cases}
 use Rattle.std.proofs.lemmas.List.{drop_at, drop_all, drop-drop}
-use Rattle.nb_fields.specs.Bytes.{number_of, bytes_of, number_in, part}
+use Rattle.nb_fields.specs.Bytes.{number_of, bytes_of, number_in}
 use Rattle.nb_fields.specs.Header.{is_header, is_marked}
 use Rattle.nb_fields.specs.Places.{is_page_size}
 use Rattle.nb_fields.proofs.SizeLemmas.{size_facts}

@@ -1,6 +1,6 @@
 -- Where the SCN entry of a page stands, and which pages need none.
-use Rattle.std.proofs.Common.{◌≡◌, ◌≢◌, ◌⊎◌, inl, inr, ℕ, zero, suc, ◌+◌, ◌-◌, ◌*◌, ◌/◌, ◌%◌, ◌<◌, ◌≤◌, length, refl, sym, ap, subst, ◌∙◌, arith}
-use Rattle.std.specs.Prelude.{true, false, slice_index, IsTrue, ◌==◌, ◌&&◌, ◌||◌, nat_lt}
+use Rattle.std.proofs.Common.{◌≡◌, ◌≢◌, ◌⊎◌, inl, inr, ℕ, zero, suc, ◌+◌, ◌-◌, ◌*◌, ◌/◌, ◌%◌, ◌<◌, ◌≤◌, length, refl, sym, ap, ◌∙◌, arith}
+use Rattle.std.specs.Prelude.{true, false, slice_index, IsTrue, ◌==◌, ◌&&◌, nat_lt}
 use Rattle.std.proofs.Math.Nat.{div-eq_of_lt, mod-eq-sub-div-mul, div-mul-le_self, lt-div-mul-add}
 use Rattle.std.proofs.lemmas.Nat.{div-mul-add}
 use Rattle.std.proofs.lemmas.Bool.{and_parts, or_cases, eqb-true}

@@ -1,18 +1,17 @@
 -- A level file without its end, or with a torn one, is no level file, whatever of it was torn.
-use Rattle.std.proofs.Common.{◌≡◌, ◌≢◌, ◌⊎◌, inl, inr, ⊎_elim, ℕ, zero, suc, ◌+◌, ◌*◌, ◌/◌, ◌%◌, ◌^◌, ◌<◌, ◌≤◌, List, [], ◌∷◌, ◌++◌, length, take, drop, refl, sym, ap, subst, ◌∙◌, arith, length-append, append_assoc}
-use Rattle.std.specs.Prelude.{Bool, true, false, Result, Ok, Err}
-use Rattle.std.specs.List.{AllByRecursion}
-use Rattle.std.proofs.lemmas.List.{append-nil, drop_at, take_at, take_all, drop-drop, length-take-le, length-drop, take-append-drop}
+use Rattle.std.proofs.Common.{◌≡◌, ◌≢◌, ◌⊎◌, inl, inr, ⊎_elim, ℕ, zero, suc, ◌+◌, ◌*◌, ◌/◌, ◌%◌, ◌<◌, ◌≤◌, List, [], ◌∷◌, ◌++◌, length, take, drop, refl, sym, ap, subst, ◌∙◌, arith, length-append, append_assoc}
+use Rattle.std.specs.Prelude.{Ok}
+use Rattle.std.proofs.lemmas.List.{append-nil, drop_at, take_all, drop-drop, length-take-le, length-drop, take-append-drop}
 use Rattle.std.proofs.Math.Nat.{suc-mul}
 use Rattle.nb_fields.specs.Bytes.{number_of, bytes_of, number_in}
 use Rattle.nb_fields.proofs.NumberLemmas.{number_of-bytes_of, length-bytes_of}
-use Rattle.nb_model.specs.Image.{Page, Numbered}
-use Rattle.nb_model.specs.Levels.{Head, Stretch, run_bytes, end_bytes, end_mark, joined, read_runs, read_end, barred_after}
+use Rattle.nb_model.specs.Image.{Numbered}
+use Rattle.nb_model.specs.Levels.{Head, Stretch, run_bytes, end_bytes, end_mark, joined, read_runs, barred_after}
 use Rattle.nb_model.specs.Sound.{IsOfSize}
 use Rattle.nb_model.proofs.ImageLaws.{length-joined}
 use Rattle.nb_model.proofs.GatherLaws.{total}
 use Rattle.nb_copy.proofs.TornLaws.{Torn, torn_take, torn_drop, torn_short, torn_number}
-use Rattle.nb_copy.proofs.ReadAgain.{no_value, rest_runs, RunFacts, run_facts, runs_are, EndFacts, end_facts}
+use Rattle.nb_copy.proofs.ReadAgain.{no_value, run_facts, runs_are, end_facts}
 
 -- a number of one byte is whole or zero
 pub small_torn : (w b : ℕ) (ts : List ℕ) → b < 256 → Torn (bytes_of (suc w) b) ts → (number_of ts ≡ b) ⊎ (number_of ts ≡ 0)

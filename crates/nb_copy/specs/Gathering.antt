@@ -7,7 +7,7 @@ use Rattle.nb_host.specs.Crash.{IsTornFrom}
 use Rattle.nb_level.specs.declared.head.LevelHead.{LevelHead}
 use Rattle.nb_level.specs.Heads.{head_of}
 use Rattle.nb_model.specs.Image.{Numbered}
-use Rattle.nb_model.specs.Levels.{Head, IsHead, AreRising, AreOfSize, Stretch, head_then, joined, run_bytes, runs_of}
+use Rattle.nb_model.specs.Levels.{IsHead, AreRising, AreOfSize, Stretch, head_then, joined, run_bytes, runs_of}
 
 -- What a contract sees of the run that waits: the number of its first page, the size of a page, how many pages it has, and their bytes.
 pub record Waiting : Type 0 where

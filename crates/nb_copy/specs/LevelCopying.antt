@@ -2,7 +2,6 @@
 use Rattle.std.specs.Prelude.{◌≡◌, ℕ, ◌-◌, ◌≤◌, List, length, take, IsTrue}
 use Rattle.nb_fields.specs.Places.{is_page_size}
 use Rattle.nb_host.specs.World.{World}
-use Rattle.nb_level.specs.declared.head.LevelHead.{LevelHead}
 use Rattle.nb_level.specs.Heads.{head_of}
 use Rattle.nb_model.specs.Image.{Page, Image, Numbered, page_at, image_size}
 use Rattle.nb_model.specs.Forms.{scn_page_of}

@@ -1,4 +1,4 @@
-use Rattle.std.proofs.Common.{◌≡◌, [], ◌∷◌, ◌++◌, List, length, ap, subst, ◌∙◌, arith, sym}
+use Rattle.std.proofs.Common.{[], ◌∷◌, ◌++◌, List, length, ap, subst, ◌∙◌, arith, sym}
 use Rattle.std.specs.Prelude.{OnOk}
 use Rattle.std.proofs.lemmas.List.{with_items_is}
 use Rattle.nb_level.specs.declared.head.LevelHead.{LevelHead}
@@ -6,7 +6,7 @@ use Rattle.nb_level.specs.Heads.{head_of}
 use Rattle.nb_model.specs.Image.{Numbered}
 use Rattle.nb_model.specs.Levels.{IsHead, taken_from}
 use Rattle.nb_copy.specs.Gathering.{LevelWriting, HasTaken, MayHave}
-use Rattle.nb_copy.specs.LevelCopying.{LevelCopying, taken_below}
+use Rattle.nb_copy.specs.LevelCopying.{LevelCopying}
 use Rattle.nb_copy.specs.Making.{IsUnfinished}
 use Rattle.nb_copy.proofs.QuietLaws.{renamed, quiet_then, remade_twice}
 use Rattle.nb_copy.proofs.LevelLaws.{next_taken, below_none, may_below}

@@ -1,4 +1,4 @@
-use Rattle.std.proofs.Common.{◌≡◌, inl, List, length, ap, subst, ◌∙◌, arith, sym}
+use Rattle.std.proofs.Common.{◌≡◌, inl, List, length, ap, subst, arith, sym}
 use Rattle.nb_change.specs.Changes.{Changes, Only, Remade}
 use Rattle.nb_change.proofs.MovedLaws.{remade_weaker}
 use Rattle.nb_level.specs.Heads.{head_of}

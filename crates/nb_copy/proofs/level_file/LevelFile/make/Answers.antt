@@ -1,4 +1,4 @@
-use Rattle.std.proofs.Common.{sym, ap, subst, ◌∙◌}
+use Rattle.std.proofs.Common.{sym, ap, subst}
 use Rattle.nb_level.specs.Heads.{head_of}
 use Rattle.nb_model.specs.Levels.{IsHead}
 use Rattle.nb_copy.specs.Gathering.{LevelWriting}

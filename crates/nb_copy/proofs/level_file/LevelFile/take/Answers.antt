@@ -1,10 +1,9 @@
-use Rattle.std.proofs.Common.{◌≡◌, ◌<◌, ◌≤◌, List, [], ◌∷◌, ◌++◌, sym, ap, subst, ◌∙◌, arith}
+use Rattle.std.proofs.Common.{◌≡◌, ◌<◌, ◌≤◌, List, ◌++◌, sym, ap, subst, ◌∙◌, arith}
 use Rattle.std.specs.Prelude.{OnOk}
 use Rattle.std.proofs.lemmas.List.{append-nil}
 use Rattle.nb_fields.specs.Page.{stamp_of}
 use Rattle.nb_page.specs.declared.page.PageHead.{PageHead}
 use Rattle.nb_model.specs.Image.{Numbered}
-use Rattle.nb_model.specs.Levels.{taken_from}
 use Rattle.nb_change.specs.Changes.{Only}
 use Rattle.nb_change.proofs.MovedLaws.{remade_begun}
 use Rattle.nb_copy.specs.Gathering.{LevelWriting, HasTaken, MayHave}
