@@ -44,11 +44,7 @@ impl Model for LevelFile {
 
 impl LevelFile {
     /// A file of that name with that head. It takes the memory for a run, and makes no file.
-    pub(crate) fn new(
-        alloc: Global,
-        name: &Name,
-        head: &LevelHead,
-    ) -> Result<LevelFile, AllocError>
+    pub(crate) fn new(alloc: Global, name: &Name, head: &LevelHead) -> Result<LevelFile, AllocError>
         requires { IsTrue (is_page_size head.now.page_size) }
         ensures name { IfOk result (λ file. file.name ≡ name.now) }
         ensures head { IfOk result (λ file. file.head ≡ head.now) }
@@ -91,12 +87,7 @@ impl LevelFile {
     }
 
     /// Puts page `number` into the run that waits, or begins a run with it. A run that is complete is appended.
-    fn gather<H: Host>(
-        &mut self,
-        host: &mut H,
-        number: u32,
-        page: &[u8],
-    ) -> Result<(), HostFault>
+    fn gather<H: Host>(&mut self, host: &mut H, number: u32, page: &[u8]) -> Result<(), HostFault>
         requires size { length page.now ≡ self.old.head.page_size }
         requires written { self.old.written < 4294967295 }
         ensures left { IsTrue H.tells → (rs : List Numbered) → HasTaken (H.world host.old) self.old rs → MayHave self.old.head (rs ++ (number, page.now) ∷ [])

@@ -102,12 +102,6 @@ impl Run {
     {
         let end = self.count * self.page_size as usize;
         self.count = 0;
-        write_run(
-            host,
-            name,
-            self.first,
-            self.page_size,
-            &self.bytes[..end],
-        )
+        write_run(host, name, self.first, self.page_size, &self.bytes[..end])
     }
 }
