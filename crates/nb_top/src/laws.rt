@@ -1,0 +1,50 @@
+// Laws of the whole program: each is a public function with an empty body, whose contract is the law. They show that what a run is
+// promised on holds where a first run begins and where the next one begins behind a stop, and that a job is what it asks for.
+ghost use Rattle.std.specs.Prelude.{◌≡◌, ℕ, List, [], ◌∷◌, Some, true};
+ghost use Rattle.nb_host.specs.Files.{Files};
+ghost use Rattle.nb_model.specs.Account.{Account, Kept};
+ghost use Rattle.nb_model.specs.Jobs.{Asks, IsAttaching, account_behind, asks_of, turn_of};
+ghost use Rattle.nb_model.specs.Outcomes.{Given};
+ghost use Rattle.nb_model.specs.Run.{Event};
+ghost use Rattle.nb_model.specs.Stands.{Stands};
+ghost use Rattle.nb_model.specs.declared.job.Job.{Job};
+ghost use Rattle.nb_top.specs.Performed.{HoldsKept, IsPerformed, Knows, StandsFor};
+ghost use Rattle.nb_top.specs.Requests.{is_job_built, request_asked, request_of};
+ghost use Rattle.nb_top.specs.Worlds.{ArePlain, StartsFrom, account_of, empty, no_files};
+
+use nb_host::Host;
+
+/// A first run may begin. Where there is no file, and a stop leaves none, the files stand for the account without entries and records.
+/// Where plain files were placed for good, such as scripts, they stand for the account that has them, without records.
+pub fn a_first_run_may_begin<H: Host>(_host: &H)
+    ensures none { StartsFrom (H.world _host.now) no_files → StandsFor (H.world _host.now) empty }
+    ensures plain { (files : Files) → ArePlain files → StartsFrom (H.world _host.now) files → StandsFor (H.world _host.now) (account_of files) }
+{}
+
+/// The next run may begin behind a stop: a host that starts again from files that stand for an account with these records of backups
+/// stands for one with the same.
+pub fn a_next_run_may_begin<H: Host>(_host: &H)
+    ensures { (files : Files) (kept : List Kept) → HoldsKept files kept → StartsFrom (H.world _host.now) files
+        → (account : Account) × StandsFor (H.world _host.now) account × (account.kept ≡ kept) }
+{}
+
+/// An account for which the files stand knows what any words ask of it: of each name that they may give it has what the files tell, and
+/// each database is sound.
+pub fn what_stands_is_known()
+    ensures { (files : Files) (account : Account) (words : List (List ℕ)) → Stands files account → Knows files account (request_asked files words) }
+{}
+
+/// A job that attaches is exactly the run of the script that opens its database and asks what the job asks. It says nothing of the opening
+/// but why it is refused.
+pub fn a_job_attaches()
+    ensures attaches { (files : Files) (job : Job) (asks : Asks) (before last : Account) (given left : Given) (events : List Event) → is_job_built job ≡ true → asks_of job ≡ Some asks
+        → IsPerformed files (request_of files job) before given events last left → IsAttaching before given job asks events last }
+    ensures performs { (files : Files) (job : Job) (asks : Asks) (before last : Account) (given : Given) (events : List Event) → is_job_built job ≡ true → asks_of job ≡ Some asks
+        → (attaching : IsAttaching before given job asks events last) → IsPerformed files (request_of files job) before given events last attaching.left }
+{}
+
+/// A job that neither attaches nor runs a script is its one turn.
+pub fn a_job_takes_its_turn()
+    ensures { (files : Files) (job : Job) (name : List ℕ) (turn : Event) (before last : Account) (given left : Given) (events : List Event) → is_job_built job ≡ true → turn_of files before job ≡ Some (name, turn)
+        → IsPerformed files (request_of files job) before given events last left → (events ≡ turn ∷ []) × (last ≡ account_behind name turn before) }
+{}
