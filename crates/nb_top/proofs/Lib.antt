@@ -17,6 +17,7 @@ pub mod SureFiles
 pub mod SureRuns
 pub mod JobRuns
 pub mod RequestLaws
+pub mod KnownLaws
 pub mod ToldLaws
 pub mod ChainRefusals
 pub mod RestoreTurns
