@@ -18,6 +18,7 @@ pub mod SureRuns
 pub mod JobRuns
 pub mod RequestLaws
 pub mod KnownLaws
+pub mod JobLaws
 pub mod ToldLaws
 pub mod ChainRefusals
 pub mod RestoreTurns
