@@ -1,7 +1,11 @@
 // Laws of the whole program: each is a public function with an empty body, whose contract is the law. They show that what a run is
 // promised on holds where a first run begins and where the next one begins behind a stop, and that a job is what it asks for.
 ghost use Rattle.std.specs.Prelude.{◌≡◌, ℕ, List, [], ◌∷◌, Some, true};
-ghost use Rattle.nb_host.specs.Files.{Files};
+ghost use Rattle.nb_host.specs.Files.{Files, with_file};
+ghost use Rattle.nb_host.specs.Crash.{LeavesAll};
+ghost use Rattle.nb_mem.specs.declared.entry.Entry.{Entry};
+ghost use Rattle.nb_mem.specs.Histories.{files_of, world_of};
+ghost use Rattle.nb_mem.specs.Outcomes.{IsLeft, placed};
 ghost use Rattle.nb_model.specs.Account.{Account, Kept};
 ghost use Rattle.nb_model.specs.Jobs.{Asks, IsAttaching, account_behind, asks_of, turn_of};
 ghost use Rattle.nb_model.specs.Outcomes.{Given};
@@ -26,6 +30,14 @@ pub fn a_first_run_may_begin<H: Host>(_host: &H)
 pub fn a_next_run_may_begin<H: Host>(_host: &H)
     ensures { (files : Files) (kept : List Kept) → HoldsKept files kept → StartsFrom (H.world _host.now) files
         → (account : Account) × StandsFor (H.world _host.now) account × (account.kept ≡ kept) }
+{}
+
+/// There are such hosts, in memory: a new one has no file, each file that is placed is one more, and one that a stop left starts from what
+/// the stop left.
+pub fn hosts_in_memory_begin_so()
+    ensures none { StartsFrom (world_of []) no_files }
+    ensures placed { (es : List Entry) (files : Files) (name bytes : List ℕ) → StartsFrom (world_of es) files → StartsFrom (world_of (placed name (Some bytes) es)) (with_file files name (Some bytes)) }
+    ensures left { (stopped left : List Entry) → IsLeft stopped left → LeavesAll (world_of stopped) (files_of left) × StartsFrom (world_of left) (files_of left) }
 {}
 
 /// An account for which the files stand knows what any words ask of it: of each name that they may give it has what the files tell, and
