@@ -11,6 +11,7 @@ pub mod ReopeningRuns
 pub mod ScriptRead
 pub mod ScriptRuns
 pub mod WorldLaws
+pub mod CopyLaws
 pub mod MemoryLaws
 pub mod SureLaws
 pub mod WellRuns

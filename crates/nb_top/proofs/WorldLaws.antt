@@ -4,6 +4,7 @@ use Rattle.std.specs.Prelude.{Some, None, Result, Ok, Err, IsTrue, is_some, fals
 use Rattle.std.proofs.lemmas.Bool.{true≢false}
 use Rattle.nb_fields.specs.Header.{is_header}
 use Rattle.nb_host.specs.Files.{File, Files}
+use Rattle.nb_host.specs.Names.{is_delta}
 use Rattle.nb_host.specs.World.{World}
 use Rattle.nb_host.specs.declared.refusals.Refusal.{Refusal}
 use Rattle.nb_model.specs.Account.{Kept, Base, Missing, IsBase, Account}
@@ -31,15 +32,21 @@ stands_from w files account starts stands = record {
 pub stands_again : (w : World) (files : Files) (kept : List Kept) → HoldsKept files kept → StartsFrom w files → (account : Account) × StandsFor w account × (account.kept ≡ kept)
 stands_again w files kept holds starts = (holds.account, stands_from w files holds.account starts holds.stands, holds.same)
 
+-- Where no file is a difference file, none stands beside a name.
+pub none_beside : (files : Files) → ((name bytes : List ℕ) → files name ≡ Some bytes → is_delta name ≡ false) → (name : List ℕ) → files (delta_name name) ≡ None
+none_beside files plain name = by (files (delta_name name)) refl
+  where
+    by : (file : File) → files (delta_name name) ≡ file → file ≡ None
+    by None is = refl
+    by (Some bytes) is = absurd (true≢false (sym (delta_named name) ∙ plain (delta_name name) bytes is))
+
+pub not_beside : (file : File) → file ≡ None → IsTrue (is_some file) → ⊥
+not_beside file none beside = true≢false (sym beside ∙ ap is_some none)
+
 -- Plain files stand for the account that has them, without records.
 module _ (files : Files) (plain : ArePlain files) where
-  -- no difference file is there
   no_delta : (name : List ℕ) → files (delta_name name) ≡ None
-  no_delta name = by (files (delta_name name)) refl
-    where
-      by : (file : File) → files (delta_name name) ≡ file → file ≡ None
-      by None is = refl
-      by (Some bytes) is = absurd (true≢false (sym (delta_named name) ∙ (plain (delta_name name) bytes is).0))
+  no_delta = none_beside files (λ name bytes there. (plain name bytes there).0)
 
   -- no file can be a database
   not_opens : (name bytes : List ℕ) (b : Base) → is_header bytes ≡ false → owner name (Some bytes) (files (delta_name name)) ≢ Ok b
@@ -62,14 +69,11 @@ module _ (files : Files) (plain : ArePlain files) where
   none_there : (P : Type 0) (r : Kept) → Contains {X = Kept} [] r → P
   none_there P r there = absurd (let low = there.1 in omega arith)
 
-  none_beside : (name : List ℕ) → IsTrue (is_some (files (delta_name name))) → ⊥
-  none_beside name beside = true≢false (sym beside ∙ ap is_some (no_delta name))
-
-  none_belongs : (P : Type 0) (x : Image) → Belongs (account_of files) x → P
+  none_belongs : (P : Type 0) (x : Image) → Belongs (account_of files []) x → P
   none_belongs P x (to_base name b e is) = absurd (no_database name b e)
   none_belongs P x (to_record r there is) = none_there P r there
 
-  pub plain_stand : Stands files (account_of files)
+  pub plain_stand : Stands files (account_of files [])
   plain_stand = record {
     same_image = λ name plain. refl;
     frozen_main = λ name b e stalled. absurd (no_database name b e);
@@ -81,12 +85,12 @@ module _ (files : Files) (plain : ArePlain files) where
       levels = λ name bytes plain there. record { level = λ c r reads named. none_there _ r named.there; copy = λ r header stalled whole named. none_there _ r named.there };
     };
     history = record { images = λ x belongs. none_belongs _ x belongs; records = λ r ask there is asks. none_there _ r there };
-    no_stray = λ name plain beside. absurd (none_beside name beside);
+    no_stray = λ name plain beside. absurd (not_beside (files (delta_name name)) (no_delta name) beside);
     standbys = λ name bytes r plain there applying named. none_there _ r named.there;
   }
 
-pub begins_plain : (w : World) (files : Files) → ArePlain files → StartsFrom w files → StandsFor w (account_of files)
-begins_plain w files plain starts = stands_from w files (account_of files) starts (plain_stand files plain)
+pub begins_plain : (w : World) (files : Files) → ArePlain files → StartsFrom w files → StandsFor w (account_of files [])
+begins_plain w files plain starts = stands_from w files (account_of files []) starts (plain_stand files plain)
 
 -- No files stand for the account without entries.
 none_plain : ArePlain no_files
@@ -100,7 +104,7 @@ unfolding entry_of_files
 none_missing name = refl
 
 none_stand : Stands no_files empty
-none_stand = stands_same no_files (account_of no_files) empty none_missing refl (plain_stand no_files none_plain)
+none_stand = stands_same no_files (account_of no_files []) empty none_missing refl (plain_stand no_files none_plain)
 
 pub begins_empty : (w : World) → StartsFrom w no_files → StandsFor w empty
 begins_empty w starts = stands_from w no_files empty starts none_stand

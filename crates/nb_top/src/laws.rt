@@ -14,7 +14,7 @@ ghost use Rattle.nb_model.specs.Stands.{Stands};
 ghost use Rattle.nb_model.specs.declared.job.Job.{Job};
 ghost use Rattle.nb_top.specs.Performed.{HoldsKept, IsPerformed, Knows, StandsFor};
 ghost use Rattle.nb_top.specs.Requests.{is_job_built, request_asked, request_of};
-ghost use Rattle.nb_top.specs.Worlds.{ArePlain, StartsFrom, account_of, empty, no_files};
+ghost use Rattle.nb_top.specs.Worlds.{AreCopies, ArePlain, StartsFrom, account_of, empty, no_files};
 
 use nb_host::Host;
 
@@ -22,7 +22,7 @@ use nb_host::Host;
 /// Where plain files were placed for good, such as scripts, they stand for the account that has them, without records.
 pub fn a_first_run_may_begin<H: Host>(_host: &H)
     ensures none { StartsFrom (H.world _host.now) no_files → StandsFor (H.world _host.now) empty }
-    ensures plain { (files : Files) → ArePlain files → StartsFrom (H.world _host.now) files → StandsFor (H.world _host.now) (account_of files) }
+    ensures plain { (files : Files) → ArePlain files → StartsFrom (H.world _host.now) files → StandsFor (H.world _host.now) (account_of files []) }
 {}
 
 /// The next run may begin behind a stop: a host that starts again from files that stand for an account with these records of backups
@@ -30,6 +30,13 @@ pub fn a_first_run_may_begin<H: Host>(_host: &H)
 pub fn a_next_run_may_begin<H: Host>(_host: &H)
     ensures { (files : Files) (kept : List Kept) → HoldsKept files kept → StartsFrom (H.world _host.now) files
         → (account : Account) × StandsFor (H.world _host.now) account × (account.kept ≡ kept) }
+{}
+
+/// A run may begin where files were copied to, as backups to another machine. Copies of files that stand for an account, under whatever
+/// names and without a difference file, stand for one with the same records. So what is promised of restoring kept backups is promised there.
+pub fn a_run_may_begin_on_copies<H: Host>(_host: &H)
+    ensures { (files copies : Files) (account : Account) → Stands files account → AreCopies files copies → StartsFrom (H.world _host.now) copies
+        → StandsFor (H.world _host.now) (account_of copies account.kept) }
 {}
 
 /// There are such hosts, in memory: a new one has no file, each file that is placed is one more, and one that a stop left starts from what
