@@ -11,12 +11,16 @@ pub mod ReopeningRuns
 pub mod ScriptRead
 pub mod ScriptRuns
 pub mod WorldLaws
+pub mod CopyLaws
+pub mod MemoryLaws
 pub mod SureLaws
 pub mod WellRuns
 pub mod SureFiles
 pub mod SureRuns
 pub mod JobRuns
 pub mod RequestLaws
+pub mod KnownLaws
+pub mod JobLaws
 pub mod ToldLaws
 pub mod ChainRefusals
 pub mod RestoreTurns

@@ -181,7 +181,7 @@ not_true true h = cc
 not_true false h = refl
 
 -- no file that words name is a difference file
-plain_file : (name : List ℕ) → is_file name ≡ true → is_delta name ≡ false
+pub plain_file : (name : List ℕ) → is_file name ≡ true → is_delta name ≡ false
 plain_file name is = not_true (is_delta name) (and_parts (is_name name) (not (is_delta name)) is).1
 
 plain_files : (names : List (List ℕ)) → list_all is_file names ≡ true → AllByRecursion (λ (name : List ℕ). is_delta name ≡ false) names

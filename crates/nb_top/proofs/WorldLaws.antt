@@ -1,61 +1,110 @@
--- Worlds of which the premise of a run holds: one without files, one with a script that was placed, and one that starts again from what a
--- stop left.
-use Rattle.std.proofs.Common.{◌≡◌, ℕ, List, [], refl, sym, ap, ◌∙◌, arith}
-use Rattle.std.specs.Prelude.{None, IsTrue, is_some, Contains}
+-- Worlds in which the files stand for an account as a run begins.
+use Rattle.std.proofs.Common.{◌≡◌, ◌≢◌, ℕ, List, [], refl, sym, ap, ◌∙◌, arith}
+use Rattle.std.specs.Prelude.{Some, None, Result, Ok, Err, IsTrue, is_some, false, Contains}
 use Rattle.std.proofs.lemmas.Bool.{true≢false}
+use Rattle.nb_fields.specs.Header.{is_header}
 use Rattle.nb_host.specs.Files.{File, Files}
+use Rattle.nb_host.specs.Names.{is_delta}
 use Rattle.nb_host.specs.World.{World}
-use Rattle.nb_host.specs.Crash.{Leaves}
-use Rattle.nb_model.specs.Account.{Kept, Base, IsBase, Account}
-use Rattle.nb_model.specs.Owner.{delta_name, entry_in}
+use Rattle.nb_host.specs.declared.refusals.Refusal.{Refusal}
+use Rattle.nb_model.specs.Account.{Kept, Base, Missing, IsBase, Account}
+use Rattle.nb_model.specs.Causes.{Cause, not_database}
+use Rattle.nb_model.specs.Image.{Image}
+use Rattle.nb_model.specs.Owner.{delta_name, owner, entry_of_files, entry_in}
 use Rattle.nb_model.specs.Stands.{Stands, Belongs, to_base, to_record}
 use Rattle.nb_model.proofs.FreeLaws.{stands_files}
+use Rattle.nb_model.proofs.FrontLaws.{owner_of_entry}
+use Rattle.nb_model.proofs.MainLaws.{owner-refused}
+use Rattle.nb_model.proofs.StandsLaws.{delta_named, formed_header, stands_same}
 use Rattle.nb_top.specs.Performed.{HoldsKept, StandsFor}
+use Rattle.nb_top.specs.Worlds.{StartsFrom, ArePlain, no_files, account_of, empty}
+use Rattle.nb_top.proofs.OpenLaws.{none_shown}
 
--- A stop leaves each file as it reads.
-pub record IsSafe (w : World) : Type 0 where
-  pub only : (name : List ℕ) (file : File) → Leaves w name file → file ≡ w.files name
-
--- So it is of a world that starts again from what a stop left: what the files hold then stands for its account.
-pub stands_again : (w : World) (kept : List Kept) → IsSafe w → (holds : HoldsKept w.files kept) → StandsFor w holds.account
-stands_again w kept safe holds = record {
-  now = holds.stands;
-  left = λ files leaves. record { account = holds.account; stands = stands_files w.files files holds.account holds.stands (λ m. safe.only m (files m) (leaves m)); same = refl };
-  free = λ name plain free alone d leaves. safe.only (delta_name name) d leaves ∙ alone;
+-- A world that starts from files stands for each account for which they stand.
+pub stands_from : (w : World) (files : Files) (account : Account) → StartsFrom w files → Stands files account → StandsFor w account
+stands_from w files account starts stands = record {
+  now = stands_files files w.files account stands starts.reads;
+  left = λ left leaves. record { account = account; stands = stands_files files left account stands (λ m. starts.only m (left m) (leaves m)); same = refl };
+  free = λ name plain free alone d leaves. starts.only (delta_name name) d leaves ∙ sym (starts.reads (delta_name name)) ∙ alone;
 }
 
--- no records, and under each name what the files hold
-abbrev pub account_of : Files → Account
-account_of files = record { entry = entry_in files; kept = [] }
+-- So it does where they hold certain records.
+pub stands_again : (w : World) (files : Files) (kept : List Kept) → HoldsKept files kept → StartsFrom w files → (account : Account) × StandsFor w account × (account.kept ≡ kept)
+stands_again w files kept holds starts = (holds.account, stands_from w files holds.account starts holds.stands, holds.same)
 
--- Files among which no database stands, and no difference file, stand for the account without records.
-module _ (files : Files) (no_base : (name : List ℕ) (b : Base) → entry_in files name ≡ IsBase b → ⊥) (no_delta : (name : List ℕ) → files (delta_name name) ≡ None) where
+-- Where no file is a difference file, none stands beside a name.
+pub none_beside : (files : Files) → ((name bytes : List ℕ) → files name ≡ Some bytes → is_delta name ≡ false) → (name : List ℕ) → files (delta_name name) ≡ None
+none_beside files plain name = by (files (delta_name name)) refl
+  where
+    by : (file : File) → files (delta_name name) ≡ file → file ≡ None
+    by None is = refl
+    by (Some bytes) is = absurd (true≢false (sym (delta_named name) ∙ plain (delta_name name) bytes is))
+
+pub not_beside : (file : File) → file ≡ None → IsTrue (is_some file) → ⊥
+not_beside file none beside = true≢false (sym beside ∙ ap is_some none)
+
+-- Plain files stand for the account that has them, without records.
+module _ (files : Files) (plain : ArePlain files) where
+  no_delta : (name : List ℕ) → files (delta_name name) ≡ None
+  no_delta = none_beside files (λ name bytes there. (plain name bytes there).0)
+
+  -- no file can be a database
+  not_opens : (name bytes : List ℕ) (b : Base) → is_header bytes ≡ false → owner name (Some bytes) (files (delta_name name)) ≢ Ok b
+  not_opens name bytes b none opens = by (not_database bytes) refl
+    where
+      err_ok : (answer : Result Base Refusal) (r : Refusal) → answer ≡ Err r → answer ≡ Ok b → ⊥
+      err_ok answer r e f = cc
+
+      by : (c : Cause) → not_database bytes ≡ c → ⊥
+      by None formed = true≢false (sym (formed_header bytes formed) ∙ none)
+      by (Some r) broken = err_ok (owner name (Some bytes) (files (delta_name name))) r (owner-refused name bytes (files (delta_name name)) r broken) opens
+
+  no_database : (name : List ℕ) (b : Base) → entry_in files name ≢ IsBase b
+  no_database name b is = by (files name) refl (owner_of_entry name (files name) (files (delta_name name)) b is)
+    where
+      by : (file : File) → files name ≡ file → owner name file (files (delta_name name)) ≢ Ok b
+      by None none opens = none_shown name (files (delta_name name)) b opens
+      by (Some bytes) there opens = not_opens name bytes b (plain name bytes there).1 opens
+
   none_there : (P : Type 0) (r : Kept) → Contains {X = Kept} [] r → P
   none_there P r there = absurd (let low = there.1 in omega arith)
 
-  none_beside : (name : List ℕ) → IsTrue (is_some (files (delta_name name))) → ⊥
-  none_beside name beside = true≢false (sym beside ∙ ap is_some (no_delta name))
-
-  none_belongs : (P : Type 0) (x : Rattle.nb_model.specs.Image.Image) → Belongs (account_of files) x → P
-  none_belongs P x (to_base name b e is) = absurd (no_base name b e)
+  none_belongs : (P : Type 0) (x : Image) → Belongs (account_of files []) x → P
+  none_belongs P x (to_base name b e is) = absurd (no_database name b e)
   none_belongs P x (to_record r there is) = none_there P r there
 
-  pub stands_without : Stands files (account_of files)
-  stands_without = record {
+  pub plain_stand : Stands files (account_of files [])
+  plain_stand = record {
     same_image = λ name plain. refl;
-    frozen_main = λ name b e stalled. absurd (no_base name b e);
+    frozen_main = λ name b e stalled. absurd (no_database name b e);
     sound_images = record { images = λ x belongs. none_belongs _ x belongs; records = λ r there. none_there _ r there };
     kept_records = record {
       distinct = λ r q there other same. none_there _ r there;
       not_nil = λ r there. none_there _ r there;
-      stalled = λ name b e stalled. absurd (no_base name b e);
+      stalled = λ name b e stalled. absurd (no_database name b e);
       levels = λ name bytes plain there. record { level = λ c r reads named. none_there _ r named.there; copy = λ r header stalled whole named. none_there _ r named.there };
     };
     history = record { images = λ x belongs. none_belongs _ x belongs; records = λ r ask there is asks. none_there _ r there };
-    no_stray = λ name plain beside. absurd (none_beside name beside);
+    no_stray = λ name plain beside. absurd (not_beside (files (delta_name name)) (no_delta name) beside);
     standbys = λ name bytes r plain there applying named. none_there _ r named.there;
   }
 
--- So does a world that holds such files for good. A world without files does, and one where scripts were placed.
-pub stands_begun : (w : World) → IsSafe w → ((name : List ℕ) (b : Base) → entry_in w.files name ≡ IsBase b → ⊥) → ((name : List ℕ) → w.files (delta_name name) ≡ None) → StandsFor w (account_of w.files)
-stands_begun w safe no_base no_delta = stands_again w [] safe (record { account = account_of w.files; stands = stands_without w.files no_base no_delta; same = refl })
+pub begins_plain : (w : World) (files : Files) → ArePlain files → StartsFrom w files → StandsFor w (account_of files [])
+begins_plain w files plain starts = stands_from w files (account_of files []) starts (plain_stand files plain)
+
+-- No files stand for the account without entries.
+none_plain : ArePlain no_files
+none_plain name bytes there = absurd (never there)
+  where
+    never : ◌≡◌ {A = File} None (Some bytes) → ⊥
+    never h = cc
+
+none_missing : (name : List ℕ) → entry_in no_files name ≡ Missing
+unfolding entry_of_files
+none_missing name = refl
+
+none_stand : Stands no_files empty
+none_stand = stands_same no_files (account_of no_files []) empty none_missing refl (plain_stand no_files none_plain)
+
+pub begins_empty : (w : World) → StartsFrom w no_files → StandsFor w empty
+begins_empty w starts = stands_from w no_files empty starts none_stand

@@ -1,11 +1,13 @@
 //! The program over any host: the words of the command line name a job, and the job is done.
 //!
 //! It rests on all crates below it. `run` is the whole program but for the real files: it says one line
-//! for each reply, and what it promises of the replies, the files and a stop stands in its contract.
+//! for each reply, and what it promises of the replies, the files and a stop stands in its contract. `laws`
+//! shows from which hosts a run begins with all that is promised of it.
 #![tactic(auto)]
 
 #[cfg(test)]
 mod backup_tests;
+pub mod laws;
 #[cfg(test)]
 mod lock_tests;
 #[cfg(test)]

@@ -1,0 +1,81 @@
+-- A job is what it asks for: the run of a script, or one turn.
+use Rattle.std.proofs.Common.{◌≡◌, ℕ, List, [], ◌∷◌, true, false, subst}
+use Rattle.std.specs.Prelude.{Option, Some, None}
+use Rattle.nb_host.specs.Files.{Files}
+use Rattle.nb_model.specs.declared.job.Job.{Job}
+use Rattle.nb_model.specs.declared.job.Job.TheVariants.{Run, Stat, Gen, Backup, BackupSince, Restore, Apply, Lock, LockWithSize, Unlock, Fixup}
+use Rattle.nb_model.specs.declared.statement.Statement.{Statement}
+use Rattle.nb_model.specs.declared.statement.Statement.TheVariants.{BeginBackup, EndBackup}
+use Rattle.nb_model.specs.Account.{Account}
+use Rattle.nb_model.specs.Jobs.{Asks, IsAttaching, account_behind, asks_of, restore_turn, turn_of}
+use Rattle.nb_model.specs.Outcomes.{Given}
+use Rattle.nb_model.specs.Run.{Event}
+use Rattle.nb_top.specs.Performed.{IsPerformed}
+use Rattle.nb_top.specs.Requests.{is_job_built, request_of}
+
+not_built : false ≡ true → ⊥
+not_built h = cc
+
+-- one statement is asked
+abbrev one_asked : (db : List ℕ) → Statement → Asks
+one_asked db statement = record { db = db; statements = statement ∷ [] }
+
+same_asked : (a b : Asks) → ◌≡◌ {A = Option Asks} (Some a) (Some b) → a ≡ b
+same_asked a b h = cc
+
+none_asked : (asks : Asks) → ◌≡◌ {A = Option Asks} None (Some asks) → ⊥
+none_asked asks h = cc
+
+-- What holds of lock and unlock holds of each job that attaches and is done today.
+attaching_jobs : (P : Job → Asks → Type 0) → ((db : List ℕ) → P (Lock db) (one_asked db BeginBackup)) → ((db : List ℕ) → P (Unlock db) (one_asked db EndBackup))
+    → (job : Job) (asks : Asks) → is_job_built job ≡ true → asks_of job ≡ Some asks → P job asks
+unfolding asks_of
+attaching_jobs P lock unlock (Lock db) asks built is = subst (P (Lock db)) (same_asked (one_asked db BeginBackup) asks is) (lock db)
+attaching_jobs P lock unlock (Unlock db) asks built is = subst (P (Unlock db)) (same_asked (one_asked db EndBackup) asks is) (unlock db)
+attaching_jobs P lock unlock (Run script) asks built is = absurd (none_asked asks is)
+attaching_jobs P lock unlock (Gen number script) asks built is = absurd (none_asked asks is)
+attaching_jobs P lock unlock (Restore db names) asks built is = absurd (none_asked asks is)
+attaching_jobs P lock unlock (Apply db file) asks built is = absurd (none_asked asks is)
+attaching_jobs P lock unlock (Fixup db) asks built is = absurd (none_asked asks is)
+attaching_jobs P lock unlock (Stat db) asks built is = absurd (not_built built)
+attaching_jobs P lock unlock (Backup level db file) asks built is = absurd (not_built built)
+attaching_jobs P lock unlock (BackupSince guid db file) asks built is = absurd (not_built built)
+attaching_jobs P lock unlock (LockWithSize db) asks built is = absurd (not_built built)
+
+module _ (files : Files) (before last : Account) (given : Given) (events : List Event) where
+  -- what such a job asks for is the run of its script
+  abbrev Attaches : Job → Asks → Type 0
+  Attaches job asks = (left : Given) → IsPerformed files (request_of files job) before given events last left → IsAttaching before given job asks events last
+
+  pub attaches_performed : (job : Job) (asks : Asks) → is_job_built job ≡ true → asks_of job ≡ Some asks → Attaches job asks
+  attaches_performed = attaching_jobs Attaches
+      (λ db left done. record { whole = done.whole; left = left; run = done.run; said = done.said })
+      (λ db left done. record { whole = done.whole; left = left; run = done.run; said = done.said })
+
+  -- and the other way
+  abbrev IsAttached : Job → Asks → Type 0
+  IsAttached job asks = (attaching : IsAttaching before given job asks events last) → IsPerformed files (request_of files job) before given events last attaching.left
+
+  pub performed_attaches : (job : Job) (asks : Asks) → is_job_built job ≡ true → asks_of job ≡ Some asks → IsAttached job asks
+  performed_attaches = attaching_jobs IsAttached
+      (λ db attaching. record { whole = attaching.whole; run = attaching.run; said = attaching.said })
+      (λ db attaching. record { whole = attaching.whole; run = attaching.run; said = attaching.said })
+
+-- A turn of a job that attaches nothing.
+abbrev Row : Type 0
+Row = List ℕ × Event
+
+same_row : (a b : Row) → ◌≡◌ {A = Option Row} (Some a) (Some b) → a ≡ b
+same_row a b h = cc
+
+no_row : (b : Row) → ◌≡◌ {A = Option Row} None (Some b) → ⊥
+no_row b h = cc
+
+pub turn_performed : (files : Files) (job : Job) (row : Row) (before last : Account) (given left : Given) (events : List Event) → is_job_built job ≡ true → turn_of files before job ≡ Some row
+    → IsPerformed files (request_of files job) before given events last left → (events ≡ row.1 ∷ []) × (last ≡ account_behind row.0 row.1 before)
+unfolding turn_of
+turn_performed files (Restore db names) row before last given left events built is done =
+    subst (λ (r : Row). (events ≡ r.1 ∷ []) × (last ≡ account_behind r.0 r.1 before)) (same_row (db, restore_turn files before db names) row is) (done.0, done.1)
+turn_performed files (Apply db file) row before last given left events built is done = absurd (not_built built)
+turn_performed files (Fixup db) row before last given left events built is done = absurd (not_built built)
+turn_performed files other row before last given left events built is done = absurd (no_row row is)

@@ -1,0 +1,69 @@
+// Laws of the whole program: each is a public function with an empty body, whose contract is the law. They show that what a run is
+// promised on holds where a first run begins and where the next one begins behind a stop, and that a job is what it asks for.
+ghost use Rattle.std.specs.Prelude.{◌≡◌, ℕ, List, [], ◌∷◌, Some, true};
+ghost use Rattle.nb_host.specs.Files.{Files, with_file};
+ghost use Rattle.nb_host.specs.Crash.{LeavesAll};
+ghost use Rattle.nb_mem.specs.declared.entry.Entry.{Entry};
+ghost use Rattle.nb_mem.specs.Histories.{files_of, world_of};
+ghost use Rattle.nb_mem.specs.Outcomes.{IsLeft, placed};
+ghost use Rattle.nb_model.specs.Account.{Account, Kept};
+ghost use Rattle.nb_model.specs.Jobs.{Asks, IsAttaching, account_behind, asks_of, turn_of};
+ghost use Rattle.nb_model.specs.Outcomes.{Given};
+ghost use Rattle.nb_model.specs.Run.{Event};
+ghost use Rattle.nb_model.specs.Stands.{Stands};
+ghost use Rattle.nb_model.specs.declared.job.Job.{Job};
+ghost use Rattle.nb_top.specs.Performed.{HoldsKept, IsPerformed, Knows, StandsFor};
+ghost use Rattle.nb_top.specs.Requests.{is_job_built, request_asked, request_of};
+ghost use Rattle.nb_top.specs.Worlds.{AreCopies, ArePlain, StartsFrom, account_of, empty, no_files};
+
+use nb_host::Host;
+
+/// A first run may begin. Where there is no file, and a stop leaves none, the files stand for the account without entries and records.
+/// Where plain files were placed for good, such as scripts, they stand for the account that has them, without records.
+pub fn a_first_run_may_begin<H: Host>(_host: &H)
+    ensures none { StartsFrom (H.world _host.now) no_files → StandsFor (H.world _host.now) empty }
+    ensures plain { (files : Files) → ArePlain files → StartsFrom (H.world _host.now) files → StandsFor (H.world _host.now) (account_of files []) }
+{}
+
+/// The next run may begin behind a stop: a host that starts again from files that stand for an account with these records of backups
+/// stands for one with the same.
+pub fn a_next_run_may_begin<H: Host>(_host: &H)
+    ensures { (files : Files) (kept : List Kept) → HoldsKept files kept → StartsFrom (H.world _host.now) files
+        → (account : Account) × StandsFor (H.world _host.now) account × (account.kept ≡ kept) }
+{}
+
+/// A run may begin where files were copied to, as backups to another machine. Copies of files that stand for an account, under whatever
+/// names and without a difference file, stand for one with the same records. So what is promised of restoring kept backups is promised there.
+pub fn a_run_may_begin_on_copies<H: Host>(_host: &H)
+    ensures { (files copies : Files) (account : Account) → Stands files account → AreCopies files copies → StartsFrom (H.world _host.now) copies
+        → StandsFor (H.world _host.now) (account_of copies account.kept) }
+{}
+
+/// There are such hosts, in memory: a new one has no file, each file that is placed is one more, and one that a stop left starts from what
+/// the stop left.
+pub fn hosts_in_memory_begin_so()
+    ensures none { StartsFrom (world_of []) no_files }
+    ensures placed { (es : List Entry) (files : Files) (name bytes : List ℕ) → StartsFrom (world_of es) files → StartsFrom (world_of (placed name (Some bytes) es)) (with_file files name (Some bytes)) }
+    ensures left { (stopped left : List Entry) → IsLeft stopped left → LeavesAll (world_of stopped) (files_of left) × StartsFrom (world_of left) (files_of left) }
+{}
+
+/// An account for which the files stand knows what any words ask of it: of each name that they may give it has what the files tell, and
+/// each database is sound.
+pub fn what_stands_is_known()
+    ensures { (files : Files) (account : Account) (words : List (List ℕ)) → Stands files account → Knows files account (request_asked files words) }
+{}
+
+/// A job that attaches is exactly the run of the script that opens its database and asks what the job asks. It says nothing of the opening
+/// but why it is refused.
+pub fn a_job_attaches()
+    ensures attaches { (files : Files) (job : Job) (asks : Asks) (before last : Account) (given left : Given) (events : List Event) → is_job_built job ≡ true → asks_of job ≡ Some asks
+        → IsPerformed files (request_of files job) before given events last left → IsAttaching before given job asks events last }
+    ensures performs { (files : Files) (job : Job) (asks : Asks) (before last : Account) (given : Given) (events : List Event) → is_job_built job ≡ true → asks_of job ≡ Some asks
+        → (attaching : IsAttaching before given job asks events last) → IsPerformed files (request_of files job) before given events last attaching.left }
+{}
+
+/// A job that neither attaches nor runs a script is its one turn.
+pub fn a_job_takes_its_turn()
+    ensures { (files : Files) (job : Job) (name : List ℕ) (turn : Event) (before last : Account) (given left : Given) (events : List Event) → is_job_built job ≡ true → turn_of files before job ≡ Some (name, turn)
+        → IsPerformed files (request_of files job) before given events last left → (events ≡ turn ∷ []) × (last ≡ account_behind name turn before) }
+{}
