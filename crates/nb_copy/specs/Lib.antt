@@ -1,5 +1,0 @@
-pub mod Making
-pub mod Copying
-pub mod Gathering
-pub mod LevelCopying
-pub mod Turns
