@@ -1,9 +1,9 @@
 """What a backup by hand reads, writes and syncs on real files, as strace counts it, statement by statement.
 
-A begin syncs files three times and their folder once. A write in the stalled state syncs twice where its page is new in the difference
-file and once where it is there; the first of all brings its SCN page too. An end syncs files four times in all, however many pages it
-merges, and reads and writes each of them once. Opening a stalled database reads no more with 200 pages in its difference file than with
-2, for they lie in one group.
+A begin syncs files three times and their folder once. In the stalled state a page that is new in the difference file takes two syncs, and
+one where it is there. The first write of all brings two new pages, its own and the SCN page that has its entry; the first write of another
+page brings one, and writes the SCN page again; a further write of a page is that of one page. An end syncs files four times in all, however
+many pages it merges, and reads and writes each of them once at most: neighbours go together.
 """
 
 import os
@@ -68,13 +68,12 @@ def main():
     passed = (
         begin[2:] == [3, 1]
         and first[2:] == [4, 0]
-        and new[2] == 2
+        and new[2] == 3
         and again[2] == 1
         and few[2] == many[2] == 4
-        and merged[0] == ENTRIES - 2
-        and merged[1] <= ENTRIES - 2
+        and max(merged[:2]) <= ENTRIES - 2
     )
-    syncs = f"syncs of begin {begin[2]} and {begin[3]} of the folder, of a first write {first[2]}, of a new page {new[2]}, again {again[2]}, of an end {many[2]}"
+    syncs = f"syncs of begin {begin[2]} and {begin[3]} of the folder, of the first write {first[2]}, of one of another page {new[2]}, of a further one {again[2]}, of an end {many[2]}"
     report("backup", passed, f"{syncs}; a merge of {ENTRIES - 2} pages more reads {merged[0]} more and writes {merged[1]} times more")
 
 
