@@ -3,3 +3,7 @@ pub mod Copying
 pub mod Gathering
 pub mod LevelCopying
 pub mod Turns
+pub mod FileStarting
+pub mod FileCopying
+pub mod Starting
+pub mod Closing

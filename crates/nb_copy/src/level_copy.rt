@@ -51,18 +51,12 @@ impl Model for LevelCopy {
 }
 
 impl LevelCopy {
-    /// A level with that head of `count` frozen pages, into the file of that name. It takes the memory for 18 pages, and makes no file.
-    pub fn start(
-        alloc: Global,
-        head: &LevelHead,
-        count: u32,
-        name: &Name,
-    ) -> Result<LevelCopy, AllocError>
-        requires size { IsTrue (is_page_size head.now.page_size) }
-        requires most { count ≤ 1048576 }
+    /// A level with that head, of which `start` says the GUID and the SCN, into the file of that name. It takes the memory for 18 pages,
+    /// and makes no file.
+    pub fn new(alloc: Global, head: &LevelHead, name: &Name) -> Result<LevelCopy, AllocError>
+        requires { IsTrue (is_page_size head.now.page_size) }
         ensures name { IfOk result (λ copy. copy.file.name ≡ name.now) }
         ensures head { IfOk result (λ copy. copy.file.head ≡ head.now) }
-        ensures count { IfOk result (λ copy. copy.count ≡ count) }
         ensures next { IfOk result (λ copy. copy.next ≡ 0) }
         ensures fresh { IfOk result IsFresh }
     {
@@ -71,11 +65,21 @@ impl LevelCopy {
         let page = vec![in alloc; 0; head.page_size as usize]?;
         Ok(LevelCopy {
             file,
-            count,
+            count: 0,
             next: 0,
             scn_page,
             page,
         })
+    }
+
+    /// The backup has begun with that GUID at that SCN, and the frozen image has so many pages. Its first turn is the next.
+    pub fn start(&mut self, guid: &[u8; 16], scn: u32, count: u32)
+        requires next { self.old.next ≡ 0 }
+        requires most { count ≤ 1048576 }
+        ensures { self.new ≡ record self.old { file = record self.old.file { head = record self.old.file.head { guid = guid.now; scn = scn } }; count = count } }
+    {
+        self.file.start(guid, scn);
+        self.count = count;
     }
 
     /// How many pages were taken.

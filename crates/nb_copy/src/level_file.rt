@@ -60,6 +60,14 @@ impl LevelFile {
         })
     }
 
+    /// The backup has begun with that GUID at that SCN.
+    pub(crate) fn start(&mut self, guid: &[u8; 16], scn: u32)
+        ensures { self.new ≡ record self.old { head = record self.old.head { guid = guid.now; scn = scn } } }
+    {
+        self.head.guid = *guid;
+        self.head.scn = scn;
+    }
+
     /// The head.
     pub(crate) fn head(&self) -> &LevelHead
         ensures { result.now ≡ self.now.head }

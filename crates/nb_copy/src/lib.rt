@@ -7,13 +7,18 @@
 //! has answered that it is finished, the file has exactly the bytes of its backup and is kept for good.
 #![tactic(auto)]
 
+mod copier;
+mod file_copy;
 mod level_copy;
 mod level_file;
 mod page_copy;
 mod run;
 
+pub use copier::Copier;
 pub use level_copy::LevelCopy;
 pub use page_copy::PageCopy;
 
+#[cfg(test)]
+mod copier_tests;
 #[cfg(test)]
 mod tests;

@@ -45,29 +45,31 @@ impl Model for PageCopy {
 }
 
 impl PageCopy {
-    /// A copy of `count` frozen pages of that size into the file of that name. It takes the memory for two pages, and makes no file.
-    pub fn start(
-        alloc: Global,
-        page_size: u32,
-        count: u32,
-        name: &Name,
-    ) -> Result<PageCopy, AllocError>
-        requires size { IsTrue (is_page_size page_size) }
-        requires most { count ≤ 1048576 }
+    /// A copy of pages of that size into the file of that name. It takes the memory for two pages, and makes no file. `start` follows.
+    pub fn new(alloc: Global, page_size: u32, name: &Name) -> Result<PageCopy, AllocError>
+        requires { IsTrue (is_page_size page_size) }
         ensures name { IfOk result (λ copy. copy.name ≡ name.now) }
         ensures size { IfOk result (λ copy. copy.size ≡ page_size) }
-        ensures count { IfOk result (λ copy. copy.count ≡ count) }
         ensures next { IfOk result (λ copy. copy.next ≡ 0) }
     {
         let first = vec![in alloc; 0; page_size as usize]?;
         let page = vec![in alloc; 0; page_size as usize]?;
         Ok(PageCopy {
             name: name.copied(),
-            count,
+            count: 0,
             next: 0,
             first,
             page,
         })
+    }
+
+    /// The image is frozen, and has so many pages. Its first turn is the next.
+    pub fn start(&mut self, count: u32)
+        requires next { self.old.next ≡ 0 }
+        requires most { count ≤ 1048576 }
+        ensures { self.new ≡ record self.old { count = count } }
+    {
+        self.count = count;
     }
 
     /// How many pages of the frozen image were dealt with.

@@ -12,22 +12,22 @@ use std::alloc::Global;
 use std::test::Fail;
 
 /// More turns than any of these copies takes.
-const MANY: u32 = 400;
+pub(crate) const MANY: u32 = 400;
 
 /// The name of the database.
-fn database() -> Result<Name, Fail>
+pub(crate) fn database() -> Result<Name, Fail>
     ensures { IfOk result (λ name. length name ≤ 94) }
 {
     Ok(Name::read("a.db").ok_or("no name")?)
 }
 
 /// The name of the backup file.
-fn backup() -> Result<Name, Fail> {
+pub(crate) fn backup() -> Result<Name, Fail> {
     Ok(Name::read("a.1").ok_or("no name")?)
 }
 
 /// On that host a new database with so many raw pages of 1,024 bytes, whose first backup has ended.
-fn create(alloc: Global, host: &mut MemHost, raw: u32) -> Result<Engine, Fault> {
+pub(crate) fn create(alloc: Global, host: &mut MemHost, raw: u32) -> Result<Engine, Fault> {
     let name = Name::read("a.db");
     let Some(name) = name else {
         return Err(Fault::Memory);
@@ -79,7 +79,8 @@ fn copy_pages(
     if engine.page_size() != 1024 {
         return Ok(0);
     }
-    let mut copy = PageCopy::start(alloc, 1024, engine.main_count().min(100), name)?;
+    let mut copy = PageCopy::new(alloc, 1024, name)?;
+    copy.start(engine.main_count().min(100));
     for turn in 0..MANY {
         if copy.turn(host, engine)? == Progress::Finished {
             return Ok(turn);
@@ -95,7 +96,9 @@ fn copy_level(
     engine: &mut Engine,
     name: &Name,
 ) -> Result<(u32, u64), Fault> {
-    let mut copy = LevelCopy::start(alloc, &head(engine), engine.main_count().min(100), name)?;
+    let head = head(engine);
+    let mut copy = LevelCopy::new(alloc, &head, name)?;
+    copy.start(&head.guid, head.scn, engine.main_count().min(100));
     let before = host.read_count();
     for _ in 0..MANY {
         if copy.turn(host, engine)? == Progress::Finished {
@@ -116,7 +119,11 @@ fn page_of(bytes: &[u8], number: u32) -> &[u8] {
 }
 
 /// The numbers of the pages of a level file, each of which has to be that of the frozen file; or none where it is no level file.
-fn level_pages(alloc: Global, host: &mut MemHost, name: &Name) -> Result<Option<Vec<u32>>, Fail> {
+pub(crate) fn level_pages(
+    alloc: Global,
+    host: &mut MemHost,
+    name: &Name,
+) -> Result<Option<Vec<u32>>, Fail> {
     let frozen = Vec::from_slice(alloc, host.file(&database()?).unwrap_or(b""))?;
     let mut numbers = Vec::new(alloc);
     let mut page = [0; 1024];
@@ -167,7 +174,7 @@ fn a_level_has_the_changed_pages(rt: HostRuntime) -> Result<(), Fail> {
 }
 
 /// Whether a stop leaves no file, or one whose name is free or that is no backup, or the whole.
-fn is_left_well(alloc: Global, host: &MemHost, whole: &[u8]) -> Result<bool, Fail> {
+pub(crate) fn is_left_well(alloc: Global, host: &MemHost, whole: &[u8]) -> Result<bool, Fail> {
     for pick in 0..8 {
         let mut left = host.left(pick)?;
         let name = backup()?;
