@@ -15,3 +15,4 @@ pub mod HeadLaws
 pub mod CloseLaws
 pub mod PlaceLaws
 pub mod LevelLaws
+pub mod StartCauses

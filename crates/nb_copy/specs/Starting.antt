@@ -82,13 +82,13 @@ file_cause s name = first_cause (read_only s.base.image ∷ not_state 0 s.base.i
 abbrev pub ask_by : LevelHead → Ask
 ask_by head = record { level = head.level; previous = head.previous; previous_scn = head.previous_scn }
 
--- A backup with that head begins for the session, with this GUID and whatever is asked of its copy; or it is refused, and changes
+-- A backup whose head has no GUID and SCN yet begins for the session, with this GUID and whatever is asked of its copy; or it is refused, and changes
 -- nothing.
-pub record BeginsFor (result : Result LevelHead Fault) (old new : World) (before after : Held) (t : Trail) (guid : List ℕ) (ask : Option Ask) (session : ℕ) (head : LevelHead) : Type 0 where
+pub record BeginsFor (result : Result LevelHead Fault) (old new : World) (before after : Held) (t : Trail) (guid : List ℕ) (ask : Option Ask) (session : ℕ) (bare : LevelHead) : Type 0 where
   pub test : Tested result (starting_cause t.base.image)
   pub left : Strikes old new (name_of before) t (unless_by (starting_cause t.base.image) (begin guid ask ∷ []))
   pub opened : OnOk result (IsOpen new after (after_strokes t (begin guid ask ∷ [])))
-  pub head : IfOk result (λ begun. begun ≡ record head { guid = guid; scn = image_scn t.base.image })
+  pub head : IfOk result (λ begun. begun ≡ record bare { guid = guid; scn = image_scn t.base.image })
   pub gave : OnOk result (new.guids ≡ old.guids ++ guid ∷ [])
   pub times : new.times ≡ old.times
   pub refused : WhereRefused result (Quiet old new)

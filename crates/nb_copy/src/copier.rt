@@ -57,10 +57,11 @@ fn check_file<H: Host>(host: &mut H, engine: &Engine, name: &Name) -> Result<(),
     ensures quiet { Quiet (H.world host.old) (H.world host.new) }
     ensures cause { CountsDevice result (H.faults host.old) (H.faults host.new) }
 {
-    if engine.access() == 1 {
+    let store = engine.store();
+    if store.is_read_only() {
         return Err(Fault::Refused(Refusal::Access { found: 1 }));
     }
-    let state = engine.store().state();
+    let state = store.state();
     if state != 0 {
         return Err(Fault::Refused(Refusal::WrongState {
             found: u32::from(state),
@@ -85,7 +86,7 @@ fn find_earlier<H: Host>(host: &mut H, engine: &mut Engine, level: u8) -> Result
     ensures quiet { Quiet (H.world host.old) (H.world host.new) }
     ensures cause { CountsDevice result (H.faults host.old) (H.faults host.new) }
 {
-    let head = LevelHead {
+    let mut head = LevelHead {
         level: u16::from(level),
         guid: [0; 16],
         previous: [0; 16],
@@ -96,16 +97,19 @@ fn find_earlier<H: Host>(host: &mut H, engine: &mut Engine, level: u8) -> Result
     if level == 0 {
         return Ok(head);
     }
-    match engine.history_last(host, level - 1)? {
-        Some(row) => Ok(LevelHead {
-            previous: row.guid,
-            previous_scn: row.scn,
-            ..head
-        }),
-        None => Err(Fault::Refused(Refusal::NoHistory {
-            level: u32::from(level - 1),
-        })),
-    }
+    let below = level - 1;
+    let row = match engine.history_last(host, below)? {
+        Some(row) => row,
+        None => {
+            return Err(Fault::Refused(Refusal::NoHistory {
+                level: u32::from(below),
+            }));
+        }
+    };
+    let previous = row.guid;
+    head.previous = previous;
+    head.previous_scn = row.scn;
+    Ok(head)
 }
 
 /// Tests all that is tested before memory is taken, and answers the head of the backup without its GUID and SCN.
@@ -234,10 +238,11 @@ impl Copier {
         ensures cause { CountsDevice result (H.faults host.old) (H.faults host.new) }
     {
         let time = host.seconds()?;
+        let guid = self.head.guid;
         let row = HistoryRow {
             time,
-            level: self.level(),
-            guid: self.head.guid,
+            level: self.head.level as u8,
+            guid,
             scn: self.head.scn,
             name: self.name.copied(),
         };
