@@ -16,3 +16,4 @@ pub mod CloseLaws
 pub mod PlaceLaws
 pub mod LevelLaws
 pub mod StartCauses
+pub mod BegunLaws

@@ -94,3 +94,12 @@ row_asked level below image o row e some is =
     by : (x : Option Spot) → Some row ≡ row_at x → ◌≡◌ {A = Ask} (record { level = level; previous = row.guid; previous_scn = row.scn }) (ask_of level x)
     by None d = cc
     by (Some spot) d = ap (λ (x : Option HistoryRow). record { level = level; previous = (the_row x).guid; previous_scn = (the_row x).scn }) d
+
+-- the last of the causes
+last_cause : (c : Cause) → first_cause (c ∷ []) ≡ c
+unfolding first_cause
+last_cause None = refl
+last_cause (Some r) = refl
+
+pub after_none : (c d : Cause) → c ≡ None → d ≡ first_cause (c ∷ d ∷ [])
+after_none c d none = sym (first_next c (d ∷ []) none ∙ last_cause d)
