@@ -17,3 +17,4 @@ pub mod PlaceLaws
 pub mod LevelLaws
 pub mod StartCauses
 pub mod BegunLaws
+pub mod ClosingLaws

@@ -69,4 +69,5 @@ pub record Closes (result : Result (Unit {0}) Fault) (old new : World) (before a
   pub left : Strikes old new (name_of before) t strokes
   pub opened : OnOk result (IsOpen new after (after_strokes t strokes))
   pub times : OnOk result (new.times ≡ old.times ++ time ∷ [])
+  pub guids : new.guids ≡ old.guids
   pub sure : IfErr result IsNoRefusal

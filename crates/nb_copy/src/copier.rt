@@ -177,7 +177,7 @@ impl Copier {
         ensures turn { (s : Seen) (t : Trail) → IsTrue H.tells → t.base ≡ s.base → engine.old.running ≡ s.running → IsOpen (H.world host.old) engine.old t → IsSoundImage t.base.image
             → is_free_name (H.world host.old).files name.now ≡ is_free_entry (s.entry name.now) → GaveAtMost (H.world host.old) (H.world host.new) (next_guid s.given)
             → StartsBackup result (H.world host.old) (H.world host.new) engine.old engine.new t (next_guid s.given) (backup_turn s session level name.now) }
-        ensures asks { IsTrue H.tells → (guid : List ℕ) × (length guid ≡ 16) × GaveAtMost (H.world host.old) (H.world host.new) guid }
+        ensures asks { (t : Trail) → IsTrue H.tells → IsOpen (H.world host.old) engine.old t → (guid : List ℕ) × (length guid ≡ 16) × GaveAtMost (H.world host.old) (H.world host.new) guid }
         ensures level { IfOk result (λ copier. copier.backing.ask.level ≡ level) }
         ensures size { IfOk result (λ copier. file_page_size copier.file ≡ engine.old.files.page_size) }
         ensures page_size { engine.new.files.page_size ≡ engine.old.files.page_size }
@@ -232,8 +232,7 @@ impl Copier {
         ensures closes { (s : Seen) (t : Trail) → IsTrue H.tells → t.base ≡ s.base → IsOpen (H.world host.old) engine.old t → IsSoundImage t.base.image → self.now.backing.page < length t.base.image
             → GaveTimeAtMost (H.world host.old) (H.world host.new) (next_time s.given)
             → Closes result (H.world host.old) (H.world host.new) engine.old engine.new t (next_time s.given) (close_backup s self.now.backing).strokes }
-        ensures asks { IsTrue H.tells → (time : ℕ) × GaveTimeAtMost (H.world host.old) (H.world host.new) time }
-        ensures guids { (H.world host.new).guids ≡ (H.world host.old).guids }
+        ensures asks { (t : Trail) → IsTrue H.tells → IsOpen (H.world host.old) engine.old t → self.now.backing.page < length t.base.image → (time : ℕ) × GaveTimeAtMost (H.world host.old) (H.world host.new) time }
         ensures goes { Goes engine.old engine.new }
         ensures cause { CountsDevice result (H.faults host.old) (H.faults host.new) }
     {
@@ -260,7 +259,8 @@ impl Copier {
             → IsBackingUp (H.world host.old) self.old t.base.frozen → self.old.backing.page < length t.base.image → (OfFiles engine.old.files.name self.old.backing.name → ⊥)
             → GaveTimeAtMost (H.world host.old) (H.world host.new) (next_time s.given)
             → BackupTurn result (H.world host.old) (H.world host.new) engine.old engine.new self.old self.new t (next_time s.given) (close_backup s self.old.backing).strokes }
-        ensures asks { IsTrue H.tells → (time : ℕ) × GaveTimeAtMost (H.world host.old) (H.world host.new) time }
+        ensures asks { (t : Trail) → IsTrue H.tells → IsOpen (H.world host.old) engine.old t → engine.old.files.state ≡ 1 → IsBackingUp (H.world host.old) self.old t.base.frozen → self.old.backing.page < length t.base.image
+            → (OfFiles engine.old.files.name self.old.backing.name → ⊥) → (time : ℕ) × GaveTimeAtMost (H.world host.old) (H.world host.new) time }
         ensures same { self.new.backing ≡ self.old.backing }
         ensures size { OnOk result (file_page_size self.new.file ≡ file_page_size self.old.file) }
         ensures counts { BackupCounts result self.old self.new }
