@@ -9,6 +9,7 @@ use Rattle.nb_host.specs.Moments.{IsTimely, Passes}
 use Rattle.nb_host.specs.declared.faults.Fault.{Fault}
 use Rattle.nb_host.specs.declared.faults.Fault.TheVariants.{Refused, Device, Memory}
 use Rattle.nb_change.specs.Changes.{Other, Changes, Only, Reached, Remade}
+use Rattle.nb_change.specs.Gave.{GaveNothing}
 use Rattle.nb_change.proofs.MomentLaws.{left_before}
 use Rattle.nb_change.proofs.NameLaws.{with_file-other}
 use Rattle.nb_change.proofs.ChangesLaws.{left_with, weakened, composed_within}
@@ -20,6 +21,7 @@ use Rattle.nb_model.specs.Causes.{Cause}
 use Rattle.nb_model.specs.Chains.{backup_slot, put_slot}
 use Rattle.nb_model.specs.Forms.{drafted}
 use Rattle.nb_model.specs.Image.{Image, image_scn}
+use Rattle.nb_model.specs.Levels.{file_of}
 use Rattle.nb_model.specs.Outcomes.{Backing, Seen, next_time}
 use Rattle.nb_model.specs.Owner.{delta_name, owner}
 use Rattle.nb_model.specs.Sound.{IsSoundImage}
@@ -30,6 +32,7 @@ use Rattle.nb_base.specs.Open.{OfFiles}
 use Rattle.nb_base.specs.Takes.{Strikes, after_strokes, IsNoRefusal}
 use Rattle.nb_base.proofs.StrokeLaws.{waits}
 use Rattle.nb_state.specs.Open.{Held, IsOpen, name_of}
+use Rattle.nb_state.specs.declared.turns.Progress.TheVariants.{More, Finished}
 use Rattle.nb_state.specs.Does.{WhereEnded, unless_by}
 use Rattle.nb_state.proofs.TurnLaws.{still_struck, struck_front}
 use Rattle.nb_engine.specs.Put.{entry_cause}
@@ -38,7 +41,10 @@ use Rattle.nb_engine.proofs.DoesLaws.{unless_none}
 use Rattle.nb_engine.proofs.MakeLaws.{entry_none, from_well}
 use Rattle.nb_engine.proofs.WhereLaws.{sure_of}
 use Rattle.nb_copy.specs.Making.{IsKept, IsUnfinishedOr}
-use Rattle.nb_copy.specs.Closing.{OfBackup, GaveTimeAtMost, CloseLeft, Closes}
+use Rattle.nb_copy.specs.declared.file_copy.FileCopy.{FileCopy}
+use Rattle.nb_copy.specs.FileCopying.{file_name, whole_file, IsFileCopying, IsSameFile}
+use Rattle.nb_copy.specs.Starting.{Backed, IsBackingUp, kept_of}
+use Rattle.nb_copy.specs.Closing.{OfBackup, GaveTimeAtMost, CloseLeft, Closes, BackupTurn}
 
 -- the time that was given is the one that may have been given
 first_time : List ℕ → ℕ
@@ -139,3 +145,73 @@ module _ (old : World) (a : Held) (t : Trail) (is : IsOpen old a t) (name whole 
       durable = durable_other mid new (OfFiles (name_of a)) _ name (Some whole) struck apart kept.durable;
       reads = struck.others_read name apart ∙ kept.reads;
     }
+
+-- the file of a copier, by its name
+pub file_named : (old mid : World) (f g : FileCopy) (name : List ℕ) (frozen : Image) → f ≡ g → file_name g ≡ name → Changes old mid (Only (file_name f)) (Remade old (file_name f) (IsUnfinishedOr (whole_file f frozen)))
+    → Changes old mid (Only name) (Remade old name (IsUnfinishedOr (whole_file g frozen)))
+file_named old mid f g name frozen same named changes =
+    subst (λ (n : List ℕ). Changes old mid (Only n) (Remade old n (IsUnfinishedOr (whole_file g frozen)))) named
+    (subst (λ (x : FileCopy). Changes old mid (Only (file_name x)) (Remade old (file_name x) (IsUnfinishedOr (whole_file x frozen)))) same changes)
+
+pub kept_named : (w : World) (f g : FileCopy) (name : List ℕ) (frozen : Image) → f ≡ g → file_name g ≡ name → IsKept w (file_name f) (whole_file f frozen) → IsKept w name (whole_file g frozen)
+kept_named w f g name frozen same named kept =
+    subst (λ (n : List ℕ). IsKept w n (whole_file g frozen)) named (subst (λ (x : FileCopy). IsKept w (file_name x) (whole_file x frozen)) same kept)
+
+-- the time is asked for behind the turn of the file
+pub asked_behind : (old mid new : World) (time : ℕ) → GaveNothing old mid → GaveTimeAtMost old new time → GaveTimeAtMost mid new time
+asked_behind old mid new time gave given = subst (λ (ts : List ℕ). (new.times ≡ ts) ⊎ (new.times ≡ ts ++ time ∷ [])) (sym gave.times) given
+
+pub asked_before : (old mid new : World) (time : ℕ) → GaveNothing old mid → GaveTimeAtMost mid new time → GaveTimeAtMost old new time
+asked_before old mid new time gave given = subst (λ (ts : List ℕ). (new.times ≡ ts) ⊎ (new.times ≡ ts ++ time ∷ [])) gave.times given
+
+-- A backup that goes on.
+pub goes_further : (w : World) (copier later : Backed) (frozen : Image) (before : FileCopy) → before ≡ copier.file → later.backing ≡ copier.backing → IsSameFile before later.file frozen → file_name copier.file ≡ copier.backing.name
+    → whole_file copier.file frozen ≡ file_of 102 (kept_of copier.backing frozen) → IsFileCopying w later.file frozen → IsBackingUp w later frozen
+goes_further w copier later frozen before filed backed same name whole goes = record {
+  name = same.name ∙ ap file_name filed ∙ name ∙ sym (ap (λ (b : Backing). b.name) backed);
+  whole = same.whole ∙ ap (λ (f : FileCopy). whole_file f frozen) filed ∙ whole ∙ sym (ap (λ (b : Backing). file_of 102 (kept_of b frozen)) backed);
+  goes = goes;
+}
+
+-- A turn, behind that of its file.
+module _ (old mid : World) (a b : Held) (copier : Backed) (t : Trail) (is : IsOpen old a t) (stalled : a.files.state ≡ 1) (apart : OfFiles (name_of a) copier.backing.name → ⊥) (reads : Leaves old copier.backing.name (old.files copier.backing.name)) (same : b ≡ a)
+    (file : Changes old mid (Only copier.backing.name) (Remade old copier.backing.name (IsUnfinishedOr (whole_file copier.file t.base.frozen)))) (gave : GaveNothing old mid) where
+  abbrev whole : List ℕ
+  whole = whole_file copier.file t.base.frozen
+
+  pub mid_open : IsOpen mid b t
+  mid_open = subst (λ (h : Held). IsOpen mid h t) (sym same) (open_other old a t is copier.backing.name whole apart reads mid file stalled)
+
+  pub turn_failed : (later : Backed) (time : ℕ) (xs : List Stroke) → BackupTurn (Err Device) old mid a b copier later t time xs
+  turn_failed later time xs = record { left = file_left old a t is copier.backing.name whole apart reads mid file xs; answer = tt; guids = gave.guids; sure = tt }
+
+  pub turn_more : (later : Backed) (time : ℕ) (xs : List Stroke) → IsBackingUp mid later t.base.frozen → BackupTurn (Ok More) old mid a b copier later t time xs
+  turn_more later time xs goes = record {
+    left = file_left old a t is copier.backing.name whole apart reads mid file xs;
+    answer = record { left = file; same = same; opened = mid_open; gave = gave; goes = goes };
+    guids = gave.guids;
+    sure = tt;
+  }
+
+  module _ (new : World) (d : Held) (later : Backed) (time : ℕ) (xs : List Stroke) (kept : IsKept mid copier.backing.name whole) where
+    pub close_failed : (fault : Fault) → Closes (Err fault) mid new b d t time xs → BackupTurn (Err fault) old new a d copier later t time xs
+    close_failed fault closes = record {
+      left = close_left old a t is copier.backing.name whole apart reads mid file new xs kept (subst (λ (h : Held). Strikes mid new (name_of h) t xs) same closes.left);
+      answer = tt;
+      guids = closes.guids ∙ gave.guids;
+      sure = closes.sure;
+    }
+
+    pub close_finished : Closes (Ok tt) mid new b d t time xs → BackupTurn (Ok Finished) old new a d copier later t time xs
+    close_finished closes =
+        let struck : Strikes mid new (name_of a) t xs = subst (λ (h : Held). Strikes mid new (name_of h) t xs) same closes.left in
+        record {
+          left = close_left old a t is copier.backing.name whole apart reads mid file new xs kept struck;
+          answer = record {
+            kept = kept_still old a t is copier.backing.name whole apart reads mid file new xs kept struck;
+            opened = closes.opened;
+            times = closes.times ∙ ap (λ (ts : List ℕ). ts ++ time ∷ []) gave.times;
+          };
+          guids = closes.guids ∙ gave.guids;
+          sure = tt;
+        }

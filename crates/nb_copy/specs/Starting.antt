@@ -21,9 +21,10 @@ use Rattle.nb_engine.specs.Turns.{SaysNone, starting_cause}
 use Rattle.nb_copy.specs.declared.file_copy.FileCopy.{FileCopy}
 use Rattle.nb_copy.specs.FileCopying.{file_name, file_count, file_next, whole_file, IsFileCopying}
 
--- What a contract sees of a copier: what its close needs, and the file that it makes.
+-- What a contract sees of a copier: what its close needs, the size of each page, and the file that it makes.
 pub record Backed : Type 0 where
   pub backing : Backing
+  pub page_size : ℕ
   pub file : FileCopy
 
 -- what the begin of a backup has kept

@@ -40,14 +40,13 @@ pub struct Copier {
 impl Model for Copier {
     ghost use Rattle.std.specs.Prelude.{◌≤◌};
     ghost use Rattle.nb_engine.specs.History.{IsPlaced};
-    ghost use Rattle.nb_copy.specs.FileCopying.{file_page_size};
     ghost use Rattle.nb_copy.specs.Starting.{Backed, ask_by};
 
     ghost Value = { Backed };
 
-    ghost view = { λ c. record { backing = record { name = c.name; ask = ask_by c.head; scn = c.head.scn; guid = c.head.guid; page = c.room.page; slot = c.room.slot }; file = c.file } };
+    ghost view = { λ c. record { backing = record { name = c.name; ask = ask_by c.head; scn = c.head.scn; guid = c.head.guid; page = c.room.page; slot = c.room.slot }; page_size = c.head.page_size; file = c.file } };
 
-    ghost invariant = { λ c. (c.head.level ≤ 9) × IsPlaced (file_page_size c.file) c.room };
+    ghost invariant = { λ c. (c.head.level ≤ 9) × IsPlaced c.head.page_size c.room };
 }
 
 /// Tests whether a backup into a file of that name may begin. The refusals are `Access`, `WrongState` and `FileExists`, in this order.
@@ -143,6 +142,7 @@ fn begin<H: Host>(
         → BeginsFor result (H.world host.old) (H.world host.new) engine.old engine.new t guid ask session head.now }
     ensures asks { IsTrue H.tells → (guid : List ℕ) × (length guid ≡ 16) × GaveAtMost (H.world host.old) (H.world host.new) guid }
     ensures level { IfOk result (λ begun. begun.level ≡ head.now.level) }
+    ensures size { IfOk result (λ begun. begun.page_size ≡ head.now.page_size) }
     ensures page_size { engine.new.files.page_size ≡ engine.old.files.page_size }
     ensures running { OnOk result (engine.new.running ≡ Some session) }
     ensures cause { CountsDevice result (H.faults host.old) (H.faults host.new) }
@@ -179,7 +179,8 @@ impl Copier {
             → StartsBackup result (H.world host.old) (H.world host.new) engine.old engine.new t (next_guid s.given) (backup_turn s session level name.now) }
         ensures asks { (t : Trail) → IsTrue H.tells → IsOpen (H.world host.old) engine.old t → (guid : List ℕ) × (length guid ≡ 16) × GaveAtMost (H.world host.old) (H.world host.new) guid }
         ensures level { IfOk result (λ copier. copier.backing.ask.level ≡ level) }
-        ensures size { IfOk result (λ copier. file_page_size copier.file ≡ engine.old.files.page_size) }
+        ensures size { IfOk result (λ copier. copier.page_size ≡ engine.old.files.page_size) }
+        ensures file { IfOk result (λ copier. file_page_size copier.file ≡ copier.page_size) }
         ensures page_size { engine.new.files.page_size ≡ engine.old.files.page_size }
         ensures running { OnOk result (engine.new.running ≡ Some session) }
         ensures cause { CountsDevice result (H.faults host.old) (H.faults host.new) }
@@ -228,7 +229,7 @@ impl Copier {
 
     /// Asks the clock, and writes the row of the history.
     fn close<H: Host>(&self, host: &mut H, engine: &mut Engine) -> Result<(), Fault>
-        requires size { file_page_size self.now.file ≡ engine.old.files.page_size }
+        requires size { self.now.page_size ≡ engine.old.files.page_size }
         ensures closes { (s : Seen) (t : Trail) → IsTrue H.tells → t.base ≡ s.base → IsOpen (H.world host.old) engine.old t → IsSoundImage t.base.image → self.now.backing.page < length t.base.image
             → GaveTimeAtMost (H.world host.old) (H.world host.new) (next_time s.given)
             → Closes result (H.world host.old) (H.world host.new) engine.old engine.new t (next_time s.given) (close_backup s self.now.backing).strokes }
@@ -254,15 +255,16 @@ impl Copier {
     /// A stop leaves the file as it was before the first turn, or unfinished, or whole; the row stands only where the file is whole.
     /// A copier that has answered `Finished` or a fault isn't used again.
     pub fn turn<H: Host>(&mut self, host: &mut H, engine: &mut Engine) -> Result<Progress, Fault>
-        requires size { file_page_size self.old.file ≡ engine.old.files.page_size }
+        requires size { self.old.page_size ≡ engine.old.files.page_size }
+        requires file { file_page_size self.old.file ≡ self.old.page_size }
         ensures turn { (s : Seen) (t : Trail) → IsTrue H.tells → t.base ≡ s.base → IsOpen (H.world host.old) engine.old t → engine.old.files.state ≡ 1 → IsSoundImage t.base.image
             → IsBackingUp (H.world host.old) self.old t.base.frozen → self.old.backing.page < length t.base.image → (OfFiles engine.old.files.name self.old.backing.name → ⊥)
             → GaveTimeAtMost (H.world host.old) (H.world host.new) (next_time s.given)
             → BackupTurn result (H.world host.old) (H.world host.new) engine.old engine.new self.old self.new t (next_time s.given) (close_backup s self.old.backing).strokes }
         ensures asks { (t : Trail) → IsTrue H.tells → IsOpen (H.world host.old) engine.old t → engine.old.files.state ≡ 1 → IsBackingUp (H.world host.old) self.old t.base.frozen → self.old.backing.page < length t.base.image
             → (OfFiles engine.old.files.name self.old.backing.name → ⊥) → (time : ℕ) × GaveTimeAtMost (H.world host.old) (H.world host.new) time }
-        ensures same { self.new.backing ≡ self.old.backing }
-        ensures size { OnOk result (file_page_size self.new.file ≡ file_page_size self.old.file) }
+        ensures same { self.new ≡ record self.old { file = self.new.file } }
+        ensures file { OnOk result (file_page_size self.new.file ≡ self.old.page_size) }
         ensures counts { BackupCounts result self.old self.new }
         ensures goes { Goes engine.old engine.new }
         ensures cause { CountsDevice result (H.faults host.old) (H.faults host.new) }
