@@ -18,3 +18,6 @@ pub mod LevelLaws
 pub mod StartCauses
 pub mod BegunLaws
 pub mod ClosingLaws
+pub mod FirstLaws
+pub mod RoomedLaws
+pub mod StartLaws

@@ -80,6 +80,7 @@ fn find_earlier<H: Host>(host: &mut H, engine: &mut Engine, level: u8) -> Result
     ensures test { (t : Trail) → IsTrue H.tells → IsOpen (H.world host.old) engine.old t → Tested result (earlier_cause level t.base.image) }
     ensures head { (t : Trail) → IsTrue H.tells → IsOpen (H.world host.old) engine.old t → IfOk result (λ head. ask_by head ≡ ask_in level t.base.image) }
     ensures level { IfOk result (λ head. head.level ≡ level) }
+    ensures previous { IfOk result (λ head. length head.previous ≡ 16) }
     ensures size { IfOk result (λ head. head.page_size ≡ engine.old.files.page_size) }
     ensures same { engine.new ≡ engine.old }
     ensures quiet { Quiet (H.world host.old) (H.world host.new) }
@@ -122,6 +123,7 @@ fn check_start<H: Host>(
         → Tested result (first_cause (file_cause s name.now ∷ earlier_cause level t.base.image ∷ [])) }
     ensures head { (t : Trail) → IsTrue H.tells → IsOpen (H.world host.old) engine.old t → IfOk result (λ head. ask_by head ≡ ask_in level t.base.image) }
     ensures level { IfOk result (λ head. head.level ≡ level) }
+    ensures previous { IfOk result (λ head. length head.previous ≡ 16) }
     ensures size { IfOk result (λ head. head.page_size ≡ engine.old.files.page_size) }
     ensures same { engine.new ≡ engine.old }
     ensures quiet { Quiet (H.world host.old) (H.world host.new) }
