@@ -20,4 +20,6 @@ pub mod BegunLaws
 pub mod ClosingLaws
 pub mod FirstLaws
 pub mod RoomedLaws
+pub mod FileStartLaws
 pub mod StartLaws
+pub mod RoomStartLaws

@@ -1,5 +1,5 @@
 -- The start of a backup: tests, room in the history, and the begin.
-use Rattle.std.proofs.Common.{◌≡◌, inl, ℕ, zero, suc, ◌+◌, ◌<◌, ◌≤◌, List, [], ◌∷◌, ◌++◌, length, replicate, refl, sym, ap, subst, ◌∙◌, arith}
+use Rattle.std.proofs.Common.{◌≡◌, ◌⊎◌, ℕ, zero, suc, ◌+◌, ◌<◌, ◌≤◌, List, [], ◌∷◌, ◌++◌, length, replicate, refl, sym, ap, subst, ◌∙◌, arith}
 use Rattle.std.proofs.lemmas.Bool.{eq-eqb, ne_eqb}
 use Rattle.std.specs.Prelude.{Bool, true, false, not, ◌==◌, ◌&&◌, nat_lt, nat_le, IsTrue, Option, Some, None, is_none, Result, Ok, Err}
 use Rattle.nb_fields.specs.Bytes.{number_in}
@@ -10,6 +10,7 @@ use Rattle.nb_host.specs.declared.faults.Fault.TheVariants.{Refused as RefusedFa
 use Rattle.nb_host.specs.declared.refusals.Refusal.{Refusal}
 use Rattle.nb_host.specs.declared.refusals.Refusal.TheVariants.{Access, WrongState, ScnExhausted, NoHistory}
 use Rattle.nb_page.specs.Quiet.{Quiet}
+use Rattle.nb_change.specs.Gave.{GaveNothing}
 use Rattle.nb_change.proofs.ReachedLaws.{after_all-joined, strokes_composed}
 use Rattle.nb_base.specs.Open.{OfFiles}
 use Rattle.nb_base.specs.Takes.{Strikes, after_strokes}
@@ -27,16 +28,17 @@ use Rattle.nb_model.specs.Trail.{Trail, StandsIn, after_stroke}
 use Rattle.nb_model.proofs.PutSound.{no_first}
 use Rattle.nb_state.specs.Open.{Held, IsOpen, name_of}
 use Rattle.nb_state.specs.Does.{Tested, unless_by}
+use Rattle.nb_state.specs.Turns.{GaveAtMost}
 use Rattle.nb_state.proofs.MakesLaws.{open_still, none_yet}
 use Rattle.nb_state.proofs.TurnLaws.{struck_front}
 use Rattle.nb_engine.specs.Room.{room_cause}
 use Rattle.nb_engine.specs.Tries.{Tries}
 use Rattle.nb_engine.specs.Turns.{starting_cause}
-use Rattle.nb_engine.proofs.CauseLaws.{unless_refused, unless_allowed, first_next, first_here}
-use Rattle.nb_engine.proofs.DoesLaws.{unless_none}
+use Rattle.nb_engine.proofs.CauseLaws.{unless_refused, unless_allowed, first_none, first_next, first_here}
+use Rattle.nb_engine.proofs.DoesLaws.{unless_none, unless_some, tries_opened}
 use Rattle.nb_copy.specs.Starting.{Backed, StartsBackup, IsStarted, BeginsFor, earlier_row, earlier_cause, file_cause, ask_in}
 use Rattle.nb_copy.proofs.StartCauses.{after_none}
-use Rattle.nb_copy.proofs.RoomedLaws.{roomed_is, roomed_like}
+use Rattle.nb_copy.proofs.RoomedLaws.{IsLike, roomed_is, roomed_like}
 
 -- the tests in the order of the calls are those of the turn
 at_once : (a b c d e f g h : Cause) → first_cause (first_cause (first_cause (a ∷ b ∷ c ∷ []) ∷ first_cause (d ∷ e ∷ []) ∷ []) ∷ first_cause (d ∷ f ∷ g ∷ h ∷ []) ∷ []) ≡ first_cause (a ∷ b ∷ c ∷ d ∷ e ∷ f ∷ g ∷ h ∷ [])
@@ -104,7 +106,7 @@ unfolding unless
 strokes_by s None o = refl
 strokes_by s (Some r) o = refl
 
-struck_some : (old new : World) (n : List ℕ) (t : Trail) (cause : Cause) (xs ys : List Stroke) → Strikes old new n t (unless_by cause xs) → Strikes old new n t (unless_by cause (xs ++ ys))
+pub struck_some : (old new : World) (n : List ℕ) (t : Trail) (cause : Cause) (xs ys : List Stroke) → Strikes old new n t (unless_by cause xs) → Strikes old new n t (unless_by cause (xs ++ ys))
 struck_some old new n t None xs ys struck = struck_front old new n t xs ys struck
 struck_some old new n t (Some r) xs ys struck = struck
 
@@ -123,15 +125,15 @@ module _ (s : Seen) (session level : ℕ) (name : List ℕ) where
     room_decides : start_cause s session level name ≡ room_cause s.base.image
     room_decides = sym (after_none (early s session level name) (room_cause s.base.image) none)
 
-    turn_late : (r : Refusal) → room_cause s.base.image ≡ Some r → turn ≡ says s (Refused r) []
+    pub turn_late : (r : Refusal) → room_cause s.base.image ≡ Some r → turn ≡ says s (Refused r) []
     turn_late r e = turn_by s session level name ∙ unless_refused s (start_cause s session level name) (started s session level name) r (room_decides ∙ e)
 
-    turn_strokes : turn.strokes ≡ unless_by (room_cause s.base.image) (strokes s session level name)
+    pub turn_strokes : turn.strokes ≡ unless_by (room_cause s.base.image) (strokes s session level name)
     turn_strokes =
         ap (λ (o : Outcome). o.strokes) (turn_by s session level name) ∙ strokes_by s (start_cause s session level name) (started s session level name)
         ∙ ap (λ (c : Cause). unless_by c (strokes s session level name)) room_decides
 
-    turn_started : room_cause s.base.image ≡ None → turn ≡ started s session level name
+    pub turn_started : room_cause s.base.image ≡ None → turn ≡ started s session level name
     turn_started e = turn_by s session level name ∙ unless_allowed s (start_cause s session level name) (started s session level name) (room_decides ∙ e)
 
 -- The call that begins a backup.
@@ -159,3 +161,10 @@ module _ (old mid : World) (a b : Held) (t : Trail) (s : Seen) (session level : 
   start_failed (RefusedFault r) e = start_refused r e
   start_failed Device e = record { says = tt; left = none_yet old mid a t outcome.strokes quiet is; opened = tt; running = tt; gave = tt; times = quiet.times; refused = tt; name = ap (λ (h : Held). h.files.name) same; started = tt }
   start_failed Memory e = record { says = tt; left = none_yet old mid a t outcome.strokes quiet is; opened = tt; running = tt; gave = tt; times = quiet.times; refused = tt; name = ap (λ (h : Held). h.files.name) same; started = tt }
+
+-- the GUID is asked for behind the room
+pub given_later : (old mid new : World) (id : List ℕ) → GaveNothing old mid → GaveAtMost old new id → GaveAtMost mid new id
+given_later old mid new id gave given = subst (λ (gs : List (List ℕ)). (new.guids ≡ gs) ⊎ (new.guids ≡ gs ++ id ∷ [])) (sym gave.guids) given
+
+pub given_before : (old mid new : World) (id : List ℕ) → GaveNothing old mid → GaveAtMost mid new id → GaveAtMost old new id
+given_before old mid new id gave given = subst (λ (gs : List (List ℕ)). (new.guids ≡ gs) ⊎ (new.guids ≡ gs ++ id ∷ [])) gave.guids given

@@ -1,4 +1,5 @@
 ghost use Rattle.std.specs.Prelude.{◌≡◌, ◌<◌, ◌≤◌, ℕ, length, [], ◌∷◌, Option, Some, List, IsTrue, IfOk, OnOk};
+ghost use Rattle.nb_fields.specs.Places.{is_page_size};
 ghost use Rattle.nb_change.specs.Counts.{CountsDevice};
 ghost use Rattle.nb_page.specs.Free.{is_free_name};
 ghost use Rattle.nb_page.specs.Quiet.{Quiet};
@@ -82,6 +83,7 @@ fn find_earlier<H: Host>(host: &mut H, engine: &mut Engine, level: u8) -> Result
     ensures level { IfOk result (λ head. head.level ≡ level) }
     ensures previous { IfOk result (λ head. length head.previous ≡ 16) }
     ensures size { IfOk result (λ head. head.page_size ≡ engine.old.files.page_size) }
+    ensures sized { IfOk result (λ head. IsTrue (is_page_size head.page_size)) }
     ensures same { engine.new ≡ engine.old }
     ensures quiet { Quiet (H.world host.old) (H.world host.new) }
     ensures cause { CountsDevice result (H.faults host.old) (H.faults host.new) }
@@ -125,6 +127,7 @@ fn check_start<H: Host>(
     ensures level { IfOk result (λ head. head.level ≡ level) }
     ensures previous { IfOk result (λ head. length head.previous ≡ 16) }
     ensures size { IfOk result (λ head. head.page_size ≡ engine.old.files.page_size) }
+    ensures sized { IfOk result (λ head. IsTrue (is_page_size head.page_size)) }
     ensures same { engine.new ≡ engine.old }
     ensures quiet { Quiet (H.world host.old) (H.world host.new) }
     ensures cause { CountsDevice result (H.faults host.old) (H.faults host.new) }

@@ -1,0 +1,183 @@
+-- The start of a backup behind its tests: room in the history, and the begin.
+use Rattle.std.proofs.Common.{◌≡◌, ◌⊎◌, ℕ, zero, suc, ◌+◌, ◌<◌, ◌≤◌, List, [], ◌∷◌, ◌++◌, length, replicate, refl, sym, ap, subst, ◌∙◌, arith}
+use Rattle.std.proofs.lemmas.Bool.{eq-eqb, ne_eqb}
+use Rattle.std.specs.Prelude.{Bool, true, false, not, ◌==◌, ◌&&◌, nat_lt, nat_le, IsTrue, Option, Some, None, is_none, Result, Ok, Err}
+use Rattle.nb_fields.specs.Bytes.{number_in}
+use Rattle.nb_fields.specs.Header.{is_header, state_of, scn_of}
+use Rattle.nb_host.specs.World.{World}
+use Rattle.nb_host.specs.declared.faults.Fault.{Fault}
+use Rattle.nb_host.specs.declared.faults.Fault.TheVariants.{Refused as RefusedFault, Device, Memory}
+use Rattle.nb_host.specs.declared.refusals.Refusal.{Refusal}
+use Rattle.nb_host.specs.declared.refusals.Refusal.TheVariants.{Access, WrongState, ScnExhausted, NoHistory}
+use Rattle.nb_page.specs.Quiet.{Quiet}
+use Rattle.nb_change.specs.Gave.{GaveNothing}
+use Rattle.nb_change.proofs.ReachedLaws.{after_all-joined, strokes_composed}
+use Rattle.nb_base.specs.Open.{OfFiles}
+use Rattle.nb_base.specs.Takes.{Strikes, after_strokes}
+use Rattle.nb_level.specs.declared.head.LevelHead.{LevelHead}
+use Rattle.nb_model.specs.declared.reply.Reply.TheVariants.{Refused}
+use Rattle.nb_model.specs.Account.{Ask, Base}
+use Rattle.nb_model.specs.Backups.{Room, room_in, starts, backup_turn}
+use Rattle.nb_model.specs.Causes.{Cause, first_cause, when, read_only, not_state, not_free, no_scn, no_room, not_of_form, broken_at}
+use Rattle.nb_model.specs.Chains.{History, pages_of}
+use Rattle.nb_model.specs.Image.{Page, Image, first_page, image_scn}
+use Rattle.nb_model.specs.Outcomes.{Outcome, Copies, ClosesBackup, Seen, next_guid, without_guid, says, unless}
+use Rattle.nb_model.specs.Sound.{IsSoundImage, HasHeader}
+use Rattle.nb_model.specs.Strokes.{Stroke, begin}
+use Rattle.nb_model.specs.Trail.{Trail, StandsIn, after_stroke}
+use Rattle.nb_model.proofs.PutSound.{no_first}
+use Rattle.nb_state.specs.Open.{Held, IsOpen, name_of}
+use Rattle.nb_state.specs.Does.{Tested, unless_by}
+use Rattle.nb_state.specs.Turns.{GaveAtMost}
+use Rattle.nb_state.proofs.MakesLaws.{open_still, none_yet}
+use Rattle.nb_state.proofs.TurnLaws.{struck_front}
+use Rattle.nb_engine.specs.Room.{room_cause}
+use Rattle.nb_engine.specs.Tries.{Tries}
+use Rattle.nb_engine.specs.Turns.{starting_cause}
+use Rattle.nb_engine.proofs.CauseLaws.{unless_refused, unless_allowed, first_none, first_next, first_here}
+use Rattle.nb_engine.proofs.DoesLaws.{unless_none, unless_some, tries_opened}
+use Rattle.nb_copy.specs.Starting.{Backed, StartsBackup, IsStarted, BeginsFor, earlier_row, earlier_cause, file_cause, ask_in}
+use Rattle.nb_copy.proofs.StartCauses.{after_none}
+use Rattle.nb_copy.proofs.RoomedLaws.{IsLike, roomed_is, roomed_like}
+use Rattle.nb_copy.proofs.StartLaws.{early, strokes, started, struck_some, turn_late, turn_strokes, turn_started}
+
+-- what a page 0 says of why no backup begins
+abbrev starting_of : Page → Cause
+starting_of p =
+    first_cause (when (not (number_in 65 1 p == 0)) (Access 1) ∷ when (not (state_of p == 0)) (WrongState (state_of p)) ∷ when (nat_lt 4294967293 (scn_of p)) (ScnExhausted (scn_of p)) ∷ [])
+
+-- Behind the tests.
+module _ (old mid new : World) (a b d : Held) (t : Trail) (s : Seen) (session level : ℕ) (name : List ℕ) (runs : a.running ≡ s.running) (at : t.base ≡ s.base) (is : IsOpen old a t) (sound : IsSoundImage t.base.image) (none : early s session level name ≡ None) where
+  abbrev image : Image
+  image = s.base.image
+
+  abbrev xs : List Stroke
+  xs = (room_in image).draft.strokes
+
+  abbrev ask : Ask
+  ask = ask_in level image
+
+  abbrev guid : List ℕ
+  guid = next_guid s.given
+
+  abbrev outcome : Outcome
+  outcome = backup_turn s session level name
+
+  -- no room was made
+  pub start_roomless : (T : Type 0) (fault : Fault) → Tries {T = T} (Err fault) old new a d t (room_cause image) xs → StartsBackup (Err fault) old new a d t guid outcome
+  start_roomless T (RefusedFault r) tries =
+      let nothing = unless_some (room_cause image) xs r tries.test in
+      subst (λ (x : Outcome). StartsBackup (Err (RefusedFault r)) old new a d t guid x) (sym (turn_late s session level name none r tries.test)) (record {
+        says = refl;
+        left = subst (λ (ss : List Stroke). Strikes old new (name_of a) t ss) nothing tries.makes.left;
+        opened = subst (λ (ss : List Stroke). IsOpen new d (after_strokes t ss)) nothing tries.makes.opened;
+        running = tries.makes.goes.running ∙ runs;
+        gave = tt;
+        times = tries.makes.gave.times;
+        refused = tries.refused;
+        name = tries.makes.goes.name;
+        started = tt;
+      })
+  start_roomless T Device tries = record {
+    says = tt;
+    left = subst (λ (ss : List Stroke). Strikes old new (name_of a) t ss) (sym (turn_strokes s session level name none)) (struck_some old new (name_of a) t (room_cause image) xs (begin guid (Some ask) ∷ []) tries.makes.left);
+    opened = tt;
+    running = tt;
+    gave = tt;
+    times = tries.makes.gave.times;
+    refused = tt;
+    name = tries.makes.goes.name;
+    started = tt;
+  }
+  start_roomless T Memory tries = record {
+    says = tt;
+    left = subst (λ (ss : List Stroke). Strikes old new (name_of a) t ss) (sym (turn_strokes s session level name none)) (struck_some old new (name_of a) t (room_cause image) xs (begin guid (Some ask) ∷ []) tries.makes.left);
+    opened = tt;
+    running = tt;
+    gave = tt;
+    times = tries.makes.gave.times;
+    refused = tt;
+    name = tries.makes.goes.name;
+    started = tt;
+  }
+
+  -- room was made
+  module _ (T : Type 0) (value : T) (tries : Tries (Ok value) old mid a b t (room_cause image) xs) where
+    abbrev u : Trail
+    u = after_strokes t xs
+
+    header : HasHeader image
+    header = subst (λ (x : Base). HasHeader x.image) at (record { header = is.files.agrees.header; scn = omega (arith, is.agrees.scn, is.agrees.four) })
+
+    decided : (broken_at (pages_of History image) ≡ None) × (first_cause (not_of_form (room_in image).draft ∷ no_room (room_in image).draft ∷ no_scn image ∷ []) ≡ None)
+    decided = no_first (broken_at (pages_of History image)) (not_of_form (room_in image).draft ∷ no_room (room_in image).draft ∷ no_scn image ∷ []) tries.test
+
+    pub may_go_on : no_scn image ≡ None
+    may_go_on =
+        (no_first (no_scn image) []
+        (no_first (no_room (room_in image).draft) (no_scn image ∷ []) (no_first (not_of_form (room_in image).draft) (no_room (room_in image).draft ∷ no_scn image ∷ []) decided.1).1).1).0
+
+    like : IsLike image (room_in image).draft.image
+    like = roomed_like image header (subst (λ (x : Base). IsSoundImage x.image) at sound) decided.0
+
+    pub seen : u.base.image ≡ (room_in image).draft.image
+    seen = subst (λ (x : Base). (after_strokes t (room_in x.image).draft.strokes).base.image ≡ (room_in x.image).draft.image) at (roomed_is t)
+
+    pub same_first : first_page u.base.image ≡ first_page image
+    same_first = ap first_page seen ∙ like.first
+
+    pub still_sound : IsSoundImage u.base.image
+    still_sound = subst IsSoundImage (sym seen) like.sound
+
+    starts_here : starting_cause image ≡ None
+    starts_here =
+        let tests = no_first (file_cause s name) (earlier_cause level image ∷ []) none in
+        let first = no_first (read_only image) (not_state 0 image ∷ not_free name (s.entry name) ∷ []) tests.0 in
+        let second = no_first (not_state 0 image) (not_free name (s.entry name) ∷ []) first.1 in
+        first_next (read_only image) (not_state 0 image ∷ no_scn image ∷ []) first.0 ∙ first_next (not_state 0 image) (no_scn image ∷ []) second.0 ∙ first_next (no_scn image) [] may_go_on ∙ first_none
+
+    pub starts_there : starting_cause u.base.image ≡ None
+    starts_there = ap starting_of same_first ∙ starts_here
+
+    room_open : IsOpen mid b u
+    room_open = tries_opened value old mid a b t (room_cause image) xs tries
+
+    room_left : Strikes old mid (name_of a) t xs
+    room_left = subst (λ (ss : List Stroke). Strikes old mid (name_of a) t ss) (unless_none (room_cause image) xs tries.test) tries.makes.left
+
+    module _ (bare : LevelHead) where
+      begun_left : (result : Result LevelHead Fault) → BeginsFor result mid new b d u guid (Some ask) session bare → Strikes old new (name_of a) t (xs ++ begin guid (Some ask) ∷ [])
+      begun_left result begins =
+          strokes_composed after_stroke (StandsIn (name_of a)) (OfFiles (name_of a)) old mid new t xs (begin guid (Some ask) ∷ []) room_left
+          (subst (λ (n : List ℕ). Strikes mid new n u (begin guid (Some ask) ∷ [])) tries.makes.goes.name
+          (subst (λ (ss : List Stroke). Strikes mid new (name_of b) u ss) (unless_none (starting_cause u.base.image) (begin guid (Some ask) ∷ []) starts_there) begins.left))
+
+      pub start_unbegun : (fault : Fault) → BeginsFor (Err fault) mid new b d u guid (Some ask) session bare → StartsBackup (Err fault) old new a d t guid outcome
+      start_unbegun (RefusedFault r) begins = absurd (none_some (sym starts_there ∙ begins.test))
+        where
+          none_some : None ≡ Some r → ⊥
+          none_some e = cc
+      start_unbegun Device begins =
+          subst (λ (x : Outcome). StartsBackup (Err Device) old new a d t guid x) (sym (turn_started s session level name none tries.test)) (record {
+            says = tt;
+            left = begun_left (Err Device) begins;
+            opened = tt;
+            running = tt;
+            gave = tt;
+            times = begins.times ∙ tries.makes.gave.times;
+            refused = tt;
+            name = begins.name ∙ tries.makes.goes.name;
+            started = tt;
+          })
+      start_unbegun Memory begins =
+          subst (λ (x : Outcome). StartsBackup (Err Memory) old new a d t guid x) (sym (turn_started s session level name none tries.test)) (record {
+            says = tt;
+            left = begun_left (Err Memory) begins;
+            opened = tt;
+            running = tt;
+            gave = tt;
+            times = begins.times ∙ tries.makes.gave.times;
+            refused = tt;
+            name = begins.name ∙ tries.makes.goes.name;
+            started = tt;
+          })
