@@ -3,7 +3,8 @@ use Rattle.std.proofs.Common.{◌≡◌, ◌⊎◌, ℕ, zero, suc, ◌+◌, ◌
 use Rattle.std.proofs.lemmas.Bool.{eq-eqb, ne_eqb}
 use Rattle.std.specs.Prelude.{Bool, true, false, not, ◌==◌, ◌&&◌, nat_lt, nat_le, IsTrue, Option, Some, None, is_none, Result, Ok, Err}
 use Rattle.nb_fields.specs.Bytes.{number_in}
-use Rattle.nb_fields.specs.Header.{is_header, state_of, scn_of}
+use Rattle.nb_fields.specs.Header.{is_header, state_of, scn_of, size_of}
+use Rattle.nb_fields.specs.Places.{is_page_size}
 use Rattle.nb_host.specs.World.{World}
 use Rattle.nb_host.specs.declared.faults.Fault.{Fault}
 use Rattle.nb_host.specs.declared.faults.Fault.TheVariants.{Refused as RefusedFault, Device, Memory}
@@ -20,24 +21,33 @@ use Rattle.nb_model.specs.Account.{Ask, Base}
 use Rattle.nb_model.specs.Backups.{Room, room_in, starts, backup_turn}
 use Rattle.nb_model.specs.Causes.{Cause, first_cause, when, read_only, not_state, not_free, no_scn, no_room, not_of_form, broken_at}
 use Rattle.nb_model.specs.Chains.{History, pages_of}
-use Rattle.nb_model.specs.Image.{Page, Image, first_page, image_scn}
-use Rattle.nb_model.specs.Outcomes.{Outcome, Copies, ClosesBackup, Seen, next_guid, without_guid, says, unless}
+use Rattle.nb_model.specs.Image.{Page, Image, first_page, image_scn, image_size}
+use Rattle.nb_model.specs.Outcomes.{Backing, Outcome, Copies, ClosesBackup, Seen, next_guid, without_guid, says, unless}
 use Rattle.nb_model.specs.Sound.{IsSoundImage, HasHeader}
 use Rattle.nb_model.specs.Strokes.{Stroke, begin}
 use Rattle.nb_model.specs.Trail.{Trail, StandsIn, after_stroke}
+use Rattle.nb_model.proofs.ControlMay.{may_begin}
+use Rattle.nb_model.proofs.ControlSound.{control_sound}
 use Rattle.nb_model.proofs.PutSound.{no_first}
+use Rattle.nb_model.proofs.SteadyTurns.{begin_facts}
 use Rattle.nb_state.specs.Open.{Held, IsOpen, name_of}
 use Rattle.nb_state.specs.Does.{Tested, unless_by}
 use Rattle.nb_state.specs.Turns.{GaveAtMost}
 use Rattle.nb_state.proofs.MakesLaws.{open_still, none_yet}
 use Rattle.nb_state.proofs.TurnLaws.{struck_front}
-use Rattle.nb_engine.specs.Room.{room_cause}
+use Rattle.nb_engine.specs.declared.walk.Room.{Room as Kept}
+use Rattle.nb_engine.specs.Room.{room_cause, IsRoomIn}
 use Rattle.nb_engine.specs.Tries.{Tries}
 use Rattle.nb_engine.specs.Turns.{starting_cause}
 use Rattle.nb_engine.proofs.CauseLaws.{unless_refused, unless_allowed, first_none, first_next, first_here}
 use Rattle.nb_engine.proofs.DoesLaws.{unless_none, unless_some, tries_opened}
-use Rattle.nb_copy.specs.Starting.{Backed, StartsBackup, IsStarted, BeginsFor, earlier_row, earlier_cause, file_cause, ask_in}
+use Rattle.nb_copy.specs.Starting.{Backed, StartsBackup, IsStarted, BeginsFor, earlier_row, earlier_cause, file_cause, ask_in, ask_by}
 use Rattle.nb_copy.proofs.StartCauses.{after_none}
+use Rattle.nb_copy.specs.declared.file_copy.FileCopy.{FileCopy}
+use Rattle.nb_copy.specs.FileStarting.{IsNewFile, IsStartedFile}
+use Rattle.nb_copy.specs.FileCopying.{file_count}
+use Rattle.nb_copy.proofs.BegunLaws.{begun_image, begun_frozen, begun_long, begun_size, begun_state}
+use Rattle.nb_copy.proofs.FileStartLaws.{file_first, file_starts}
 use Rattle.nb_copy.proofs.RoomedLaws.{IsLike, roomed_is, roomed_like}
 use Rattle.nb_copy.proofs.StartLaws.{early, strokes, started, struck_some, turn_late, turn_strokes, turn_started}
 
@@ -181,3 +191,71 @@ module _ (old mid new : World) (a b d : Held) (t : Trail) (s : Seen) (session le
             name = begins.name ∙ tries.makes.goes.name;
             started = tt;
           })
+
+      -- it has begun
+      module _ (begun : LevelHead) (begins : BeginsFor (Ok begun) mid new b d u guid (Some ask) session bare) where
+        abbrev v : Trail
+        v = after_strokes u (begin guid (Some ask) ∷ [])
+
+        all_strokes : after_strokes t (strokes s session level name) ≡ v
+        all_strokes = after_all-joined after_stroke t xs (begin guid (Some ask) ∷ [])
+
+        pub start_done : (copier : Backed) → IsStarted new d v copier (started s session level name) → StartsBackup (Ok copier) old new a d t guid outcome
+        start_done copier is_started =
+            subst (λ (x : Outcome). StartsBackup (Ok copier) old new a d t guid x) (sym (turn_started s session level name none tries.test)) (record {
+              says = refl;
+              left = begun_left (Ok begun) begins;
+              opened = subst (λ (w : Trail). IsOpen new d w) (sym all_strokes) begins.opened;
+              running = begins.running;
+              gave = begins.gave ∙ ap (λ (gs : List (List ℕ)). gs ++ guid ∷ []) tries.makes.gave.guids;
+              times = begins.times ∙ tries.makes.gave.times;
+              refused = tt;
+              name = begins.name ∙ tries.makes.goes.name;
+              started = subst (λ (w : Trail). IsStarted new d w copier (started s session level name)) (sym all_strokes) is_started;
+            })
+
+        -- its copier
+        module _ (kept : Kept) (f g : FileCopy) (count : ℕ) (sixteen : length guid ≡ 16) (asked : ask_by bare ≡ ask) (roomed : IsRoomIn image kept) (low : kept.page < length (room_in image).draft.image) (is_new : IsNewFile name bare f) (file : IsStartedFile f g begun count)
+            (counted : count ≡ d.files.count) (nine : bare.level ≤ 9) (previous : length bare.previous ≡ 16) (wide : IsTrue (is_page_size bare.page_size)) (size : bare.page_size ≡ a.files.page_size) where
+          abbrev its : Backing
+          its = record { name = name; ask = ask_by begun; scn = begun.scn; guid = begun.guid; page = kept.page; slot = kept.slot }
+
+          u_header : HasHeader u.base.image
+          u_header = record { header = room_open.files.agrees.header; scn = omega (arith, room_open.agrees.scn, room_open.agrees.four) }
+
+          long : length v.base.image ≡ length (room_in image).draft.image
+          long = begun_long u guid (Some ask) ∙ ap length seen
+
+          count_is : count ≡ length v.base.image
+          count_is = counted ∙ begins.opened.files.agrees.count
+
+          backing_is : ◌≡◌ {A = Backing} (record { name = name; ask = ask; scn = image_scn image; guid = guid; page = (room_in image).page; slot = (room_in image).slot }) its
+          backing_is =
+              let head = begins.head in
+              ap (λ (x : Ask). record { name = name; ask = x; scn = image_scn image; guid = guid; page = (room_in image).page; slot = (room_in image).slot }) (sym (ap (λ (h : LevelHead). ask_by h) head ∙ asked))
+              ∙ ap (λ (n : ℕ). record { name = name; ask = ask_by begun; scn = n; guid = guid; page = (room_in image).page; slot = (room_in image).slot }) (sym (ap (λ (h : LevelHead). h.scn) head ∙ ap scn_of same_first))
+              ∙ ap (λ (x : List ℕ). record { name = name; ask = ask_by begun; scn = begun.scn; guid = x; page = (room_in image).page; slot = (room_in image).slot }) (sym (ap (λ (h : LevelHead). h.guid) head))
+              ∙ ap (λ (n : ℕ). record { name = name; ask = ask_by begun; scn = begun.scn; guid = begun.guid; page = n; slot = (room_in image).slot }) (sym roomed.page)
+              ∙ ap (λ (n : ℕ). record { name = name; ask = ask_by begun; scn = begun.scn; guid = begun.guid; page = kept.page; slot = n }) (sym roomed.slot)
+
+          sized : bare.page_size ≡ image_size v.base.frozen
+          sized =
+              size ∙ is.files.agrees.page_size ∙ ap (λ (x : Base). image_size x.image) at ∙ sym (ap size_of same_first) ∙ sym (begun_size u guid (Some ask) u_header.header sixteen) ∙ ap image_size (sym (begun_frozen u guid (Some ask)))
+
+          frozen_sound : IsSoundImage v.base.frozen
+          frozen_sound =
+              subst IsSoundImage (sym (begun_frozen u guid (Some ask) ∙ begun_image u guid (Some ask)))
+              (control_sound 1 (image_scn u.base.image + 1) guid u.base.image u_header still_sound (may_begin u.base.image u_header guid sixteen (begin_facts u.base.image starts_there).1))
+
+          pub started_is : IsStarted new d v (record { backing = its; page_size = begun.page_size; file = g }) (started s session level name)
+          started_is =
+              let firsts = file_first name bare begun count f g is_new file in
+              record {
+                turns = ap (λ (n : ℕ). replicate n Copies ++ ClosesBackup (record { name = name; ask = ask; scn = image_scn image; guid = guid; page = (room_in image).page; slot = (room_in image).slot }) ∷ []) (sym (firsts.0 ∙ count_is ∙ long))
+                    ∙ ap (λ (x : Backing). replicate (file_count g) Copies ++ ClosesBackup x ∷ []) backing_is;
+                first = firsts.1;
+                stalled = begins.opened.files.agrees.state ∙ begun_state u guid (Some ask) u_header.header sixteen;
+                below = omega (arith, low, long);
+                goes = λ later.
+                    file_starts new name bare begun guid (image_scn u.base.image) count v.base.frozen kept.page kept.slot begins.head nine sixteen previous u_header.scn wide sized (count_is ∙ ap length (sym (begun_frozen u guid (Some ask)))) frozen_sound f g is_new file later;
+              }
