@@ -1,6 +1,6 @@
 -- A database behind the begin of a backup.
-use Rattle.std.proofs.Common.{◌≡◌, ℕ, ◌+◌, List, [], ◌∷◌, length, refl, sym, ap, subst, ◌∙◌, arith}
-use Rattle.std.specs.Prelude.{true, Option, Some, Result, Ok, Err}
+use Rattle.std.proofs.Common.{◌≡◌, ℕ, ◌+◌, List, [], ◌∷◌, length, refl, sym, ap, ◌∙◌, arith}
+use Rattle.std.specs.Prelude.{true, Option, Err}
 use Rattle.nb_fields.specs.Header.{is_header, guid_of, state_of, size_of}
 use Rattle.nb_host.specs.World.{World}
 use Rattle.nb_host.specs.declared.faults.Fault.{Fault}
@@ -16,7 +16,7 @@ use Rattle.nb_model.proofs.MainLaws.{some_page}
 use Rattle.nb_model.proofs.TrailLaws.{trail_base}
 use Rattle.nb_base.specs.Takes.{after_strokes}
 use Rattle.nb_base.proofs.ControlLaws.{with_control-first}
-use Rattle.nb_state.specs.Open.{Held, IsOpen}
+use Rattle.nb_state.specs.Open.{Held}
 use Rattle.nb_engine.specs.Turns.{Starts}
 use Rattle.nb_copy.specs.Starting.{BeginsFor}
 

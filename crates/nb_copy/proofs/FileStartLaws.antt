@@ -1,7 +1,7 @@
 -- The file of a backup that has begun: whole it will be that of what the begin has kept.
-use Rattle.std.proofs.Common.{◌≡◌, ◌≢◌, ℕ, zero, suc, ◌<◌, ◌≤◌, ◌^◌, List, length, refl, sym, ap, subst, ◌∙◌, arith}
+use Rattle.std.proofs.Common.{◌≡◌, ◌≢◌, ℕ, zero, suc, ◌<◌, ◌≤◌, List, length, refl, sym, ap, subst, ◌∙◌, arith}
 use Rattle.std.proofs.lemmas.Bool.{ne_eqb, le-leb}
-use Rattle.std.specs.Prelude.{Bool, true, false, ◌&&◌, ◌==◌, nat_le, IsTrue, Some}
+use Rattle.std.specs.Prelude.{Bool, true, false, ◌&&◌, IsTrue, Some}
 use Rattle.nb_fields.specs.Places.{is_page_size}
 use Rattle.nb_host.specs.World.{World}
 use Rattle.nb_level.specs.declared.head.LevelHead.{LevelHead}
@@ -12,11 +12,11 @@ use Rattle.nb_model.specs.Outcomes.{Backing}
 use Rattle.nb_model.specs.Sound.{IsSoundImage, IsOfSize}
 use Rattle.nb_copy.specs.declared.file_copy.FileCopy.{FileCopy}
 use Rattle.nb_copy.specs.declared.file_copy.FileCopy.TheVariants.{Pages, Level}
-use Rattle.nb_copy.specs.Copying.{Copying, IsCopying}
-use Rattle.nb_copy.specs.LevelCopying.{LevelCopying, IsFresh, IsLevelCopying}
+use Rattle.nb_copy.specs.Copying.{Copying}
+use Rattle.nb_copy.specs.LevelCopying.{LevelCopying}
 use Rattle.nb_copy.specs.FileStarting.{IsNewFile, IsStartedFile}
 use Rattle.nb_copy.specs.FileCopying.{file_count, file_next}
-use Rattle.nb_copy.specs.Starting.{Backed, IsBackingUp, IsLater, ask_by, kept_of}
+use Rattle.nb_copy.specs.Starting.{Backed, IsBackingUp, IsLater, ask_by}
 
 -- it was never dealt with, and knows how many pages are frozen
 pub file_first : (name : List ℕ) (bare head : LevelHead) (count : ℕ) (f g : FileCopy) → IsNewFile name bare f → IsStartedFile f g head count → (file_count g ≡ count) × (file_next g ≡ 0)

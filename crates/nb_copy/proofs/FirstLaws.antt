@@ -1,10 +1,10 @@
 -- Page 0 stays where room is made in the history.
-use Rattle.std.proofs.Common.{◌≡◌, ℕ, zero, suc, ◌+◌, ◌/◌, ◌≤◌, List, [], ◌∷◌, ◌++◌, length, refl, sym, ap, subst, ◌∙◌, arith}
+use Rattle.std.proofs.Common.{◌≡◌, ℕ, zero, suc, ◌+◌, ◌/◌, ◌≤◌, List, [], ◌∷◌, ◌++◌, length, refl, sym, ap, subst, arith}
 use Rattle.std.specs.Prelude.{Bool, true, false, ◌==◌, ◌-◌, nat_lt, slice_set, IsTrue}
 use Rattle.nb_fields.specs.Header.{size_of}
 use Rattle.nb_fields.specs.Places.{is_page_size, entries_in, bits_in, is_system_place}
 use Rattle.nb_model.specs.Image.{Page, Image, first_page, image_size, image_scn, with_page}
-use Rattle.nb_model.specs.Forms.{Draft, wrote, written, needs, is_kind, has_entry, inventory_of, scn_page_of, scn_entry, entry_written, entry_raised, raised, put, set_bit, is_free_page, free_from, lowest_free, searched, system_kind, system_page, new_within}
+use Rattle.nb_model.specs.Forms.{Draft, wrote, written, needs, is_kind, has_entry, scn_page_of, scn_entry, entry_written, entry_raised, raised, put, set_bit, is_free_page, free_from, lowest_free, searched, system_kind, system_page, new_within}
 use Rattle.nb_model.proofs.DraftLaws.{either}
 use Rattle.nb_model.proofs.NewSound.{searched_image}
 use Rattle.nb_model.proofs.PutSound.{needs_image}

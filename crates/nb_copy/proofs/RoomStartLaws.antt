@@ -1,28 +1,23 @@
 -- The start of a backup behind its tests: room in the history, and the begin.
-use Rattle.std.proofs.Common.{◌≡◌, ◌⊎◌, ℕ, zero, suc, ◌+◌, ◌<◌, ◌≤◌, List, [], ◌∷◌, ◌++◌, length, replicate, refl, sym, ap, subst, ◌∙◌, arith}
-use Rattle.std.proofs.lemmas.Bool.{eq-eqb, ne_eqb}
-use Rattle.std.specs.Prelude.{Bool, true, false, not, ◌==◌, ◌&&◌, nat_lt, nat_le, IsTrue, Option, Some, None, is_none, Result, Ok, Err}
+use Rattle.std.proofs.Common.{◌≡◌, ℕ, ◌+◌, ◌<◌, ◌≤◌, List, [], ◌∷◌, ◌++◌, length, replicate, refl, sym, ap, subst, ◌∙◌, arith}
+use Rattle.std.specs.Prelude.{not, ◌==◌, nat_lt, IsTrue, Some, None, Result, Ok, Err}
 use Rattle.nb_fields.specs.Bytes.{number_in}
-use Rattle.nb_fields.specs.Header.{is_header, state_of, scn_of, size_of}
+use Rattle.nb_fields.specs.Header.{state_of, scn_of, size_of}
 use Rattle.nb_fields.specs.Places.{is_page_size}
 use Rattle.nb_host.specs.World.{World}
 use Rattle.nb_host.specs.declared.faults.Fault.{Fault}
 use Rattle.nb_host.specs.declared.faults.Fault.TheVariants.{Refused as RefusedFault, Device, Memory}
-use Rattle.nb_host.specs.declared.refusals.Refusal.{Refusal}
-use Rattle.nb_host.specs.declared.refusals.Refusal.TheVariants.{Access, WrongState, ScnExhausted, NoHistory}
-use Rattle.nb_page.specs.Quiet.{Quiet}
-use Rattle.nb_change.specs.Gave.{GaveNothing}
+use Rattle.nb_host.specs.declared.refusals.Refusal.TheVariants.{Access, WrongState, ScnExhausted}
 use Rattle.nb_change.proofs.ReachedLaws.{after_all-joined, strokes_composed}
 use Rattle.nb_base.specs.Open.{OfFiles}
 use Rattle.nb_base.specs.Takes.{Strikes, after_strokes}
 use Rattle.nb_level.specs.declared.head.LevelHead.{LevelHead}
-use Rattle.nb_model.specs.declared.reply.Reply.TheVariants.{Refused}
 use Rattle.nb_model.specs.Account.{Ask, Base}
-use Rattle.nb_model.specs.Backups.{Room, room_in, starts, backup_turn}
+use Rattle.nb_model.specs.Backups.{room_in, backup_turn}
 use Rattle.nb_model.specs.Causes.{Cause, first_cause, when, read_only, not_state, not_free, no_scn, no_room, not_of_form, broken_at}
 use Rattle.nb_model.specs.Chains.{History, pages_of}
 use Rattle.nb_model.specs.Image.{Page, Image, first_page, image_scn, image_size}
-use Rattle.nb_model.specs.Outcomes.{Backing, Outcome, Copies, ClosesBackup, Seen, next_guid, without_guid, says, unless}
+use Rattle.nb_model.specs.Outcomes.{Backing, Outcome, Copies, ClosesBackup, Seen, next_guid}
 use Rattle.nb_model.specs.Sound.{IsSoundImage, HasHeader}
 use Rattle.nb_model.specs.Strokes.{Stroke, begin}
 use Rattle.nb_model.specs.Trail.{Trail, StandsIn, after_stroke}
@@ -31,18 +26,13 @@ use Rattle.nb_model.proofs.ControlSound.{control_sound}
 use Rattle.nb_model.proofs.PutSound.{no_first}
 use Rattle.nb_model.proofs.SteadyTurns.{begin_facts}
 use Rattle.nb_state.specs.Open.{Held, IsOpen, name_of}
-use Rattle.nb_state.specs.Does.{Tested, unless_by}
-use Rattle.nb_state.specs.Turns.{GaveAtMost}
-use Rattle.nb_state.proofs.MakesLaws.{open_still, none_yet}
-use Rattle.nb_state.proofs.TurnLaws.{struck_front}
 use Rattle.nb_engine.specs.declared.walk.Room.{Room as Kept}
 use Rattle.nb_engine.specs.Room.{room_cause, IsRoomIn}
 use Rattle.nb_engine.specs.Tries.{Tries}
 use Rattle.nb_engine.specs.Turns.{starting_cause}
-use Rattle.nb_engine.proofs.CauseLaws.{unless_refused, unless_allowed, first_none, first_next, first_here}
+use Rattle.nb_engine.proofs.CauseLaws.{first_none, first_next}
 use Rattle.nb_engine.proofs.DoesLaws.{unless_none, unless_some, tries_opened}
-use Rattle.nb_copy.specs.Starting.{Backed, StartsBackup, IsStarted, BeginsFor, earlier_row, earlier_cause, file_cause, ask_in, ask_by}
-use Rattle.nb_copy.proofs.StartCauses.{after_none}
+use Rattle.nb_copy.specs.Starting.{Backed, StartsBackup, IsStarted, BeginsFor, earlier_cause, file_cause, ask_in, ask_by}
 use Rattle.nb_copy.specs.declared.file_copy.FileCopy.{FileCopy}
 use Rattle.nb_copy.specs.FileStarting.{IsNewFile, IsStartedFile}
 use Rattle.nb_copy.specs.FileCopying.{file_count}

@@ -1,7 +1,7 @@
 -- A database behind the strokes that make room in the history.
-use Rattle.std.proofs.Common.{◌≡◌, ℕ, zero, suc, ◌+◌, ◌-◌, ◌<◌, ◌≤◌, List, [], ◌∷◌, length, drop, refl, sym, ap, subst, ◌∙◌, arith}
+use Rattle.std.proofs.Common.{◌≡◌, ℕ, zero, suc, ◌+◌, ◌≤◌, List, [], length, refl, sym, ap, subst, ◌∙◌, arith}
 use Rattle.std.proofs.lemmas.List.{length-drop}
-use Rattle.std.specs.Prelude.{Bool, true, false, Option, Some, None, ◌==◌}
+use Rattle.std.specs.Prelude.{Bool, true, false, Option, Some, None}
 use Rattle.nb_fields.specs.Bytes.{bytes_of, with_part}
 use Rattle.nb_fields.specs.Page.{kind_of}
 use Rattle.nb_fields.specs.Places.{is_inventory_place, is_scn_place}
@@ -16,12 +16,11 @@ use Rattle.nb_model.specs.Causes.{broken_at}
 use Rattle.nb_model.specs.Chains.{History, Spot, pages_of, found_pages, spots, free_spot, last_of, grown}
 use Rattle.nb_model.specs.Backups.{Room, room_in, needs_taken}
 use Rattle.nb_model.specs.Sound.{IsSoundImage, HasHeader}
-use Rattle.nb_model.specs.Strokes.{base_after}
 use Rattle.nb_model.proofs.DraftLaws.{IsKept, IsOf, either, drafts_are, drafted_is, needs_keeps, put_keeps, new_keeps}
 use Rattle.nb_model.proofs.DraftJoin.{join_put}
 use Rattle.nb_model.proofs.FitLaws.{IsWhole, fits_first}
 use Rattle.nb_model.proofs.HeaderLaws.{header-size}
-use Rattle.nb_model.proofs.PutSound.{IsPlace, IsPlain, needs_image, header_whole, plain_put}
+use Rattle.nb_model.proofs.PutSound.{IsPlain, needs_image, header_whole, plain_put}
 use Rattle.nb_model.proofs.SoundLaws.{all_at, header_kind}
 use Rattle.nb_base.specs.Takes.{after_strokes}
 use Rattle.nb_state.proofs.MakesLaws.{after_base}

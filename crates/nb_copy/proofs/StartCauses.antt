@@ -1,6 +1,6 @@
 -- Why no backup may begin, test by test.
 use Rattle.std.proofs.Common.{◌≡◌, ◌≢◌, ℕ, zero, suc, List, [], ◌∷◌, replicate, refl, sym, ap, subst, ◌∙◌, arith}
-use Rattle.std.specs.Prelude.{Bool, true, false, Option, Some, None, is_none, not, ◌==◌, nat_eq}
+use Rattle.std.specs.Prelude.{Bool, true, false, Option, Some, None, is_none, not, nat_eq}
 use Rattle.std.proofs.lemmas.Bool.{eq-eqb, ne_eqb}
 use Rattle.nb_host.specs.declared.refusals.Refusal.{Refusal}
 use Rattle.nb_host.specs.declared.refusals.Refusal.TheVariants.{Access, WrongState, FileExists, NoHistory}
@@ -11,7 +11,7 @@ use Rattle.nb_model.specs.Causes.{Cause, first_cause, when, read_only, not_state
 use Rattle.nb_model.specs.Chains.{History, Spot, pages_of, backup_spot, level_in}
 use Rattle.nb_model.specs.Outcomes.{Seen}
 use Rattle.nb_engine.specs.declared.rows.HistoryRow.{HistoryRow}
-use Rattle.nb_engine.specs.History.{row_in, row_at}
+use Rattle.nb_engine.specs.History.{row_at}
 use Rattle.nb_engine.proofs.CauseLaws.{first_none, first_next, first_here}
 use Rattle.nb_engine.proofs.FreeLaws.{closed_cause, open_cause}
 use Rattle.nb_copy.specs.Starting.{ask_in, earlier_row, earlier_cause, file_cause}

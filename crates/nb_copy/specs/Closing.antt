@@ -5,7 +5,6 @@ use Rattle.nb_host.specs.World.{World}
 use Rattle.nb_host.specs.declared.faults.Fault.{Fault}
 use Rattle.nb_change.specs.Changes.{Names, Changes, Only, Reached, Remade}
 use Rattle.nb_change.specs.Gave.{GaveNothing}
-use Rattle.nb_model.specs.Image.{Image}
 use Rattle.nb_model.specs.Strokes.{Stroke}
 use Rattle.nb_model.specs.Trail.{Trail, StandsIn, after_stroke}
 use Rattle.nb_base.specs.Open.{OfFiles}
@@ -14,7 +13,7 @@ use Rattle.nb_state.specs.Open.{Held, IsOpen, name_of}
 use Rattle.nb_state.specs.declared.turns.Progress.{Progress}
 use Rattle.nb_state.specs.declared.turns.Progress.TheVariants.{More, Finished}
 use Rattle.nb_copy.specs.Making.{IsKept, IsUnfinishedOr}
-use Rattle.nb_copy.specs.FileCopying.{file_name, file_count, file_next, whole_file}
+use Rattle.nb_copy.specs.FileCopying.{file_count, file_next, whole_file}
 use Rattle.nb_copy.specs.Starting.{Backed, IsBackingUp}
 
 -- the file of a backup, and the two files of its database

@@ -10,7 +10,7 @@ use Rattle.nb_copy.specs.declared.file_copy.FileCopy.{FileCopy}
 use Rattle.nb_copy.specs.declared.file_copy.FileCopy.TheVariants.{Pages, Level}
 use Rattle.nb_copy.specs.Making.{IsKept}
 use Rattle.nb_copy.specs.Copying.{IsCopying}
-use Rattle.nb_copy.specs.LevelCopying.{IsLevelCopying, IsFresh, whole_level}
+use Rattle.nb_copy.specs.LevelCopying.{IsLevelCopying, whole_level}
 
 -- the name of the file
 abbrev pub file_name : FileCopy → List ℕ

@@ -1,5 +1,5 @@
 -- The file of a backup before its first turn.
-use Rattle.std.specs.Prelude.{◌≡◌, ℕ, ◌≤◌, List, replicate}
+use Rattle.std.specs.Prelude.{◌≡◌, ℕ, ◌≤◌, List}
 use Rattle.nb_level.specs.declared.head.LevelHead.{LevelHead}
 use Rattle.nb_copy.specs.declared.file_copy.FileCopy.{FileCopy}
 use Rattle.nb_copy.specs.declared.file_copy.FileCopy.TheVariants.{Pages, Level}

@@ -1,9 +1,8 @@
 use Rattle.std.proofs.Common.{◌≡◌, ℕ, List, [], ◌∷◌, length, sym, ap, subst, ◌∙◌}
-use Rattle.std.specs.Prelude.{Some, Ok, Result}
-use Rattle.nb_host.specs.World.{World}
+use Rattle.std.specs.Prelude.{Some, Result}
 use Rattle.nb_host.specs.declared.faults.Fault.{Fault}
 use Rattle.nb_level.specs.declared.head.LevelHead.{LevelHead}
-use Rattle.nb_model.specs.Image.{image_guid, image_scn}
+use Rattle.nb_model.specs.Image.{image_scn}
 use Rattle.nb_model.specs.Strokes.{begin as begin_stroke}
 use Rattle.nb_base.specs.Takes.{after_strokes}
 use Rattle.nb_state.specs.Open.{Held, IsOpen}

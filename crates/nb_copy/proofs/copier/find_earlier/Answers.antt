@@ -1,5 +1,4 @@
 use Rattle.std.proofs.Common.{◌≡◌, ℕ, suc, sym, ap, ◌∙◌, arith}
-use Rattle.nb_model.specs.Account.{Ask}
 use Rattle.nb_model.specs.Causes.{broken_at}
 use Rattle.nb_model.specs.Chains.{History, pages_of}
 use Rattle.nb_engine.proofs.DoesLaws.{tested_on}

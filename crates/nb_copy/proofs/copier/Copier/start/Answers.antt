@@ -1,6 +1,5 @@
-use Rattle.std.proofs.Common.{◌≡◌, inl, ◌≤◌, arith, ℕ, List, [], ◌∷◌, length, replicate, refl, sym, ap, subst, ◌∙◌}
+use Rattle.std.proofs.Common.{◌≡◌, inl, ◌≤◌, arith, ℕ, List, length, replicate, refl, sym, ap, subst, ◌∙◌}
 use Rattle.std.specs.Prelude.{Result, Ok, Err, Some}
-use Rattle.nb_fields.specs.Places.{is_page_size}
 use Rattle.nb_host.specs.declared.faults.Fault.{Fault}
 use Rattle.nb_host.specs.declared.faults.Fault.TheVariants.{Memory}
 use Rattle.nb_model.specs.Account.{Base}
@@ -13,13 +12,10 @@ use Rattle.nb_base.specs.Takes.{after_strokes}
 use Rattle.nb_copy.proofs.QuietLaws.{quiet_gave}
 use Rattle.nb_engine.specs.Room.{room_cause}
 use Rattle.nb_engine.specs.declared.walk.Room.{Room}
-use Rattle.nb_engine.specs.Tries.{Tries}
 use Rattle.nb_engine.proofs.DoesLaws.{tries_after, tries_opened}
 use Rattle.nb_model.specs.Backups.{room_in}
-use Rattle.nb_copy.specs.Starting.{ask_in, ask_by, IsStarted}
+use Rattle.nb_copy.specs.Starting.{ask_in, ask_by}
 use Rattle.nb_state.proofs.TurnLaws.{given_guid}
-use Rattle.nb_model.specs.Strokes.{begin}
-use Rattle.nb_copy.proofs.FileStartLaws.{file_first, file_starts}
 use Rattle.nb_copy.proofs.StartLaws.{start_failed, given_later, given_before}
 use Rattle.nb_copy.proofs.RoomStartLaws.{start_roomless, start_unbegun, start_done, started_is}
 use Rattle.nb_copy.proofs.copier.Copier.start.Goals as goal

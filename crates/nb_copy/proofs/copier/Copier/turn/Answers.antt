@@ -141,4 +141,3 @@ returns-in_ok-close-in-Finished-clause-asks g c t tells is stalled backing below
     let low : c.self.inside.room.page < length t.base.image = omega (arith, below, ap (λ (b : Backing). b.page) backed) in
     let asks = c.close.ensures.asks t tells here low in
     (asks.0, asked_before old mid (g.H.Host.world c.close.new.host) asks.0 gave asks.1)
-
