@@ -1,14 +1,14 @@
 -- The turns of a backup: the file alone is touched, and then the two files of the database.
 use Rattle.std.proofs.Common.{◌≡◌, ◌≢◌, ◌⊎◌, inl, inr, ⊎_elim, ℕ, ◌<◌, List, [], ◌∷◌, ◌++◌, length, drop, refl, sym, ap, subst, ◌∙◌, arith, length-append, drop_at}
-use Rattle.std.specs.Prelude.{None, Some, Result, Ok, Err, OnOk, IfErr}
+use Rattle.std.specs.Prelude.{None, Some, Result, Ok, Err, OnOk}
 use Rattle.nb_host.specs.Files.{File, Files, with_file}
 use Rattle.nb_host.specs.World.{World}
 use Rattle.nb_host.specs.Crash.{Leaves}
 use Rattle.nb_host.specs.Calls.{IsStill}
 use Rattle.nb_host.specs.Moments.{IsTimely, Passes}
 use Rattle.nb_host.specs.declared.faults.Fault.{Fault}
-use Rattle.nb_host.specs.declared.faults.Fault.TheVariants.{Refused, Device, Memory}
-use Rattle.nb_change.specs.Changes.{Other, Changes, Only, Reached, Remade}
+use Rattle.nb_host.specs.declared.faults.Fault.TheVariants.{Device}
+use Rattle.nb_change.specs.Changes.{Changes, Only, Reached, Remade}
 use Rattle.nb_change.specs.Gave.{GaveNothing}
 use Rattle.nb_change.proofs.MomentLaws.{left_before}
 use Rattle.nb_change.proofs.NameLaws.{with_file-other}
@@ -17,7 +17,6 @@ use Rattle.nb_change.proofs.ResultLaws.{on_ok}
 use Rattle.nb_change.proofs.SettledLaws.{durable_is, durable_other}
 use Rattle.nb_model.specs.Account.{Base}
 use Rattle.nb_model.specs.Backups.{close_backup}
-use Rattle.nb_model.specs.Causes.{Cause}
 use Rattle.nb_model.specs.Chains.{backup_slot, put_slot}
 use Rattle.nb_model.specs.Forms.{drafted}
 use Rattle.nb_model.specs.Image.{Image, image_scn}
@@ -27,9 +26,9 @@ use Rattle.nb_model.specs.Owner.{delta_name, owner}
 use Rattle.nb_model.specs.Sound.{IsSoundImage}
 use Rattle.nb_model.specs.Strokes.{Stroke}
 use Rattle.nb_model.specs.Trail.{Trail, StandsIn, StandsOn, after_stroke}
-use Rattle.nb_model.proofs.PutSound.{IsPlace, header_whole}
+use Rattle.nb_model.proofs.PutSound.{header_whole}
 use Rattle.nb_base.specs.Open.{OfFiles}
-use Rattle.nb_base.specs.Takes.{Strikes, after_strokes, IsNoRefusal}
+use Rattle.nb_base.specs.Takes.{Strikes, after_strokes}
 use Rattle.nb_base.proofs.StrokeLaws.{waits}
 use Rattle.nb_state.specs.Open.{Held, IsOpen, name_of}
 use Rattle.nb_state.specs.declared.turns.Progress.TheVariants.{More, Finished}

@@ -23,3 +23,4 @@ pub mod RoomedLaws
 pub mod FileStartLaws
 pub mod StartLaws
 pub mod RoomStartLaws
+pub mod KeepLaws

@@ -1,5 +1,5 @@
 -- The further turns of a backup: its pages, and its close.
-use Rattle.std.specs.Prelude.{◌≡◌, ◌⊎◌, ◌+◌, ◌<◌, ℕ, List, [], ◌∷◌, ◌++◌, Some, Result, Ok, Err, OnOk, IfErr}
+use Rattle.std.specs.Prelude.{◌≡◌, ◌⊎◌, ◌+◌, ◌<◌, ◌≤◌, ℕ, List, [], ◌∷◌, ◌++◌, Some, Result, Ok, Err, OnOk, IfErr}
 use Rattle.nb_host.specs.Files.{Files}
 use Rattle.nb_host.specs.World.{World}
 use Rattle.nb_host.specs.declared.faults.Fault.{Fault}
@@ -70,3 +70,9 @@ pub record Closes (result : Result (Unit {0}) Fault) (old new : World) (before a
   pub times : OnOk result (new.times ≡ old.times ++ time ∷ [])
   pub guids : new.guids ≡ old.guids
   pub sure : IfErr result IsNoRefusal
+
+-- a turn that deals with a page reads two pages at most
+abbrev pub ReadsTwo : Result Progress Fault → (old new : World) → Type 0
+ReadsTwo (Ok More) old new = new.reads ≤ old.reads + 2
+ReadsTwo (Ok Finished) old new = Unit {0}
+ReadsTwo (Err fault) old new = Unit {0}

@@ -15,7 +15,7 @@ ghost use Rattle.nb_state.specs.Does.{Goes, Tested};
 ghost use Rattle.nb_state.specs.Turns.{GaveAtMost};
 ghost use Rattle.nb_copy.specs.FileCopying.{file_page_size, file_written};
 ghost use Rattle.nb_copy.specs.Starting.{StartsBackup, BeginsFor, IsBackingUp, ask_by, ask_in, earlier_cause, file_cause};
-ghost use Rattle.nb_copy.specs.Closing.{BackupTurn, BackupCounts, Closes, GaveTimeAtMost};
+ghost use Rattle.nb_copy.specs.Closing.{BackupTurn, BackupCounts, Closes, GaveTimeAtMost, ReadsTwo};
 
 use crate::file_copy::FileCopy;
 use nb_engine::{Engine, HistoryRow, Room};
@@ -271,6 +271,7 @@ impl Copier {
         ensures same { self.new ≡ record self.old { file = self.new.file } }
         ensures file { OnOk result (file_page_size self.new.file ≡ self.old.page_size) }
         ensures counts { BackupCounts result self.old self.new }
+        ensures twice { IsTrue H.tells → ReadsTwo result (H.world host.old) (H.world host.new) }
         ensures goes { Goes engine.old engine.new }
         ensures cause { CountsDevice result (H.faults host.old) (H.faults host.new) }
     {

@@ -2,7 +2,7 @@
 use crate::Copier;
 use crate::tests::{MANY, backup, database, is_left_well, level_pages};
 use nb_engine::Engine;
-use nb_host::{Fault, Name, Refusal};
+use nb_host::{Fault, Host, Name, Refusal};
 use nb_mem::MemHost;
 use nb_state::Progress;
 use std::alloc::Global;
@@ -79,6 +79,20 @@ fn a_level_1_has_what_changed(rt: HostRuntime) -> Result<(), Fail> {
     assert_eq!(rt; turns, 13);
     let numbers = level_pages(rt.alloc(), &mut host, &backup()?)?;
     assert_eq!(rt; numbers, Some(vec![in rt.alloc(); 0, 2, 4, 6]?));
+    Ok(())
+}
+
+#[test]
+fn a_full_history_gets_a_page(rt: HostRuntime) -> Result<(), Fail> {
+    // A page of the history holds three rows: the fourth start makes page 13, which is frozen too.
+    let mut host = MemHost::new(rt.alloc())?;
+    let mut engine = new_base(rt.alloc(), &mut host)?;
+    for pages in [13, 13, 13, 14] {
+        let turns = back_up(rt.alloc(), &mut host, &mut engine, 0, &full()?)?;
+        assert_eq!(rt; turns, pages);
+        end(&mut host, &mut engine)?;
+        host.remove(&full()?)?;
+    }
     Ok(())
 }
 

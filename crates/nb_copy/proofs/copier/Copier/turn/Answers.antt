@@ -1,4 +1,4 @@
-use Rattle.std.proofs.Common.{◌≡◌, ℕ, ◌<◌, List, [], length, refl, sym, ap, subst, ◌∙◌, arith}
+use Rattle.std.proofs.Common.{◌<◌, List, [], length, sym, ap, subst, ◌∙◌, arith}
 use Rattle.std.specs.Prelude.{Ok, Err, Result}
 use Rattle.nb_host.specs.declared.faults.Fault.{Fault}
 use Rattle.nb_host.specs.declared.faults.Fault.TheVariants.{Device}
@@ -7,7 +7,6 @@ use Rattle.nb_model.specs.Outcomes.{Backing, next_time}
 use Rattle.nb_model.specs.Strokes.{Stroke}
 use Rattle.nb_state.specs.Open.{Held}
 use Rattle.nb_state.specs.declared.turns.Progress.{Progress}
-use Rattle.nb_state.specs.declared.turns.Progress.TheVariants.{More, Finished}
 use Rattle.nb_state.proofs.MakesLaws.{passed_on}
 use Rattle.nb_copy.specs.declared.file_copy.FileCopy.{FileCopy}
 use Rattle.nb_copy.specs.FileCopying.{IsFileCopying, FileTurn, file_page_size}
