@@ -13,7 +13,7 @@ ghost use Rattle.nb_base.specs.Open.{OfFiles};
 ghost use Rattle.nb_state.specs.Open.{IsOpen};
 ghost use Rattle.nb_state.specs.Does.{Goes, Tested};
 ghost use Rattle.nb_state.specs.Turns.{GaveAtMost};
-ghost use Rattle.nb_copy.specs.FileCopying.{file_page_size, file_written};
+ghost use Rattle.nb_copy.specs.FileCopying.{file_written};
 ghost use Rattle.nb_copy.specs.Starting.{StartsBackup, BeginsFor, IsBackingUp, ask_by, ask_in, earlier_cause, file_cause};
 ghost use Rattle.nb_copy.specs.Closing.{BackupTurn, BackupCounts, Closes, GaveTimeAtMost, ReadsTwo};
 
@@ -39,15 +39,16 @@ pub struct Copier {
 }
 
 impl Model for Copier {
-    ghost use Rattle.std.specs.Prelude.{◌≤◌};
+    ghost use Rattle.std.specs.Prelude.{◌≡◌, ◌≤◌};
     ghost use Rattle.nb_engine.specs.History.{IsPlaced};
+    ghost use Rattle.nb_copy.specs.FileCopying.{file_page_size};
     ghost use Rattle.nb_copy.specs.Starting.{Backed, ask_by};
 
     ghost Value = { Backed };
 
     ghost view = { λ c. record { backing = record { name = c.name; ask = ask_by c.head; scn = c.head.scn; guid = c.head.guid; page = c.room.page; slot = c.room.slot }; page_size = c.head.page_size; file = c.file } };
 
-    ghost invariant = { λ c. (c.head.level ≤ 9) × IsPlaced c.head.page_size c.room };
+    ghost invariant = { λ c. (c.head.level ≤ 9) × IsPlaced c.head.page_size c.room × (file_page_size c.file ≡ c.head.page_size) };
 }
 
 /// Tests whether a backup into a file of that name may begin. The refusals are `Access`, `WrongState` and `FileExists`, in this order.
@@ -185,7 +186,6 @@ impl Copier {
         ensures asks { (t : Trail) → IsTrue H.tells → IsOpen (H.world host.old) engine.old t → (guid : List ℕ) × (length guid ≡ 16) × GaveAtMost (H.world host.old) (H.world host.new) guid }
         ensures level { IfOk result (λ copier. copier.backing.ask.level ≡ level) }
         ensures size { IfOk result (λ copier. copier.page_size ≡ engine.old.files.page_size) }
-        ensures file { IfOk result (λ copier. file_page_size copier.file ≡ copier.page_size) }
         ensures page_size { engine.new.files.page_size ≡ engine.old.files.page_size }
         ensures running { OnOk result (engine.new.running ≡ Some session) }
         ensures cause { CountsDevice result (H.faults host.old) (H.faults host.new) }
@@ -261,7 +261,6 @@ impl Copier {
     /// A copier that has answered `Finished` or a fault isn't used again.
     pub fn turn<H: Host>(&mut self, host: &mut H, engine: &mut Engine) -> Result<Progress, Fault>
         requires size { self.old.page_size ≡ engine.old.files.page_size }
-        requires file { file_page_size self.old.file ≡ self.old.page_size }
         ensures turn { (s : Seen) (t : Trail) → IsTrue H.tells → t.base ≡ s.base → IsOpen (H.world host.old) engine.old t → engine.old.files.state ≡ 1 → IsSoundImage t.base.image
             → IsBackingUp (H.world host.old) self.old t.base.frozen → self.old.backing.page < length t.base.image → (OfFiles engine.old.files.name self.old.backing.name → ⊥)
             → GaveTimeAtMost (H.world host.old) (H.world host.new) (next_time s.given)
@@ -269,7 +268,6 @@ impl Copier {
         ensures asks { (t : Trail) → IsTrue H.tells → IsOpen (H.world host.old) engine.old t → engine.old.files.state ≡ 1 → IsBackingUp (H.world host.old) self.old t.base.frozen → self.old.backing.page < length t.base.image
             → (OfFiles engine.old.files.name self.old.backing.name → ⊥) → (time : ℕ) × GaveTimeAtMost (H.world host.old) (H.world host.new) time }
         ensures same { self.new ≡ record self.old { file = self.new.file } }
-        ensures file { OnOk result (file_page_size self.new.file ≡ self.old.page_size) }
         ensures counts { BackupCounts result self.old self.new }
         ensures twice { IsTrue H.tells → ReadsTwo result (H.world host.old) (H.world host.new) }
         ensures goes { Goes engine.old engine.new }

@@ -77,6 +77,7 @@ impl FileCopy {
             → FileTurn result (H.world host.new) self.old self.new t.base.frozen }
         ensures same { (frozen : Image) → OnOk result (IsSameFile self.old self.new frozen) }
         ensures counts { FileCounts result self.old self.new }
+        ensures size { file_page_size self.new ≡ file_page_size self.old }
         ensures engine { engine.new ≡ engine.old }
         ensures gave { GaveNothing (H.world host.old) (H.world host.new) }
         ensures twice { IsTrue H.tells → (H.world host.new).reads ≤ (H.world host.old).reads + 2 }

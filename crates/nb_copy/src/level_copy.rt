@@ -151,6 +151,7 @@ impl LevelCopy {
         ensures begun { (t : Trail) → IsTrue H.tells → IsOpen (H.world host.old) engine.old t → engine.old.files.state ≡ 1 → IsLevelOf self.old t.base.frozen → IsFresh self.old
             → OnOk result (HasTaken (H.world host.new) self.new.file (taken_below 1 self.old t.base.frozen)) }
         ensures same { OnOk result (self.new ≡ record self.old { file = record self.old.file { written = self.new.file.written; run = self.new.file.run }; next = 1; page = self.new.page }) }
+        ensures size { self.new.file.head.page_size ≡ self.old.file.head.page_size }
         ensures engine { engine.new ≡ engine.old }
         ensures gave { GaveNothing (H.world host.old) (H.world host.new) }
         ensures once { IsTrue H.tells → (H.world host.new).reads ≤ (H.world host.old).reads + 1 }
@@ -174,6 +175,7 @@ impl LevelCopy {
         ensures entries { (t : Trail) → IsTrue H.tells → IsOpen (H.world host.old) engine.old t → engine.old.files.state ≡ 1 → IsLevelOf self.old t.base.frozen → HasEntriesOf self.old t.base.frozen
             → OnOk result (self.new.scn_page ≡ page_at t.base.frozen (scn_page_of t.base.frozen self.old.next)) }
         ensures same { OnOk result (self.new ≡ record self.old { file = record self.old.file { written = self.new.file.written; run = self.new.file.run }; next = self.old.next + 1; scn_page = self.new.scn_page; page = self.new.page }) }
+        ensures size { self.new.file.head.page_size ≡ self.old.file.head.page_size }
         ensures engine { engine.new ≡ engine.old }
         ensures gave { GaveNothing (H.world host.old) (H.world host.new) }
         ensures twice { IsTrue H.tells → (H.world host.new).reads ≤ (H.world host.old).reads + 2 }
@@ -204,6 +206,7 @@ impl LevelCopy {
         ensures answer { (t : Trail) → IsTrue H.tells → IsOpen (H.world host.old) engine.old t → engine.old.files.state ≡ 1 → IsLevelCopying (H.world host.old) self.old t.base.frozen
             → LevelTurn result (H.world host.new) self.old self.new t.base.frozen }
         ensures counts { LevelCounts result self.old self.new }
+        ensures size { self.new.file.head.page_size ≡ self.old.file.head.page_size }
         ensures engine { engine.new ≡ engine.old }
         ensures gave { GaveNothing (H.world host.old) (H.world host.new) }
         ensures twice { IsTrue H.tells → (H.world host.new).reads ≤ (H.world host.old).reads + 2 }

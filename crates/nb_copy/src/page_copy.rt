@@ -87,6 +87,7 @@ impl PageCopy {
         ensures left { IsTrue H.tells → Changes (H.world host.old) (H.world host.new) (Only self.old.name) (Remade (H.world host.old) self.old.name IsBlank) }
         ensures begun { (t : Trail) → IsTrue H.tells → IsOpen (H.world host.old) engine.old t → engine.old.files.state ≡ 1 → IsOf self.old t.base.frozen → OnOk result (IsBegun (H.world host.new) self.new t.base.frozen) }
         ensures next { OnOk result (self.new ≡ record self.old { next = 1; first = self.new.first }) }
+        ensures size { self.new.size ≡ self.old.size }
         ensures engine { engine.new ≡ engine.old }
         ensures gave { GaveNothing (H.world host.old) (H.world host.new) }
         ensures once { IsTrue H.tells → (H.world host.new).reads ≤ (H.world host.old).reads + 1 }
@@ -107,6 +108,7 @@ impl PageCopy {
         ensures copied { (t : Trail) → IsTrue H.tells → IsOpen (H.world host.old) engine.old t → engine.old.files.state ≡ 1 → IsOf self.old t.base.frozen → IsBegun (H.world host.old) self.old t.base.frozen
             → OnOk result (IsBegun (H.world host.new) self.new t.base.frozen) }
         ensures next { OnOk result (self.new ≡ record self.old { next = self.old.next + 1 }) }
+        ensures size { self.new.size ≡ self.old.size }
         ensures engine { engine.new ≡ engine.old }
         ensures gave { GaveNothing (H.world host.old) (H.world host.new) }
         ensures once { IsTrue H.tells → (H.world host.new).reads ≤ (H.world host.old).reads + 1 }
@@ -150,6 +152,7 @@ impl PageCopy {
         ensures answer { (t : Trail) → IsTrue H.tells → IsOpen (H.world host.old) engine.old t → engine.old.files.state ≡ 1 → IsCopying (H.world host.old) self.old t.base.frozen
             → CopyTurn result (H.world host.new) self.old self.new t.base.frozen }
         ensures counts { CopyCounts result self.old self.new }
+        ensures size { self.new.size ≡ self.old.size }
         ensures engine { engine.new ≡ engine.old }
         ensures gave { GaveNothing (H.world host.old) (H.world host.new) }
         ensures once { IsTrue H.tells → (H.world host.new).reads ≤ (H.world host.old).reads + 1 }

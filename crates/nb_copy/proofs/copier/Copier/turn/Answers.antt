@@ -51,14 +51,11 @@ returns-in-More-clause-turn g c s t tells same is stalled sound backing below ap
     turn_more old mid c.args.engine.now c.turn.new.engine copier t is stalled apart reads c.turn.ensures.engine file gave _ (next_time s.given) (close_backup s copier.backing).strokes
     (goes_further mid copier _ t.base.frozen c.self.inside.file filed backed (c.in_ok-turn.ensures.same t.base.frozen) backing.name backing.whole answer)
 
+pub turn-requires : goal.turn-requires
+turn-requires g c = record { size = c.self.invariant.2 ∙ ap (λ (v : Backed). v.page_size) c.self.view_is ∙ c.requires.size }
+
 pub close-requires : goal.close-requires
 close-requires g c = record { size = ap (λ (v : Backed). v.page_size) c.self.view_is ∙ c.requires.size ∙ sym (ap (λ (h : Held). h.files.page_size) c.turn.ensures.engine) }
-
-pub returns-in-More-clause-file : goal.returns-in-More-clause-file
-returns-in-More-clause-file g c = (c.in_ok-turn.ensures.same []).page_size ∙ ap (λ (v : Backed). file_page_size v.file) c.self.view_is ∙ c.requires.file
-
-pub returns-in_ok-close-in-Finished-clause-file : goal.returns-in_ok-close-in-Finished-clause-file
-returns-in_ok-close-in-Finished-clause-file g c = (c.in_ok-turn.ensures.same []).page_size ∙ ap (λ (v : Backed). file_page_size v.file) c.self.view_is ∙ c.requires.file
 
 pub returns-in_err-close-in-Finished-clause-turn : goal.returns-in_err-close-in-Finished-clause-turn
 returns-in_err-close-in-Finished-clause-turn g c s t tells same is stalled sound backing below apart given =
