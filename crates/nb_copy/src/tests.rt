@@ -96,6 +96,9 @@ fn copy_level(
     engine: &mut Engine,
     name: &Name,
 ) -> Result<(u32, u64), Fault> {
+    if engine.page_size() != 1024 {
+        return Ok((0, 0));
+    }
     let head = head(engine);
     let mut copy = LevelCopy::new(alloc, &head, name)?;
     copy.start(&head.guid, head.scn, engine.main_count().min(100));
