@@ -20,7 +20,7 @@ use Rattle.nb_model.specs.Backups.{close_backup}
 use Rattle.nb_model.specs.Chains.{backup_slot, put_slot}
 use Rattle.nb_model.specs.Forms.{drafted}
 use Rattle.nb_model.specs.Image.{Image, image_scn}
-use Rattle.nb_model.specs.Levels.{file_of}
+use Rattle.nb_model.specs.Levels.{file_of, count_in}
 use Rattle.nb_model.specs.Outcomes.{Backing, Seen, next_time}
 use Rattle.nb_model.specs.Owner.{delta_name, owner}
 use Rattle.nb_model.specs.Sound.{IsSoundImage}
@@ -40,8 +40,10 @@ use Rattle.nb_engine.proofs.DoesLaws.{unless_none}
 use Rattle.nb_engine.proofs.MakeLaws.{entry_none, from_well}
 use Rattle.nb_engine.proofs.WhereLaws.{sure_of}
 use Rattle.nb_copy.specs.Making.{IsKept, IsUnfinishedOr}
+use Rattle.nb_copy.proofs.LevelLaws.{below_all}
 use Rattle.nb_copy.specs.declared.file_copy.FileCopy.{FileCopy}
-use Rattle.nb_copy.specs.FileCopying.{file_name, whole_file, IsFileCopying, IsSameFile}
+use Rattle.nb_copy.specs.declared.file_copy.FileCopy.TheVariants.{Pages, Level}
+use Rattle.nb_copy.specs.FileCopying.{file_name, file_count, file_next, file_written, whole_file, whole_count, IsFileCopying, IsSameFile}
 use Rattle.nb_copy.specs.Starting.{Backed, IsBackingUp, kept_of}
 use Rattle.nb_copy.specs.Closing.{OfBackup, GaveTimeAtMost, CloseLeft, Closes, BackupTurn}
 
@@ -163,12 +165,21 @@ asked_behind old mid new time gave given = subst (λ (ts : List ℕ). (new.times
 pub asked_before : (old mid new : World) (time : ℕ) → GaveNothing old mid → GaveTimeAtMost mid new time → GaveTimeAtMost old new time
 asked_before old mid new time gave given = subst (λ (ts : List ℕ). (new.times ≡ ts) ⊎ (new.times ≡ ts ++ time ∷ [])) gave.times given
 
+-- where all pages were dealt with, all that the file has were taken
+pub written_all : (w : World) (f : FileCopy) (frozen : Image) → IsFileCopying w f frozen → file_next f ≡ file_count f → file_written f ≡ whole_count f frozen
+written_all w (Pages copy) frozen is all = all ∙ sym is.of.long
+written_all w (Level copy) frozen is all =
+    let next : copy.next ≡ length frozen = all ∙ sym is.of.long in
+    let begun = is.begun (omega (arith, next, is.of.sound.least)) in
+    begun.has.counted ∙ ap length (below_all copy frozen is.of copy.next (omega (arith, next)))
+
 -- A backup that goes on.
 pub goes_further : (w : World) (copier later : Backed) (frozen : Image) (before : FileCopy) → before ≡ copier.file → later.backing ≡ copier.backing → IsSameFile before later.file frozen → file_name copier.file ≡ copier.backing.name
-    → whole_file copier.file frozen ≡ file_of 102 (kept_of copier.backing frozen) → IsFileCopying w later.file frozen → IsBackingUp w later frozen
-goes_further w copier later frozen before filed backed same name whole goes = record {
+    → whole_file copier.file frozen ≡ file_of 102 (kept_of copier.backing frozen) → whole_count copier.file frozen ≡ count_in (kept_of copier.backing frozen) copier.backing.ask → IsFileCopying w later.file frozen → IsBackingUp w later frozen
+goes_further w copier later frozen before filed backed same name whole count goes = record {
   name = same.name ∙ ap file_name filed ∙ name ∙ sym (ap (λ (b : Backing). b.name) backed);
   whole = same.whole ∙ ap (λ (f : FileCopy). whole_file f frozen) filed ∙ whole ∙ sym (ap (λ (b : Backing). file_of 102 (kept_of b frozen)) backed);
+  count = same.pages ∙ ap (λ (f : FileCopy). whole_count f frozen) filed ∙ count ∙ sym (ap (λ (b : Backing). count_in (kept_of b frozen) b.ask) backed);
   goes = goes;
 }
 
@@ -201,8 +212,8 @@ module _ (old mid : World) (a b : Held) (copier : Backed) (t : Trail) (is : IsOp
       sure = closes.sure;
     }
 
-    pub close_finished : Closes (Ok tt) mid new b d t time xs → BackupTurn (Ok Finished) old new a d copier later t time xs
-    close_finished closes =
+    pub close_finished : Closes (Ok tt) mid new b d t time xs → file_written later.file ≡ count_in (kept_of copier.backing t.base.frozen) copier.backing.ask → BackupTurn (Ok Finished) old new a d copier later t time xs
+    close_finished closes written =
         let struck : Strikes mid new (name_of a) t xs = subst (λ (h : Held). Strikes mid new (name_of h) t xs) same closes.left in
         record {
           left = close_left old a t is copier.backing.name whole apart reads mid file new xs kept struck;
@@ -210,6 +221,7 @@ module _ (old mid : World) (a b : Held) (copier : Backed) (t : Trail) (is : IsOp
             kept = kept_still old a t is copier.backing.name whole apart reads mid file new xs kept struck;
             opened = closes.opened;
             times = closes.times ∙ ap (λ (ts : List ℕ). ts ++ time ∷ []) gave.times;
+            written = written;
           };
           guids = closes.guids ∙ gave.guids;
           sure = tt;

@@ -7,7 +7,7 @@ use Rattle.nb_host.specs.World.{World}
 use Rattle.nb_level.specs.declared.head.LevelHead.{LevelHead}
 use Rattle.nb_level.specs.Heads.{head_of}
 use Rattle.nb_model.specs.Image.{Image, image_size}
-use Rattle.nb_model.specs.Levels.{IsHead, joined, level_bytes, taken, file_for, file_of}
+use Rattle.nb_model.specs.Levels.{IsHead, joined, level_bytes, taken, file_for, file_of, count_in}
 use Rattle.nb_model.specs.Outcomes.{Backing}
 use Rattle.nb_model.specs.Sound.{IsSoundImage, IsOfSize}
 use Rattle.nb_copy.specs.declared.file_copy.FileCopy.{FileCopy}
@@ -48,6 +48,19 @@ level_file level scn previous_scn size guid previous frozen some e =
     ])
     (sym (ne_eqb level 0 (not_zero level some)))
 
+pages_count : (level scn previous_scn : ℕ) (guid previous : List ℕ) (frozen : Image) → level ≡ 0
+    → length frozen ≡ count_in (record { guid = guid; scn = scn; ask = Some (record { level = level; previous = previous; previous_scn = previous_scn }); image = frozen }) (record { level = level; previous = previous; previous_scn = previous_scn })
+unfolding count_in
+pages_count zero scn previous_scn guid previous frozen e = refl
+pages_count (suc level) scn previous_scn guid previous frozen e = absurd (omega (arith, e))
+
+level_count : (level scn previous_scn : ℕ) (guid previous : List ℕ) (frozen : Image) → 1 ≤ level
+    → length (taken previous_scn frozen)
+    ≡ count_in (record { guid = guid; scn = scn; ask = Some (record { level = level; previous = previous; previous_scn = previous_scn }); image = frozen }) (record { level = level; previous = previous; previous_scn = previous_scn })
+unfolding count_in
+level_count level scn previous_scn guid previous frozen some =
+    ap (λ (t : Bool). elim t as (λ z. ℕ) [ true ↦ length frozen | false ↦ length (taken previous_scn frozen) ]) (sym (ne_eqb level 0 (not_zero level some)))
+
 both : (a b : Bool) → a ≡ true → b ≡ true → (a && b) ≡ true
 both true true p q = refl
 both true false p q = q
@@ -81,6 +94,7 @@ module _ (w : World) (name : List ℕ) (bare head : LevelHead) (guid : List ℕ)
       record {
         name = ap (λ (c : Copying). c.name) started ∙ new.0;
         whole = pages_file head.level head.scn head.previous_scn head.guid head.previous frozen (level_is ∙ new.3);
+        count = pages_count head.level head.scn head.previous_scn head.guid head.previous frozen (level_is ∙ new.3);
         goes = record {
           of = record {
             long = sym (ap (λ (c : Copying). c.count) started ∙ counted);
@@ -104,6 +118,7 @@ module _ (w : World) (name : List ℕ) (bare head : LevelHead) (guid : List ℕ)
         name = ap (λ (c : LevelCopying). c.file.name) started ∙ new.0;
         whole = ap (λ (h : LevelHead). level_bytes 102 (head_of h) (taken h.previous_scn frozen)) headed
             ∙ level_file head.level head.scn head.previous_scn head.page_size head.guid head.previous frozen (omega (arith, some, level_is)) sized;
+        count = ap (λ (h : LevelHead). length (taken h.previous_scn frozen)) headed ∙ level_count head.level head.scn head.previous_scn head.guid head.previous frozen (omega (arith, some, level_is));
         goes = record {
           of = record {
             long = sym (ap (λ (c : LevelCopying). c.count) started ∙ counted);

@@ -39,5 +39,6 @@ module _ (old new : World) (names : Names) (P : Files → Type 0) (changes : Cha
   backup_kept copier other is = record {
     name = is.name;
     whole = is.whole;
+    count = is.count;
     goes = file_kept copier.file (subst (λ (n : List ℕ). Other names n) (sym is.name) other) is.goes;
   }

@@ -5,6 +5,7 @@ use Rattle.nb_host.specs.World.{World}
 use Rattle.nb_host.specs.declared.faults.Fault.{Fault}
 use Rattle.nb_change.specs.Changes.{Names, Changes, Only, Reached, Remade}
 use Rattle.nb_change.specs.Gave.{GaveNothing}
+use Rattle.nb_model.specs.Levels.{count_in}
 use Rattle.nb_model.specs.Strokes.{Stroke}
 use Rattle.nb_model.specs.Trail.{Trail, StandsIn, after_stroke}
 use Rattle.nb_base.specs.Open.{OfFiles}
@@ -13,8 +14,8 @@ use Rattle.nb_state.specs.Open.{Held, IsOpen, name_of}
 use Rattle.nb_state.specs.declared.turns.Progress.{Progress}
 use Rattle.nb_state.specs.declared.turns.Progress.TheVariants.{More, Finished}
 use Rattle.nb_copy.specs.Making.{IsKept, IsUnfinishedOr}
-use Rattle.nb_copy.specs.FileCopying.{file_count, file_next, whole_file}
-use Rattle.nb_copy.specs.Starting.{Backed, IsBackingUp}
+use Rattle.nb_copy.specs.FileCopying.{file_count, file_next, file_written, whole_file}
+use Rattle.nb_copy.specs.Starting.{Backed, IsBackingUp, kept_of}
 
 -- the file of a backup, and the two files of its database
 abbrev pub OfBackup : (name db : List ℕ) → Names
@@ -40,14 +41,16 @@ pub record CopiesOn (old new : World) (before after : Held) (copier later : Back
   pub goes : IsBackingUp new later t.base.frozen
 
 -- the file is whole and kept for good, and the strokes of the close were made
-pub record CloseDone (old new : World) (before after : Held) (copier : Backed) (t : Trail) (time : ℕ) (strokes : List Stroke) : Type 0 where
+pub record CloseDone (old new : World) (before after : Held) (copier later : Backed) (t : Trail) (time : ℕ) (strokes : List Stroke) : Type 0 where
   pub kept : IsKept new copier.backing.name (whole_file copier.file t.base.frozen)
   pub opened : IsOpen new after (after_strokes t strokes)
   pub times : new.times ≡ old.times ++ time ∷ []
+  pub written : file_written later.file ≡ count_in (kept_of copier.backing t.base.frozen) copier.backing.ask
 
+-- what a turn answers
 abbrev pub BackupAnswers : Result Progress Fault → (old new : World) (before after : Held) (copier later : Backed) (t : Trail) (time : ℕ) (strokes : List Stroke) → Type 0
 BackupAnswers (Ok More) old new before after copier later t time strokes = CopiesOn old new before after copier later t
-BackupAnswers (Ok Finished) old new before after copier later t time strokes = CloseDone old new before after copier t time strokes
+BackupAnswers (Ok Finished) old new before after copier later t time strokes = CloseDone old new before after copier later t time strokes
 BackupAnswers (Err fault) old new before after copier later t time strokes = Unit {0}
 
 -- A turn of a backup: a page more, or the close with these strokes at that time.

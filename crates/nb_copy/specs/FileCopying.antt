@@ -1,11 +1,11 @@
 -- The file of a backup of any level, while it is made.
-use Rattle.std.specs.Prelude.{◌≡◌, ◌+◌, ◌<◌, ℕ, List, Result, Ok, Err}
+use Rattle.std.specs.Prelude.{◌≡◌, ◌+◌, ◌<◌, ℕ, List, length, Result, Ok, Err}
 use Rattle.nb_host.specs.World.{World}
 use Rattle.nb_host.specs.declared.faults.HostFault.{HostFault}
 use Rattle.nb_state.specs.declared.turns.Progress.{Progress}
 use Rattle.nb_state.specs.declared.turns.Progress.TheVariants.{More, Finished}
 use Rattle.nb_model.specs.Image.{Image}
-use Rattle.nb_model.specs.Levels.{joined}
+use Rattle.nb_model.specs.Levels.{joined, taken}
 use Rattle.nb_copy.specs.declared.file_copy.FileCopy.{FileCopy}
 use Rattle.nb_copy.specs.declared.file_copy.FileCopy.TheVariants.{Pages, Level}
 use Rattle.nb_copy.specs.Making.{IsKept}
@@ -42,6 +42,11 @@ abbrev pub whole_file : FileCopy → Image → List ℕ
 whole_file (Pages copy) frozen = joined frozen
 whole_file (Level copy) frozen = whole_level copy frozen
 
+-- how many pages it has then
+abbrev pub whole_count : FileCopy → Image → ℕ
+whole_count (Pages copy) frozen = length frozen
+whole_count (Level copy) frozen = length (taken copy.file.head.previous_scn frozen)
+
 -- a copy of this image goes on
 abbrev pub IsFileCopying : World → FileCopy → Image → Type 0
 IsFileCopying w (Pages copy) frozen = IsCopying w copy frozen
@@ -59,9 +64,10 @@ pub record IsSameFile (before after : FileCopy) (frozen : Image) : Type 0 where
   pub page_size : file_page_size after ≡ file_page_size before
   pub count : file_count after ≡ file_count before
   pub whole : whole_file after frozen ≡ whole_file before frozen
+  pub pages : whole_count after frozen ≡ whole_count before frozen
 
 -- whether a page was left, and that the next one follows
 abbrev pub FileCounts : Result Progress HostFault → (before after : FileCopy) → Type 0
 FileCounts (Ok More) before after = (file_next before < file_count before) × (file_next after ≡ file_next before + 1)
-FileCounts (Ok Finished) before after = (file_next before ≡ file_count before) × (file_next after ≡ file_next before)
+FileCounts (Ok Finished) before after = (file_next before ≡ file_count before) × (file_next after ≡ file_next before) × (file_written after ≡ file_written before)
 FileCounts (Err fault) before after = Unit {0}

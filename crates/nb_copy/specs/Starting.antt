@@ -10,7 +10,7 @@ use Rattle.nb_model.specs.Account.{Ask, Kept}
 use Rattle.nb_model.specs.Backups.{ask_of}
 use Rattle.nb_model.specs.Causes.{Cause, first_cause, when, read_only, not_state, not_free, broken_at}
 use Rattle.nb_model.specs.Chains.{History, Spot, pages_of, backup_spot, level_in}
-use Rattle.nb_model.specs.Levels.{file_of}
+use Rattle.nb_model.specs.Levels.{file_of, count_in}
 use Rattle.nb_model.specs.Strokes.{begin}
 use Rattle.nb_model.specs.Outcomes.{Backing, Copies, ClosesBackup, Seen, Outcome}
 use Rattle.nb_model.specs.Trail.{Trail}
@@ -19,7 +19,7 @@ use Rattle.nb_state.specs.Open.{Held, IsOpen, name_of}
 use Rattle.nb_state.specs.Does.{Tested, WhereEnded, WhereRefused, unless_by}
 use Rattle.nb_engine.specs.Turns.{SaysNone, starting_cause}
 use Rattle.nb_copy.specs.declared.file_copy.FileCopy.{FileCopy}
-use Rattle.nb_copy.specs.FileCopying.{file_name, file_count, file_next, whole_file, IsFileCopying}
+use Rattle.nb_copy.specs.FileCopying.{file_name, file_count, file_next, whole_file, whole_count, IsFileCopying}
 
 -- What a contract sees of a copier: what its close needs, the size of each page, and the file that it makes.
 pub record Backed : Type 0 where
@@ -35,10 +35,11 @@ kept_of b frozen = record { guid = b.guid; scn = b.scn; ask = Some b.ask; image 
 abbrev pub IsLater : Backing → Type 0
 IsLater b = 1 ≤ b.ask.level → b.ask.previous_scn < b.scn
 
--- A backup goes on: its file is a copy of this frozen image, and whole it is the file of what the begin has kept.
+-- A backup goes on: its file is a copy of this frozen image, and whole it is the file of what the begin has kept, with its pages.
 pub record IsBackingUp (w : World) (copier : Backed) (frozen : Image) : Type 0 where
   pub name : file_name copier.file ≡ copier.backing.name
   pub whole : whole_file copier.file frozen ≡ file_of 102 (kept_of copier.backing frozen)
+  pub count : whole_count copier.file frozen ≡ count_in (kept_of copier.backing frozen) copier.backing.ask
   pub goes : IsFileCopying w copier.file frozen
 
 -- A copier that was started: its session has one turn left for each frozen page, and one for the close.
@@ -83,8 +84,8 @@ file_cause s name = first_cause (read_only s.base.image ∷ not_state 0 s.base.i
 abbrev pub ask_by : LevelHead → Ask
 ask_by head = record { level = head.level; previous = head.previous; previous_scn = head.previous_scn }
 
--- A backup whose head has no GUID and SCN yet begins for the session, with this GUID and whatever is asked of its copy; or it is refused, and changes
--- nothing.
+-- A backup whose head has no GUID and SCN yet begins for the session, with this GUID and whatever is asked of its copy; or it is
+-- refused, and changes nothing.
 pub record BeginsFor (result : Result LevelHead Fault) (old new : World) (before after : Held) (t : Trail) (guid : List ℕ) (ask : Option Ask) (session : ℕ) (bare : LevelHead) : Type 0 where
   pub test : Tested result (starting_cause t.base.image)
   pub left : Strikes old new (name_of before) t (unless_by (starting_cause t.base.image) (begin guid ask ∷ []))

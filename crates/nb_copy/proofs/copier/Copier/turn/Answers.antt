@@ -1,4 +1,4 @@
-use Rattle.std.proofs.Common.{◌<◌, List, [], length, sym, ap, subst, ◌∙◌, arith}
+use Rattle.std.proofs.Common.{◌<◌, List, length, sym, ap, subst, ◌∙◌, arith}
 use Rattle.std.specs.Prelude.{Ok, Err, Result}
 use Rattle.nb_host.specs.declared.faults.Fault.{Fault}
 use Rattle.nb_host.specs.declared.faults.Fault.TheVariants.{Device}
@@ -9,10 +9,10 @@ use Rattle.nb_state.specs.Open.{Held}
 use Rattle.nb_state.specs.declared.turns.Progress.{Progress}
 use Rattle.nb_state.proofs.MakesLaws.{passed_on}
 use Rattle.nb_copy.specs.declared.file_copy.FileCopy.{FileCopy}
-use Rattle.nb_copy.specs.FileCopying.{IsFileCopying, FileTurn, file_page_size}
+use Rattle.nb_copy.specs.FileCopying.{IsFileCopying, FileTurn, FileCounts, whole_count}
 use Rattle.nb_copy.specs.Starting.{Backed, ask_by}
 use Rattle.nb_copy.specs.Closing.{BackupTurn, Closes}
-use Rattle.nb_copy.proofs.ClosingLaws.{file_named, kept_named, asked_behind, asked_before, goes_further, mid_open, turn_failed, turn_more, close_failed, close_finished}
+use Rattle.nb_copy.proofs.ClosingLaws.{file_named, kept_named, asked_behind, asked_before, goes_further, mid_open, turn_failed, turn_more, close_failed, close_finished, written_all}
 use Rattle.nb_copy.proofs.copier.Copier.turn.Goals as goal
 
 pub returns-in_err-turn-clause-turn : goal.returns-in_err-turn-clause-turn
@@ -49,7 +49,7 @@ returns-in-More-clause-turn g c s t tells same is stalled sound backing below ap
     let gave = c.turn.ensures.gave in
     let answer = subst (λ (p : Progress). FileTurn (Ok p) mid c.self.inside.file c.turn.new.self t.base.frozen) c.in-More.is (c.in_ok-turn.ensures.answer t tells is stalled goes) in
     turn_more old mid c.args.engine.now c.turn.new.engine copier t is stalled apart reads c.turn.ensures.engine file gave _ (next_time s.given) (close_backup s copier.backing).strokes
-    (goes_further mid copier _ t.base.frozen c.self.inside.file filed backed (c.in_ok-turn.ensures.same t.base.frozen) backing.name backing.whole answer)
+    (goes_further mid copier _ t.base.frozen c.self.inside.file filed backed (c.in_ok-turn.ensures.same t.base.frozen) backing.name backing.whole backing.count answer)
 
 pub turn-requires : goal.turn-requires
 turn-requires g c = record { size = c.self.invariant.2 ∙ ap (λ (v : Backed). v.page_size) c.self.view_is ∙ c.requires.size }
@@ -104,7 +104,9 @@ returns-in_ok-close-in-Finished-clause-turn g c s t tells same is stalled sound 
     let low : c.self.inside.room.page < length t.base.image = omega (arith, below, ap (λ (b : Backing). b.page) backed) in
     let closes = c.in_ok-close-in-Finished.ensures.closes s t tells same here sound low (asked_behind old mid new (next_time s.given) gave given) in
     let ours = subst (λ (b : Backing). Closes (Ok tt) mid new c.turn.new.engine c.close.new.engine t (next_time s.given) (close_backup s b).strokes) backed closes in
-    close_finished old mid c.args.engine.now c.turn.new.engine copier t is stalled apart reads c.turn.ensures.engine file gave new c.close.new.engine _ (next_time s.given) (close_backup s copier.backing).strokes kept ours
+    let counts = subst (λ (p : Progress). FileCounts (Ok p) c.self.inside.file c.turn.new.self) c.in-Finished.is c.in_ok-turn.ensures.counts in
+    let written = counts.2 ∙ written_all old c.self.inside.file t.base.frozen goes counts.0 ∙ ap (λ (f : FileCopy). whole_count f t.base.frozen) filed ∙ backing.count in
+    close_finished old mid c.args.engine.now c.turn.new.engine copier t is stalled apart reads c.turn.ensures.engine file gave new c.close.new.engine _ (next_time s.given) (close_backup s copier.backing).strokes kept ours written
 
 pub returns-in_err-close-in-Finished-clause-asks : goal.returns-in_err-close-in-Finished-clause-asks
 returns-in_err-close-in-Finished-clause-asks g c t tells is stalled backing below apart =
