@@ -18,6 +18,8 @@ pub mod Owner
 pub mod Main
 pub mod Run
 pub mod Output
+pub mod Making
+pub mod Going
 pub mod Follows
 pub mod Sound
 pub mod Restoring

@@ -16,6 +16,8 @@ pub fn is_built(statement: &Statement) -> bool
         | Statement::Free { .. }
         | Statement::BeginBackup
         | Statement::EndBackup
+        | Statement::Backup { .. }
+        | Statement::CopyTo { .. }
         | Statement::Forced { .. }
         | Statement::Access { .. }
         | Statement::Sync

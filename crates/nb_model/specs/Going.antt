@@ -1,0 +1,72 @@
+-- What holds between two turns: a copy or a merge of one session at most is under way, and then the database is in the state for it.
+use Rattle.std.specs.Prelude.{◌≡◌, ℕ, ◌+◌, ◌-◌, ◌*◌, ◌<◌, ◌≤◌, List, [], ◌∷◌, ◌++◌, length, replicate, Some, true, false}
+use Rattle.std.specs.List.{AllByRecursion, slice_index_or}
+use Rattle.nb_fields.specs.Places.{is_inventory_place, is_scn_place}
+use Rattle.nb_fields.specs.Header.{is_header}
+use Rattle.nb_model.specs.declared.reply.Reply.{Reply}
+use Rattle.nb_model.specs.Built.{is_built}
+use Rattle.nb_model.specs.Image.{Image, first_page, image_size, image_state}
+use Rattle.nb_model.specs.Causes.{is_free_entry}
+use Rattle.nb_model.specs.Outcomes.{Turn, Begins, Copies, ClosesBackup, ClosesCopy, Ends, Merges, Finishes, Backing}
+use Rattle.nb_model.specs.Run.{Now, base_now}
+use Rattle.nb_model.specs.Sound.{HasHeader, IsSoundImage}
+
+-- the turn begins a statement that can be asked today
+abbrev pub IsBeginning : Turn → Type 0
+IsBeginning (Begins statement) = is_built statement ≡ true
+IsBeginning Copies = ⊥
+IsBeginning (ClosesBackup backing) = ⊥
+IsBeginning (ClosesCopy name) = ⊥
+IsBeginning (Ends reply) = ⊥
+IsBeginning Merges = ⊥
+IsBeginning (Finishes reply) = ⊥
+
+abbrev pub AreBeginnings : List Turn → Type 0
+AreBeginnings ts = AllByRecursion IsBeginning ts
+
+-- the turns of a merge, and then such
+abbrev pub AreMerging : List Turn → Type 0
+AreMerging [] = ⊥
+AreMerging (Begins statement ∷ ts) = ⊥
+AreMerging (Copies ∷ ts) = ⊥
+AreMerging (ClosesBackup backing ∷ ts) = ⊥
+AreMerging (ClosesCopy name ∷ ts) = ⊥
+AreMerging (Ends reply ∷ ts) = ⊥
+AreMerging (Merges ∷ ts) = AreMerging ts
+AreMerging (Finishes reply ∷ ts) = AreBeginnings ts
+
+-- The page and the slot are a place for a row of the history: the page is no system page, and the slot is within it.
+pub record HasRoom (image : Image) (page slot : ℕ) : Type 0 where
+  pub behind : 1 ≤ page
+  pub below : page < length image
+  pub no_inventory : is_inventory_place (image_size image) page ≡ false
+  pub no_scn_page : is_scn_place (image_size image) page ≡ false
+  pub within : 256 * slot + 288 ≤ image_size image
+
+-- a copy or a merge of the session at that place runs, and the database is in that state
+pub record Runs (now : Now) (place state : ℕ) : Type 0 where
+  pub by : ℕ
+  pub running : now.running ≡ Some by
+  pub its : by - 1 ≡ place
+  pub state : image_state (base_now now).image ≡ state
+
+-- What the session at that place has still to do: to begin statements, or first the rest of one that is under way.
+pub data IsAt (now : Now) (place : ℕ) (todo : List Turn) : Type 0 where
+  waits : AreBeginnings todo → IsAt now place todo
+  -- so many pages are left to copy, and the row is written then
+  backs_up : (left : ℕ) (b : Backing) (rest : List Turn) → todo ≡ replicate left Copies ++ ClosesBackup b ∷ rest → AreBeginnings rest → Runs now place 1
+      → HasRoom (base_now now).image b.page b.slot → is_free_entry (now.account.entry b.name) ≡ true → IsAt now place todo
+  copies : (left : ℕ) (name : List ℕ) (rest : List Turn) → todo ≡ replicate left Copies ++ ClosesCopy name ∷ rest → AreBeginnings rest → Runs now place 1
+      → is_free_entry (now.account.entry name) ≡ true → IsAt now place todo
+  ends : (reply : Reply) (rest : List Turn) → todo ≡ Ends reply ∷ rest → AreBeginnings rest → Runs now place 1 → IsAt now place todo
+  merges : AreMerging todo → Runs now place 2 → IsAt now place todo
+
+-- What stands between two turns: the database is sound, in one of the three states, and each session waits or is under way. Of what may
+-- still be given each GUID has 16 bytes.
+pub record IsGoing (now : Now) : Type 0 where
+  pub header : HasHeader (base_now now).image
+  pub sound : IsSoundImage (base_now now).image
+  pub state : image_state (base_now now).image ≤ 2
+  pub frozen : image_state (base_now now).image ≡ 1 → is_header (first_page (base_now now).frozen) ≡ true
+  pub each : (place : ℕ) → IsAt now place (slice_index_or now.todo place [])
+  pub sixteen : AllByRecursion (λ (guid : List ℕ). length guid ≡ 16) now.given.guids
