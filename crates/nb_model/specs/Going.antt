@@ -44,11 +44,11 @@ pub record HasRoom (image : Image) (page slot : ℕ) : Type 0 where
   pub within : 256 * slot + 288 ≤ image_size image
 
 -- a copy or a merge of the session at that place runs, and the database is in that state
-pub record Runs (now : Now) (place state : ℕ) : Type 0 where
+pub record Runs (now : Now) (place number : ℕ) : Type 0 where
   pub by : ℕ
   pub running : now.running ≡ Some by
   pub its : by - 1 ≡ place
-  pub state : image_state (base_now now).image ≡ state
+  pub state : image_state (base_now now).image ≡ number
 
 -- What the session at that place has still to do: to begin statements, or first the rest of one that is under way.
 pub data IsAt (now : Now) (place : ℕ) (todo : List Turn) : Type 0 where
