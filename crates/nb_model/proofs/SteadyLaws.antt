@@ -1,9 +1,9 @@
 -- What was seen of a database in a run is well at each step, with the records of the backups that have begun.
 use Rattle.std.proofs.Common.{◌≡◌, ℕ, zero, suc, ◌+◌, ◌≤◌, List, [], ◌∷◌, ◌++◌, length, take, refl, sym, ap, subst, ◌∙◌, arith, append_assoc}
-use Rattle.std.specs.Prelude.{Bool, None, true, false}
+use Rattle.std.specs.Prelude.{Bool, Option, true, false}
 use Rattle.std.proofs.lemmas.List.{append-nil}
 use Rattle.nb_model.specs.declared.statement.Statement.{Statement}
-use Rattle.nb_model.specs.Account.{Kept, Base}
+use Rattle.nb_model.specs.Account.{Ask, Kept, Base}
 use Rattle.nb_model.specs.Image.{image_state, image_scn}
 use Rattle.nb_model.specs.Outcomes.{Seen}
 use Rattle.nb_model.specs.Sound.{HasHeader, IsSoundImage}
@@ -19,6 +19,7 @@ use Rattle.nb_model.proofs.ControlSound.{MayControl, new_state, new_scn, new_gui
 use Rattle.nb_model.proofs.ControlWell.{begin_well, ends_well, finish_well}
 use Rattle.nb_model.proofs.FitLaws.{AreFitting}
 use Rattle.nb_model.proofs.PagesFit.{HasNoRows, pages_fit}
+use Rattle.nb_model.proofs.RecordLaws.{HasParent}
 use Rattle.nb_model.proofs.TrailLaws.{trail_base}
 use Rattle.nb_model.proofs.WellTrailLaws.{fitting_well, settling_well}
 
@@ -31,15 +32,19 @@ abbrev pub kept_along : List Kept → Trail → List Step → List Kept
 kept_along kept t [] = kept
 kept_along kept t (s ∷ ss) = kept_along (kept_step kept t s) (after_step s t) ss
 
--- a begin keeps a record as a begin leaves it, for no level
-abbrev pub KeepsGood : Trail → Step → Type 0
-KeepsGood t (makes (begin guid ask)) = IsBegun (record { guid = guid; scn = image_scn t.base.image; ask = ask; image = (on_base (begin guid ask) t.base).image }) × (ask ≡ None)
-KeepsGood t other = Unit {0}
+-- the record that a begin keeps
+abbrev pub record_of : Trail → (guid : List ℕ) → Option Ask → Kept
+record_of t guid ask = record { guid = guid; scn = image_scn t.base.image; ask = ask; image = (on_base (begin guid ask) t.base).image }
+
+-- a begin keeps a record as a begin leaves it, which goes on from the one that it asks for
+abbrev pub KeepsGood : List Kept → Trail → Step → Type 0
+KeepsGood kept t (makes (begin guid ask)) = IsBegun (record_of t guid ask) × HasParent kept (record_of t guid ask)
+KeepsGood kept t other = Unit {0}
 
 -- What was seen is well before each step and behind all, with the records kept until then.
 abbrev pub WellAlong : List Kept → Trail → List Step → Type 0
 WellAlong kept t [] = IsWellTrail kept t
-WellAlong kept t (s ∷ ss) = IsWellTrail kept t × KeepsGood t s × WellAlong (kept_step kept t s) (after_step s t) ss
+WellAlong kept t (s ∷ ss) = IsWellTrail kept t × KeepsGood kept t s × WellAlong (kept_step kept t s) (after_step s t) ss
 
 pub along_first : (kept : List Kept) (t : Trail) (ss : List Step) → WellAlong kept t ss → IsWellTrail kept t
 along_first kept t [] w = w
@@ -105,10 +110,11 @@ pages_along kept statement on s session t is w =
     let sound : IsSoundImage s.base.image = subst (λ (b : Base). IsSoundImage b.image) (sym is) w.base.well.sound in
     made_along kept t (first_turn s session statement).strokes (subst (λ (b : Base). AreFitting HasNoRows b (first_turn s session statement).strokes) is (pages_fit statement on s session header sound)) w
 
--- a backup begins
-pub begin_along : (kept : List Kept) (t : Trail) (guid : List ℕ) → IsWellTrail kept t → image_state t.base.image ≡ 0 → length guid ≡ 16 → image_scn t.base.image ≤ 4294967293 → WellAlong kept t (made (begin guid None ∷ []))
+-- a backup begins, and goes on from the one that it asks for
+pub begin_along : (kept : List Kept) (t : Trail) (guid : List ℕ) (ask : Option Ask) → IsWellTrail kept t → image_state t.base.image ≡ 0 → length guid ≡ 16 → image_scn t.base.image ≤ 4294967293 → HasParent kept (record_of t guid ask)
+    → WellAlong kept t (made (begin guid ask ∷ []))
 unfolding made after_step after_stroke settles_at on_base
-begin_along kept t guid w normal sixteen room = (w, (good, refl), begin_well kept t.base w.base guid None normal sixteen room)
+begin_along kept t guid ask w normal sixteen room parent = (w, (good, parent), begin_well kept t.base w.base guid ask normal sixteen room)
   where
     header : HasHeader t.base.image
     header = record { header = w.base.well.header; scn = w.base.well.scn }
@@ -116,7 +122,7 @@ begin_along kept t guid w normal sixteen room = (w, (good, refl), begin_well kep
     may : MayControl 1 (image_scn t.base.image + 1) guid t.base.image
     may = may_begin t.base.image header guid sixteen room
 
-    good : IsBegun (record { guid = guid; scn = image_scn t.base.image; ask = None; image = (on_base (begin guid None) t.base).image })
+    good : IsBegun (record_of t guid ask)
     good = record {
       header = new_header 1 (image_scn t.base.image + 1) guid t.base.image header w.base.well.sound may;
       state = new_state 1 (image_scn t.base.image + 1) guid t.base.image header w.base.well.sound may;
