@@ -66,3 +66,4 @@ pub mod SoundTurns
 pub mod AccountLaws
 pub mod GuidLaws
 pub mod UnseenLaws
+pub mod RoomLaws
