@@ -32,7 +32,7 @@ control_rest state scn guid [] q some = refl
 control_rest state scn guid (p ∷ ps) zero some = absurd (omega arith)
 control_rest state scn guid (p ∷ ps) (suc q) some = refl
 
-control_long : (state scn : ℕ) (guid : List ℕ) (image : Image) → length (with_control state scn guid image) ≡ length image
+pub control_long : (state scn : ℕ) (guid : List ℕ) (image : Image) → length (with_control state scn guid image) ≡ length image
 unfolding with_control
 control_long state scn guid [] = refl
 control_long state scn guid (p ∷ ps) = refl
