@@ -68,3 +68,4 @@ pub mod GuidLaws
 pub mod UnseenLaws
 pub mod MadeLaws
 pub mod RoomLaws
+pub mod SlotLaws
