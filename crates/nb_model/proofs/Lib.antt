@@ -67,3 +67,4 @@ pub mod AccountLaws
 pub mod GuidLaws
 pub mod UnseenLaws
 pub mod RoomLaws
+pub mod TurnCases
