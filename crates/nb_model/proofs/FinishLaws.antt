@@ -1,116 +1,123 @@
--- The turns of statements that can be asked today come to an end: each is the last of its statement, or one of a merge, which has only so many.
+-- The turns of statements that can be asked today come to an end: what a turn leaves to do weighs less than it, or there are fewer turns.
 use Rattle.std.proofs.Common.{◌≡◌, inl, inr, ⊎_elim, ◌⊎◌, ℕ, zero, suc, ◌+◌, ◌-◌, ◌<◌, ◌≤◌, List, [], ◌∷◌, ◌++◌, length, replicate, get_or, set, refl, sym, ap, subst, ◌∙◌, arith, length-append}
 use Rattle.std.specs.Prelude.{Some, None, true, false, ◌==◌}
 use Rattle.std.specs.List.{AllByRecursion, sum_by}
 use Rattle.std.proofs.lemmas.List.{get_or_past, length-set, get_or-set_same, get_or-set_other}
 use Rattle.std.proofs.lemmas.List.Sums.{sum_by-set}
 use Rattle.std.proofs.lemmas.Bool.Decides.{leb_tells, eqb_tells}
-use Rattle.nb_host.specs.declared.refusals.Refusal.TheVariants.{WrongState}
 use Rattle.nb_model.specs.declared.reply.Reply.{Reply}
-use Rattle.nb_model.specs.declared.reply.Reply.TheVariants.{Scn, Refused}
 use Rattle.nb_model.specs.declared.statement.Statement.{Statement}
-use Rattle.nb_model.specs.declared.statement.Statement.TheVariants.{CreateDb, OpenDb, PageNew, Write, Read, Free, BeginBackup, EndBackup, Forced, Access, Sync, ShowHeader}
+use Rattle.nb_model.specs.declared.statement.Statement.TheVariants.{BeginBackup, EndBackup, Backup, CopyTo}
+use Rattle.nb_model.specs.Backups.{room_in, backup_turn, copy_turn, close_backup, close_copy}
 use Rattle.nb_model.specs.Built.{is_built}
-use Rattle.nb_model.specs.Causes.{Cause, first_cause, when, runs_other}
-use Rattle.nb_model.specs.Image.{image_state}
-use Rattle.nb_model.specs.Outcomes.{Turn, Begins, Copies, ClosesBackup, ClosesCopy, Ends, Merges, Finishes, Seen, Outcome, says, unless}
-use Rattle.nb_model.specs.Pages.{end_turn, ends_by, end_scn}
+use Rattle.nb_model.specs.Outcomes.{Turn, Begins, Copies, ClosesBackup, ClosesCopy, Ends, Merges, Finishes, Seen, Outcome}
+use Rattle.nb_model.specs.Pages.{begin_turn, end_turn, ends_by}
 use Rattle.nb_model.specs.Turns.{first_turn, turn}
 use Rattle.nb_model.specs.Run.{Now, Played, outcome, stands_then, take_turn, one_turn, play, rounds, all_sessions, AreFinished}
+use Rattle.nb_model.specs.Well.{is_on_pages}
 use Rattle.nb_model.proofs.RunLaws.{play-append, nothing_taken}
-use Rattle.nb_model.proofs.TodoLaws.{new_single, write_single, read_single, free_single, begin_single, forced_single, access_single, sync_single, header_single}
+use Rattle.nb_model.proofs.TurnCases.{built_cases, begin_either, end_either, backup_either, copy_either, pages_once}
 
 -- a turn of a statement that can be asked today
 abbrev pub IsPlainTurn : Turn → Type 0
 IsPlainTurn (Begins statement) = is_built statement ≡ true
-IsPlainTurn Copies = ⊥
-IsPlainTurn (ClosesBackup backing) = ⊥
-IsPlainTurn (ClosesCopy name) = ⊥
-IsPlainTurn (Ends reply) = ⊥
+IsPlainTurn Copies = Unit {0}
+IsPlainTurn (ClosesBackup backing) = Unit {0}
+IsPlainTurn (ClosesCopy name) = Unit {0}
+IsPlainTurn (Ends reply) = Unit {0}
 IsPlainTurn Merges = Unit {0}
 IsPlainTurn (Finishes reply) = Unit {0}
 
--- how many statements are still to begin
-abbrev pub begins_in : List Turn → ℕ
-begins_in [] = 0
-begins_in (Begins statement ∷ ts) = suc (begins_in ts)
-begins_in (Copies ∷ ts) = begins_in ts
-begins_in (ClosesBackup backing ∷ ts) = begins_in ts
-begins_in (ClosesCopy name ∷ ts) = begins_in ts
-begins_in (Ends reply ∷ ts) = begins_in ts
-begins_in (Merges ∷ ts) = begins_in ts
-begins_in (Finishes reply ∷ ts) = begins_in ts
+-- A turn weighs more than all that it leaves to do in its place, or leaves nothing.
+abbrev pub weight_of : Turn → ℕ
+weight_of (Begins statement) = 3
+weight_of Copies = 0
+weight_of (ClosesBackup backing) = 2
+weight_of (ClosesCopy name) = 0
+weight_of (Ends reply) = 1
+weight_of Merges = 0
+weight_of (Finishes reply) = 0
 
-begins_append : (xs ys : List Turn) → begins_in (xs ++ ys) ≡ begins_in xs + begins_in ys
-begins_append [] ys = omega arith
-begins_append (Begins statement ∷ xs) ys = omega (arith, begins_append xs ys)
-begins_append (Copies ∷ xs) ys = begins_append xs ys
-begins_append (ClosesBackup backing ∷ xs) ys = begins_append xs ys
-begins_append (ClosesCopy name ∷ xs) ys = begins_append xs ys
-begins_append (Ends reply ∷ xs) ys = begins_append xs ys
-begins_append (Merges ∷ xs) ys = begins_append xs ys
-begins_append (Finishes reply ∷ xs) ys = begins_append xs ys
+abbrev pub weight_in : List Turn → ℕ
+weight_in [] = 0
+weight_in (t ∷ ts) = weight_of t + weight_in ts
 
--- turns that begin no statement
-record IsTail (ts : List Turn) : Type 0 where
-  plain : AllByRecursion IsPlainTurn ts
-  none : begins_in ts ≡ 0
+weight_append : (xs ys : List Turn) → weight_in (xs ++ ys) ≡ weight_in xs + weight_in ys
+weight_append [] ys = omega arith
+weight_append (x ∷ xs) ys = omega (arith, weight_append xs ys)
 
-no_tail : IsTail []
-no_tail = record { plain = tt; none = refl }
+pub record Leaves (t : Turn) (ts : List Turn) : Type 0 where
+  pub plain : AllByRecursion IsPlainTurn ts
+  pub less : (weight_in ts < weight_of t) ⊎ ((weight_of t ≡ 0) × (ts ≡ []))
 
-tail_is : (ts : List Turn) → ts ≡ [] → IsTail ts
-tail_is ts e = subst IsTail (sym e) no_tail
+-- nothing is left behind a statement
+none_left : (statement : Statement) → Leaves (Begins statement) []
+none_left statement = record { plain = tt; less = inl (omega arith) }
 
-merge_tail : (n : ℕ) (reply : Reply) → IsTail (replicate n Merges ++ Finishes reply ∷ [])
-merge_tail zero reply = record { plain = (tt, tt); none = refl }
-merge_tail (suc n) reply = let rest = merge_tail n reply in record { plain = (tt, rest.plain); none = rest.none }
-
-ended_tail : (s : Seen) (session : ℕ) → IsTail (end_turn s session).next
-unfolding end_turn ends_by unless
-ended_tail s session = by (first_cause (when (image_state s.base.image == 0) (WrongState 0) ∷ runs_other s.running session ∷ []))
+-- so many turns that weigh nothing, and then one more
+leaves_many : (t each last : Turn) (n : ℕ) → IsPlainTurn each → weight_of each ≡ 0 → IsPlainTurn last → weight_of last < weight_of t → Leaves t (replicate n each ++ last ∷ [])
+leaves_many t each last n plain none ends low = record { plain = all n; less = inl (omega (arith, low, weight n)) }
   where
-    by : (c : Cause) → IsTail (elim c as (λ z. Outcome) [ Some refusal ↦ says s (Refused refusal) [] | None ↦ ends_by s session (Scn (end_scn s.base.image)) ]).next
-    by (Some refusal) = no_tail
-    by None = merge_tail (length s.base.diverted) (Scn (end_scn s.base.image))
+    all : (n : ℕ) → AllByRecursion IsPlainTurn (replicate n each ++ last ∷ [])
+    all zero = (ends, tt)
+    all (suc n) = (plain, all n)
 
-false_true : false ≡ true → ⊥
-false_true h = cc
+    weight : (n : ℕ) → weight_in (replicate n each ++ last ∷ []) ≡ weight_of last
+    weight zero = omega arith
+    weight (suc n) = omega (arith, none, weight n)
 
--- what a statement leaves to do begins no other
-begun_tail : (statement : Statement) → is_built statement ≡ true → (s : Seen) (session : ℕ) → IsTail (first_turn s session statement).next
+merging_left : (t : Turn) (s : Seen) (session : ℕ) (reply : Reply) → 1 ≤ weight_of t → Leaves t (ends_by s session reply).next
+unfolding ends_by
+merging_left t s session reply some = leaves_many t Merges (Finishes reply) (length s.base.diverted) tt refl tt some
+
+first_leaves : (statement : Statement) → is_built statement ≡ true → (s : Seen) (session : ℕ) → Leaves (Begins statement) (first_turn s session statement).next
 unfolding first_turn
-begun_tail (CreateDb name page_size raw cache) is s session = no_tail
-begun_tail (OpenDb name cache) is s session = no_tail
-begun_tail PageNew is s session = tail_is _ (new_single s session)
-begun_tail (Write page text) is s session = tail_is _ (write_single page text s session)
-begun_tail (Read page) is s session = tail_is _ (read_single page s session)
-begun_tail (Free page) is s session = tail_is _ (free_single page s session)
-begun_tail BeginBackup is s session = tail_is _ (begin_single s session)
-begun_tail EndBackup is s session = ended_tail s session
-begun_tail (Forced on) is s session = tail_is _ (forced_single on s session)
-begun_tail (Access read_only) is s session = tail_is _ (access_single read_only s session)
-begun_tail Sync is s session = tail_is _ (sync_single s session)
-begun_tail ShowHeader is s session = tail_is _ (header_single s session)
-begun_tail other is s session = absurd (false_true is)
+first_leaves statement built s session = built_cases (λ x. Leaves (Begins x) (first_turn s session x).next) pages begins ends backs copies statement built
+  where
+    pages : (x : Statement) → is_built x ≡ true → is_on_pages x ≡ true → Leaves (Begins x) (first_turn s session x).next
+    pages x is on = subst (Leaves (Begins x)) (sym (pages_once x is on s session).next) (none_left x)
+
+    begins : Leaves (Begins BeginBackup) (begin_turn s).next
+    begins = begin_either (λ o. Leaves (Begins BeginBackup) o.next) s (λ r. none_left BeginBackup) (λ may. none_left BeginBackup)
+
+    ends : Leaves (Begins EndBackup) (end_turn s session).next
+    ends = end_either (λ o. Leaves (Begins EndBackup) o.next) s session (λ r. none_left EndBackup) (λ may. merging_left (Begins EndBackup) s session _ (omega arith))
+
+    backs : (level : ℕ) (name : List ℕ) → Leaves (Begins (Backup level name)) (backup_turn s session level name).next
+    backs level name = backup_either (λ o. Leaves (Begins (Backup level name)) o.next) s session level name (λ r. none_left (Backup level name))
+        (λ from is may. leaves_many (Begins (Backup level name)) Copies _ (length (room_in s.base.image).draft.image) tt refl tt (omega arith))
+
+    copies : (name : List ℕ) → Leaves (Begins (CopyTo name)) (copy_turn s session name).next
+    copies name = copy_either (λ o. Leaves (Begins (CopyTo name)) o.next) s session name (λ r. none_left (CopyTo name))
+        (λ may. leaves_many (Begins (CopyTo name)) Copies (ClosesCopy name) (length s.base.frozen) tt refl tt (omega arith))
+
+pub turn_leaves : (t : Turn) → IsPlainTurn t → (session : ℕ) (now : Now) → Leaves t (outcome session t now).next
+unfolding outcome turn close_backup close_copy
+turn_leaves (Begins statement) plain session now = first_leaves statement plain _ session
+turn_leaves Copies plain session now = record { plain = tt; less = inr (refl, refl) }
+turn_leaves (ClosesBackup backing) plain session now = record { plain = (tt, tt); less = inl (omega arith) }
+turn_leaves (ClosesCopy name) plain session now = record { plain = tt; less = inr (refl, refl) }
+turn_leaves (Ends reply) plain session now = merging_left (Ends reply) _ session reply (omega arith)
+turn_leaves Merges plain session now = record { plain = tt; less = inr (refl, refl) }
+turn_leaves (Finishes reply) plain session now = record { plain = tt; less = inr (refl, refl) }
 
 -- all turns that are to come are such
 abbrev pub ArePlain : Now → Type 0
 ArePlain now = (i : ℕ) → AllByRecursion IsPlainTurn (get_or now.todo i [])
 
--- how many statements and how many turns are still to come
-abbrev pub statements_left : Now → ℕ
-statements_left now = sum_by begins_in now.todo
+-- what all turns that are still to come weigh, and how many they are
+abbrev pub weight_left : Now → ℕ
+weight_left now = sum_by weight_in now.todo
 
 abbrev pub turns_left : Now → ℕ
 turns_left now = sum_by length now.todo
 
--- fewer statements are to come, or as many and fewer turns
+-- they weigh less, or as much and are fewer
 abbrev IsLess : Now → Now → Type 0
-IsLess after before = (statements_left after < statements_left before) ⊎ ((statements_left after ≡ statements_left before) × (turns_left after < turns_left before))
+IsLess after before = (weight_left after < weight_left before) ⊎ ((weight_left after ≡ weight_left before) × (turns_left after < turns_left before))
 
 abbrev pub IsNoMore : Now → Now → Type 0
-IsNoMore after before = (statements_left after < statements_left before) ⊎ ((statements_left after ≡ statements_left before) × (turns_left after ≤ turns_left before))
+IsNoMore after before = (weight_left after < weight_left before) ⊎ ((weight_left after ≡ weight_left before) × (turns_left after ≤ turns_left before))
 
 less_more : (a b c : Now) → IsNoMore a b → IsLess b c → IsLess a c
 less_more a b c (inl x) (inl y) = inl (omega (arith, x, y))
@@ -166,49 +173,13 @@ module _ (session : ℕ) (t : Turn) (rest : List Turn) (now : Now) (is : get_or 
       none_some : [] ≡ t ∷ rest → ⊥
       none_some e = absurd (let long = ap length e in omega arith)
 
-  tail : IsTail o.next
-  unfolding outcome turn
-  tail = by t here.0
-    where
-      by : (u : Turn) → IsPlainTurn u → IsTail (outcome session u now).next
-      by (Begins statement) h = begun_tail statement h _ session
-      by Copies h = absurd h
-      by (ClosesBackup backing) h = absurd h
-      by (ClosesCopy name) h = absurd h
-      by (Ends reply) h = absurd h
-      by Merges h = no_tail
-      by (Finishes reply) h = no_tail
+  left : Leaves t o.next
+  left = turn_leaves t here.0 session now
 
-  -- a turn of a merge leaves nothing
-  last : begins_in (t ∷ rest) ≡ begins_in rest → o.next ≡ []
-  unfolding outcome turn
-  last = by t here.0
-    where
-      by : (u : Turn) → IsPlainTurn u → begins_in (u ∷ rest) ≡ begins_in rest → (outcome session u now).next ≡ []
-      by (Begins statement) h e = absurd (omega (arith, e))
-      by Copies h e = absurd h
-      by (ClosesBackup backing) h e = absurd h
-      by (ClosesCopy name) h e = absurd h
-      by (Ends reply) h e = absurd h
-      by Merges h e = refl
-      by (Finishes reply) h e = refl
-
-  begins_tell : (begins_in (t ∷ rest) ≡ suc (begins_in rest)) ⊎ (begins_in (t ∷ rest) ≡ begins_in rest)
-  begins_tell = by t
-    where
-      by : (u : Turn) → (begins_in (u ∷ rest) ≡ suc (begins_in rest)) ⊎ (begins_in (u ∷ rest) ≡ begins_in rest)
-      by (Begins statement) = inl refl
-      by Copies = inr refl
-      by (ClosesBackup backing) = inr refl
-      by (ClosesCopy name) = inr refl
-      by (Ends reply) = inr refl
-      by Merges = inr refl
-      by (Finishes reply) = inr refl
-
-  statements_then : statements_left then + begins_in (t ∷ rest) ≡ statements_left now + begins_in rest
-  statements_then =
-      let sum = sum_by-set begins_in now.todo (session - 1) (o.next ++ rest) [] inside in
-      omega (arith, sum, ap (sum_by begins_in) todo_is, ap begins_in is, begins_append o.next rest, tail.none)
+  weight_then : weight_left then + weight_in (t ∷ rest) ≡ weight_left now + (weight_in o.next + weight_in rest)
+  weight_then =
+      let sum = sum_by-set weight_in now.todo (session - 1) (o.next ++ rest) [] inside in
+      omega (arith, sum, ap (sum_by weight_in) todo_is, ap weight_in is, weight_append o.next rest)
 
   turns_then : o.next ≡ [] → turns_left then + suc (length rest) ≡ turns_left now + length rest
   turns_then none =
@@ -218,14 +189,14 @@ module _ (session : ℕ) (t : Turn) (rest : List Turn) (now : Now) (is : get_or 
   plain_then : ArePlain then
   plain_then i = subst (λ (todo : List (List Turn)). AllByRecursion IsPlainTurn (get_or todo i [])) (sym todo_is) (elim (eqb_tells i (session - 1)) [
     | inl w ↦ subst (λ (k : ℕ). AllByRecursion IsPlainTurn (get_or (set now.todo (session - 1) (o.next ++ rest)) k [])) (sym w.1)
-        (subst (AllByRecursion IsPlainTurn) (sym (get_or-set_same now.todo (session - 1) (o.next ++ rest) [] inside)) (plain_append o.next rest tail.plain here.1))
+        (subst (AllByRecursion IsPlainTurn) (sym (get_or-set_same now.todo (session - 1) (o.next ++ rest) [] inside)) (plain_append o.next rest left.plain here.1))
     | inr w ↦ subst (AllByRecursion IsPlainTurn) (sym (get_or-set_other now.todo (session - 1) i (o.next ++ rest) [] w.1)) (plain i)
   ])
 
   taken_steps : Steps (take_turn session (t ∷ rest) now).1 now
   unfolding take_turn
   taken_steps = record {
-    less = ⊎_elim (λ one. inl (omega (arith, one, statements_then))) (λ none. inr (omega (arith, none, statements_then), omega (arith, turns_then (last none)))) begins_tell;
+    less = ⊎_elim (λ lighter. inl (omega (arith, lighter, weight_then))) (λ last. inr (omega (arith, last.0, ap weight_in last.1, weight_then), omega (arith, turns_then last.1))) left.less;
     plain = plain_then;
     same = ap length todo_is ∙ length-set now.todo (session - 1) (o.next ++ rest);
   }
@@ -306,8 +277,8 @@ unfolding rounds play
 no_round now is = record { count = 0; finished = is }
 
 -- where few enough are to come, rounds end
-abbrev EndsWithin : (statements turns : ℕ) → Type 0
-EndsWithin statements turns = (now : Now) → ArePlain now → length now.todo ≤ 16 → statements_left now ≤ statements → turns_left now ≤ turns → HasRounds now
+abbrev EndsWithin : (weight turns : ℕ) → Type 0
+EndsWithin weight turns = (now : Now) → ArePlain now → length now.todo ≤ 16 → weight_left now ≤ weight → turns_left now ≤ turns → HasRounds now
 
 module _ (now : Now) (plain : ArePlain now) (few : length now.todo ≤ 16) where
   abbrev next : Now
@@ -322,30 +293,30 @@ module _ (now : Now) (plain : ArePlain now) (few : length now.todo ≤ 16) where
   fewer : length next.todo ≤ 16
   fewer = omega (arith, few, round_keeps.same)
 
--- fewer statements are to come behind each round in which one begins
-within : (statements : ℕ) → ((fewer : ℕ) → fewer < statements → (turns : ℕ) → EndsWithin fewer turns) → (turns : ℕ) → EndsWithin statements turns
-within statements before zero now plain few s l = elim (play_tells all_sessions now plain) [
+-- they weigh less behind each round in which a statement begins or goes on
+within : (weight : ℕ) → ((lighter : ℕ) → lighter < weight → (turns : ℕ) → EndsWithin lighter turns) → (turns : ℕ) → EndsWithin weight turns
+within weight before zero now plain few s l = elim (play_tells all_sessions now plain) [
   | inl all ↦ idle_ends now plain few all
   | inr less ↦ round_more now (elim less [
-    | inl a ↦ before (statements_left (next now plain few)) (omega (arith, a, s)) (turns_left (next now plain few)) (next now plain few) (round_keeps now plain few).plain (fewer now plain few) (omega arith) (omega arith)
+    | inl a ↦ before (weight_left (next now plain few)) (omega (arith, a, s)) (turns_left (next now plain few)) (next now plain few) (round_keeps now plain few).plain (fewer now plain few) (omega arith) (omega arith)
     | inr b ↦ absurd (omega (arith, b.1, l))
   ])
 ]
-within statements before (suc turns) now plain few s l = elim (play_tells all_sessions now plain) [
+within weight before (suc turns) now plain few s l = elim (play_tells all_sessions now plain) [
   | inl all ↦ idle_ends now plain few all
   | inr less ↦ round_more now (elim less [
-    | inl a ↦ before (statements_left (next now plain few)) (omega (arith, a, s)) (turns_left (next now plain few)) (next now plain few) (round_keeps now plain few).plain (fewer now plain few) (omega arith) (omega arith)
-    | inr b ↦ within statements before turns (next now plain few) (round_keeps now plain few).plain (fewer now plain few) (omega (arith, b.0, s)) (omega (arith, b.1, l))
+    | inl a ↦ before (weight_left (next now plain few)) (omega (arith, a, s)) (turns_left (next now plain few)) (next now plain few) (round_keeps now plain few).plain (fewer now plain few) (omega arith) (omega arith)
+    | inr b ↦ within weight before turns (next now plain few) (round_keeps now plain few).plain (fewer now plain few) (omega (arith, b.0, s)) (omega (arith, b.1, l))
   ])
 ]
 
-below : (bound statements : ℕ) → statements < bound → (turns : ℕ) → EndsWithin statements turns
-below zero statements low turns = absurd (omega arith)
-below (suc bound) statements low turns = within statements (λ fewer less. below bound fewer (omega (arith, less, low))) turns
+below : (bound weight : ℕ) → weight < bound → (turns : ℕ) → EndsWithin weight turns
+below zero weight low turns = absurd (omega arith)
+below (suc bound) weight low turns = within weight (λ lighter less. below bound lighter (omega (arith, less, low))) turns
 
 -- Behind any order of turns, rounds bring all that is to come to its end.
 pub rounds_end : (now : Now) → ArePlain now → length now.todo ≤ 16 → HasRounds now
-rounds_end now plain few = below (suc (statements_left now)) (statements_left now) (omega arith) (turns_left now) now plain few (omega arith) (omega arith)
+rounds_end now plain few = below (suc (weight_left now)) (weight_left now) (omega arith) (turns_left now) now plain few (omega arith) (omega arith)
 
 pub order_ends : (order : List ℕ) (now : Now) → ArePlain now → length now.todo ≤ 16 → (n : ℕ) × AreFinished (play (order ++ rounds n) now).1.todo
 order_ends order now plain few =

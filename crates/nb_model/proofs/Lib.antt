@@ -23,6 +23,7 @@ pub mod SoundLaws
 pub mod FreshSound
 pub mod PutSound
 pub mod PastLaws
+pub mod SlotLaws
 pub mod HeadSound
 pub mod BitLaws
 pub mod BitSound
@@ -59,6 +60,7 @@ pub mod ControlMay
 pub mod ControlWell
 pub mod FinishLaws
 pub mod RecordLaws
+pub mod MadeLaws
 pub mod SteadyLaws
 pub mod SteadyTurns
 pub mod GrownLaws
@@ -66,6 +68,6 @@ pub mod SoundTurns
 pub mod AccountLaws
 pub mod GuidLaws
 pub mod UnseenLaws
-pub mod MadeLaws
 pub mod RoomLaws
-pub mod SlotLaws
+pub mod HeldLaws
+pub mod TurnCases

@@ -168,7 +168,7 @@ put_full p kind payload d = put_keeps (λ x. x.full ≡ false → d.full ≡ fal
     kept = record { writes = λ q k xs x h. h; reads = λ broken x h. h; fills = λ x h e. absurd (true≢false e) }
 
 -- a page below the length is there before it is written
-old_there : (image : Image) (p : ℕ) → p < length image → old_page p image ≡ page_at image p
+pub old_there : (image : Image) (p : ℕ) → p < length image → old_page p image ≡ page_at image p
 unfolding old_page
 old_there image p low = rw (lt-ltb p (length image) low, old_page) refl
 
