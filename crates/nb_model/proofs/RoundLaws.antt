@@ -21,10 +21,10 @@ use Rattle.nb_model.proofs.NewSound.{HoldsOfKinds, IsThere, places_apart, invent
 use Rattle.nb_model.proofs.ReadLaws.{eq_no}
 use Rattle.nb_model.proofs.DraftJoin.{joined, joined_new, join_set_bit, join_new}
 
-abbrev AnyPage : Page → Type 0
+abbrev pub AnyPage : Page → Type 0
 AnyPage bytes = Unit {0}
 
-any_kinds : HoldsOfKinds AnyPage
+pub any_kinds : HoldsOfKinds AnyPage
 any_kinds = record { inventories = λ bytes e. tt; scn_pages = λ bytes e. tt }
 
 started : (image : Image) → IsWhole image → Fits AnyPage (base_of image) (drafted image)
