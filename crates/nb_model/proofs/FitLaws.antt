@@ -8,7 +8,7 @@ use Rattle.nb_model.specs.Strokes.{Stroke, page, on_base, base_after, merged_pag
 use Rattle.nb_model.specs.Forms.{Draft, drafted, old_page, wrote, written, needs, is_kind, no_page}
 use Rattle.nb_model.specs.Sound.{IsSoundImage}
 use Rattle.nb_model.proofs.DraftLaws.{either, IsOf, drafted_is, drafts_are}
-use Rattle.nb_model.proofs.SoundLaws.{HasFields, FitsAt, written_other, with_page_length, size_stays, state_stays, fields_stay, page_sound}
+use Rattle.nb_model.proofs.SoundLaws.{HasFields, FitsAt, written_other, with_page_length, size_stays, scn_stays, state_stays, fields_stay, page_sound}
 use Rattle.nb_model.proofs.StrokeLaws.{whole_page, with_page_same}
 
 -- a sound image with the fields of a header
@@ -124,13 +124,14 @@ pub record Stays (old new : Base) : Type 0 where
   pub size : image_size new.image ≡ image_size old.image
   pub longer : length old.image ≤ length new.image
   pub state : image_state new.image ≡ image_state old.image
+  pub scn : image_scn new.image ≡ image_scn old.image
   pub frozen : new.frozen ≡ old.frozen
 
 pub stays_still : (b : Base) → Stays b b
-stays_still b = record { size = refl; longer = omega arith; state = refl; frozen = refl }
+stays_still b = record { size = refl; longer = omega arith; state = refl; scn = refl; frozen = refl }
 
 stays_both : (a b c : Base) → Stays a b → Stays b c → Stays a c
-stays_both a b c x y = record { size = y.size ∙ x.size; longer = omega (arith, x.longer, y.longer); state = y.state ∙ x.state; frozen = y.frozen ∙ x.frozen }
+stays_both a b c x y = record { size = y.size ∙ x.size; longer = omega (arith, x.longer, y.longer); state = y.state ∙ x.state; scn = y.scn ∙ x.scn; frozen = y.frozen ∙ x.frozen }
 
 stays_one : (K : Page → Type 0) (s : Stroke) (b : Base) → IsFitting K b.image s → IsWhole b.image → Stays b (on_base s b)
 unfolding on_base
@@ -138,6 +139,7 @@ stays_one K (page p bytes) b fits h = record {
   size = size_stays b.image p (merged_page p bytes b.image) h.fields h.sound fits.0;
   longer = omega (arith, with_page_length p (merged_page p bytes b.image) b.image fits.0.there);
   state = state_stays b.image p (merged_page p bytes b.image) h.fields h.sound fits.0;
+  scn = scn_stays b.image p (merged_page p bytes b.image) h.fields h.sound fits.0;
   frozen = refl;
 }
 stays_one K other b fits h = absurd fits

@@ -39,6 +39,13 @@ pub record HoldsOfHistory (K : Page → Type 0) : Type 0 where
   pub added : (old : Page) (scn number : ℕ) → 1024 ≤ length old → K (stamped old 5 (data_payload 0 1 []) scn number)
   pub linked : (old : Page) (next scn number : ℕ) → 1024 ≤ length old → kind_of old ≡ 5 → K old → K (stamped old 5 (drop 16 (with_part 16 (bytes_of 4 next) old)) scn number)
 
+-- any page
+abbrev pub AnyPage : Page → Type 0
+AnyPage bytes = Unit {0}
+
+pub any_history : HoldsOfHistory AnyPage
+any_history = record { kinds = record { inventories = λ bytes e. tt; scn_pages = λ bytes e. tt }; added = λ old scn number long. tt; linked = λ old next scn number long kind holds. tt }
+
 -- K holds of the pages of the history
 abbrev pub HoldsOfChain : (K : Page → Type 0) → Image → Type 0
 HoldsOfChain K image = (p : ℕ) → is_in_chain History image p ≡ true → K (page_at image p)
@@ -344,10 +351,7 @@ module _ (b : Base) (h : HasHeader b.image) (is : IsSoundImage b.image) (unbroke
 
   -- and there is a place for the row then
   pub room_there : (room_in b.image).draft.full ≡ false → HasRoom (base_after b (room_in b.image).draft.strokes).image (room_in b.image).page (room_in b.image).slot
-  room_there left = (room_is (λ page. Unit {0}) any (λ p is. tt) left).there
-    where
-      any : HoldsOfHistory (λ page. Unit {0})
-      any = record { kinds = record { inventories = λ bytes e. tt; scn_pages = λ bytes e. tt }; added = λ old scn number long. tt; linked = λ old next scn number long kind holds. tt }
+  room_there left = (room_is AnyPage any_history (λ p is. tt) left).there
 
 -- The slot of a row has 256 bytes, where the name has 224 at most.
 pub backup_length : (level scn time : ℕ) (guid name : List ℕ) → length guid ≡ 16 → length name ≤ 224 → length (backup_slot level scn time guid name) ≡ 256
