@@ -70,4 +70,5 @@ pub mod GuidLaws
 pub mod UnseenLaws
 pub mod RoomLaws
 pub mod HeldLaws
+pub mod HeldRoom
 pub mod TurnCases
