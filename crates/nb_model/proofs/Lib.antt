@@ -68,3 +68,4 @@ pub mod GuidLaws
 pub mod UnseenLaws
 pub mod RoomLaws
 pub mod TurnCases
+pub mod GoingLaws

@@ -1,0 +1,293 @@
+-- What holds between two turns holds behind each turn.
+use Rattle.std.proofs.Common.{◌≡◌, ◌≢◌, inl, inr, ◌⊎◌, ℕ, zero, suc, ◌+◌, ◌-◌, ◌<◌, ◌≤◌, List, [], ◌∷◌, ◌++◌, length, map, drop, replicate, get_or, set, refl, sym, ap, subst, ◌∙◌, arith, append_assoc}
+use Rattle.std.specs.Prelude.{Bool, Option, Some, None, true, false, ◌==◌, ◌&&◌, nat_le, nat_lt}
+use Rattle.std.specs.List.{AllByRecursion, slice_index_or}
+use Rattle.std.proofs.Math.ListN.{get_or-map}
+use Rattle.std.proofs.lemmas.Bool.{eqb-true, eqb-false, and_parts, leb-true}
+use Rattle.std.proofs.lemmas.Bool.Decides.{eqb_tells, leb_tells}
+use Rattle.std.proofs.lemmas.List.{append-nil, get_or_past, get_or-set_same, get_or-set_other, length-replicate}
+use Rattle.nb_fields.specs.Header.{is_header}
+use Rattle.nb_host.specs.Names.{is_name}
+use Rattle.nb_host.specs.declared.refusals.Refusal.{Refusal}
+use Rattle.nb_model.specs.declared.reply.Reply.{Reply}
+use Rattle.nb_model.specs.declared.reply.Reply.TheVariants.{Scn}
+use Rattle.nb_model.specs.declared.statement.Statement.{Statement}
+use Rattle.nb_model.specs.declared.statement.Statement.TheVariants.{BeginBackup, EndBackup, Backup, CopyTo}
+use Rattle.nb_model.specs.Account.{Base, Account, Ask, IsBase}
+use Rattle.nb_model.specs.Backups.{room_in, ask_of, backup_turn, copy_turn, close_backup, close_copy}
+use Rattle.nb_model.specs.Built.{is_built}
+use Rattle.nb_model.specs.Causes.{is_free_entry, runs_other}
+use Rattle.nb_model.specs.Going.{IsBeginning, AreBeginnings, AreMerging, IsNamed, AreNamed, HasRoom, Runs, IsAt, waits, backs_up, copies, ends as ending, merges, IsGoing}
+use Rattle.nb_model.specs.Image.{Page, Image, first_page, image_state}
+use Rattle.nb_model.specs.Outcomes.{Turn, Begins, Copies, ClosesBackup, ClosesCopy, Ends, Merges, Finishes, Backing, Seen, Outcome, Given, next_guid, passes}
+use Rattle.nb_model.specs.Pages.{begin_turn, end_turn, ends_by, end_strokes, end_scn}
+use Rattle.nb_model.specs.Run.{Now, Event, Played, base_now, account_after, outcome, stands_then, take_turn, one_turn, play, event_of, begun, files_made}
+use Rattle.nb_model.specs.Sound.{HasHeader, IsSoundImage}
+use Rattle.nb_model.specs.Strokes.{Stroke, begin, ends, finish, on_base, base_after}
+use Rattle.nb_model.specs.Turns.{first_turn, turn}
+use Rattle.nb_model.specs.Well.{is_on_pages}
+use Rattle.nb_model.proofs.FitLaws.{AreFitting, Stays, fitting_stays}
+use Rattle.nb_model.proofs.OpeningLaws.{after_others}
+use Rattle.nb_model.proofs.PagesFit.{HasNoRows, pages_fit}
+use Rattle.nb_model.proofs.PutSound.{header_whole}
+use Rattle.nb_model.proofs.RoomLaws.{AnyPage, room_with}
+use Rattle.nb_model.proofs.RunLaws.{nothing_taken, turn_stands}
+use Rattle.nb_model.proofs.SoundTurns.{StaysSound, fitting_keeps, begin_keeps, ends_keep, finish_keeps, IsStarted, start_keeps, HasPlace, close_fits, seen_now}
+use Rattle.nb_model.proofs.TurnCases.{MayBegin, MayEnd, MayStart, MayCopy, refused, started, copied, IsOnce, refused_once, built_cases, begin_either, end_either, its_own, backup_either, copy_either, pages_once}
+use Rattle.nb_model.proofs.TurnCases as cases
+use Rattle.nb_model.proofs.UnseenLaws.{free_unseen}
+
+-- the GUIDs that may still be given have 16 bytes
+abbrev AreSixteen : List (List ℕ) → Type 0
+AreSixteen guids = AllByRecursion (λ (guid : List ℕ). length guid ≡ 16) guids
+
+pub next_sixteen : (given : Given) → AreSixteen given.guids → length (next_guid given) ≡ 16
+next_sixteen given all = by given.guids all
+  where
+    by : (guids : List (List ℕ)) → AreSixteen guids → length (slice_index_or guids 0 (replicate 16 0)) ≡ 16
+    by [] h = refl
+    by (g ∷ gs) h = h.0
+
+rest_sixteen : (guids : List (List ℕ)) → AreSixteen guids → AreSixteen (drop 1 guids)
+rest_sixteen [] h = h
+rest_sixteen (g ∷ gs) h = h.1
+
+some_same : (m n : ℕ) → Some m ≡ Some n → m ≡ n
+some_same m n e = cc
+
+-- one session at most runs
+pub one_runs : (now : Now) (place other m n : ℕ) → Runs now place m → Runs now other n → place ≡ other
+one_runs now place other m n a b = sym a.its ∙ ap (λ (x : ℕ). x - 1) (some_same a.by b.by (sym a.running ∙ b.running)) ∙ b.its
+
+-- the name of the database isn't free
+own_in_use : (now : Now) → IsGoing now → is_free_entry (now.account.entry now.name) ≡ true → ⊥
+own_in_use now going free = free_unseen (now.account.entry now.name) free going.header.header going.state
+
+-- What stands behind an outcome.
+module _ (session : ℕ) (rest : List Turn) (o : Outcome) (now : Now) where
+  abbrev pub then : Now
+  then = stands_then session rest o now
+
+  pub then_base : base_now then ≡ base_after (base_now now) o.strokes
+  then_base = turn_stands session rest o now
+
+  pub then_running : then.running ≡ o.running
+  unfolding stands_then
+  then_running = refl
+
+  then_given : then.given ≡ o.given
+  unfolding stands_then
+  then_given = refl
+
+  pub then_todo : then.todo ≡ set now.todo (session - 1) (o.next ++ rest)
+  unfolding stands_then
+  then_todo = refl
+
+  then_account : then.account ≡ account_after now.name o.strokes o.made now.account
+  unfolding stands_then
+  then_account = refl
+
+  -- a name that is free stays so, where no file is made
+  free_then : IsGoing now → o.made ≡ None → (name : List ℕ) → is_free_entry (now.account.entry name) ≡ true → is_free_entry (then.account.entry name) ≡ true
+  free_then going none name free =
+      ap (λ (a : Account). is_free_entry (a.entry name)) (then_account ∙ ap (λ (made : Option (List ℕ × List ℕ)). account_after now.name o.strokes made now.account) none)
+      ∙ ap is_free_entry (after_others now.name o.strokes now.account name (λ same. own_in_use now going (subst (λ (n : List ℕ). is_free_entry (now.account.entry n) ≡ true) same free))) ∙ free
+
+  runs_then : (place by number : ℕ) → o.running ≡ Some by → by - 1 ≡ place → image_state (base_after (base_now now) o.strokes).image ≡ number → Runs then place number
+  runs_then place by number running its state = record { by = by; running = then_running ∙ running; its = its; state = ap (λ (b : Base). image_state b.image) then_base ∙ state }
+
+  room_then : (p slot : ℕ) → HasRoom (base_after (base_now now) o.strokes).image p slot → HasRoom (base_now then).image p slot
+  room_then p slot room = subst (λ (b : Base). HasRoom b.image p slot) (sym then_base) room
+
+-- What a turn leaves of a copy or a merge of another session: all that it rests on.
+pub record OthersStay (now : Now) (o : Outcome) : Type 0 where
+  pub running : o.running ≡ now.running
+  pub state : image_state (base_after (base_now now) o.strokes).image ≡ image_state (base_now now).image
+  pub frozen : (base_after (base_now now) o.strokes).frozen ≡ (base_now now).frozen
+  pub made : o.made ≡ None
+
+-- What a turn does where it comes.
+pub record IsStep (now : Now) (session : ℕ) (o : Outcome) (rest : List Turn) : Type 0 where
+  pub keeps : StaysSound (base_now now) (base_after (base_now now) o.strokes)
+  pub state : image_state (base_after (base_now now) o.strokes).image ≤ 2
+  pub frozen : image_state (base_after (base_now now) o.strokes).image ≡ 1 → is_header (first_page (base_after (base_now now) o.strokes).frozen) ≡ true
+  pub sixteen : AreSixteen o.given.guids
+  pub own : IsAt (stands_then session rest o now) (session - 1) (o.next ++ rest)
+  pub others : (other number : ℕ) → other ≢ session - 1 → 1 ≤ number → Runs now other number → OthersStay now o
+
+merge_turns : (n : ℕ) (reply : Reply) (rest : List Turn) → AreBeginnings rest → AreMerging ((replicate n Merges ++ Finishes reply ∷ []) ++ rest)
+merge_turns zero reply rest all = all
+merge_turns (suc n) reply rest all = merge_turns n reply rest all
+
+begun_frozen : (b : Base) (guid : List ℕ) (ask : Option Ask) → (base_after b (begin guid ask ∷ [])).frozen ≡ (base_after b (begin guid ask ∷ [])).image
+unfolding base_after on_base
+begun_frozen b guid ask = refl
+
+no_more : (b : Base) → base_after b [] ≡ b
+unfolding base_after
+no_more b = refl
+
+module _ (session : ℕ) (now : Now) (going : IsGoing now) where
+  abbrev s : Seen
+  s = seen_now now
+
+  abbrev b : Base
+  b = base_now now
+
+  -- It writes pages that fit.
+  module _ (rest : List Turn) (o : Outcome) (K : Page → Type 0) (fits : AreFitting K b o.strokes) where
+    stays : Stays b (base_after b o.strokes)
+    stays = fitting_stays K o.strokes b fits (header_whole b.image going.header going.sound)
+
+    fitting_step : o.given.guids ≡ s.given.guids → IsAt (stands_then session rest o now) (session - 1) (o.next ++ rest)
+        → ((other number : ℕ) → other ≢ session - 1 → Runs now other number → (o.running ≡ s.running) × (o.made ≡ None)) → IsStep now session o rest
+    fitting_step given own others = record {
+      keeps = fitting_keeps K o.strokes b fits going.header going.sound;
+      state = omega (arith, stays.state, going.state);
+      frozen = λ stalled. ap (λ (image : Image). is_header (first_page image)) stays.frozen ∙ going.frozen (sym stays.state ∙ stalled);
+      sixteen = subst AreSixteen (sym given) going.sixteen;
+      own = own;
+      others = λ other number off some runs. let both = others other number off runs in record { running = both.0; state = stays.state; frozen = stays.frozen; made = both.1 };
+    }
+
+    once_step : IsOnce s o → AreBeginnings rest → IsStep now session o rest
+    once_step once all = fitting_step (ap (λ (g : Given). g.guids) once.given) (waits (subst (λ (ts : List Turn). AreBeginnings (ts ++ rest)) (sym once.next) all)) (λ other number off runs. (once.running, once.made))
+
+  -- It is refused.
+  refused_step : (rest : List Turn) → AreBeginnings rest → (r : Refusal) → IsStep now session (refused s r) rest
+  refused_step rest all r = once_step rest (refused s r) AnyPage tt (refused_once s r) all
+
+  pages_step : (rest : List Turn) (statement : Statement) → is_built statement ≡ true → is_on_pages statement ≡ true → AreBeginnings rest → IsStep now session (first_turn s session statement) rest
+  pages_step rest statement is on all =
+      once_step rest (first_turn s session statement) HasNoRows (pages_fit statement on s session going.header going.sound) (pages_once statement is on s session) all
+
+  -- no copy and no merge is under way in the normal state
+  none_runs : image_state b.image ≡ 0 → (other number : ℕ) → 1 ≤ number → Runs now other number → ⊥
+  none_runs normal other number some runs = omega (arith, normal, some, runs.state)
+
+  begun_step : (rest : List Turn) → AreBeginnings rest → MayBegin b.image → IsStep now session (cases.begun s) rest
+  begun_step rest all may =
+      let keeps = begin_keeps b (next_guid s.given) None going.header going.sound may.scn (next_sixteen s.given going.sixteen) in
+      record {
+        keeps = keeps.0;
+        state = omega (arith, keeps.1);
+        frozen = λ stalled. subst (λ (image : Image). is_header (first_page image) ≡ true) (sym (begun_frozen b (next_guid s.given) None)) keeps.0.header.header;
+        sixteen = rest_sixteen s.given.guids going.sixteen;
+        own = waits all;
+        others = λ other number off some runs. absurd (none_runs may.normal other number some runs);
+      }
+
+  -- the merge begins
+  ended_step : (rest : List Turn) → AreBeginnings rest → (reply : Reply) → image_state b.image ≢ 0 → ((other number : ℕ) → other ≢ session - 1 → Runs now other number → ⊥) → IsStep now session (ends_by s session reply) rest
+  unfolding ends_by end_strokes
+  ended_step rest all reply some alone = by (image_state b.image == 1) refl
+    where
+      ended : List Stroke → Outcome
+      ended ss = record { strokes = ss; reply = None; next = replicate (length b.diverted) Merges ++ Finishes reply ∷ []; running = Some session; made = None; given = s.given }
+
+      with_strokes : (ss : List Stroke) → StaysSound b (base_after b ss) → image_state (base_after b ss).image ≡ 2 → IsStep now session (ended ss) rest
+      with_strokes ss keeps state = record {
+        keeps = keeps;
+        state = omega (arith, state);
+        frozen = λ stalled. absurd (omega (arith, state, stalled));
+        sixteen = going.sixteen;
+        own = merges (merge_turns (length b.diverted) reply rest all) (runs_then session rest (ended ss) now (session - 1) session 2 refl refl state);
+        others = λ other number off some runs. absurd (alone other number off runs);
+      }
+
+      by : (test : Bool) → (image_state b.image == 1) ≡ test → IsStep now session (ended (elim test as (λ z. List Stroke) [ true ↦ ends ∷ [] | false ↦ [] ])) rest
+      by true is = let keeps = ends_keep b going.header going.sound (eqb-true (image_state b.image) 1 is) in with_strokes (ends ∷ []) keeps.0 keeps.1
+      by false is =
+          let two : image_state b.image ≡ 2 = omega (arith, some, going.state, eqb-false (image_state b.image) 1 is) in
+          with_strokes [] (fitting_keeps AnyPage [] b tt going.header going.sound) (ap (λ (x : Base). image_state x.image) (no_more b) ∙ two)
+
+  -- the backup begins
+  started_step : (rest : List Turn) → AreBeginnings rest → (name : List ℕ) (ask : Ask) → MayStart s name → IsStep now session (started s session name ask) rest
+  started_step rest all name ask may =
+      let o : Outcome = started s session name ask in
+      let is : IsStarted b (base_after b o.strokes) (room_in b.image).page (room_in b.image).slot = start_keeps s session name ask going.header going.sound may (next_sixteen s.given going.sixteen) in
+      record {
+        keeps = is.keeps;
+        state = omega (arith, is.state);
+        frozen = λ stalled. subst (λ (image : Image). is_header (first_page image) ≡ true) (sym is.frozen) is.keeps.header.header;
+        sixteen = rest_sixteen s.given.guids going.sixteen;
+        own = backs_up (length (room_in b.image).draft.image) _ rest (append_assoc (replicate (length (room_in b.image).draft.image) Copies) _ rest) all
+            (runs_then session rest o now (session - 1) session 1 refl refl is.state) (room_then session rest o now (room_in b.image).page (room_in b.image).slot is.room)
+            (free_then session rest o now going refl name may.free);
+        others = λ other number off some runs. absurd (none_runs may.may.normal other number some runs);
+      }
+
+  -- the copy begins
+  copied_step : (rest : List Turn) → AreBeginnings rest → (name : List ℕ) → MayCopy s name → IsStep now session (copied s session name) rest
+  copied_step rest all name may = fitting_step rest (copied s session name) AnyPage tt refl
+      (copies (length b.frozen) name rest (append_assoc (replicate (length b.frozen) Copies) (ClosesCopy name ∷ []) rest) all
+          (runs_then session rest (copied s session name) now (session - 1) session 1 refl refl (ap (λ (x : Base). image_state x.image) (no_more b) ∙ may.stalled))
+          (free_then session rest (copied s session name) now going refl name may.free))
+      (λ other number off runs. absurd (none_some runs.by (sym may.alone ∙ runs.running)))
+    where
+      none_some : (by : ℕ) → None ≡ Some by → ⊥
+      none_some by e = cc
+
+  pub first_step : (rest : List Turn) → AreBeginnings rest → (statement : Statement) → is_built statement ≡ true → IsStep now session (first_turn s session statement) rest
+  unfolding first_turn
+  first_step rest all = built_cases (λ x. IsStep now session (first_turn s session x) rest)
+      (λ x is on. pages_step rest x is on all)
+      (begin_either Step s (refused_step rest all) (begun_step rest all))
+      (end_either Step s session (refused_step rest all) (λ may. ended_step rest all _ may.other (alone may)))
+      (λ level name. backup_either Step s session level name (refused_step rest all) (λ from is may. started_step rest all name _ may))
+      (λ name. copy_either Step s session name (refused_step rest all) (copied_step rest all name))
+    where
+      Step : Outcome → Type 0
+      Step o = IsStep now session o rest
+
+      alone : MayEnd s session → (other number : ℕ) → other ≢ session - 1 → Runs now other number → ⊥
+      alone may other number off runs = off (sym runs.its ∙ ap (λ (x : ℕ). x - 1) (its_own runs.by session (sym (ap (λ (r : Option ℕ). runs_other r session) runs.running) ∙ may.alone)))
+
+  given_is : (backing : Backing) → (close_backup s backing).given.guids ≡ s.given.guids
+  unfolding close_backup
+  given_is backing = refl
+
+  running_is : (backing : Backing) → (close_backup s backing).running ≡ s.running
+  unfolding close_backup
+  running_is backing = refl
+
+  closing : (backing : Backing) (rest : List Turn) → AreBeginnings rest → Runs (stands_then session rest (close_backup s backing) now) (session - 1) 1
+      → IsAt (stands_then session rest (close_backup s backing) now) (session - 1) ((close_backup s backing).next ++ rest)
+  unfolding close_backup
+  closing backing rest all runs = ending _ rest refl all runs
+
+  -- The session itself runs.
+  module _ (number : ℕ) (runs : Runs now (session - 1) number) where
+    only_one : (other m : ℕ) → other ≢ session - 1 → Runs now other m → ⊥
+    only_one other m off its = off (one_runs now other (session - 1) m number its runs)
+
+    -- a page is copied, or an entry merged
+    still_runs : (rest : List Turn) → Runs (stands_then session rest (passes s) now) (session - 1) number
+    still_runs rest = runs_then session rest (passes s) now (session - 1) runs.by number runs.running runs.its (ap (λ (x : Base). image_state x.image) (no_more b) ∙ runs.state)
+
+    passed_step : (rest : List Turn) → IsAt (stands_then session rest (passes s) now) (session - 1) rest → IsStep now session (passes s) rest
+    passed_step rest own = fitting_step rest (passes s) AnyPage tt refl own (λ other m off its. (refl, refl))
+
+    -- the level file is whole, and its row is written
+    closed_step : (backing : Backing) (rest : List Turn) → number ≡ 1 → AreBeginnings rest → HasPlace b.image backing → IsStep now session (close_backup s backing) rest
+    closed_step backing rest one all place = fitting_step rest (close_backup s backing) AnyPage fits (given_is backing) own (λ other m off its. absurd (only_one other m off its))
+      where
+        fits : AreFitting AnyPage b (close_backup s backing).strokes
+        fits = close_fits s backing going.header going.sound place
+
+        own : IsAt (stands_then session rest (close_backup s backing) now) (session - 1) ((close_backup s backing).next ++ rest)
+        own = closing backing rest all (runs_then session rest (close_backup s backing) now (session - 1) runs.by 1 (running_is backing ∙ runs.running) runs.its
+            ((fitting_stays AnyPage (close_backup s backing).strokes b fits (header_whole b.image going.header going.sound)).state ∙ runs.state ∙ one))
+
+    finished_step : (reply : Reply) (rest : List Turn) → AreBeginnings rest → IsStep now session (outcome session (Finishes reply) now) rest
+    unfolding outcome turn
+    finished_step reply rest all =
+        let keeps = finish_keeps b going.header going.sound in
+        record {
+          keeps = keeps.0;
+          state = omega (arith, keeps.1);
+          frozen = λ stalled. absurd (omega (arith, keeps.1, stalled));
+          sixteen = going.sixteen;
+          own = waits all;
+          others = λ other m off some its. absurd (only_one other m off its);
+        }
