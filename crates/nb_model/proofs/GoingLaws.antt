@@ -3,7 +3,7 @@ use Rattle.std.proofs.Common.{◌≡◌, ◌≢◌, inl, inr, ◌⊎◌, ℕ, ze
 use Rattle.std.specs.Prelude.{Bool, Option, Some, None, true, false, ◌==◌, ◌&&◌, nat_le, nat_lt}
 use Rattle.std.specs.List.{AllByRecursion, slice_index_or}
 use Rattle.std.proofs.Math.ListN.{get_or-map}
-use Rattle.std.proofs.lemmas.Bool.{eqb-true, eqb-false, and_parts, leb-true}
+use Rattle.std.proofs.lemmas.Bool.{true≢false, eqb-true, eqb-false, leb-true}
 use Rattle.std.proofs.lemmas.Bool.Decides.{eqb_tells, leb_tells}
 use Rattle.std.proofs.lemmas.List.{append-nil, get_or_past, get_or-set_same, get_or-set_other, length-replicate}
 use Rattle.nb_fields.specs.Header.{is_header}
@@ -291,3 +291,143 @@ module _ (session : ℕ) (now : Now) (going : IsGoing now) where
           own = waits all;
           others = λ other m off some its. absurd (only_one other m off its);
         }
+
+-- a name has 100 bytes at most
+pub name_short : (name : List ℕ) → is_name name ≡ true → length name ≤ 100
+name_short name is = leb-true (length name) 100 (second _ _ _ is)
+  where
+    second : (a b c : Bool) → (a && b && c) ≡ true → b ≡ true
+    second true true c k = refl
+    second true false c k = absurd (true≢false (sym k))
+    second false b c k = absurd (true≢false (sym k))
+
+-- The turn that a session has next.
+module _ (session : ℕ) (now : Now) (going : IsGoing now) where
+  abbrev Steps : Turn → List Turn → Type 0
+  Steps u rest = IsStep now session (outcome session u now) rest
+
+  step_as : (u v : Turn) (rest tail : List Turn) → u ∷ rest ≡ v ∷ tail → Steps v tail → Steps u rest
+  step_as u v rest tail e step =
+      let head : v ≡ u = cc in
+      let behind : tail ≡ rest = cc in
+      subst (λ (x : Turn). Steps x rest) head (subst (Steps v) behind step)
+
+  beginning_step : (u : Turn) (rest : List Turn) → AreBeginnings (u ∷ rest) → Steps u rest
+  unfolding outcome turn
+  beginning_step (Begins statement) rest all = first_step session now going rest all.1 statement all.0
+  beginning_step other rest all = absurd all.0
+
+  copying_step : (rest : List Turn) → Runs now (session - 1) 1 → IsAt (stands_then session rest (passes (seen_now now)) now) (session - 1) rest → Steps Copies rest
+  unfolding outcome turn
+  copying_step rest runs own = passed_step session now going 1 runs rest own
+
+  backup_step : (left : ℕ) (backing : Backing) (u : Turn) (rest tail : List Turn) → u ∷ rest ≡ replicate left Copies ++ ClosesBackup backing ∷ tail → AllByRecursion IsNamed (u ∷ rest) → AreBeginnings tail
+      → Runs now (session - 1) 1 → HasRoom (base_now now).image backing.page backing.slot → is_free_entry (now.account.entry backing.name) ≡ true → Steps u rest
+  unfolding outcome turn
+  backup_step zero backing u rest tail e named all runs room free =
+      let is : IsNamed (ClosesBackup backing) = (subst (AllByRecursion IsNamed) e named).0 in
+      step_as u (ClosesBackup backing) rest tail e
+      (closed_step session now going 1 runs backing tail refl all (record { room = room; sixteen = is.1; short = let short = name_short backing.name is.0 in omega (arith, short) }))
+  backup_step (suc left) backing u rest tail e named all runs room free =
+      let behind : List Turn = replicate left Copies ++ ClosesBackup backing ∷ tail in
+      step_as u Copies rest behind e (copying_step behind runs
+      (backs_up left backing tail refl all (still_runs session now going 1 runs behind)
+          (room_then session behind (passes (seen_now now)) now backing.page backing.slot (subst (λ (x : Base). HasRoom x.image backing.page backing.slot) (sym (no_more (base_now now))) room))
+          (free_then session behind (passes (seen_now now)) now going refl backing.name free)))
+
+  copy_step : (left : ℕ) (name : List ℕ) (u : Turn) (rest tail : List Turn) → u ∷ rest ≡ replicate left Copies ++ ClosesCopy name ∷ tail → AreBeginnings tail
+      → Runs now (session - 1) 1 → is_free_entry (now.account.entry name) ≡ true → Steps u rest
+  unfolding outcome turn close_copy
+  copy_step zero name u rest tail e all runs free =
+      step_as u (ClosesCopy name) rest tail e
+      (fitting_step session now going tail (close_copy (seen_now now) name) AnyPage tt refl (waits all) (λ other m off its. absurd (only_one session now going 1 runs other m off its)))
+  copy_step (suc left) name u rest tail e all runs free =
+      let behind : List Turn = replicate left Copies ++ ClosesCopy name ∷ tail in
+      step_as u Copies rest behind e
+      (copying_step behind runs (copies left name tail refl all (still_runs session now going 1 runs behind) (free_then session behind (passes (seen_now now)) now going refl name free)))
+
+  merging_step : (u : Turn) (rest : List Turn) → AreMerging (u ∷ rest) → Runs now (session - 1) 2 → Steps u rest
+  unfolding outcome turn
+  merging_step Merges rest turns runs = passed_step session now going 2 runs rest (merges turns (still_runs session now going 2 runs rest))
+  merging_step (Finishes reply) rest turns runs = finished_step session now going 2 runs reply rest turns
+  merging_step other rest turns runs = absurd turns
+
+  pub turn_step : (u : Turn) (rest : List Turn) → IsAt now (session - 1) (u ∷ rest) → AllByRecursion IsNamed (u ∷ rest) → Steps u rest
+  unfolding outcome turn
+  turn_step u rest (waits all) named = beginning_step u rest all
+  turn_step u rest (backs_up left backing tail e all runs room free) named = backup_step left backing u rest tail e named all runs room free
+  turn_step u rest (copies left name tail e all runs free) named = copy_step left name u rest tail e all runs free
+  turn_step u rest (ending reply tail e all runs) named =
+      step_as u (Ends reply) rest tail e (ended_step session now going tail all reply (λ e. absurd (omega (arith, e, runs.state))) (only_one session now going 1 runs))
+  turn_step u rest (merges turns runs) named = merging_step u rest turns runs
+
+-- What stands behind it.
+module _ (session : ℕ) (now : Now) (going : IsGoing now) (u : Turn) (rest : List Turn) (is : get_or now.todo (session - 1) [] ≡ u ∷ rest) (o : Outcome) (step : IsStep now session o rest) where
+  abbrev last : Now
+  last = stands_then session rest o now
+
+  inside : session - 1 < length now.todo
+  inside = elim (leb_tells (length now.todo) (session - 1)) [
+    | inl low ↦ absurd (none_some (sym (get_or_past now.todo (session - 1) [] low.1) ∙ is))
+    | inr low ↦ omega (arith, low.1)
+  ]
+    where
+      none_some : [] ≡ u ∷ rest → ⊥
+      none_some e = absurd (let long = ap length e in omega arith)
+
+  pub own_todo : get_or last.todo (session - 1) [] ≡ o.next ++ rest
+  own_todo = ap (λ (todo : List (List Turn)). get_or todo (session - 1) []) (then_todo session rest o now) ∙ get_or-set_same now.todo (session - 1) (o.next ++ rest) [] inside
+
+  pub other_todo : (place : ℕ) → place ≢ session - 1 → get_or last.todo place [] ≡ get_or now.todo place []
+  other_todo place off = ap (λ (todo : List (List Turn)). get_or todo place []) (then_todo session rest o now) ∙ get_or-set_other now.todo (session - 1) place (o.next ++ rest) [] off
+
+  module _ (place : ℕ) (off : place ≢ session - 1) where
+    stays_running : (number : ℕ) → 1 ≤ number → Runs now place number → Runs last place number
+    stays_running number some runs =
+        let stay : OthersStay now o = step.others place number off some runs in
+        runs_then session rest o now place runs.by number (stay.running ∙ runs.running) runs.its (stay.state ∙ runs.state)
+
+    at_stays : (ts : List Turn) → IsAt now place ts → IsAt last place ts
+    at_stays ts (waits all) = waits all
+    at_stays ts (backs_up left backing tail e all runs room free) =
+        backs_up left backing tail e all (stays_running 1 (omega arith) runs)
+        (room_then session rest o now backing.page backing.slot (room_with (base_now now).image (base_after (base_now now) o.strokes).image backing.page backing.slot step.keeps.size step.keeps.longer room))
+        (free_then session rest o now going (step.others place 1 off (omega arith) runs).made backing.name free)
+    at_stays ts (copies left name tail e all runs free) =
+        copies left name tail e all (stays_running 1 (omega arith) runs) (free_then session rest o now going (step.others place 1 off (omega arith) runs).made name free)
+    at_stays ts (ending reply tail e all runs) = ending reply tail e all (stays_running 1 (omega arith) runs)
+    at_stays ts (merges turns runs) = merges turns (stays_running 2 (omega arith) runs)
+
+  pub going_then : IsGoing last
+  going_then = record {
+    header = subst (λ (x : Base). HasHeader x.image) (sym base) step.keeps.header;
+    sound = subst (λ (x : Base). IsSoundImage x.image) (sym base) step.keeps.sound;
+    state = subst (λ (x : Base). image_state x.image ≤ 2) (sym base) step.state;
+    frozen = subst (λ (x : Base). image_state x.image ≡ 1 → is_header (first_page x.frozen) ≡ true) (sym base) step.frozen;
+    each = λ place. elim (eqb_tells place (session - 1)) [
+      | inl w ↦ subst (λ (p : ℕ). IsAt last p (get_or last.todo p [])) (sym w.1) (subst (IsAt last (session - 1)) (sym own_todo) step.own)
+      | inr w ↦ subst (IsAt last place) (sym (other_todo place w.1)) (at_stays place w.1 (get_or now.todo place []) (going.each place))
+    ];
+    sixteen = subst (λ (g : Given). AreSixteen g.guids) (sym (then_given session rest o now)) step.sixteen;
+  }
+    where
+      base : base_now last ≡ base_after (base_now now) o.strokes
+      base = then_base session rest o now
+
+-- One number of an order: the session has finished, or takes its next turn.
+pub one_cases : (P : Played → Type 0) (session : ℕ) (now : Now) → P ([], now)
+    → ((u : Turn) (rest : List Turn) → get_or now.todo (session - 1) [] ≡ u ∷ rest → P (event_of session u (outcome session u now) ∷ [], stands_then session rest (outcome session u now) now)) → P (one_turn session now)
+unfolding one_turn take_turn
+one_cases P session now idle takes = by (get_or now.todo (session - 1) []) refl
+  where
+    by : (ts : List Turn) → get_or now.todo (session - 1) [] ≡ ts → P (take_turn session ts now)
+    by [] is = idle
+    by (u ∷ rest) is = takes u rest is
+
+module _ (session : ℕ) (now : Now) (named : AreNamed now) (going : IsGoing now) where
+  pub next_step : (u : Turn) (rest : List Turn) → get_or now.todo (session - 1) [] ≡ u ∷ rest → IsStep now session (outcome session u now) rest
+  next_step u rest is = turn_step session now going u rest (subst (IsAt now (session - 1)) is (going.each (session - 1))) (subst (AllByRecursion IsNamed) is (named (session - 1)))
+
+  -- So it goes on.
+  pub going_turn : IsGoing (one_turn session now).1
+  going_turn = one_cases (λ p. IsGoing p.1) session now going (λ u rest is. going_then session now going u rest is (outcome session u now) (next_step u rest is))
