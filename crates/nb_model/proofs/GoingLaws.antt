@@ -26,6 +26,7 @@ use Rattle.nb_model.specs.Sound.{HasHeader, IsSoundImage}
 use Rattle.nb_model.specs.Strokes.{Stroke, begin, ends, finish, on_base, base_after}
 use Rattle.nb_model.specs.Turns.{first_turn, turn}
 use Rattle.nb_model.specs.Well.{is_on_pages}
+use Rattle.nb_model.proofs.FinishLaws.{IsPlainTurn, ArePlain}
 use Rattle.nb_model.proofs.FitLaws.{AreFitting, Stays, fitting_stays}
 use Rattle.nb_model.proofs.OpeningLaws.{after_others}
 use Rattle.nb_model.proofs.PagesFit.{HasNoRows, pages_fit}
@@ -431,3 +432,154 @@ module _ (session : ℕ) (now : Now) (named : AreNamed now) (going : IsGoing now
   -- So it goes on.
   pub going_turn : IsGoing (one_turn session now).1
   going_turn = one_cases (λ p. IsGoing p.1) session now going (λ u rest is. going_then session now going u rest is (outcome session u now) (next_step u rest is))
+
+-- What is to come are turns of statements that can be asked.
+all_plain : (ts : List Turn) → AreBeginnings ts → AllByRecursion IsPlainTurn ts
+all_plain [] all = tt
+all_plain (t ∷ ts) all = (one t all.0, all_plain ts all.1)
+  where
+    one : (t : Turn) → IsBeginning t → IsPlainTurn t
+    one (Begins statement) h = h
+    one other h = absurd h
+
+many : (P : Turn → Type 0) (n : ℕ) (t : Turn) (ts : List Turn) → P t → AllByRecursion P ts → AllByRecursion P (replicate n t ++ ts)
+many P zero t ts h all = all
+many P (suc n) t ts h all = (h, many P n t ts h all)
+
+merging_plain : (ts : List Turn) → AreMerging ts → AllByRecursion IsPlainTurn ts
+merging_plain (Merges ∷ ts) turns = (tt, merging_plain ts turns)
+merging_plain (Finishes reply ∷ ts) turns = (tt, all_plain ts turns)
+merging_plain other turns = absurd turns
+
+at_plain : (now : Now) (place : ℕ) (ts : List Turn) → IsAt now place ts → AllByRecursion IsPlainTurn ts
+at_plain now place ts (waits all) = all_plain ts all
+at_plain now place ts (backs_up left backing tail e all runs room free) = subst (AllByRecursion IsPlainTurn) (sym e) (many IsPlainTurn left Copies (ClosesBackup backing ∷ tail) tt (tt, all_plain tail all))
+at_plain now place ts (copies left name tail e all runs free) = subst (AllByRecursion IsPlainTurn) (sym e) (many IsPlainTurn left Copies (ClosesCopy name ∷ tail) tt (tt, all_plain tail all))
+at_plain now place ts (ending reply tail e all runs) = subst (AllByRecursion IsPlainTurn) (sym e) (tt, all_plain tail all)
+at_plain now place ts (merges turns runs) = merging_plain ts turns
+
+pub going_plain : (now : Now) → IsGoing now → ArePlain now
+going_plain now going place = at_plain now place (get_or now.todo place []) (going.each place)
+
+-- The files that are still to be made have names.
+module _ (session : ℕ) (s : Seen) (sixteen : length (next_guid s.given) ≡ 16) where
+  abbrev Names : Outcome → Type 0
+  Names o = AllByRecursion IsNamed o.next
+
+  merging_named : (reply : Reply) → Names (ends_by s session reply)
+  unfolding ends_by
+  merging_named reply = many IsNamed (length s.base.diverted) Merges (Finishes reply ∷ []) tt (tt, tt)
+
+  first_named : (statement : Statement) → is_built statement ≡ true → IsNamed (Begins statement) → Names (first_turn s session statement)
+  unfolding first_turn
+  first_named = built_cases (λ x. IsNamed (Begins x) → Names (first_turn s session x))
+      (λ x is on named. subst (AllByRecursion IsNamed) (sym (pages_once x is on s session).next) tt)
+      (λ named. begin_either Names s (λ r. tt) (λ may. tt))
+      (λ named. end_either Names s session (λ r. tt) (λ may. merging_named _))
+      (λ level name named. backup_either Names s session level name (λ r. tt) (λ from is may. many IsNamed (length (room_in s.base.image).draft.image) Copies _ tt ((named, sixteen), tt)))
+      (λ name named. copy_either Names s session name (λ r. tt) (λ may. many IsNamed (length s.base.frozen) Copies (ClosesCopy name ∷ []) tt (named, tt)))
+
+  next_named : (u : Turn) → IsPlainTurn u → IsNamed u → Names (turn s session u)
+  unfolding turn close_backup close_copy
+  next_named (Begins statement) plain named = first_named statement plain named
+  next_named (Ends reply) plain named = merging_named reply
+  next_named Copies plain named = tt
+  next_named (ClosesBackup backing) plain named = (tt, tt)
+  next_named (ClosesCopy name) plain named = tt
+  next_named Merges plain named = tt
+  next_named (Finishes reply) plain named = tt
+
+named_append : (xs ys : List Turn) → AllByRecursion IsNamed xs → AllByRecursion IsNamed ys → AllByRecursion IsNamed (xs ++ ys)
+named_append [] ys a b = b
+named_append (x ∷ xs) ys a b = (a.0, named_append xs ys a.1 b)
+
+pub named_turn : (session : ℕ) (now : Now) → AreNamed now → IsGoing now → AreNamed (one_turn session now).1
+unfolding outcome
+named_turn session now named going = one_cases (λ p. AreNamed p.1) session now named (λ u rest is place.
+    let step : IsStep now session (outcome session u now) rest = next_step session now named going u rest is in
+    let o : Outcome = outcome session u now in
+    let here : AllByRecursion IsNamed (u ∷ rest) = subst (AllByRecursion IsNamed) is (named (session - 1)) in
+    let plain : AllByRecursion IsPlainTurn (u ∷ rest) = subst (AllByRecursion IsPlainTurn) is (going_plain now going (session - 1)) in
+    let after : Now = stands_then session rest o now in
+    elim (eqb_tells place (session - 1)) [
+      | inl w ↦ subst (λ (p : ℕ). AllByRecursion IsNamed (get_or after.todo p [])) (sym w.1)
+          (subst (AllByRecursion IsNamed) (sym (own_todo session now going u rest is o step))
+          (named_append o.next rest (next_named session (seen_now now) (next_sixteen now.given going.sixteen) u plain.0 here.0) here.1))
+      | inr w ↦ subst (AllByRecursion IsNamed) (sym (other_todo session now going u rest is o step place w.1)) (named place)
+    ])
+
+-- It goes on behind turns in an order.
+pub going_play : (order : List ℕ) (now : Now) → AreNamed now → IsGoing now → IsGoing (play order now).1 × AreNamed (play order now).1
+unfolding play
+going_play [] now named going = (going, named)
+going_play (x ∷ xs) now named going = going_play xs (one_turn x now).1 (named_turn x now named going) (going_turn x now named going)
+
+-- What a turn of another session leaves of a copy or a merge that is under way at that place.
+pub record IsUndisturbed (now : Now) (place : ℕ) (p : Played) : Type 0 where
+  pub running : p.1.running ≡ now.running
+  pub state : image_state (base_now p.1).image ≡ image_state (base_now now).image
+  pub frozen : (base_now p.1).frozen ≡ (base_now now).frozen
+  pub todo : slice_index_or p.1.todo place [] ≡ slice_index_or now.todo place []
+  pub made : files_made p.0 ≡ []
+  pub free : (name : List ℕ) → is_free_entry (now.account.entry name) ≡ true → is_free_entry (p.1.account.entry name) ≡ true
+
+none_made : files_made [] ≡ []
+unfolding files_made
+none_made = refl
+
+pub made_by : (session : ℕ) (u : Turn) (o : Outcome) → o.made ≡ None → files_made (event_of session u o ∷ []) ≡ []
+unfolding files_made
+made_by session u o none = ap (λ (made : Option (List ℕ × List ℕ)). elim made as (λ z. List (List ℕ × List ℕ)) [ Some file ↦ file ∷ [] | None ↦ [] ]) none
+
+module _ (session : ℕ) (now : Now) (going : IsGoing now) (place number : ℕ) (some : 1 ≤ number) (runs : Runs now place number) (off : session - 1 ≢ place) where
+  alone : (m : ℕ) → Runs now (session - 1) m → ⊥
+  alone m its = off (one_runs now (session - 1) place m number its runs)
+
+  -- so the session that has the turn waits
+  waiting_step : (u : Turn) (rest : List Turn) → IsAt now (session - 1) (u ∷ rest) → IsStep now session (outcome session u now) rest
+  waiting_step u rest (waits all) = beginning_step session now going u rest all
+  waiting_step u rest (backs_up left backing tail e all its room free) = absurd (alone 1 its)
+  waiting_step u rest (copies left name tail e all its free) = absurd (alone 1 its)
+  waiting_step u rest (ending reply tail e all its) = absurd (alone 1 its)
+  waiting_step u rest (merges turns its) = absurd (alone 2 its)
+
+  pub others_stay : IsUndisturbed now place (one_turn session now)
+  others_stay = one_cases (IsUndisturbed now place) session now (record { running = refl; state = refl; frozen = refl; todo = refl; made = none_made; free = λ name free. free }) (λ u rest is.
+      let o : Outcome = outcome session u now in
+      let step : IsStep now session o rest = waiting_step u rest (subst (IsAt now (session - 1)) is (going.each (session - 1))) in
+      let stay : OthersStay now o = step.others place number (λ e. off (sym e)) some runs in
+      let base : base_now (stands_then session rest o now) ≡ base_after (base_now now) o.strokes = then_base session rest o now in
+      record {
+        running = then_running session rest o now ∙ stay.running;
+        state = ap (λ (x : Base). image_state x.image) base ∙ stay.state;
+        frozen = ap (λ (x : Base). x.frozen) base ∙ stay.frozen;
+        todo = other_todo session now going u rest is o step place (λ e. off (sym e));
+        made = made_by session u o stay.made;
+        free = λ name free. free_then session rest o now going stay.made name free;
+      })
+
+  pub runs_stay : Runs (one_turn session now).1 place number
+  runs_stay = record { by = runs.by; running = others_stay.running ∙ runs.running; its = runs.its; state = others_stay.state ∙ runs.state }
+
+-- At the start each session has statements to begin.
+begun_at : (now : Now) (sessions : List (List Statement)) → now.todo ≡ begun sessions → (place : ℕ) → get_or now.todo place [] ≡ map Begins (get_or sessions place [])
+begun_at now sessions is place = ap (λ (todo : List (List Turn)). get_or todo place []) is ∙ get_or-map (map Begins) sessions place []
+
+all_begin : (P : Turn → Type 0) (statements : List Statement) → AllByRecursion (λ (x : Statement). P (Begins x)) statements → AllByRecursion P (map Begins statements)
+all_begin P [] h = tt
+all_begin P (x ∷ xs) h = (h.0, all_begin P xs h.1)
+
+pub begun_going : (now : Now) (sessions : List (List Statement)) → now.todo ≡ begun sessions → ((place : ℕ) → AllByRecursion (λ (x : Statement). is_built x ≡ true) (slice_index_or sessions place []))
+    → HasHeader (base_now now).image → IsSoundImage (base_now now).image → image_state (base_now now).image ≤ 2
+    → (image_state (base_now now).image ≡ 1 → is_header (first_page (base_now now).frozen) ≡ true) → AllByRecursion (λ (guid : List ℕ). length guid ≡ 16) now.given.guids → IsGoing now
+begun_going now sessions is built header sound state frozen sixteen = record {
+  header = header;
+  sound = sound;
+  state = state;
+  frozen = frozen;
+  each = λ place. waits (subst AreBeginnings (sym (begun_at now sessions is place)) (all_begin IsBeginning (get_or sessions place []) (built place)));
+  sixteen = sixteen;
+}
+
+pub begun_named : (now : Now) (sessions : List (List Statement)) → now.todo ≡ begun sessions → ((place : ℕ) → AllByRecursion (λ (x : Statement). IsNamed (Begins x)) (slice_index_or sessions place [])) → AreNamed now
+begun_named now sessions is named place = subst (AllByRecursion IsNamed) (sym (begun_at now sessions is place)) (all_begin IsNamed (get_or sessions place []) (named place))
