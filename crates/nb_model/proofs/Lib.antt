@@ -72,3 +72,4 @@ pub mod RoomLaws
 pub mod HeldLaws
 pub mod HeldRoom
 pub mod TurnCases
+pub mod GoingLaws
