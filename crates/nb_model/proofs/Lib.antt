@@ -71,5 +71,6 @@ pub mod UnseenLaws
 pub mod RoomLaws
 pub mod HeldLaws
 pub mod HeldRoom
+pub mod BackupWell
 pub mod TurnCases
 pub mod GoingLaws
