@@ -7,25 +7,26 @@ use Rattle.std.proofs.lemmas.List.Elements.{Contains-append_right}
 use Rattle.nb_fields.specs.Bytes.{bytes_of, with_part}
 use Rattle.nb_fields.specs.Page.{kind_of, stamped}
 use Rattle.nb_fields.proofs.NumberLemmas.{number_of-bytes_of}
-use Rattle.nb_model.specs.Account.{Ask, Kept, Base}
+use Rattle.nb_model.specs.Account.{Ask, Kept, Base, Entry}
 use Rattle.nb_model.specs.Backups.{room_in, ask_of, close_backup}
 use Rattle.nb_model.specs.Causes.{broken_at}
 use Rattle.nb_model.specs.Chains.{History, Slot, Spot, is_used, level_in, scn_in, guid_in, slots_in, spots_on, spots_of, spots, pages_of, found_pages, last_such, backup_spot, backup_slot, is_in_chain}
 use Rattle.nb_model.specs.Forms.{Draft, drafted}
 use Rattle.nb_model.specs.Image.{Page, Image, page_at, image_size, image_state, image_scn}
 use Rattle.nb_model.specs.Making.{kept_of}
-use Rattle.nb_model.specs.Outcomes.{Backing, Seen, next_guid, next_time}
+use Rattle.nb_model.specs.Outcomes.{Backing, Given, Seen, next_guid, next_time}
 use Rattle.nb_model.specs.Sound.{HasHeader, IsSoundImage}
 use Rattle.nb_model.specs.Stands.{nil, is_history_page, IsKeptAs, GoesOn, GoesOnFrom, IsRemembered, HasRows, NamesPast}
 use Rattle.nb_model.specs.Steps.{Step, makes, after_step, after_steps, made}
-use Rattle.nb_model.specs.Strokes.{Stroke, begin, on_base, base_after, with_control}
-use Rattle.nb_model.specs.Trail.{Trail, settled, images_of, after_stroke}
+use Rattle.nb_model.specs.Strokes.{Stroke, begin, on_base, base_after, records_of}
+use Rattle.nb_model.specs.Trail.{Trail, settled, settles_at, after_stroke}
 use Rattle.nb_model.specs.WellTrail.{AllGoOn, IsWellTrail}
 use Rattle.nb_model.proofs.ControlMay.{may_begin}
-use Rattle.nb_model.proofs.ControlSound.{control_goes_on}
+use Rattle.nb_model.proofs.ControlSound.{control_rest, control_long, control_goes_on, new_size, new_free}
+use Rattle.nb_model.proofs.ControlWell.{goes_on_now}
 use Rattle.nb_model.proofs.EarlierLaws.{last_one}
-use Rattle.nb_model.proofs.FitLaws.{AreFitting, Stays, fitting_stays}
-use Rattle.nb_model.proofs.HeldLaws.{IsHeld}
+use Rattle.nb_model.proofs.FitLaws.{Fits, AreFitting, Stays, fitting_stays}
+use Rattle.nb_model.proofs.HeldLaws.{IsHeld, held_by}
 use Rattle.nb_model.proofs.HeldRoom.{HoldsRows, HasChainRows, room_held}
 use Rattle.nb_model.proofs.PastLaws.{all_rows, no_history, no_rows_pass, kept_more, remembered_with}
 use Rattle.nb_model.proofs.PutSound.{header_whole}
@@ -33,10 +34,10 @@ use Rattle.nb_model.proofs.RecordLaws.{HasParent}
 use Rattle.nb_model.proofs.RoomLaws.{HoldsOfHistory, AreFound, in_chain, pages_found, room_fits, slot_fits, backup_length}
 use Rattle.nb_model.proofs.SlotLaws.{linked_slots, linked_history, new_slots, rows_written}
 use Rattle.nb_model.proofs.SoundTurns.{HasPlace}
-use Rattle.nb_model.proofs.SteadyLaws.{WellAlong, KeepsAlong, record_of, kept_along, rows_along, begin_along, along_append, along_last}
-use Rattle.nb_model.proofs.StepsLaws.{after_made}
+use Rattle.nb_model.proofs.SteadyLaws.{WellAlong, KeepsAlong, record_of, kept_along, rows_along, begin_along, along_append, along_last, kept_append}
+use Rattle.nb_model.proofs.StepsLaws.{after_made, after_steps_append}
 use Rattle.nb_model.proofs.TrailLaws.{last_there, trail_bases}
-use Rattle.nb_model.proofs.TurnCases.{MayStart, IsFrom, whole, since}
+use Rattle.nb_model.proofs.TurnCases.{MayStart, started, IsFrom, whole, since}
 
 -- Rows of the history that pass a test are kept where room is made for one more.
 pub history_holds : (kept : List Kept) (P : Kept → Type 0) → HoldsOfHistory (HasRows kept P)
@@ -187,3 +188,131 @@ module _ (kept : List Kept) (t : Trail) (w : IsWellTrail kept t) where
       where
         same_ask : (a : Ask) → Some (ask_of (suc below) (Some row)) ≡ Some a → ask_of (suc below) (Some row) ≡ a
         same_ask a e = cc
+
+-- What is well along the strokes of an outcome, and recorded behind them.
+pub record StartsWell (kept : List Kept) (t : Trail) (ss : List Stroke) (b : Backing) : Type 0 where
+  pub along : WellAlong kept t (made ss)
+  pub recorded : IsRecorded (kept_along kept t (made ss)) (after_steps t (made ss)) b
+
+begun_kept : (kept : List Kept) (u : Trail) (guid : List ℕ) (ask : Option Ask) → kept_along kept u (made (begin guid ask ∷ [])) ≡ kept ++ record_of u guid ask ∷ []
+unfolding made records_of
+begun_kept kept u guid ask = refl
+
+begun_trail : (u : Trail) (guid : List ℕ) (ask : Option Ask) → after_steps u (made (begin guid ask ∷ [])) ≡ settled (on_base (begin guid ask) u.base)
+unfolding made after_steps after_step after_stroke settles_at
+begun_trail u guid ask = refl
+
+-- A backup begins where room was made for its row.
+module _ (kept : List Kept) (u : Trail) (later : IsWellTrail kept u) (normal : image_state u.base.image ≡ 0) (scn : image_scn u.base.image ≤ 4294967293) (b : Backing) (sixteen : length b.guid ≡ 16) (same_scn : b.scn ≡ image_scn u.base.image)
+    (page : HoldsRows (IsRemembered kept (AllGoOn u)) b.page u.base.image) where
+  abbrev r : Kept
+  r = record_of u b.guid (Some b.ask)
+
+  abbrev then : Base
+  then = on_base (begin b.guid (Some b.ask)) u.base
+
+  abbrev u_header : HasHeader u.base.image
+  u_header = record { header = later.base.well.header; scn = later.base.well.scn }
+
+  its_record : kept_of b then.frozen ≡ r
+  unfolding on_base
+  its_record = ap (λ (n : ℕ). record { guid = b.guid; scn = n; ask = Some b.ask; image = then.image }) same_scn
+
+  goes_on_self : GoesOn r then.image
+  unfolding on_base
+  goes_on_self = goes_on_now kept u.base later.base b.guid (Some b.ask) normal sixteen scn
+
+  held_then : (bytes : Page) → IsHeld b.page bytes u.base.image → IsHeld b.page bytes then.image
+  unfolding on_base
+  held_then bytes held =
+      held_by b.page bytes u.base.image then.image (new_size 1 (image_scn u.base.image + 1) b.guid u.base.image u_header later.base.well.sound (may_begin u.base.image u_header b.guid sixteen scn))
+      (omega (arith, control_long 1 (image_scn u.base.image + 1) b.guid u.base.image))
+      (control_rest 1 (image_scn u.base.image + 1) b.guid u.base.image b.page held.behind)
+      (new_free 1 (image_scn u.base.image + 1) b.guid u.base.image u_header later.base.well.sound (may_begin u.base.image u_header b.guid sixteen scn) b.page) held
+
+  begun_recorded : IsRecorded (kept ++ r ∷ []) (settled then) b
+  begun_recorded = record {
+    there = subst (Contains (kept ++ r ∷ [])) (sym its_record) (Contains-append_right kept (r ∷ []) r (0, omega arith, refl));
+    go_on = settled_goes_on then (kept_of b then.frozen) (subst (λ (x : Kept). GoesOn x then.image) (sym its_record) goes_on_self);
+    page = holds_on (IsRemembered kept (AllGoOn u)) (IsRemembered (kept ++ r ∷ []) (AllGoOn (settled then))) b.page u.base.image then.image
+        (remembered_on kept (r ∷ []) (AllGoOn u) (AllGoOn (settled then))
+        (λ q all. settled_goes_on then q (goes_on_then kept u later u (λ x h. h) later normal scn b.guid sixteen (Some b.ask) q all)))
+        (λ bytes kind held. held_then bytes held) page;
+  }
+
+-- A backup starts: room is made for its row, and it begins.
+module _ (kept : List Kept) (t : Trail) (w : IsWellTrail kept t) (cache : ℕ) (running : Option ℕ) (entry : List ℕ → Entry) (given : Given) where
+  abbrev s : Seen
+  s = record { base = t.base; cache = cache; running = running; entry = entry; given = given }
+
+  module _ (session : ℕ) (name : List ℕ) (level : ℕ) (from : Option Spot) (may : MayStart s name) (is_from : IsFrom t.base.image level from) (sixteen : length (next_guid given) ≡ 16) where
+    abbrev ask : Ask
+    ask = ask_of level from
+
+    abbrev backing : Backing
+    backing = record { name = name; ask = ask; scn = image_scn t.base.image; guid = next_guid given; page = (room_in t.base.image).page; slot = (room_in t.base.image).slot }
+
+    abbrev ss : List Stroke
+    ss = (room_in t.base.image).draft.strokes
+
+    abbrev rows : Page → Type 0
+    rows = HasRows kept (AllGoOn t)
+
+    header : HasHeader t.base.image
+    header = its_header kept t w
+
+    fits : Fits rows t.base (room_in t.base.image).draft
+    fits = room_fits t.base header w.base.well.sound may.unbroken rows (history_holds kept (AllGoOn t)) (λ p in_it. (its_past kept t w).rows p (in_chain History t.base.image p in_it).0) may.left
+
+    room : KeepsAlong kept t (made ss)
+    room = rows_along kept (AllGoOn t) ss t fits.each (λ r h. h) w
+
+    abbrev u : Trail
+    u = after_steps t (made ss)
+
+    later : IsWellTrail kept u
+    later = subst (λ (rs : List Kept). IsWellTrail rs u) room.none (along_last kept t (made ss) room.along)
+
+    stays : Stays t.base u.base
+    stays = subst (Stays t.base) (sym (made_base t ss)) (fitting_stays rows ss t.base fits.each (header_whole t.base.image header w.base.well.sound))
+
+    normal : image_state u.base.image ≡ 0
+    normal = stays.state ∙ may.may.normal
+
+    scn : image_scn u.base.image ≤ 4294967293
+    scn = omega (arith, stays.scn, may.may.scn)
+
+    page : HoldsRows (IsRemembered kept (AllGoOn u)) backing.page u.base.image
+    page = subst (λ (x : Image). HoldsRows (IsRemembered kept (AllGoOn u)) backing.page x) (sym fits.is.is ∙ ap (λ (b : Base). b.image) (sym (made_base t ss)))
+        (holds_on (IsRemembered kept (AllGoOn t)) (IsRemembered kept (AllGoOn u)) backing.page (room_in t.base.image).draft.image (room_in t.base.image).draft.image (remembered_with kept (AllGoOn t) (AllGoOn u) room.go_on)
+        (λ bytes kind held. held)
+        (room_held (IsRemembered kept (AllGoOn t)) t.base header w.base.well.sound may.unbroken (chain_rows kept (AllGoOn t) t.base.image (its_past kept t w)) may.formed may.left))
+
+    begins : WellAlong kept u (made (begin (next_guid given) (Some ask) ∷ []))
+    begins = begin_along kept u (next_guid given) (Some ask) later normal sixteen scn (its_parent kept t w u room.go_on later normal scn (next_guid given) sixteen level from may.unbroken is_from)
+
+    recorded_then : IsRecorded (kept_along kept u (made (begin (next_guid given) (Some ask) ∷ []))) (after_steps u (made (begin (next_guid given) (Some ask) ∷ []))) backing
+    recorded_then =
+        subst (λ (rs : List Kept). IsRecorded rs (after_steps u (made (begin (next_guid given) (Some ask) ∷ []))) backing) (sym (begun_kept kept u (next_guid given) (Some ask)))
+        (subst (λ (v : Trail). IsRecorded (kept ++ record_of u (next_guid given) (Some ask) ∷ []) v backing) (sym (begun_trail u (next_guid given) (Some ask)))
+        (begun_recorded kept u later normal scn backing sixteen (sym stays.scn) page))
+
+    abbrev steps : List Step
+    steps = made ss ++ made (begin (next_guid given) (Some ask) ∷ [])
+
+    along_both : WellAlong kept t steps
+    along_both = along_append kept t (made ss) (made (begin (next_guid given) (Some ask) ∷ [])) room.along (subst (λ (rs : List Kept). WellAlong rs u (made (begin (next_guid given) (Some ask) ∷ []))) (sym room.none) begins)
+
+    recorded_both : IsRecorded (kept_along kept t steps) (after_steps t steps) backing
+    recorded_both =
+        subst (λ (rs : List Kept). IsRecorded rs (after_steps t steps) backing)
+        (sym (kept_append kept t (made ss) (made (begin (next_guid given) (Some ask) ∷ [])) ∙ ap (λ (rs : List Kept). kept_along rs u (made (begin (next_guid given) (Some ask) ∷ []))) room.none))
+        (subst (λ (v : Trail). IsRecorded (kept_along kept u (made (begin (next_guid given) (Some ask) ∷ []))) v backing) (sym (after_steps_append t (made ss) (made (begin (next_guid given) (Some ask) ∷ [])))) recorded_then)
+
+    pub start_well : StartsWell kept t (started s session name ask).strokes backing
+    start_well =
+        let same : made (ss ++ begin (next_guid given) (Some ask) ∷ []) ≡ steps = made_both ss (begin (next_guid given) (Some ask) ∷ []) in
+        record {
+          along = subst (WellAlong kept t) (sym same) along_both;
+          recorded = subst (λ (xs : List Step). IsRecorded (kept_along kept t xs) (after_steps t xs) backing) (sym same) recorded_both;
+        }
