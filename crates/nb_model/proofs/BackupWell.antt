@@ -1,16 +1,17 @@
 -- The start and the close of a backup keep what was seen well: the row that the close writes names the record that the begin has kept.
-use Rattle.std.proofs.Common.{◌≡◌, ◌≢◌, inl, inr, ℕ, zero, suc, ◌+◌, ◌<◌, ◌≤◌, List, [], ◌∷◌, ◌++◌, length, take, drop, refl, sym, ap, subst, ◌∙◌, arith, length-append}
+use Rattle.std.proofs.Common.{◌≡◌, ◌≢◌, inl, inr, ℕ, zero, suc, ◌+◌, ◌*◌, ◌<◌, ◌≤◌, List, [], ◌∷◌, ◌++◌, length, take, drop, refl, sym, ap, subst, ◌∙◌, arith, append_assoc}
 use Rattle.std.specs.Prelude.{Bool, true, false, ◌&&◌, ◌==◌, Option, Some, None, Contains}
 use Rattle.std.specs.List.{AllByRecursion}
 use Rattle.std.proofs.lemmas.Bool.{and_parts}
+use Rattle.std.proofs.lemmas.List.{take_at}
 use Rattle.std.proofs.lemmas.List.Elements.{Contains-append_right}
-use Rattle.nb_fields.specs.Bytes.{bytes_of, with_part}
+use Rattle.nb_fields.specs.Bytes.{bytes_of, number_in, padded, with_part}
 use Rattle.nb_fields.specs.Page.{kind_of, stamped}
 use Rattle.nb_fields.proofs.NumberLemmas.{number_of-bytes_of}
 use Rattle.nb_model.specs.Account.{Ask, Kept, Base, Entry}
 use Rattle.nb_model.specs.Backups.{room_in, ask_of, close_backup}
 use Rattle.nb_model.specs.Causes.{broken_at}
-use Rattle.nb_model.specs.Chains.{History, Slot, Spot, is_used, level_in, scn_in, guid_in, slots_in, spots_on, spots_of, spots, pages_of, found_pages, last_such, backup_spot, backup_slot, is_in_chain}
+use Rattle.nb_model.specs.Chains.{History, Slot, Spot, is_used, level_in, scn_in, guid_in, slots_in, spots_on, spots_of, spots, pages_of, found_pages, last_such, backup_spot, backup_slot, put_slot, is_in_chain}
 use Rattle.nb_model.specs.Forms.{Draft, drafted}
 use Rattle.nb_model.specs.Image.{Page, Image, page_at, image_size, image_state, image_scn}
 use Rattle.nb_model.specs.Making.{kept_of}
@@ -33,6 +34,7 @@ use Rattle.nb_model.proofs.PutSound.{header_whole}
 use Rattle.nb_model.proofs.RecordLaws.{HasParent}
 use Rattle.nb_model.proofs.RoomLaws.{HoldsOfHistory, AreFound, in_chain, pages_found, room_fits, slot_fits, backup_length}
 use Rattle.nb_model.proofs.SlotLaws.{linked_slots, linked_history, new_slots, rows_written}
+use Rattle.nb_model.proofs.SoundLaws.{all_at}
 use Rattle.nb_model.proofs.SoundTurns.{HasPlace}
 use Rattle.nb_model.proofs.SteadyLaws.{WellAlong, KeepsAlong, record_of, kept_along, rows_along, begin_along, along_append, along_last, kept_append}
 use Rattle.nb_model.proofs.StepsLaws.{after_made, after_steps_append}
@@ -279,8 +281,8 @@ module _ (kept : List Kept) (t : Trail) (w : IsWellTrail kept t) (cache : ℕ) (
     normal : image_state u.base.image ≡ 0
     normal = stays.state ∙ may.may.normal
 
-    scn : image_scn u.base.image ≤ 4294967293
-    scn = omega (arith, stays.scn, may.may.scn)
+    small : image_scn u.base.image ≤ 4294967293
+    small = omega (arith, stays.scn, may.may.scn)
 
     page : HoldsRows (IsRemembered kept (AllGoOn u)) backing.page u.base.image
     page = subst (λ (x : Image). HoldsRows (IsRemembered kept (AllGoOn u)) backing.page x) (sym fits.is.is ∙ ap (λ (b : Base). b.image) (sym (made_base t ss)))
@@ -289,13 +291,13 @@ module _ (kept : List Kept) (t : Trail) (w : IsWellTrail kept t) (cache : ℕ) (
         (room_held (IsRemembered kept (AllGoOn t)) t.base header w.base.well.sound may.unbroken (chain_rows kept (AllGoOn t) t.base.image (its_past kept t w)) may.formed may.left))
 
     begins : WellAlong kept u (made (begin (next_guid given) (Some ask) ∷ []))
-    begins = begin_along kept u (next_guid given) (Some ask) later normal sixteen scn (its_parent kept t w u room.go_on later normal scn (next_guid given) sixteen level from may.unbroken is_from)
+    begins = begin_along kept u (next_guid given) (Some ask) later normal sixteen small (its_parent kept t w u room.go_on later normal small (next_guid given) sixteen level from may.unbroken is_from)
 
     recorded_then : IsRecorded (kept_along kept u (made (begin (next_guid given) (Some ask) ∷ []))) (after_steps u (made (begin (next_guid given) (Some ask) ∷ []))) backing
     recorded_then =
         subst (λ (rs : List Kept). IsRecorded rs (after_steps u (made (begin (next_guid given) (Some ask) ∷ []))) backing) (sym (begun_kept kept u (next_guid given) (Some ask)))
         (subst (λ (v : Trail). IsRecorded (kept ++ record_of u (next_guid given) (Some ask) ∷ []) v backing) (sym (begun_trail u (next_guid given) (Some ask)))
-        (begun_recorded kept u later normal scn backing sixteen (sym stays.scn) page))
+        (begun_recorded kept u later normal small backing sixteen (sym stays.scn) page))
 
     abbrev steps : List Step
     steps = made ss ++ made (begin (next_guid given) (Some ask) ∷ [])
@@ -316,3 +318,52 @@ module _ (kept : List Kept) (t : Trail) (w : IsWellTrail kept t) (cache : ℕ) (
           along = subst (WellAlong kept t) (sym same) along_both;
           recorded = subst (λ (xs : List Step). IsRecorded (kept_along kept t xs) (after_steps t xs) backing) (sym same) recorded_both;
         }
+
+-- what the row of a backup tells
+row_guid : (level scn time : ℕ) (guid name : List ℕ) → length guid ≡ 16 → guid_in (backup_slot level scn time guid name) ≡ guid
+unfolding backup_slot padded bytes_of
+row_guid level scn time guid name sixteen = ap (take 16) (append_assoc guid name _) ∙ take_at guid _ 16 sixteen
+
+row_scn : (level scn time : ℕ) (guid name : List ℕ) → scn < 4294967296 → scn_in (backup_slot level scn time guid name) ≡ scn
+unfolding backup_slot padded number_in bytes_of
+row_scn level scn time guid name low = number_of-bytes_of 4 scn low
+
+row_level : (level scn time : ℕ) (guid name : List ℕ) → level_in (backup_slot level scn time guid name) ≡ level
+unfolding backup_slot padded
+row_level level scn time guid name = refl
+
+-- A backup closes: its row names its record.
+module _ (kept : List Kept) (t : Trail) (w : IsWellTrail kept t) (b : Backing) (time : ℕ) (place : HasPlace t.base.image b) (recorded : IsRecorded kept t b) where
+  abbrev its_slot : Slot
+  its_slot = backup_slot b.ask.level b.scn time b.guid b.name
+
+  abbrev IsKnown : Slot → Type 0
+  IsKnown row = is_used row ≡ true → IsRemembered kept (AllGoOn t) row
+
+  scn_low : b.scn < 4294967296
+  scn_low = let earlier = (recorded.go_on t.base.image (last_there t.earlier t.base.image)).earlier in let low = w.base.well.scn in omega (arith, earlier, low)
+
+  slot_known : IsRemembered kept (AllGoOn t) its_slot
+  slot_known = record {
+    backup = kept_of b t.base.frozen;
+    kept_as = record { there = recorded.there; named = sym (row_guid b.ask.level b.scn time b.guid b.name place.sixteen) };
+    scn = sym (row_scn b.ask.level b.scn time b.guid b.name scn_low);
+    level = (b.ask, refl, sym (row_level b.ask.level b.scn time b.guid b.name));
+    passes = recorded.go_on;
+  }
+
+  slot_long : length its_slot ≡ 256
+  slot_long = backup_length b.ask.level b.scn time b.guid b.name place.sixteen place.short
+
+  rows_then : (scn number : ℕ) → HasRows kept (AllGoOn t) (stamped (page_at t.base.image b.page) 5 (drop 16 (with_part (32 + 256 * b.slot) its_slot (page_at t.base.image b.page))) scn number)
+  rows_then scn number history = subst (λ (x : Page). AllByRecursion IsKnown (slots_in (stamped x 5 (drop 16 (with_part (32 + 256 * b.slot) its_slot x)) scn number))) (sym recorded.page.held.is)
+      (rows_written IsKnown b.slot its_slot recorded.page.bytes slot_long long (λ used. slot_known) scn number recorded.page.rows)
+    where
+      long : 32 + 256 * b.slot + 256 ≤ length recorded.page.bytes
+      long = omega (arith, place.room.within, ap length recorded.page.held.is, all_at (λ x. length x ≡ image_size t.base.image) t.base.image w.base.well.sound.sizes b.page place.room.below)
+
+  pub close_well : KeepsAlong kept t (made (put_slot b.page b.slot its_slot (drafted t.base.image)).strokes)
+  close_well =
+      rows_along kept (AllGoOn t) (put_slot b.page b.slot its_slot (drafted t.base.image)).strokes t
+      (slot_fits (HasRows kept (AllGoOn t)) (λ bytes e. no_rows_pass kept (AllGoOn t) bytes (no_history bytes (λ five. absurd (omega (arith, e, five))))) t.base b.page b.slot its_slot (its_header kept t w) w.base.well.sound place.room slot_long
+      (rows_then (image_scn t.base.image) b.page)).each (λ r h. h) w
