@@ -31,7 +31,7 @@ use Rattle.nb_model.proofs.PagesFit.{HasNoRows, pages_fit}
 use Rattle.nb_model.proofs.PutSound.{header_whole}
 use Rattle.nb_model.proofs.RoomLaws.{AnyPage, any_history, room_fits, room_there, room_begun, backup_length, slot_fits}
 use Rattle.nb_model.proofs.SoundLaws.{header_stays, fields_stay}
-use Rattle.nb_model.proofs.SteadyTurns.{AreSixteen, guids_append}
+use Rattle.nb_model.proofs.GuidLaws.{AreSixteen, guids_append}
 use Rattle.nb_model.proofs.StrokeLaws.{base_after-append}
 use Rattle.nb_model.proofs.TurnCases.{MayStart, started, built_cases, begin_either, end_either, backup_either, copy_either, pages_once}
 
