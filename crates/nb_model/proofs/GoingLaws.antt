@@ -17,7 +17,7 @@ use Rattle.nb_model.specs.Account.{Base, Account, Ask, IsBase}
 use Rattle.nb_model.specs.Backups.{room_in, ask_of, backup_turn, copy_turn, close_backup, close_copy}
 use Rattle.nb_model.specs.Built.{is_built}
 use Rattle.nb_model.specs.Causes.{is_free_entry, runs_other}
-use Rattle.nb_model.specs.Going.{IsBeginning, AreBeginnings, AreMerging, IsNamed, AreNamed, HasRoom, Runs, IsAt, waits, backs_up, copies, ends as ending, merges, IsGoing}
+use Rattle.nb_model.specs.Going.{IsBeginning, AreBeginnings, AreMerging, IsNamed, AreNamed, HasRoom, Runs, IsAt, waits, backs_up, copies, ends as ending, merges, IsGoing, IsMaking}
 use Rattle.nb_model.specs.Image.{Page, Image, first_page, image_state}
 use Rattle.nb_model.specs.Outcomes.{Turn, Begins, Copies, ClosesBackup, ClosesCopy, Ends, Merges, Finishes, Backing, Seen, Outcome, Given, next_guid, passes}
 use Rattle.nb_model.specs.Pages.{begin_turn, end_turn, ends_by, end_strokes, end_scn}
@@ -107,11 +107,15 @@ pub record OthersStay (now : Now) (o : Outcome) : Type 0 where
   pub frozen : (base_after (base_now now) o.strokes).frozen ≡ (base_now now).frozen
   pub made : o.made ≡ None
 
+-- what is frozen stays so in the stalled state, or is the image as it becomes
+abbrev pub IsFrozenThen : Base → Base → Type 0
+IsFrozenThen old new = ((image_state old.image ≡ 1) × (new.frozen ≡ old.frozen)) ⊎ (new.frozen ≡ new.image)
+
 -- What a turn does where it comes.
 pub record IsStep (now : Now) (session : ℕ) (o : Outcome) (rest : List Turn) : Type 0 where
   pub keeps : StaysSound (base_now now) (base_after (base_now now) o.strokes)
   pub state : image_state (base_after (base_now now) o.strokes).image ≤ 2
-  pub frozen : image_state (base_after (base_now now) o.strokes).image ≡ 1 → is_header (first_page (base_after (base_now now) o.strokes).frozen) ≡ true
+  pub frozen : image_state (base_after (base_now now) o.strokes).image ≡ 1 → IsFrozenThen (base_now now) (base_after (base_now now) o.strokes)
   pub sixteen : AreSixteen o.given.guids
   pub own : IsAt (stands_then session rest o now) (session - 1) (o.next ++ rest)
   pub others : (other number : ℕ) → other ≢ session - 1 → 1 ≤ number → Runs now other number → OthersStay now o
@@ -145,7 +149,7 @@ module _ (session : ℕ) (now : Now) (going : IsGoing now) where
     fitting_step given own others = record {
       keeps = fitting_keeps K o.strokes b fits going.header going.sound;
       state = omega (arith, stays.state, going.state);
-      frozen = λ stalled. ap (λ (image : Image). is_header (first_page image)) stays.frozen ∙ going.frozen (sym stays.state ∙ stalled);
+      frozen = λ stalled. inl (sym stays.state ∙ stalled, stays.frozen);
       sixteen = subst AreSixteen (sym given) going.sixteen;
       own = own;
       others = λ other number off some runs. let both = others other number off runs in record { running = both.0; state = stays.state; frozen = stays.frozen; made = both.1 };
@@ -172,7 +176,7 @@ module _ (session : ℕ) (now : Now) (going : IsGoing now) where
       record {
         keeps = keeps.0;
         state = omega (arith, keeps.1);
-        frozen = λ stalled. subst (λ (image : Image). is_header (first_page image) ≡ true) (sym (begun_frozen b (next_guid s.given) None)) keeps.0.header.header;
+        frozen = λ stalled. inr (begun_frozen b (next_guid s.given) None);
         sixteen = rest_sixteen s.given.guids going.sixteen;
         own = waits all;
         others = λ other number off some runs. absurd (none_runs may.normal other number some runs);
@@ -210,7 +214,7 @@ module _ (session : ℕ) (now : Now) (going : IsGoing now) where
       record {
         keeps = is.keeps;
         state = omega (arith, is.state);
-        frozen = λ stalled. subst (λ (image : Image). is_header (first_page image) ≡ true) (sym is.frozen) is.keeps.header.header;
+        frozen = λ stalled. inr is.frozen;
         sixteen = rest_sixteen s.given.guids going.sixteen;
         own = backs_up (length (room_in b.image).draft.image) _ rest (append_assoc (replicate (length (room_in b.image).draft.image) Copies) _ rest) all
             (runs_then session rest o now (session - 1) session 1 refl refl is.state) (room_then session rest o now (room_in b.image).page (room_in b.image).slot is.room)
@@ -399,12 +403,22 @@ module _ (session : ℕ) (now : Now) (going : IsGoing now) (u : Turn) (rest : Li
     at_stays ts (ending reply tail e all runs) = ending reply tail e all (stays_running 1 (omega arith) runs)
     at_stays ts (merges turns runs) = merges turns (stays_running 2 (omega arith) runs)
 
+  frozen_keeps : (P : Image → Type 0) → IsFrozenThen (base_now now) (base_after (base_now now) o.strokes) → (image_state (base_now now).image ≡ 1 → P (base_now now).frozen) → P (base_after (base_now now) o.strokes).image
+      → P (base_after (base_now now) o.strokes).frozen
+  frozen_keeps P (inl same) before new = subst P (sym same.1) (before same.0)
+  frozen_keeps P (inr now_it) before new = subst P (sym now_it) new
+
+  stalled_then : (image_state (base_now now).image ≡ 1 → image_state (base_now now).frozen ≡ 1) → image_state (base_now last).image ≡ 1 → image_state (base_now last).frozen ≡ 1
+  stalled_then before = subst (λ (x : Base). image_state x.image ≡ 1 → image_state x.frozen ≡ 1) (sym (then_base session rest o now))
+      (λ stalled. frozen_keeps (λ image. image_state image ≡ 1) (step.frozen stalled) before stalled)
+
   pub going_then : IsGoing last
   going_then = record {
     header = subst (λ (x : Base). HasHeader x.image) (sym base) step.keeps.header;
     sound = subst (λ (x : Base). IsSoundImage x.image) (sym base) step.keeps.sound;
     state = subst (λ (x : Base). image_state x.image ≤ 2) (sym base) step.state;
-    frozen = subst (λ (x : Base). image_state x.image ≡ 1 → is_header (first_page x.frozen) ≡ true) (sym base) step.frozen;
+    frozen = subst (λ (x : Base). image_state x.image ≡ 1 → is_header (first_page x.frozen) ≡ true) (sym base)
+        (λ stalled. frozen_keeps (λ image. is_header (first_page image) ≡ true) (step.frozen stalled) going.frozen step.keeps.header.header);
     each = λ place. elim (eqb_tells place (session - 1)) [
       | inl w ↦ subst (λ (p : ℕ). IsAt last p (get_or last.todo p [])) (sym w.1) (subst (IsAt last (session - 1)) (sym own_todo) step.own)
       | inr w ↦ subst (IsAt last place) (sym (other_todo place w.1)) (at_stays place w.1 (get_or now.todo place []) (going.each place))
@@ -513,6 +527,20 @@ pub going_play : (order : List ℕ) (now : Now) → AreNamed now → IsGoing now
 unfolding play
 going_play [] now named going = (going, named)
 going_play (x ∷ xs) now named going = going_play xs (one_turn x now).1 (named_turn x now named going) (going_turn x now named going)
+
+-- So do the files that are to be made.
+pub making_turn : (session : ℕ) (now : Now) → IsMaking now → IsMaking (one_turn session now).1
+making_turn session now m = record {
+  going = going_turn session now m.named m.going;
+  named = named_turn session now m.named m.going;
+  stalled = one_cases (λ p. image_state (base_now p.1).image ≡ 1 → image_state (base_now p.1).frozen ≡ 1) session now m.stalled
+      (λ u rest is. stalled_then session now m.going u rest is (outcome session u now) (next_step session now m.named m.going u rest is) m.stalled);
+}
+
+pub making_play : (order : List ℕ) (now : Now) → IsMaking now → IsMaking (play order now).1
+unfolding play
+making_play [] now m = m
+making_play (x ∷ xs) now m = making_play xs (one_turn x now).1 (making_turn x now m)
 
 -- What a turn of another session leaves of a copy or a merge that is under way at that place.
 pub record IsUndisturbed (now : Now) (place : ℕ) (p : Played) : Type 0 where
