@@ -61,7 +61,7 @@ pub one_runs : (now : Now) (place other m n : ℕ) → Runs now place m → Runs
 one_runs now place other m n a b = sym a.its ∙ ap (λ (x : ℕ). x - 1) (some_same a.by b.by (sym a.running ∙ b.running)) ∙ b.its
 
 -- the name of the database isn't free
-own_in_use : (now : Now) → IsGoing now → is_free_entry (now.account.entry now.name) ≡ true → ⊥
+pub own_in_use : (now : Now) → IsGoing now → is_free_entry (now.account.entry now.name) ≡ true → ⊥
 own_in_use now going free = free_unseen (now.account.entry now.name) free going.header.header going.state
 
 -- What stands behind an outcome.
@@ -366,11 +366,8 @@ module _ (session : ℕ) (now : Now) (going : IsGoing now) where
       step_as u (Ends reply) rest tail e (ended_step session now going tail all reply (λ e. absurd (omega (arith, e, runs.state))) (only_one session now going 1 runs))
   turn_step u rest (merges turns runs) named = merging_step u rest turns runs
 
--- What stands behind it.
-module _ (session : ℕ) (now : Now) (going : IsGoing now) (u : Turn) (rest : List Turn) (is : get_or now.todo (session - 1) [] ≡ u ∷ rest) (o : Outcome) (step : IsStep now session o rest) where
-  abbrev last : Now
-  last = stands_then session rest o now
-
+-- What stands behind it: what its session has still to do, and the others.
+module _ (session : ℕ) (now : Now) (u : Turn) (rest : List Turn) (is : get_or now.todo (session - 1) [] ≡ u ∷ rest) (o : Outcome) where
   inside : session - 1 < length now.todo
   inside = elim (leb_tells (length now.todo) (session - 1)) [
     | inl low ↦ absurd (none_some (sym (get_or_past now.todo (session - 1) [] low.1) ∙ is))
@@ -380,11 +377,15 @@ module _ (session : ℕ) (now : Now) (going : IsGoing now) (u : Turn) (rest : Li
       none_some : [] ≡ u ∷ rest → ⊥
       none_some e = absurd (let long = ap length e in omega arith)
 
-  pub own_todo : get_or last.todo (session - 1) [] ≡ o.next ++ rest
+  pub own_todo : get_or (stands_then session rest o now).todo (session - 1) [] ≡ o.next ++ rest
   own_todo = ap (λ (todo : List (List Turn)). get_or todo (session - 1) []) (then_todo session rest o now) ∙ get_or-set_same now.todo (session - 1) (o.next ++ rest) [] inside
 
-  pub other_todo : (place : ℕ) → place ≢ session - 1 → get_or last.todo place [] ≡ get_or now.todo place []
+  pub other_todo : (place : ℕ) → place ≢ session - 1 → get_or (stands_then session rest o now).todo place [] ≡ get_or now.todo place []
   other_todo place off = ap (λ (todo : List (List Turn)). get_or todo place []) (then_todo session rest o now) ∙ get_or-set_other now.todo (session - 1) place (o.next ++ rest) [] off
+
+module _ (session : ℕ) (now : Now) (going : IsGoing now) (u : Turn) (rest : List Turn) (is : get_or now.todo (session - 1) [] ≡ u ∷ rest) (o : Outcome) (step : IsStep now session o rest) where
+  abbrev last : Now
+  last = stands_then session rest o now
 
   module _ (place : ℕ) (off : place ≢ session - 1) where
     stays_running : (number : ℕ) → 1 ≤ number → Runs now place number → Runs last place number
@@ -420,8 +421,8 @@ module _ (session : ℕ) (now : Now) (going : IsGoing now) (u : Turn) (rest : Li
     frozen = subst (λ (x : Base). image_state x.image ≡ 1 → is_header (first_page x.frozen) ≡ true) (sym base)
         (λ stalled. frozen_keeps (λ image. is_header (first_page image) ≡ true) (step.frozen stalled) going.frozen step.keeps.header.header);
     each = λ place. elim (eqb_tells place (session - 1)) [
-      | inl w ↦ subst (λ (p : ℕ). IsAt last p (get_or last.todo p [])) (sym w.1) (subst (IsAt last (session - 1)) (sym own_todo) step.own)
-      | inr w ↦ subst (IsAt last place) (sym (other_todo place w.1)) (at_stays place w.1 (get_or now.todo place []) (going.each place))
+      | inl w ↦ subst (λ (p : ℕ). IsAt last p (get_or last.todo p [])) (sym w.1) (subst (IsAt last (session - 1)) (sym (own_todo session now u rest is o)) step.own)
+      | inr w ↦ subst (IsAt last place) (sym (other_todo session now u rest is o place w.1)) (at_stays place w.1 (get_or now.todo place []) (going.each place))
     ];
     sixteen = subst (λ (g : Given). AreSixteen g.guids) (sym (then_given session rest o now)) step.sixteen;
   }
@@ -517,9 +518,9 @@ named_turn session now named going = one_cases (λ p. AreNamed p.1) session now 
     let after : Now = stands_then session rest o now in
     elim (eqb_tells place (session - 1)) [
       | inl w ↦ subst (λ (p : ℕ). AllByRecursion IsNamed (get_or after.todo p [])) (sym w.1)
-          (subst (AllByRecursion IsNamed) (sym (own_todo session now going u rest is o step))
+          (subst (AllByRecursion IsNamed) (sym (own_todo session now u rest is o))
           (named_append o.next rest (next_named session (seen_now now) (next_sixteen now.given going.sixteen) u plain.0 here.0) here.1))
-      | inr w ↦ subst (AllByRecursion IsNamed) (sym (other_todo session now going u rest is o step place w.1)) (named place)
+      | inr w ↦ subst (AllByRecursion IsNamed) (sym (other_todo session now u rest is o place w.1)) (named place)
     ])
 
 -- It goes on behind turns in an order.
@@ -551,7 +552,7 @@ pub record IsUndisturbed (now : Now) (place : ℕ) (p : Played) : Type 0 where
   pub made : files_made p.0 ≡ []
   pub free : (name : List ℕ) → is_free_entry (now.account.entry name) ≡ true → is_free_entry (p.1.account.entry name) ≡ true
 
-none_made : files_made [] ≡ []
+pub none_made : files_made [] ≡ []
 unfolding files_made
 none_made = refl
 
@@ -581,7 +582,7 @@ module _ (session : ℕ) (now : Now) (going : IsGoing now) (place number : ℕ) 
         running = then_running session rest o now ∙ stay.running;
         state = ap (λ (x : Base). image_state x.image) base ∙ stay.state;
         frozen = ap (λ (x : Base). x.frozen) base ∙ stay.frozen;
-        todo = other_todo session now going u rest is o step place (λ e. off (sym e));
+        todo = other_todo session now u rest is o place (λ e. off (sym e));
         made = made_by session u o stay.made;
         free = λ name free. free_then session rest o now going stay.made name free;
       })

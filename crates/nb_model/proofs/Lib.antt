@@ -69,3 +69,4 @@ pub mod UnseenLaws
 pub mod RoomLaws
 pub mod TurnCases
 pub mod GoingLaws
+pub mod MakingLaws
