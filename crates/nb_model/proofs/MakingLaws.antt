@@ -1,7 +1,7 @@
 -- The files that turns make: each was to be made before, under a name that was free, and each but once.
 use Rattle.std.proofs.Common.{◌≡◌, ◌≢◌, inl, inr, ⊎_elim, ◌⊎◌, ℕ, zero, suc, ◌-◌, ◌<◌, ◌≤◌, List, [], ◌∷◌, ◌++◌, length, take, replicate, get_or, refl, sym, ap, subst, ◌∙◌, arith, append_assoc}
-use Rattle.std.specs.Prelude.{Bool, Option, Some, None, true, false, ◌==◌, ◌&&◌, ◌||◌, Contains, is_none}
-use Rattle.std.specs.List.{slice_index_or}
+use Rattle.std.specs.Prelude.{Bool, Option, Some, None, true, false, not, ◌==◌, Contains}
+use Rattle.std.specs.List.{AllByRecursion, slice_index_or}
 use Rattle.std.proofs.lemmas.Bool.{true≢false, and_parts, false_from_ne_true}
 use Rattle.std.proofs.lemmas.Bool.Decides.{eqb_tells}
 use Rattle.std.proofs.lemmas.List.{append-nil}
@@ -10,6 +10,9 @@ use Rattle.nb_fields.specs.Bytes.{bytes_of, is_zeros}
 use Rattle.nb_fields.specs.Free.{is_free_file}
 use Rattle.nb_fields.specs.Header.{is_header, state_of}
 use Rattle.nb_host.specs.Names.{same_name}
+use Rattle.nb_host.specs.declared.refusals.Refusal.{Refusal}
+use Rattle.nb_host.specs.declared.refusals.Refusal.TheVariants.{WrongState, BackupRunning}
+use Rattle.nb_model.specs.declared.reply.Reply.{Reply}
 use Rattle.nb_model.specs.declared.statement.Statement.{Statement}
 use Rattle.nb_model.specs.declared.statement.Statement.TheVariants.{BeginBackup, EndBackup, Backup, CopyTo}
 use Rattle.nb_model.specs.Account.{Ask, Kept, Base, Entry, Plain, IsBase, Account, with_entry}
@@ -17,7 +20,7 @@ use Rattle.nb_model.specs.Backups.{ask_of, starts, backup_turn, copy_turn, close
 use Rattle.nb_model.specs.Built.{is_built}
 use Rattle.nb_model.specs.Causes.{Cause, first_cause, when, read_only, not_state, no_scn, not_free, is_free_entry, runs_any, broken_at, not_of_form, no_room}
 use Rattle.nb_model.specs.Going.{IsBeginning, AreBeginnings, AreMerging, AreNamed, Runs, IsAt, waits, backs_up, copies, ends as ending, merges, IsGoing, IsMaking}
-use Rattle.nb_model.specs.Image.{Image, first_page, image_state}
+use Rattle.nb_model.specs.Image.{Image, Numbered, first_page, image_state}
 use Rattle.nb_model.specs.Levels.{Head, head_then, level_bytes, head_for, taken, file_for, file_of, joined}
 use Rattle.nb_model.specs.Making.{MadeFile, kept_of, making, making_by, making_all, under_way, AreAmong, NamesOnce}
 use Rattle.nb_model.specs.Outcomes.{Turn, Begins, Copies, ClosesBackup, ClosesCopy, Ends, Merges, Finishes, Backing, Seen, Outcome, says, passes, unless}
@@ -28,15 +31,16 @@ use Rattle.nb_model.specs.Turns.{first_turn, turn}
 use Rattle.nb_model.specs.Well.{is_on_pages}
 use Rattle.nb_model.proofs.FinishLaws.{IsPlainTurn}
 use Rattle.nb_model.proofs.FreeLaws.{free_cases}
-use Rattle.nb_model.proofs.GoingLaws.{IsUndisturbed, one_runs, one_cases, own_in_use, next_step, own_todo, then_base, going_plain, going_turn, making_turn, others_stay, IsStep, none_made}
+use Rattle.nb_model.proofs.GoingLaws.{IsUndisturbed, one_runs, one_cases, own_in_use, next_step, own_todo, then_base, going_plain, going_turn, named_turn, making_turn, others_stay, none_made}
 use Rattle.nb_model.proofs.HeaderLaws.{first_byte, same-header, same-number}
 use Rattle.nb_model.proofs.OpenedLaws.{joined_front}
 use Rattle.nb_model.proofs.OpeningLaws.{in_use}
-use Rattle.nb_model.proofs.RunLaws.{entry_same, nothing_taken}
+use Rattle.nb_model.proofs.ReadLaws.{eq_no}
+use Rattle.nb_model.proofs.RunLaws.{entry_same}
 use Rattle.nb_model.proofs.SoundLaws.{header_kind}
 use Rattle.nb_model.proofs.SoundTurns.{seen_now}
 use Rattle.nb_model.proofs.StandsLaws.{names_tell, entry_other}
-use Rattle.nb_model.proofs.TurnCases.{refused, built_cases, begin_either, end_either, backup_either, copy_either, pages_once}
+use Rattle.nb_model.proofs.TurnCases.{started, copied, built_cases, begin_either, end_either, backup_either, copy_either, pages_once}
 
 -- one element
 one_held : (f g : MadeFile) → Contains (f ∷ []) g → f ≡ g
@@ -100,7 +104,7 @@ copying_makes : (frozen : Image) (name : List ℕ) (ts : List Turn) → making f
 unfolding making
 copying_makes frozen name ts = refl
 
-ending_makes : (frozen : Image) (ts : List Turn) (reply : Rattle.nb_model.specs.declared.reply.Reply.Reply) → making frozen (Ends reply ∷ ts) ≡ making frozen ts
+ending_makes : (frozen : Image) (ts : List Turn) (reply : Reply) → making frozen (Ends reply ∷ ts) ≡ making frozen ts
 unfolding making
 ending_makes frozen ts reply = refl
 
@@ -227,7 +231,7 @@ event_makes session u o = by o.made
     by (Some file) = refl
 
 -- Whole bytes are those of no file whose name may be taken.
-level_used : (version : ℕ) (h : Head) (pages : List Rattle.nb_model.specs.Image.Numbered) → is_free_file (Some (level_bytes version h pages)) ≡ false
+level_used : (version : ℕ) (h : Head) (pages : List Numbered) → is_free_file (Some (level_bytes version h pages)) ≡ false
 unfolding level_bytes head_then
 level_used version h pages = false_from_ne_true (is_free_file (Some (level_bytes version h pages))) (λ free. by _ free)
   where
@@ -308,7 +312,7 @@ module _ (session : ℕ) (now : Now) (going : IsGoing now) (u : Turn) (rest : Li
   at = subst (IsAt now (session - 1)) is (going.each (session - 1))
 
   made_is : of_made o.made ≡ making frozen_then (u ∷ [])
-  made_is = turn_makes u (subst (Rattle.std.specs.List.AllByRecursion IsPlainTurn) is (going_plain now going (session - 1))).0 session now
+  made_is = turn_makes u (subst (AllByRecursion IsPlainTurn) is (going_plain now going (session - 1))).0 session now
 
   own_held : (f : MadeFile) → Contains (making frozen_then (u ∷ [])) f → Contains (making frozen_then (u ∷ rest)) f
   own_held f held = held_as (making frozen_then (u ∷ []) ++ making frozen_then rest) (making frozen_then (u ∷ rest)) f (sym (making_first frozen_then u rest)) (Contains-append_left (making frozen_then (u ∷ [])) (making frozen_then rest) f held)
@@ -331,3 +335,218 @@ module _ (session : ℕ) (now : Now) (going : IsGoing now) (u : Turn) (rest : Li
       by : (made : Option MadeFile) → Contains (of_made made) f → made ≡ Some f
       by None h = absurd (none_held f h)
       by (Some g) h = ap Some (one_held g f h)
+
+-- One turn makes what its session was to make.
+pub made_among : (session : ℕ) (now : Now) → IsGoing now → AreAmong (files_made (one_turn session now).0) (making_by session now)
+made_among session now going = one_cases (λ p. AreAmong (files_made p.0) (making_by session now)) session now (λ f held. absurd (none_held f (held_as (files_made []) [] f none_made held)))
+    (λ u rest is f held. subst (λ (ts : List Turn). Contains (making (base_now now).frozen ts) f) (sym is) (own_held session now going u rest is f (event_held session now going u rest is f held)))
+
+copying_base : (session : ℕ) (rest : List Turn) (now : Now) → base_now (stands_then session rest (outcome session Copies now) now) ≡ base_now now
+unfolding outcome turn base_after
+copying_base session rest now = then_base session rest (outcome session Copies now) now
+
+copying_next : (session : ℕ) (now : Now) → (outcome session Copies now).next ≡ []
+unfolding outcome turn
+copying_next session now = refl
+
+-- What is under way was made, or is under way still.
+pub under_among : (session : ℕ) (now : Now) → IsGoing now → AreAmong (under_way now) (files_made (one_turn session now).0 ++ under_way (one_turn session now).1)
+under_among session now going f held = by (under_place (base_now now).frozen now.todo f held)
+  where
+    frozen : Image
+    frozen = (base_now now).frozen
+
+    by : (place : ℕ) × Contains (making frozen (get_or now.todo place [])) f → Contains (files_made (one_turn session now).0 ++ under_way (one_turn session now).1) f
+    by (place, there) = elim (eqb_tells place (session - 1)) [
+      | inl w ↦ own (subst (λ (p : ℕ). Contains (making frozen (get_or now.todo p [])) f) w.1 there)
+      | inr w ↦
+          let q : Played = one_turn session now in
+          let t : IsToMake now place (get_or now.todo place []) f = to_make now place (get_or now.todo place []) f (going.each place) there in
+          let still : IsUndisturbed now place q = others_stay session now going place 1 (omega arith) t.runs (λ e. w.1 (sym e)) in
+          Contains-append_right (files_made q.0) (under_way q.1) f (under_at (base_now q.1).frozen q.1.todo place f
+          (subst (λ (x : Image). Contains (making x (get_or q.1.todo place [])) f) (sym still.frozen) (subst (λ (ts : List Turn). Contains (making frozen ts) f) (sym still.todo) there)))
+    ]
+      where
+        own : Contains (making frozen (get_or now.todo (session - 1) [])) f → Contains (files_made (one_turn session now).0 ++ under_way (one_turn session now).1) f
+        own here = one_cases (λ p. Contains (files_made p.0 ++ under_way p.1) f) session now (Contains-append_right (files_made []) (under_way now) f held) (λ u rest is.
+            let after : Now = stands_then session rest (outcome session u now) now in
+            let es : List Event = event_of session u (outcome session u now) ∷ [] in
+            ⊎_elim
+            (λ now_it. Contains-append_left (files_made es) (under_way after) f (held_event session now going u rest is f now_it))
+            (λ later. Contains-append_right (files_made es) (under_way after) f (left u rest is later))
+            (Contains-append_cases (making frozen (u ∷ [])) (making frozen rest) f
+            (held_as (making frozen (u ∷ rest)) (making frozen (u ∷ []) ++ making frozen rest) f (making_first frozen u rest) (subst (λ (ts : List Turn). Contains (making frozen ts) f) is here))))
+          where
+            left : (u : Turn) (rest : List Turn) → get_or now.todo (session - 1) [] ≡ u ∷ rest → Contains (making frozen rest) f → Contains (under_way (stands_then session rest (outcome session u now) now)) f
+            left u rest is later =
+                let copies : u ≡ Copies = copies_before now (session - 1) u rest f (subst (IsAt now (session - 1)) is (going.each (session - 1))) later in
+                subst (λ (x : Turn). Contains (under_way (stands_then session rest (outcome session x now) now)) f) (sym copies)
+                (under_at (base_now (stands_then session rest (outcome session Copies now) now)).frozen (stands_then session rest (outcome session Copies now) now).todo (session - 1) f
+                (subst (λ (b : Base). Contains (making b.frozen (get_or (stands_then session rest (outcome session Copies now) now).todo (session - 1) [])) f) (sym (copying_base session rest now))
+                (subst (λ (ts : List Turn). Contains (making frozen ts) f)
+                    (sym (own_todo session now u rest is (outcome session Copies now) ∙ ap (λ (ts : List Turn). ts ++ rest) (copying_next session now))) later)))
+
+-- What is under way has a free name,
+pub under_free : (now : Now) → IsGoing now → (f : MadeFile) → Contains (under_way now) f → is_free_entry (now.account.entry f.0) ≡ true
+under_free now going f held =
+    let at = under_place (base_now now).frozen now.todo f held in
+    (to_make now at.0 (get_or now.todo at.0 []) f (going.each at.0) at.1).free
+
+-- and is one file at most.
+pub under_one : (now : Now) → IsGoing now → (f g : MadeFile) → Contains (under_way now) f → Contains (under_way now) g → f ≡ g
+under_one now going f g a b =
+    let at = under_place (base_now now).frozen now.todo f a in
+    let by = under_place (base_now now).frozen now.todo g b in
+    let first : IsToMake now at.0 (get_or now.todo at.0 []) f = to_make now at.0 (get_or now.todo at.0 []) f (going.each at.0) at.1 in
+    let second : IsToMake now by.0 (get_or now.todo by.0 []) g = to_make now by.0 (get_or now.todo by.0 []) g (going.each by.0) by.1 in
+    let same : by.0 ≡ at.0 = one_runs now by.0 at.0 1 1 second.runs first.runs in
+    one_held f g (held_as _ (f ∷ []) g first.only (subst (λ (p : ℕ). Contains (making (base_now now).frozen (get_or now.todo p [])) g) same by.1))
+
+-- A name that isn't free stays so,
+pub used_turn : (session : ℕ) (now : Now) → IsGoing now → (n : List ℕ) → is_free_entry (now.account.entry n) ≡ false → is_free_entry ((one_turn session now).1.account.entry n) ≡ false
+used_turn session now going n used = one_cases (λ p. is_free_entry (p.1.account.entry n) ≡ false) session now used (λ u rest is.
+    used_then session rest (outcome session u now) now going (λ f made. (own_to_make session now going u rest is f (made_held session now going u rest is f made)).free) n used)
+
+pub used_play : (order : List ℕ) (now : Now) → AreNamed now → IsGoing now → (n : List ℕ) → is_free_entry (now.account.entry n) ≡ false → is_free_entry ((play order now).1.account.entry n) ≡ false
+unfolding play
+used_play [] now named going n used = used
+used_play (x ∷ xs) now named going n used = used_play xs (one_turn x now).1 (named_turn x now named going) (going_turn x now named going) n (used_turn x now going n used)
+
+-- so one that is free was so before.
+free_before : (session : ℕ) (now : Now) → IsGoing now → (n : List ℕ) → is_free_entry ((one_turn session now).1.account.entry n) ≡ true → is_free_entry (now.account.entry n) ≡ true
+free_before session now going n free = by (is_free_entry (now.account.entry n)) refl
+  where
+    by : (t : Bool) → is_free_entry (now.account.entry n) ≡ t → is_free_entry (now.account.entry n) ≡ true
+    by true is = is
+    by false is = absurd (true≢false (sym free ∙ used_turn session now going n is))
+
+made_free : (session : ℕ) (now : Now) → IsGoing now → (f : MadeFile) → Contains (files_made (one_turn session now).0) f → is_free_entry (now.account.entry f.0) ≡ true
+made_free session now going f held = (to_make now (session - 1) (get_or now.todo (session - 1) []) f (going.each (session - 1)) (made_among session now going f held)).free
+
+-- Each file that turns make, and each that is under way then, has a name that was free before.
+pub free_turn : (session : ℕ) (now : Now) → AreNamed now → IsGoing now → (f : MadeFile) → Contains (files_made (one_turn session now).0 ++ under_way (one_turn session now).1) f → is_free_entry (now.account.entry f.0) ≡ true
+free_turn session now named going f held =
+    let q : Played = one_turn session now in
+    ⊎_elim (made_free session now going f) (λ under. free_before session now going f.0 (under_free q.1 (going_turn session now named going) f under)) (Contains-append_cases (files_made q.0) (under_way q.1) f held)
+
+-- what turns make, and what is under way behind them, in two parts
+parts : (x : ℕ) (xs : List ℕ) (now : Now)
+    → files_made (play (x ∷ xs) now).0 ++ under_way (play (x ∷ xs) now).1 ≡ files_made (one_turn x now).0 ++ (files_made (play xs (one_turn x now).1).0 ++ under_way (play xs (one_turn x now).1).1)
+unfolding play
+parts x xs now =
+    let q : Played = one_turn x now in
+    let p : Played = play xs q.1 in
+    ap (λ (fs : List MadeFile). fs ++ under_way p.1) (made_append q.0 p.0) ∙ append_assoc (files_made q.0) (files_made p.0) (under_way p.1)
+
+no_turn : (now : Now) → files_made (play [] now).0 ++ under_way (play [] now).1 ≡ under_way now
+unfolding play
+no_turn now = ap (λ (fs : List MadeFile). fs ++ under_way now) none_made
+
+pub free_play : (order : List ℕ) (now : Now) → AreNamed now → IsGoing now → (f : MadeFile) → Contains (files_made (play order now).0 ++ under_way (play order now).1) f → is_free_entry (now.account.entry f.0) ≡ true
+free_play [] now named going f held = under_free now going f (held_as _ (under_way now) f (no_turn now) held)
+free_play (x ∷ xs) now named going f held =
+    let q : Played = one_turn x now in
+    ⊎_elim (made_free x now going f) (λ later. free_before x now going f.0 (free_play xs q.1 (named_turn x now named going) (going_turn x now named going) f later))
+    (Contains-append_cases (files_made q.0) _ f (held_as _ _ f (parts x xs now) held))
+
+-- What is under way was made behind turns in an order, or is under way still.
+pub under_play : (order : List ℕ) (now : Now) → AreNamed now → IsGoing now → AreAmong (under_way now) (files_made (play order now).0 ++ under_way (play order now).1)
+under_play [] now named going f held = held_as (under_way now) _ f (sym (no_turn now)) held
+under_play (x ∷ xs) now named going f held =
+    let q : Played = one_turn x now in
+    let later : List MadeFile = files_made (play xs q.1).0 ++ under_way (play xs q.1).1 in
+    held_as (files_made q.0 ++ later) _ f (sym (parts x xs now)) (⊎_elim
+    (λ made. Contains-append_left (files_made q.0) later f made)
+    (λ under. Contains-append_right (files_made q.0) later f (under_play xs q.1 (named_turn x now named going) (going_turn x now named going) f under))
+    (Contains-append_cases (files_made q.0) (under_way q.1) f (under_among x now going f held)))
+
+-- The name of a file that was made isn't free,
+pub made_used : (session : ℕ) (now : Now) → IsMaking now → (f : MadeFile) → Contains (files_made (one_turn session now).0) f → is_free_entry ((one_turn session now).1.account.entry f.0) ≡ false
+made_used session now m f = one_cases (λ p. Contains (files_made p.0) f → is_free_entry (p.1.account.entry f.0) ≡ false) session now
+    (λ held. absurd (none_held f (held_as (files_made []) [] f none_made held))) (λ u rest is held.
+    let own : Contains (making (base_now now).frozen (u ∷ [])) f = event_held session now m.going u rest is f held in
+    let t : IsToMake now (session - 1) (u ∷ rest) f = own_to_make session now m.going u rest is f own in
+    made_then session rest (outcome session u now) now m.going f (held_made session now m.going u rest is f own) t.free
+    (turn_used (base_now now).frozen (m.going.frozen t.runs.state) (m.stalled t.runs.state) u f own))
+
+pub played_used : (order : List ℕ) (now : Now) → IsMaking now → (f : MadeFile) → Contains (files_made (play order now).0) f → is_free_entry ((play order now).1.account.entry f.0) ≡ false
+unfolding play
+played_used [] now m f held = absurd (none_held f (held_as (files_made []) [] f none_made held))
+played_used (x ∷ xs) now m f held =
+    let q : Played = one_turn x now in
+    let next : IsMaking q.1 = making_turn x now m in
+    ⊎_elim (λ made. used_play xs q.1 next.named next.going f.0 (made_used x now m f made)) (played_used xs q.1 next f)
+    (Contains-append_cases (files_made q.0) (files_made (play xs q.1).0) f (held_as _ (files_made q.0 ++ files_made (play xs q.1).0) f (made_append q.0 (play xs q.1).0) held))
+
+-- and so no name comes twice.
+made_one : (session : ℕ) (now : Now) → IsGoing now → (f g : MadeFile) → Contains (files_made (one_turn session now).0) f → Contains (files_made (one_turn session now).0) g → f ≡ g
+made_one session now going f g = one_cases (λ p. Contains (files_made p.0) f → Contains (files_made p.0) g → f ≡ g) session now
+    (λ a b. absurd (none_held f (held_as (files_made []) [] f none_made a)))
+    (λ u rest is a b. one_making (base_now now).frozen u f g (event_held session now going u rest is f a) (event_held session now going u rest is g b))
+
+pub names_once : (order : List ℕ) (now : Now) → IsMaking now → NamesOnce (files_made (play order now).0 ++ under_way (play order now).1)
+names_once [] now m n a b x y = ap (λ (f : MadeFile). f.1) (under_one now m.going (n, a) (n, b) (held_as _ (under_way now) (n, a) (no_turn now) x) (held_as _ (under_way now) (n, b) (no_turn now) y))
+names_once (s ∷ xs) now m n a b x y = by (λ i j. names_once xs (one_turn s now).1 (making_turn s now m) n a b i j) (cases a x) (cases b y)
+  where
+    q : Played
+    q = one_turn s now
+
+    next : IsMaking q.1
+    next = making_turn s now m
+
+    later : List MadeFile
+    later = files_made (play xs q.1).0 ++ under_way (play xs q.1).1
+
+    cases : (c : List ℕ) → Contains (files_made (play (s ∷ xs) now).0 ++ under_way (play (s ∷ xs) now).1) (n, c) → Contains (files_made q.0) (n, c) ⊎ Contains later (n, c)
+    cases c held = Contains-append_cases (files_made q.0) later (n, c) (held_as _ (files_made q.0 ++ later) (n, c) (parts s xs now) held)
+
+    both : (c d : List ℕ) → Contains (files_made q.0) (n, c) → Contains later (n, d) → ⊥
+    both c d made rest = true≢false (sym (free_play xs q.1 next.named next.going (n, d) rest) ∙ made_used s now m (n, c) made)
+
+    by : (Contains later (n, a) → Contains later (n, b) → a ≡ b) → Contains (files_made q.0) (n, a) ⊎ Contains later (n, a) → Contains (files_made q.0) (n, b) ⊎ Contains later (n, b) → a ≡ b
+    by rest (inl i) (inl j) = ap (λ (f : MadeFile). f.1) (made_one s now m.going (n, a) (n, b) i j)
+    by rest (inl i) (inr j) = absurd (both a b i j)
+    by rest (inr i) (inl j) = absurd (both b a j i)
+    by rest (inr i) (inr j) = rest i j
+
+pub made_once : (order : List ℕ) (now : Now) → IsMaking now → NamesOnce (files_made (play order now).0)
+made_once order now m n a b x y =
+    let p : Played = play order now in
+    names_once order now m n a b (Contains-append_left (files_made p.0) (under_way p.1) (n, a) x) (Contains-append_left (files_made p.0) (under_way p.1) (n, b) y)
+
+-- Where the state refuses a statement, or a copy that runs, what stands under its name doesn't matter.
+cause_first : (a : Cause) (r : Refusal) (cs ds : List Cause) → a ≡ Some r → first_cause (a ∷ cs) ≡ first_cause (a ∷ ds)
+unfolding first_cause
+cause_first a r cs ds is = rw (is, first_cause) refl
+
+cause_second : (a b : Cause) (r : Refusal) (cs ds : List Cause) → b ≡ Some r → first_cause (a ∷ b ∷ cs) ≡ first_cause (a ∷ b ∷ ds)
+unfolding first_cause
+cause_second None b r cs ds is = cause_first b r cs ds is
+cause_second (Some q) b r cs ds is = refl
+
+in_other_state : (state : ℕ) (image : Image) → image_state image ≢ state → not_state state image ≡ Some (WrongState (image_state image))
+in_other_state state image other = ap (λ (t : Bool). when (not t) (WrongState (image_state image))) (eq_no (image_state image) state other)
+
+module _ (s : Seen) (entry : List ℕ → Entry) (session : ℕ) where
+  abbrev else_seen : Seen
+  else_seen = record s { entry = entry }
+
+  starts_without : (name : List ℕ) (ask : Ask) (missing : Cause) → image_state s.base.image ≢ 0 → starts s session name ask missing ≡ starts else_seen session name ask missing
+  unfolding starts unless
+  starts_without name ask missing other =
+      ap (λ (c : Cause). unless s c (started s session name ask)) (cause_second (read_only s.base.image) (not_state 0 s.base.image) (WrongState (image_state s.base.image)) _ _ (in_other_state 0 s.base.image other))
+
+  pub backup_without : (level : ℕ) (name : List ℕ) → image_state s.base.image ≢ 0 → first_turn s session (Backup level name) ≡ first_turn else_seen session (Backup level name)
+  unfolding first_turn backup_turn
+  backup_without zero name other = starts_without name (ask_of 0 None) None other
+  backup_without (suc below) name other = starts_without name _ _ other
+
+  pub copy_without : (name : List ℕ) → image_state s.base.image ≢ 1 → first_turn s session (CopyTo name) ≡ first_turn else_seen session (CopyTo name)
+  unfolding first_turn copy_turn unless
+  copy_without name other =
+      ap (λ (c : Cause). unless s c (copied s session name)) (cause_first (not_state 1 s.base.image) (WrongState (image_state s.base.image)) _ _ (in_other_state 1 s.base.image other))
+
+  pub copy_without_running : (name : List ℕ) (by : ℕ) → s.running ≡ Some by → first_turn s session (CopyTo name) ≡ first_turn else_seen session (CopyTo name)
+  unfolding first_turn copy_turn unless
+  copy_without_running name by running =
+      ap (λ (c : Cause). unless s c (copied s session name)) (cause_second (not_state 1 s.base.image) (runs_any s.running) (BackupRunning by) _ _ (ap runs_any running))
