@@ -23,6 +23,7 @@ pub mod SoundLaws
 pub mod FreshSound
 pub mod PutSound
 pub mod PastLaws
+pub mod SlotLaws
 pub mod HeadSound
 pub mod BitLaws
 pub mod BitSound
@@ -59,6 +60,7 @@ pub mod ControlMay
 pub mod ControlWell
 pub mod FinishLaws
 pub mod RecordLaws
+pub mod MadeLaws
 pub mod SteadyLaws
 pub mod SteadyTurns
 pub mod GrownLaws
@@ -67,6 +69,9 @@ pub mod AccountLaws
 pub mod GuidLaws
 pub mod UnseenLaws
 pub mod RoomLaws
+pub mod HeldLaws
+pub mod HeldRoom
+pub mod BackupWell
 pub mod TurnCases
 pub mod GoingLaws
 pub mod MakingLaws

@@ -119,7 +119,7 @@ pages_found chain image none = by (pages_of chain image) refl none
     by (Ok ps) is none = walk_finds _ chain image _ ps is
     by (Err p) is none = cc
 
-last_of_all : (P : ℕ → Type 0) (ps : List ℕ) → 1 ≤ length ps → AllByRecursion P ps → P (last_of ps)
+pub last_of_all : (P : ℕ → Type 0) (ps : List ℕ) → 1 ≤ length ps → AllByRecursion P ps → P (last_of ps)
 last_of_all P [] some all = absurd (omega (arith, some))
 last_of_all P (p ∷ []) some all = all.0
 last_of_all P (p ∷ q ∷ qs) some all = last_of_all P (q ∷ qs) (omega arith) all.1
@@ -167,7 +167,7 @@ unfolding free_spot spots
 free_is_spot image s none is = first_passes _ (IsSpotOf History image) (spots_of image (found_pages History image)) s is (all_spots History image (found_pages History image) (pages_found History image none).each)
 
 -- a page that is put leaves a page for a new one, if there was one before
-put_full : (p kind : ℕ) (payload : List ℕ) (d : Draft) → (put p kind payload d).full ≡ false → d.full ≡ false
+pub put_full : (p kind : ℕ) (payload : List ℕ) (d : Draft) → (put p kind payload d).full ≡ false → d.full ≡ false
 unfolding written wrote
 put_full p kind payload d = put_keeps (λ x. x.full ≡ false → d.full ≡ false) kept p kind payload d (λ e. e)
   where
@@ -175,15 +175,15 @@ put_full p kind payload d = put_keeps (λ x. x.full ≡ false → d.full ≡ fal
     kept = record { writes = λ q k xs x h. h; reads = λ broken x h. h; fills = λ x h e. absurd (true≢false e) }
 
 -- a page below the length is there before it is written
-old_there : (image : Image) (p : ℕ) → p < length image → old_page p image ≡ page_at image p
+pub old_there : (image : Image) (p : ℕ) → p < length image → old_page p image ≡ page_at image p
 unfolding old_page
 old_there image p low = rw (lt-ltb p (length image) low, old_page) refl
 
-no_system : (size p : ℕ) → is_inventory_place size p ≡ false → is_scn_place size p ≡ false → is_system_place size p ≡ false
+pub no_system : (size p : ℕ) → is_inventory_place size p ≡ false → is_scn_place size p ≡ false → is_system_place size p ≡ false
 unfolding is_system_place
 no_system size p inventory scn = ap (λ (t : Bool). t || is_scn_place size p) inventory ∙ scn
 
-data_short : (p : ℕ) → length (data_payload 0 1 []) ≤ 1008
+pub data_short : (p : ℕ) → length (data_payload 0 1 []) ≤ 1008
 unfolding data_payload bytes_of
 data_short p = omega arith
 
@@ -238,7 +238,7 @@ module _ (b : Base) (h : HasHeader b.image) (is : IsSoundImage b.image) (unbroke
   abbrev d : Draft
   d = put last 5 link made.0
 
-  last_in : is_in_chain History b.image last ≡ true
+  pub last_in : is_in_chain History b.image last ≡ true
   last_in = let found = pages_found History b.image unbroken in last_of_all (λ q. is_in_chain History b.image q ≡ true) (found_pages History b.image) found.some found.each
 
   last_plain : IsPlain b.image last
@@ -248,7 +248,7 @@ module _ (b : Base) (h : HasHeader b.image) (is : IsSoundImage b.image) (unbroke
   last_low = (in_chain History b.image last last_in).0
 
   module _ (K : Page → Type 0) (holds : HoldsOfHistory K) (chain : HoldsOfChain K b.image) where
-    made_fits : Fits K b made.0
+    pub made_fits : Fits K b made.0
     made_fits = new_fits K holds.kinds b (length b.image + 4) 5 (λ p. data_payload 0 1 []) (drafted b.image) refl data_short added (fits_first K b whole)
       where
         added : (x : Image) (p : ℕ) → IsWhole x → K (form_page p 5 (data_payload 0 1 []) x)
@@ -265,7 +265,7 @@ module _ (b : Base) (h : HasHeader b.image) (is : IsSoundImage b.image) (unbroke
     made_long : length b.image ≤ length made.0.image
     made_long = omega (arith, made_stays.longer, ap length made_fits.is.is)
 
-    link_plain : IsPlain made.0.image last
+    pub link_plain : IsPlain made.0.image last
     link_plain = record {
       place = record { behind = last_plain.place.behind; there = omega (arith, last_low, made_long); most = last_plain.place.most };
       no_inventory = ap (λ (s : ℕ). is_inventory_place s last) made_size ∙ last_plain.no_inventory;

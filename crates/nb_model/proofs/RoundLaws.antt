@@ -21,10 +21,10 @@ use Rattle.nb_model.proofs.NewSound.{HoldsOfKinds, IsThere, places_apart, invent
 use Rattle.nb_model.proofs.ReadLaws.{eq_no}
 use Rattle.nb_model.proofs.DraftJoin.{joined, joined_new, join_set_bit, join_new}
 
-abbrev AnyPage : Page → Type 0
+abbrev pub AnyPage : Page → Type 0
 AnyPage bytes = Unit {0}
 
-any_kinds : HoldsOfKinds AnyPage
+pub any_kinds : HoldsOfKinds AnyPage
 any_kinds = record { inventories = λ bytes e. tt; scn_pages = λ bytes e. tt }
 
 started : (image : Image) → IsWhole image → Fits AnyPage (base_of image) (drafted image)
@@ -35,12 +35,12 @@ pub kind_found : (image : Image) (kind p : ℕ) → p < length image → kind_of
 unfolding is_kind
 kind_found image kind p low same = and_from (nat_lt p (length image)) (kind_of (page_at image p) == kind) (lt-ltb p (length image) low) (eq-eqb (kind_of (page_at image p)) kind same)
 
-needs_found : (image : Image) (kind p : ℕ) → is_kind image kind p ≡ true → needs kind p (drafted image) ≡ drafted image
+pub needs_found : (image : Image) (kind p : ℕ) → is_kind image kind p ≡ true → needs kind p (drafted image) ≡ drafted image
 unfolding needs
 needs_found image kind p is = rw (is, needs) refl
 
 -- no system page is a page inventory page or an SCN page
-no_place : (image : Image) → IsWhole image → (q : ℕ) → is_system_place (image_size image) q ≡ false → ((k : ℕ) → q ≢ inventory_place (image_size image) k) × ((k : ℕ) → q ≢ scn_place (image_size image) k)
+pub no_place : (image : Image) → IsWhole image → (q : ℕ) → is_system_place (image_size image) q ≡ false → ((k : ℕ) → q ≢ inventory_place (image_size image) k) × ((k : ℕ) → q ≢ scn_place (image_size image) k)
 no_place image h q plain =
     let places = plain_place (image_size image) q plain in (
       λ k e. true≢false (sym (inventory_there (image_size image) k h.fields.size) ∙ ap (is_inventory_place (image_size image)) (sym e) ∙ places.0),
@@ -128,6 +128,9 @@ module _ (image : Image) (h : IsWhole image) (p : ℕ) (at : IsPlace image p) wh
     pub put_long : p < length image → length (put p kind payload (drafted image)).image ≡ length image
     put_long low = ap length put_image ∙ with_page_length p bytes before.image below_end ∙ omega (arith, raises.long, low)
 
+    pub put_longer : length image ≤ length (put p kind payload (drafted image)).image
+    put_longer = omega (arith, ap length put_image, with_page_length p bytes before.image below_end, raises.long)
+
     pub put_here : page_at (put p kind payload (drafted image)).image p ≡ bytes
     put_here = ap (λ (x : Image). page_at x p) put_image ∙ with_page_same p bytes before.image below_end
 
@@ -148,7 +151,7 @@ module _ (image : Image) (h : IsWhole image) (p : ℕ) (at : IsPlace image p) wh
         put_other r ne (λ e. places_apart (image_size image) r h.fields.size place (subst (λ (n : ℕ). is_scn_place (image_size image) n ≡ true) (sym e) (scn_page_there (image_size image) (p / entries_in (image_size image)) h.fields.size)))
 
 -- the bit of a page by its inventory page
-bit_by : (image after : Image) (q : ℕ) → image_size after ≡ image_size image → page_at after (inventory_of image q) ≡ page_at image (inventory_of image q) → is_free_page after q ≡ is_free_page image q
+pub bit_by : (image after : Image) (q : ℕ) → image_size after ≡ image_size image → page_at after (inventory_of image q) ≡ page_at image (inventory_of image q) → is_free_page after q ≡ is_free_page image q
 unfolding is_free_page
 bit_by image after q size same =
     ap (λ (s : ℕ). bit_of (page_at after (inventory_place s (q / bits_in s))) (q % bits_in s) == 1) size ∙ ap (λ (x : Page). bit_of x (bit_number image q) == 1) same
@@ -179,7 +182,7 @@ module _ (image : Image) (h : IsWhole image) (p : ℕ) (two : 2 ≤ p) (low : p 
   i_place : IsPlace image i
   i_place = record { behind = inventory_place_some (image_size image) (p / bits_in (image_size image)) h.fields.size; there = omega (arith, i_low); most = let most = h.sound.most in omega (arith, i_low) }
 
-  i_found : is_kind image 2 i ≡ true
+  pub i_found : is_kind image 2 i ≡ true
   i_found = kind_found image 2 i i_low (h.sound.sound.system.inventories i i_low (inventory_there (image_size image) (p / bits_in (image_size image)) h.fields.size))
 
   pub take_is : take_page p (drafted image) ≡ taken
@@ -382,7 +385,7 @@ module _ (image : Image) (h : IsWhole image) (p kind : ℕ) (payload : List ℕ)
 
   -- no page changes but that one and system pages
   module _ (two : 2 ≤ p) where
-    last_image : (take_page p put_at).image ≡ (take_page p (drafted put_at.image)).image
+    pub last_image : (take_page p put_at).image ≡ (take_page p (drafted put_at.image)).image
     last_image = ap (λ (d : Draft). d.image) (join_set_bit 0 p put_at)
 
     pub last_size : image_size (take_page p put_at).image ≡ image_size image
@@ -391,7 +394,7 @@ module _ (image : Image) (h : IsWhole image) (p kind : ℕ) (payload : List ℕ)
     pub last_low : p < length (take_page p put_at).image
     last_low = subst (λ (x : Image). p < length x) (sym last_image) (take_long put_at.image plain_well p two plain_low)
 
-    last_same : (q : ℕ) → is_system_place (image_size image) q ≡ false → page_at (take_page p put_at).image q ≡ page_at put_at.image q
+    pub last_same : (q : ℕ) → is_system_place (image_size image) q ≡ false → page_at (take_page p put_at).image q ≡ page_at put_at.image q
     last_same q other = ap (λ (x : Image). page_at x q) last_image ∙ take_plain put_at.image plain_well p two plain_low q (ap (λ (s : ℕ). is_system_place s q) (put_size image h p at kind payload) ∙ other)
 
     pub last_kind : kind_of (page_at (take_page p put_at).image p) ≡ kind
