@@ -1,29 +1,27 @@
 -- What holds between two turns holds behind each turn.
-use Rattle.std.proofs.Common.{◌≡◌, ◌≢◌, inl, inr, ◌⊎◌, ℕ, zero, suc, ◌+◌, ◌-◌, ◌<◌, ◌≤◌, List, [], ◌∷◌, ◌++◌, length, map, drop, replicate, get_or, set, refl, sym, ap, subst, ◌∙◌, arith, append_assoc}
-use Rattle.std.specs.Prelude.{Bool, Option, Some, None, true, false, ◌==◌, ◌&&◌, nat_le, nat_lt}
+use Rattle.std.proofs.Common.{◌≡◌, ◌≢◌, inl, inr, ◌⊎◌, ℕ, zero, suc, ◌-◌, ◌<◌, ◌≤◌, List, [], ◌∷◌, ◌++◌, length, map, drop, replicate, get_or, set, refl, sym, ap, subst, ◌∙◌, arith, append_assoc}
+use Rattle.std.specs.Prelude.{Bool, Option, Some, None, true, false, ◌==◌, ◌&&◌}
 use Rattle.std.specs.List.{AllByRecursion, slice_index_or}
 use Rattle.std.proofs.Math.ListN.{get_or-map}
 use Rattle.std.proofs.lemmas.Bool.{true≢false, eqb-true, eqb-false, leb-true}
 use Rattle.std.proofs.lemmas.Bool.Decides.{eqb_tells, leb_tells}
-use Rattle.std.proofs.lemmas.List.{append-nil, get_or_past, get_or-set_same, get_or-set_other, length-replicate}
+use Rattle.std.proofs.lemmas.List.{get_or_past, get_or-set_same, get_or-set_other}
 use Rattle.nb_fields.specs.Header.{is_header}
 use Rattle.nb_host.specs.Names.{is_name}
 use Rattle.nb_host.specs.declared.refusals.Refusal.{Refusal}
 use Rattle.nb_model.specs.declared.reply.Reply.{Reply}
-use Rattle.nb_model.specs.declared.reply.Reply.TheVariants.{Scn}
 use Rattle.nb_model.specs.declared.statement.Statement.{Statement}
-use Rattle.nb_model.specs.declared.statement.Statement.TheVariants.{BeginBackup, EndBackup, Backup, CopyTo}
-use Rattle.nb_model.specs.Account.{Base, Account, Ask, IsBase}
-use Rattle.nb_model.specs.Backups.{room_in, ask_of, backup_turn, copy_turn, close_backup, close_copy}
+use Rattle.nb_model.specs.Account.{Base, Account, Ask}
+use Rattle.nb_model.specs.Backups.{room_in, close_backup, close_copy}
 use Rattle.nb_model.specs.Built.{is_built}
 use Rattle.nb_model.specs.Causes.{is_free_entry, runs_other}
 use Rattle.nb_model.specs.Going.{IsBeginning, AreBeginnings, AreMerging, IsNamed, AreNamed, HasRoom, Runs, IsAt, waits, backs_up, copies, ends as ending, merges, IsGoing, IsMaking}
 use Rattle.nb_model.specs.Image.{Page, Image, first_page, image_state}
 use Rattle.nb_model.specs.Outcomes.{Turn, Begins, Copies, ClosesBackup, ClosesCopy, Ends, Merges, Finishes, Backing, Seen, Outcome, Given, next_guid, passes}
-use Rattle.nb_model.specs.Pages.{begin_turn, end_turn, ends_by, end_strokes, end_scn}
-use Rattle.nb_model.specs.Run.{Now, Event, Played, base_now, account_after, outcome, stands_then, take_turn, one_turn, play, event_of, begun, files_made}
+use Rattle.nb_model.specs.Pages.{ends_by, end_strokes}
+use Rattle.nb_model.specs.Run.{Now, Played, base_now, account_after, outcome, stands_then, take_turn, one_turn, play, event_of, begun, files_made}
 use Rattle.nb_model.specs.Sound.{HasHeader, IsSoundImage}
-use Rattle.nb_model.specs.Strokes.{Stroke, begin, ends, finish, on_base, base_after}
+use Rattle.nb_model.specs.Strokes.{Stroke, begin, ends, on_base, base_after}
 use Rattle.nb_model.specs.Turns.{first_turn, turn}
 use Rattle.nb_model.specs.Well.{is_on_pages}
 use Rattle.nb_model.proofs.FinishLaws.{IsPlainTurn, ArePlain}
@@ -32,7 +30,7 @@ use Rattle.nb_model.proofs.OpeningLaws.{after_others}
 use Rattle.nb_model.proofs.PagesFit.{HasNoRows, pages_fit}
 use Rattle.nb_model.proofs.PutSound.{header_whole}
 use Rattle.nb_model.proofs.RoomLaws.{AnyPage, room_with}
-use Rattle.nb_model.proofs.RunLaws.{nothing_taken, turn_stands}
+use Rattle.nb_model.proofs.RunLaws.{turn_stands}
 use Rattle.nb_model.proofs.SoundTurns.{StaysSound, fitting_keeps, begin_keeps, ends_keep, finish_keeps, IsStarted, start_keeps, HasPlace, close_fits, seen_now}
 use Rattle.nb_model.proofs.TurnCases.{MayBegin, MayEnd, MayStart, MayCopy, refused, started, copied, IsOnce, refused_once, built_cases, begin_either, end_either, its_own, backup_either, copy_either, pages_once}
 use Rattle.nb_model.proofs.TurnCases as cases
@@ -612,3 +610,7 @@ begun_going now sessions is built header sound state frozen sixteen = record {
 
 pub begun_named : (now : Now) (sessions : List (List Statement)) → now.todo ≡ begun sessions → ((place : ℕ) → AllByRecursion (λ (x : Statement). IsNamed (Begins x)) (slice_index_or sessions place [])) → AreNamed now
 begun_named now sessions is named place = subst (AllByRecursion IsNamed) (sym (begun_at now sessions is place)) (all_begin IsNamed (get_or sessions place []) (named place))
+
+pub begun_making : (now : Now) (sessions : List (List Statement)) → now.todo ≡ begun sessions → ((place : ℕ) → AllByRecursion (λ (x : Statement). IsNamed (Begins x)) (slice_index_or sessions place []))
+    → (image_state (base_now now).image ≡ 1 → image_state (base_now now).frozen ≡ 1) → IsGoing now → IsMaking now
+begun_making now sessions is named stalled going = record { going = going; named = begun_named now sessions is named; stalled = stalled }

@@ -1,37 +1,34 @@
 -- The files that turns make: each was to be made before, under a name that was free, and each but once.
-use Rattle.std.proofs.Common.{◌≡◌, ◌≢◌, inl, inr, ⊎_elim, ◌⊎◌, ℕ, zero, suc, ◌-◌, ◌<◌, ◌≤◌, List, [], ◌∷◌, ◌++◌, length, take, replicate, get_or, refl, sym, ap, subst, ◌∙◌, arith, append_assoc}
+use Rattle.std.proofs.Common.{◌≡◌, ◌≢◌, inl, inr, ⊎_elim, ◌⊎◌, ℕ, zero, suc, ◌-◌, List, [], ◌∷◌, ◌++◌, map, take, replicate, get_or, refl, sym, ap, subst, ◌∙◌, arith, append_assoc}
 use Rattle.std.specs.Prelude.{Bool, Option, Some, None, true, false, not, ◌==◌, Contains}
-use Rattle.std.specs.List.{AllByRecursion, slice_index_or}
+use Rattle.std.specs.List.{AllByRecursion}
 use Rattle.std.proofs.lemmas.Bool.{true≢false, and_parts, false_from_ne_true}
 use Rattle.std.proofs.lemmas.Bool.Decides.{eqb_tells}
 use Rattle.std.proofs.lemmas.List.{append-nil}
 use Rattle.std.proofs.lemmas.List.Elements.{Contains-append_left, Contains-append_right, Contains-append_cases}
-use Rattle.nb_fields.specs.Bytes.{bytes_of, is_zeros}
 use Rattle.nb_fields.specs.Free.{is_free_file}
-use Rattle.nb_fields.specs.Header.{is_header, state_of}
-use Rattle.nb_host.specs.Names.{same_name}
+use Rattle.nb_fields.specs.Header.{is_header}
 use Rattle.nb_host.specs.declared.refusals.Refusal.{Refusal}
 use Rattle.nb_host.specs.declared.refusals.Refusal.TheVariants.{WrongState, BackupRunning}
 use Rattle.nb_model.specs.declared.reply.Reply.{Reply}
 use Rattle.nb_model.specs.declared.statement.Statement.{Statement}
-use Rattle.nb_model.specs.declared.statement.Statement.TheVariants.{BeginBackup, EndBackup, Backup, CopyTo}
-use Rattle.nb_model.specs.Account.{Ask, Kept, Base, Entry, Plain, IsBase, Account, with_entry}
+use Rattle.nb_model.specs.declared.statement.Statement.TheVariants.{Backup, CopyTo}
+use Rattle.nb_model.specs.Account.{Ask, Base, Entry, Plain, IsBase}
 use Rattle.nb_model.specs.Backups.{ask_of, starts, backup_turn, copy_turn, close_backup, close_copy}
 use Rattle.nb_model.specs.Built.{is_built}
-use Rattle.nb_model.specs.Causes.{Cause, first_cause, when, read_only, not_state, no_scn, not_free, is_free_entry, runs_any, broken_at, not_of_form, no_room}
-use Rattle.nb_model.specs.Going.{IsBeginning, AreBeginnings, AreMerging, AreNamed, Runs, IsAt, waits, backs_up, copies, ends as ending, merges, IsGoing, IsMaking}
+use Rattle.nb_model.specs.Causes.{Cause, first_cause, when, read_only, not_state, is_free_entry, runs_any}
+use Rattle.nb_model.specs.Going.{AreBeginnings, AreMerging, AreNamed, Runs, IsAt, waits, backs_up, copies, ends as ending, merges, IsGoing, IsMaking}
 use Rattle.nb_model.specs.Image.{Image, Numbered, first_page, image_state}
 use Rattle.nb_model.specs.Levels.{Head, head_then, level_bytes, head_for, taken, file_for, file_of, joined}
 use Rattle.nb_model.specs.Making.{MadeFile, kept_of, making, making_by, making_all, under_way, AreAmong, NamesOnce}
-use Rattle.nb_model.specs.Outcomes.{Turn, Begins, Copies, ClosesBackup, ClosesCopy, Ends, Merges, Finishes, Backing, Seen, Outcome, says, passes, unless}
-use Rattle.nb_model.specs.Pages.{begin_turn, end_turn, ends_by}
-use Rattle.nb_model.specs.Run.{Now, Event, Played, base_now, with_made, account_after, outcome, stands_then, one_turn, play, event_of, files_made, AreFinished}
-use Rattle.nb_model.specs.Strokes.{Stroke, base_in, base_after}
+use Rattle.nb_model.specs.Outcomes.{Turn, Begins, Copies, ClosesBackup, ClosesCopy, Ends, Merges, Finishes, Backing, Seen, Outcome, unless}
+use Rattle.nb_model.specs.Pages.{ends_by}
+use Rattle.nb_model.specs.Run.{Now, Event, Played, base_now, with_made, account_after, outcome, stands_then, one_turn, play, event_of, files_made, AreFinished, begun}
+use Rattle.nb_model.specs.Strokes.{base_in, base_after}
 use Rattle.nb_model.specs.Turns.{first_turn, turn}
-use Rattle.nb_model.specs.Well.{is_on_pages}
 use Rattle.nb_model.proofs.FinishLaws.{IsPlainTurn}
 use Rattle.nb_model.proofs.FreeLaws.{free_cases}
-use Rattle.nb_model.proofs.GoingLaws.{IsUndisturbed, one_runs, one_cases, own_in_use, next_step, own_todo, then_base, going_plain, going_turn, named_turn, making_turn, others_stay, none_made}
+use Rattle.nb_model.proofs.GoingLaws.{IsUndisturbed, one_runs, one_cases, own_in_use, own_todo, then_base, going_plain, going_turn, named_turn, making_turn, others_stay, none_made}
 use Rattle.nb_model.proofs.HeaderLaws.{first_byte, same-header, same-number}
 use Rattle.nb_model.proofs.OpenedLaws.{joined_front}
 use Rattle.nb_model.proofs.OpeningLaws.{in_use}
@@ -182,6 +179,19 @@ finished_none now done = by now.todo done
     by [] h = refl
     by ([] ∷ todo) h = by todo h
     by ((t ∷ ts) ∷ todo) h = absurd h
+
+-- nor is anything at the start
+pub begun_none : (now : Now) (sessions : List (List Statement)) → now.todo ≡ begun sessions → under_way now ≡ []
+unfolding making_all making
+begun_none now sessions is = ap (making_all (base_now now).frozen) is ∙ by sessions
+  where
+    one : (statements : List Statement) → making (base_now now).frozen (map Begins statements) ≡ []
+    one [] = refl
+    one (x ∷ xs) = one xs
+
+    by : (all : List (List Statement)) → making_all (base_now now).frozen (begun all) ≡ []
+    by [] = refl
+    by (ss ∷ all) = ap (λ (fs : List MadeFile). fs ++ making_all (base_now now).frozen (begun all)) (one ss) ∙ by all
 
 -- The turn of a session makes what its next turn is to make.
 made_append : (xs ys : List Event) → files_made (xs ++ ys) ≡ files_made xs ++ files_made ys
