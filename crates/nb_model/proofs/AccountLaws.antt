@@ -2,64 +2,21 @@
 -- the backups that have begun, and all else as before.
 use Rattle.std.proofs.Common.{◌≡◌, ◌≢◌, ℕ, ◌-◌, List, [], ◌∷◌, ◌++◌, get_or, refl, sym, ap, subst, ◌∙◌, append_assoc}
 use Rattle.std.specs.Prelude.{Bool, true, false, Option, Some, None}
-use Rattle.std.specs.List.{AllByRecursion}
 use Rattle.std.specs.Cmp.Lexicographic.{told_text}
 use Rattle.std.proofs.lemmas.List.{append-nil}
 use Rattle.nb_host.specs.Files.{Files}
 use Rattle.nb_host.specs.Names.{same_name}
-use Rattle.nb_model.specs.declared.statement.Statement.{Statement}
-use Rattle.nb_model.specs.declared.statement.Statement.TheVariants.{CreateDb, OpenDb, PageNew, Write, Read, Free, BeginBackup, EndBackup, Forced, Access, Sync, ShowHeader}
 use Rattle.nb_model.specs.Account.{Kept, Base, Entry, Plain, IsBase, Account, with_entry}
-use Rattle.nb_model.specs.Built.{is_built}
-use Rattle.nb_model.specs.Causes.{Cause}
-use Rattle.nb_model.specs.Outcomes.{Turn, Begins, Copies, ClosesBackup, ClosesCopy, Ends, Merges, Finishes, Seen, Outcome, unless}
-use Rattle.nb_model.specs.Pages.{begin_turn, end_turn, ends_by}
+use Rattle.nb_model.specs.Outcomes.{Turn, Outcome}
 use Rattle.nb_model.specs.Making.{MadeFile, with_files}
 use Rattle.nb_model.specs.Run.{Now, Event, Opening, base_now, with_made, account_after, outcome, stands_then, take_turn, one_turn, play, event_of, strokes_of, files_made}
 use Rattle.nb_model.specs.Stands.{Stands}
 use Rattle.nb_model.specs.Strokes.{Stroke, base_in, base_after, records_after}
-use Rattle.nb_model.specs.Turns.{first_turn, turn}
-use Rattle.nb_model.proofs.FinishLaws.{IsPlainTurn, ArePlain, one_keeps}
-use Rattle.nb_model.proofs.OpeningLaws.{after_here, after_others, after_kept, with_kept, new_paged, write_paged, read_paged, free_paged, forced_paged, access_paged, sync_paged, header_paged}
+use Rattle.nb_model.proofs.OpeningLaws.{with_kept}
 use Rattle.nb_model.proofs.OutputLaws.{strokes_one}
-use Rattle.nb_model.proofs.RunLaws.{base_in_base, entry_same, one_is, nothing_taken, strokes_of-append}
+use Rattle.nb_model.proofs.RunLaws.{base_in_base, entry_same, one_is, strokes_of-append}
 use Rattle.nb_model.proofs.StandsLaws.{entry_other, stands_same}
 use Rattle.nb_model.proofs.StrokeLaws.{records_after-append}
-
--- no such turn makes a file
-unless_made : (s : Seen) (c : Cause) (o : Outcome) → o.made ≡ None → (unless s c o).made ≡ None
-unfolding unless
-unless_made s None o h = h
-unless_made s (Some r) o h = refl
-
-false_true : false ≡ true → ⊥
-false_true h = cc
-
-first_made : (statement : Statement) → is_built statement ≡ true → (s : Seen) (session : ℕ) → (first_turn s session statement).made ≡ None
-unfolding first_turn begin_turn end_turn ends_by
-first_made (CreateDb name size raw cache) is s session = refl
-first_made (OpenDb name cache) is s session = refl
-first_made PageNew is s session = (new_paged s session).made
-first_made (Write p text) is s session = (write_paged p text s session).made
-first_made (Read p) is s session = (read_paged p s session).made
-first_made (Free p) is s session = (free_paged p s session).made
-first_made BeginBackup is s session = unless_made s _ _ refl
-first_made EndBackup is s session = unless_made s _ _ refl
-first_made (Forced on) is s session = (forced_paged on s session).made
-first_made (Access closed) is s session = (access_paged closed s session).made
-first_made Sync is s session = (sync_paged s session).made
-first_made ShowHeader is s session = (header_paged s session).made
-first_made other is s session = absurd (false_true is)
-
-turn_made : (u : Turn) → IsPlainTurn u → (session : ℕ) (now : Now) → (outcome session u now).made ≡ None
-unfolding outcome turn
-turn_made (Begins statement) h session now = first_made statement h _ session
-turn_made Copies h session now = absurd h
-turn_made (ClosesBackup backing) h session now = absurd h
-turn_made (ClosesCopy name) h session now = absurd h
-turn_made (Ends reply) h session now = absurd h
-turn_made Merges h session now = refl
-turn_made (Finishes reply) h session now = refl
 
 -- the file that a turn made, if it made one
 abbrev of_turn : Option (List ℕ × List ℕ) → List MadeFile

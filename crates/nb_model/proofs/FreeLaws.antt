@@ -46,7 +46,7 @@ free_closed name (Some bytes) delta b free e = by (owner name (Some bytes) delta
     by (Ok c) is h = true≢false (sym free ∙ opened_in_use name bytes delta c is)
 
 -- Such a file begins with zeros, or a restore was stopped.
-free_cases : (bytes : List ℕ) → is_free_file (Some bytes) ≡ true → (is_zeros (take 64 bytes) ≡ true) ⊎ (is_unfinished bytes ≡ true)
+pub free_cases : (bytes : List ℕ) → is_free_file (Some bytes) ≡ true → (is_zeros (take 64 bytes) ≡ true) ⊎ (is_unfinished bytes ≡ true)
 unfolding is_free_file
 free_cases bytes free = or_cases (is_zeros (take 64 bytes)) (is_unfinished bytes) free
 

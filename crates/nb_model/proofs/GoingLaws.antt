@@ -1,29 +1,27 @@
 -- What holds between two turns holds behind each turn.
-use Rattle.std.proofs.Common.{◌≡◌, ◌≢◌, inl, inr, ◌⊎◌, ℕ, zero, suc, ◌+◌, ◌-◌, ◌<◌, ◌≤◌, List, [], ◌∷◌, ◌++◌, length, map, drop, replicate, get_or, set, refl, sym, ap, subst, ◌∙◌, arith, append_assoc}
-use Rattle.std.specs.Prelude.{Bool, Option, Some, None, true, false, ◌==◌, ◌&&◌, nat_le, nat_lt}
+use Rattle.std.proofs.Common.{◌≡◌, ◌≢◌, inl, inr, ◌⊎◌, ℕ, zero, suc, ◌-◌, ◌<◌, ◌≤◌, List, [], ◌∷◌, ◌++◌, length, map, drop, replicate, get_or, set, refl, sym, ap, subst, ◌∙◌, arith, append_assoc}
+use Rattle.std.specs.Prelude.{Bool, Option, Some, None, true, false, ◌==◌, ◌&&◌}
 use Rattle.std.specs.List.{AllByRecursion, slice_index_or}
 use Rattle.std.proofs.Math.ListN.{get_or-map}
 use Rattle.std.proofs.lemmas.Bool.{true≢false, eqb-true, eqb-false, leb-true}
 use Rattle.std.proofs.lemmas.Bool.Decides.{eqb_tells, leb_tells}
-use Rattle.std.proofs.lemmas.List.{append-nil, get_or_past, get_or-set_same, get_or-set_other, length-replicate}
+use Rattle.std.proofs.lemmas.List.{get_or_past, get_or-set_same, get_or-set_other}
 use Rattle.nb_fields.specs.Header.{is_header}
 use Rattle.nb_host.specs.Names.{is_name}
 use Rattle.nb_host.specs.declared.refusals.Refusal.{Refusal}
 use Rattle.nb_model.specs.declared.reply.Reply.{Reply}
-use Rattle.nb_model.specs.declared.reply.Reply.TheVariants.{Scn}
 use Rattle.nb_model.specs.declared.statement.Statement.{Statement}
-use Rattle.nb_model.specs.declared.statement.Statement.TheVariants.{BeginBackup, EndBackup, Backup, CopyTo}
-use Rattle.nb_model.specs.Account.{Base, Account, Ask, IsBase}
-use Rattle.nb_model.specs.Backups.{room_in, ask_of, backup_turn, copy_turn, close_backup, close_copy}
+use Rattle.nb_model.specs.Account.{Base, Account, Ask}
+use Rattle.nb_model.specs.Backups.{room_in, close_backup, close_copy}
 use Rattle.nb_model.specs.Built.{is_built}
 use Rattle.nb_model.specs.Causes.{is_free_entry, runs_other}
-use Rattle.nb_model.specs.Going.{IsBeginning, AreBeginnings, AreMerging, IsNamed, AreNamed, HasRoom, Runs, IsAt, waits, backs_up, copies, ends as ending, merges, IsGoing}
+use Rattle.nb_model.specs.Going.{IsBeginning, AreBeginnings, AreMerging, IsNamed, AreNamed, HasRoom, Runs, IsAt, waits, backs_up, copies, ends as ending, merges, IsGoing, IsMaking}
 use Rattle.nb_model.specs.Image.{Page, Image, first_page, image_state}
 use Rattle.nb_model.specs.Outcomes.{Turn, Begins, Copies, ClosesBackup, ClosesCopy, Ends, Merges, Finishes, Backing, Seen, Outcome, Given, next_guid, passes}
-use Rattle.nb_model.specs.Pages.{begin_turn, end_turn, ends_by, end_strokes, end_scn}
-use Rattle.nb_model.specs.Run.{Now, Event, Played, base_now, account_after, outcome, stands_then, take_turn, one_turn, play, event_of, begun, files_made}
+use Rattle.nb_model.specs.Pages.{ends_by, end_strokes}
+use Rattle.nb_model.specs.Run.{Now, Played, base_now, account_after, outcome, stands_then, take_turn, one_turn, play, event_of, begun, files_made}
 use Rattle.nb_model.specs.Sound.{HasHeader, IsSoundImage}
-use Rattle.nb_model.specs.Strokes.{Stroke, begin, ends, finish, on_base, base_after}
+use Rattle.nb_model.specs.Strokes.{Stroke, begin, ends, on_base, base_after}
 use Rattle.nb_model.specs.Turns.{first_turn, turn}
 use Rattle.nb_model.specs.Well.{is_on_pages}
 use Rattle.nb_model.proofs.FinishLaws.{IsPlainTurn, ArePlain}
@@ -32,7 +30,7 @@ use Rattle.nb_model.proofs.OpeningLaws.{after_others}
 use Rattle.nb_model.proofs.PagesFit.{HasNoRows, pages_fit}
 use Rattle.nb_model.proofs.PutSound.{header_whole}
 use Rattle.nb_model.proofs.RoomLaws.{AnyPage, room_with}
-use Rattle.nb_model.proofs.RunLaws.{nothing_taken, turn_stands}
+use Rattle.nb_model.proofs.RunLaws.{turn_stands}
 use Rattle.nb_model.proofs.SoundTurns.{StaysSound, fitting_keeps, begin_keeps, ends_keep, finish_keeps, IsStarted, start_keeps, HasPlace, close_fits, seen_now}
 use Rattle.nb_model.proofs.TurnCases.{MayBegin, MayEnd, MayStart, MayCopy, refused, started, copied, IsOnce, refused_once, built_cases, begin_either, end_either, its_own, backup_either, copy_either, pages_once}
 use Rattle.nb_model.proofs.TurnCases as cases
@@ -61,7 +59,7 @@ pub one_runs : (now : Now) (place other m n : ℕ) → Runs now place m → Runs
 one_runs now place other m n a b = sym a.its ∙ ap (λ (x : ℕ). x - 1) (some_same a.by b.by (sym a.running ∙ b.running)) ∙ b.its
 
 -- the name of the database isn't free
-own_in_use : (now : Now) → IsGoing now → is_free_entry (now.account.entry now.name) ≡ true → ⊥
+pub own_in_use : (now : Now) → IsGoing now → is_free_entry (now.account.entry now.name) ≡ true → ⊥
 own_in_use now going free = free_unseen (now.account.entry now.name) free going.header.header going.state
 
 -- What stands behind an outcome.
@@ -107,11 +105,15 @@ pub record OthersStay (now : Now) (o : Outcome) : Type 0 where
   pub frozen : (base_after (base_now now) o.strokes).frozen ≡ (base_now now).frozen
   pub made : o.made ≡ None
 
+-- what is frozen stays so in the stalled state, or is the image as it becomes
+abbrev pub IsFrozenThen : Base → Base → Type 0
+IsFrozenThen old new = ((image_state old.image ≡ 1) × (new.frozen ≡ old.frozen)) ⊎ (new.frozen ≡ new.image)
+
 -- What a turn does where it comes.
 pub record IsStep (now : Now) (session : ℕ) (o : Outcome) (rest : List Turn) : Type 0 where
   pub keeps : StaysSound (base_now now) (base_after (base_now now) o.strokes)
   pub state : image_state (base_after (base_now now) o.strokes).image ≤ 2
-  pub frozen : image_state (base_after (base_now now) o.strokes).image ≡ 1 → is_header (first_page (base_after (base_now now) o.strokes).frozen) ≡ true
+  pub frozen : image_state (base_after (base_now now) o.strokes).image ≡ 1 → IsFrozenThen (base_now now) (base_after (base_now now) o.strokes)
   pub sixteen : AreSixteen o.given.guids
   pub own : IsAt (stands_then session rest o now) (session - 1) (o.next ++ rest)
   pub others : (other number : ℕ) → other ≢ session - 1 → 1 ≤ number → Runs now other number → OthersStay now o
@@ -145,7 +147,7 @@ module _ (session : ℕ) (now : Now) (going : IsGoing now) where
     fitting_step given own others = record {
       keeps = fitting_keeps K o.strokes b fits going.header going.sound;
       state = omega (arith, stays.state, going.state);
-      frozen = λ stalled. ap (λ (image : Image). is_header (first_page image)) stays.frozen ∙ going.frozen (sym stays.state ∙ stalled);
+      frozen = λ stalled. inl (sym stays.state ∙ stalled, stays.frozen);
       sixteen = subst AreSixteen (sym given) going.sixteen;
       own = own;
       others = λ other number off some runs. let both = others other number off runs in record { running = both.0; state = stays.state; frozen = stays.frozen; made = both.1 };
@@ -172,7 +174,7 @@ module _ (session : ℕ) (now : Now) (going : IsGoing now) where
       record {
         keeps = keeps.0;
         state = omega (arith, keeps.1);
-        frozen = λ stalled. subst (λ (image : Image). is_header (first_page image) ≡ true) (sym (begun_frozen b (next_guid s.given) None)) keeps.0.header.header;
+        frozen = λ stalled. inr (begun_frozen b (next_guid s.given) None);
         sixteen = rest_sixteen s.given.guids going.sixteen;
         own = waits all;
         others = λ other number off some runs. absurd (none_runs may.normal other number some runs);
@@ -210,7 +212,7 @@ module _ (session : ℕ) (now : Now) (going : IsGoing now) where
       record {
         keeps = is.keeps;
         state = omega (arith, is.state);
-        frozen = λ stalled. subst (λ (image : Image). is_header (first_page image) ≡ true) (sym is.frozen) is.keeps.header.header;
+        frozen = λ stalled. inr is.frozen;
         sixteen = rest_sixteen s.given.guids going.sixteen;
         own = backs_up (length (room_in b.image).draft.image) _ rest (append_assoc (replicate (length (room_in b.image).draft.image) Copies) _ rest) all
             (runs_then session rest o now (session - 1) session 1 refl refl is.state) (room_then session rest o now (room_in b.image).page (room_in b.image).slot is.room)
@@ -362,11 +364,8 @@ module _ (session : ℕ) (now : Now) (going : IsGoing now) where
       step_as u (Ends reply) rest tail e (ended_step session now going tail all reply (λ e. absurd (omega (arith, e, runs.state))) (only_one session now going 1 runs))
   turn_step u rest (merges turns runs) named = merging_step u rest turns runs
 
--- What stands behind it.
-module _ (session : ℕ) (now : Now) (going : IsGoing now) (u : Turn) (rest : List Turn) (is : get_or now.todo (session - 1) [] ≡ u ∷ rest) (o : Outcome) (step : IsStep now session o rest) where
-  abbrev last : Now
-  last = stands_then session rest o now
-
+-- What stands behind it: what its session has still to do, and the others.
+module _ (session : ℕ) (now : Now) (u : Turn) (rest : List Turn) (is : get_or now.todo (session - 1) [] ≡ u ∷ rest) (o : Outcome) where
   inside : session - 1 < length now.todo
   inside = elim (leb_tells (length now.todo) (session - 1)) [
     | inl low ↦ absurd (none_some (sym (get_or_past now.todo (session - 1) [] low.1) ∙ is))
@@ -376,11 +375,15 @@ module _ (session : ℕ) (now : Now) (going : IsGoing now) (u : Turn) (rest : Li
       none_some : [] ≡ u ∷ rest → ⊥
       none_some e = absurd (let long = ap length e in omega arith)
 
-  pub own_todo : get_or last.todo (session - 1) [] ≡ o.next ++ rest
+  pub own_todo : get_or (stands_then session rest o now).todo (session - 1) [] ≡ o.next ++ rest
   own_todo = ap (λ (todo : List (List Turn)). get_or todo (session - 1) []) (then_todo session rest o now) ∙ get_or-set_same now.todo (session - 1) (o.next ++ rest) [] inside
 
-  pub other_todo : (place : ℕ) → place ≢ session - 1 → get_or last.todo place [] ≡ get_or now.todo place []
+  pub other_todo : (place : ℕ) → place ≢ session - 1 → get_or (stands_then session rest o now).todo place [] ≡ get_or now.todo place []
   other_todo place off = ap (λ (todo : List (List Turn)). get_or todo place []) (then_todo session rest o now) ∙ get_or-set_other now.todo (session - 1) place (o.next ++ rest) [] off
+
+module _ (session : ℕ) (now : Now) (going : IsGoing now) (u : Turn) (rest : List Turn) (is : get_or now.todo (session - 1) [] ≡ u ∷ rest) (o : Outcome) (step : IsStep now session o rest) where
+  abbrev last : Now
+  last = stands_then session rest o now
 
   module _ (place : ℕ) (off : place ≢ session - 1) where
     stays_running : (number : ℕ) → 1 ≤ number → Runs now place number → Runs last place number
@@ -399,15 +402,25 @@ module _ (session : ℕ) (now : Now) (going : IsGoing now) (u : Turn) (rest : Li
     at_stays ts (ending reply tail e all runs) = ending reply tail e all (stays_running 1 (omega arith) runs)
     at_stays ts (merges turns runs) = merges turns (stays_running 2 (omega arith) runs)
 
+  frozen_keeps : (P : Image → Type 0) → IsFrozenThen (base_now now) (base_after (base_now now) o.strokes) → (image_state (base_now now).image ≡ 1 → P (base_now now).frozen) → P (base_after (base_now now) o.strokes).image
+      → P (base_after (base_now now) o.strokes).frozen
+  frozen_keeps P (inl same) before new = subst P (sym same.1) (before same.0)
+  frozen_keeps P (inr now_it) before new = subst P (sym now_it) new
+
+  stalled_then : (image_state (base_now now).image ≡ 1 → image_state (base_now now).frozen ≡ 1) → image_state (base_now last).image ≡ 1 → image_state (base_now last).frozen ≡ 1
+  stalled_then before = subst (λ (x : Base). image_state x.image ≡ 1 → image_state x.frozen ≡ 1) (sym (then_base session rest o now))
+      (λ stalled. frozen_keeps (λ image. image_state image ≡ 1) (step.frozen stalled) before stalled)
+
   pub going_then : IsGoing last
   going_then = record {
     header = subst (λ (x : Base). HasHeader x.image) (sym base) step.keeps.header;
     sound = subst (λ (x : Base). IsSoundImage x.image) (sym base) step.keeps.sound;
     state = subst (λ (x : Base). image_state x.image ≤ 2) (sym base) step.state;
-    frozen = subst (λ (x : Base). image_state x.image ≡ 1 → is_header (first_page x.frozen) ≡ true) (sym base) step.frozen;
+    frozen = subst (λ (x : Base). image_state x.image ≡ 1 → is_header (first_page x.frozen) ≡ true) (sym base)
+        (λ stalled. frozen_keeps (λ image. is_header (first_page image) ≡ true) (step.frozen stalled) going.frozen step.keeps.header.header);
     each = λ place. elim (eqb_tells place (session - 1)) [
-      | inl w ↦ subst (λ (p : ℕ). IsAt last p (get_or last.todo p [])) (sym w.1) (subst (IsAt last (session - 1)) (sym own_todo) step.own)
-      | inr w ↦ subst (IsAt last place) (sym (other_todo place w.1)) (at_stays place w.1 (get_or now.todo place []) (going.each place))
+      | inl w ↦ subst (λ (p : ℕ). IsAt last p (get_or last.todo p [])) (sym w.1) (subst (IsAt last (session - 1)) (sym (own_todo session now u rest is o)) step.own)
+      | inr w ↦ subst (IsAt last place) (sym (other_todo session now u rest is o place w.1)) (at_stays place w.1 (get_or now.todo place []) (going.each place))
     ];
     sixteen = subst (λ (g : Given). AreSixteen g.guids) (sym (then_given session rest o now)) step.sixteen;
   }
@@ -503,9 +516,9 @@ named_turn session now named going = one_cases (λ p. AreNamed p.1) session now 
     let after : Now = stands_then session rest o now in
     elim (eqb_tells place (session - 1)) [
       | inl w ↦ subst (λ (p : ℕ). AllByRecursion IsNamed (get_or after.todo p [])) (sym w.1)
-          (subst (AllByRecursion IsNamed) (sym (own_todo session now going u rest is o step))
+          (subst (AllByRecursion IsNamed) (sym (own_todo session now u rest is o))
           (named_append o.next rest (next_named session (seen_now now) (next_sixteen now.given going.sixteen) u plain.0 here.0) here.1))
-      | inr w ↦ subst (AllByRecursion IsNamed) (sym (other_todo session now going u rest is o step place w.1)) (named place)
+      | inr w ↦ subst (AllByRecursion IsNamed) (sym (other_todo session now u rest is o place w.1)) (named place)
     ])
 
 -- It goes on behind turns in an order.
@@ -513,6 +526,20 @@ pub going_play : (order : List ℕ) (now : Now) → AreNamed now → IsGoing now
 unfolding play
 going_play [] now named going = (going, named)
 going_play (x ∷ xs) now named going = going_play xs (one_turn x now).1 (named_turn x now named going) (going_turn x now named going)
+
+-- So do the files that are to be made.
+pub making_turn : (session : ℕ) (now : Now) → IsMaking now → IsMaking (one_turn session now).1
+making_turn session now m = record {
+  going = going_turn session now m.named m.going;
+  named = named_turn session now m.named m.going;
+  stalled = one_cases (λ p. image_state (base_now p.1).image ≡ 1 → image_state (base_now p.1).frozen ≡ 1) session now m.stalled
+      (λ u rest is. stalled_then session now m.going u rest is (outcome session u now) (next_step session now m.named m.going u rest is) m.stalled);
+}
+
+pub making_play : (order : List ℕ) (now : Now) → IsMaking now → IsMaking (play order now).1
+unfolding play
+making_play [] now m = m
+making_play (x ∷ xs) now m = making_play xs (one_turn x now).1 (making_turn x now m)
 
 -- What a turn of another session leaves of a copy or a merge that is under way at that place.
 pub record IsUndisturbed (now : Now) (place : ℕ) (p : Played) : Type 0 where
@@ -523,7 +550,7 @@ pub record IsUndisturbed (now : Now) (place : ℕ) (p : Played) : Type 0 where
   pub made : files_made p.0 ≡ []
   pub free : (name : List ℕ) → is_free_entry (now.account.entry name) ≡ true → is_free_entry (p.1.account.entry name) ≡ true
 
-none_made : files_made [] ≡ []
+pub none_made : files_made [] ≡ []
 unfolding files_made
 none_made = refl
 
@@ -553,7 +580,7 @@ module _ (session : ℕ) (now : Now) (going : IsGoing now) (place number : ℕ) 
         running = then_running session rest o now ∙ stay.running;
         state = ap (λ (x : Base). image_state x.image) base ∙ stay.state;
         frozen = ap (λ (x : Base). x.frozen) base ∙ stay.frozen;
-        todo = other_todo session now going u rest is o step place (λ e. off (sym e));
+        todo = other_todo session now u rest is o place (λ e. off (sym e));
         made = made_by session u o stay.made;
         free = λ name free. free_then session rest o now going stay.made name free;
       })
@@ -583,3 +610,7 @@ begun_going now sessions is built header sound state frozen sixteen = record {
 
 pub begun_named : (now : Now) (sessions : List (List Statement)) → now.todo ≡ begun sessions → ((place : ℕ) → AllByRecursion (λ (x : Statement). IsNamed (Begins x)) (slice_index_or sessions place [])) → AreNamed now
 begun_named now sessions is named place = subst (AllByRecursion IsNamed) (sym (begun_at now sessions is place)) (all_begin IsNamed (get_or sessions place []) (named place))
+
+pub begun_making : (now : Now) (sessions : List (List Statement)) → now.todo ≡ begun sessions → ((place : ℕ) → AllByRecursion (λ (x : Statement). IsNamed (Begins x)) (slice_index_or sessions place []))
+    → (image_state (base_now now).image ≡ 1 → image_state (base_now now).frozen ≡ 1) → IsGoing now → IsMaking now
+begun_making now sessions is named stalled going = record { going = going; named = begun_named now sessions is named; stalled = stalled }

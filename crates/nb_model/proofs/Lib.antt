@@ -74,3 +74,4 @@ pub mod HeldRoom
 pub mod BackupWell
 pub mod TurnCases
 pub mod GoingLaws
+pub mod MakingLaws

@@ -1,10 +1,10 @@
 -- Each stroke that makes room for a row of the history fits at its point, and each stroke that writes the row.
-use Rattle.std.proofs.Common.{◌≡◌, ◌≢◌, inl, inr, ℕ, zero, suc, ◌+◌, ◌-◌, ◌*◌, ◌/◌, ◌<◌, ◌≤◌, List, [], ◌∷◌, ◌++◌, length, drop, refl, sym, ap, subst, ◌∙◌, arith, length-drop, length-append}
-use Rattle.std.specs.Prelude.{Bool, true, false, not, ◌&&◌, ◌||◌, ◌==◌, nat_lt, Option, Some, None, Result, Ok, Err}
+use Rattle.std.proofs.Common.{◌≡◌, inl, inr, ℕ, zero, suc, ◌+◌, ◌-◌, ◌*◌, ◌/◌, ◌<◌, ◌≤◌, List, [], ◌∷◌, ◌++◌, length, drop, refl, sym, ap, subst, ◌∙◌, arith, length-drop, length-append}
+use Rattle.std.specs.Prelude.{Bool, true, false, ◌||◌, ◌==◌, nat_lt, Option, Some, None, Result, Ok, Err}
 use Rattle.std.specs.List.{AllByRecursion}
 use Rattle.std.proofs.Math.Nat.{div-mul-le_self}
 use Rattle.std.proofs.lemmas.Bool.{true≢false, and_parts, eqb-true, lt-ltb, ltb-true, false_from_ne_true}
-use Rattle.std.proofs.lemmas.Bool.Decides.{eqb_tells, leb_tells}
+use Rattle.std.proofs.lemmas.Bool.Decides.{eqb_tells}
 use Rattle.nb_fields.specs.Bytes.{bytes_of, with_part}
 use Rattle.nb_fields.specs.Page.{kind_of, stamped}
 use Rattle.nb_fields.specs.Payloads.{data_payload}
@@ -13,25 +13,23 @@ use Rattle.nb_fields.proofs.NumberLemmas.{length-bytes_of}
 use Rattle.nb_fields.proofs.PageLemmas.{length-padded}
 use Rattle.nb_fields.proofs.PartLemmas.{length-with_part}
 use Rattle.nb_fields.proofs.SizeLemmas.{SizeFacts, size_facts}
-use Rattle.nb_host.specs.declared.refusals.Refusal.{Refusal}
 use Rattle.nb_model.specs.Account.{Ask, Base}
-use Rattle.nb_model.specs.Backups.{Room, needs_taken, room_in, starts}
-use Rattle.nb_model.specs.Causes.{Cause, first_cause, when, read_only, not_state, no_scn, not_free, is_free_entry, broken_at, not_of_form, no_room}
-use Rattle.nb_model.specs.Chains.{Chain, History, Slot, Spot, owner_of, slots_from, slots_in, spots_on, spots_of, spots, is_in_chain, next_in, linked, walk, pages_of, found_pages, first_such, free_spot, put_slot, last_of, grown, backup_slot}
-use Rattle.nb_model.specs.Forms.{Draft, drafted, old_page, needs, put, raised, entry_raised, entry_written, written, wrote, inventory_of, scn_page_of, is_free_page, new_page}
+use Rattle.nb_model.specs.Backups.{Room, needs_taken, room_in}
+use Rattle.nb_model.specs.Causes.{broken_at}
+use Rattle.nb_model.specs.Chains.{Chain, History, Slot, Spot, slots_from, slots_in, spots_on, spots_of, spots, is_in_chain, next_in, linked, walk, pages_of, found_pages, first_such, free_spot, put_slot, last_of, grown, backup_slot}
+use Rattle.nb_model.specs.Forms.{Draft, drafted, old_page, needs, put, written, wrote, inventory_of, scn_page_of, is_free_page, new_page}
 use Rattle.nb_model.specs.Going.{HasRoom}
-use Rattle.nb_model.specs.Image.{Page, Image, page_at, image_size, image_state, image_scn, is_read_only}
+use Rattle.nb_model.specs.Image.{Page, Image, page_at, image_size, image_scn}
 use Rattle.nb_model.specs.Sound.{HasHeader, IsSoundImage}
-use Rattle.nb_model.specs.Strokes.{Stroke, begin, on_base, base_after}
+use Rattle.nb_model.specs.Strokes.{begin, on_base, base_after}
 use Rattle.nb_model.proofs.ControlMay.{may_begin}
 use Rattle.nb_model.proofs.ControlSound.{new_size, control_long}
 use Rattle.nb_model.proofs.DraftLaws.{IsKept, either, put_keeps}
-use Rattle.nb_model.proofs.FitLaws.{IsWhole, Fits, AreFitting, Stays, form_page, fits_first, fits_needs, page_keeps, fitting_stays, stays_still}
+use Rattle.nb_model.proofs.FitLaws.{IsWhole, Fits, Stays, form_page, fits_first, fits_needs, page_keeps, fitting_stays}
 use Rattle.nb_model.proofs.NewSound.{HoldsOfKinds, plain_place, new_fits}
-use Rattle.nb_model.proofs.PutSound.{IsPlace, IsPlain, IsPut, header_fields, header_whole, needs_image, old_length, plain_here}
+use Rattle.nb_model.proofs.PutSound.{IsPlain, IsPut, header_fields, header_whole, old_length, plain_here}
 use Rattle.nb_model.proofs.RoundLaws.{IsNew, new_is_new}
 use Rattle.nb_model.proofs.SoundLaws.{all_at, header_kind, with_page_length}
-use Rattle.nb_model.proofs.StrokeLaws.{base_after-append}
 
 -- What K has to hold of: the pages of the inventories, a new page of the history, and a page that is linked to the next.
 pub record HoldsOfHistory (K : Page → Type 0) : Type 0 where

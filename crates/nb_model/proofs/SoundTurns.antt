@@ -1,23 +1,19 @@
 -- A turn keeps an image sound: what it writes on pages, and the control strokes of a backup. It takes one GUID at most.
-use Rattle.std.proofs.Common.{◌≡◌, ◌⊎◌, inl, inr, ⊎_elim, ℕ, ◌+◌, ◌<◌, ◌≤◌, List, [], ◌∷◌, ◌++◌, length, refl, sym, ap, subst, ◌∙◌, arith}
+use Rattle.std.proofs.Common.{◌≡◌, ◌⊎◌, inl, inr, ℕ, ◌+◌, ◌<◌, ◌≤◌, List, [], ◌∷◌, ◌++◌, length, refl, sym, ap, subst, ◌∙◌, arith}
 use Rattle.std.specs.Prelude.{Bool, Option, Some, None, true, false, Contains, ◌==◌}
 use Rattle.std.proofs.lemmas.Bool.{eqb-true}
-use Rattle.nb_fields.specs.Header.{is_header}
-use Rattle.nb_fields.specs.Page.{kind_of}
 use Rattle.nb_host.specs.declared.refusals.Refusal.{Refusal}
 use Rattle.nb_model.specs.declared.reply.Reply.{Reply}
 use Rattle.nb_model.specs.declared.statement.Statement.{Statement}
-use Rattle.nb_model.specs.declared.statement.Statement.TheVariants.{BeginBackup, EndBackup, Backup, CopyTo}
 use Rattle.nb_model.specs.Account.{Ask, Base}
-use Rattle.nb_model.specs.Backups.{room_in, backup_turn, copy_turn, close_backup, close_copy}
+use Rattle.nb_model.specs.Backups.{room_in, close_backup, close_copy}
 use Rattle.nb_model.specs.Built.{is_built}
-use Rattle.nb_model.specs.Chains.{backup_slot, put_slot}
-use Rattle.nb_model.specs.Forms.{drafted}
+use Rattle.nb_model.specs.Chains.{backup_slot}
 use Rattle.nb_model.specs.Going.{HasRoom}
-use Rattle.nb_model.specs.Image.{Page, Image, first_page, image_size, image_state, image_scn, image_guid}
+use Rattle.nb_model.specs.Image.{Page, Image, image_size, image_state, image_scn, image_guid}
 use Rattle.nb_model.specs.NewGuids.{guids_in}
 use Rattle.nb_model.specs.Outcomes.{Turn, Begins, Copies, ClosesBackup, ClosesCopy, Ends, Merges, Finishes, Backing, Seen, Outcome, Given, next_guid, next_time, without_guid}
-use Rattle.nb_model.specs.Pages.{begin_turn, end_turn, ends_by, end_strokes}
+use Rattle.nb_model.specs.Pages.{ends_by, end_strokes}
 use Rattle.nb_model.specs.Run.{Now, base_now, outcome}
 use Rattle.nb_model.specs.Sound.{HasHeader, IsSoundImage}
 use Rattle.nb_model.specs.Strokes.{Stroke, page, begin, ends, finish, on_base, base_after, with_control}
@@ -33,7 +29,7 @@ use Rattle.nb_model.proofs.RoomLaws.{AnyPage, any_history, room_fits, room_there
 use Rattle.nb_model.proofs.SoundLaws.{header_stays, fields_stay}
 use Rattle.nb_model.proofs.GuidLaws.{AreSixteen, guids_append}
 use Rattle.nb_model.proofs.StrokeLaws.{base_after-append}
-use Rattle.nb_model.proofs.TurnCases.{MayStart, started, built_cases, begin_either, end_either, backup_either, copy_either, pages_once}
+use Rattle.nb_model.proofs.TurnCases.{MayStart, started, built_cases, begin_either, end_either, backup_either, copy_either}
 
 -- What strokes leave of a sound image: a sound one of the same page size, and no shorter.
 pub record StaysSound (old new : Base) : Type 0 where

@@ -6,7 +6,7 @@ use Rattle.nb_fields.specs.Bytes.{is_zeros}
 use Rattle.nb_fields.specs.Free.{is_free_file}
 use Rattle.nb_fields.specs.Header.{is_header, size_of, state_of}
 use Rattle.nb_host.specs.Files.{File}
-use Rattle.nb_model.specs.Account.{Base, base_of, Entry, Missing, Plain, IsBase}
+use Rattle.nb_model.specs.Account.{Entry, Missing, Plain, IsBase}
 use Rattle.nb_model.specs.Causes.{is_free_entry}
 use Rattle.nb_model.specs.Image.{Page, Image, first_page, image_state, image_in, cut, trimmed}
 use Rattle.nb_model.specs.Owner.{owner}

@@ -89,3 +89,10 @@ pub record IsGoing (now : Now) : Type 0 where
   pub frozen : image_state (base_now now).image ≡ 1 → is_header (first_page (base_now now).frozen) ≡ true
   pub each : (place : ℕ) → IsAt now place (slice_index_or now.todo place [])
   pub sixteen : AllByRecursion (λ (guid : List ℕ). length guid ≡ 16) now.given.guids
+
+-- What holds between two turns of all files that are still to be made: it goes on, they have names, and in the stalled state the frozen
+-- image is in that state.
+pub record IsMaking (now : Now) : Type 0 where
+  pub going : IsGoing now
+  pub named : AreNamed now
+  pub stalled : image_state (base_now now).image ≡ 1 → image_state (base_now now).frozen ≡ 1
