@@ -12,37 +12,15 @@ use Rattle.nb_model.specs.Making.{MadeFile, with_files}
 use Rattle.nb_model.specs.Run.{Now, Event, Opening, base_now, with_made, account_after, outcome, stands_then, take_turn, one_turn, play, event_of, strokes_of, files_made}
 use Rattle.nb_model.specs.Stands.{Stands}
 use Rattle.nb_model.specs.Strokes.{Stroke, base_in, base_after, records_after}
+use Rattle.nb_model.proofs.MakingLaws.{of_made, event_makes, made_append}
 use Rattle.nb_model.proofs.OpeningLaws.{with_kept}
 use Rattle.nb_model.proofs.OutputLaws.{strokes_one}
 use Rattle.nb_model.proofs.RunLaws.{base_in_base, entry_same, one_is, strokes_of-append}
 use Rattle.nb_model.proofs.StandsLaws.{entry_other, stands_same}
 use Rattle.nb_model.proofs.StrokeLaws.{records_after-append}
 
--- the file that a turn made, if it made one
-abbrev of_turn : Option (List ℕ × List ℕ) → List MadeFile
-of_turn None = []
-of_turn (Some file) = file ∷ []
-
-made_one : (e : Event) → files_made (e ∷ []) ≡ of_turn e.made
-unfolding files_made
-made_one e = by e.made
-  where
-    by : (made : Option (List ℕ × List ℕ)) → elim made as (λ z. List MadeFile) [ Some file ↦ file ∷ [] | None ↦ [] ] ≡ of_turn made
-    by None = refl
-    by (Some file) = refl
-
-made_append : (xs ys : List Event) → files_made (xs ++ ys) ≡ files_made xs ++ files_made ys
-unfolding files_made
-made_append [] ys = refl
-made_append (x ∷ xs) ys = by x.made (made_append xs ys)
-  where
-    by : (made : Option (List ℕ × List ℕ)) → files_made (xs ++ ys) ≡ files_made xs ++ files_made ys → elim made as (λ z. List MadeFile) [ Some file ↦ file ∷ files_made (xs ++ ys) | None ↦ files_made (xs ++ ys) ]
-        ≡ elim made as (λ z. List MadeFile) [ Some file ↦ file ∷ files_made xs | None ↦ files_made xs ] ++ files_made ys
-    by None later = later
-    by (Some file) later = ap (λ (fs : List MadeFile). file ∷ fs) later
-
 -- the account with the file of one turn
-made_with : (made : Option (List ℕ × List ℕ)) (account : Account) → with_made made account ≡ with_files (of_turn made) account
+made_with : (made : Option (List ℕ × List ℕ)) (account : Account) → with_made made account ≡ with_files (of_made made) account
 unfolding with_made with_files
 made_with None account = refl
 made_with (Some file) account = refl
@@ -89,7 +67,7 @@ behind_both a b c xs ys fs gs base h k = record {
       ∙ ap (λ (rs : List Kept). a.account.kept ++ rs) (ap (λ (x : Base). records_after (base_now a) xs ++ records_after x ys) base ∙ sym (records_after-append (base_now a) xs ys));
 }
 
-stands_behind : (session : ℕ) (rest : List Turn) (o : Outcome) (now : Now) → IsBehind now (stands_then session rest o now) o.strokes (of_turn o.made)
+stands_behind : (session : ℕ) (rest : List Turn) (o : Outcome) (now : Now) → IsBehind now (stands_then session rest o now) o.strokes (of_made o.made)
 unfolding stands_then account_after
 stands_behind session rest o now =
     let b : Base = base_after (base_in (now.account.entry now.name)) o.strokes in
@@ -110,8 +88,8 @@ one_behind session now = by (get_or now.todo (session - 1) [])
     by [] = behind_none now
     by (u ∷ rest) =
         let o : Outcome = outcome session u now in
-        subst (λ (fs : List MadeFile). IsBehind now (stands_then session rest o now) (strokes_of (event_of session u o ∷ [])) fs) (sym (made_one (event_of session u o)))
-        (subst (λ (ss : List Stroke). IsBehind now (stands_then session rest o now) ss (of_turn o.made)) (sym (strokes_one (event_of session u o))) (stands_behind session rest o now))
+        subst (λ (fs : List MadeFile). IsBehind now (stands_then session rest o now) (strokes_of (event_of session u o ∷ [])) fs) (sym (event_makes session u o))
+        (subst (λ (ss : List Stroke). IsBehind now (stands_then session rest o now) ss (of_made o.made)) (sym (strokes_one (event_of session u o))) (stands_behind session rest o now))
 
 -- Turns in an order do so.
 pub play_behind : (order : List ℕ) (now : Now) → IsBehind now (play order now).1 (strokes_of (play order now).0) (files_made (play order now).0)

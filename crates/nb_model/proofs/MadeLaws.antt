@@ -163,13 +163,8 @@ module _ (kept : List Kept) (distinct : (r q : Kept) → Contains kept r → Con
     | inr level ↦ level_whole r level.0 there level.1
   ])
 
--- So is a file under its name, where no difference file stands beside it.
-module _ (files : Files) (account : Account) (stands : Stands files account) where
-  abbrev kept : List Kept
-  kept = account.kept
-
-  its_whole : (bytes : List ℕ) → IsOfKept kept bytes → IsWholeFile kept stands.kept_records.distinct stands.sound_images.records bytes
-  its_whole = whole_file kept stands.kept_records.distinct stands.sound_images.records
+its_whole : (files : Files) (account : Account) (stands : Stands files account) (bytes : List ℕ) → IsOfKept account.kept bytes → IsWholeFile account.kept stands.kept_records.distinct stands.sound_images.records bytes
+its_whole files account stands = whole_file account.kept stands.kept_records.distinct stands.sound_images.records
 
 -- what the entry of a file is, that has these bytes and isn't opened
 closed_entry : (name bytes : List ℕ) (file delta : File) → file ≡ Some bytes → delta ≡ None → ((b : Base) → owner name (Some bytes) None ≡ Ok b → ⊥) → entry_of_files name file delta ≡ Plain bytes None
@@ -232,7 +227,7 @@ file_other files n m file other = by (same_name m n) refl
     by false is = ap (λ (t : Bool). if t then file else files m) (sym is)
 
 -- Of files that are made each has a name of its own kind, and no difference file stood beside it.
-pub record IsMaking (old new : Files) (kept : List Kept) (file : MadeFile) : Type 0 where
+pub record IsMadeFile (old new : Files) (kept : List Kept) (file : MadeFile) : Type 0 where
   pub plain : is_delta file.0 ≡ false
   pub alone : old (delta_name file.0) ≡ None
   pub is : IsInMaking kept (new file.0)
@@ -248,11 +243,11 @@ those_kept files [] account = refl
 those_kept files (f ∷ fs) account = those_kept files fs (with_entry f.0 (entry_in files f.0) account)
 
 -- no difference file is made
-no_delta : (old new : Files) (kept : List Kept) (made : List MadeFile) → ((f : MadeFile) → Contains made f → IsMaking old new kept f) → (n : List ℕ) → IsNoneOf made (delta_name n)
+no_delta : (old new : Files) (kept : List Kept) (made : List MadeFile) → ((f : MadeFile) → Contains made f → IsMadeFile old new kept f) → (n : List ℕ) → IsNoneOf made (delta_name n)
 no_delta old new kept made each n bytes there = true≢false (sym (delta_named n) ∙ (each (delta_name n, bytes) there).plain)
 
 -- The files stand for the account with what they give under the names of several files that are made.
-pub stands_those : (new : Files) (made : List MadeFile) (old : Files) (account : Account) → Stands old account → ((f : MadeFile) → Contains made f → IsMaking old new account.kept f)
+pub stands_those : (new : Files) (made : List MadeFile) (old : Files) (account : Account) → Stands old account → ((f : MadeFile) → Contains made f → IsMadeFile old new account.kept f)
     → ((m : List ℕ) → IsNoneOf made m → new m ≡ old m) → Stands new (with_those new made account)
 unfolding with_entry
 stands_those new [] old account stands each others = stands_files old new account stands (λ m. others m (λ bytes there. none_there (m, bytes) there))
@@ -263,7 +258,7 @@ stands_those new (f ∷ fs) old account stands each others =
     stands_those new fs mid (with_entry f.0 (entry_in new f.0) account) (subst (λ (e : Entry). Stands mid (with_entry f.0 e account)) same_entry mid_stands)
     (λ g there. let one = each g (later g there) in record { plain = one.plain; alone = mid_delta g.0 ∙ one.alone; is = one.is }) rest
   where
-    first : IsMaking old new account.kept f
+    first : IsMadeFile old new account.kept f
     first = each f (0, omega arith, refl)
 
     later : (g : MadeFile) → Contains fs g → Contains (f ∷ fs) g
@@ -309,7 +304,7 @@ pub stands_with_files : (old new : Files) (made : List MadeFile) (account : Acco
 stands_with_files old new made account stands each others =
     subst (Stands new) (those_whole new made account entries) (stands_those new made old account stands making others)
   where
-    making : (f : MadeFile) → Contains made f → IsMaking old new account.kept f
+    making : (f : MadeFile) → Contains made f → IsMadeFile old new account.kept f
     making f there = let one = each f there in record { plain = one.0; alone = one.1; is = whole f.1 one.2 one.3 }
 
     entries : (f : MadeFile) → Contains made f → entry_in new f.0 ≡ Plain f.1 None

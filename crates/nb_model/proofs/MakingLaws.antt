@@ -130,7 +130,7 @@ module _ (now : Now) (place : ℕ) where
   at_makes ts (ending reply tail e all runs) = inl (ap (making frozen_now) e ∙ ending_makes frozen_now tail reply ∙ beginnings_make frozen_now tail all)
   at_makes ts (merges turns runs) = inl (merging_makes frozen_now ts turns)
 
-  to_make : (ts : List Turn) (f : MadeFile) → IsAt now place ts → Contains (making frozen_now ts) f → IsToMake now place ts f
+  pub to_make : (ts : List Turn) (f : MadeFile) → IsAt now place ts → Contains (making frozen_now ts) f → IsToMake now place ts f
   to_make ts f at held = ⊎_elim (λ none. absurd (none_held f (held_as (making frozen_now ts) [] f none held)))
       (λ one. subst (IsToMake now place ts) (one_held one.0 f (held_as (making frozen_now ts) (one.0 ∷ []) f one.1.only held)) one.1) (at_makes ts at)
 
@@ -164,7 +164,7 @@ under_at frozen [] (suc place) f h = absurd (none_held f h)
 under_at frozen (ts ∷ todo) zero f h = Contains-append_left (making frozen ts) (making_all frozen todo) f h
 under_at frozen (ts ∷ todo) (suc place) f h = Contains-append_right (making frozen ts) (making_all frozen todo) f (under_at frozen todo place f h)
 
-under_place : (frozen : Image) (todo : List (List Turn)) (f : MadeFile) → Contains (making_all frozen todo) f → (place : ℕ) × Contains (making frozen (get_or todo place [])) f
+pub under_place : (frozen : Image) (todo : List (List Turn)) (f : MadeFile) → Contains (making_all frozen todo) f → (place : ℕ) × Contains (making frozen (get_or todo place [])) f
 unfolding making_all
 under_place frozen [] f h = absurd (none_held f h)
 under_place frozen (ts ∷ todo) f h =
@@ -194,7 +194,7 @@ begun_none now sessions is = ap (making_all (base_now now).frozen) is ∙ by ses
     by (ss ∷ all) = ap (λ (fs : List MadeFile). fs ++ making_all (base_now now).frozen (begun all)) (one ss) ∙ by all
 
 -- The turn of a session makes what its next turn is to make.
-made_append : (xs ys : List Event) → files_made (xs ++ ys) ≡ files_made xs ++ files_made ys
+pub made_append : (xs ys : List Event) → files_made (xs ++ ys) ≡ files_made xs ++ files_made ys
 unfolding files_made
 made_append [] ys = refl
 made_append (x ∷ xs) ys = by x.made (made_append xs ys)
@@ -232,7 +232,7 @@ turn_makes (Ends reply) plain session now = refl
 turn_makes Merges plain session now = refl
 turn_makes (Finishes reply) plain session now = refl
 
-event_makes : (session : ℕ) (u : Turn) (o : Outcome) → files_made (event_of session u o ∷ []) ≡ of_made o.made
+pub event_makes : (session : ℕ) (u : Turn) (o : Outcome) → files_made (event_of session u o ∷ []) ≡ of_made o.made
 unfolding files_made
 event_makes session u o = by o.made
   where

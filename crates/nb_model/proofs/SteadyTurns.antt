@@ -26,7 +26,7 @@ use Rattle.nb_model.specs.Turns.{first_turn, turn}
 use Rattle.nb_model.specs.Well.{is_on_pages}
 use Rattle.nb_model.specs.WellTrail.{IsWellTrail}
 use Rattle.nb_model.proofs.BackupWell.{IsRecorded, StartsWell, made_base, recorded_on, recorded_settled, start_well, close_well}
-use Rattle.nb_model.proofs.GoingLaws.{next_sixteen, one_runs, name_short, then_base, then_todo, IsStep, next_step, going_then, own_todo, other_todo, one_cases, going_turn, named_turn}
+use Rattle.nb_model.proofs.GoingLaws.{next_sixteen, one_runs, name_short, then_base, own_todo, other_todo, one_cases, going_turn, named_turn}
 use Rattle.nb_model.proofs.HeldLaws.{IsHeld, statement_holds}
 use Rattle.nb_model.proofs.OutputLaws.{strokes_one}
 use Rattle.nb_model.proofs.RunLaws.{one_is}
@@ -287,9 +287,6 @@ module _ (kept : List Kept) (t : Trail) (now : Now) (session : ℕ) (base : t.ba
     one = subst (λ (b : Base). IsTurn kept t now session (turn (seen kept t now session base w going b) session u).strokes ((turn (seen kept t now session base w going b) session u).next ++ rest)) base
         (turn_is kept t now session base w going u rest (subst (IsAt now (session - 1)) is (going.each (session - 1))) (subst (AllByRecursion IsNamed) is (named (session - 1))) (subst (AreRecorded kept t) is (recorded (session - 1))))
 
-    step : IsStep now session o rest
-    step = next_step session now named going u rest is
-
     -- another session's turns
     abbrev kept_then : List Kept
     kept_then = kept_along kept t (made o.strokes)
@@ -309,8 +306,8 @@ module _ (kept : List Kept) (t : Trail) (now : Now) (session : ℕ) (base : t.ba
 
     made_recorded : AllRecorded kept_then t_then then
     made_recorded place = elim (eqb_tells place (session - 1)) [
-      | inl w ↦ subst (λ (p : ℕ). AreRecorded kept_then t_then (get_or then.todo p [])) (sym w.1) (subst (AreRecorded kept_then t_then) (sym (own_todo session now going u rest is o step)) one.own)
-      | inr w ↦ subst (AreRecorded kept_then t_then) (sym (other_todo session now going u rest is o step place w.1)) (others_recorded place w.1 (get_or now.todo place []) (going.each place) (recorded place))
+      | inl w ↦ subst (λ (p : ℕ). AreRecorded kept_then t_then (get_or then.todo p [])) (sym w.1) (subst (AreRecorded kept_then t_then) (sym (own_todo session now u rest is o)) one.own)
+      | inr w ↦ subst (AreRecorded kept_then t_then) (sym (other_todo session now u rest is o place w.1)) (others_recorded place w.1 (get_or now.todo place []) (going.each place) (recorded place))
     ]
 
     abbrev settling : List Step
