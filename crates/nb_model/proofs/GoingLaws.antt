@@ -589,7 +589,7 @@ module _ (session : ℕ) (now : Now) (going : IsGoing now) (place number : ℕ) 
   runs_stay = record { by = runs.by; running = others_stay.running ∙ runs.running; its = runs.its; state = others_stay.state ∙ runs.state }
 
 -- At the start each session has statements to begin.
-begun_at : (now : Now) (sessions : List (List Statement)) → now.todo ≡ begun sessions → (place : ℕ) → get_or now.todo place [] ≡ map Begins (get_or sessions place [])
+pub begun_at : (now : Now) (sessions : List (List Statement)) → now.todo ≡ begun sessions → (place : ℕ) → get_or now.todo place [] ≡ map Begins (get_or sessions place [])
 begun_at now sessions is place = ap (λ (todo : List (List Turn)). get_or todo place []) is ∙ get_or-map (map Begins) sessions place []
 
 all_begin : (P : Turn → Type 0) (statements : List Statement) → AllByRecursion (λ (x : Statement). P (Begins x)) statements → AllByRecursion P (map Begins statements)

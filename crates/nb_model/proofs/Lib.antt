@@ -63,6 +63,7 @@ pub mod RecordLaws
 pub mod MadeLaws
 pub mod SteadyLaws
 pub mod SteadyTurns
+pub mod MadeTurns
 pub mod GrownLaws
 pub mod SoundTurns
 pub mod AccountLaws
