@@ -224,8 +224,8 @@ module _ (session : ℕ) (now : Now) (going : IsGoing now) where
   copied_step : (rest : List Turn) → AreBeginnings rest → (name : List ℕ) → MayCopy s name → IsStep now session (copied s session name) rest
   copied_step rest all name may = fitting_step rest (copied s session name) AnyPage tt refl
       (copies (length b.frozen) name rest (append_assoc (replicate (length b.frozen) Copies) (ClosesCopy name ∷ []) rest) all
-          (runs_then session rest (copied s session name) now (session - 1) session 1 refl refl (ap (λ (x : Base). image_state x.image) (no_more b) ∙ may.stalled))
-          (free_then session rest (copied s session name) now going refl name may.free))
+      (runs_then session rest (copied s session name) now (session - 1) session 1 refl refl (ap (λ (x : Base). image_state x.image) (no_more b) ∙ may.stalled))
+      (free_then session rest (copied s session name) now going refl name may.free))
       (λ other number off runs. absurd (none_some runs.by (sym may.alone ∙ runs.running)))
     where
       none_some : (by : ℕ) → None ≡ Some by → ⊥
@@ -335,8 +335,8 @@ module _ (session : ℕ) (now : Now) (going : IsGoing now) where
       let behind : List Turn = replicate left Copies ++ ClosesBackup backing ∷ tail in
       step_as u Copies rest behind e (copying_step behind runs
       (backs_up left backing tail refl all (still_runs session now going 1 runs behind)
-          (room_then session behind (passes (seen_now now)) now backing.page backing.slot (subst (λ (x : Base). HasRoom x.image backing.page backing.slot) (sym (no_more (base_now now))) room))
-          (free_then session behind (passes (seen_now now)) now going refl backing.name free)))
+      (room_then session behind (passes (seen_now now)) now backing.page backing.slot (subst (λ (x : Base). HasRoom x.image backing.page backing.slot) (sym (no_more (base_now now))) room))
+      (free_then session behind (passes (seen_now now)) now going refl backing.name free)))
 
   copy_step : (left : ℕ) (name : List ℕ) (u : Turn) (rest tail : List Turn) → u ∷ rest ≡ replicate left Copies ++ ClosesCopy name ∷ tail → AreBeginnings tail
       → Runs now (session - 1) 1 → is_free_entry (now.account.entry name) ≡ true → Steps u rest

@@ -117,16 +117,22 @@ module _ (now : Now) (place : ℕ) where
 
   at_makes : (ts : List Turn) → IsAt now place ts → (making frozen_now ts ≡ []) ⊎ ((f : MadeFile) × IsToMake now place ts f)
   at_makes ts (waits all) = inl (beginnings_make frozen_now ts all)
-  at_makes ts (backs_up left b tail e all runs room free) = inr ((b.name, file_of 102 (kept_of b frozen_now)), record {
-    runs = runs;
-    free = free;
-    only = ap (making frozen_now) e ∙ copies_make frozen_now left (ClosesBackup b ∷ tail) ∙ closing_makes frozen_now b tail ∙ ap (λ (fs : List MadeFile). (b.name, file_of 102 (kept_of b frozen_now)) ∷ fs) (beginnings_make frozen_now tail all);
-  })
-  at_makes ts (copies left name tail e all runs free) = inr ((name, joined frozen_now), record {
-    runs = runs;
-    free = free;
-    only = ap (making frozen_now) e ∙ copies_make frozen_now left (ClosesCopy name ∷ tail) ∙ copying_makes frozen_now name tail ∙ ap (λ (fs : List MadeFile). (name, joined frozen_now) ∷ fs) (beginnings_make frozen_now tail all);
-  })
+  at_makes ts (backs_up left b tail e all runs room free) = inr (
+    (b.name, file_of 102 (kept_of b frozen_now)),
+    record {
+      runs = runs;
+      free = free;
+      only = ap (making frozen_now) e ∙ copies_make frozen_now left (ClosesBackup b ∷ tail) ∙ closing_makes frozen_now b tail ∙ ap (λ (fs : List MadeFile). (b.name, file_of 102 (kept_of b frozen_now)) ∷ fs) (beginnings_make frozen_now tail all);
+    },
+  )
+  at_makes ts (copies left name tail e all runs free) = inr (
+    (name, joined frozen_now),
+    record {
+      runs = runs;
+      free = free;
+      only = ap (making frozen_now) e ∙ copies_make frozen_now left (ClosesCopy name ∷ tail) ∙ copying_makes frozen_now name tail ∙ ap (λ (fs : List MadeFile). (name, joined frozen_now) ∷ fs) (beginnings_make frozen_now tail all);
+    },
+  )
   at_makes ts (ending reply tail e all runs) = inl (ap (making frozen_now) e ∙ ending_makes frozen_now tail reply ∙ beginnings_make frozen_now tail all)
   at_makes ts (merges turns runs) = inl (merging_makes frozen_now ts turns)
 
@@ -394,7 +400,7 @@ under_among session now going f held = by (under_place (base_now now).frozen now
                 (under_at (base_now (stands_then session rest (outcome session Copies now) now)).frozen (stands_then session rest (outcome session Copies now) now).todo (session - 1) f
                 (subst (λ (b : Base). Contains (making b.frozen (get_or (stands_then session rest (outcome session Copies now) now).todo (session - 1) [])) f) (sym (copying_base session rest now))
                 (subst (λ (ts : List Turn). Contains (making frozen ts) f)
-                    (sym (own_todo session now u rest is (outcome session Copies now) ∙ ap (λ (ts : List Turn). ts ++ rest) (copying_next session now))) later)))
+                (sym (own_todo session now u rest is (outcome session Copies now) ∙ ap (λ (ts : List Turn). ts ++ rest) (copying_next session now))) later)))
 
 -- What is under way has a free name,
 pub under_free : (now : Now) → IsGoing now → (f : MadeFile) → Contains (under_way now) f → is_free_entry (now.account.entry f.0) ≡ true

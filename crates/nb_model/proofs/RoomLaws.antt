@@ -288,8 +288,13 @@ module _ (b : Base) (h : HasHeader b.image) (is : IsSoundImage b.image) (unbroke
 
       link_put : IsPut K b made.0.image last 5 link d
       link_put = plain_here K holds.kinds.scn_pages b last 5 link made.0 made_fits link_plain refl
-          (omega (arith, size.at_least, page_long, length-drop 16 (with_part 16 (bytes_of 4 made.1) (page_at made.0.image last)),
-              length-with_part 16 (bytes_of 4 made.1) (page_at made.0.image last) (omega (arith, size.at_least, page_long, length-bytes_of 4 made.1))))
+          (omega (
+            arith,
+            size.at_least,
+            page_long,
+            length-drop 16 (with_part 16 (bytes_of 4 made.1) (page_at made.0.image last)),
+            length-with_part 16 (bytes_of 4 made.1) (page_at made.0.image last) (omega (arith, size.at_least, page_long, length-bytes_of 4 made.1)),
+          ))
           (subst (λ (old : Page). K (stamped old 5 link (image_scn made.0.image) last)) (sym (old_there made.0.image last (omega (arith, last_low, made_long))))
           (holds.linked (page_at made.0.image last) made.1 (image_scn made.0.image) last (omega (arith, size.at_least, page_long)) last_kind
           (subst (λ (x : Image). K (page_at x last)) made_fits.is.is (page_keeps K last made.0.strokes b made_fits.each whole (chain last last_in)))))

@@ -511,9 +511,9 @@ other_pages (Err p) = λ e. cc
 start_never_usage : (s : Seen) (session : ℕ) (name : List ℕ) (ask : Ask) (missing : Cause) → IsOther missing → NoUsage (starts s session name ask missing)
 unfolding starts
 start_never_usage s session name ask missing other = guarded_other s _ _ (other_first _ (
-    other_read_only s.base.image,
-    (other_when _ _ (λ e. cc), (other_when _ _ (λ e. cc), (other_pages (pages_of History s.base.image), (other, (other_broken (room_in s.base.image).draft.broken, (other_when _ _ (λ e. cc), (other_when _ _ (λ e. cc), tt))))))),
-  )) (λ e. cc)
+  other_read_only s.base.image,
+  (other_when _ _ (λ e. cc), (other_when _ _ (λ e. cc), (other_pages (pages_of History s.base.image), (other, (other_broken (room_in s.base.image).draft.broken, (other_when _ _ (λ e. cc), (other_when _ _ (λ e. cc), tt))))))),
+)) (λ e. cc)
 
 pub backup_never_usage : (s : Seen) (session level : ℕ) (name : List ℕ) → (first_turn s session (Backup level name)).reply ≢ Some (Refused Usage)
 unfolding first_turn backup_turn
