@@ -18,7 +18,7 @@ use Rattle.nb_model.specs.Image.{Image, Numbered, first_page, image_guid, image_
 use Rattle.nb_model.specs.Account.{Ask, Kept, Base, Entry, Plain, IsBase, Account, with_entry}
 use Rattle.nb_model.specs.Causes.{Cause, not_database}
 use Rattle.nb_model.specs.Levels.{Head, Contents, first_fault, head_for, head_in, head_then, joined, taken, level_bytes, file_for, file_of, read_level, read_pages, with_head}
-use Rattle.nb_model.specs.Making.{MadeFile, IsNoneOf, with_files}
+use Rattle.nb_model.specs.Making.{MadeFile, IsNoneOf, with_files, IsOfKept, its_file, its_pages, IsNoBackup}
 use Rattle.nb_model.specs.Owner.{delta_name, owner, owner_in, owner_with, entry_in, entry_of_files}
 use Rattle.nb_model.specs.Stands.{IsKeptAs, IsBegun, IsFileOf, IsCopyOf, HoldsItsRecord, is_applying, Stands}
 use Rattle.nb_model.proofs.FreeLaws.{closed_under, free_under, stands_files}
@@ -30,16 +30,6 @@ use Rattle.nb_model.proofs.OpenedLaws.{joined_front, has_main}
 use Rattle.nb_model.proofs.RunLaws.{same_self}
 use Rattle.nb_model.proofs.SoundLaws.{header_kind}
 use Rattle.nb_model.proofs.StandsLaws.{names_tell, delta_named, no_main, StandsUnder, formed_header, no_level_begins, header_no_level, applying_state, stands_with_both}
-
--- No job takes the bytes for a backup: they are no level file, and begin with no header.
-pub record IsNoBackup (bytes : List ℕ) : Type 0 where
-  pub no_level : (c : Contents) → read_level bytes ≡ Ok c → ⊥
-  pub no_header : is_header bytes ≡ false
-
--- the bytes are the file of a kept record, or the pages of its image
-pub data IsOfKept (kept : List Kept) (bytes : List ℕ) : Type 0 where
-  its_file : (r : Kept) → Contains kept r → bytes ≡ file_of 102 r → IsOfKept kept bytes
-  its_pages : (r : Kept) → Contains kept r → bytes ≡ joined r.image → IsOfKept kept bytes
 
 -- A file that is made: its name is free still, it is unfinished, or it is whole.
 pub data IsInMaking (kept : List Kept) (file : File) : Type 0 where
@@ -214,6 +204,10 @@ module _ (old new : Files) (account : Account) (name : List ℕ) (stands : Stand
   pub whole_entry : (bytes : List ℕ) → new name ≡ Some bytes → IsOfKept account.kept bytes → entry_in new name ≡ Plain bytes None
   whole_entry bytes there is = closed_entry name bytes (new name) (new (delta_name name)) there alone ((its_whole old account stands bytes is).closed name)
 
+  -- Where it is whole, they stand for it with that file.
+  pub stands_whole : (bytes : List ℕ) → new name ≡ Some bytes → IsOfKept account.kept bytes → Stands new (with_entry name (Plain bytes None) account)
+  stands_whole bytes there is = subst (λ (e : Entry). Stands new (with_entry name e account)) (whole_entry bytes there is) (stands_making (whole bytes there is))
+
 file_same : (files : Files) (n : List ℕ) (file : File) → with_file files n file n ≡ file
 unfolding with_file
 file_same files n file = ap (λ (t : Bool). if t then file else files n) (same_self n)
@@ -243,8 +237,8 @@ those_kept files [] account = refl
 those_kept files (f ∷ fs) account = those_kept files fs (with_entry f.0 (entry_in files f.0) account)
 
 -- no difference file is made
-no_delta : (old new : Files) (kept : List Kept) (made : List MadeFile) → ((f : MadeFile) → Contains made f → IsMadeFile old new kept f) → (n : List ℕ) → IsNoneOf made (delta_name n)
-no_delta old new kept made each n bytes there = true≢false (sym (delta_named n) ∙ (each (delta_name n, bytes) there).plain)
+no_delta : (old new : Files) (rs : List Kept) (made : List MadeFile) → ((f : MadeFile) → Contains made f → IsMadeFile old new rs f) → (n : List ℕ) → IsNoneOf made (delta_name n)
+no_delta old new rs made each n bytes there = true≢false (sym (delta_named n) ∙ (each (delta_name n, bytes) there).plain)
 
 -- The files stand for the account with what they give under the names of several files that are made.
 pub stands_those : (new : Files) (made : List MadeFile) (old : Files) (account : Account) → Stands old account → ((f : MadeFile) → Contains made f → IsMadeFile old new account.kept f)

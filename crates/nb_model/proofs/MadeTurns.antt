@@ -1,28 +1,32 @@
 -- The files that turns make are those of records that are kept: of the backup that is under way, or of the one that stands stalled.
-use Rattle.std.proofs.Common.{◌≡◌, ⊎_elim, ℕ, zero, suc, ◌-◌, ◌<◌, List, [], ◌∷◌, ◌++◌, map, get_or, refl, sym, ap, subst, ◌∙◌, arith}
+use Rattle.std.proofs.Common.{◌≡◌, ⊎_elim, ℕ, zero, suc, ◌-◌, ◌<◌, List, [], ◌∷◌, ◌++◌, map, take, get_or, refl, sym, ap, subst, ◌∙◌, arith}
 use Rattle.std.specs.Prelude.{Contains}
 use Rattle.std.proofs.lemmas.List.Elements.{Contains-append_left, Contains-append_cases}
 use Rattle.nb_model.specs.declared.statement.Statement.{Statement}
 use Rattle.nb_model.specs.Account.{Kept, Base}
-use Rattle.nb_model.specs.Going.{AreNamed, Runs, IsGoing}
+use Rattle.nb_model.specs.Going.{AreBeginnings, AreNamed, Runs, IsGoing}
 use Rattle.nb_model.specs.Image.{Image, image_state}
 use Rattle.nb_model.specs.Levels.{joined}
-use Rattle.nb_model.specs.Making.{MadeFile, kept_of, making, making_by, under_way}
+use Rattle.nb_model.specs.Making.{MadeFile, kept_of, making, making_by, under_way, IsOfKept, its_file, its_pages}
 use Rattle.nb_model.specs.Outcomes.{Turn, Begins, Copies, ClosesBackup, ClosesCopy, Ends, Merges, Finishes}
-use Rattle.nb_model.specs.Run.{Now, Event, Played, base_now, one_turn, play, begun, files_made}
+use Rattle.nb_model.specs.Run.{Now, Event, Played, base_now, one_turn, play, begun, files_made, strokes_of}
 use Rattle.nb_model.specs.Steps.{Step, after_steps, steps_of, strokes_in}
 use Rattle.nb_model.specs.Strokes.{records_after}
-use Rattle.nb_model.specs.Trail.{Trail}
+use Rattle.nb_model.specs.Trail.{Trail, settled}
 use Rattle.nb_model.specs.Well.{IsOfRecord}
 use Rattle.nb_model.specs.WellTrail.{IsWellTrail}
+use Rattle.nb_model.proofs.GuidLaws.{strokes_in_steps}
 use Rattle.nb_model.proofs.GoingLaws.{begun_at, going_turn, named_turn}
-use Rattle.nb_model.proofs.MadeLaws.{IsOfKept, its_file, its_pages}
 use Rattle.nb_model.proofs.MakingLaws.{IsToMake, to_make, under_place, made_append, made_among}
-use Rattle.nb_model.proofs.SteadyLaws.{kept_along, kept_append, kept_is, along_last}
-use Rattle.nb_model.proofs.SteadyTurns.{AreRecorded, AllRecorded, StaysWell, one_well}
+use Rattle.nb_model.proofs.SteadyLaws.{WellAlong, along_front, kept_along, kept_append, kept_is, along_last}
+use Rattle.nb_model.proofs.SteadyTurns.{beginnings_recorded, AreRecorded, AllRecorded, StaysWell, one_well, play_along}
 use Rattle.nb_model.proofs.StepsLaws.{steps_append}
 
--- At the start no backup is under way.
+-- Where all sessions have statements to begin no backup is under way.
+pub waiting_recorded : (kept : List Kept) (t : Trail) (now : Now) → ((place : ℕ) → AreBeginnings (get_or now.todo place [])) → AllRecorded kept t now
+waiting_recorded kept t now waits place = beginnings_recorded kept t (get_or now.todo place []) (waits place)
+
+-- So it is at the start.
 pub first_recorded : (kept : List Kept) (t : Trail) (now : Now) (sessions : List (List Statement)) → now.todo ≡ begun sessions → AllRecorded kept t now
 first_recorded kept t now sessions is place = subst (AreRecorded kept t) (sym (begun_at now sessions is place)) (all_begun (get_or sessions place []))
   where
@@ -92,3 +96,20 @@ play_of_kept (x ∷ xs) kept t now base w going named recorded f there =
     (λ here. of_kept_along behind u (steps_of later.0) f.1 (of_kept_along kept t (steps_of es) f.1 (made_of_kept kept t now base w going recorded x f here)))
     (λ further. play_of_kept xs behind u mid one.base (along_last kept t (steps_of es) one.along) (going_turn x now named going) (named_turn x now named going) one.recorded f further)
     (Contains-append_cases (files_made es) (files_made later.0) f (subst (λ (fs : List MadeFile). Contains fs f) (made_append es later.0) there)))
+
+-- At each front of its steps what a run has seen is well.
+pub front_well : (kept : List Kept) (now : Now) (order : List ℕ) (k : ℕ) → IsGoing now → AreNamed now → ((place : ℕ) → AreBeginnings (get_or now.todo place [])) → IsWellTrail kept (settled (base_now now))
+    → IsWellTrail (kept ++ records_after (base_now now) (strokes_in (take k (steps_of (play order now).0)))) (after_steps (settled (base_now now)) (take k (steps_of (play order now).0)))
+front_well kept now order k going named waits w =
+    let t : Trail = settled (base_now now) in
+    let steps : List Step = steps_of (play order now).0 in
+    let along : WellAlong kept t steps = play_along order kept t now refl w going named (waiting_recorded kept t now waits) in
+    subst (λ (rs : List Kept). IsWellTrail rs (after_steps t (take k steps))) (kept_is kept t (take k steps)) (along_last kept t (take k steps) (along_front kept t steps along k))
+
+-- and all that it makes is of the records that it has kept by then.
+pub files_of_kept : (kept : List Kept) (now : Now) (order : List ℕ) (f : MadeFile) → IsGoing now → AreNamed now → ((place : ℕ) → AreBeginnings (get_or now.todo place [])) → IsWellTrail kept (settled (base_now now))
+    → Contains (files_made (play order now).0) f → IsOfKept (kept ++ records_after (base_now now) (strokes_of (play order now).0)) f.1
+files_of_kept kept now order f going named waits w there =
+    let t : Trail = settled (base_now now) in
+    subst (λ (rs : List Kept). IsOfKept rs f.1) (kept_is kept t (steps_of (play order now).0) ∙ ap (λ ss. kept ++ records_after (base_now now) ss) (strokes_in_steps (play order now).0))
+    (play_of_kept order kept t now refl w going named (waiting_recorded kept t now waits) f there)
