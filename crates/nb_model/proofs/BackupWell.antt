@@ -1,5 +1,5 @@
 -- The start and the close of a backup keep what was seen well: the row that the close writes names the record that the begin has kept.
-use Rattle.std.proofs.Common.{◌≡◌, ◌≢◌, inl, inr, ℕ, zero, suc, ◌+◌, ◌*◌, ◌<◌, ◌≤◌, List, [], ◌∷◌, ◌++◌, length, take, drop, refl, sym, ap, subst, ◌∙◌, arith, append_assoc}
+use Rattle.std.proofs.Common.{◌≡◌, ℕ, suc, ◌+◌, ◌*◌, ◌<◌, ◌≤◌, List, [], ◌∷◌, ◌++◌, length, take, drop, refl, sym, ap, subst, ◌∙◌, arith, append_assoc}
 use Rattle.std.specs.Prelude.{Bool, true, false, ◌&&◌, ◌==◌, Option, Some, None, Contains}
 use Rattle.std.specs.List.{AllByRecursion}
 use Rattle.std.proofs.lemmas.Bool.{and_parts}
@@ -9,15 +9,15 @@ use Rattle.nb_fields.specs.Bytes.{bytes_of, number_in, padded, with_part}
 use Rattle.nb_fields.specs.Page.{kind_of, stamped}
 use Rattle.nb_fields.proofs.NumberLemmas.{number_of-bytes_of}
 use Rattle.nb_model.specs.Account.{Ask, Kept, Base, Entry}
-use Rattle.nb_model.specs.Backups.{room_in, ask_of, close_backup}
+use Rattle.nb_model.specs.Backups.{room_in, ask_of}
 use Rattle.nb_model.specs.Causes.{broken_at}
 use Rattle.nb_model.specs.Chains.{History, Slot, Spot, is_used, level_in, scn_in, guid_in, slots_in, spots_on, spots_of, spots, pages_of, found_pages, last_such, backup_spot, backup_slot, put_slot, is_in_chain}
-use Rattle.nb_model.specs.Forms.{Draft, drafted}
+use Rattle.nb_model.specs.Forms.{drafted}
 use Rattle.nb_model.specs.Image.{Page, Image, page_at, image_size, image_state, image_scn}
 use Rattle.nb_model.specs.Making.{kept_of}
-use Rattle.nb_model.specs.Outcomes.{Backing, Given, Seen, next_guid, next_time}
-use Rattle.nb_model.specs.Sound.{HasHeader, IsSoundImage}
-use Rattle.nb_model.specs.Stands.{nil, is_history_page, IsKeptAs, GoesOn, GoesOnFrom, IsRemembered, HasRows, NamesPast}
+use Rattle.nb_model.specs.Outcomes.{Backing, Given, Seen, next_guid}
+use Rattle.nb_model.specs.Sound.{HasHeader}
+use Rattle.nb_model.specs.Stands.{is_history_page, GoesOn, GoesOnFrom, IsRemembered, HasRows, NamesPast}
 use Rattle.nb_model.specs.Steps.{Step, makes, after_step, after_steps, made}
 use Rattle.nb_model.specs.Strokes.{Stroke, begin, on_base, base_after, records_of}
 use Rattle.nb_model.specs.Trail.{Trail, settled, settles_at, after_stroke}
@@ -26,13 +26,13 @@ use Rattle.nb_model.proofs.ControlMay.{may_begin}
 use Rattle.nb_model.proofs.ControlSound.{control_rest, control_long, control_goes_on, new_size, new_free}
 use Rattle.nb_model.proofs.ControlWell.{goes_on_now}
 use Rattle.nb_model.proofs.EarlierLaws.{last_one}
-use Rattle.nb_model.proofs.FitLaws.{Fits, AreFitting, Stays, fitting_stays}
+use Rattle.nb_model.proofs.FitLaws.{Fits, Stays, fitting_stays}
 use Rattle.nb_model.proofs.HeldLaws.{IsHeld, held_by}
 use Rattle.nb_model.proofs.HeldRoom.{HoldsRows, HasChainRows, room_held}
 use Rattle.nb_model.proofs.PastLaws.{all_rows, no_history, no_rows_pass, kept_more, remembered_with}
 use Rattle.nb_model.proofs.PutSound.{header_whole}
 use Rattle.nb_model.proofs.RecordLaws.{HasParent}
-use Rattle.nb_model.proofs.RoomLaws.{HoldsOfHistory, AreFound, in_chain, pages_found, room_fits, slot_fits, backup_length}
+use Rattle.nb_model.proofs.RoomLaws.{HoldsOfHistory, in_chain, pages_found, room_fits, slot_fits, backup_length}
 use Rattle.nb_model.proofs.SlotLaws.{linked_slots, linked_history, new_slots, rows_written}
 use Rattle.nb_model.proofs.SoundLaws.{all_at}
 use Rattle.nb_model.proofs.SoundTurns.{HasPlace}

@@ -1,11 +1,11 @@
 -- A page of the history that is taken stays as it is, whatever statements on pages do.
-use Rattle.std.proofs.Common.{◌≡◌, ◌≢◌, ◌⊎◌, inl, inr, ℕ, zero, suc, ◌+◌, ◌-◌, ◌/◌, ◌%◌, ◌<◌, ◌≤◌, List, [], ◌∷◌, ◌++◌, length, drop, refl, sym, ap, subst, ◌∙◌, arith, length-drop}
+use Rattle.std.proofs.Common.{◌≡◌, ◌≢◌, ◌⊎◌, inl, inr, ℕ, zero, suc, ◌+◌, ◌-◌, ◌/◌, ◌%◌, ◌<◌, ◌≤◌, List, [], length, drop, refl, sym, ap, subst, ◌∙◌, arith}
 use Rattle.std.specs.Prelude.{Bool, true, false, ◌==◌, Some, None}
-use Rattle.std.proofs.lemmas.Bool.{true≢false, eq-eqb, or_parts}
-use Rattle.std.proofs.lemmas.Bool.Decides.{eqb_tells, leb_tells}
+use Rattle.std.proofs.lemmas.Bool.{true≢false, or_parts}
+use Rattle.std.proofs.lemmas.Bool.Decides.{eqb_tells}
 use Rattle.nb_fields.specs.Page.{kind_of}
 use Rattle.nb_fields.specs.Payloads.{bit_of, text_payload}
-use Rattle.nb_fields.specs.Places.{bits_in, entries_in, inventory_place, scn_place, is_inventory_place, is_scn_place, is_system_place}
+use Rattle.nb_fields.specs.Places.{bits_in, entries_in, inventory_place, is_inventory_place, is_system_place}
 use Rattle.nb_fields.proofs.PlaceLemmas.{bits-least}
 use Rattle.nb_fields.proofs.SizeLemmas.{SizeFacts, size_facts}
 use Rattle.nb_model.specs.declared.statement.Statement.{Statement}
@@ -13,7 +13,7 @@ use Rattle.nb_model.specs.declared.statement.Statement.TheVariants.{CreateDb, Op
 use Rattle.nb_model.specs.Account.{Base}
 use Rattle.nb_model.specs.Backups.{pages_turn}
 use Rattle.nb_model.specs.Causes.{Cause, not_raw}
-use Rattle.nb_model.specs.Forms.{Draft, drafted, needs, old_page, is_kind, put, set_bit, with_bit, take_page, give_page, is_free_page, inventory_of, scn_page_of, bit_number, free_from, lowest_free, system_page, system_kind, system_payload, new_within, new_page}
+use Rattle.nb_model.specs.Forms.{Draft, drafted, old_page, is_kind, put, set_bit, with_bit, take_page, give_page, is_free_page, inventory_of, bit_number, free_from, lowest_free, system_page, system_kind, system_payload, new_within, new_page}
 use Rattle.nb_model.specs.Image.{Page, Image, page_at, image_size, image_scn, with_page}
 use Rattle.nb_model.specs.Outcomes.{Seen, Outcome, unless, changes}
 use Rattle.nb_model.specs.Pages.{new_turn, write_turn, read_turn, free_turn, forced_turn, access_turn, header_turn, image_turn, cache_turn, byte_strokes}
@@ -31,8 +31,7 @@ use Rattle.nb_model.proofs.NewSound.{inventory_before, new_raw_fits, empty_text}
 use Rattle.nb_model.proofs.PutSound.{IsPlace, IsPlain, no_first, not_when, raw_facts, raw_plain, header_whole, text_fits}
 use Rattle.nb_model.proofs.RoomLaws.{old_there}
 use Rattle.nb_model.proofs.RoundLaws.{AnyPage, any_kinds, IsFound, round, no_place, bit_by, kind_found, needs_found, put_longer, put_size, put_here, put_other, put_inventory, take_here, system_well, system_low, round_image, round_well, plain_well, plain_low, last_image, last_same, found, new_more, new_last}
-use Rattle.nb_model.proofs.SoundLaws.{FitsAt, all_at, inventory_there, scn_page_there, inventory_place_some, size_stays, written_other, with_page_length}
-use Rattle.nb_model.proofs.StrokeLaws.{with_page_other}
+use Rattle.nb_model.proofs.SoundLaws.{FitsAt, all_at, inventory_there, inventory_place_some, size_stays, written_other, with_page_length}
 
 -- The page holds these bytes, is no system page, and is taken.
 pub record IsHeld (q : ℕ) (bytes : Page) (image : Image) : Type 0 where

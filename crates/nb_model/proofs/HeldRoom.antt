@@ -1,5 +1,5 @@
 -- Where room is made for a row of the history, its page is held, and each row on it is one that stood on a page of the history.
-use Rattle.std.proofs.Common.{◌≡◌, ◌≢◌, inl, inr, ℕ, ◌+◌, ◌/◌, ◌<◌, ◌≤◌, List, [], ◌∷◌, ◌++◌, length, drop, refl, sym, ap, subst, ◌∙◌, arith}
+use Rattle.std.proofs.Common.{◌≡◌, inl, inr, ℕ, ◌+◌, ◌/◌, ◌<◌, List, [], ◌∷◌, length, drop, refl, sym, ap, subst, ◌∙◌, arith}
 use Rattle.std.specs.Prelude.{Bool, true, false, Option, Some, None}
 use Rattle.std.specs.List.{AllByRecursion}
 use Rattle.std.proofs.lemmas.Bool.{true≢false}
@@ -7,7 +7,7 @@ use Rattle.std.proofs.lemmas.Bool.Decides.{eqb_tells}
 use Rattle.nb_fields.specs.Bytes.{bytes_of, with_part}
 use Rattle.nb_fields.specs.Page.{kind_of, stamped}
 use Rattle.nb_fields.specs.Payloads.{data_payload}
-use Rattle.nb_fields.specs.Places.{bits_in, entries_in, is_inventory_place, is_system_place}
+use Rattle.nb_fields.specs.Places.{bits_in, is_inventory_place, is_system_place}
 use Rattle.nb_fields.proofs.SizeLemmas.{SizeFacts, size_facts}
 use Rattle.nb_model.specs.Account.{Base}
 use Rattle.nb_model.specs.Backups.{Room, needs_taken, room_in}
@@ -19,9 +19,9 @@ use Rattle.nb_model.specs.Sound.{HasHeader, IsSoundImage}
 use Rattle.nb_model.proofs.DraftJoin.{join_put}
 use Rattle.nb_model.proofs.FitLaws.{IsWhole, form_page}
 use Rattle.nb_model.proofs.HeldLaws.{IsHeld, IsMade, held_put, new_is_made}
-use Rattle.nb_model.proofs.NewSound.{plain_place, stamped_kind}
+use Rattle.nb_model.proofs.NewSound.{stamped_kind}
 use Rattle.nb_model.proofs.PutSound.{IsPlain, needs_image, header_whole}
-use Rattle.nb_model.proofs.RoomLaws.{AnyPage, any_history, in_chain, chain_plain, free_is_spot, IsSpotOf, last_in, made_fits, link_plain, old_there, data_short, put_full, no_system}
+use Rattle.nb_model.proofs.RoomLaws.{AnyPage, any_history, in_chain, chain_plain, free_is_spot, IsSpotOf, made_fits, link_plain, old_there, data_short, put_full, no_system}
 use Rattle.nb_model.proofs.RoundLaws.{IsNew, new_is_new, no_place, bit_by, put_here, put_size, put_longer, put_inventory}
 use Rattle.nb_model.proofs.SlotLaws.{linked_slots, new_slots}
 use Rattle.nb_model.proofs.SoundLaws.{all_at, inventory_there}

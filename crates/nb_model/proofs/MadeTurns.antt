@@ -1,13 +1,13 @@
 -- The files that turns make are those of records that are kept: of the backup that is under way, or of the one that stands stalled.
-use Rattle.std.proofs.Common.{◌≡◌, ⊎_elim, ℕ, zero, suc, ◌-◌, ◌<◌, List, [], ◌∷◌, ◌++◌, map, take, get_or, refl, sym, ap, subst, ◌∙◌, arith}
+use Rattle.std.proofs.Common.{◌≡◌, ⊎_elim, ℕ, zero, suc, ◌-◌, List, [], ◌∷◌, ◌++◌, map, take, get_or, refl, sym, ap, subst, ◌∙◌, arith}
 use Rattle.std.specs.Prelude.{Contains}
 use Rattle.std.proofs.lemmas.List.Elements.{Contains-append_left, Contains-append_cases}
 use Rattle.nb_model.specs.declared.statement.Statement.{Statement}
 use Rattle.nb_model.specs.Account.{Kept, Base}
 use Rattle.nb_model.specs.Going.{AreBeginnings, AreNamed, Runs, IsGoing}
-use Rattle.nb_model.specs.Image.{Image, image_state}
+use Rattle.nb_model.specs.Image.{image_state}
 use Rattle.nb_model.specs.Levels.{joined}
-use Rattle.nb_model.specs.Making.{MadeFile, kept_of, making, making_by, under_way, IsOfKept, its_file, its_pages}
+use Rattle.nb_model.specs.Making.{MadeFile, kept_of, making, under_way, IsOfKept, its_file, its_pages}
 use Rattle.nb_model.specs.Outcomes.{Turn, Begins, Copies, ClosesBackup, ClosesCopy, Ends, Merges, Finishes}
 use Rattle.nb_model.specs.Run.{Now, Event, Played, base_now, one_turn, play, begun, files_made, strokes_of}
 use Rattle.nb_model.specs.Steps.{Step, after_steps, steps_of, strokes_in}
@@ -17,7 +17,7 @@ use Rattle.nb_model.specs.Well.{IsOfRecord}
 use Rattle.nb_model.specs.WellTrail.{IsWellTrail}
 use Rattle.nb_model.proofs.GuidLaws.{strokes_in_steps}
 use Rattle.nb_model.proofs.GoingLaws.{begun_at, going_turn, named_turn}
-use Rattle.nb_model.proofs.MakingLaws.{IsToMake, to_make, under_place, made_append, made_among}
+use Rattle.nb_model.proofs.MakingLaws.{to_make, under_place, made_append, made_among}
 use Rattle.nb_model.proofs.SteadyLaws.{WellAlong, along_front, kept_along, kept_append, kept_is, along_last}
 use Rattle.nb_model.proofs.SteadyTurns.{beginnings_recorded, AreRecorded, AllRecorded, StaysWell, one_well, play_along}
 use Rattle.nb_model.proofs.StepsLaws.{steps_append}

@@ -1,12 +1,12 @@
 -- The slots of a data page that is written: they are those of the old page, but for the one that is written; and a new page uses none.
-use Rattle.std.proofs.Common.{◌≡◌, ◌⊎◌, inl, inr, ℕ, zero, suc, ◌+◌, ◌-◌, ◌*◌, ◌/◌, ◌<◌, ◌≤◌, List, [], ◌∷◌, ◌++◌, length, take, drop, replicate, refl, sym, ap, subst, ◌∙◌, arith, length-drop, length-append}
-use Rattle.std.specs.Prelude.{Bool, true, false, ◌&&◌, ◌==◌}
+use Rattle.std.proofs.Common.{◌≡◌, ◌⊎◌, inl, inr, ℕ, zero, suc, ◌+◌, ◌-◌, ◌*◌, ◌/◌, ◌≤◌, List, [], ◌∷◌, ◌++◌, length, take, drop, replicate, refl, sym, ap, subst, ◌∙◌, arith, length-drop, length-append}
+use Rattle.std.specs.Prelude.{true, ◌&&◌, ◌==◌}
 use Rattle.std.specs.List.{AllByRecursion, list_all}
 use Rattle.std.proofs.lemmas.Bool.{true≢false, and_parts, and_from, eqb-true, eq-eqb}
 use Rattle.std.proofs.lemmas.Bool.Decides.{eqb_tells, leb_tells}
-use Rattle.std.proofs.lemmas.List.{drop_at, drop-drop, append-nil}
+use Rattle.std.proofs.lemmas.List.{drop_at, drop-drop}
 use Rattle.nb_fields.specs.Bytes.{bytes_of, number_of, number_in, part, with_part, padded, is_zeros}
-use Rattle.nb_fields.specs.Page.{page_of, stamped, generation_of, kind_of}
+use Rattle.nb_fields.specs.Page.{stamped, kind_of}
 use Rattle.nb_fields.specs.Payloads.{data_payload}
 use Rattle.nb_fields.proofs.NumberLemmas.{length-bytes_of}
 use Rattle.nb_fields.proofs.PageLemmas.{padded_whole, drop-page_of, length-page_of}

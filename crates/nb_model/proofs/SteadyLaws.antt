@@ -10,7 +10,7 @@ use Rattle.nb_model.specs.Sound.{HasHeader, IsSoundImage}
 use Rattle.nb_model.specs.Stands.{IsBegun, HasRows}
 use Rattle.nb_model.specs.Steps.{Step, makes, settles, after_step, after_steps, made, strokes_in}
 use Rattle.nb_model.specs.Strokes.{Stroke, page, merged_page, begin, ends, finish, on_base, records_of, records_after}
-use Rattle.nb_model.specs.Trail.{Trail, settled, settles_at, after_stroke, after_strokes}
+use Rattle.nb_model.specs.Trail.{Trail, settled, settles_at, after_stroke}
 use Rattle.nb_model.specs.Turns.{first_turn}
 use Rattle.nb_model.specs.Well.{is_on_pages}
 use Rattle.nb_model.specs.WellTrail.{AllGoOn, IsWellTrail}

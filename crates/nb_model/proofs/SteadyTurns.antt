@@ -1,24 +1,22 @@
 -- While a backup is under way its record is kept, and all that was seen goes on from it: so each turn keeps what was seen well.
-use Rattle.std.proofs.Common.{◌≡◌, ◌≢◌, inl, inr, ℕ, zero, suc, ◌+◌, ◌-◌, ◌≤◌, List, [], ◌∷◌, ◌++◌, length, replicate, get_or, refl, sym, ap, subst, ◌∙◌, arith, append_assoc}
+use Rattle.std.proofs.Common.{◌≡◌, ◌≢◌, inl, inr, ℕ, zero, suc, ◌-◌, List, [], ◌∷◌, ◌++◌, length, replicate, get_or, refl, sym, ap, subst, ◌∙◌, arith, append_assoc}
 use Rattle.std.specs.Prelude.{Bool, Option, Some, None, true, false, ◌==◌}
 use Rattle.std.specs.List.{AllByRecursion}
-use Rattle.std.proofs.lemmas.Bool.{eqb-true, eqb-false}
+use Rattle.std.proofs.lemmas.Bool.{eqb-true}
 use Rattle.std.proofs.lemmas.Bool.Decides.{eqb_tells}
 use Rattle.nb_host.specs.declared.refusals.Refusal.{Refusal}
 use Rattle.nb_model.specs.declared.reply.Reply.{Reply}
 use Rattle.nb_model.specs.declared.statement.Statement.{Statement}
-use Rattle.nb_model.specs.declared.statement.Statement.TheVariants.{BeginBackup, EndBackup, Backup, CopyTo}
 use Rattle.nb_model.specs.Account.{Ask, Kept, Base}
 use Rattle.nb_model.specs.Backups.{ask_of, room_in, close_backup, close_copy}
 use Rattle.nb_model.specs.Built.{is_built}
 use Rattle.nb_model.specs.Causes.{runs_other}
 use Rattle.nb_model.specs.Chains.{Spot}
-use Rattle.nb_model.specs.Going.{IsBeginning, AreBeginnings, AreMerging, IsNamed, AreNamed, HasRoom, Runs, IsAt, waits, backs_up, copies, ends as ending, merges, IsGoing}
-use Rattle.nb_model.specs.Image.{Page, Image, image_state, image_scn}
+use Rattle.nb_model.specs.Going.{AreBeginnings, AreMerging, IsNamed, AreNamed, HasRoom, Runs, IsAt, waits, backs_up, copies, ends as ending, merges, IsGoing}
+use Rattle.nb_model.specs.Image.{image_state, image_scn}
 use Rattle.nb_model.specs.Outcomes.{Turn, Begins, Copies, ClosesBackup, ClosesCopy, Ends, Merges, Finishes, Backing, Seen, Outcome, next_guid, next_time}
 use Rattle.nb_model.specs.Pages.{end_strokes, ends_by}
-use Rattle.nb_model.specs.Run.{Event, Now, Played, base_now, event_of, outcome, stands_then, one_turn, play, strokes_of}
-use Rattle.nb_model.specs.Sound.{HasHeader}
+use Rattle.nb_model.specs.Run.{Event, Now, Played, base_now, event_of, outcome, stands_then, one_turn, play}
 use Rattle.nb_model.specs.Steps.{Step, settles, after_step, after_steps, made, steps_of}
 use Rattle.nb_model.specs.Strokes.{Stroke, begin, ends, finish, base_after}
 use Rattle.nb_model.specs.Trail.{Trail, settled}
@@ -29,10 +27,9 @@ use Rattle.nb_model.proofs.BackupWell.{IsRecorded, StartsWell, made_base, record
 use Rattle.nb_model.proofs.GoingLaws.{next_sixteen, one_runs, name_short, then_base, own_todo, other_todo, one_cases, going_turn, named_turn}
 use Rattle.nb_model.proofs.HeldLaws.{IsHeld, statement_holds}
 use Rattle.nb_model.proofs.OutputLaws.{strokes_one}
-use Rattle.nb_model.proofs.RunLaws.{one_is}
 use Rattle.nb_model.proofs.SoundTurns.{HasPlace}
 use Rattle.nb_model.proofs.SteadyLaws.{WellAlong, KeepsAlong, kept_along, pages_along, begin_along, ends_along, finish_along, settling_along, along_append, along_last, kept_append}
-use Rattle.nb_model.proofs.StepsLaws.{steps_none, steps_one, steps_append, steps_seen, after_steps_append, after_settling}
+use Rattle.nb_model.proofs.StepsLaws.{steps_one, steps_append, steps_seen, after_steps_append}
 use Rattle.nb_model.proofs.TurnCases.{MayBegin, MayEnd, MayStart, MayCopy, IsFrom, refused, started, copied, built_cases, begin_either, end_either, its_own, backup_either, copy_either, pages_once}
 use Rattle.nb_model.proofs.TurnCases as cases
 
