@@ -24,12 +24,13 @@ is_job_built (Apply db file) = false
 is_job_built (Lock db) = true
 is_job_built (LockWithSize db) = false
 is_job_built (Unlock db) = true
-is_job_built (Fixup db) = false
+is_job_built (Fixup db) = true
 
 -- the names of such a job are those that words may give
 abbrev pub FitsJob : Job → Type 0
 FitsJob (Lock db) = is_database db ≡ true
 FitsJob (Unlock db) = is_database db ≡ true
+FitsJob (Fixup db) = is_database db ≡ true
 FitsJob (Restore db files) = (is_database db ≡ true) × (1 ≤ length files) × (length files ≤ 10) × (list_all is_file files ≡ true)
 FitsJob other = Unit {0}
 
@@ -47,6 +48,8 @@ pub data Request : Type 0 where
   ToRun : (plan : Plan) (is_quiet : Bool) → Request
   -- a database that the files of a chain give
   ToRestore : (db : List ℕ) (names : List (List ℕ)) → Request
+  -- a copy of a stalled database that becomes a database, in place
+  ToFix : (db : List ℕ) → Request
 
 -- the script that a file spells, or why there is none
 abbrev pub script_in : (name : List ℕ) → File → Result Plan Refusal
@@ -68,6 +71,7 @@ request_of files (Run script) = to_run (script_in script (files script))
 request_of files (Lock db) = Ok (ToRun (plan_of db BeginBackup) true)
 request_of files (Unlock db) = Ok (ToRun (plan_of db EndBackup) true)
 request_of files (Restore db names) = Ok (ToRestore db names)
+request_of files (Fixup db) = Ok (ToFix db)
 request_of files other = Err Usage
 
 -- what the words ask for

@@ -16,6 +16,7 @@ ghost use Rattle.nb_top.specs.Performed.{Knows, Performs, RunsTo};
 ghost use Rattle.nb_top.specs.Requests.{FitsJob, ToRun, is_job_built, job_asked, plan_of, request_asked, request_of, script_in, to_run};
 
 use crate::Status;
+use crate::fixing::run_fix;
 use crate::reading::read_script;
 use crate::request::{read_built, script_asking};
 use crate::restoring::run_restore;
@@ -72,6 +73,7 @@ fn run_job<H: Host>(alloc: Global, host: &mut H, job: &Job) -> Result<Status, St
     match job {
         Job::Run { script } => run_file(alloc, host, script),
         Job::Restore { db, files } => run_restore(alloc, host, db, files.as_slice()),
+        Job::Fixup { db } => run_fix(alloc, host, db),
         Job::Lock { db } => run_asking(alloc, host, db, Statement::BeginBackup),
         Job::Unlock { db } => run_asking(alloc, host, db, Statement::EndBackup),
         _ => unreachable!(),

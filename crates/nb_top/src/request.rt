@@ -18,7 +18,11 @@ fn is_built(job: &Job) -> bool
 {
     matches!(
         job,
-        Job::Run { .. } | Job::Restore { .. } | Job::Lock { .. } | Job::Unlock { .. }
+        Job::Run { .. }
+            | Job::Restore { .. }
+            | Job::Lock { .. }
+            | Job::Unlock { .. }
+            | Job::Fixup { .. }
     )
 }
 
