@@ -3,11 +3,12 @@
 -- The words ask for the run of a script, for a restore, for a fixup, or for a refusal. Each tells the events of the run one by one: whose turn, which
 -- strokes, which reply.
 -- Whatever stops the run, at each moment a front of its lines was said, and both files of its database can be opened and hold what may be
--- left behind a front of its steps, with each acknowledged one among them. No other file changes. At its end all lines were said and all
--- steps stand. Where the files stood for an account with the records of its backups, and the GUIDs that the outside gives are new, they
+-- left behind a front of its steps, with each acknowledged one among them. A file that a backup or a copy makes is as it was, unfinished or
+-- whole, and whole once that is acknowledged. No other file changes. At its end all lines were said, all steps stand, and all files are whole. Where the files stood for an account with the records of its backups, and the GUIDs that the outside gives are new, they
 -- stand for one at each moment, with the records of the backups that have begun by then.
 use Rattle.std.specs.Prelude.{◌≡◌, ◌≢◌, ◌⊎◌, ℕ, ◌<◌, List, [], ◌∷◌, ◌++◌, length, take, Bool, true, false, Option, None, Some, Result, Ok, Err, IfOk, if◌then◌else◌}
 use Rattle.std.specs.Global.{Vec}
+use Rattle.std.specs.List.{AllByRecursion}
 use Rattle.nb_fields.specs.Free.{is_free_file}
 use Rattle.nb_fields.specs.Header.{guid_of}
 use Rattle.nb_host.specs.Files.{File, Files}
@@ -34,7 +35,8 @@ use Rattle.nb_model.specs.Jobs.{quiet, refusal_in, restore_turn, fixup_turn, acc
 use Rattle.nb_model.specs.Outcomes.{Given}
 use Rattle.nb_model.specs.Output.{output, status_of}
 use Rattle.nb_model.specs.Owner.{delta_name, entry_in}
-use Rattle.nb_model.specs.Run.{Event, Now, Played, IsRun, AreFinished, play, rounds, strokes_of, replies_of}
+use Rattle.nb_model.specs.Making.{IsNoneOf}
+use Rattle.nb_model.specs.Run.{Event, Now, Played, IsRun, AreFinished, play, rounds, strokes_of, replies_of, files_made}
 use Rattle.nb_model.specs.Sound.{IsSoundImage}
 use Rattle.nb_model.specs.Restoring.{Link, verdict}
 use Rattle.nb_model.specs.Stands.{IsKeptAs, Stands}
@@ -48,7 +50,8 @@ use Rattle.nb_restore.specs.Kept.{AreKept, GivesKept}
 use Rattle.nb_script.specs.Scripts.{Plan}
 use Rattle.nb_session.specs.declared.stop.Stop.{Stop}
 use Rattle.nb_session.specs.Replies.{is_refusal}
-use Rattle.nb_session.specs.Stops.{IsSaid, IsFront, Plays}
+use Rattle.nb_session.specs.Acts.{MadeLeft, AreKept}
+use Rattle.nb_session.specs.Stops.{IsSaid, IsFront, AreWhole, Plays}
 use Rattle.nb_top.specs.declared.status.Status.{Status}
 use Rattle.nb_top.specs.declared.status.Status.TheVariants.{Done, Refused as RefusedStatus, Usage as UsageStatus, Device, Memory}
 use Rattle.nb_top.specs.Requests.{Request, ToRun, ToRestore, ToFix, script_in}
@@ -117,17 +120,20 @@ pub record HoldsUnder (files : Files) (account : Account) (name : List ℕ) : Ty
   pub same : account.entry name ≡ entry_in files name
   pub sound : (b : Base) → account.entry name ≡ IsBase b → IsSoundImage b.image
 
--- What a first statement asks the account for is what the files tell: whether a name is free, or the database that stands there. Of
--- nothing else must the account know.
-abbrev pub KnowsFirst : Files → Account → (first : Statement) → Type 0
-KnowsFirst files account (CreateDb name page_size raw cache) = is_free_name files name ≡ is_free_entry (account.entry name)
-KnowsFirst files account (OpenDb name cache) = HoldsUnder files account name
-KnowsFirst files account other = Unit {0}
+-- of each name that a database or a backup may have the account knows whether it is free
+abbrev pub KnowsNames : Files → Account → Type 0
+KnowsNames files account = (name : List ℕ) → is_delta name ≡ false → is_free_name files name ≡ is_free_entry (account.entry name)
 
--- so it is of what is asked for: of a restore, whether the name of its target is free, and of a fixup, what stands under the name
+-- of a database that is opened it has what the files hold
+abbrev pub KnowsOpened : Files → Account → (first : Statement) → Type 0
+KnowsOpened files account (OpenDb name cache) = HoldsUnder files account name
+KnowsOpened files account other = Unit {0}
+
+-- What is asked for asks the account for what the files tell: a run, whether names are free, and for the database that it opens; a restore,
+-- whether the name of its target is free; and a fixup, what stands under the name.
 abbrev pub Knows : Files → Account → Result Request Refusal → Type 0
 Knows files account (Err refusal) = Unit {0}
-Knows files account (Ok (ToRun plan is_quiet)) = KnowsFirst files account plan.first
+Knows files account (Ok (ToRun plan is_quiet)) = KnowsNames files account × KnowsOpened files account plan.first
 Knows files account (Ok (ToRestore db names)) = is_free_name files db ≡ is_free_entry (account.entry db)
 Knows files account (Ok (ToFix db)) = account.entry db ≡ entry_in files db
 
@@ -159,13 +165,16 @@ StandsAsked old account None events said count files = Unit {0}
 StandsAsked old account (Some target) events said count files = StandsIn target.name (seen_after account target.name (take count (steps_of events))) files ⊎ IsUnbegun old target events said count files
 
 -- At a moment of a run: a front of its lines was said, and a stop leaves the database behind so many of its steps, with each
--- acknowledged one among them. Other files are as a stop would have left them before.
+-- acknowledged one among them. A file that the run makes is as it was, unfinished or whole, and whole once its turn is acknowledged. Other
+-- files are as a stop would have left them before.
 pub record RunLeft (old : World) (account : Account) (target : Option Target) (events : List Event) (files : Files) (said : List ℕ) : Type 0 where
   pub out : IsSaid old events said
   pub count : ℕ
   pub front : IsFront events (length out.part) count
   pub database : StandsAsked old account target events (length out.part) count files
-  pub others : (m : List ℕ) → IsUnasked target m → Leaves old m (files m)
+  pub each : MadeLeft old (files_made events) files
+  pub whole : AreWhole (files_made (take (acked_turns events (length out.part)) events)) files
+  pub others : (m : List ℕ) → IsUnasked target m → IsNoneOf (files_made events) m → Leaves old m (files m)
 
 -- the files stand for an account with these records of backups
 pub record HoldsKept (files : Files) (kept : List Kept) : Type 0 where
@@ -234,13 +243,18 @@ EndsIn new account None events = Unit {0}
 EndsIn new account (Some target) events = IsEnded new target.name (seen_after account target.name (steps_of events))
 
 -- A run to its end: all of its lines were said, the status is the one that they give, just what the run asks for was given, the database
--- stands behind all of its steps, and other files read as before.
+-- stands behind all of its steps, each file that it made is whole and kept for good, and other files read as before.
 pub record Finished (status : Status) (old new : World) (account : Account) (target : Option Target) (events : List Event) (given left : Given) : Type 0 where
   pub said : new.said ≡ old.said ++ output events
   pub ended : number_of status ≡ status_of (replies_of events)
   pub gave : WasGiven old new given left
   pub database : EndsIn new account target events
-  pub others : (m : List ℕ) → IsUnasked target m → new.files m ≡ old.files m
+  pub kept : AreKept new (files_made events)
+  pub others : (m : List ℕ) → IsUnasked target m → IsNoneOf (files_made events) m → new.files m ≡ old.files m
+
+-- each GUID that may be given has 16 bytes
+abbrev pub MayBeGiven : Given → Type 0
+MayBeGiven given = AllByRecursion (λ (guid : List ℕ). length guid ≡ 16) given.guids
 
 -- the SCN of a database that the run opens is a number of 32 bits
 abbrev pub HasSmallScn : Account → Option Target → Type 0
@@ -298,7 +312,7 @@ played_behind event played = (event ∷ played.0, played.1)
 -- the strokes of the first statement.
 pub record PlaysOpened (result : Result Bool Stop) (old new : World) (before after : Held) (start : Base) (first : Event) (now : Now) (plan : Plan) : Type 0 where
   pub how_often : ℕ
-  pub plays : Plays result old new before after (settled start) now (played_behind first (play (plan.schedule ++ rounds how_often) now))
+  pub plays : Plays result old new before after (settled start) now (played_behind first (play (plan.schedule ++ rounds how_often) now)) (files_made (play (plan.schedule ++ rounds how_often) now).0)
   pub finished : AreFinished (play (plan.schedule ++ rounds how_often) now).1.todo
 
 -- what is read of a script's file: its bytes, or that it isn't there or is too long

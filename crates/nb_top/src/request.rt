@@ -19,6 +19,7 @@ fn is_built(job: &Job) -> bool
     matches!(
         job,
         Job::Run { .. }
+            | Job::Backup { .. }
             | Job::Restore { .. }
             | Job::Lock { .. }
             | Job::Unlock { .. }
