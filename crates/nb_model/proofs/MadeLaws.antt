@@ -31,11 +31,17 @@ use Rattle.nb_model.proofs.RunLaws.{same_self}
 use Rattle.nb_model.proofs.SoundLaws.{header_kind}
 use Rattle.nb_model.proofs.StandsLaws.{names_tell, delta_named, no_main, StandsUnder, formed_header, no_level_begins, header_no_level, applying_state, stands_with_both}
 
+-- Whole, the file holds the record that it names, isn't opened without a difference file, and waits for no merge.
+pub record IsWholeFile (kept : List Kept) (bytes : List ℕ) : Type 0 where
+  pub holds : HoldsItsRecord kept bytes
+  pub closed : (name : List ℕ) (b : Base) → owner name (Some bytes) None ≡ Ok b → ⊥
+  pub rests : IsTrue (is_applying bytes) → ⊥
+
 -- A file that is made: its name is free still, it is unfinished, or it is whole.
 pub data IsInMaking (kept : List Kept) (file : File) : Type 0 where
   is_free : is_free_file file ≡ true → IsInMaking kept file
   unfinished : ((bytes : List ℕ) → file ≡ Some bytes → IsNoBackup bytes) → IsInMaking kept file
-  whole : (bytes : List ℕ) → file ≡ Some bytes → IsOfKept kept bytes → IsInMaking kept file
+  whole : (bytes : List ℕ) → file ≡ Some bytes → IsWholeFile kept bytes → IsInMaking kept file
 
 some_same : (a b : List ℕ) → Some a ≡ Some b → a ≡ b
 some_same a b e = cc
@@ -96,18 +102,14 @@ stalled_alone : (name bytes : List ℕ) → owner_in 1 name bytes None ≡ Err (
 unfolding owner_in owner_with
 stalled_alone name bytes = refl
 
--- Whole, the file holds the record that it names, isn't opened without a difference file, and waits for no merge.
-module _ (kept : List Kept) (distinct : (r q : Kept) → Contains kept r → Contains kept q → r.guid ≡ q.guid → r ≡ q) (begun : (r : Kept) → Contains kept r → IsBegun r) where
-  record IsWholeFile (bytes : List ℕ) : Type 0 where
-    holds : HoldsItsRecord kept bytes
-    closed : (name : List ℕ) (b : Base) → owner name (Some bytes) None ≡ Ok b → ⊥
-    rests : IsTrue (is_applying bytes) → ⊥
-
+-- The file of a record among these is whole where only some of them are kept: it names no other.
+module _ (all kept : List Kept) (among : (r : Kept) → Contains kept r → Contains all r) (distinct : (r q : Kept) → Contains all r → Contains all q → r.guid ≡ q.guid → r ≡ q)
+    (begun : (r : Kept) → Contains all r → IsBegun r) where
   -- the record that is meant
-  meant : (r q : Kept) (guid : List ℕ) → Contains kept r → guid ≡ r.guid → IsKeptAs kept guid q → r ≡ q
-  meant r q guid there is named = distinct r q there named.there (sym is ∙ sym named.named)
+  meant : (r q : Kept) (guid : List ℕ) → Contains all r → guid ≡ r.guid → IsKeptAs kept guid q → r ≡ q
+  meant r q guid there is named = distinct r q there (among q named.there) (sym is ∙ sym named.named)
 
-  pages_whole : (r : Kept) → Contains kept r → IsWholeFile (joined r.image)
+  pages_whole : (r : Kept) → Contains all r → IsWholeFile kept (joined r.image)
   pages_whole r there =
       let one : IsBegun r = begun r there in
       let front : take 64 (joined r.image) ≡ take 64 (first_page r.image) = ap (λ (x : Image). take 64 (joined x)) (sym (append-nil r.image)) ∙ joined_front r.image [] one.header in
@@ -128,7 +130,7 @@ module _ (kept : List Kept) (distinct : (r q : Kept) → Contains kept r → Con
       alone name b None is stalled opens =
           err_ok _ (NoFile (delta_name name)) b (owner-formed name (joined r.image) None is ∙ ap (λ (n : ℕ). owner_in n name (joined r.image) None) stalled ∙ stalled_alone name (joined r.image)) opens
 
-  level_whole : (r : Kept) (ask : Ask) → Contains kept r → file_of 102 r ≡ level_bytes 102 (head_for r ask) (taken ask.previous_scn r.image) → IsWholeFile (file_of 102 r)
+  level_whole : (r : Kept) (ask : Ask) → Contains all r → file_of 102 r ≡ level_bytes 102 (head_for r ask) (taken ask.previous_scn r.image) → IsWholeFile kept (file_of 102 r)
   level_whole r ask there is =
       let one : IsBegun r = begun r there in
       let sixteen : length r.guid ≡ 16 = ap length (sym one.guid) ∙ length-part 32 16 (first_page r.image) (omega (arith, header-long (first_page r.image) one.header)) in
@@ -146,15 +148,19 @@ module _ (kept : List Kept) (distinct : (r q : Kept) → Contains kept r → Con
         rests = λ applying. plain (and_parts (is_header (file_of 102 r)) (state_of (file_of 102 r) == 3) applying).0;
       }
 
-  whole_file : (bytes : List ℕ) → IsOfKept kept bytes → IsWholeFile bytes
-  whole_file bytes (its_pages r there is) = subst IsWholeFile (sym is) (pages_whole r there)
-  whole_file bytes (its_file r there is) = subst IsWholeFile (sym is) (elim (file_cases 102 r) [
-    | inl pages ↦ subst IsWholeFile (sym pages) (pages_whole r there)
+  whole_file : (bytes : List ℕ) → IsOfKept all bytes → IsWholeFile kept bytes
+  whole_file bytes (its_pages r there is) = subst (IsWholeFile kept) (sym is) (pages_whole r there)
+  whole_file bytes (its_file r there is) = subst (IsWholeFile kept) (sym is) (elim (file_cases 102 r) [
+    | inl pages ↦ subst (IsWholeFile kept) (sym pages) (pages_whole r there)
     | inr level ↦ level_whole r level.0 there level.1
   ])
 
-its_whole : (files : Files) (account : Account) (stands : Stands files account) (bytes : List ℕ) → IsOfKept account.kept bytes → IsWholeFile account.kept stands.kept_records.distinct stands.sound_images.records bytes
-its_whole files account stands = whole_file account.kept stands.kept_records.distinct stands.sound_images.records
+-- So is one of an account for which files stand, where some of its records are kept, or all.
+pub whole_among : (files : Files) (account : Account) → Stands files account → (kept : List Kept) → ((r : Kept) → Contains kept r → Contains account.kept r) → (bytes : List ℕ) → IsOfKept account.kept bytes → IsWholeFile kept bytes
+whole_among files account stands kept among = whole_file account.kept kept among stands.kept_records.distinct stands.sound_images.records
+
+its_whole : (files : Files) (account : Account) → Stands files account → (bytes : List ℕ) → IsOfKept account.kept bytes → IsWholeFile account.kept bytes
+its_whole files account stands = whole_among files account stands account.kept (λ r there. there)
 
 -- what the entry of a file is, that has these bytes and isn't opened
 closed_entry : (name bytes : List ℕ) (file delta : File) → file ≡ Some bytes → delta ≡ None → ((b : Base) → owner name (Some bytes) None ≡ Ok b → ⊥) → entry_of_files name file delta ≡ Plain bytes None
@@ -184,12 +190,11 @@ module _ (old new : Files) (account : Account) (name : List ℕ) (stands : Stand
       closed None is b opens = none_opened name b opens
       closed (Some bytes) is b opens = true≢false (sym (opened_header name bytes None b opens) ∙ (is bytes refl).no_header)
 
-  whole_under : (bytes : List ℕ) → new name ≡ Some bytes → IsOfKept account.kept bytes → StandsUnder new account.kept name (entry_in new name)
-  whole_under bytes there is =
-      let whole = its_whole old account stands bytes is in
-      closed_under new account.kept name alone (λ b e. whole.closed name b (ap (λ (f : File). owner name f None) (sym there) ∙ of_entry b e))
-      (λ other here. subst (HoldsItsRecord account.kept) (some_same bytes other (sym there ∙ here)) whole.holds)
-      (λ other r here applying named. whole.rests (subst (λ (x : List ℕ). IsTrue (is_applying x)) (sym (some_same bytes other (sym there ∙ here))) applying))
+  whole_under : (bytes : List ℕ) → new name ≡ Some bytes → IsWholeFile account.kept bytes → StandsUnder new account.kept name (entry_in new name)
+  whole_under bytes there one =
+      closed_under new account.kept name alone (λ b e. one.closed name b (ap (λ (f : File). owner name f None) (sym there) ∙ of_entry b e))
+      (λ other here. subst (HoldsItsRecord account.kept) (some_same bytes other (sym there ∙ here)) one.holds)
+      (λ other r here applying named. one.rests (subst (λ (x : List ℕ). IsTrue (is_applying x)) (sym (some_same bytes other (sym there ∙ here))) applying))
 
   making_under : IsInMaking account.kept (new name) → StandsUnder new account.kept name (entry_in new name)
   making_under (is_free free) = free_under new account.kept name stands.kept_records.not_nil free alone
@@ -206,7 +211,7 @@ module _ (old new : Files) (account : Account) (name : List ℕ) (stands : Stand
 
   -- Where it is whole, they stand for it with that file.
   pub stands_whole : (bytes : List ℕ) → new name ≡ Some bytes → IsOfKept account.kept bytes → Stands new (with_entry name (Plain bytes None) account)
-  stands_whole bytes there is = subst (λ (e : Entry). Stands new (with_entry name e account)) (whole_entry bytes there is) (stands_making (whole bytes there is))
+  stands_whole bytes there is = subst (λ (e : Entry). Stands new (with_entry name e account)) (whole_entry bytes there is) (stands_making (whole bytes there (its_whole old account stands bytes is)))
 
 file_same : (files : Files) (n : List ℕ) (file : File) → with_file files n file n ≡ file
 unfolding with_file
@@ -299,7 +304,7 @@ stands_with_files old new made account stands each others =
     subst (Stands new) (those_whole new made account entries) (stands_those new made old account stands making others)
   where
     making : (f : MadeFile) → Contains made f → IsMadeFile old new account.kept f
-    making f there = let one = each f there in record { plain = one.0; alone = one.1; is = whole f.1 one.2 one.3 }
+    making f there = let one = each f there in record { plain = one.0; alone = one.1; is = whole f.1 one.2 (its_whole old account stands f.1 one.3) }
 
     entries : (f : MadeFile) → Contains made f → entry_in new f.0 ≡ Plain f.1 None
     entries f there =
