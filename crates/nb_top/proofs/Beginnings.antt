@@ -1,6 +1,6 @@
 -- What the call of the first statement gives to a run, whether it creates a database or opens one.
 use Rattle.std.proofs.Common.{◌≡◌, ◌≢◌, ℕ, List, ◌++◌, Bool, sym, ap, subst, ◌∙◌}
-use Rattle.std.specs.Prelude.{Result, Ok, Err, None, Some, IfOk, OnOk, if◌then◌else◌}
+use Rattle.std.specs.Prelude.{Result, Ok, Err, Some, IfOk, OnOk, if◌then◌else◌}
 use Rattle.nb_host.specs.World.{World}
 use Rattle.nb_host.specs.Crash.{Untouched}
 use Rattle.nb_host.specs.Moments.{AtEachMoment}
@@ -14,6 +14,7 @@ use Rattle.nb_page.specs.Quiet.{Quiet}
 use Rattle.nb_model.specs.declared.reply.Reply.{Reply}
 use Rattle.nb_model.specs.declared.reply.Reply.TheVariants.{Refused as RefusedReply}
 use Rattle.nb_model.specs.Account.{Account}
+use Rattle.nb_model.specs.Going.{IsMaking}
 use Rattle.nb_model.specs.Lines.{line_text}
 use Rattle.nb_model.specs.Outcomes.{Given}
 use Rattle.nb_model.specs.Output.{status_after}
@@ -26,7 +27,7 @@ use Rattle.nb_state.specs.Open.{Held, name_of}
 use Rattle.nb_script.specs.Asked.{IsAskable}
 use Rattle.nb_script.specs.Scripts.{Plan}
 use Rattle.nb_session.specs.declared.stop.Stop.{Stop}
-use Rattle.nb_session.specs.Ready.{IsReady, IsCalm}
+use Rattle.nb_session.specs.Ready.{IsReady}
 use Rattle.nb_session.specs.Says.{SaysLine}
 use Rattle.nb_top.specs.declared.status.Status.{Status}
 use Rattle.nb_top.specs.declared.status.Status.TheVariants.{Refused as RefusedStatus}
@@ -43,7 +44,7 @@ pub record FirstDone (old mid : World) (account : Account) (given : Given) (plan
   pub first : First account given plan
   pub says : first.reply ≡ opened_reply plan.first held.files.count held.files.state
   pub ready : IsReady mid held (settled (base_now first.now)) first.now
-  pub calm : IsCalm first.now
+  pub making : IsMaking first.now
   pub named : name_of held ≡ first.target.name
   pub small : HasSmallScn account (Some first.target)
   pub alone : Untouched old mid (Other (OfFiles first.target.name))
@@ -84,10 +85,6 @@ module _ (old : World) (account : Account) (given : Given) (plan : Plan) (is_qui
     unfolding script_now
     script_todo = is.first.todo
 
-    pub script_running : script_now.running ≡ None
-    unfolding script_now
-    script_running = is.first.running
-
     pub script_given : script_now.given ≡ given
     unfolding script_now
     script_given = is.first.given_is
@@ -96,9 +93,9 @@ module _ (old : World) (account : Account) (given : Given) (plan : Plan) (is_qui
     unfolding script_now
     script_ready = is.ready
 
-    pub script_calm : IsCalm script_now
+    pub script_making : IsMaking script_now
     unfolding script_now
-    script_calm = is.calm
+    script_making = is.making
 
     -- the first statement with its reply
     abbrev done_first : Event

@@ -1,6 +1,6 @@
 -- A run behind its first statement.
 use Rattle.std.proofs.Common.{◌≡◌, ◌⊎◌, inl, inr, ⊎_elim, ℕ, List, ◌∷◌, ◌++◌, true, false, sym, ap, subst, ◌∙◌}
-use Rattle.std.specs.Prelude.{Bool, Option, None, Some, Ok, Err, if◌then◌else◌}
+use Rattle.std.specs.Prelude.{Bool, Option, None, Some, Ok, Err, Contains, if◌then◌else◌}
 use Rattle.nb_host.specs.Files.{Files}
 use Rattle.nb_host.specs.World.{World}
 use Rattle.nb_host.specs.Crash.{Untouched}
@@ -11,9 +11,10 @@ use Rattle.nb_change.proofs.MomentLaws.{joined, left_before}
 use Rattle.nb_page.specs.Quiet.{Quiet}
 use Rattle.nb_model.specs.Account.{Base, Account}
 use Rattle.nb_model.specs.Gifts.{WasGiven}
+use Rattle.nb_model.specs.Making.{MadeFile, IsNoneOf}
 use Rattle.nb_model.specs.Outcomes.{Given}
 use Rattle.nb_model.specs.Output.{output}
-use Rattle.nb_model.specs.Run.{Event, AreFinished}
+use Rattle.nb_model.specs.Run.{Event, AreFinished, files_made}
 use Rattle.nb_model.specs.Steps.{steps_of}
 use Rattle.nb_model.specs.Strokes.{base_in}
 use Rattle.nb_model.specs.Trail.{settled}
@@ -22,14 +23,17 @@ use Rattle.nb_state.specs.Open.{Held, IsOpen, name_of}
 use Rattle.nb_script.specs.Asked.{IsAskable}
 use Rattle.nb_script.specs.Scripts.{Plan}
 use Rattle.nb_session.specs.declared.stop.Stop.{Stop}
+use Rattle.nb_session.specs.Acts.{Touched}
 use Rattle.nb_session.specs.Stops.{StopLeft}
 use Rattle.nb_top.specs.declared.status.Status.{Status}
 use Rattle.nb_top.specs.Performed.{RunLeft, RunsTo, Finished, HasSmallScn, IsEnded, IsPerformed, PlaysOpened, Target, begins_refused, first_event, seen_after, target_named, target_of, told_first, number_of}
 use Rattle.nb_top.specs.Requests.{ToRun}
 use Rattle.nb_session.proofs.EndLaws.{HasEnd, turns_end}
+use Rattle.nb_session.proofs.StopLaws.{AreApart}
 use Rattle.nb_top.proofs.FirstLaws.{First, turns}
+use Rattle.nb_top.proofs.MadeRuns.{made_behind}
 use Rattle.nb_top.proofs.QuietRuns.{given_from}
-use Rattle.nb_top.proofs.ToldLaws.{told_begins, told_cons, performed_told}
+use Rattle.nb_top.proofs.ToldLaws.{told_begins, told_cons, told_first_made, performed_told}
 
 module _ (old : World) (account : Account) (given : Given) (plan : Plan) (is_quiet : Bool) (askable : IsAskable plan) (first : First account given plan) where
   abbrev pub first_one : Event
@@ -83,20 +87,38 @@ module _ (old : World) (account : Account) (given : Given) (plan : Plan) (is_qui
   -- The first statement was done: it touched no other file, said nothing and asked for nothing.
   module _ (mid new : World) (alone : Untouched old mid (Other (OfFiles name))) (read : (m : List ℕ) → Other (OfFiles name) m → mid.files m ≡ old.files m) (silent : mid.said ≡ old.said) (gave : GaveNothing old mid)
       (stops : (n : ℕ) → AtEachMoment old mid (Left n)) (held after : Held) (named : name_of held ≡ name) (small : HasSmallScn account (Some first.target)) where
+    abbrev made : ℕ → List MadeFile
+    made n = files_made (turns plan first.now n).0
+
+    -- the first statement makes no file
+    made_is : (n : ℕ) → files_made (events n) ≡ made n
+    made_is n = made_behind first_one (turns plan first.now n).0 (told_first_made is_quiet (first_event plan.first_session first.strokes first.reply))
+
+    -- a name that is neither the database's nor that of a file that is made
+    outside : (n : ℕ) (m : List ℕ) → Other (OfFiles name) m → IsNoneOf (files_made (events n)) m → Other (Touched name (made n)) m
+    outside n m other none (inl own) = other own
+    outside n m other none (inr one) = none one.0 (subst (λ (files : List MadeFile). Contains files (m, one.0)) (sym (made_is n)) one.1)
+
     -- while turns are taken behind it
-    left_behind : (n : ℕ) (files : Files) (said : List ℕ) → StopLeft mid name (settled start) (events n) files said → Left n files said
-    left_behind n files said left = record {
+    left_behind : (n : ℕ) → AreApart name (made n) → (files : Files) (said : List ℕ) → StopLeft mid name (settled start) (events n) (made n) files said → Left n files said
+    left_behind n apart files said left = record {
       out = record { part = left.out.part; is = left.out.is ∙ ap (λ (l : List ℕ). l ++ left.out.part) silent; front = left.out.front };
       count = left.count;
       front = left.front;
       database = inl left.database;
-      others = λ m other. left_before old mid _ alone m (files m) other (left.others m other);
+      each = λ m bytes there.
+          let its : Contains (made n) (m, bytes) = subst (λ (files : List MadeFile). Contains files (m, bytes)) (made_is n) there in
+          ⊎_elim (λ was. inl (left_before old mid _ alone m (files m) (apart m bytes its) was)) inr (left.each m bytes its);
+      whole = left.whole;
+      others = λ m other none. left_before old mid _ alone m (files m) other (left.others m (outside n m other none));
     }
 
-    stops_behind : (n : ℕ) → AtEachMoment mid new (StopLeft mid (name_of held) (settled start) (events n)) → AtEachMoment old new (Left n)
-    stops_behind n behind =
+    stops_behind : (n : ℕ) → AreApart (name_of held) (made n) → AtEachMoment mid new (StopLeft mid (name_of held) (settled start) (events n) (made n)) → AtEachMoment old new (Left n)
+    stops_behind n apart behind =
         joined old mid new _ _ _ (stops n) behind (λ files said left. left)
-        (λ files said left. left_behind n files said (subst (λ (m : List ℕ). StopLeft mid m (settled start) (events n) files said) named left))
+        (λ files said left.
+        left_behind n (subst (λ (m : List ℕ). AreApart m (made n)) named apart) files said
+        (subst (λ (m : List ℕ). StopLeft mid m (settled start) (events n) (made n) files said) named left))
 
     -- the turns ended early
     pub begun_fails : (e : Stop) {f : Stop} → PlaysOpened (Err f) mid new held after start first_one first.now plan → RunsTo (Err e) old new (Ok (ToRun plan is_quiet)) account given
@@ -106,7 +128,7 @@ module _ (old : World) (account : Account) (given : Given) (plan : Plan) (is_qui
       left = (turns plan first.now plays.how_often).1.given;
       performed = performed plays.how_often plays.finished;
       opened = inl (opened_with plays.how_often small);
-      stops = with_target plays.how_often old new (stops_behind plays.how_often plays.plays.stops);
+      stops = with_target plays.how_often old new (stops_behind plays.how_often plays.plays.apart plays.plays.stops);
       finished = tt;
     }
 
@@ -118,7 +140,7 @@ module _ (old : World) (account : Account) (given : Given) (plan : Plan) (is_qui
       left = (turns plan first.now n).1.given;
       performed = performed n plays.finished;
       opened = inl (opened_with n small);
-      stops = with_target n old new (stops_behind n plays.plays.stops);
+      stops = with_target n old new (stops_behind n plays.plays.apart plays.plays.stops);
       finished = subst (λ (d : Option Target). Finished status old new account d (events n) given (turns plan first.now n).1.given) (sym (target_is n)) done;
     }
       where
@@ -140,5 +162,6 @@ module _ (old : World) (account : Account) (given : Given) (plan : Plan) (is_qui
           ended = number ∙ sym plays.plays.done.status;
           gave = given_from old mid new given (turns plan first.now n).1.given gave (subst (λ (g : Given). WasGiven mid new g (turns plan first.now n).1.given) first.given_is plays.plays.done.given);
           database = ended;
-          others = λ m other. plays.plays.others_read m (λ one. other (subst (λ (k : List ℕ). OfFiles k m) named one)) ∙ read m other;
+          kept = plays.plays.done.kept;
+          others = λ m other none. plays.plays.others_read m (λ one. outside n m other none (subst (λ (k : List ℕ). Touched k (made n) m) named one)) ∙ read m other;
         }

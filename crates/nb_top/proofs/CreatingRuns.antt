@@ -1,12 +1,11 @@
 -- A run whose first statement creates its database.
-use Rattle.std.proofs.Common.{◌≡◌, inl, inr, ⊎_elim, ℕ, List, [], ◌∷◌, ◌++◌, length, take, true, false, refl, sym, ap, subst, ◌∙◌, arith}
-use Rattle.std.specs.Prelude.{Bool, ◌&&◌, not, nat_le, Some, Result, Ok, Err}
-use Rattle.std.proofs.lemmas.Bool.{and_parts, true≢false}
+use Rattle.std.proofs.Common.{◌≡◌, ◌≢◌, inl, inr, ⊎_elim, ℕ, List, [], ◌∷◌, ◌++◌, length, take, true, false, refl, sym, ap, subst, ◌∙◌, arith}
+use Rattle.std.specs.Prelude.{Bool, Some, Result, Ok, Err, Contains}
 use Rattle.std.proofs.lemmas.List.{append-nil, take-append-le, take_all}
 use Rattle.nb_fields.specs.Free.{is_free_file}
 use Rattle.nb_fields.specs.Fresh.{fresh}
 use Rattle.nb_host.specs.Files.{Files}
-use Rattle.nb_host.specs.Names.{is_name, is_delta}
+use Rattle.nb_host.specs.Names.{is_delta}
 use Rattle.nb_host.specs.World.{World}
 use Rattle.nb_host.specs.Crash.{Leaves}
 use Rattle.nb_host.specs.Moments.{AtEachMoment}
@@ -21,19 +20,22 @@ use Rattle.nb_page.specs.Quiet.{Quiet}
 use Rattle.nb_model.specs.declared.reply.Reply.TheVariants.{Pages, Refused as RefusedReply}
 use Rattle.nb_model.specs.declared.statement.Statement.{Statement}
 use Rattle.nb_model.specs.declared.statement.Statement.TheVariants.{CreateDb}
-use Rattle.nb_model.specs.Account.{Base, base_of, Account}
+use Rattle.nb_model.specs.Account.{Base, IsBase, base_of, Account}
 use Rattle.nb_model.specs.Causes.{is_free_entry}
+use Rattle.nb_model.specs.Going.{IsMaking}
 use Rattle.nb_model.specs.Image.{Image}
+use Rattle.nb_model.specs.Making.{MadeFile, IsNoneOf}
 use Rattle.nb_model.specs.Outcomes.{Given}
 use Rattle.nb_model.specs.Owner.{delta_name}
-use Rattle.nb_model.specs.Run.{Event, IsRun, base_now}
+use Rattle.nb_model.specs.Run.{Event, IsRun, base_now, files_made, rounds}
 use Rattle.nb_model.specs.Steps.{Step, steps_in, steps_of}
 use Rattle.nb_model.specs.Trail.{Trail, ShowsIn, StandsIn, settled}
 use Rattle.nb_model.proofs.FreshImageLaws.{fresh_length}
-use Rattle.nb_model.proofs.OpeningLaws.{not_created, run_ends}
+use Rattle.nb_model.proofs.OpeningLaws.{created, not_created, run_ends}
 use Rattle.nb_model.proofs.StandsLaws.{no_main}
 use Rattle.nb_model.proofs.StepsLaws.{acked_steps_none, turns_before, steps_append, steps_length, steps_one}
 use Rattle.nb_model.proofs.TrailLaws.{shows_settled}
+use Rattle.nb_model.specs.Well.{IsWell}
 use Rattle.nb_model.proofs.WellLaws.{fresh_well_base}
 use Rattle.nb_base.specs.Beginnings.{CreateLeft}
 use Rattle.nb_base.specs.Open.{OfFiles}
@@ -43,33 +45,28 @@ use Rattle.nb_script.specs.Asked.{IsAskable}
 use Rattle.nb_script.specs.Fits.{FitsFirst}
 use Rattle.nb_script.specs.Scripts.{Plan}
 use Rattle.nb_session.specs.declared.stop.Stop.{Stop}
+use Rattle.nb_session.specs.Acts.{MadeLeft}
 use Rattle.nb_session.specs.Stops.{IsSaid}
-use Rattle.nb_top.specs.Performed.{RunsTo, HasSmallScn, first_event, opened_reply, refused_at, seen_after, target_of}
+use Rattle.nb_top.specs.Performed.{KnowsNames, MayBeGiven, RunsTo, HasSmallScn, first_event, opened_reply, refused_at, seen_after, target_of}
 use Rattle.nb_top.specs.Requests.{ToRun}
 use Rattle.nb_top.proofs.QuietRuns.{left_quietly}
 use Rattle.nb_top.proofs.FirstLaws.{First, first_created, created_base, turns}
+use Rattle.nb_top.proofs.FirstReady.{IsBehind, apart_play, base_name, begins_making, first_ready}
+use Rattle.nb_top.proofs.MadeRuns.{made_behind, none_yet}
 use Rattle.nb_top.proofs.BegunRuns.{Left, events, first_one, first_fails}
 use Rattle.nb_top.proofs.Beginnings.{Beginning, FirstRefused, FirstDone}
-use Rattle.nb_top.proofs.ToldLaws.{Ran, told_first_steps, performed_refused}
-
--- a name that a database may have
-pub record BaseName (name : List ℕ) : Type 0 where
-  pub short : nat_le (length name) 94 ≡ true
-  pub plain : is_delta name ≡ false
-
-not_true : (b : Bool) → not b ≡ true → b ≡ false
-not_true true h = absurd (true≢false (sym h))
-not_true false h = refl
-
-pub base_name : (name : List ℕ) → (is_name name && nat_le (length name) 94 && not (is_delta name)) ≡ true → BaseName name
-base_name name fits =
-    let parts = and_parts (is_name name && nat_le (length name) 94) (not (is_delta name)) fits in
-    record { short = (and_parts (is_name name) (nat_le (length name) 94) parts.0).1; plain = not_true (is_delta name) parts.1 }
+use Rattle.nb_top.proofs.ToldLaws.{Ran, told_first_made, told_first_steps, performed_refused}
 
 module _ (old : World) (account : Account) (given : Given) (plan : Plan) (is_quiet : Bool) (askable : IsAskable plan) (name : List ℕ) (size raw cache : ℕ) (first_is : plan.first ≡ CreateDb name size raw cache)
-    (knows : is_free_name old.files name ≡ is_free_entry (account.entry name)) where
+    (names : KnowsNames old.files account) where
   fits : FitsFirst (CreateDb name size raw cache)
   fits = subst FitsFirst first_is askable.first.fits
+
+  plain : is_delta name ≡ false
+  plain = (base_name name fits.0).plain
+
+  knows : is_free_name old.files name ≡ is_free_entry (account.entry name)
+  knows = names name plain
 
   abbrev image : Image
   image = fresh size raw
@@ -103,6 +100,16 @@ module _ (old : World) (account : Account) (given : Given) (plan : Plan) (is_qui
     unfolding first_created
     small e = absurd (true_false e)
 
+    -- the account behind it
+    created_behind : IsBehind account name first.now
+    unfolding first_created
+    created_behind =
+        let one = created account given plan.sessions plan.first_session name size raw cache free in
+        record {
+          here = ap (λ (a : Account). a.entry name) one.account_is ∙ one.here ∙ ap IsBase (sym one.base);
+          others = λ m other. ap (λ (a : Account). a.entry m) one.account_is ∙ one.others m other;
+        }
+
     abbrev es : ℕ → List Event
     es n = events old account given plan is_quiet askable first n
 
@@ -112,19 +119,38 @@ module _ (old : World) (account : Account) (given : Given) (plan : Plan) (is_qui
     abbrev later : ℕ → List Event
     later n = (turns plan first.now n).0
 
-    -- while it is created
-    left_creating : (n : ℕ) (files : Files) (said : List ℕ) → ChangedLeft old (Only name) (CreateLeft old name image) files said → Left old account given plan is_quiet askable first n files said
+    making : MayBeGiven given → IsMaking first.now
+    making may =
+        begins_making plan askable first.now first.todo (record { header = well.header; scn = well.scn }) well.sound (omega (arith, well.state)) (λ stalled. absurd (omega (arith, stalled, well.state)))
+        (subst MayBeGiven (sym first.given_is) may)
+      where
+        well : IsWell [] (base_now first.now).image
+        well = subst (λ (b : Base). IsWell [] b.image) (sym (created_base account given plan name size raw cache first_is free)) (fresh_well_base [] size raw fits.1 fits.2).well
+
+    -- its turns make no file of its name
+    apart : MayBeGiven given → (n : ℕ) (m bytes : List ℕ) → Contains (files_made (es n)) (m, bytes) → m ≢ name
     unfolding first_created
-    left_creating n files said left = ⊎_elim was (⊎_elim unfinished whole) left.has
+    apart may n m bytes there same =
+        let its : Contains (files_made (later n)) (m, bytes) =
+        subst (λ (made : List MadeFile). Contains made (m, bytes)) (made_behind one (later n) (told_first_made is_quiet (first_event plan.first_session first.strokes first.reply))) there in
+        apart_play plan askable first.now first.todo (making may) (plan.schedule ++ rounds n) m bytes its (inl (same ∙ sym first.name_is))
+
+    -- while it is created
+    left_creating : MayBeGiven given → (n : ℕ) (files : Files) (said : List ℕ) → ChangedLeft old (Only name) (CreateLeft old name image) files said → Left old account given plan is_quiet askable first n files said
+    unfolding first_created
+    left_creating may n files said left = ⊎_elim was (⊎_elim unfinished whole) left.has
       where
         out : IsSaid old (es n) said
         out = record { part = []; is = left.output ∙ sym (append-nil old.said); front = refl }
 
-        unasked : (m : List ℕ) → (OfFiles name m → ⊥) → Leaves old m (files m)
-        unasked m other = left.others m (λ e. other (inl e))
+        each : MadeLeft old (files_made (es n)) files
+        each m bytes there = inl (left.others m (apart may n m bytes there))
+
+        unasked : (m : List ℕ) → (OfFiles name m → ⊥) → IsNoneOf (files_made (es n)) m → Leaves old m (files m)
+        unasked m other none = left.others m (λ e. other (inl e))
 
         beside : Leaves old (delta_name name) (files (delta_name name))
-        beside = left.others (delta_name name) (no_main name name (base_name name fits.0).plain)
+        beside = left.others (delta_name name) (no_main name name plain)
 
         was : Leaves old name (files name) → Left old account given plan is_quiet askable first n files said
         was is = record {
@@ -132,6 +158,8 @@ module _ (old : World) (account : Account) (given : Given) (plan : Plan) (is_qui
           count = 0;
           front = record { most = omega arith; acknowledged = omega (arith, acked_steps_none (es n)) };
           database = inr (record { none = refl; unsaid = turns_before (es n); main = inl is; delta = beside });
+          each = each;
+          whole = λ m bytes there. absurd (none_yet (es n) (m, bytes) there);
           others = unasked;
         }
 
@@ -141,6 +169,8 @@ module _ (old : World) (account : Account) (given : Given) (plan : Plan) (is_qui
           count = 0;
           front = record { most = omega arith; acknowledged = omega (arith, acked_steps_none (es n)) };
           database = inr (record { none = refl; unsaid = turns_before (es n); main = inr (refl, is); delta = beside });
+          each = each;
+          whole = λ m bytes there. absurd (none_yet (es n) (m, bytes) there);
           others = unasked;
         }
 
@@ -164,6 +194,8 @@ module _ (old : World) (account : Account) (given : Given) (plan : Plan) (is_qui
             acknowledged = omega (arith, acked_steps_none (es n));
           };
           database = inl (subst (λ (t : Trail). StandsIn name t files) (sym seen) (shows_settled name (base_of image) (files name) (files (delta_name name)) is));
+          each = each;
+          whole = λ m bytes there. absurd (none_yet (es n) (m, bytes) there);
           others = unasked;
         }
 
@@ -176,9 +208,9 @@ module _ (old : World) (account : Account) (given : Given) (plan : Plan) (is_qui
       by true is = first_fails old account given plan is_quiet askable (first is) new e (inl (small is)) (λ n. left_quietly old new account _ _ quiet)
       by false is = taken_fails new e is quiet
 
-  module _ (mid : World) (result : Result Held Fault) (creates : Creates result old mid name image) where
+  module _ (may : MayBeGiven given) (mid : World) (result : Result Held Fault) (creates : Creates result old mid name image) where
     creating : (free : is_free_entry (account.entry name) ≡ true) (n : ℕ) → AtEachMoment old mid (Left old account given plan is_quiet askable (first free) n)
-    creating free n = weaker old mid _ _ creates.left.moments (left_creating free n)
+    creating free n = weaker old mid _ _ creates.left.moments (left_creating free may n)
 
     pub creates_begins : Beginning old account given plan is_quiet askable mid result
     unfolding first_created
@@ -212,13 +244,9 @@ module _ (old : World) (account : Account) (given : Given) (plan : Plan) (is_qui
             record {
               first = one;
               says = ap Pages (sym (answer.opened.files.agrees.count ∙ fresh_length size raw)) ∙ ap (λ (s : Statement). opened_reply s held.files.count held.files.state) (sym first_is);
-              ready = record {
-                opened = subst (λ (b : Base). IsOpen mid held (settled b)) (sym base) answer.opened;
-                base = refl;
-                named = answer.named ∙ sym one.name_is;
-                running = answer.nothing_runs ∙ sym one.running;
-              };
-              calm = inl (subst (λ (b : Base). Rattle.nb_model.specs.Sound.IsSoundImage b.image) (sym base) (fresh_well_base [] size raw fits.1 fits.2).well.sound);
+              ready = first_ready old mid account name plain names one.now one.name_is (created_behind free) held answer.named (answer.nothing_runs ∙ sym one.running) (λ m other. creates.left.others_read m (λ e. other (inl e)))
+                  (subst (λ (b : Base). IsOpen mid held (settled b)) (sym base) answer.opened);
+              making = making free may;
               named = answer.named;
               small = small free;
               alone = untouched_fewer old mid _ _ creates.left.others (λ m other e. other (inl e));

@@ -10,9 +10,10 @@ use Rattle.nb_model.specs.declared.reply.Reply.TheVariants.{Done}
 use Rattle.nb_model.specs.Account.{Base, base_of, Account, with_entry}
 use Rattle.nb_model.specs.Image.{Image, image_in, image_state}
 use Rattle.nb_model.specs.Jobs.{only_refusal, fixup_turn, account_behind}
+use Rattle.nb_model.specs.Making.{IsNoneOf, with_files}
 use Rattle.nb_model.specs.Outcomes.{Given}
 use Rattle.nb_model.specs.Owner.{delta_name, owner}
-use Rattle.nb_model.specs.Run.{Event, with_made, account_after}
+use Rattle.nb_model.specs.Run.{Event, with_made, account_after, files_made}
 use Rattle.nb_model.specs.Steps.{makes, settles, after_step, after_steps, steps_of, strokes_in}
 use Rattle.nb_model.specs.Strokes.{fix, fixed, on_base, base_in, base_after, records_of, records_after}
 use Rattle.nb_model.specs.Trail.{settled, settles_at, after_stroke}
@@ -27,6 +28,7 @@ use Rattle.nb_top.specs.declared.status.Status.{Status}
 use Rattle.nb_top.specs.Performed.{RunLeft, Finished, HasKeptImage, HoldsKept, IsPerformed, IsSure, RestoresKept, StandsFor, Target, kept_after, target_of}
 use Rattle.nb_top.specs.Requests.{Request, ToFix}
 use Rattle.nb_top.proofs.FixTurns.{FixTurn, refuses, fixes, fixed_turn, base_is, copy_state, fixed_account, refused_account, turn_is}
+use Rattle.nb_top.proofs.MadeRuns.{none_alone}
 use Rattle.nb_top.proofs.RequestLaws.{CanBeAsked}
 use Rattle.nb_top.proofs.SureFiles.{still_stands}
 use Rattle.nb_top.proofs.SureTargets.{IsSureRun, turn_sure, target_left, target_end}
@@ -50,8 +52,8 @@ fixed_keeps b = refl
 
 -- the account behind it
 fixed_grown : (account : Account) (db : List ℕ)
-    → IsGrown db (after_steps (settled (base_of (fixed (base_in (account.entry db)).image))) (settles ∷ [])).base (records_after (base_of (fixed (base_in (account.entry db)).image)) (strokes_in (settles ∷ []))) account (account_after db (fix ∷ []) None account)
-unfolding account_after with_made with_entry after_steps after_step strokes_in records_after records_of base_after on_base
+    → IsGrown db (after_steps (settled (base_of (fixed (base_in (account.entry db)).image))) (settles ∷ [])).base (records_after (base_of (fixed (base_in (account.entry db)).image)) (strokes_in (settles ∷ []))) [] account (account_after db (fix ∷ []) None account)
+unfolding account_after with_made with_files with_entry after_steps after_step strokes_in records_after records_of base_after on_base
 fixed_grown account db = record { entries = λ n. refl; kept = refl }
 
 -- The copy of a fixup that is sure has the image that the begin of its backup kept, and that is well in the normal state.
@@ -88,10 +90,10 @@ module _ (old : World) (db : List ℕ) (account : Account) (can : CanBeAsked (To
   base_then : base_of (fixed (base_in (account.entry db)).image) ≡ base
   base_then = ap (λ (b : Base). base_of (fixed b.image)) there
 
-  grown : IsGrown db (after_steps (settled base) (settles ∷ [])).base (records_after base (strokes_in (settles ∷ []))) account after
+  grown : IsGrown db (after_steps (settled base) (settles ∷ [])).base (records_after base (strokes_in (settles ∷ []))) [] account after
   grown =
-      subst (IsGrown db (after_steps (settled base) (settles ∷ [])).base (records_after base (strokes_in (settles ∷ []))) account) (sym (fixed_account old.files db account))
-      (subst (λ (b : Base). IsGrown db (after_steps (settled b) (settles ∷ [])).base (records_after b (strokes_in (settles ∷ []))) account (account_after db (fix ∷ []) None account)) base_then (fixed_grown account db))
+      subst (IsGrown db (after_steps (settled base) (settles ∷ [])).base (records_after base (strokes_in (settles ∷ []))) [] account) (sym (fixed_account old.files db account))
+      (subst (λ (b : Base). IsGrown db (after_steps (settled b) (settles ∷ [])).base (records_after b (strokes_in (settles ∷ []))) [] account (account_after db (fix ∷ []) None account)) base_then (fixed_grown account db))
 
   -- which no two files show
   no_copy : (files : Files) → owner db (files db) (files (delta_name db)) ≡ Ok (base_in (account.entry db)) → ⊥
@@ -132,7 +134,7 @@ module _ (old : World) (db : List ℕ) (account : Account) (given : Given) (can 
   fix_left files said = by (turn_is old.files db) sure
     where
       by : FixTurn old.files db → Holds files said events
-      by (refuses refusal why is) = subst (Holds files said) (sym (events_are (only_refusal refusal) is)) (λ s l. s.stands.left files (λ m. l.others m tt))
+      by (refuses refusal why is) = subst (Holds files said) (sym (events_are (only_refusal refusal) is)) (λ s l. s.stands.left files (λ m. l.others m tt (none_alone (only_refusal refusal) refl m)))
       by (fixes bytes copy is) = subst (Holds files said) (sym (events_are fixed_turn is)) (λ s l. fixed_left old db account can before bytes copy s files said l)
 
   -- at its end
@@ -142,7 +144,10 @@ module _ (old : World) (db : List ℕ) (account : Account) (given : Given) (can 
 
     refused_end : (refusal : Refusal) → Ends account (only_refusal refusal ∷ [])
     refused_end refusal s stops finished =
-        still_stands old new account s.stands reads (λ m. finished.others m tt) (λ files leaves m. (stops.each files new.said (timely.counts_now old.moment files stops.later leaves)).others m tt)
+        still_stands old new account s.stands reads (λ m. finished.others m tt (none m)) (λ files leaves m. (stops.each files new.said (timely.counts_now old.moment files stops.later leaves)).others m tt (none m))
+      where
+        none : (m : List ℕ) → IsNoneOf (files_made (only_refusal refusal ∷ [])) m
+        none = none_alone (only_refusal refusal) refl
 
     ends : FixTurn old.files db → Ends last events
     ends (refuses refusal why is) =

@@ -15,7 +15,8 @@ use Rattle.nb_model.specs.Jobs.{restore_turn, fixup_turn, account_behind}
 use Rattle.nb_model.specs.Lines.{line_text}
 use Rattle.nb_model.specs.Outcomes.{Given}
 use Rattle.nb_model.specs.Output.{status_after}
-use Rattle.nb_model.specs.Run.{Event}
+use Rattle.nb_model.specs.Making.{IsNoneOf}
+use Rattle.nb_model.specs.Run.{Event, files_made}
 use Rattle.nb_model.specs.Steps.{steps_of}
 use Rattle.nb_model.proofs.TodoLaws.{status_refused}
 use Rattle.nb_script.specs.Scripts.{Plan}
@@ -23,10 +24,11 @@ use Rattle.nb_session.specs.declared.stop.Stop.{Stop}
 use Rattle.nb_session.specs.Says.{SaysLine}
 use Rattle.nb_top.specs.declared.status.Status.{Status}
 use Rattle.nb_top.specs.declared.status.Status.TheVariants.{Refused as RefusedStatus, Usage as UsageStatus, Device, Memory}
-use Rattle.nb_top.specs.Performed.{HasSmallScn, HoldsKept, RunLeft, RunStands, RunsTo, Performs, Finished, IsPerformed, IsSure, IsUndone, Knows, RestoresKept, StandsFor, kept_after, target_of, number_of, refused_job}
+use Rattle.nb_top.specs.Performed.{HasSmallScn, HoldsKept, RunLeft, RunStands, RunsTo, Performs, Finished, IsPerformed, IsSure, IsUndone, Knows, MayBeGiven, RestoresKept, StandsFor, kept_after, target_of, number_of, first_event, refused_job}
 use Rattle.nb_top.specs.Requests.{Request, ToRun, ToRestore, ToFix, request_asked, script_in, to_run}
 use Rattle.nb_top.proofs.FixedRuns.{fix_left, fix_end, fixes_kept}
 use Rattle.nb_top.proofs.LeftLaws.{left_first, first_count}
+use Rattle.nb_top.proofs.MadeRuns.{none_alone}
 use Rattle.nb_top.proofs.QuietRuns.{left_quietly}
 use Rattle.nb_top.proofs.RefusedRuns.{refused_runs}
 use Rattle.nb_top.proofs.RequestLaws.{CanBeAsked, askable_in, can_be_asked}
@@ -109,12 +111,16 @@ pub usage_number : (result : Result Status Stop) → IfOk result (λ status. sta
 usage_number (Ok status) ended = ap number_of ended
 usage_number (Err e) ended = tt
 
+-- a refusal makes no file
+none_refused : (events : List Event) (refusal : Refusal) → events ≡ refused_job refusal → (m : List ℕ) → IsNoneOf (files_made events) m
+none_refused events refusal is m = subst (λ (es : List Event). IsNoneOf (files_made es) m) (sym is) (none_alone (first_event 0 [] (RefusedReply refusal)) refl m)
+
 -- Where it is sure, what a stop leaves stands for an account.
-module _ (old : World) (account : Account) (given : Given) (before : (name : List ℕ) → Leaves old name (old.files name)) (events : List Event) (last : Account) (left : Given) where
+module _ (old : World) (account : Account) (given : Given) (sixteen : MayBeGiven given) (before : (name : List ℕ) → Leaves old name (old.files name)) (events : List Event) (last : Account) (left : Given) where
   sure_left : (asked : Result Request Refusal) → ((r : Request) → asked ≡ Ok r → CanBeAsked r) → IsPerformed old.files asked account given events last left → IsSure old account asked events → HasSmallScn account (target_of asked events)
       → (files : Files) (said : List ℕ) (l : RunLeft old account (target_of asked events) events files said) → HoldsKept files (kept_after account (target_of asked events) (take l.count (steps_of events)))
-  sure_left (Err refusal) allowed performed sure small files said l = sure.stands.left files (λ m. l.others m tt)
-  sure_left (Ok (ToRun plan is_quiet)) allowed performed sure small files said l = script_left old plan is_quiet (allowed (ToRun plan is_quiet) refl) account given before events last left performed sure small files said l
+  sure_left (Err refusal) allowed performed sure small files said l = sure.stands.left files (λ m. l.others m tt (none_refused events refusal performed.0 m))
+  sure_left (Ok (ToRun plan is_quiet)) allowed performed sure small files said l = script_left old plan is_quiet (allowed (ToRun plan is_quiet) refl) account given before events last left performed sixteen sure small files said l
   sure_left (Ok (ToRestore db names)) allowed performed sure small files said l = restored_left old db names account given (allowed (ToRestore db names) refl) before events last left performed sure files said l
   sure_left (Ok (ToFix db)) allowed performed sure small files said l = fix_left old db account given (allowed (ToFix db) refl) before events last left performed sure files said l
 
@@ -124,9 +130,10 @@ module _ (old : World) (account : Account) (given : Given) (before : (name : Lis
       → Finished status old new account (target_of asked events) events given left → StandsFor new last
   sure_end (Err refusal) allowed performed sure small new timely reads stops status done =
       subst (StandsFor new) (sym performed.1)
-      (still_stands old new account sure.stands reads (λ m. done.others m tt) (λ files leaves m. (stops.each files new.said (timely.counts_now old.moment files stops.later leaves)).others m tt))
+      (still_stands old new account sure.stands reads (λ m. done.others m tt (none_refused events refusal performed.0 m))
+      (λ files leaves m. (stops.each files new.said (timely.counts_now old.moment files stops.later leaves)).others m tt (none_refused events refusal performed.0 m)))
   sure_end (Ok (ToRun plan is_quiet)) allowed performed sure small new timely reads stops status done =
-      script_end old plan is_quiet (allowed (ToRun plan is_quiet) refl) account given before events last left performed sure small new timely reads stops status done
+      script_end old plan is_quiet (allowed (ToRun plan is_quiet) refl) account given before events last left performed sixteen sure small new timely reads stops status done
   sure_end (Ok (ToRestore db names)) allowed performed sure small new timely reads stops status done =
       restored_end old db names account given (allowed (ToRestore db names) refl) before events last left performed sure new timely reads status stops done
   sure_end (Ok (ToFix db)) allowed performed sure small new timely reads stops status done = fix_end old db account given (allowed (ToFix db) refl) before events last left performed sure new timely reads status stops done
@@ -138,8 +145,8 @@ module _ (old : World) (account : Account) (given : Given) (before : (name : Lis
   sure_kept (Ok (ToRestore db names)) allowed sure = restores_kept old db names account (allowed (ToRestore db names) refl) events sure
   sure_kept (Ok (ToFix db)) allowed sure = fixes_kept old db account (allowed (ToFix db) refl) events sure
 
-module _ (old new : World) (asked : Result Request Refusal) (allowed : (r : Request) → asked ≡ Ok r → CanBeAsked r) (account : Account) (given : Given) (before : (name : List ℕ) → Leaves old name (old.files name))
-    (timely : IsTimely new) (reads : (name : List ℕ) → Leaves new name (new.files name)) where
+module _ (old new : World) (asked : Result Request Refusal) (allowed : (r : Request) → asked ≡ Ok r → CanBeAsked r) (account : Account) (given : Given) (sixteen : MayBeGiven given)
+    (before : (name : List ℕ) → Leaves old name (old.files name)) (timely : IsTimely new) (reads : (name : List ℕ) → Leaves new name (new.files name)) where
   abbrev Runs : Result Status Stop → Type 0
   Runs result = RunsTo result old new asked account given
 
@@ -156,8 +163,8 @@ module _ (old new : World) (asked : Result Request Refusal) (allowed : (r : Requ
       → (status ≢ Device → status ≢ Memory → IfErr result (λ e. ⊥) × Finished status old new account (target_of asked runs.events) runs.events given runs.left) → Performs status old new asked account given
   performs status result runs ends = ⊎_elim
       (λ small.
-      with_stops (weaker old new _ _ runs.stops (λ files said left. record { left = left; stands = λ sure. sure_left old account given before runs.events runs.last runs.left asked allowed runs.performed sure small files said left }))
-      (λ d m sure. sure_end old account given before runs.events runs.last runs.left asked allowed runs.performed sure small new timely reads runs.stops status (ends d m).1))
+      with_stops (weaker old new _ _ runs.stops (λ files said left. record { left = left; stands = λ sure. sure_left old account given sixteen before runs.events runs.last runs.left asked allowed runs.performed sure small files said left }))
+      (λ d m sure. sure_end old account given sixteen before runs.events runs.last runs.left asked allowed runs.performed sure small new timely reads runs.stops status (ends d m).1))
       (λ undone.
       with_stops (weaker old new _ _ (undone_quiet result undone).moments nothing_left)
       (λ d m. never_ended result undone (ends d m).0))
@@ -176,7 +183,7 @@ module _ (old new : World) (asked : Result Request Refusal) (allowed : (r : Requ
         now = stops.each new.files new.said (timely.counts_now old.moment new.files stops.later reads);
         finished = λ d m. (ends d m).1;
         stands = ended;
-        restores = sure_kept old account given before runs.events runs.last runs.left asked allowed;
+        restores = sure_kept old account given sixteen before runs.events runs.last runs.left asked allowed;
       }
 
       nothing_left : (files : Files) (said : List ℕ) → IsNow old files said → At files said

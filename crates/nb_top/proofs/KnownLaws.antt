@@ -1,47 +1,66 @@
 -- An account for which the files stand knows what any words ask of it.
-use Rattle.std.proofs.Common.{◌≡◌, ℕ, List, true, false, refl, sym, ap, ◌∙◌}
+use Rattle.std.proofs.Common.{◌≡◌, inl, inr, ℕ, ◌<◌, List, true, false, refl, sym, ap, ◌∙◌, arith, length-append}
 use Rattle.std.specs.Prelude.{Bool, ◌&&◌, not, nat_le, length, is_some, Option, Some, None, Result, Ok, Err}
 use Rattle.std.proofs.lemmas.Bool.{and_parts}
+use Rattle.std.proofs.lemmas.Bool.Decides.{leb_tells}
 use Rattle.nb_fields.specs.Free.{is_free_file}
-use Rattle.nb_host.specs.Files.{Files}
-use Rattle.nb_host.specs.Names.{is_delta}
+use Rattle.nb_host.specs.Files.{File, Files}
+use Rattle.nb_host.specs.Names.{is_delta, delta_suffix}
 use Rattle.nb_host.specs.declared.refusals.Refusal.{Refusal}
 use Rattle.nb_host.specs.declared.refusals.Refusal.TheVariants.{Usage}
 use Rattle.nb_page.specs.Free.{has_delta, is_free_name}
 use Rattle.nb_model.specs.declared.job.Job.{Job}
-use Rattle.nb_model.specs.declared.job.Job.TheVariants.{Run, Restore, Lock, Unlock, Fixup}
+use Rattle.nb_model.specs.declared.job.Job.TheVariants.{Run, Backup, Restore, Lock, Unlock, Fixup}
 use Rattle.nb_model.specs.declared.statement.Statement.{Statement}
-use Rattle.nb_model.specs.declared.statement.Statement.TheVariants.{CreateDb, OpenDb}
+use Rattle.nb_model.specs.declared.statement.Statement.TheVariants.{OpenDb}
 use Rattle.nb_model.specs.Account.{Account}
-use Rattle.nb_model.specs.Causes.{is_free_entry}
 use Rattle.nb_model.specs.Jobs.{usual_cache}
 use Rattle.nb_model.specs.Owner.{delta_name}
 use Rattle.nb_model.specs.Stands.{Stands, to_base}
 use Rattle.nb_model.specs.Words.{is_file, job_of}
+use Rattle.nb_model.proofs.GoingLaws.{name_short}
 use Rattle.nb_model.proofs.OpeningLaws.{free_entry}
 use Rattle.nb_script.specs.Fits.{FitsFirst}
 use Rattle.nb_script.specs.Scripts.{Plan}
-use Rattle.nb_top.specs.Performed.{HoldsUnder, Knows, KnowsFirst}
+use Rattle.nb_top.specs.Performed.{HoldsUnder, Knows, KnowsNames, KnowsOpened}
 use Rattle.nb_top.specs.Requests.{Request, FitsJob, is_job_built, built_job, request_asked, request_of, script_in, to_run}
-use Rattle.nb_top.proofs.CreatingRuns.{base_name}
-use Rattle.nb_top.proofs.RequestLaws.{askable_in, begin_askable, end_askable, fits_words, plain_file}
+use Rattle.nb_top.specs.Worlds.{HaveNames}
+use Rattle.nb_top.proofs.FirstReady.{base_name}
+use Rattle.nb_top.proofs.RequestLaws.{askable_in, backup_askable, begin_askable, end_askable, fits_words, plain_file}
 
--- of a name that a database may have, no file and no difference file is asked for
-free_short : (files : Files) (name : List ℕ) → nat_le (length name) 94 ≡ true → is_free_name files name ≡ (is_free_file (files name) && not (is_some (files (delta_name name))))
-unfolding is_free_name has_delta
-free_short files name short = ap (λ (t : Bool). is_free_file (files name) && not (t && is_some (files (delta_name name)))) short
+module _ (files : Files) (names : HaveNames files) where
+  -- no difference file stands beside a long name
+  none_long : (name : List ℕ) → 94 < length name → is_some (files (delta_name name)) ≡ false
+  none_long name long = by (files (delta_name name)) refl
+    where
+      by : (file : File) → files (delta_name name) ≡ file → is_some file ≡ false
+      by None is = refl
+      by (Some bytes) is =
+          let six : length delta_suffix ≡ 6 = refl in
+          absurd (omega (arith, long, six, length-append name delta_suffix, name_short (delta_name name) (names (delta_name name) bytes is)))
 
-module _ (files : Files) (account : Account) (stands : Stands files account) where
-  known_free : (name : List ℕ) → nat_le (length name) 94 ≡ true → is_delta name ≡ false → is_free_name files name ≡ is_free_entry (account.entry name)
-  known_free name short plain = free_short files name short ∙ sym (free_entry files account name stands.same_image stands.no_stray plain)
+  -- a name is free where its file is, and no difference file stands beside it
+  free_named : (name : List ℕ) → is_free_name files name ≡ (is_free_file (files name) && not (is_some (files (delta_name name))))
+  unfolding is_free_name has_delta
+  free_named name = elim (leb_tells (length name) 94) [
+    | inl short ↦ ap (λ (t : Bool). is_free_file (files name) && not (t && is_some (files (delta_name name)))) short.0
+    | inr long ↦ ap (λ (t : Bool). is_free_file (files name) && not (t && is_some (files (delta_name name)))) long.0
+        ∙ ap (λ (t : Bool). is_free_file (files name) && not t) (sym (none_long name long.1))
+  ]
+
+module _ (files : Files) (names : HaveNames files) (account : Account) (stands : Stands files account) where
+  known_names : KnowsNames files account
+  known_names name plain = free_named files names name ∙ sym (free_entry files account name stands.same_image stands.no_stray plain)
 
   known_under : (name : List ℕ) → is_delta name ≡ false → HoldsUnder files account name
   known_under name plain = record { same = stands.same_image name plain; sound = λ b is. stands.sound_images.images b.image (to_base name b is refl) }
 
-  known_first : (first : Statement) → FitsFirst first → KnowsFirst files account first
-  known_first (CreateDb name size raw cache) fits = known_free name (base_name name fits.0).short (base_name name fits.0).plain
-  known_first (OpenDb name cache) fits = known_under name (base_name name fits.0).plain
-  known_first other fits = tt
+  known_opened : (first : Statement) → FitsFirst first → KnowsOpened files account first
+  known_opened (OpenDb name cache) fits = known_under name (base_name name fits.0).plain
+  known_opened other fits = tt
+
+  known_first : (first : Statement) → FitsFirst first → KnowsNames files account × KnowsOpened files account first
+  known_first first fits = (known_names, known_opened first fits)
 
   known_script : (name : List ℕ) (read : Result Plan Refusal) → script_in name (files name) ≡ read → Knows files account (to_run read)
   known_script name (Ok plan) is = known_first plan.first (askable_in name (files name) plan is).first.fits
@@ -49,10 +68,11 @@ module _ (files : Files) (account : Account) (stands : Stands files account) whe
 
   known_job : (job : Job) → FitsJob job → Knows files account (request_of files job)
   known_job (Run name) fits = known_script name (script_in name (files name)) refl
+  known_job (Backup level db file) fits = known_first (OpenDb db usual_cache) (backup_askable level db file fits).first.fits
   known_job (Lock db) fits = known_first (OpenDb db usual_cache) (begin_askable db fits).first.fits
   known_job (Unlock db) fits = known_first (OpenDb db usual_cache) (end_askable db fits).first.fits
   known_job (Fixup db) fits = stands.same_image db (plain_file db (and_parts (is_file db) (nat_le (length db) 94) fits).0)
-  known_job (Restore db names) fits = let parts = and_parts (is_file db) (nat_le (length db) 94) fits.0 in known_free db parts.1 (plain_file db parts.0)
+  known_job (Restore db names) fits = known_names db (plain_file db (and_parts (is_file db) (nat_le (length db) 94) fits.0).0)
   known_job other fits = tt
 
   pub known_asked : (words : List (List ℕ)) → Knows files account (request_asked files words)

@@ -12,6 +12,7 @@ use Rattle.nb_model.specs.Owner.{delta_name}
 use Rattle.nb_model.specs.Run.{Event}
 use Rattle.nb_model.proofs.StepsLaws.{acked_steps_none, turns_before}
 use Rattle.nb_top.specs.Performed.{RunLeft, StandsAsked, Target}
+use Rattle.nb_top.proofs.MadeRuns.{none_yet}
 
 -- before anything is done, what a stop leaves is as it was
 first_asked : (old : World) (account : Account) (target : Option Target) (events : List Event) (files : Files) → ((n : List ℕ) → Leaves old n (files n)) → StandsAsked old account target events 0 0 files
@@ -25,7 +26,9 @@ left_first old account target events files said is = record {
   count = 0;
   front = record { most = omega arith; acknowledged = omega (arith, acked_steps_none events) };
   database = first_asked old account target events files is.left;
-  others = λ m unasked. is.left m;
+  each = λ name bytes there. inl (is.left name);
+  whole = λ name bytes there. absurd (none_yet events (name, bytes) there);
+  others = λ m unasked none. is.left m;
 }
 
 pub first_count : (old : World) (account : Account) (target : Option Target) (events : List Event) (files : Files) (said : List ℕ) (is : IsNow old files said) → (left_first old account target events files said is).count ≡ 0
@@ -51,5 +54,7 @@ left_before_all old mid same silent account target events files said left = reco
   count = left.count;
   front = left.front;
   database = asked_before old mid same account target events (length left.out.part) left.count files left.database;
-  others = λ m unasked. left_before old mid _ same m (files m) tt (left.others m unasked);
+  each = λ name bytes there. ⊎_elim (λ was. inl (left_before old mid _ same name (files name) tt was)) inr (left.each name bytes there);
+  whole = left.whole;
+  others = λ m unasked none. left_before old mid _ same m (files m) tt (left.others m unasked none);
 }

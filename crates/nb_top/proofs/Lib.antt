@@ -1,3 +1,5 @@
+pub mod MadeRuns
+pub mod FirstReady
 pub mod QuietRuns
 pub mod RefusedRuns
 pub mod LeftLaws
@@ -13,6 +15,8 @@ pub mod ScriptRuns
 pub mod WorldLaws
 pub mod CopyLaws
 pub mod MemoryLaws
+pub mod AsWas
+pub mod MadeStand
 pub mod SureLaws
 pub mod WellRuns
 pub mod SureFiles

@@ -1,36 +1,39 @@
 -- The first reply of a run is said, if it says one, and then turns are taken.
 use Rattle.std.proofs.Common.{◌≡◌, ℕ, List, [], ◌∷◌, ◌++◌, Bool, false, length, take, refl, sym, ap, subst, ◌∙◌, arith}
-use Rattle.std.specs.Prelude.{Result, Ok, Err}
+use Rattle.std.specs.Prelude.{None, Result, Ok, Err, IfOk}
 use Rattle.std.specs.Result.{IsErr}
 use Rattle.std.proofs.lemmas.List.{take_all}
 use Rattle.nb_host.specs.Files.{Files}
 use Rattle.nb_host.specs.World.{World}
 use Rattle.nb_host.specs.Calls.{IsStill}
-use Rattle.nb_host.specs.Crash.{Untouched}
-use Rattle.nb_host.specs.Moments.{AtEachMoment}
-use Rattle.nb_change.specs.Changes.{Other}
 use Rattle.nb_change.proofs.MomentLaws.{weaker, untouched_fewer}
+use Rattle.nb_page.specs.Free.{is_free_name}
 use Rattle.nb_model.specs.Account.{Base}
+use Rattle.nb_model.specs.Going.{IsMaking}
+use Rattle.nb_model.specs.Making.{NamesOnce}
 use Rattle.nb_model.specs.Output.{output, status_of}
-use Rattle.nb_model.specs.Run.{Event, Now, Played, base_now, begun, replies_of}
-use Rattle.nb_model.specs.Steps.{after_steps, steps_in, steps_of}
+use Rattle.nb_model.specs.Run.{Event, Now, Played, base_now, begun, replies_of, files_made, rounds}
+use Rattle.nb_model.specs.Steps.{after_steps, steps_in, steps_of, acked_turns}
 use Rattle.nb_model.specs.Trail.{Trail, StandsIn, settled}
+use Rattle.nb_model.proofs.MakingLaws.{made_once}
 use Rattle.nb_model.proofs.StepsLaws.{steps_one, acked_steps_most}
-use Rattle.nb_base.specs.Open.{OfFiles}
 use Rattle.nb_state.specs.Open.{Held, name_of}
+use Rattle.nb_state.proofs.TurnLaws.{still_open}
 use Rattle.nb_script.specs.Asked.{IsAskable}
 use Rattle.nb_script.specs.Scripts.{Plan}
 use Rattle.nb_session.specs.declared.stop.Stop.{Stop}
 use Rattle.nb_session.specs.Ready.{IsReady}
 use Rattle.nb_session.specs.Says.{FrontSaid, SaysLine}
-use Rattle.nb_session.specs.Stops.{StopLeft, Plays}
+use Rattle.nb_session.specs.Stops.{StopLeft, PlayedOut, Plays}
 use Rattle.nb_session.specs.Todo.{PlaysWhole}
-use Rattle.nb_session.proofs.EventLaws.{open_stays}
 use Rattle.nb_session.proofs.GiftLaws.{given_nothing}
-use Rattle.nb_session.proofs.PlayLaws.{plays_then, plays_failed, plays_cut}
-use Rattle.nb_top.specs.Performed.{PlaysOpened}
+use Rattle.nb_session.proofs.PlayLaws.{plays_then, plays_failed, plays_cut, plays_wider}
+use Rattle.nb_session.proofs.StopLaws.{AreApart}
 use Rattle.nb_session.proofs.EndLaws.{HasEnd, turns_end}
+use Rattle.nb_top.specs.Performed.{PlaysOpened, played_behind}
 use Rattle.nb_top.proofs.FirstLaws.{turns}
+use Rattle.nb_top.proofs.FirstReady.{apart_play}
+use Rattle.nb_top.proofs.MadeRuns.{no_file, none_front, none_made}
 use Rattle.nb_top.proofs.RefusedRuns.{take_self}
 
 -- a result that is a failure
@@ -43,10 +46,17 @@ opened_err (Err e) P is plays = plays e
 
 -- what stands ready stays so while something is said
 pub ready_still : (old mid : World) (held : Held) (now : Now) → IsStill old mid → IsReady old held (settled (base_now now)) now → IsReady mid held (settled (base_now now)) now
-ready_still old mid held now still ready = record { opened = open_stays old mid held (settled (base_now now)) still ready.opened; base = ready.base; named = ready.named; running = ready.running }
+ready_still old mid held now still ready = record {
+  opened = still_open old mid held (settled (base_now now)) still ready.opened;
+  base = ready.base;
+  there = ready.there;
+  named = ready.named;
+  running = ready.running;
+  known = λ m plain none. ap (λ (f : Files). is_free_name f m) still.files ∙ ready.known m plain none;
+}
 
 module _ (old mid new : World) (held after : Held) (start : Base) (now : Now) (plan : Plan) (askable : IsAskable plan) (ready : IsReady old held (settled (base_now now)) now) (todo : now.todo ≡ begun plan.sessions)
-    (event : Event) (line : List ℕ) (output_is : output (event ∷ []) ≡ line) (trail : after_steps (settled start) (steps_in event) ≡ settled (base_now now))
+    (making : IsMaking now) (event : Event) (unmade : event.made ≡ None) (line : List ℕ) (output_is : output (event ∷ []) ≡ line) (trail : after_steps (settled start) (steps_in event) ≡ settled (base_now now))
     {S E : Type 0} (told : Result S E) (says : SaysLine told old mid line) where
   abbrev one : Played
   one = (event ∷ [], now)
@@ -58,7 +68,7 @@ module _ (old mid new : World) (held after : Held) (start : Base) (now : Now) (p
   all_steps = sym trail_is ∙ ap (after_steps (settled start)) (sym (take_all (length (steps_of (event ∷ []))) (steps_of (event ∷ [])) (omega arith)))
 
   -- while the line is said
-  saying : (files : Files) (said : List ℕ) → FrontSaid old line files said → StopLeft old (name_of held) (settled start) (event ∷ []) files said
+  saying : (files : Files) (said : List ℕ) → FrontSaid old line files said → StopLeft old (name_of held) (settled start) (event ∷ []) [] files said
   saying files said front =
       let part : List ℕ = take front.count line in
       record {
@@ -66,23 +76,39 @@ module _ (old mid new : World) (held after : Held) (start : Base) (now : Now) (p
         count = length (steps_of (event ∷ []));
         front = record { most = omega arith; acknowledged = acked_steps_most (event ∷ []) (length part) };
         database = subst (λ (t : Trail). StandsIn (name_of held) t files) all_steps (ready.opened.files.left files front.left);
+        each = λ n bytes there. absurd (no_file (n, bytes) there);
+        whole = λ n bytes there. absurd (none_front event unmade (acked_turns (event ∷ []) (length part)) (n, bytes) there);
         others = λ m other. front.left m;
       }
 
-  stops : AtEachMoment old mid (StopLeft old (name_of held) (settled start) (event ∷ []))
-  stops = weaker old mid _ _ says.moments saying
+  plays_one : (result : Result Bool Stop) → IfOk result (λ refused. PlayedOut refused old mid held (settled start) now one) → Plays result old mid held held (settled start) now one []
+  plays_one result out = record {
+    stops = weaker old mid _ _ says.moments saying;
+    left = λ n bytes file there is. absurd (no_file (n, bytes) there);
+    apart = λ n bytes there. absurd (no_file (n, bytes) there);
+    others = untouched_fewer old mid _ _ says.still.left (λ m other. tt);
+    others_read = λ m other. ap (λ (f : Files). f m) says.still.files;
+    name = refl;
+    done = out;
+  }
 
-  untouched : Untouched old mid (Other (OfFiles (name_of held)))
-  untouched = untouched_fewer old mid _ _ says.still.left (λ m other. tt)
+  -- the turns behind it, with the files that they make
+  abbrev behind_it : ℕ → Played
+  behind_it n = turns plan now n
+
+  once : (n : ℕ) → NamesOnce (files_made (behind_it n).0)
+  once n = made_once (plan.schedule ++ rounds n) now making
 
   -- the line wasn't said whole
   pub reply_unsaid : (e : Stop) → PlaysOpened (Err e) old mid held held start event now plan
   reply_unsaid e =
       let end : HasEnd plan.schedule now 0 = turns_end plan askable now todo 0 in
+      let more : Played = behind_it end.how_often in
       record {
         how_often = end.how_often;
-        plays = plays_cut old mid held held (settled start) now one (turns plan now end.how_often).0 (turns plan now end.how_often).1 e
-            (record { stops = stops; others = untouched; others_read = λ m other. ap (λ (f : Files). f m) says.still.files; name = refl; done = tt });
+        plays = plays_wider (Err e) old mid held held (settled start) now (played_behind event more) [] (files_made more.0) (λ file there. absurd (no_file file there)) (once end.how_often)
+            (subst (λ (n : List ℕ). AreApart n (files_made more.0)) (sym ready.named) (apart_play plan askable now todo making (plan.schedule ++ rounds end.how_often)))
+            (plays_cut old mid held held (settled start) now one more.0 more.1 [] e (plays_one (Err e) tt));
         finished = end.finished;
       }
 
@@ -90,31 +116,32 @@ module _ (old mid new : World) (held after : Held) (start : Base) (now : Now) (p
   ready_mid = ready_still old mid held now says.still ready
 
   -- it was
-  reply_said : status_of (replies_of (event ∷ [])) ≡ 0 → mid.said ≡ old.said ++ line → Plays (Ok false) old mid held held (settled start) now one
-  reply_said fine said = record {
-    stops = stops;
-    others = untouched;
-    others_read = λ m other. ap (λ (f : Files). f m) says.still.files;
-    name = refl;
-    done = record {
-      ready = subst (λ (t : Trail). IsReady mid held t now) (sym trail_is) ready_mid;
-      said = said ∙ ap (λ (l : List ℕ). old.said ++ l) (sym output_is);
-      status = fine;
-      given = given_nothing old mid now.given now.given says.gave refl;
-    };
-  }
+  reply_said : status_of (replies_of (event ∷ [])) ≡ 0 → mid.said ≡ old.said ++ line → Plays (Ok false) old mid held held (settled start) now one []
+  reply_said fine said = plays_one (Ok false) (record {
+    ready = subst (λ (t : Trail). IsReady mid held t now) (sym trail_is) ready_mid;
+    said = said ∙ ap (λ (l : List ℕ). old.said ++ l) (sym output_is);
+    status = fine;
+    given = given_nothing old mid now.given now.given says.gave refl;
+    kept = λ n bytes there. absurd (none_made event unmade (n, bytes) there);
+  })
 
   -- turns behind it
   pub reply_said_then : status_of (replies_of (event ∷ [])) ≡ 0 → mid.said ≡ old.said ++ line → (result : Result Bool Stop) → PlaysWhole result mid new held after (settled (base_now now)) now plan.schedule → PlaysOpened result old new held after start event now plan
-  reply_said_then fine said (Ok refused) whole = record {
-    how_often = whole.how_often;
-    plays = plays_then old mid new held held after (settled start) now one (turns plan now whole.how_often) false refused (reply_said fine said)
-        (subst (λ (t : Trail). Plays (Ok refused) mid new held after t now (turns plan now whole.how_often)) (sym trail_is) whole.plays);
-    finished = whole.finished;
-  }
-  reply_said_then fine said (Err e) whole = record {
-    how_often = whole.how_often;
-    plays = plays_failed old mid new held held after (settled start) now one (turns plan now whole.how_often) false e (reply_said fine said)
-        (subst (λ (t : Trail). Plays (Err e) mid new held after t now (turns plan now whole.how_often)) (sym trail_is) whole.plays);
-    finished = whole.finished;
-  }
+  reply_said_then fine said (Ok refused) whole =
+      let more : Played = behind_it whole.how_often in
+      record {
+        how_often = whole.how_often;
+        plays = plays_then old mid new held held after (settled start) now one more [] (files_made more.0) (once whole.how_often) (λ file there. absurd (none_made event unmade file there))
+            (λ n bytes there. absurd (none_made event unmade (n, bytes) there)) false refused (reply_said fine said)
+            (subst (λ (t : Trail). Plays (Ok refused) mid new held after t now more (files_made more.0)) (sym trail_is) whole.plays);
+        finished = whole.finished;
+      }
+  reply_said_then fine said (Err e) whole =
+      let more : Played = behind_it whole.how_often in
+      record {
+        how_often = whole.how_often;
+        plays = plays_failed old mid new held held after (settled start) now one more [] (files_made more.0) (once whole.how_often) (λ file there. absurd (none_made event unmade file there))
+            (λ n bytes there. absurd (none_made event unmade (n, bytes) there)) false e (reply_said fine said)
+            (subst (λ (t : Trail). Plays (Err e) mid new held after t now more (files_made more.0)) (sym trail_is) whole.plays);
+        finished = whole.finished;
+      }

@@ -57,7 +57,8 @@ module _ (old mid new : World) (account : Account) (target : Option Target) (eve
     ended = done.ended;
     gave = given_from old mid new given left (quiet_gave old mid quiet) done.gave;
     database = done.database;
-    others = λ m unasked. done.others m unasked ∙ ap (λ (f : Files). f m) quiet.still.files;
+    kept = done.kept;
+    others = λ m unasked none. done.others m unasked none ∙ ap (λ (f : Files). f m) quiet.still.files;
   }
   finished_quietly (Err e) given left done = tt
 

@@ -11,7 +11,7 @@ use Rattle.nb_model.specs.Account.{Account}
 use Rattle.nb_model.specs.Lines.{line_text}
 use Rattle.nb_model.specs.Outcomes.{Given}
 use Rattle.nb_model.specs.Run.{Event}
-use Rattle.nb_model.specs.Steps.{steps_of}
+use Rattle.nb_model.specs.Steps.{steps_of, acked_turns}
 use Rattle.nb_model.specs.Output.{status_after}
 use Rattle.nb_model.proofs.OutputLaws.{output_one, status_one}
 use Rattle.nb_model.proofs.StepsLaws.{acked_steps_most}
@@ -21,6 +21,7 @@ use Rattle.nb_session.proofs.GiftLaws.{given_nothing}
 use Rattle.nb_top.specs.declared.status.Status.{Status}
 use Rattle.nb_top.specs.Performed.{RunLeft, RunsTo, Finished, HasSmallScn, IsPerformed, Target, first_event, target_of, number_of}
 use Rattle.nb_top.specs.Requests.{Request}
+use Rattle.nb_top.proofs.MadeRuns.{none_front, none_made}
 
 -- what is taken of a list is a front of it
 pub take_self : (n : ℕ) (l : List ℕ) → take n l ≡ take (length (take n l)) l
@@ -49,7 +50,9 @@ module _ (old new : World) (session : ℕ) (refusal : Refusal) (account : Accoun
         count = length (steps_of (event ∷ []));
         front = record { most = omega arith; acknowledged = acked_steps_most (event ∷ []) (length part) };
         database = tt;
-        others = λ m unasked. front.left m;
+        each = λ n bytes there. absurd (none_made event refl (n, bytes) there);
+        whole = λ n bytes there. absurd (none_front event refl (acked_turns (event ∷ []) (length part)) (n, bytes) there);
+        others = λ m unasked none. front.left m;
       }
 
   refused_finished : {S E : Type 0} (told : Result S E) (result : Result Status Stop) → SaysLine told old new (line_text session (Refused refusal)) → IfOk result (λ status. number_of status ≡ status_after (Refused refusal))
@@ -59,7 +62,8 @@ module _ (old new : World) (session : ℕ) (refusal : Refusal) (account : Accoun
     ended = number ∙ sym (status_one event (Refused refusal) refl);
     gave = given_nothing old new given given says.gave refl;
     database = tt;
-    others = λ m unasked. ap (λ (f : Files). f m) says.still.files;
+    kept = λ n bytes there. absurd (none_made event refl (n, bytes) there);
+    others = λ m unasked none. ap (λ (f : Files). f m) says.still.files;
   }
   refused_finished told (Err e) says number said = tt
 

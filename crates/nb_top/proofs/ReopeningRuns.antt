@@ -1,10 +1,13 @@
 -- A run whose first statement opens its database.
 use Rattle.std.proofs.Common.{◌≡◌, inl, inr, ℕ, ◌<◌, List, refl, sym, ap, subst, ◌∙◌}
-use Rattle.std.specs.Prelude.{Bool, Result, Ok, Err, IfOk}
+use Rattle.std.specs.Prelude.{Bool, false, Result, Ok, Err, IfOk}
+use Rattle.nb_host.specs.Files.{Files}
+use Rattle.nb_host.specs.Names.{is_delta}
 use Rattle.nb_host.specs.World.{World}
 use Rattle.nb_host.specs.declared.faults.Fault.{Fault}
 use Rattle.nb_host.specs.declared.faults.Fault.TheVariants.{Refused}
 use Rattle.nb_host.specs.declared.refusals.Refusal.{Refusal}
+use Rattle.nb_change.specs.Changes.{Other}
 use Rattle.nb_change.proofs.MomentLaws.{untouched_fewer}
 use Rattle.nb_page.specs.Quiet.{Quiet}
 use Rattle.nb_model.specs.declared.reply.Reply.TheVariants.{Opened as OpenedReply, Refused as RefusedReply}
@@ -19,17 +22,20 @@ use Rattle.nb_model.specs.Sound.{IsSoundImage}
 use Rattle.nb_model.specs.Strokes.{base_in}
 use Rattle.nb_model.specs.Trail.{settled}
 use Rattle.nb_model.proofs.OpeningLaws.{run_ends}
-use Rattle.nb_model.proofs.ReopenLaws.{not_reopened}
+use Rattle.nb_model.proofs.ReopenLaws.{not_reopened, reopened}
 use Rattle.nb_model.proofs.RunLaws.{base_in_base}
+use Rattle.nb_base.specs.Open.{OfFiles}
 use Rattle.nb_state.specs.Beginnings.{Attaches, IsAttached}
 use Rattle.nb_state.specs.Open.{Held, IsOpen}
 use Rattle.nb_script.specs.Asked.{IsAskable}
+use Rattle.nb_script.specs.Fits.{FitsFirst}
 use Rattle.nb_script.specs.Scripts.{Plan}
 use Rattle.nb_session.specs.declared.stop.Stop.{Stop}
-use Rattle.nb_top.specs.Performed.{RunsTo, HoldsUnder, opened_reply, refused_at}
+use Rattle.nb_top.specs.Performed.{KnowsNames, MayBeGiven, RunsTo, HoldsUnder, opened_reply, refused_at}
 use Rattle.nb_top.specs.Requests.{ToRun}
 use Rattle.nb_top.proofs.QuietRuns.{left_quietly, quiet_gave}
 use Rattle.nb_top.proofs.FirstLaws.{First, first_opened, opened_base}
+use Rattle.nb_top.proofs.FirstReady.{IsBehind, base_name, first_ready, opened_making}
 use Rattle.nb_top.proofs.BegunRuns.{first_fails}
 use Rattle.nb_top.proofs.Beginnings.{Beginning, FirstRefused, FirstDone}
 use Rattle.nb_top.proofs.ToldLaws.{Ran, performed_refused}
@@ -47,6 +53,19 @@ module _ (old : World) (account : Account) (given : Given) (plan : Plan) (is_qui
   there : (b : Base) → owner name (old.files name) (old.files (delta_name name)) ≡ Ok b → account.entry name ≡ IsBase b
   there b opens = knows.same ∙ shown_entry old.files name b opens
 
+  -- the account behind it
+  opened_behind : (b : Base) (here : account.entry name ≡ IsBase b) → IsBehind account name (first_opened account given plan name cache first_is b here).now
+  unfolding first_opened
+  opened_behind b here =
+      let one = reopened account given plan.sessions plan.first_session name cache b here in
+      record {
+        here = ap (λ (a : Account). a.entry name) one.account_is ∙ one.here ∙ ap IsBase (sym one.base);
+        others = λ m other. ap (λ (a : Account). a.entry m) one.account_is ∙ one.others m other;
+      }
+
+  plain : is_delta name ≡ false
+  plain = (base_name name (subst FitsFirst first_is askable.first.fits).0).plain
+
   -- nothing happened, whatever the run must have been
   pub open_fails : (new : World) (e : Stop) → Quiet old new → RunsTo (Err e) old new (Ok (ToRun plan is_quiet)) account given
   open_fails new e quiet = by (owner name (old.files name) (old.files (delta_name name))) refl
@@ -63,7 +82,7 @@ module _ (old : World) (account : Account) (given : Given) (plan : Plan) (is_qui
       }
       by (Ok b) is = first_fails old account given plan is_quiet askable (first_opened account given plan name cache first_is b (there b is)) new e (inr quiet) (λ n. left_quietly old new account _ _ quiet)
 
-  module _ (mid : World) (result : Result Held Fault) (attaches : Attaches result old mid name) (quiet : Quiet old mid) (scn : IfOk result (λ held. held.scn < 4294967296)) where
+  module _ (names : KnowsNames old.files account) (may : MayBeGiven given) (mid : World) (result : Result Held Fault) (attaches : Attaches result old mid name) (quiet : Quiet old mid) (scn : IfOk result (λ held. held.scn < 4294967296)) where
     pub attaches_begins : Beginning old account given plan is_quiet askable mid result
     unfolding first_opened
     attaches_begins = record { fails = λ e. open_fails mid e quiet; refused = is_refused; done = done }
@@ -73,6 +92,9 @@ module _ (old : World) (account : Account) (given : Given) (plan : Plan) (is_qui
             let answer : owner name (old.files name) (old.files (delta_name name)) ≡ Err refusal = subst (λ (r : Result Held Fault). Attaches r old mid name) is attaches in
             record { quiet = quiet; ran = refused_ran refusal answer; not_usage = λ e. owner_never_usage name (old.files name) (old.files (delta_name name)) (answer ∙ ap Err e) }
 
+        read : (m : List ℕ) → Other (OfFiles name) m → mid.files m ≡ old.files m
+        read m other = ap (λ (f : Files). f m) quiet.still.files
+
         done : (held : Held) → result ≡ Ok held → FirstDone old mid account given plan is_quiet askable held
         done held is =
             let answer : IsAttached held old mid name = subst (λ (r : Result Held Fault). Attaches r old mid name) is attaches in
@@ -80,22 +102,18 @@ module _ (old : World) (account : Account) (given : Given) (plan : Plan) (is_qui
             let here : account.entry name ≡ IsBase b = there b answer.stands in
             let one : First account given plan = first_opened account given plan name cache first_is b here in
             let base : base_now one.now ≡ b = opened_base account given plan name cache first_is b here in
+            let opened : IsOpen mid held (settled (base_now one.now)) = subst (λ (x : Base). IsOpen mid held (settled x)) (sym base) answer.opened in
             record {
               first = one;
               says = ap (λ (n : ℕ). OpenedReply n (image_state b.image)) (sym answer.opened.files.agrees.count) ∙ ap (λ (n : ℕ). OpenedReply held.files.count n) (sym answer.opened.files.agrees.state)
                   ∙ ap (λ (s : Statement). opened_reply s held.files.count held.files.state) (sym first_is);
-              ready = record {
-                opened = subst (λ (x : Base). IsOpen mid held (settled x)) (sym base) answer.opened;
-                base = refl;
-                named = answer.named ∙ sym one.name_is;
-                running = answer.nothing_runs ∙ sym one.running;
-              };
-              calm = inl (subst (λ (x : Base). IsSoundImage x.image) (sym base) (knows.sound b here));
+              ready = first_ready old mid account name plain names one.now one.name_is (opened_behind b here) held answer.named (answer.nothing_runs ∙ sym one.running) read opened;
+              making = opened_making plan askable one.now one.todo mid held opened (subst (λ (x : Base). IsSoundImage x.image) (sym base) (knows.sound b here)) (subst MayBeGiven (sym one.given_is) may);
               named = answer.named;
               small = λ e. subst (λ (x : Base). image_scn x.image < 4294967296) (sym (ap base_in here ∙ base_in_base b))
                   (subst (λ (n : ℕ). n < 4294967296) answer.opened.agrees.scn (subst (λ (r : Result Held Fault). IfOk r (λ h. h.scn < 4294967296)) is scn));
               alone = untouched_fewer old mid _ _ quiet.still.left (λ m other. tt);
-              read = λ m other. ap (λ f. f m) quiet.still.files;
+              read = read;
               silent = quiet.said;
               gave = quiet_gave old mid quiet;
               stops = λ n. left_quietly old mid account _ _ quiet;

@@ -2,7 +2,7 @@
 use Rattle.std.proofs.Common.{◌≡◌, ◌⊎◌, ⊎_elim, ℕ, zero, suc, ◌-◌, ◌≤◌, List, [], ◌∷◌, length, get_or, true, false, refl, ap, subst, arith}
 use Rattle.std.specs.Prelude.{Bool, ◌&&◌, ◌==◌, not, nat_le, slice_index, codes, Option, Some, None, Result, Ok, Err, IfOk, IfErr, replicate}
 use Rattle.std.specs.List.{AllByRecursion, list_all}
-use Rattle.std.proofs.lemmas.Bool.{and_parts, leb-true}
+use Rattle.std.proofs.lemmas.Bool.{and_parts, leb-true, le-leb}
 use Rattle.nb_host.specs.Files.{File, Files}
 use Rattle.nb_host.specs.Names.{is_name, is_delta, same_name}
 use Rattle.nb_host.specs.declared.faults.Fault.{Fault}
@@ -12,10 +12,11 @@ use Rattle.nb_host.specs.declared.refusals.Refusal.TheVariants.{Usage}
 use Rattle.nb_model.specs.declared.job.Job.{Job}
 use Rattle.nb_model.specs.declared.job.Job.TheVariants.{Run, Stat, Gen, Backup, BackupSince, Restore, Apply, Lock, LockWithSize, Unlock, Fixup}
 use Rattle.nb_model.specs.declared.statement.Statement.{Statement}
-use Rattle.nb_model.specs.declared.statement.Statement.TheVariants.{BeginBackup, EndBackup}
+use Rattle.nb_model.specs.declared.statement.Statement.TheVariants.{BeginBackup, EndBackup, Backup as BackupTo}
+use Rattle.nb_model.proofs.GoingLaws.{name_short}
 use Rattle.nb_model.specs.Words.{Word, Read, are_flags, is_database, is_file, job_if, number_in_word, plain_job, backup_job, restore_job, apply_job, database_job, read_words, job_of_flags, job_read, job_of}
 use Rattle.nb_script.specs.Asked.{IsFurther, IsAskable}
-use Rattle.nb_script.specs.Fits.{IsBase}
+use Rattle.nb_script.specs.Fits.{IsBase, IsFile}
 use Rattle.nb_script.specs.Scripts.{Plan}
 use Rattle.nb_script.proofs.AskedLemmas.{answer_is_askable}
 use Rattle.nb_top.specs.Requests.{Request, ToRun, ToRestore, ToFix, FitsJob, is_job_built, built_job, job_asked, script_in, to_run, plan_of, request_of, request_asked}
@@ -82,9 +83,17 @@ backup_fits (since ∷ db ∷ file ∷ []) = by _
     is_level : Bool
     is_level = length since == 1 && (nat_le 48 (slice_index since 0) && nat_le (slice_index since 0) 57) && is_database db && is_file file
 
+    fits : is_level ≡ true → FitsJob (Backup (slice_index since 0 - 48) db file)
+    fits is =
+        let all = and_parts (length since == 1 && (nat_le 48 (slice_index since 0) && nat_le (slice_index since 0) 57) && is_database db) (is_file file) is in
+        let names = and_parts (length since == 1 && (nat_le 48 (slice_index since 0) && nat_le (slice_index since 0) 57)) (is_database db) all.0 in
+        let digit = and_parts (length since == 1) (nat_le 48 (slice_index since 0) && nat_le (slice_index since 0) 57) names.0 in
+        let most = leb-true (slice_index since 0) 57 (and_parts (nat_le 48 (slice_index since 0)) (nat_le (slice_index since 0) 57) digit.1).1 in
+        (omega (arith, most), names.1, all.1)
+
     by : (guid : Option (List ℕ)) → IfJob (elim guid as (λ z. Option Job) [ Some g ↦ job_if (is_database db && is_file file) (BackupSince g db file) | None ↦ job_if is_level (Backup (slice_index since 0 - 48) db file) ])
     by (Some g) = if_fits (is_database db && is_file file) (BackupSince g db file) (λ is. tt)
-    by None = if_fits is_level (Backup (slice_index since 0 - 48) db file) (λ is. tt)
+    by None = if_fits is_level (Backup (slice_index since 0 - 48) db file) fits
 backup_fits (since ∷ db ∷ file ∷ w ∷ ws) = tt
 
 plain_fits : (plain : List Word) → IfJob (plain_job plain)
@@ -170,6 +179,21 @@ begin_askable db is = plan_askable db BeginBackup is (record { is_built = refl; 
 pub end_askable : (db : List ℕ) → is_database db ≡ true → IsAskable (plan_of db EndBackup)
 end_askable db is = plan_askable db EndBackup is (record { is_built = refl; opens_none = refl; fits = tt })
 
+-- a name of a file has 100 bytes at most
+file_given : (name : List ℕ) → is_file name ≡ true → IsFile name
+file_given name is =
+    let parts = and_parts (is_name name) (not (is_delta name)) is in
+    three (is_name name) (nat_le (length name) 100) (not (is_delta name)) parts.0 (le-leb (length name) 100 (name_short name parts.0)) parts.1
+  where
+    three : (a b d : Bool) → a ≡ true → b ≡ true → d ≡ true → (a && b && d) ≡ true
+    three true true true h k l = refl
+    three true true false h k l = l
+    three true false d h k l = k
+    three false b d h k l = h
+
+pub backup_askable : (level : ℕ) (db file : List ℕ) → FitsJob (Backup level db file) → IsAskable (plan_of db (BackupTo level file))
+backup_askable level db file fits = plan_askable db (BackupTo level file) fits.1 (record { is_built = refl; opens_none = refl; fits = (fits.0, file_given file fits.2) })
+
 -- A script that a file spells can be asked.
 err_ok : (refusal : Refusal) (plan : Plan) → Err refusal ≡ Ok plan → ⊥
 err_ok refusal plan h = cc
@@ -213,6 +237,7 @@ module _ (files : Files) (r : Request) where
 
   job_can : (job : Job) → FitsJob job → request_of files job ≡ Ok r → CanBeAsked r
   job_can (Run name) fits e = run_asked name (script_in name (files name)) refl e
+  job_can (Backup level db file) fits e = this_asked (ToRun (plan_of db (BackupTo level file)) true) (backup_askable level db file fits) e
   job_can (Lock db) fits e = this_asked (ToRun (plan_of db BeginBackup) true) (begin_askable db fits) e
   job_can (Unlock db) fits e = this_asked (ToRun (plan_of db EndBackup) true) (end_askable db fits) e
   job_can (Fixup db) fits e = this_asked (ToFix db) (plain_file db (and_parts (is_file db) (nat_le (length db) 94) fits).0) e

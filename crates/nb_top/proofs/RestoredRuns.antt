@@ -11,10 +11,11 @@ use Rattle.nb_model.specs.Account.{Base, base_of, Account, with_entry}
 use Rattle.nb_model.specs.Causes.{is_free_entry}
 use Rattle.nb_model.specs.Image.{Image}
 use Rattle.nb_model.specs.Jobs.{only_refusal, restore_turn, account_behind}
+use Rattle.nb_model.specs.Making.{IsNoneOf, with_files}
 use Rattle.nb_model.specs.Outcomes.{Given}
 use Rattle.nb_model.specs.Owner.{delta_name}
 use Rattle.nb_model.specs.Restoring.{Link, verdict, applied}
-use Rattle.nb_model.specs.Run.{Event, with_made, account_after}
+use Rattle.nb_model.specs.Run.{Event, with_made, account_after, files_made}
 use Rattle.nb_model.specs.Steps.{makes, settles, after_step, after_steps, steps_of, strokes_in}
 use Rattle.nb_model.specs.Strokes.{make, fixed, on_base, base_in, base_after, records_of, records_after}
 use Rattle.nb_model.specs.Trail.{settled, settles_at, after_stroke}
@@ -28,6 +29,7 @@ use Rattle.nb_top.specs.declared.status.Status.{Status}
 use Rattle.nb_top.specs.Performed.{RunLeft, Finished, HoldsKept, IsPerformed, IsSure, RestoresKept, StandsFor, Target, kept_after, target_of}
 use Rattle.nb_top.specs.Requests.{Request, ToRestore}
 use Rattle.nb_restore.proofs.KeptLaws.{chain_kept, restored_well}
+use Rattle.nb_top.proofs.MadeRuns.{none_alone}
 use Rattle.nb_top.proofs.RequestLaws.{CanBeAsked}
 use Rattle.nb_top.proofs.RestoreTurns.{RestoreTurn, refuses, restores, made_turn, made_account, refused_account, turn_is}
 use Rattle.nb_top.proofs.SureFiles.{still_stands}
@@ -47,8 +49,8 @@ unfolding strokes_in records_after records_of
 made_keeps b image = refl
 
 -- the account behind it
-made_grown : (account : Account) (db : List ℕ) (image : Image) → IsGrown db (after_steps (settled (base_of image)) (settles ∷ [])).base (records_after (base_of image) (strokes_in (settles ∷ []))) account (account_after db (make image ∷ []) None account)
-unfolding account_after with_made with_entry after_steps after_step strokes_in records_after records_of base_after on_base
+made_grown : (account : Account) (db : List ℕ) (image : Image) → IsGrown db (after_steps (settled (base_of image)) (settles ∷ [])).base (records_after (base_of image) (strokes_in (settles ∷ []))) [] account (account_after db (make image ∷ []) None account)
+unfolding account_after with_made with_files with_entry after_steps after_step strokes_in records_after records_of base_after on_base
 made_grown account db image = record { entries = λ n. refl; kept = refl }
 
 -- The chain of a restore that is sure gives the image that the begin of its last backup kept, and that is well in the normal state.
@@ -77,7 +79,7 @@ module _ (old : World) (db : List ℕ) (names : List (List ℕ)) (account : Acco
   known : IsSureRun account target one after
   known =
       turn_sure account target (Pages (length (applied links))) (make (fixed (applied links))) (base_from links) after (made_seen (base_in (account.entry db)) (fixed (applied links))) (made_keeps (base_in (account.entry db)) (fixed (applied links)))
-      (subst (IsGrown db (after_steps (settled (base_from links)) (settles ∷ [])).base (records_after (base_from links) (strokes_in (settles ∷ []))) account) (sym (made_account old.files account db names links)) (made_grown account db (fixed (applied links))))
+      (subst (IsGrown db (after_steps (settled (base_from links)) (settles ∷ [])).base (records_after (base_from links) (strokes_in (settles ∷ []))) [] account) (sym (made_account old.files account db names links)) (made_grown account db (fixed (applied links))))
       (restored_trail old db names account can one sure links accepted) (λ files. unseen db (account.entry db) (files db) (files (delta_name db)) free) can.0 (λ e. free)
 
   made_left : (files : Files) (said : List ℕ) (l : RunLeft old account (Some target) one files said) → HoldsKept files (kept_after account (Some target) (take l.count (steps_of one)))
@@ -106,7 +108,7 @@ module _ (old : World) (db : List ℕ) (names : List (List ℕ)) (account : Acco
   restored_left files said = by (turn_is old.files account db names) sure
     where
       by : RestoreTurn old.files account db names → Holds files said events
-      by (refuses refusal why is) = subst (Holds files said) (sym (events_are (only_refusal refusal) is)) (λ s l. s.stands.left files (λ m. l.others m tt))
+      by (refuses refusal why is) = subst (Holds files said) (sym (events_are (only_refusal refusal) is)) (λ s l. s.stands.left files (λ m. l.others m tt (none_alone (only_refusal refusal) refl m)))
       by (restores links free accepted is) = subst (Holds files said) (sym (events_are (made_turn links) is)) (λ s l. made_left old db names account can before links free accepted s files said l)
 
   -- at its end
@@ -116,7 +118,10 @@ module _ (old : World) (db : List ℕ) (names : List (List ℕ)) (account : Acco
 
     refused_end : (refusal : Refusal) → Ends account (only_refusal refusal ∷ [])
     refused_end refusal s stops finished =
-        still_stands old new account s.stands reads (λ m. finished.others m tt) (λ files leaves m. (stops.each files new.said (timely.counts_now old.moment files stops.later leaves)).others m tt)
+        still_stands old new account s.stands reads (λ m. finished.others m tt (none m)) (λ files leaves m. (stops.each files new.said (timely.counts_now old.moment files stops.later leaves)).others m tt (none m))
+      where
+        none : (m : List ℕ) → IsNoneOf (files_made (only_refusal refusal ∷ [])) m
+        none = none_alone (only_refusal refusal) refl
 
     ends : RestoreTurn old.files account db names → Ends last events
     ends (refuses refusal why is) =

@@ -18,7 +18,7 @@ use Rattle.nb_script.specs.Asked.{IsFirst, IsAskable}
 use Rattle.nb_script.specs.Scripts.{Plan}
 use Rattle.nb_session.specs.declared.stop.Stop.{Stop}
 use Rattle.nb_top.specs.declared.status.Status.{Status}
-use Rattle.nb_top.specs.Performed.{RunsTo, Knows, KnowsFirst}
+use Rattle.nb_top.specs.Performed.{RunsTo, Knows, KnowsOpened, MayBeGiven}
 use Rattle.nb_top.specs.Requests.{ToRun}
 use Rattle.nb_top.proofs.Beginnings.{Beginning}
 use Rattle.nb_top.proofs.QuietRuns.{quiet_gave}
@@ -54,16 +54,16 @@ first_opens (OpenDb name cache) first = opens name cache refl
 first_opens other first = absurd (false_true first.opens)
 
 module _ (old : World) (account : Account) (given : Given) (plan : Plan) (is_quiet : Bool) (askable : IsAskable plan) (knows : Knows old.files account (Ok (ToRun plan is_quiet))) where
-  knows_first : (first : Statement) → plan.first ≡ first → KnowsFirst old.files account first
-  knows_first first is = subst (λ (s : Statement). KnowsFirst old.files account s) is knows
+  knows_opened : (first : Statement) → plan.first ≡ first → KnowsOpened old.files account first
+  knows_opened first is = subst (λ (s : Statement). KnowsOpened old.files account s) is knows.1
 
   -- nothing happened
   pub script_unbegun : (new : World) (e : Stop) → Quiet old new → RunsTo (Err e) old new (Ok (ToRun plan is_quiet)) account given
   script_unbegun new e quiet = by (first_opens plan.first askable.first)
     where
       by : Opens plan.first → RunsTo (Err e) old new (Ok (ToRun plan is_quiet)) account given
-      by (creates name size raw cache is) = creating_unbegun old account given plan is_quiet askable name size raw cache is (knows_first (CreateDb name size raw cache) is) new e quiet
-      by (opens name cache is) = open_fails old account given plan is_quiet askable name cache is (knows_first (OpenDb name cache) is) new e quiet
+      by (creates name size raw cache is) = creating_unbegun old account given plan is_quiet askable name size raw cache is knows.0 new e quiet
+      by (opens name cache is) = open_fails old account given plan is_quiet askable name cache is (knows_opened (OpenDb name cache) is) new e quiet
 
   -- the call of the first statement asks for no GUID and no time
   pub first_gave : (mid : World) (result : Result Held Fault)
@@ -76,14 +76,14 @@ module _ (old : World) (account : Account) (given : Given) (plan : Plan) (is_qui
       by (opens name cache is) = quiet_gave old mid (quiet name cache is)
 
   -- what it gives to the run
-  pub script_begins : (mid : World) (result : Result Held Fault)
+  pub script_begins : MayBeGiven given → (mid : World) (result : Result Held Fault)
       → ((name : List ℕ) (size raw cache : ℕ) → plan.first ≡ CreateDb name size raw cache → Creates result old mid name (fresh size raw))
       → ((name : List ℕ) (cache : ℕ) → plan.first ≡ OpenDb name cache → Attaches result old mid name)
       → ((name : List ℕ) (cache : ℕ) → plan.first ≡ OpenDb name cache → Quiet old mid)
       → IfOk result (λ held. held.scn < 4294967296)
       → Beginning old account given plan is_quiet askable mid result
-  script_begins mid result creating attaching quiet scn = by (first_opens plan.first askable.first)
+  script_begins may mid result creating attaching quiet scn = by (first_opens plan.first askable.first)
     where
       by : Opens plan.first → Beginning old account given plan is_quiet askable mid result
-      by (creates name size raw cache is) = creates_begins old account given plan is_quiet askable name size raw cache is (knows_first (CreateDb name size raw cache) is) mid result (creating name size raw cache is)
-      by (opens name cache is) = attaches_begins old account given plan is_quiet askable name cache is (knows_first (OpenDb name cache) is) mid result (attaching name cache is) (quiet name cache is) scn
+      by (creates name size raw cache is) = creates_begins old account given plan is_quiet askable name size raw cache is knows.0 may mid result (creating name size raw cache is)
+      by (opens name cache is) = attaches_begins old account given plan is_quiet askable name cache is (knows_opened (OpenDb name cache) is) knows.0 may mid result (attaching name cache is) (quiet name cache is) scn

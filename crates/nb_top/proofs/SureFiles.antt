@@ -1,7 +1,7 @@
 -- What is sure of the files of a run, where they stand for the account as it begins and the GUIDs that it takes are new.
-use Rattle.std.proofs.Common.{◌≡◌, inl, inr, ⊎_elim, ℕ, ◌-◌, ◌≤◌, List, [], ◌++◌, length, take, true, false, refl, sym, ap, subst, ◌∙◌}
-use Rattle.std.specs.Prelude.{not, Ok, Option, Some, None, is_some}
-use Rattle.std.proofs.lemmas.Bool.{and_parts, true≢false}
+use Rattle.std.proofs.Common.{◌≡◌, ◌≢◌, inl, inr, ⊎_elim, ℕ, ◌-◌, ◌≤◌, List, [], ◌++◌, length, take, true, false, refl, sym, ap, subst, ◌∙◌}
+use Rattle.std.specs.Prelude.{Ok, Option, Some, None, Contains}
+use Rattle.std.proofs.lemmas.Bool.{true≢false}
 use Rattle.std.proofs.lemmas.List.{append-nil}
 use Rattle.nb_fields.specs.Free.{is_free_file}
 use Rattle.nb_host.specs.Files.{File, Files, with_file}
@@ -12,27 +12,34 @@ use Rattle.nb_change.specs.Changes.{Other}
 use Rattle.nb_change.proofs.NameLaws.{decide, with_file-same, with_file-other}
 use Rattle.nb_model.specs.Account.{Kept, IsBase, Account, with_entry}
 use Rattle.nb_model.specs.Causes.{is_free_entry}
+use Rattle.nb_model.specs.Making.{MadeFile, IsNoneOf, with_files}
 use Rattle.nb_model.specs.NewGuids.{AreNew, guids_in}
 use Rattle.nb_model.specs.Owner.{delta_name, owner}
-use Rattle.nb_model.specs.Run.{Event, strokes_of}
+use Rattle.nb_model.specs.Run.{Event, strokes_of, files_made}
 use Rattle.nb_model.specs.Stands.{Stands}
 use Rattle.nb_model.specs.Steps.{Step, after_steps, steps_of, strokes_in}
 use Rattle.nb_model.specs.Strokes.{base_in, records_after}
 use Rattle.nb_model.specs.Trail.{Trail, StandsIn, ShowsIn, settled}
+use Rattle.nb_model.specs.Well.{IsWellBaseIn}
 use Rattle.nb_model.specs.WellTrail.{IsWellTrail}
-use Rattle.nb_model.proofs.AccountLaws.{stands_grown}
+use Rattle.nb_model.proofs.AccountLaws.{stands_grown, files_kept}
 use Rattle.nb_model.proofs.FreeLaws.{stands_files}
 use Rattle.nb_model.proofs.GrownLaws.{new_unused, stands_along}
 use Rattle.nb_model.proofs.GuidLaws.{strokes_in_steps, last_steps_new, front_new}
+use Rattle.nb_model.proofs.MadeLaws.{IsWholeFile, whole_among, stands_with_files}
 use Rattle.nb_model.proofs.OpenedLaws.{stands_with_well_in}
-use Rattle.nb_model.proofs.OpeningLaws.{free_entry, opened_in_use}
+use Rattle.nb_model.proofs.OpeningLaws.{opened_in_use}
 use Rattle.nb_model.proofs.SteadyLaws.{along_front, along_last, kept_along, kept_is}
-use Rattle.nb_model.proofs.StandsLaws.{delta_same, no_main}
+use Rattle.nb_model.proofs.StandsLaws.{delta_named, delta_same, no_main}
 use Rattle.nb_base.specs.Open.{OfFiles}
+use Rattle.nb_copy.specs.Making.{IsKept}
+use Rattle.nb_session.specs.Acts.{MadeLeft, AreKept}
 use Rattle.nb_top.specs.Performed.{HoldsKept, IsEnded, IsUnbegun, StandsFor, Target, kept_after, seen_after}
+use Rattle.nb_top.proofs.AsWas.{as_was, was_has}
+use Rattle.nb_top.proofs.MadeStand.{IsNewFile, free_name, none_or_one, made_holds}
 use Rattle.nb_top.proofs.OpenLaws.{none_shown}
-use Rattle.nb_top.proofs.SureLaws.{holds_along, holds_free}
-use Rattle.nb_top.proofs.WellRuns.{IsWellRun, seen_behind, kept_behind, cut_is}
+use Rattle.nb_top.proofs.SureLaws.{both, beside, holds_along, holds_free}
+use Rattle.nb_top.proofs.WellRuns.{IsWellRun, kept_first, kept_front, seen_behind, kept_behind, cut_is}
 
 -- no record behind no step
 pub kept_none : (account : Account) (target : Option Target) → kept_after account target [] ≡ account.kept
@@ -40,52 +47,17 @@ unfolding strokes_in records_after
 kept_none account None = refl
 kept_none account (Some target) = append-nil account.kept
 
-false_true : false ≡ true → ⊥
-false_true h = cc
-
-not_some : (file : File) → not (is_some file) ≡ true → file ≡ None
-not_some None h = refl
-not_some (Some bytes) h = absurd (false_true h)
-
--- what is sure of the files of a run that is under way
+-- What is sure of the files of a run that is under way.
 module _ (old : World) (account : Account) (stands : StandsFor old account) (reads : (m : List ℕ) → Leaves old m (old.files m)) (name : List ℕ) (plain : is_delta name ≡ false) (events : List Event) (last : Account)
     (run : IsWellRun account name events last) (new : AreNew old account.kept (guids_in (strokes_of events))) where
-  further_new : AreNew old account.kept (guids_in (strokes_in run.further))
-  further_new = last_steps_new old account.kept run.first run.further (subst (λ ss. AreNew old account.kept (guids_in ss)) (sym (strokes_in_steps events) ∙ ap strokes_in run.steps) new)
+  abbrev made : List MadeFile
+  made = files_made events
 
-  -- they hold what may be left of what was seen
-  pub stood_holds : (count : ℕ) → length run.first ≤ count → (files : Files) → ((m : List ℕ) → Other (OfFiles name) m → Leaves old m (files m))
-      → StandsIn name (seen_after account name (take count (steps_of events))) files → HoldsKept files (account.kept ++ records_after (base_in (account.entry name)) (strokes_in (take count (steps_of events))))
-  stood_holds count low files others s =
-      let ss : List Step = take (count - length run.first) run.further in
-      let cut : take count (steps_of events) ≡ run.first ++ ss = cut_is account name events last run count low in
-      subst (λ (xs : List Step). HoldsKept files (account.kept ++ records_after (base_in (account.entry name)) (strokes_in xs))) (sym cut)
-      (subst (HoldsKept files) (sym (kept_behind account name events last run ss))
-      (holds_along old account stands reads name plain files others (settled run.base) ss (along_front account.kept (settled run.base) run.further run.along (count - length run.first))
-      (front_new old account.kept run.further further_new (count - length run.first))
-      (subst (λ (t : Trail). StandsIn name t files) (seen_behind account name events last run ss) (subst (λ (xs : List Step). StandsIn name (seen_after account name xs) files) cut s))))
+  new_file : (f : MadeFile) → Contains made f → IsNewFile account f
+  new_file f there = (run.made f there).new
 
-  -- it isn't begun
-  pub unbegun_holds : (target : Target) → target.name ≡ name → (target.creates ≡ true → is_free_entry (account.entry name) ≡ true) → (said count : ℕ) (files : Files)
-      → ((m : List ℕ) → Other (OfFiles name) m → Leaves old m (files m)) → IsUnbegun old target events said count files → HoldsKept files account.kept
-  unbegun_holds target named free said count files others none = ⊎_elim as_before (λ made. creating (free made.0) (ap (λ (n : List ℕ). is_free_file (files n)) (sym named) ∙ made.1)) none.main
-    where
-      delta : Leaves old (delta_name name) (files (delta_name name))
-      delta = subst (λ (n : List ℕ). Leaves old (delta_name n) (files (delta_name n))) named none.delta
-
-      as_before : Leaves old target.name (files target.name) → HoldsKept files account.kept
-      as_before main = stands.left files (λ m. elim (decide m name) [
-        | inl same ↦ subst (λ (n : List ℕ). Leaves old n (files n)) (named ∙ sym same) main
-        | inr off ↦ elim (decide m (delta_name name)) [
-          | inl same ↦ subst (λ (n : List ℕ). Leaves old n (files n)) (sym same) delta
-          | inr other ↦ others m (λ one. ⊎_elim off other one)
-        ]
-      ])
-
-      creating : is_free_entry (account.entry name) ≡ true → is_free_file (files name) ≡ true → HoldsKept files account.kept
-      creating was now_free =
-          let both = and_parts (is_free_file (old.files name)) (not (is_some (old.files (delta_name name)))) (sym (free_entry old.files account name stands.now.same_image stands.now.no_stray plain) ∙ was) in
-          holds_free old account stands reads name plain files others now_free (stands.free name plain both.0 (not_some (old.files (delta_name name)) both.1) (files (delta_name name)) delta)
+  apart : (f : MadeFile) → Contains made f → f.0 ≢ name
+  apart f there = (run.made f there).apart
 
   -- at its end
   abbrev trail : Trail
@@ -94,6 +66,72 @@ module _ (old : World) (account : Account) (stands : StandsFor old account) (rea
   abbrev kept : List Kept
   kept = kept_along account.kept (settled run.base) run.further
 
+  further_new : AreNew old account.kept (guids_in (strokes_in run.further))
+  further_new = last_steps_new old account.kept run.first run.further (subst (λ ss. AreNew old account.kept (guids_in ss)) (sym (strokes_in_steps events) ∙ ap strokes_in run.steps) new)
+
+  -- The files stand for the account with all records that the run keeps,
+  abbrev grown : Account
+  grown = record { entry = account.entry; kept = kept }
+
+  grown_stands : Stands old.files grown
+  grown_stands = stands_along old.files run.further account (settled run.base) stands.now run.along (new_unused old account.kept (guids_in (strokes_in run.further)) old.files further_new reads)
+
+  -- so each file that it makes is whole where some of them are kept.
+  whole_with : (some : List Kept) → ((r : Kept) → Contains some r → Contains kept r) → (f : MadeFile) → Contains made f → IsWholeFile some f.1
+  whole_with some among f there = whole_among old.files grown grown_stands some among f.1 (run.made f there).of_kept
+
+  -- what a stop leaves of the files that are made, and of others
+  abbrev Left : Files → Type 0
+  Left files = MadeLeft old made files × ((m : List ℕ) → Other (OfFiles name) m → IsNoneOf made m → Leaves old m (files m))
+
+  -- they hold what may be left of what was seen behind so many steps, or of all
+  front_holds : (k : ℕ) (files : Files) → Left files → StandsIn name (after_steps (settled run.base) (take k run.further)) files → HoldsKept files (kept_along account.kept (settled run.base) (take k run.further))
+  front_holds k files left s =
+      holds_along old account stands reads name plain made new_file apart files left.0 left.1 (settled run.base) (take k run.further) (along_front account.kept (settled run.base) run.further run.along k)
+      (front_new old account.kept run.further further_new k) (whole_with (kept_along account.kept (settled run.base) (take k run.further)) (kept_front account.kept (settled run.base) run.further k)) s
+
+  all_holds : (files : Files) → Left files → StandsIn name trail files → HoldsKept files kept
+  all_holds files left s =
+      holds_along old account stands reads name plain made new_file apart files left.0 left.1 (settled run.base) run.further run.along further_new (whole_with kept (λ r there. there)) s
+
+  pub stood_holds : (count : ℕ) → length run.first ≤ count → (files : Files) → Left files
+      → StandsIn name (seen_after account name (take count (steps_of events))) files → HoldsKept files (account.kept ++ records_after (base_in (account.entry name)) (strokes_in (take count (steps_of events))))
+  stood_holds count low files left s =
+      let ss : List Step = take (count - length run.first) run.further in
+      let cut : take count (steps_of events) ≡ run.first ++ ss = cut_is account name events last run count low in
+      subst (λ (xs : List Step). HoldsKept files (account.kept ++ records_after (base_in (account.entry name)) (strokes_in xs))) (sym cut)
+      (subst (HoldsKept files) (sym (kept_behind account name events last run ss))
+      (front_holds (count - length run.first) files left
+      (subst (λ (t : Trail). StandsIn name t files) (seen_behind account name events last run ss) (subst (λ (xs : List Step). StandsIn name (seen_after account name xs) files) cut s))))
+
+  -- it isn't begun
+  pub unbegun_holds : (target : Target) → target.name ≡ name → (target.creates ≡ true → is_free_entry (account.entry name) ≡ true) → (said count : ℕ) (files : Files)
+      → Left files → IsUnbegun old target events said count files → HoldsKept files account.kept
+  unbegun_holds target named free said count files left none = ⊎_elim as_before (λ halfway. creating (free halfway.0) (ap (λ (n : List ℕ). is_free_file (files n)) (sym named) ∙ halfway.1)) none.main
+    where
+      delta : Leaves old (delta_name name) (files (delta_name name))
+      delta = subst (λ (n : List ℕ). Leaves old (delta_name n) (files (delta_name n))) named none.delta
+
+      are_whole : (f : MadeFile) → Contains made f → IsWholeFile account.kept f.1
+      are_whole = whole_with account.kept (kept_first account.kept (settled run.base) run.further)
+
+      as_before : Leaves old target.name (files target.name) → HoldsKept files account.kept
+      as_before main = made_holds old account stands reads made new_file files left.0
+          (λ m apart_m. elim (decide m name) [
+            | inl same ↦ subst (λ (n : List ℕ). Leaves old n (files n)) (named ∙ sym same) main
+            | inr off ↦ elim (decide m (delta_name name)) [
+              | inl same ↦ subst (λ (n : List ℕ). Leaves old n (files n)) (sym same) delta
+              | inr other ↦ left.1 m (λ one. ⊎_elim off other one) apart_m
+            ]
+          ])
+          are_whole
+
+      creating : is_free_entry (account.entry name) ≡ true → is_free_file (files name) ≡ true → HoldsKept files account.kept
+      creating was now_free =
+          let free = free_name old account stands reads (name, []) (record { plain = plain; free = was }) in
+          holds_free old account stands reads name plain made new_file apart files left.0 left.1 are_whole now_free (stands.free name plain free.0 free.1 (files (delta_name name)) delta)
+
+  -- At its end.
   well : IsWellTrail kept trail
   well = along_last account.kept (settled run.base) run.further run.along
 
@@ -103,23 +141,33 @@ module _ (old : World) (account : Account) (stands : StandsFor old account) (rea
   last_kept : last.kept ≡ kept
   last_kept = run.grown.kept ∙ sym (kept_is account.kept (settled run.base) run.further)
 
-  module _ (end : World) (ended : IsEnded end name (seen_after account name (steps_of events))) (read : (m : List ℕ) → Other (OfFiles name) m → end.files m ≡ old.files m)
-      (reads_end : (m : List ℕ) → Leaves end m (end.files m)) (left : (files : Files) → LeavesAll end files → (m : List ℕ) → Other (OfFiles name) m → Leaves old m (files m)) where
+  module _ (end : World) (ended : IsEnded end name (seen_after account name (steps_of events))) (are_kept : AreKept end made) (read : (m : List ℕ) → Other (OfFiles name) m → IsNoneOf made m → end.files m ≡ old.files m)
+      (reads_end : (m : List ℕ) → Leaves end m (end.files m)) (left : (files : Files) → LeavesAll end files → Left files) where
     shows : ShowsIn name trail.base end.files
     shows = subst (λ (t : Trail). ShowsIn name t.base end.files) trail_is ended.shows
 
+    -- the files as they read, but for the database's two, as they were
+    abbrev mid : Files
+    mid = as_was old.files (both name) end.files
+
+    mid_stands : Stands mid (with_files made grown)
+    mid_stands = stands_with_files old.files mid made grown grown_stands
+        (λ f there.
+        let one : IsNewFile account f = new_file f there in
+        let whole : IsKept end f.0 f.1 = are_kept f.0 f.1 there in
+        (one.plain, (free_name old account stands reads f one).1, beside name old.files end.files f.0 (apart f there) (λ same. no_main name f.0 one.plain (sym same)) ∙ whole.reads, (run.made f there).of_kept))
+        (λ m none. was_has old.files (λ (file : File). file ≡ old.files m) (both name) end.files m refl (λ off. read m (λ one. ⊎_elim off.0 off.1.0 one) none))
+
     now_stands : Stands end.files last
     now_stands =
-        let grown : Account = record { entry = account.entry; kept = kept } in
-        let before : Stands old.files grown = stands_along old.files run.further account (settled run.base) stands.now run.along (new_unused old account.kept (guids_in (strokes_in run.further)) old.files further_new reads) in
-        stands_grown end.files name trail.base (records_after run.base (strokes_in run.further)) account last run.grown
-        (subst (λ (rs : List Kept). Stands end.files (with_entry name (IsBase trail.base) (record { entry = account.entry; kept = rs }))) (kept_is account.kept (settled run.base) run.further)
-        (stands_with_well_in old.files end.files grown name trail.base before plain (λ m off other. read m (λ one. ⊎_elim off other one)) shows well.base))
+        stands_grown end.files name trail.base (records_after run.base (strokes_in run.further)) made account last run.grown
+        (subst (λ (rs : List Kept). Stands end.files (with_entry name (IsBase trail.base) (with_files made (record { entry = account.entry; kept = rs })))) (kept_is account.kept (settled run.base) run.further)
+        (stands_with_well_in mid end.files (with_files made grown) name trail.base mid_stands plain (λ m off other. sym (beside name old.files end.files m off other)) shows
+        (subst (λ (rs : List Kept). IsWellBaseIn rs trail.base) (sym (files_kept made grown)) well.base)))
 
     left_holds : (files : Files) → LeavesAll end files → HoldsKept files last.kept
     left_holds files leaves =
-        subst (HoldsKept files) (sym last_kept)
-        (holds_along old account stands reads name plain files (left files leaves) (settled run.base) run.further run.along further_new (subst (λ (t : Trail). StandsIn name t files) trail_is (ended.left files leaves)))
+        subst (HoldsKept files) (sym last_kept) (all_holds files (left files leaves) (subst (λ (t : Trail). StandsIn name t files) trail_is (ended.left files leaves)))
 
     -- a file that a stop may leave alone
     with_one : (n : List ℕ) (d : File) → Leaves end n d → LeavesAll end (with_file end.files n d)
@@ -128,14 +176,24 @@ module _ (old : World) (account : Account) (stands : StandsFor old account) (rea
       | inr other ↦ subst (Leaves end m) (sym (with_file-other end.files n d m other)) (reads_end m)
     ]
 
+    -- a name of another kind that is free now was free, and so was that of each file that is made
+    free_before : (n : List ℕ) → is_delta n ≡ false → Other (OfFiles name) n → Other (OfFiles name) (delta_name n) → IsNoneOf made (delta_name n) → is_free_file (end.files n) ≡ true → end.files (delta_name n) ≡ None
+        → (is_free_file (old.files n) ≡ true) × (old.files (delta_name n) ≡ None)
+    free_before n plain_n other other_delta none_delta free alone = elim (none_or_one made n) [
+      | inl none ↦ (ap is_free_file (sym (read n other none)) ∙ free, sym (read (delta_name n) other_delta none_delta) ∙ alone)
+      | inr one ↦ free_name old account stands reads (n, one.0) (new_file (n, one.0) one.1)
+    ]
+
     free_then : (n : List ℕ) → is_delta n ≡ false → is_free_file (end.files n) ≡ true → end.files (delta_name n) ≡ None → (d : File) → Leaves end (delta_name n) d → d ≡ None
     free_then n plain_n free alone d is = elim (decide n name) [
       | inl same ↦ absurd (in_use (end.files name) refl (ap (λ (k : List ℕ). is_free_file (end.files k)) (sym same) ∙ free))
       | inr off ↦
           let other : Other (OfFiles name) n = λ one. ⊎_elim off (λ e. no_main name n plain_n (sym e)) one in
           let other_delta : Other (OfFiles name) (delta_name n) = λ one. ⊎_elim (λ e. no_main n name plain e) (λ e. off (delta_same n name e)) one in
-          stands.free n plain_n (ap is_free_file (sym (read n other)) ∙ free) (sym (read (delta_name n) other_delta) ∙ alone) d
-          (subst (Leaves old (delta_name n)) (with_file-same end.files (delta_name n) d) (left (with_file end.files (delta_name n) d) (with_one (delta_name n) d is) (delta_name n) other_delta))
+          let none_delta : IsNoneOf made (delta_name n) = λ bytes there. true≢false (sym (delta_named n) ∙ (new_file (delta_name n, bytes) there).plain) in
+          let was = free_before n plain_n other other_delta none_delta free alone in
+          stands.free n plain_n was.0 was.1 d
+          (subst (Leaves old (delta_name n)) (with_file-same end.files (delta_name n) d) ((left (with_file end.files (delta_name n) d) (with_one (delta_name n) d is)).1 (delta_name n) other_delta none_delta))
     ]
       where
         in_use : (file : File) → end.files name ≡ file → is_free_file (end.files name) ≡ true → ⊥

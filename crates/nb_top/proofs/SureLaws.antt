@@ -1,72 +1,76 @@
--- What a stop leaves while one database is changed stands for an account with the records of the backups that have begun.
-use Rattle.std.proofs.Common.{◌≡◌, ◌≢◌, inl, inr, ⊎_elim, ℕ, List, true, false, sym, subst, ◌∙◌}
-use Rattle.std.specs.Prelude.{None}
+-- What a stop leaves while one database is changed, and files are made beside it, stands for an account with the records of the backups
+-- that have begun.
+use Rattle.std.proofs.Common.{◌≡◌, ◌≢◌, ◌⊎◌, ⊎_elim, ℕ, List, [], ◌∷◌, true, false, sym, subst, ◌∙◌}
+use Rattle.std.specs.Prelude.{None, Contains}
 use Rattle.nb_fields.specs.Free.{is_free_file}
-use Rattle.nb_host.specs.Files.{Files, with_file}
+use Rattle.nb_host.specs.Files.{File, Files}
 use Rattle.nb_host.specs.Names.{is_delta}
 use Rattle.nb_host.specs.World.{World}
-use Rattle.nb_host.specs.Crash.{Leaves, LeavesAll}
+use Rattle.nb_host.specs.Crash.{Leaves}
 use Rattle.nb_change.specs.Changes.{Other}
-use Rattle.nb_change.proofs.NameLaws.{decide, with_file-same, with_file-other}
 use Rattle.nb_model.specs.Account.{Kept, IsBase, Account, with_entry}
+use Rattle.nb_model.specs.Making.{MadeFile, IsNoneOf}
 use Rattle.nb_model.specs.NewGuids.{AreNew, guids_in}
 use Rattle.nb_model.specs.Owner.{delta_name, entry_in}
-use Rattle.nb_model.specs.Stands.{Stands}
 use Rattle.nb_model.specs.Steps.{Step, after_steps, strokes_in}
 use Rattle.nb_model.specs.Trail.{Trail, StandsIn}
+use Rattle.nb_model.specs.WellTrail.{IsWellTrail}
 use Rattle.nb_model.proofs.FreeLaws.{stands_free}
+use Rattle.nb_model.proofs.MadeLaws.{IsWholeFile}
 use Rattle.nb_model.proofs.OpenedLaws.{stood_stands}
 use Rattle.nb_model.proofs.OpeningLaws.{with_kept}
-use Rattle.nb_base.specs.Open.{OfFiles}
-use Rattle.nb_top.specs.Performed.{HoldsKept, StandsFor}
-use Rattle.nb_model.proofs.GrownLaws.{new_unused, stands_along}
+use Rattle.nb_model.proofs.StandsLaws.{no_main}
 use Rattle.nb_model.proofs.SteadyLaws.{WellAlong, kept_along, along_last}
+use Rattle.nb_base.specs.Open.{OfFiles}
+use Rattle.nb_copy.specs.Making.{IsUnfinishedOr}
+use Rattle.nb_session.specs.Acts.{MadeLeft}
+use Rattle.nb_top.specs.Performed.{HoldsKept, StandsFor}
+use Rattle.nb_top.proofs.AsWas.{as_was, was_has, was_off}
+use Rattle.nb_top.proofs.MadeStand.{IsNewFile, made_holds, made_along}
 
-module _ (old : World) (account : Account) (stands : StandsFor old account) (reads : (m : List ℕ) → Leaves old m (old.files m)) (name : List ℕ) (plain : is_delta name ≡ false) (files : Files)
-    (others : (m : List ℕ) → Other (OfFiles name) m → Leaves old m (files m)) where
-  -- the same files, but for the database's main file as it was, and with its difference file as it was too
-  abbrev main_before : Files
-  main_before = with_file files name (old.files name)
+-- the database's two names
+abbrev pub both : List ℕ → List (List ℕ)
+both name = name ∷ delta_name name ∷ []
 
-  abbrev before : Files
-  before = with_file main_before (delta_name name) (old.files (delta_name name))
+-- beside them files are the same
+pub beside : (name : List ℕ) (was files : Files) (m : List ℕ) → m ≢ name → m ≢ delta_name name → as_was was (both name) files m ≡ files m
+beside name was files m off other = was_off was (both name) files m (off, (other, tt))
 
-  before_left : LeavesAll old before
-  before_left m = elim (decide m (delta_name name)) [
-    | inl same ↦ subst (λ (n : List ℕ). Leaves old n (before n)) (sym same) (subst (Leaves old (delta_name name)) (sym (with_file-same main_before (delta_name name) (old.files (delta_name name)))) (reads (delta_name name)))
-    | inr other ↦ subst (Leaves old m) (sym (with_file-other main_before (delta_name name) (old.files (delta_name name)) m other)) (elim (decide m name) [
-      | inl same ↦ subst (λ (n : List ℕ). Leaves old n (main_before n)) (sym same) (subst (Leaves old name) (sym (with_file-same files name (old.files name))) (reads name))
-      | inr off ↦ subst (Leaves old m) (sym (with_file-other files name (old.files name) m off)) (others m (λ one. ⊎_elim off other one))
-    ])
-  ]
+module _ (old : World) (account : Account) (stands : StandsFor old account) (reads : (m : List ℕ) → Leaves old m (old.files m)) (name : List ℕ) (plain : is_delta name ≡ false)
+    (made : List MadeFile) (new : (f : MadeFile) → Contains made f → IsNewFile account f) (apart : (f : MadeFile) → Contains made f → f.0 ≢ name)
+    (files : Files) (left : MadeLeft old made files) (others : (m : List ℕ) → Other (OfFiles name) m → IsNoneOf made m → Leaves old m (files m)) where
+  -- the same files, but for the database's two, as they were
+  abbrev mid : Files
+  mid = as_was old.files (both name) files
 
-  beside : (m : List ℕ) → m ≢ name → m ≢ delta_name name → files m ≡ before m
-  beside m off other = sym (with_file-other files name (old.files name) m off) ∙ sym (with_file-other main_before (delta_name name) (old.files (delta_name name)) m other)
+  mid_others : (m : List ℕ) → IsNoneOf made m → Leaves old m (mid m)
+  mid_others m none = was_has old.files (Leaves old m) (both name) files m (reads m) (λ off. others m (λ one. ⊎_elim off.0 off.1.0 one) none)
 
-  holds : HoldsKept before account.kept
-  holds = stands.left before before_left
+  mid_left : MadeLeft old made mid
+  mid_left n bytes there =
+      let one : IsNewFile account (n, bytes) = new (n, bytes) there in
+      subst (λ (file : File). Leaves old n file ⊎ IsUnfinishedOr bytes file) (sym (beside name old.files files n (apart (n, bytes) there) (λ same. no_main name n one.plain (sym same)))) (left n bytes there)
 
-  -- what they stand for, with the records of the account
-  abbrev with_records : List Kept → Account
-  with_records kept = record { entry = holds.account.entry; kept = kept }
-
-  stood : Stands before (with_records account.kept)
-  stood = subst (λ (kept : List Kept). Stands before (with_records kept)) holds.same holds.stands
+  same_beside : (m : List ℕ) → m ≢ name → m ≢ delta_name name → files m ≡ mid m
+  same_beside m off other = sym (beside name old.files files m off other)
 
   -- where they hold what may be left of what was seen behind steps
-  pub holds_along : (t : Trail) (ss : List Step) → WellAlong account.kept t ss → AreNew old account.kept (guids_in (strokes_in ss)) → StandsIn name (after_steps t ss) files → HoldsKept files (kept_along account.kept t ss)
-  holds_along t ss well new s =
-      let grown : Stands before (with_records (kept_along account.kept t ss)) = stands_along before ss (with_records account.kept) t stood well (new_unused old account.kept (guids_in (strokes_in ss)) before new before_left) in
+  pub holds_along : (t : Trail) (ss : List Step) → WellAlong account.kept t ss → AreNew old account.kept (guids_in (strokes_in ss)) → ((f : MadeFile) → Contains made f → IsWholeFile (kept_along account.kept t ss) f.1)
+      → StandsIn name (after_steps t ss) files → HoldsKept files (kept_along account.kept t ss)
+  holds_along t ss well fresh whole s =
+      let its : HoldsKept mid (kept_along account.kept t ss) = made_along old account stands reads made new mid mid_left mid_others t ss well fresh whole in
       record {
-        account = with_entry name (IsBase s.base) (with_records (kept_along account.kept t ss));
-        stands = stood_stands before files (with_records (kept_along account.kept t ss)) name (after_steps t ss) grown plain beside (along_last account.kept t ss well) s;
-        same = with_kept name (IsBase s.base) (with_records (kept_along account.kept t ss));
+        account = with_entry name (IsBase s.base) its.account;
+        stands = stood_stands mid files its.account name (after_steps t ss) its.stands plain same_beside (subst (λ (rs : List Kept). IsWellTrail rs (after_steps t ss)) (sym its.same) (along_last account.kept t ss well)) s;
+        same = with_kept name (IsBase s.base) its.account ∙ its.same;
       }
 
   -- where its creation was stopped
-  pub holds_free : is_free_file (files name) ≡ true → files (delta_name name) ≡ None → HoldsKept files account.kept
-  holds_free free alone = record {
-    account = with_entry name (entry_in files name) holds.account;
-    stands = stands_free before files holds.account name holds.stands plain beside free alone;
-    same = with_kept name (entry_in files name) holds.account ∙ holds.same;
-  }
+  pub holds_free : ((f : MadeFile) → Contains made f → IsWholeFile account.kept f.1) → is_free_file (files name) ≡ true → files (delta_name name) ≡ None → HoldsKept files account.kept
+  holds_free whole free alone =
+      let its : HoldsKept mid account.kept = made_holds old account stands reads made new mid mid_left mid_others whole in
+      record {
+        account = with_entry name (entry_in files name) its.account;
+        stands = stands_free mid files its.account name its.stands plain same_beside free alone;
+        same = with_kept name (entry_in files name) its.account ∙ its.same;
+      }

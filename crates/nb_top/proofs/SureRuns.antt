@@ -1,7 +1,6 @@
 -- Where the files stand for the account as a run begins, and the GUIDs that it takes are new, they stand for one at each moment.
 use Rattle.std.proofs.Common.{◌≡◌, ℕ, zero, suc, ◌<◌, ◌≤◌, List, [], ◌∷◌, ◌++◌, take, true, false, refl, sym, ap, subst, ◌∙◌, arith}
 use Rattle.std.specs.Prelude.{Bool, Result, Ok, Err, Option, Some, None, Contains}
-use Rattle.std.proofs.lemmas.List.Elements.{Contains-append_right}
 use Rattle.nb_fields.specs.Fresh.{fresh}
 use Rattle.nb_host.specs.Files.{Files}
 use Rattle.nb_host.specs.Names.{is_delta}
@@ -17,18 +16,18 @@ use Rattle.nb_model.specs.declared.statement.Statement.TheVariants.{CreateDb, Op
 use Rattle.nb_model.specs.Account.{Base, base_of, IsBase, Account}
 use Rattle.nb_model.specs.Causes.{is_free_entry}
 use Rattle.nb_model.specs.Image.{Image, image_scn}
-use Rattle.nb_model.specs.NewGuids.{AreNew, guids_in}
+use Rattle.nb_model.specs.Making.{MadeFile, IsNoneOf}
 use Rattle.nb_model.specs.Outcomes.{Given}
 use Rattle.nb_model.specs.Owner.{delta_name, owner, not_opened}
-use Rattle.nb_model.specs.Run.{Event, Opening, IsRun, IsRest, opening, refused_opening, strokes_of}
+use Rattle.nb_model.specs.Run.{Event, Opening, IsRun, IsRest, opening, refused_opening, files_made}
 use Rattle.nb_model.specs.Steps.{Step, makes, settles, after_step, after_steps, made, steps_of, strokes_in}
 use Rattle.nb_model.specs.Strokes.{make, base_in, on_base, records_of, records_after}
 use Rattle.nb_model.specs.Trail.{Trail, StandsIn, settled, settles_at, after_stroke}
+use Rattle.nb_model.proofs.AccountLaws.{IsGrown}
 use Rattle.nb_model.proofs.OpenedLaws.{opened_trail}
 use Rattle.nb_model.proofs.OpeningLaws.{IsCreated, created, not_created}
 use Rattle.nb_model.proofs.ReopenLaws.{IsReopened, reopened, not_reopened}
 use Rattle.nb_model.proofs.RunLaws.{base_in_base}
-use Rattle.nb_model.proofs.SteadyTurns.{AreSixteen, guids_append}
 use Rattle.nb_model.proofs.TrailLaws.{settled_shows}
 use Rattle.nb_model.proofs.UnseenLaws.{unseen}
 use Rattle.nb_model.proofs.WellTrailLaws.{fresh_trail}
@@ -36,14 +35,15 @@ use Rattle.nb_script.specs.Asked.{IsAskable}
 use Rattle.nb_script.specs.Fits.{FitsFirst}
 use Rattle.nb_script.specs.Scripts.{Plan}
 use Rattle.nb_top.specs.declared.status.Status.{Status}
-use Rattle.nb_top.specs.Performed.{RunLeft, Finished, HasSmallScn, HoldsKept, IsScriptRun, IsSure, StandsFor, Target, begins_refused, kept_after, seen_after, target_named, target_of}
+use Rattle.nb_top.specs.Performed.{RunLeft, Finished, HasSmallScn, HoldsKept, IsScriptRun, IsSure, MayBeGiven, StandsFor, Target, begins_refused, kept_after, seen_after, target_named, target_of}
 use Rattle.nb_top.specs.Requests.{Request, ToRun}
-use Rattle.nb_top.proofs.CreatingRuns.{base_name}
+use Rattle.nb_top.proofs.FirstReady.{base_name}
+use Rattle.nb_top.proofs.MadeRuns.{no_file, made_behind}
 use Rattle.nb_top.proofs.OpenLaws.{shown_entry, refused_entry}
 use Rattle.nb_top.proofs.ScriptRuns.{Opens, creates, opens, first_opens}
 use Rattle.nb_top.proofs.SureFiles.{still_stands}
 use Rattle.nb_top.proofs.SureTargets.{IsSureRun, target_left, target_end}
-use Rattle.nb_top.proofs.ToldLaws.{told_steps, told_strokes, told_begins}
+use Rattle.nb_top.proofs.ToldLaws.{told_files, told_steps, told_begins}
 use Rattle.nb_top.proofs.WellRuns.{IsWellRun, IsWellBehind, rest_well}
 
 false_true : false ≡ true → ⊥
@@ -53,11 +53,9 @@ false_true h = cc
 refused_begins : (o : Opening) (session : ℕ) (refusal : Refusal) (account : Account) (events rest : List Event) → events ≡ o.event ∷ rest → o ≡ refused_opening session (Refused refusal) account → begins_refused events ≡ true
 refused_begins o session refusal account events rest is refused = ap begins_refused is ∙ ap (λ (x : Opening). begins_refused (x.event ∷ rest)) refused
 
--- the GUIDs of later turns have 16 bytes
-later_sixteen : (old : World) (account : Account) (e : Event) (rest : List Event) → AreNew old account.kept (guids_in (strokes_of (e ∷ rest))) → AreSixteen (strokes_of rest)
-unfolding strokes_of
-later_sixteen old account e rest new guid there =
-    (new.each guid (subst (λ (l : List (List ℕ)). Contains l guid) (sym (guids_append e.strokes (strokes_of rest))) (Contains-append_right (guids_in e.strokes) (guids_in (strokes_of rest)) guid there))).sixteen
+-- an event that makes no file, before others
+files_behind : (events rest : List Event) (e : Event) → events ≡ e ∷ rest → e.made ≡ None → files_made events ≡ files_made rest
+files_behind events rest e is none = ap files_made is ∙ made_behind e rest none
 
 -- the steps of a first event
 created_steps : (session : ℕ) (image : Image) (reply : Reply) (rest : List Event)
@@ -86,7 +84,7 @@ unfolding strokes_in records_after
 none_keeps b = refl
 
 module _ (old : World) (account : Account) (given : Given) (plan : Plan) (askable : IsAskable plan) (events : List Event) (last : Account) (left : Given) (stands : StandsFor old account)
-    (new : AreNew old account.kept (guids_in (strokes_of events))) (not_refused : begins_refused events ≡ false) where
+    (sixteen : MayBeGiven given) (not_refused : begins_refused events ≡ false) where
   -- it creates its database
   module _ (name : List ℕ) (size raw cache : ℕ) (first_is : plan.first ≡ CreateDb name size raw cache) (runs : IsRun account given plan.first_session (CreateDb name size raw cache) plan.schedule plan.sessions events last left) where
     abbrev o : Opening
@@ -111,11 +109,14 @@ module _ (old : World) (account : Account) (given : Given) (plan : Plan) (askabl
 
     behind : IsWellBehind account name (base_of image) runs.rest last
     behind =
-        rest_well account plan askable o new_one.now name (base_of image) new_one.goes_on new_one.name_is new_one.account_is new_one.base new_one.here new_one.others new_one.kept new_one.todo (fresh_trail account.kept size raw fits.1 fits.2)
-        given runs.rest last left runs.goes_on (later_sixteen old account o.event runs.rest (subst (λ (es : List Event). AreNew old account.kept (guids_in (strokes_of es))) runs.is new))
+        rest_well account plan askable o new_one.now name (base_of image) new_one.goes_on new_one.name_is new_one.account_is new_one.base new_one.here new_one.others new_one.kept new_one.todo (subst MayBeGiven (sym new_one.given_is) sixteen)
+        (fresh_trail account.kept size raw fits.1 fits.2) given runs.rest last left runs.goes_on
 
     steps : steps_of events ≡ (makes (make image) ∷ []) ++ (settles ∷ steps_of runs.rest)
     steps = ap steps_of runs.is ∙ ap (λ (e : Event). steps_of (e ∷ runs.rest)) new_one.event ∙ created_steps plan.first_session image _ runs.rest
+
+    files : files_made events ≡ files_made runs.rest
+    files = files_behind events runs.rest o.event runs.is (ap (λ (e : Event). e.made) new_one.event)
 
     run : IsWellRun account name events last
     run = record {
@@ -126,7 +127,8 @@ module _ (old : World) (account : Account) (given : Given) (plan : Plan) (askabl
       seen = made_seen (base_in (account.entry name)) image;
       none = made_keeps (base_in (account.entry name)) image;
       along = behind.along;
-      grown = behind.grown;
+      made = λ file there. behind.made file (subst (λ (fs : List MadeFile). Contains fs file) files there);
+      grown = subst (λ (fs : List MadeFile). IsGrown name (after_steps (settled (base_of image)) (settles ∷ steps_of runs.rest)).base (records_after (base_of image) (strokes_in (settles ∷ steps_of runs.rest))) fs account last) (sym files) behind.grown;
     }
 
     -- before it no database is there
@@ -177,9 +179,12 @@ module _ (old : World) (account : Account) (given : Given) (plan : Plan) (askabl
 
     opened_behind : IsWellBehind account name b runs.rest last
     opened_behind =
-        rest_well account plan askable p again.now name b again.goes_on again.name_is again.account_is again.base again.here again.others again.kept again.todo
+        rest_well account plan askable p again.now name b again.goes_on again.name_is again.account_is again.base again.here again.others again.kept again.todo (subst MayBeGiven (sym again.given_is) sixteen)
         (opened_trail old.files account name b stands.now opened_plain there.is (subst (λ (x : Base). image_scn x.image < 4294967296) base_is small))
-        given runs.rest last left runs.goes_on (later_sixteen old account p.event runs.rest (subst (λ (es : List Event). AreNew old account.kept (guids_in (strokes_of es))) runs.is new))
+        given runs.rest last left runs.goes_on
+
+    opened_files : files_made events ≡ files_made runs.rest
+    opened_files = files_behind events runs.rest p.event runs.is (ap (λ (e : Event). e.made) again.event)
 
     opened_run : IsWellRun account name events last
     opened_run = record {
@@ -190,7 +195,8 @@ module _ (old : World) (account : Account) (given : Given) (plan : Plan) (askabl
       seen = none_seen (settled (base_in (account.entry name))) ∙ ap settled base_is;
       none = none_keeps (base_in (account.entry name));
       along = opened_behind.along;
-      grown = opened_behind.grown;
+      made = λ file there. opened_behind.made file (subst (λ (fs : List MadeFile). Contains fs file) opened_files there);
+      grown = subst (λ (fs : List MadeFile). IsGrown name (after_steps (settled b) (settles ∷ steps_of runs.rest)).base (records_after b (strokes_in (settles ∷ steps_of runs.rest))) fs account last) (sym opened_files) opened_behind.grown;
     }
 
     opening_sure : IsSureRun account (record { name = name; creates = false }) events last
@@ -214,47 +220,53 @@ module _ (old : World) (account : Account) (given : Given) (plan : Plan) (askabl
           let its : record { name = name; creates = false } ≡ target = same (record { name = name; creates = false }) target (ap target_named (sym is) ∙ named) in
           subst (λ (d : Target). IsSureRun account d events last) its (opening_sure name cache is (subst Runs is runs) (subst (λ (d : Target). HasSmallScn account (Some d)) (sym its) small refl))
 
--- A run whose first statement is refused leaves the account.
-refused_last : (schedule : List ℕ) (session : ℕ) (reply : Reply) (o : Opening) (account : Account) (given : Given) (rest : List Event) (last : Account) (left : Given) → o ≡ refused_opening session reply account
-    → IsRest schedule o given rest last left → last ≡ account
-refused_last schedule session reply o account given rest last left refused is = (subst (λ (x : Opening). IsRest schedule x given rest last left) refused is).1
+-- A run whose first statement is refused leaves the account, and makes no file.
+refused_last : (schedule : List ℕ) (session : ℕ) (reply : Reply) (o : Opening) (account : Account) (given : Given) (events rest : List Event) (last : Account) (left : Given) → o ≡ refused_opening session reply account
+    → events ≡ o.event ∷ rest → IsRest schedule o given rest last left → (files_made events ≡ []) × (last ≡ account)
+unfolding files_made
+refused_last schedule session reply o account given events rest last left refused first is =
+    let ends = subst (λ (x : Opening). IsRest schedule x given rest last left) refused is in
+    (files_behind events rest o.event first (ap (λ (x : Opening). x.event.made) refused) ∙ ap files_made ends.0, ends.1)
 
 module _ (old : World) (account : Account) (given : Given) (plan : Plan) (askable : IsAskable plan) (events : List Event) (last : Account) (left : Given) (stands : StandsFor old account) (refused : begins_refused events ≡ true) where
-  refused_leaves : IsRun account given plan.first_session plan.first plan.schedule plan.sessions events last left → last ≡ account
+  abbrev LeavesAsWas : Type 0
+  LeavesAsWas = (files_made events ≡ []) × (last ≡ account)
+
+  refused_leaves : IsRun account given plan.first_session plan.first plan.schedule plan.sessions events last left → LeavesAsWas
   refused_leaves runs = by (first_opens plan.first askable.first)
     where
       Runs : Statement → Type 0
       Runs first = IsRun account given plan.first_session first plan.schedule plan.sessions events last left
 
-      creating : (name : List ℕ) (size raw cache : ℕ) → Runs (CreateDb name size raw cache) → last ≡ account
+      creating : (name : List ℕ) (size raw cache : ℕ) → Runs (CreateDb name size raw cache) → LeavesAsWas
       creating name size raw cache is = by_free (is_free_entry (account.entry name)) refl
         where
-          by_free : (t : Bool) → is_free_entry (account.entry name) ≡ t → last ≡ account
+          by_free : (t : Bool) → is_free_entry (account.entry name) ≡ t → LeavesAsWas
           by_free true free =
               let one = created account given plan.sessions plan.first_session name size raw cache free in
               absurd (false_true (sym (ap begins_refused (is.is ∙ ap (λ (e : Event). e ∷ is.rest) one.event)) ∙ refused))
           by_free false taken =
-              refused_last plan.schedule plan.first_session _ (opening account given plan.sessions plan.first_session (CreateDb name size raw cache)) account given is.rest last left
-              (not_created account given plan.sessions plan.first_session name size raw cache taken) is.goes_on
+              refused_last plan.schedule plan.first_session _ (opening account given plan.sessions plan.first_session (CreateDb name size raw cache)) account given events is.rest last left
+              (not_created account given plan.sessions plan.first_session name size raw cache taken) is.is is.goes_on
 
-      opening_it : (name : List ℕ) (cache : ℕ) → is_delta name ≡ false → Runs (OpenDb name cache) → last ≡ account
+      opening_it : (name : List ℕ) (cache : ℕ) → is_delta name ≡ false → Runs (OpenDb name cache) → LeavesAsWas
       opening_it name cache plain is = by_owner (owner name (old.files name) (old.files (delta_name name))) refl
         where
-          by_owner : (answer : Result Base Refusal) → owner name (old.files name) (old.files (delta_name name)) ≡ answer → last ≡ account
+          by_owner : (answer : Result Base Refusal) → owner name (old.files name) (old.files (delta_name name)) ≡ answer → LeavesAsWas
           by_owner (Ok b) shows =
               let again = reopened account given plan.sessions plan.first_session name cache b (stands.now.same_image name plain ∙ shown_entry old.files name b shows) in
               absurd (false_true (sym (ap begins_refused (is.is ∙ ap (λ (e : Event). e ∷ is.rest) again.event)) ∙ refused))
           by_owner (Err r) why =
-              refused_last plan.schedule plan.first_session _ (opening account given plan.sessions plan.first_session (OpenDb name cache)) account given is.rest last left
-              (not_reopened account given plan.sessions plan.first_session name cache r (ap (not_opened name) (stands.now.same_image name plain) ∙ refused_entry name (old.files name) (old.files (delta_name name)) r why)) is.goes_on
+              refused_last plan.schedule plan.first_session _ (opening account given plan.sessions plan.first_session (OpenDb name cache)) account given events is.rest last left
+              (not_reopened account given plan.sessions plan.first_session name cache r (ap (not_opened name) (stands.now.same_image name plain) ∙ refused_entry name (old.files name) (old.files (delta_name name)) r why)) is.is is.goes_on
 
-      by : Opens plan.first → last ≡ account
+      by : Opens plan.first → LeavesAsWas
       by (creates name size raw cache is) = creating name size raw cache (subst Runs is runs)
       by (opens name cache is) = opening_it name cache (base_name name (subst FitsFirst is askable.first.fits).0).plain (subst Runs is runs)
 
--- So it is of what is told of the run, which has the same steps.
-told_sure : (account : Account) (target : Target) (whole events : List Event) (last : Account) → steps_of whole ≡ steps_of events → IsSureRun account target whole last → IsSureRun account target events last
-told_sure account target whole events last same known = record {
+-- So it is of what is told of the run, which has the same steps and files.
+told_sure : (account : Account) (target : Target) (whole events : List Event) (last : Account) → steps_of whole ≡ steps_of events → files_made whole ≡ files_made events → IsSureRun account target whole last → IsSureRun account target events last
+told_sure account target whole events last same files known = record {
   plain = known.plain;
   free = known.free;
   run = record {
@@ -265,14 +277,15 @@ told_sure account target whole events last same known = record {
     seen = known.run.seen;
     none = known.run.none;
     along = known.run.along;
-    grown = known.run.grown;
+    made = λ file there. known.run.made file (subst (λ (fs : List MadeFile). Contains fs file) (sym files) there);
+    grown = subst (λ (fs : List MadeFile). IsGrown target.name (after_steps (settled known.run.base) known.run.further).base (records_after known.run.base (strokes_in known.run.further)) fs account last) files known.run.grown;
   };
   begun = λ count files s. known.begun count files (subst (λ (ss : List Step). StandsIn target.name (seen_after account target.name (take count ss)) files) (sym same) s);
 }
 
 -- The run of a script.
 module _ (old : World) (plan : Plan) (is_quiet : Bool) (askable : IsAskable plan) (account : Account) (given : Given) (before : (name : List ℕ) → Leaves old name (old.files name)) (events : List Event) (last : Account)
-    (left : Given) (performed : IsScriptRun plan is_quiet account given events last left) (sure : IsSure old account (Ok (ToRun plan is_quiet)) events) where
+    (left : Given) (performed : IsScriptRun plan is_quiet account given events last left) (sixteen : MayBeGiven given) (sure : IsSure old account (Ok (ToRun plan is_quiet)) events) where
   abbrev asked : Result Request Refusal
   asked = Ok (ToRun plan is_quiet)
 
@@ -282,8 +295,8 @@ module _ (old : World) (plan : Plan) (is_quiet : Bool) (askable : IsAskable plan
   whole_steps : steps_of performed.whole ≡ steps_of events
   whole_steps = sym (ap steps_of performed.said ∙ told_steps is_quiet performed.whole)
 
-  whole_new : AreNew old account.kept (guids_in (strokes_of performed.whole))
-  whole_new = subst (λ ss. AreNew old account.kept (guids_in ss)) (ap strokes_of performed.said ∙ told_strokes is_quiet performed.whole) sure.new
+  whole_files : files_made performed.whole ≡ files_made events
+  whole_files = sym (ap files_made performed.said ∙ told_files is_quiet performed.whole)
 
   whole_begins : begins_refused performed.whole ≡ begins_refused events
   whole_begins = sym (ap begins_refused performed.said ∙ told_begins is_quiet performed.whole)
@@ -293,30 +306,35 @@ module _ (old : World) (plan : Plan) (is_quiet : Bool) (askable : IsAskable plan
     where
       by : (t : Bool) → begins_refused events ≡ t → elim t as (λ z. Option Target) [ true ↦ None | false ↦ target_named plan.first ] ≡ Some target → IsSureRun account target events last
       by true refused h = absurd (none_some target h)
-      by false allowed h = told_sure account target performed.whole events last whole_steps
-          (begins_sure old account given plan askable performed.whole last left sure.stands whole_new (whole_begins ∙ allowed) target h small performed.run)
+      by false allowed h = told_sure account target performed.whole events last whole_steps whole_files
+          (begins_sure old account given plan askable performed.whole last left sure.stands sixteen (whole_begins ∙ allowed) target h small performed.run)
+
+  -- A run without a database makes no file, and leaves the account.
+  refused_run : target_of asked events ≡ None → (files_made events ≡ []) × (last ≡ account)
+  refused_run is = by (begins_refused events) refl is
+    where
+      some_none : (target : Target) → Some target ≡ None → ⊥
+      some_none target h = cc
+
+      by : (t : Bool) → begins_refused events ≡ t → elim t as (λ z. Option Target) [ true ↦ None | false ↦ target_named plan.first ] ≡ None → (files_made events ≡ []) × (last ≡ account)
+      by true refused h =
+          let leaves = refused_leaves old account given plan askable performed.whole last left sure.stands (whole_begins ∙ refused) performed.run in
+          (sym whole_files ∙ leaves.0, leaves.1)
+      by false allowed h = elim (first_opens plan.first askable.first) [
+        | creates name size raw cache first ↦ absurd (some_none (record { name = name; creates = true }) (sym (ap target_named first) ∙ h))
+        | opens name cache first ↦ absurd (some_none (record { name = name; creates = false }) (sym (ap target_named first) ∙ h))
+      ]
+
+  none_made : target_of asked events ≡ None → (m : List ℕ) → IsNoneOf (files_made events) m
+  none_made is m bytes there = no_file (m, bytes) (subst (λ (fs : List MadeFile). Contains fs (m, bytes)) (refused_run is).0 there)
 
   module _ (small : HasSmallScn account (target_of asked events)) where
     pub script_left : (files : Files) (said : List ℕ) (l : RunLeft old account (target_of asked events) events files said) → HoldsKept files (kept_after account (target_of asked events) (take l.count (steps_of events)))
     script_left files said = by (target_of asked events) refl small
       where
         by : (target : Option Target) → target_of asked events ≡ target → HasSmallScn account target → (l : RunLeft old account target events files said) → HoldsKept files (kept_after account target (take l.count (steps_of events)))
-        by None is few l = sure.stands.left files (λ m. l.others m tt)
+        by None is few l = sure.stands.left files (λ m. l.others m tt (none_made is m))
         by (Some target) is few l = target_left old account sure.stands before target events last sure.new (sure_run target is few) files said l
-
-    -- a run without a database leaves the account
-    last_is : target_of asked events ≡ None → last ≡ account
-    last_is is = by (begins_refused events) refl is
-      where
-        some_none : (target : Target) → Some target ≡ None → ⊥
-        some_none target h = cc
-
-        by : (t : Bool) → begins_refused events ≡ t → elim t as (λ z. Option Target) [ true ↦ None | false ↦ target_named plan.first ] ≡ None → last ≡ account
-        by true refused h = refused_leaves old account given plan askable performed.whole last left sure.stands (whole_begins ∙ refused) performed.run
-        by false allowed h = elim (first_opens plan.first askable.first) [
-          | creates name size raw cache first ↦ absurd (some_none (record { name = name; creates = true }) (sym (ap target_named first) ∙ h))
-          | opens name cache first ↦ absurd (some_none (record { name = name; creates = false }) (sym (ap target_named first) ∙ h))
-        ]
 
     pub script_end : (new : World) → IsTimely new → ((name : List ℕ) → Leaves new name (new.files name)) → AtEachMoment old new (RunLeft old account (target_of asked events) events) → (status : Status)
         → Finished status old new account (target_of asked events) events given left → StandsFor new last
@@ -324,6 +342,6 @@ module _ (old : World) (plan : Plan) (is_quiet : Bool) (askable : IsAskable plan
       where
         by : (target : Option Target) → target_of asked events ≡ target → HasSmallScn account target → AtEachMoment old new (RunLeft old account target events) → Finished status old new account target events given left → StandsFor new last
         by None is few moments done =
-            subst (StandsFor new) (sym (last_is is))
-            (still_stands old new account sure.stands reads (λ m. done.others m tt) (λ files leaves m. (moments.each files new.said (timely.counts_now old.moment files moments.later leaves)).others m tt))
+            subst (StandsFor new) (sym (refused_run is).1)
+            (still_stands old new account sure.stands reads (λ m. done.others m tt (none_made is m)) (λ files leaves m. (moments.each files new.said (timely.counts_now old.moment files moments.later leaves)).others m tt (none_made is m)))
         by (Some target) is few moments done = target_end old account sure.stands before target events last sure.new (sure_run target is few) new timely reads moments given left status done

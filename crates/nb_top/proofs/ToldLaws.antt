@@ -14,7 +14,7 @@ use Rattle.nb_model.specs.Jobs.{quiet, refusal_in}
 use Rattle.nb_model.specs.Lines.{line_text}
 use Rattle.nb_model.specs.Outcomes.{Given}
 use Rattle.nb_model.specs.Output.{output, text_of, status_of, status_after}
-use Rattle.nb_model.specs.Run.{Event, IsRun, replies_of, strokes_of}
+use Rattle.nb_model.specs.Run.{Event, IsRun, files_made, replies_of, strokes_of}
 use Rattle.nb_model.specs.Steps.{steps_in, steps_of}
 use Rattle.nb_model.specs.Strokes.{Stroke}
 use Rattle.nb_model.proofs.OutputLaws.{output_one, status_one, output-quiet}
@@ -49,9 +49,21 @@ told_strokes true [] = refl
 told_strokes true (e ∷ es) = refl
 told_strokes false es = refl
 
+-- and makes the same files
+pub told_files : (is_quiet : Bool) (es : List Event) → files_made (told is_quiet es) ≡ files_made es
+unfolding files_made
+told_files true [] = refl
+told_files true (e ∷ es) = refl
+told_files false es = refl
+
 pub told_first_steps : (is_quiet : Bool) (e : Event) → steps_in (told_first is_quiet e) ≡ steps_in e
 told_first_steps true e = refl
 told_first_steps false e = refl
+
+-- and makes the same file, if it makes one
+pub told_first_made : (is_quiet : Bool) (e : Event) → (told_first is_quiet e).made ≡ e.made
+told_first_made true e = refl
+told_first_made false e = refl
 
 -- a refusal is told
 refused_reply : (reply : Reply) → elim (refusal_in (Some reply)) as (λ z. Bool) [ None ↦ false | Some r ↦ is_refusal r ] ≡ is_refusal reply

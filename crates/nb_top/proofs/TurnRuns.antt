@@ -1,6 +1,6 @@
 -- A run of one turn that leaves its database, settled: what a stop leaves of it, and its end.
 use Rattle.std.proofs.Common.{◌≡◌, ◌⊎◌, inr, inl, ⊎_elim, ℕ, List, [], ◌∷◌, ◌++◌, length, take, true, refl, sym, ap, subst, ◌∙◌, arith}
-use Rattle.std.specs.Prelude.{Some, Result}
+use Rattle.std.specs.Prelude.{Some, Result, Contains}
 use Rattle.std.proofs.lemmas.List.{append-nil, take_all}
 use Rattle.nb_fields.specs.Free.{is_free_file}
 use Rattle.nb_host.specs.Files.{Files}
@@ -17,7 +17,7 @@ use Rattle.nb_model.specs.Lines.{line_text}
 use Rattle.nb_model.specs.Outcomes.{Given}
 use Rattle.nb_model.specs.Output.{status_after}
 use Rattle.nb_model.specs.Owner.{delta_name}
-use Rattle.nb_model.specs.Run.{Event}
+use Rattle.nb_model.specs.Run.{Event, files_made}
 use Rattle.nb_model.specs.Steps.{steps_of}
 use Rattle.nb_model.specs.Strokes.{Stroke}
 use Rattle.nb_model.specs.Trail.{Trail, ShowsIn, StandsIn, settled}
@@ -30,6 +30,7 @@ use Rattle.nb_session.specs.Stops.{IsSaid}
 use Rattle.nb_session.proofs.GiftLaws.{given_nothing}
 use Rattle.nb_top.specs.declared.status.Status.TheVariants.{Done}
 use Rattle.nb_top.specs.Performed.{RunLeft, Finished, IsEnded, Target, seen_after}
+use Rattle.nb_top.proofs.MadeRuns.{none_front}
 use Rattle.nb_top.proofs.RefusedRuns.{take_self}
 
 -- Of the database a stop leaves what it would have left before, or what it shows behind the turn. Where the run creates it, its name may
@@ -50,6 +51,13 @@ module _ (old : World) (account : Account) (target : Target) (reply : Reply) (st
   abbrev nothing_said : (said : List ℕ) → said ≡ old.said → IsSaid old (one ∷ []) said
   nothing_said said is = record { part = []; is = is ∙ sym (append-nil old.said); front = refl }
 
+  -- no file is made
+  made_front : (n : ℕ) (name bytes : List ℕ) → Contains (files_made (take n (one ∷ []))) (name, bytes) → ⊥
+  made_front n name bytes there = none_front one refl n (name, bytes) there
+
+  made_all : (name bytes : List ℕ) → Contains (files_made (one ∷ [])) (name, bytes) → ⊥
+  made_all = made_front 1
+
   -- before the database stands
   undone : (files : Files) (said : List ℕ) → ChangedLeft old (Only db) (TurnLeft old target b) files said → Leaves old db (files db) ⊎ ((target.creates ≡ true) × (is_free_file (files db) ≡ true)) → Left files said
   undone files said left main = record {
@@ -57,7 +65,9 @@ module _ (old : World) (account : Account) (target : Target) (reply : Reply) (st
     count = 0;
     front = record { most = omega arith; acknowledged = omega (arith, acked_steps_none (one ∷ [])) };
     database = inr (record { none = refl; unsaid = turns_before (one ∷ []); main = main; delta = left.others (delta_name db) (delta_apart db) });
-    others = λ m other. left.others m (λ e. other (inl e));
+    each = λ n bytes there. absurd (made_all n bytes there);
+    whole = λ n bytes there. absurd (made_front _ n bytes there);
+    others = λ m other none. left.others m (λ e. other (inl e));
   }
 
   all_seen : seen_after account db (take (length (steps_of (one ∷ []))) (steps_of (one ∷ []))) ≡ settled b
@@ -70,7 +80,9 @@ module _ (old : World) (account : Account) (target : Target) (reply : Reply) (st
     count = length (steps_of (one ∷ []));
     front = record { most = omega arith; acknowledged = acked_steps_most (one ∷ []) (length out.part) };
     database = inl (subst (λ (t : Trail). StandsIn db t files) (sym all_seen) (shows_settled db b (files db) (files (delta_name db)) shows));
-    others = λ m other. others m (λ e. other (inl e));
+    each = λ n bytes there. absurd (made_all n bytes there);
+    whole = λ n bytes there. absurd (made_front _ n bytes there);
+    others = λ m other none. others m (λ e. other (inl e));
   }
 
   -- while the turn is done
@@ -111,5 +123,6 @@ module _ (old : World) (account : Account) (target : Target) (reply : Reply) (st
         ended = sym (status_one one reply refl ∙ fine);
         gave = given_nothing old new given given (record { guids = says.gave.guids ∙ gave.guids; times = says.gave.times ∙ gave.times }) refl;
         database = subst (λ (t : Trail). IsEnded new db t) (sym seen) (ended shows);
-        others = λ m other. ap (λ (f : Files). f m) says.still.files ∙ does.others_read m (λ e. other (inl e));
+        kept = λ n bytes there. absurd (made_all n bytes there);
+        others = λ m other none. ap (λ (f : Files). f m) says.still.files ∙ does.others_read m (λ e. other (inl e));
       }

@@ -50,7 +50,7 @@ use Rattle.nb_restore.specs.Kept.{AreKept, GivesKept}
 use Rattle.nb_script.specs.Scripts.{Plan}
 use Rattle.nb_session.specs.declared.stop.Stop.{Stop}
 use Rattle.nb_session.specs.Replies.{is_refusal}
-use Rattle.nb_session.specs.Acts.{MadeLeft, AreKept}
+use Rattle.nb_session.specs.Acts.{MadeLeft, AreKept as AreFilesKept}
 use Rattle.nb_session.specs.Stops.{IsSaid, IsFront, AreWhole, Plays}
 use Rattle.nb_top.specs.declared.status.Status.{Status}
 use Rattle.nb_top.specs.declared.status.Status.TheVariants.{Done, Refused as RefusedStatus, Usage as UsageStatus, Device, Memory}
@@ -249,7 +249,7 @@ pub record Finished (status : Status) (old new : World) (account : Account) (tar
   pub ended : number_of status ≡ status_of (replies_of events)
   pub gave : WasGiven old new given left
   pub database : EndsIn new account target events
-  pub kept : AreKept new (files_made events)
+  pub kept : AreFilesKept new (files_made events)
   pub others : (m : List ℕ) → IsUnasked target m → IsNoneOf (files_made events) m → new.files m ≡ old.files m
 
 -- each GUID that may be given has 16 bytes

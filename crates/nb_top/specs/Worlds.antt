@@ -1,9 +1,9 @@
 -- Worlds in which a run may begin: one with plain files or none, one that starts again from what a stop left, and one to which files were
 -- copied.
-use Rattle.std.specs.Prelude.{◌≡◌, ℕ, List, [], Some, None, false}
+use Rattle.std.specs.Prelude.{◌≡◌, ℕ, List, [], Some, None, true, false}
 use Rattle.nb_fields.specs.Header.{is_header}
 use Rattle.nb_host.specs.Files.{File, Files}
-use Rattle.nb_host.specs.Names.{is_delta}
+use Rattle.nb_host.specs.Names.{is_name, is_delta}
 use Rattle.nb_host.specs.World.{World}
 use Rattle.nb_host.specs.Crash.{Leaves}
 use Rattle.nb_model.specs.Account.{Kept, Missing, Account}
@@ -13,6 +13,10 @@ use Rattle.nb_model.specs.Owner.{entry_in}
 pub record StartsFrom (w : World) (files : Files) : Type 0 where
   pub reads : (name : List ℕ) → w.files name ≡ files name
   pub only : (name : List ℕ) (file : File) → Leaves w name file → file ≡ files name
+
+-- each file has a name that a host may give it
+abbrev pub HaveNames : Files → Type 0
+HaveNames files = (name bytes : List ℕ) → files name ≡ Some bytes → is_name name ≡ true
 
 -- no file under any name
 abbrev pub no_files : Files

@@ -14,7 +14,7 @@ ghost use Rattle.nb_model.specs.Stands.{Stands};
 ghost use Rattle.nb_model.specs.declared.job.Job.{Job};
 ghost use Rattle.nb_top.specs.Performed.{HoldsKept, IsPerformed, Knows, StandsFor};
 ghost use Rattle.nb_top.specs.Requests.{is_job_built, request_asked, request_of};
-ghost use Rattle.nb_top.specs.Worlds.{AreCopies, ArePlain, StartsFrom, account_of, empty, no_files};
+ghost use Rattle.nb_top.specs.Worlds.{AreCopies, ArePlain, HaveNames, StartsFrom, account_of, empty, no_files};
 
 use nb_host::Host;
 
@@ -47,10 +47,10 @@ pub fn hosts_in_memory_begin_so()
     ensures left { (stopped left : List Entry) → IsLeft stopped left → LeavesAll (world_of stopped) (files_of left) × StartsFrom (world_of left) (files_of left) }
 {}
 
-/// An account for which the files stand knows what any words ask of it: of each name that they may give it has what the files tell, and
-/// each database is sound.
+/// An account for which the files stand knows what any words ask of it: of each name that a file may have it knows whether it is free, and of
+/// each database it has what the files tell. The files have names that a host may give them.
 pub fn what_stands_is_known()
-    ensures { (files : Files) (account : Account) (words : List (List ℕ)) → Stands files account → Knows files account (request_asked files words) }
+    ensures { (files : Files) (account : Account) (words : List (List ℕ)) → HaveNames files → Stands files account → Knows files account (request_asked files words) }
 {}
 
 /// A job that attaches is exactly the run of the script that opens its database and asks what the job asks. It says nothing of the opening

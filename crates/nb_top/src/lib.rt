@@ -5,10 +5,14 @@
 //! shows from which hosts a run begins with all that is promised of it.
 #![tactic(auto)]
 
+#[cfg(test)]
+mod backup_tests;
 mod fixing;
 #[cfg(test)]
 mod fixup_tests;
 pub mod laws;
+#[cfg(test)]
+mod level_tests;
 #[cfg(test)]
 mod lock_tests;
 #[cfg(test)]
@@ -21,6 +25,8 @@ mod restore_tests;
 mod restoring;
 mod script;
 mod status;
+#[cfg(test)]
+mod stop_tests;
 #[cfg(test)]
 mod tests;
 

@@ -76,7 +76,15 @@ fn run_job<H: Host>(alloc: Global, host: &mut H, job: &Job) -> Result<Status, St
         Job::Fixup { db } => run_fix(alloc, host, db),
         Job::Backup { level, db, file } => {
             let name = file.copied();
-            run_asking(alloc, host, db, Statement::Backup { level: *level, name })
+            run_asking(
+                alloc,
+                host,
+                db,
+                Statement::Backup {
+                    level: *level,
+                    name,
+                },
+            )
         }
         Job::Lock { db } => run_asking(alloc, host, db, Statement::BeginBackup),
         Job::Unlock { db } => run_asking(alloc, host, db, Statement::EndBackup),

@@ -13,7 +13,7 @@ use Rattle.nb_top.proofs.ScriptRuns.{runs_err, settled_value, settled_refusal}
 use Rattle.nb_top.proofs.program.do_job.Goals as goal
 
 pub returns-in_err-job-clause-runs : goal.returns-in_err-job-clause-runs
-returns-in_err-job-clause-runs g c account given tells knows told =
+returns-in_err-job-clause-runs g c account given tells knows may told =
     let old = g.H.Host.world c.args.host.now in
     let words = map string_bytes c.args.words.now in
     runs_err c.from_residual.result c.from_residual.ensures.0 (λ r. RunsTo r old old (request_asked old.files words) account given)
@@ -25,13 +25,13 @@ returns-in_err-job-clause-grows g c account tells knows =
     grows_none old old (quiet_gave old old (quiet_begun old (g.met.H.Host.timely c.args.host.now)))
 
 pub returns-in-Ok-clause-runs : goal.returns-in-Ok-clause-runs
-returns-in-Ok-clause-runs g c account given tells knows told =
+returns-in-Ok-clause-runs g c account given tells knows may told =
     let old = g.H.Host.world c.args.host.now in
     let new = g.H.Host.world c.run_job.new.host in
     let words = map string_bytes c.args.words.now in
     let read = settled_value c.in_ok-job.field-0 c.in-Ok.job (λ value. c.read_built.result ≡ Ok value) c.in-Ok.is c.in_ok-job.ensures.value in
     let is = asked_read old.files words c.read_built.result c.in-Ok.job read c.read_built.ensures.job in
-    subst (λ asked. RunsTo c.run_job.result old new asked account given) (sym is) (c.run_job.ensures.runs account given tells (subst (Knows old.files account) is knows) told)
+    subst (λ asked. RunsTo c.run_job.result old new asked account given) (sym is) (c.run_job.ensures.runs account given tells (subst (Knows old.files account) is knows) may told)
 
 pub returns-in-Ok-clause-grows : goal.returns-in-Ok-clause-grows
 returns-in-Ok-clause-grows g c account tells knows =
@@ -42,7 +42,7 @@ returns-in-Ok-clause-grows g c account tells knows =
     c.run_job.ensures.grows account tells (subst (Knows old.files account) is knows)
 
 pub returns-in-Err-clause-runs : goal.returns-in-Err-clause-runs
-returns-in-Err-clause-runs g c account given tells knows told =
+returns-in-Err-clause-runs g c account given tells knows may told =
     let old = g.H.Host.world c.args.host.now in
     let new = g.H.Host.world c.refuse_words.new.host in
     let words = map string_bytes c.args.words.now in

@@ -4,19 +4,19 @@ use Rattle.nb_top.proofs.RequestLaws.{can_be_asked}
 use Rattle.nb_top.proofs.program.run.Goals as goal
 
 pub returns-in-Ok-clause-performs : goal.returns-in-Ok-clause-performs
-returns-in-Ok-clause-performs g c account given tells knows told =
+returns-in-Ok-clause-performs g c account given tells knows may told =
     let old = g.H.Host.world c.args.host.now in
-    performs_ended old (g.H.Host.world c.do_job.new.host) _ (λ r. can_be_asked old.files r (map string_bytes c.args.words.now)) account given (g.met.H.Host.reads_left c.args.host.now tells)
-    (g.met.H.Host.timely c.do_job.new.host) (g.met.H.Host.reads_left c.do_job.new.host tells) c.in-Ok.status (c.in-Ok.ensures.runs account given tells knows told)
+    performs_ended old (g.H.Host.world c.do_job.new.host) _ (λ r. can_be_asked old.files r (map string_bytes c.args.words.now)) account given may (g.met.H.Host.reads_left c.args.host.now tells)
+    (g.met.H.Host.timely c.do_job.new.host) (g.met.H.Host.reads_left c.do_job.new.host tells) c.in-Ok.status (c.in-Ok.ensures.runs account given tells knows may told)
 
 pub returns-in-Err-Device-clause-performs : goal.returns-in-Err-Device-clause-performs
-returns-in-Err-Device-clause-performs g c account given tells knows told =
+returns-in-Err-Device-clause-performs g c account given tells knows may told =
     let old = g.H.Host.world c.args.host.now in
-    performs_device old (g.H.Host.world c.do_job.new.host) _ (λ r. can_be_asked old.files r (map string_bytes c.args.words.now)) account given (g.met.H.Host.reads_left c.args.host.now tells)
-    (g.met.H.Host.timely c.do_job.new.host) (g.met.H.Host.reads_left c.do_job.new.host tells) _ (c.in-Err-Device.ensures.runs account given tells knows told)
+    performs_device old (g.H.Host.world c.do_job.new.host) _ (λ r. can_be_asked old.files r (map string_bytes c.args.words.now)) account given may (g.met.H.Host.reads_left c.args.host.now tells)
+    (g.met.H.Host.timely c.do_job.new.host) (g.met.H.Host.reads_left c.do_job.new.host tells) _ (c.in-Err-Device.ensures.runs account given tells knows may told)
 
 pub returns-in-Err-Memory-clause-performs : goal.returns-in-Err-Memory-clause-performs
-returns-in-Err-Memory-clause-performs g c account given tells knows told =
+returns-in-Err-Memory-clause-performs g c account given tells knows may told =
     let old = g.H.Host.world c.args.host.now in
-    performs_memory old (g.H.Host.world c.do_job.new.host) _ (λ r. can_be_asked old.files r (map string_bytes c.args.words.now)) account given (g.met.H.Host.reads_left c.args.host.now tells)
-    (g.met.H.Host.timely c.do_job.new.host) (g.met.H.Host.reads_left c.do_job.new.host tells) _ (c.in-Err-Memory.ensures.runs account given tells knows told)
+    performs_memory old (g.H.Host.world c.do_job.new.host) _ (λ r. can_be_asked old.files r (map string_bytes c.args.words.now)) account given may (g.met.H.Host.reads_left c.args.host.now tells)
+    (g.met.H.Host.timely c.do_job.new.host) (g.met.H.Host.reads_left c.do_job.new.host tells) _ (c.in-Err-Memory.ensures.runs account given tells knows may told)

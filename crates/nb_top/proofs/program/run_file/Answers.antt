@@ -10,7 +10,7 @@ use Rattle.nb_top.proofs.ScriptRuns.{runs_err, settled_value, settled_refusal}
 use Rattle.nb_top.proofs.program.run_file.Goals as goal
 
 pub returns-in_err-script-clause-runs : goal.returns-in_err-script-clause-runs
-returns-in_err-script-clause-runs g c account given tells knows told =
+returns-in_err-script-clause-runs g c account given tells knows may told =
     let old = g.H.Host.world c.args.host.now in
     let new = g.H.Host.world c.read_script.new.host in
     let name = c.args.name.now in
@@ -24,7 +24,7 @@ returns-in_err-script-clause-grows g c account tells knows =
     grows_none old new (quiet_gave old new c.read_script.ensures.quiet)
 
 pub returns-in-Ok-clause-runs : goal.returns-in-Ok-clause-runs
-returns-in-Ok-clause-runs g c account given tells knows told =
+returns-in-Ok-clause-runs g c account given tells knows may told =
     let old = g.H.Host.world c.args.host.now in
     let mid = g.H.Host.world c.read_script.new.host in
     let new = g.H.Host.world c.run_script.new.host in
@@ -35,7 +35,7 @@ returns-in-Ok-clause-runs g c account given tells knows told =
     let read : to_run (script_in name file) ≡ Ok (ToRun c.in-Ok.script false) = ap to_run (subst (λ r. IsRead r (script_in name file)) is (c.read_script.ensures.read tells)) in
     runs_quietly c.run_script.result old mid new (to_run (script_in name file)) account given quiet
     (subst (λ asked. RunsTo c.run_script.result mid new asked account given) (sym read)
-    (c.run_script.ensures.runs account given tells (knows_quietly old mid account (Ok (ToRun c.in-Ok.script false)) quiet (subst (Knows old.files account) read knows))
+    (c.run_script.ensures.runs account given tells (knows_quietly old mid account (Ok (ToRun c.in-Ok.script false)) quiet (subst (Knows old.files account) read knows)) may
     (foretold_from old mid new given (quiet_gave old mid quiet) told)))
 
 pub returns-in-Ok-clause-grows : goal.returns-in-Ok-clause-grows
@@ -52,7 +52,7 @@ returns-in-Ok-clause-grows g c account tells knows =
     (c.run_script.ensures.grows account tells (knows_quietly old mid account (Ok (ToRun c.in-Ok.script false)) quiet (subst (Knows old.files account) read knows)))
 
 pub returns-in-Err-clause-runs : goal.returns-in-Err-clause-runs
-returns-in-Err-clause-runs g c account given tells knows told =
+returns-in-Err-clause-runs g c account given tells knows may told =
     let old = g.H.Host.world c.args.host.now in
     let mid = g.H.Host.world c.read_script.new.host in
     let new = g.H.Host.world c.refuse.new.host in

@@ -1,18 +1,21 @@
 use Rattle.std.proofs.Common.{length, sym, subst}
-use Rattle.std.specs.Prelude.{Ok, nat_le}
+use Rattle.std.specs.Prelude.{Ok, nat_le, true}
 use Rattle.std.proofs.lemmas.Bool.{and_parts, leb-true}
+use Rattle.nb_model.specs.declared.statement.Statement.TheVariants.{Backup}
 use Rattle.nb_model.specs.Words.{is_file}
+use Rattle.nb_script.specs.Asked.{IsAskable}
 use Rattle.nb_session.proofs.GiftLaws.{grows_none}
 use Rattle.nb_top.specs.Performed.{RunsTo, Knows}
-use Rattle.nb_top.specs.Requests.{FitsJob, ToRestore, request_of}
+use Rattle.nb_top.specs.Requests.{FitsJob, ToRun, ToRestore, plan_of, request_of}
+use Rattle.nb_top.proofs.RequestLaws.{backup_askable}
 use Rattle.nb_top.proofs.program.run_job.Goals as goal
 
 pub returns-in-Run-clause-runs : goal.returns-in-Run-clause-runs
-returns-in-Run-clause-runs g c account given tells knows told =
+returns-in-Run-clause-runs g c account given tells knows may told =
     let old = g.H.Host.world c.args.host.now in
     let new = g.H.Host.world c.run_file.new.host in
     subst (λ job. RunsTo c.run_file.result old new (request_of old.files job) account given) (sym c.in-Run.is)
-    (c.run_file.ensures.runs account given tells (subst (λ job. Knows old.files account (request_of old.files job)) c.in-Run.is knows) told)
+    (c.run_file.ensures.runs account given tells (subst (λ job. Knows old.files account (request_of old.files job)) c.in-Run.is knows) may told)
 
 pub returns-in-Run-clause-grows : goal.returns-in-Run-clause-grows
 returns-in-Run-clause-grows g c account tells knows =
@@ -20,7 +23,7 @@ returns-in-Run-clause-grows g c account tells knows =
     c.run_file.ensures.grows account tells (subst (λ job. Knows old.files account (request_of old.files job)) c.in-Run.is knows)
 
 pub returns-in-Restore-clause-runs : goal.returns-in-Restore-clause-runs
-returns-in-Restore-clause-runs g c account given tells knows told =
+returns-in-Restore-clause-runs g c account given tells knows may told =
     let old = g.H.Host.world c.args.host.now in
     let new = g.H.Host.world c.run_restore.new.host in
     subst (λ job. RunsTo c.run_restore.result old new (request_of old.files job) account given) (sym c.in-Restore.is)
@@ -36,7 +39,7 @@ run_fix-requires g c =
     leb-true (length db) 94 (and_parts (is_file db) (nat_le (length db) 94) (subst FitsJob c.in-Fixup.is c.requires.fits)).1
 
 pub returns-in-Fixup-clause-runs : goal.returns-in-Fixup-clause-runs
-returns-in-Fixup-clause-runs g c account given tells knows told =
+returns-in-Fixup-clause-runs g c account given tells knows may told =
     let old = g.H.Host.world c.args.host.now in
     let new = g.H.Host.world c.run_fix.new.host in
     subst (λ job. RunsTo c.run_fix.result old new (request_of old.files job) account given) (sym c.in-Fixup.is)
@@ -45,24 +48,48 @@ returns-in-Fixup-clause-runs g c account given tells knows told =
 pub returns-in-Fixup-clause-grows : goal.returns-in-Fixup-clause-grows
 returns-in-Fixup-clause-grows g c account tells knows = grows_none (g.H.Host.world c.args.host.now) (g.H.Host.world c.run_fix.new.host) (c.run_fix.ensures.gave tells)
 
-pub returns-in-Lock-clause-runs : goal.returns-in-Lock-clause-runs
-returns-in-Lock-clause-runs g c account given tells knows told =
+pub run_asking-requires : goal.run_asking-requires
+run_asking-requires g c =
+    let level = c.in-Backup.level in
+    let db = c.in-Backup.db in
+    let file = c.in-Backup.file in
+    subst (λ name. IsAskable (plan_of db (Backup level name))) (sym c.copied-name.ensures) (backup_askable level db file (subst FitsJob c.in-Backup.is c.requires.fits))
+
+pub returns-in-Backup-clause-runs : goal.returns-in-Backup-clause-runs
+returns-in-Backup-clause-runs g c account given tells knows may told =
     let old = g.H.Host.world c.args.host.now in
     let new = g.H.Host.world c.run_asking.new.host in
-    subst (λ job. RunsTo c.run_asking.result old new (request_of old.files job) account given) (sym c.in-Lock.is)
-    (c.run_asking.ensures.runs account given tells (subst (λ job. Knows old.files account (request_of old.files job)) c.in-Lock.is knows) told)
+    let is = c.copied-name.ensures in
+    subst (λ job. RunsTo c.run_asking.result old new (request_of old.files job) account given) (sym c.in-Backup.is)
+    (subst (λ name. RunsTo c.run_asking.result old new (Ok (ToRun (plan_of c.in-Backup.db (Backup c.in-Backup.level name)) true)) account given) is
+    (c.run_asking.ensures.runs account given tells
+    (subst (λ name. Knows old.files account (Ok (ToRun (plan_of c.in-Backup.db (Backup c.in-Backup.level name)) true))) (sym is) (subst (λ job. Knows old.files account (request_of old.files job)) c.in-Backup.is knows)) may told))
+
+pub returns-in-Backup-clause-grows : goal.returns-in-Backup-clause-grows
+returns-in-Backup-clause-grows g c account tells knows =
+    let old = g.H.Host.world c.args.host.now in
+    c.run_asking.ensures.grows account tells
+    (subst (λ name. Knows old.files account (Ok (ToRun (plan_of c.in-Backup.db (Backup c.in-Backup.level name)) true))) (sym c.copied-name.ensures)
+    (subst (λ job. Knows old.files account (request_of old.files job)) c.in-Backup.is knows))
+
+pub returns-in-Lock-clause-runs : goal.returns-in-Lock-clause-runs
+returns-in-Lock-clause-runs g c account given tells knows may told =
+    let old = g.H.Host.world c.args.host.now in
+    let new = g.H.Host.world c.run_asking-in-Lock.new.host in
+    subst (λ job. RunsTo c.run_asking-in-Lock.result old new (request_of old.files job) account given) (sym c.in-Lock.is)
+    (c.run_asking-in-Lock.ensures.runs account given tells (subst (λ job. Knows old.files account (request_of old.files job)) c.in-Lock.is knows) may told)
 
 pub returns-in-Lock-clause-grows : goal.returns-in-Lock-clause-grows
 returns-in-Lock-clause-grows g c account tells knows =
     let old = g.H.Host.world c.args.host.now in
-    c.run_asking.ensures.grows account tells (subst (λ job. Knows old.files account (request_of old.files job)) c.in-Lock.is knows)
+    c.run_asking-in-Lock.ensures.grows account tells (subst (λ job. Knows old.files account (request_of old.files job)) c.in-Lock.is knows)
 
 pub returns-in-Unlock-clause-runs : goal.returns-in-Unlock-clause-runs
-returns-in-Unlock-clause-runs g c account given tells knows told =
+returns-in-Unlock-clause-runs g c account given tells knows may told =
     let old = g.H.Host.world c.args.host.now in
     let new = g.H.Host.world c.run_asking-in-Unlock.new.host in
     subst (λ job. RunsTo c.run_asking-in-Unlock.result old new (request_of old.files job) account given) (sym c.in-Unlock.is)
-    (c.run_asking-in-Unlock.ensures.runs account given tells (subst (λ job. Knows old.files account (request_of old.files job)) c.in-Unlock.is knows) told)
+    (c.run_asking-in-Unlock.ensures.runs account given tells (subst (λ job. Knows old.files account (request_of old.files job)) c.in-Unlock.is knows) may told)
 
 pub returns-in-Unlock-clause-grows : goal.returns-in-Unlock-clause-grows
 returns-in-Unlock-clause-grows g c account tells knows =

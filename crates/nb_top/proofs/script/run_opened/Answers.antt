@@ -5,11 +5,11 @@ use Rattle.nb_session.proofs.GiftLaws.{grows_none, grows_joined}
 use Rattle.nb_top.specs.Performed.{PlaysOpened, first_event, opened_reply, told_first}
 use Rattle.nb_top.proofs.OpenedSaid.{opened_err, reply_unsaid, reply_said_then, ready_still}
 use Rattle.nb_top.proofs.QuietRuns.{foretold_from}
-use Rattle.nb_top.proofs.ToldLaws.{told_first_steps, told_output, told_status}
+use Rattle.nb_top.proofs.ToldLaws.{told_first_made, told_first_steps, told_output, told_status}
 use Rattle.nb_top.proofs.script.run_opened.Goals as goal
 
 pub returns-in_err-say_opened-clause-plays : goal.returns-in_err-say_opened-clause-plays
-returns-in_err-say_opened-clause-plays g c now start strokes tells ready todo running calm told trail =
+returns-in_err-say_opened-clause-plays g c now start strokes tells ready todo making told trail =
     let old = g.H.Host.world c.args.host.now in
     let new = g.H.Host.world c.say_opened.new.host in
     let plan = c.args.script.now in
@@ -17,14 +17,14 @@ returns-in_err-say_opened-clause-plays g c now start strokes tells ready todo ru
     let quiet = c.args.is_quiet in
     let done = first_event plan.first_session strokes (opened_reply plan.first held.files.count held.files.state) in
     opened_err c.from_residual.result (λ r. PlaysOpened r old new held held start (told_first quiet done) now plan) c.from_residual.ensures.0
-    (reply_unsaid old new new held held start now plan c.requires ready todo (told_first quiet done) _ (told_output plan.first_session strokes plan.first held.files.count held.files.state quiet)
+    (reply_unsaid old new new held held start now plan c.requires ready todo making (told_first quiet done) (told_first_made quiet done) _ (told_output plan.first_session strokes plan.first held.files.count held.files.state quiet)
     (ap (after_steps (settled start)) (told_first_steps quiet done) ∙ trail) c.say_opened.result (c.say_opened.ensures.line tells))
 
 pub returns-in_err-say_opened-clause-grows : goal.returns-in_err-say_opened-clause-grows
-returns-in_err-say_opened-clause-grows g c now tells ready todo running calm = grows_none (g.H.Host.world c.args.host.now) (g.H.Host.world c.say_opened.new.host) c.say_opened.ensures.gave
+returns-in_err-say_opened-clause-grows g c now tells ready todo making = grows_none (g.H.Host.world c.args.host.now) (g.H.Host.world c.say_opened.new.host) c.say_opened.ensures.gave
 
 pub returns-clause-plays : goal.returns-clause-plays
-returns-clause-plays g c now start strokes tells ready todo running calm told trail =
+returns-clause-plays g c now start strokes tells ready todo making told trail =
     let old = g.H.Host.world c.args.host.now in
     let mid = g.H.Host.world c.say_opened.new.host in
     let new = g.H.Host.world c.take_turns.new.host in
@@ -34,15 +34,15 @@ returns-clause-plays g c now start strokes tells ready todo running calm told tr
     let done = first_event plan.first_session strokes (opened_reply plan.first held.files.count held.files.state) in
     let says = c.say_opened.ensures.line tells in
     let said = (c.in_ok-say_opened.ensures.line tells).said in
-    reply_said_then old mid new held c.take_turns.new.engine start now plan c.requires ready todo (told_first quiet done) _ (told_output plan.first_session strokes plan.first held.files.count held.files.state quiet)
+    reply_said_then old mid new held c.take_turns.new.engine start now plan c.requires ready todo making (told_first quiet done) (told_first_made quiet done) _ (told_output plan.first_session strokes plan.first held.files.count held.files.state quiet)
     (ap (after_steps (settled start)) (told_first_steps quiet done) ∙ trail) c.say_opened.result says (told_status plan.first_session strokes plan.first held.files.count held.files.state quiet) said c.take_turns.result
-    (c.take_turns.ensures.plays now _ tells (ready_still old mid held now says.still ready) todo running calm
+    (c.take_turns.ensures.plays now _ tells (ready_still old mid held now says.still ready) todo making
     (foretold_from old mid new now.given c.say_opened.ensures.gave told))
 
 pub returns-clause-grows : goal.returns-clause-grows
-returns-clause-grows g c now tells ready todo running calm =
+returns-clause-grows g c now tells ready todo making =
     let old = g.H.Host.world c.args.host.now in
     let mid = g.H.Host.world c.say_opened.new.host in
     let new = g.H.Host.world c.take_turns.new.host in
     grows_joined old mid new (grows_none old mid c.say_opened.ensures.gave)
-    (c.take_turns.ensures.grows now _ tells (ready_still old mid c.args.engine.now now (c.say_opened.ensures.line tells).still ready) todo running calm)
+    (c.take_turns.ensures.grows now _ tells (ready_still old mid c.args.engine.now now (c.say_opened.ensures.line tells).still ready) todo making)

@@ -8,29 +8,29 @@ use Rattle.nb_session.proofs.GiftLaws.{grows_none, grows_joined}
 use Rattle.nb_session.proofs.SaysLaws.{says_other}
 use Rattle.nb_top.specs.Performed.{RunsTo}
 use Rattle.nb_top.specs.Requests.{ToRun}
-use Rattle.nb_top.proofs.Beginnings.{script_refused, script_now, script_todo, script_running, script_given, script_ready, script_calm, script_trail, script_ends_early, script_ends}
+use Rattle.nb_top.proofs.Beginnings.{script_refused, script_now, script_todo, script_given, script_ready, script_making, script_trail, script_ends_early, script_ends}
 use Rattle.nb_top.proofs.BegunRuns.{start}
 use Rattle.nb_top.proofs.QuietRuns.{foretold_from, no_given}
 use Rattle.nb_top.proofs.ScriptRuns.{runs_err, settled_value, settled_refusal, script_begins, first_gave}
 use Rattle.nb_top.proofs.script.run_script.Goals as goal
 
 pub returns-in_err-engine-clause-runs : goal.returns-in_err-engine-clause-runs
-returns-in_err-engine-clause-runs g c account given tells knows told =
+returns-in_err-engine-clause-runs g c account given tells knows may told =
     let old = g.H.Host.world c.args.host.now in
     let mid = g.H.Host.world c.open.new.host in
     let plan = c.args.script.now in
-    let begins = script_begins old account given plan c.args.is_quiet c.requires knows mid c.open.result
+    let begins = script_begins old account given plan c.args.is_quiet c.requires knows may mid c.open.result
     (λ name size raw cache is. c.open.ensures.creates name size raw cache tells (c.first.ensures ∙ is)) (λ name cache is. c.open.ensures.attaches name cache tells (c.first.ensures ∙ is))
     (λ name cache is. c.open.ensures.quiet name cache (c.first.ensures ∙ is)) c.open.ensures.scn in
     runs_err c.from_residual.result c.from_residual.ensures.0 (λ r. RunsTo r old mid (Ok (ToRun plan c.args.is_quiet)) account given) begins.fails
 
 pub returns-in_err-refused-in-Ok-clause-runs : goal.returns-in_err-refused-in-Ok-clause-runs
-returns-in_err-refused-in-Ok-clause-runs g c account given tells knows told =
+returns-in_err-refused-in-Ok-clause-runs g c account given tells knows may told =
     let old = g.H.Host.world c.args.host.now in
     let mid = g.H.Host.world c.open.new.host in
     let new = g.H.Host.world c.run_opened.new.host in
     let plan = c.args.script.now in
-    let begins = script_begins old account given plan c.args.is_quiet c.requires knows mid c.open.result
+    let begins = script_begins old account given plan c.args.is_quiet c.requires knows may mid c.open.result
     (λ name size raw cache is. c.open.ensures.creates name size raw cache tells (c.first.ensures ∙ is)) (λ name cache is. c.open.ensures.attaches name cache tells (c.first.ensures ∙ is))
     (λ name cache is. c.open.ensures.quiet name cache (c.first.ensures ∙ is)) c.open.ensures.scn in
     let held = c.in-Ok.engine in
@@ -39,16 +39,16 @@ returns-in_err-refused-in-Ok-clause-runs g c account given tells knows told =
     runs_err c.from_residual-in_err-refused-in-Ok.result c.from_residual-in_err-refused-in-Ok.ensures.0 (λ r. RunsTo r old new (Ok (ToRun plan c.args.is_quiet)) account given)
     (λ e. script_ends_early old account given plan c.args.is_quiet c.requires mid held done new c.run_opened.new.engine e
     (c.in_err-refused-in-Ok.ensures.plays (script_now old account given plan c.args.is_quiet c.requires mid held done) (start old account given plan c.args.is_quiet c.requires done.first) done.first.strokes tells
-    (script_ready old account given plan c.args.is_quiet c.requires mid held done) (script_todo old account given plan c.args.is_quiet c.requires mid held done) (script_running old account given plan c.args.is_quiet c.requires mid held done)
-    (script_calm old account given plan c.args.is_quiet c.requires mid held done) later (script_trail old account given plan c.args.is_quiet c.requires mid held done)))
+    (script_ready old account given plan c.args.is_quiet c.requires mid held done) (script_todo old account given plan c.args.is_quiet c.requires mid held done)
+    (script_making old account given plan c.args.is_quiet c.requires mid held done) later (script_trail old account given plan c.args.is_quiet c.requires mid held done)))
 
 pub returns-in_ok-refused-in-Ok-clause-runs : goal.returns-in_ok-refused-in-Ok-clause-runs
-returns-in_ok-refused-in-Ok-clause-runs g c account given tells knows told =
+returns-in_ok-refused-in-Ok-clause-runs g c account given tells knows may told =
     let old = g.H.Host.world c.args.host.now in
     let mid = g.H.Host.world c.open.new.host in
     let new = g.H.Host.world c.run_opened.new.host in
     let plan = c.args.script.now in
-    let begins = script_begins old account given plan c.args.is_quiet c.requires knows mid c.open.result
+    let begins = script_begins old account given plan c.args.is_quiet c.requires knows may mid c.open.result
     (λ name size raw cache is. c.open.ensures.creates name size raw cache tells (c.first.ensures ∙ is)) (λ name cache is. c.open.ensures.attaches name cache tells (c.first.ensures ∙ is))
     (λ name cache is. c.open.ensures.quiet name cache (c.first.ensures ∙ is)) c.open.ensures.scn in
     let held = c.in-Ok.engine in
@@ -56,16 +56,16 @@ returns-in_ok-refused-in-Ok-clause-runs g c account given tells knows told =
     let later = subst (λ x. Foretells x mid new) (sym (script_given old account given plan c.args.is_quiet c.requires mid held done)) (foretold_from old mid new given done.gave told) in
     script_ends old account given plan c.args.is_quiet c.requires mid held done new c.run_opened.new.engine c.in_ok-refused-in-Ok.refused c.ended.result c.ended.ensures.number
     (c.in_ok-refused-in-Ok.ensures.plays (script_now old account given plan c.args.is_quiet c.requires mid held done) (start old account given plan c.args.is_quiet c.requires done.first) done.first.strokes tells
-    (script_ready old account given plan c.args.is_quiet c.requires mid held done) (script_todo old account given plan c.args.is_quiet c.requires mid held done) (script_running old account given plan c.args.is_quiet c.requires mid held done)
-    (script_calm old account given plan c.args.is_quiet c.requires mid held done) later (script_trail old account given plan c.args.is_quiet c.requires mid held done))
+    (script_ready old account given plan c.args.is_quiet c.requires mid held done) (script_todo old account given plan c.args.is_quiet c.requires mid held done)
+    (script_making old account given plan c.args.is_quiet c.requires mid held done) later (script_trail old account given plan c.args.is_quiet c.requires mid held done))
 
 pub returns-in-Err-clause-runs : goal.returns-in-Err-clause-runs
-returns-in-Err-clause-runs g c account given tells knows told =
+returns-in-Err-clause-runs g c account given tells knows may told =
     let old = g.H.Host.world c.args.host.now in
     let mid = g.H.Host.world c.open.new.host in
     let new = g.H.Host.world c.refuse.new.host in
     let plan = c.args.script.now in
-    let begins = script_begins old account given plan c.args.is_quiet c.requires knows mid c.open.result
+    let begins = script_begins old account given plan c.args.is_quiet c.requires knows may mid c.open.result
     (λ name size raw cache is. c.open.ensures.creates name size raw cache tells (c.first.ensures ∙ is)) (λ name cache is. c.open.ensures.attaches name cache tells (c.first.ensures ∙ is))
     (λ name cache is. c.open.ensures.quiet name cache (c.first.ensures ∙ is)) c.open.ensures.scn in
     let refusal = c.in-Err.refusal in
@@ -87,15 +87,15 @@ returns-in_err-refused-in-Ok-clause-grows g c account tells knows =
     let mid = g.H.Host.world c.open.new.host in
     let new = g.H.Host.world c.run_opened.new.host in
     let plan = c.args.script.now in
-    let begins = script_begins old account no_given plan c.args.is_quiet c.requires knows mid c.open.result
+    let begins = script_begins old account no_given plan c.args.is_quiet c.requires knows tt mid c.open.result
     (λ name size raw cache is. c.open.ensures.creates name size raw cache tells (c.first.ensures ∙ is)) (λ name cache is. c.open.ensures.attaches name cache tells (c.first.ensures ∙ is))
     (λ name cache is. c.open.ensures.quiet name cache (c.first.ensures ∙ is)) c.open.ensures.scn in
     let held = c.in-Ok.engine in
     let done = begins.done held (settled_value c.in_ok-engine.field-0 held (λ value. c.open.result ≡ Ok value) c.in-Ok.is c.in_ok-engine.ensures.value) in
     grows_joined old mid new (grows_none old mid done.gave)
     (c.in_err-refused-in-Ok.ensures.grows (script_now old account no_given plan c.args.is_quiet c.requires mid held done) tells
-    (script_ready old account no_given plan c.args.is_quiet c.requires mid held done) (script_todo old account no_given plan c.args.is_quiet c.requires mid held done) (script_running old account no_given plan c.args.is_quiet c.requires mid held done)
-    (script_calm old account no_given plan c.args.is_quiet c.requires mid held done))
+    (script_ready old account no_given plan c.args.is_quiet c.requires mid held done) (script_todo old account no_given plan c.args.is_quiet c.requires mid held done)
+    (script_making old account no_given plan c.args.is_quiet c.requires mid held done))
 
 pub returns-in_ok-refused-in-Ok-clause-grows : goal.returns-in_ok-refused-in-Ok-clause-grows
 returns-in_ok-refused-in-Ok-clause-grows g c account tells knows =
@@ -103,15 +103,15 @@ returns-in_ok-refused-in-Ok-clause-grows g c account tells knows =
     let mid = g.H.Host.world c.open.new.host in
     let new = g.H.Host.world c.run_opened.new.host in
     let plan = c.args.script.now in
-    let begins = script_begins old account no_given plan c.args.is_quiet c.requires knows mid c.open.result
+    let begins = script_begins old account no_given plan c.args.is_quiet c.requires knows tt mid c.open.result
     (λ name size raw cache is. c.open.ensures.creates name size raw cache tells (c.first.ensures ∙ is)) (λ name cache is. c.open.ensures.attaches name cache tells (c.first.ensures ∙ is))
     (λ name cache is. c.open.ensures.quiet name cache (c.first.ensures ∙ is)) c.open.ensures.scn in
     let held = c.in-Ok.engine in
     let done = begins.done held (settled_value c.in_ok-engine.field-0 held (λ value. c.open.result ≡ Ok value) c.in-Ok.is c.in_ok-engine.ensures.value) in
     grows_joined old mid new (grows_none old mid done.gave)
     (c.in_ok-refused-in-Ok.ensures.grows (script_now old account no_given plan c.args.is_quiet c.requires mid held done) tells
-    (script_ready old account no_given plan c.args.is_quiet c.requires mid held done) (script_todo old account no_given plan c.args.is_quiet c.requires mid held done) (script_running old account no_given plan c.args.is_quiet c.requires mid held done)
-    (script_calm old account no_given plan c.args.is_quiet c.requires mid held done))
+    (script_ready old account no_given plan c.args.is_quiet c.requires mid held done) (script_todo old account no_given plan c.args.is_quiet c.requires mid held done)
+    (script_making old account no_given plan c.args.is_quiet c.requires mid held done))
 
 pub returns-in-Err-clause-grows : goal.returns-in-Err-clause-grows
 returns-in-Err-clause-grows g c account tells knows =
