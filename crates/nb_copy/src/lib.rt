@@ -25,4 +25,6 @@ pub use page_copy::PageCopy;
 #[cfg(test)]
 mod copier_tests;
 #[cfg(test)]
+mod file_copier_tests;
+#[cfg(test)]
 mod tests;
