@@ -29,7 +29,7 @@ use Rattle.nb_model.proofs.GuidLaws.{strokes_in_steps, last_steps_new, front_new
 use Rattle.nb_model.proofs.MadeLaws.{IsWholeFile, whole_among, stands_with_files}
 use Rattle.nb_model.proofs.OpenedLaws.{stands_with_well_in}
 use Rattle.nb_model.proofs.OpeningLaws.{opened_in_use}
-use Rattle.nb_model.proofs.SteadyLaws.{along_front, along_last, kept_along, kept_is}
+use Rattle.nb_model.proofs.SteadyLaws.{WellAlong, along_front, along_last, kept_along, kept_is}
 use Rattle.nb_model.proofs.StandsLaws.{delta_named, delta_same, no_main}
 use Rattle.nb_base.specs.Open.{OfFiles}
 use Rattle.nb_copy.specs.Making.{IsKept}
@@ -84,24 +84,22 @@ module _ (old : World) (account : Account) (stands : StandsFor old account) (rea
   abbrev Left : Files → Type 0
   Left files = MadeLeft old made files × ((m : List ℕ) → Other (OfFiles name) m → IsNoneOf made m → Leaves old m (files m))
 
-  -- they hold what may be left of what was seen behind so many steps, or of all
-  front_holds : (k : ℕ) (files : Files) → Left files → StandsIn name (after_steps (settled run.base) (take k run.further)) files → HoldsKept files (kept_along account.kept (settled run.base) (take k run.further))
-  front_holds k files left s =
-      holds_along old account stands reads name plain made new_file apart files left.0 left.1 (settled run.base) (take k run.further) (along_front account.kept (settled run.base) run.further run.along k)
-      (front_new old account.kept run.further further_new k) (whole_with (kept_along account.kept (settled run.base) (take k run.further)) (kept_front account.kept (settled run.base) run.further k)) s
+  -- they hold what may be left of what was seen behind some of the further steps
+  behind_holds : (ss : List Step) → WellAlong account.kept (settled run.base) ss → AreNew old account.kept (guids_in (strokes_in ss)) → ((r : Kept) → Contains (kept_along account.kept (settled run.base) ss) r → Contains kept r) → (files : Files) → Left files
+      → StandsIn name (after_steps (settled run.base) ss) files → HoldsKept files (kept_along account.kept (settled run.base) ss)
+  behind_holds ss along fresh among files left s =
+      holds_along old account stands reads name plain made new_file apart files left.0 left.1 (settled run.base) ss along fresh (whole_with (kept_along account.kept (settled run.base) ss) among) s
 
-  all_holds : (files : Files) → Left files → StandsIn name trail files → HoldsKept files kept
-  all_holds files left s =
-      holds_along old account stands reads name plain made new_file apart files left.0 left.1 (settled run.base) run.further run.along further_new (whole_with kept (λ r there. there)) s
-
+  -- so behind a front of all steps
   pub stood_holds : (count : ℕ) → length run.first ≤ count → (files : Files) → Left files
       → StandsIn name (seen_after account name (take count (steps_of events))) files → HoldsKept files (account.kept ++ records_after (base_in (account.entry name)) (strokes_in (take count (steps_of events))))
   stood_holds count low files left s =
-      let ss : List Step = take (count - length run.first) run.further in
+      let k : ℕ = count - length run.first in
+      let ss : List Step = take k run.further in
       let cut : take count (steps_of events) ≡ run.first ++ ss = cut_is account name events last run count low in
       subst (λ (xs : List Step). HoldsKept files (account.kept ++ records_after (base_in (account.entry name)) (strokes_in xs))) (sym cut)
       (subst (HoldsKept files) (sym (kept_behind account name events last run ss))
-      (front_holds (count - length run.first) files left
+      (behind_holds ss (along_front account.kept (settled run.base) run.further run.along k) (front_new old account.kept run.further further_new k) (kept_front account.kept (settled run.base) run.further k) files left
       (subst (λ (t : Trail). StandsIn name t files) (seen_behind account name events last run ss) (subst (λ (xs : List Step). StandsIn name (seen_after account name xs) files) cut s))))
 
   -- it isn't begun
@@ -167,7 +165,7 @@ module _ (old : World) (account : Account) (stands : StandsFor old account) (rea
 
     left_holds : (files : Files) → LeavesAll end files → HoldsKept files last.kept
     left_holds files leaves =
-        subst (HoldsKept files) (sym last_kept) (all_holds files (left files leaves) (subst (λ (t : Trail). StandsIn name t files) trail_is (ended.left files leaves)))
+        subst (HoldsKept files) (sym last_kept) (behind_holds run.further run.along further_new (λ r there. there) files (left files leaves) (subst (λ (t : Trail). StandsIn name t files) trail_is (ended.left files leaves)))
 
     -- a file that a stop may leave alone
     with_one : (n : List ℕ) (d : File) → Leaves end n d → LeavesAll end (with_file end.files n d)
