@@ -38,7 +38,7 @@ use Rattle.nb_script.specs.Asked.{IsFurther, IsAskable}
 use Rattle.nb_script.specs.Scripts.{Plan}
 use Rattle.nb_script.specs.Words.{is_given}
 use Rattle.nb_session.specs.Ready.{IsReady}
-use Rattle.nb_session.proofs.CalledLaws.{IsCalled, begun_called, called_play}
+use Rattle.nb_session.proofs.NameLaws.{begun_plain, made_named}
 use Rattle.nb_top.specs.Performed.{KnowsNames, MayBeGiven}
 
 -- a name that a user may give, of so many bytes at most
@@ -123,12 +123,6 @@ named_further other is = tt
 abbrev pub IsPlain : List ℕ → Type 0
 IsPlain name = is_delta name ≡ false
 
-plain_further : (s : Statement) → IsFurther s → IsCalled IsPlain (Begins s)
-plain_further (Backup level name) is = (given_name 100 name is.fits.1).plain
-plain_further (BackupSince guid name) is = absurd is.fits
-plain_further (CopyTo name) is = (given_name 100 name is.fits).plain
-plain_further other is = tt
-
 all_so : {A : Type 0} (P Q : A → Type 0) → ((x : A) → P x → Q x) → (xs : List A) → AllByRecursion P xs → AllByRecursion Q xs
 all_so P Q so [] all = tt
 all_so P Q so (x ∷ xs) all = (so x all.0, all_so P Q so xs all.1)
@@ -164,7 +158,7 @@ module _ (plan : Plan) (askable : IsAskable plan) (now : Now) (todo : now.todo �
   -- The files that they make are neither a difference file nor the database.
   module _ (making : IsMaking now) (order : List ℕ) where
     pub plain_play : (f : MadeFile) → Contains (files_made (play order now).0) f → is_delta f.0 ≡ false
-    plain_play = called_play IsPlain order now making.named making.going (begun_called IsPlain now plan.sessions todo (each_further (λ s. IsCalled IsPlain (Begins s)) plain_further))
+    plain_play = made_named IsPlain order now making.named making.going (begun_plain plan askable now todo)
 
     pub apart_play : (name bytes : List ℕ) → Contains (files_made (play order now).0) (name, bytes) → OfFiles now.name name → ⊥
     apart_play name bytes there (inl own) =
