@@ -1,0 +1,228 @@
+-- The turns of a backup: the file alone is touched, and then the two files of the database.
+use Rattle.std.proofs.Common.{◌≡◌, ◌≢◌, ◌⊎◌, inl, inr, ⊎_elim, ℕ, ◌<◌, List, [], ◌∷◌, ◌++◌, length, drop, refl, sym, ap, subst, ◌∙◌, arith, length-append, drop_at}
+use Rattle.std.specs.Prelude.{None, Some, Result, Ok, Err, OnOk}
+use Rattle.nb_host.specs.Files.{File, Files, with_file}
+use Rattle.nb_host.specs.World.{World}
+use Rattle.nb_host.specs.Crash.{Leaves}
+use Rattle.nb_host.specs.Calls.{IsStill}
+use Rattle.nb_host.specs.Moments.{IsTimely, Passes}
+use Rattle.nb_host.specs.declared.faults.Fault.{Fault}
+use Rattle.nb_host.specs.declared.faults.Fault.TheVariants.{Device}
+use Rattle.nb_change.specs.Changes.{Changes, Only, Reached, Remade}
+use Rattle.nb_change.specs.Gave.{GaveNothing}
+use Rattle.nb_change.proofs.MomentLaws.{left_before}
+use Rattle.nb_change.proofs.NameLaws.{with_file-other}
+use Rattle.nb_change.proofs.ChangesLaws.{left_with, weakened, composed_within}
+use Rattle.nb_change.proofs.ResultLaws.{on_ok}
+use Rattle.nb_change.proofs.SettledLaws.{durable_is, durable_other}
+use Rattle.nb_model.specs.Account.{Base}
+use Rattle.nb_model.specs.Backups.{close_backup}
+use Rattle.nb_model.specs.Chains.{backup_slot, put_slot}
+use Rattle.nb_model.specs.Forms.{drafted}
+use Rattle.nb_model.specs.Image.{Image, image_scn}
+use Rattle.nb_model.specs.Levels.{file_of, count_in}
+use Rattle.nb_model.specs.Outcomes.{Backing, Seen, next_time}
+use Rattle.nb_model.specs.Owner.{delta_name, owner}
+use Rattle.nb_model.specs.Sound.{IsSoundImage}
+use Rattle.nb_model.specs.Strokes.{Stroke}
+use Rattle.nb_model.specs.Trail.{Trail, StandsIn, StandsOn, after_stroke}
+use Rattle.nb_model.proofs.PutSound.{header_whole}
+use Rattle.nb_base.specs.Open.{OfFiles}
+use Rattle.nb_base.specs.Takes.{Strikes, after_strokes}
+use Rattle.nb_base.proofs.StrokeLaws.{waits}
+use Rattle.nb_state.specs.Open.{Held, IsOpen, name_of}
+use Rattle.nb_state.specs.declared.turns.Progress.TheVariants.{More, Finished}
+use Rattle.nb_state.specs.Does.{WhereEnded, unless_by}
+use Rattle.nb_state.proofs.TurnLaws.{still_struck, struck_front}
+use Rattle.nb_engine.specs.Put.{entry_cause}
+use Rattle.nb_engine.specs.Tries.{Tries}
+use Rattle.nb_engine.proofs.DoesLaws.{unless_none}
+use Rattle.nb_engine.proofs.MakeLaws.{entry_none, from_well}
+use Rattle.nb_engine.proofs.WhereLaws.{sure_of}
+use Rattle.nb_copy.specs.Making.{IsKept, IsUnfinishedOr}
+use Rattle.nb_copy.proofs.LevelLaws.{below_all}
+use Rattle.nb_copy.specs.declared.file_copy.FileCopy.{FileCopy}
+use Rattle.nb_copy.specs.declared.file_copy.FileCopy.TheVariants.{Pages, Level}
+use Rattle.nb_copy.specs.FileCopying.{file_name, file_count, file_next, file_written, whole_file, whole_count, IsFileCopying, IsSameFile}
+use Rattle.nb_copy.specs.Starting.{Backed, IsBackingUp, kept_of}
+use Rattle.nb_copy.specs.Closing.{OfBackup, GaveTimeAtMost, CloseLeft, Closes, BackupTurn}
+
+-- the time that was given is the one that may have been given
+first_time : List ℕ → ℕ
+first_time [] = 0
+first_time (x ∷ xs) = x
+
+pub given_time : (old new : List ℕ) (given time : ℕ) → new ≡ old ++ given ∷ [] → (new ≡ old) ⊎ (new ≡ old ++ time ∷ []) → given ≡ time
+unfolding first_time
+given_time old new given time is =
+    ⊎_elim (λ none. absurd (omega (arith, ap length (sym none ∙ is), length-append old (given ∷ []))))
+    (λ one. ap first_time (sym (drop_at old (given ∷ []) (length old) refl) ∙ ap (drop (length old)) (sym is ∙ one) ∙ drop_at old (time ∷ []) (length old) refl))
+
+-- the strokes of a close
+abbrev pub row_strokes : Backing → (time : ℕ) → Image → List Stroke
+row_strokes b time image = (put_slot b.page b.slot (backup_slot b.ask.level b.scn time b.guid b.name) (drafted image)).strokes
+
+pub close_strokes : (s : Seen) (b : Backing) (base : Base) (time : ℕ) → base ≡ s.base → time ≡ next_time s.given → row_strokes b time base.image ≡ (close_backup s b).strokes
+unfolding close_backup
+close_strokes s b base time same at = ap (λ (x : Base). row_strokes b time x.image) same ∙ ap (λ (n : ℕ). row_strokes b n s.base.image) at
+
+ended_ok : {T : Type 0} (result : Result T Fault) (P : Type 0) → WhereEnded result P → OnOk result P
+ended_ok (Ok value) P is = is
+ended_ok (Err fault) P is = tt
+
+-- The close: the clock, and then the row.
+module _ (old mid : World) (a : Held) (t : Trail) (is : IsOpen old a t) (timely : IsTimely old) (still : IsStill old mid) (silent : mid.said ≡ old.said) (passes : Passes old mid) (guids : mid.guids ≡ old.guids) where
+  -- the clock failed
+  pub close_waits : (time : ℕ) (xs : List Stroke) → Closes (Err Device) old mid a a t time xs
+  close_waits time xs = record {
+    left = struck_front old mid (name_of a) t [] xs (waits old mid a.files t is.files timely still silent passes);
+    opened = tt;
+    times = tt;
+    guids = guids;
+    sure = tt;
+  }
+
+  -- the row is written
+  pub close_row : (result : Result (Unit {0}) Fault) (new : World) (b : Held) (time p : ℕ) (xs : List Stroke) → mid.times ≡ old.times ++ time ∷ [] → IsSoundImage t.base.image → 0 < p → p < 1048576 → p < length t.base.image
+      → Tries result mid new a b t (entry_cause t.base.image p) xs → Closes result old new a b t time xs
+  close_row result new b time p xs gave sound low high there tries = record {
+    left = still_struck old mid new a t xs is timely still silent passes (subst (λ (ss : List Stroke). Strikes mid new (name_of a) t ss) made tries.makes.left);
+    opened = ended_ok result _ (subst (λ (ss : List Stroke). WhereEnded result (IsOpen new b (after_strokes t ss))) made tries.makes.opened);
+    times = on_ok result (tries.makes.gave.times ∙ gave);
+    guids = tries.makes.gave.guids ∙ guids;
+    sure = sure_of result (entry_cause t.base.image p) none tries.test;
+  }
+    where
+      four : image_scn t.base.image < 4294967296
+      four = omega (arith, is.agrees.scn, is.agrees.four)
+
+      none : entry_cause t.base.image p ≡ None
+      none =
+          entry_none t.base.image p (from_well t.base.image (header_whole t.base.image (record { header = is.files.agrees.header; scn = four }) sound))
+          (record { behind = omega (arith, low); there = omega (arith, there); most = high })
+
+      made : unless_by (entry_cause t.base.image p) xs ≡ xs
+      made = unless_none (entry_cause t.base.image p) xs none
+
+-- The file of a backup of a database that is open.
+module _ (old : World) (a : Held) (t : Trail) (is : IsOpen old a t) (name whole : List ℕ) (apart : OfFiles (name_of a) name → ⊥) (reads : Leaves old name (old.files name)) where
+  -- what a stop leaves while the file alone is touched
+  pub stands : (files : Files) → ((m : List ℕ) → m ≢ name → Leaves old m (files m)) → StandsIn (name_of a) t files
+  stands files others =
+      subst (λ (f : File). StandsOn (name_of a) t f (files (delta_name (name_of a)))) (with_file-other files name (old.files name) (name_of a) (λ e. apart (inl (sym e))))
+      (subst (λ (f : File). StandsOn (name_of a) t (with_file files name (old.files name) (name_of a)) f) (with_file-other files name (old.files name) (delta_name (name_of a)) (λ e. apart (inr (sym e))))
+      (is.files.left (with_file files name (old.files name)) (left_with old name files (old.files name) others reads)))
+
+  module _ (mid : World) (file : Changes old mid (Only name) (Remade old name (IsUnfinishedOr whole))) where
+    -- the database stays open
+    pub open_other : a.files.state ≡ 1 → IsOpen mid a t
+    open_other stalled = record {
+      files = record {
+        left = λ files left. stands files (λ m other. left_before old mid _ file.others m (files m) other (left m));
+        shows = subst (λ (f : File). owner (name_of a) f (mid.files (delta_name (name_of a))) ≡ Ok t.base) (sym (file.others_read (name_of a) (λ e. apart (inl (sym e)))))
+            (subst (λ (f : File). owner (name_of a) (old.files (name_of a)) f ≡ Ok t.base) (sym (file.others_read (delta_name (name_of a)) (λ e. apart (inr (sym e))))) is.files.shows);
+        agrees = is.files.agrees;
+      };
+      agrees = is.agrees;
+      merged = λ two. absurd (omega (arith, two, stalled));
+      most = λ two. absurd (omega (arith, two, stalled));
+    }
+
+    -- a turn that touched the file alone
+    pub file_left : (xs : List Stroke) → Changes old mid (OfBackup name (name_of a)) (CloseLeft old name whole (name_of a) t xs)
+    file_left xs =
+        weakened old mid (Only name) (OfBackup name (name_of a)) (Remade old name (IsUnfinishedOr whole)) (CloseLeft old name whole (name_of a) t xs) file (λ m one. inl one)
+        (λ files others has. inl (has, stands files others))
+
+    -- and one that made strokes then
+    pub close_left : (new : World) (xs : List Stroke) → IsKept mid name whole → Strikes mid new (name_of a) t xs → Changes old new (OfBackup name (name_of a)) (CloseLeft old name whole (name_of a) t xs)
+    close_left new xs kept struck =
+        composed_within old mid new (Only name) (OfFiles (name_of a)) (OfBackup name (name_of a)) (Remade old name (IsUnfinishedOr whole)) (Reached after_stroke (StandsIn (name_of a)) t xs) (CloseLeft old name whole (name_of a) t xs) file struck
+        (λ m one. inl one) (λ m one. inr one) (λ files others has. inl (has, stands files others)) (λ files others has. inr (durable_is mid name (Some whole) kept.durable (files name) (others name apart), has))
+
+    -- the file stays
+    pub kept_still : (new : World) (xs : List Stroke) → IsKept mid name whole → Strikes mid new (name_of a) t xs → IsKept new name whole
+    kept_still new xs kept struck = record {
+      durable = durable_other mid new (OfFiles (name_of a)) _ name (Some whole) struck apart kept.durable;
+      reads = struck.others_read name apart ∙ kept.reads;
+    }
+
+-- the file of a copier, by its name
+pub file_named : (old mid : World) (f g : FileCopy) (name : List ℕ) (frozen : Image) → f ≡ g → file_name g ≡ name → Changes old mid (Only (file_name f)) (Remade old (file_name f) (IsUnfinishedOr (whole_file f frozen)))
+    → Changes old mid (Only name) (Remade old name (IsUnfinishedOr (whole_file g frozen)))
+file_named old mid f g name frozen same named changes =
+    subst (λ (n : List ℕ). Changes old mid (Only n) (Remade old n (IsUnfinishedOr (whole_file g frozen)))) named
+    (subst (λ (x : FileCopy). Changes old mid (Only (file_name x)) (Remade old (file_name x) (IsUnfinishedOr (whole_file x frozen)))) same changes)
+
+pub kept_named : (w : World) (f g : FileCopy) (name : List ℕ) (frozen : Image) → f ≡ g → file_name g ≡ name → IsKept w (file_name f) (whole_file f frozen) → IsKept w name (whole_file g frozen)
+kept_named w f g name frozen same named kept =
+    subst (λ (n : List ℕ). IsKept w n (whole_file g frozen)) named (subst (λ (x : FileCopy). IsKept w (file_name x) (whole_file x frozen)) same kept)
+
+-- the time is asked for behind the turn of the file
+pub asked_behind : (old mid new : World) (time : ℕ) → GaveNothing old mid → GaveTimeAtMost old new time → GaveTimeAtMost mid new time
+asked_behind old mid new time gave given = subst (λ (ts : List ℕ). (new.times ≡ ts) ⊎ (new.times ≡ ts ++ time ∷ [])) (sym gave.times) given
+
+pub asked_before : (old mid new : World) (time : ℕ) → GaveNothing old mid → GaveTimeAtMost mid new time → GaveTimeAtMost old new time
+asked_before old mid new time gave given = subst (λ (ts : List ℕ). (new.times ≡ ts) ⊎ (new.times ≡ ts ++ time ∷ [])) gave.times given
+
+-- where all pages were dealt with, all that the file has were taken
+pub written_all : (w : World) (f : FileCopy) (frozen : Image) → IsFileCopying w f frozen → file_next f ≡ file_count f → file_written f ≡ whole_count f frozen
+written_all w (Pages copy) frozen is all = all ∙ sym is.of.long
+written_all w (Level copy) frozen is all =
+    let next : copy.next ≡ length frozen = all ∙ sym is.of.long in
+    let begun = is.begun (omega (arith, next, is.of.sound.least)) in
+    begun.has.counted ∙ ap length (below_all copy frozen is.of copy.next (omega (arith, next)))
+
+-- A backup that goes on.
+pub goes_further : (w : World) (copier later : Backed) (frozen : Image) (before : FileCopy) → before ≡ copier.file → later.backing ≡ copier.backing → IsSameFile before later.file frozen → file_name copier.file ≡ copier.backing.name
+    → whole_file copier.file frozen ≡ file_of 102 (kept_of copier.backing frozen) → whole_count copier.file frozen ≡ count_in (kept_of copier.backing frozen) copier.backing.ask → IsFileCopying w later.file frozen → IsBackingUp w later frozen
+goes_further w copier later frozen before filed backed same name whole count goes = record {
+  name = same.name ∙ ap file_name filed ∙ name ∙ sym (ap (λ (b : Backing). b.name) backed);
+  whole = same.whole ∙ ap (λ (f : FileCopy). whole_file f frozen) filed ∙ whole ∙ sym (ap (λ (b : Backing). file_of 102 (kept_of b frozen)) backed);
+  count = same.pages ∙ ap (λ (f : FileCopy). whole_count f frozen) filed ∙ count ∙ sym (ap (λ (b : Backing). count_in (kept_of b frozen) b.ask) backed);
+  goes = goes;
+}
+
+-- A turn, behind that of its file.
+module _ (old mid : World) (a b : Held) (copier : Backed) (t : Trail) (is : IsOpen old a t) (stalled : a.files.state ≡ 1) (apart : OfFiles (name_of a) copier.backing.name → ⊥) (reads : Leaves old copier.backing.name (old.files copier.backing.name)) (same : b ≡ a)
+    (file : Changes old mid (Only copier.backing.name) (Remade old copier.backing.name (IsUnfinishedOr (whole_file copier.file t.base.frozen)))) (gave : GaveNothing old mid) where
+  abbrev whole : List ℕ
+  whole = whole_file copier.file t.base.frozen
+
+  pub mid_open : IsOpen mid b t
+  mid_open = subst (λ (h : Held). IsOpen mid h t) (sym same) (open_other old a t is copier.backing.name whole apart reads mid file stalled)
+
+  pub turn_failed : (later : Backed) (time : ℕ) (xs : List Stroke) → BackupTurn (Err Device) old mid a b copier later t time xs
+  turn_failed later time xs = record { left = file_left old a t is copier.backing.name whole apart reads mid file xs; answer = tt; guids = gave.guids; sure = tt }
+
+  pub turn_more : (later : Backed) (time : ℕ) (xs : List Stroke) → IsBackingUp mid later t.base.frozen → BackupTurn (Ok More) old mid a b copier later t time xs
+  turn_more later time xs goes = record {
+    left = file_left old a t is copier.backing.name whole apart reads mid file xs;
+    answer = record { left = file; same = same; opened = mid_open; gave = gave; goes = goes };
+    guids = gave.guids;
+    sure = tt;
+  }
+
+  module _ (new : World) (d : Held) (later : Backed) (time : ℕ) (xs : List Stroke) (kept : IsKept mid copier.backing.name whole) where
+    pub close_failed : (fault : Fault) → Closes (Err fault) mid new b d t time xs → BackupTurn (Err fault) old new a d copier later t time xs
+    close_failed fault closes = record {
+      left = close_left old a t is copier.backing.name whole apart reads mid file new xs kept (subst (λ (h : Held). Strikes mid new (name_of h) t xs) same closes.left);
+      answer = tt;
+      guids = closes.guids ∙ gave.guids;
+      sure = closes.sure;
+    }
+
+    pub close_finished : Closes (Ok tt) mid new b d t time xs → file_written later.file ≡ count_in (kept_of copier.backing t.base.frozen) copier.backing.ask → BackupTurn (Ok Finished) old new a d copier later t time xs
+    close_finished closes written =
+        let struck : Strikes mid new (name_of a) t xs = subst (λ (h : Held). Strikes mid new (name_of h) t xs) same closes.left in
+        record {
+          left = close_left old a t is copier.backing.name whole apart reads mid file new xs kept struck;
+          answer = record {
+            kept = kept_still old a t is copier.backing.name whole apart reads mid file new xs kept struck;
+            opened = closes.opened;
+            times = closes.times ∙ ap (λ (ts : List ℕ). ts ++ time ∷ []) gave.times;
+            written = written;
+          };
+          guids = closes.guids ∙ gave.guids;
+          sure = tt;
+        }

@@ -1,0 +1,85 @@
+-- Where the SCN entry of a page stands, and which pages need none.
+use Rattle.std.proofs.Common.{◌≡◌, ◌≢◌, ◌⊎◌, inl, inr, ℕ, zero, suc, ◌+◌, ◌-◌, ◌*◌, ◌/◌, ◌%◌, ◌<◌, ◌≤◌, length, refl, sym, ap, ◌∙◌, arith}
+use Rattle.std.specs.Prelude.{true, false, slice_index, IsTrue, ◌==◌, ◌&&◌, nat_lt}
+use Rattle.std.proofs.Math.Nat.{div-eq_of_lt, mod-eq-sub-div-mul, div-mul-le_self, lt-div-mul-add}
+use Rattle.std.proofs.lemmas.Nat.{div-mul-add}
+use Rattle.std.proofs.lemmas.Bool.{and_parts, or_cases, eqb-true}
+use Rattle.nb_fields.specs.Places.{is_page_size, entries_in, scn_place, is_scn_place}
+use Rattle.nb_fields.proofs.SizeLemmas.{size_facts}
+use Rattle.nb_fields.specs.Page.{stamp_of}
+use Rattle.nb_model.specs.Image.{Page, Image, image_size, page_at}
+use Rattle.nb_model.specs.Sound.{HasEntries}
+use Rattle.nb_scn.specs.Entries.{entries}
+use Rattle.nb_engine.proofs.PutLaws.{other-with}
+use Rattle.nb_model.specs.Forms.{scn_page_of, scn_entry}
+use Rattle.nb_engine.proofs.RaiseLaws.{scn_page-is, entry-is}
+use Rattle.nb_copy.proofs.FitLaws.{lt_tells}
+
+-- an SCN page that isn't the first stands at the first page that it has an entry for
+pub own_place : (size p : ℕ) → 1 ≤ p → p % entries_in size ≡ 0 → scn_place size (p / entries_in size) ≡ p
+own_place size p some first =
+    by (p / entries_in size) (omega (arith, mod-eq-sub-div-mul p (entries_in size), div-mul-le_self p (entries_in size), first))
+  where
+    by : (q : ℕ) → q * entries_in size ≡ p → scn_place size q ≡ p
+    by zero is = absurd (omega (arith, is, some))
+    by (suc q) is = is
+
+-- the first stands at page 2
+pub first_place : (size p : ℕ) → p < entries_in size → scn_place size (p / entries_in size) ≡ 2
+first_place size p low = ap (scn_place size) (div-eq_of_lt low)
+
+-- any other page has its entry where the page before it has
+pub same_place : (size p : ℕ) → 0 < entries_in size → 1 ≤ p → p % entries_in size ≢ 0 → (p - 1) / entries_in size ≡ p / entries_in size
+same_place size p wide some other =
+    let q : ℕ = p / entries_in size in
+    let r : ℕ = p % entries_in size in
+    let low : q * entries_in size ≤ p = div-mul-le_self p (entries_in size) in
+    let rest : r ≡ p - q * entries_in size = mod-eq-sub-div-mul p (entries_in size) in
+    let high : p < q * entries_in size + entries_in size = lt-div-mul-add wide in
+    let is : p - 1 ≡ q * entries_in size + (p - 1 - q * entries_in size) = omega (arith, low, rest, positive r other) in
+    ap (λ n. n / entries_in size) is ∙ div-mul-add q (entries_in size) (p - 1 - q * entries_in size) (omega (arith, low, high, rest, positive r other))
+  where
+    positive : (n : ℕ) → n ≢ 0 → 1 ≤ n
+    positive zero ne = absurd (ne refl)
+    positive (suc n) ne = omega arith
+
+-- an SCN page has its entry in itself
+pub scn_own : (size p : ℕ) → IsTrue (is_page_size size) → is_scn_place size p ≡ true → scn_place size (p / entries_in size) ≡ p
+unfolding is_scn_place
+scn_own size p is place = by (or_cases _ _ place)
+  where
+    wide : 3 ≤ entries_in size
+    wide = let facts = size_facts size is in omega (arith, facts.at_least)
+
+    by : ((p == 2) ≡ true) ⊎ ((nat_lt 0 p && p % entries_in size == 0) ≡ true) → scn_place size (p / entries_in size) ≡ p
+    by (inl two) = let e = eqb-true p 2 two in first_place size p (omega (arith, e, wide)) ∙ sym e
+    by (inr own) = let both = and_parts (nat_lt 0 p) (p % entries_in size == 0) own in own_place size p (let l = lt_tells 0 p both.0 in l) (eqb-true (p % entries_in size) 0 both.1)
+
+-- where the SCN page is that is read
+pub loaded_place : (image : Image) (size p k index place : ℕ) → size ≡ image_size image → IsTrue (is_page_size size) → 1 ≤ p → k ≡ p / entries_in size → index ≡ p % entries_in size → place ≡ scn_place size k → (p ≡ 1) ⊎ (index ≡ 0)
+    → 5 ≤ length image → p < length image → (place ≡ scn_page_of image p) × (place < length image)
+loaded_place image size p k index place same is some cover number at (inl one) least low =
+    let facts = size_facts size is in
+    let two : place ≡ 2 = at ∙ ap (scn_place size) cover ∙ first_place size p (omega (arith, facts.at_least, one)) in
+    (scn_page-is image size k p place same cover at, omega (arith, two, least))
+loaded_place image size p k index place same is some cover number at (inr none) least low =
+    let here : place ≡ p = at ∙ ap (scn_place size) cover ∙ own_place size p some (sym number ∙ none) in
+    (scn_page-is image size k p place same cover at, omega (arith, here, low))
+
+-- and that it stands ready, where none is read
+pub ready_place : (image : Image) (size p : ℕ) → size ≡ image_size image → IsTrue (is_page_size size) → 1 ≤ p → p % entries_in size ≢ 0 → scn_page_of image (p - 1) ≡ scn_page_of image p
+ready_place image size p same is some other =
+    let facts = size_facts size is in
+    ap (λ n. scn_place n ((p - 1) / entries_in n)) (sym same) ∙ ap (scn_place size) (same_place size p (omega (arith, facts.at_least)) some other) ∙ ap (λ n. scn_place n (p / entries_in n)) same
+
+-- an SCN page's entries are in itself
+pub own_page : (image : Image) (size p : ℕ) → size ≡ image_size image → IsTrue (is_page_size size) → is_scn_place size p ≡ true → scn_page_of image p ≡ p
+own_page image size p same is place = ap (λ n. scn_place n (p / entries_in n)) (sym same) ∙ scn_own size p is place
+
+-- a page whose entry isn't above an SCN has no stamp above it
+pub entry_low : (image : Image) (size p index scn value : ℕ) (old : Page) → HasEntries image → size ≡ image_size image → index ≡ p % entries_in size → size ≡ length old → index < entries_in size → old ≡ page_at image (scn_page_of image p)
+    → value ≡ slice_index (entries old) index → value ≤ scn → 1 ≤ p → p < length image → is_scn_place size p ≡ false → stamp_of (page_at image p) ≤ scn
+entry_low image size p index scn value old has same number long inside is found low some below other =
+    let known : slice_index (entries old) index ≡ scn_entry image p = entry-is image size p index old same number long inside is in
+    let stamp = has.no_lower p below (other-with image p size same (λ e. absurd (omega (arith, e, some))) other) in
+    omega (arith, stamp, known, found, low)

@@ -1,0 +1,251 @@
+-- The start of a backup behind its tests: room in the history, and the begin.
+use Rattle.std.proofs.Common.{◌≡◌, ℕ, ◌+◌, ◌<◌, ◌≤◌, List, [], ◌∷◌, ◌++◌, length, replicate, refl, sym, ap, subst, ◌∙◌, arith}
+use Rattle.std.specs.Prelude.{not, ◌==◌, nat_lt, IsTrue, Some, None, Result, Ok, Err}
+use Rattle.nb_fields.specs.Bytes.{number_in}
+use Rattle.nb_fields.specs.Header.{state_of, scn_of, size_of}
+use Rattle.nb_fields.specs.Places.{is_page_size}
+use Rattle.nb_host.specs.World.{World}
+use Rattle.nb_host.specs.declared.faults.Fault.{Fault}
+use Rattle.nb_host.specs.declared.faults.Fault.TheVariants.{Refused as RefusedFault, Device, Memory}
+use Rattle.nb_host.specs.declared.refusals.Refusal.TheVariants.{Access, WrongState, ScnExhausted}
+use Rattle.nb_change.proofs.ReachedLaws.{after_all-joined, strokes_composed}
+use Rattle.nb_base.specs.Open.{OfFiles}
+use Rattle.nb_base.specs.Takes.{Strikes, after_strokes}
+use Rattle.nb_level.specs.declared.head.LevelHead.{LevelHead}
+use Rattle.nb_model.specs.Account.{Ask, Base}
+use Rattle.nb_model.specs.Backups.{room_in, backup_turn}
+use Rattle.nb_model.specs.Causes.{Cause, first_cause, when, read_only, not_state, not_free, no_scn, no_room, not_of_form, broken_at}
+use Rattle.nb_model.specs.Chains.{History, pages_of}
+use Rattle.nb_model.specs.Image.{Page, Image, first_page, image_scn, image_size}
+use Rattle.nb_model.specs.Outcomes.{Backing, Outcome, Copies, ClosesBackup, Seen, next_guid}
+use Rattle.nb_model.specs.Sound.{IsSoundImage, HasHeader}
+use Rattle.nb_model.specs.Strokes.{Stroke, begin}
+use Rattle.nb_model.specs.Trail.{Trail, StandsIn, after_stroke}
+use Rattle.nb_model.proofs.ControlMay.{may_begin}
+use Rattle.nb_model.proofs.ControlSound.{control_sound}
+use Rattle.nb_model.proofs.PutSound.{no_first}
+use Rattle.nb_model.proofs.SteadyTurns.{begin_facts}
+use Rattle.nb_state.specs.Open.{Held, IsOpen, name_of}
+use Rattle.nb_engine.specs.declared.walk.Room.{Room as Kept}
+use Rattle.nb_engine.specs.Room.{room_cause, IsRoomIn}
+use Rattle.nb_engine.specs.Tries.{Tries}
+use Rattle.nb_engine.specs.Turns.{starting_cause}
+use Rattle.nb_engine.proofs.CauseLaws.{first_none, first_next}
+use Rattle.nb_engine.proofs.DoesLaws.{unless_none, unless_some, tries_opened}
+use Rattle.nb_copy.specs.Starting.{Backed, StartsBackup, IsStarted, BeginsFor, earlier_cause, file_cause, ask_in, ask_by}
+use Rattle.nb_copy.specs.declared.file_copy.FileCopy.{FileCopy}
+use Rattle.nb_copy.specs.FileStarting.{IsNewFile, IsStartedFile}
+use Rattle.nb_copy.specs.FileCopying.{file_count}
+use Rattle.nb_copy.proofs.BegunLaws.{begun_image, begun_frozen, begun_long, begun_size, begun_state}
+use Rattle.nb_copy.proofs.FileStartLaws.{file_first, file_starts}
+use Rattle.nb_copy.proofs.RoomedLaws.{IsLike, roomed_is, roomed_like}
+use Rattle.nb_copy.proofs.StartLaws.{early, strokes, started, struck_some, turn_late, turn_strokes, turn_started}
+
+-- what a page 0 says of why no backup begins
+abbrev starting_of : Page → Cause
+starting_of p =
+    first_cause (when (not (number_in 65 1 p == 0)) (Access 1) ∷ when (not (state_of p == 0)) (WrongState (state_of p)) ∷ when (nat_lt 4294967293 (scn_of p)) (ScnExhausted (scn_of p)) ∷ [])
+
+-- Behind the tests.
+module _ (old mid new : World) (a b d : Held) (t : Trail) (s : Seen) (session level : ℕ) (name : List ℕ) (runs : a.running ≡ s.running) (at : t.base ≡ s.base) (is : IsOpen old a t) (sound : IsSoundImage t.base.image) (none : early s session level name ≡ None) where
+  abbrev image : Image
+  image = s.base.image
+
+  abbrev xs : List Stroke
+  xs = (room_in image).draft.strokes
+
+  abbrev ask : Ask
+  ask = ask_in level image
+
+  abbrev guid : List ℕ
+  guid = next_guid s.given
+
+  abbrev outcome : Outcome
+  outcome = backup_turn s session level name
+
+  -- no room was made
+  pub start_roomless : (T : Type 0) (fault : Fault) → Tries {T = T} (Err fault) old new a d t (room_cause image) xs → StartsBackup (Err fault) old new a d t guid outcome
+  start_roomless T (RefusedFault r) tries =
+      let nothing = unless_some (room_cause image) xs r tries.test in
+      subst (λ (x : Outcome). StartsBackup (Err (RefusedFault r)) old new a d t guid x) (sym (turn_late s session level name none r tries.test)) (record {
+        says = refl;
+        left = subst (λ (ss : List Stroke). Strikes old new (name_of a) t ss) nothing tries.makes.left;
+        opened = subst (λ (ss : List Stroke). IsOpen new d (after_strokes t ss)) nothing tries.makes.opened;
+        running = tries.makes.goes.running ∙ runs;
+        gave = tt;
+        times = tries.makes.gave.times;
+        refused = tries.refused;
+        name = tries.makes.goes.name;
+        started = tt;
+      })
+  start_roomless T Device tries = record {
+    says = tt;
+    left = subst (λ (ss : List Stroke). Strikes old new (name_of a) t ss) (sym (turn_strokes s session level name none)) (struck_some old new (name_of a) t (room_cause image) xs (begin guid (Some ask) ∷ []) tries.makes.left);
+    opened = tt;
+    running = tt;
+    gave = tt;
+    times = tries.makes.gave.times;
+    refused = tt;
+    name = tries.makes.goes.name;
+    started = tt;
+  }
+  start_roomless T Memory tries = record {
+    says = tt;
+    left = subst (λ (ss : List Stroke). Strikes old new (name_of a) t ss) (sym (turn_strokes s session level name none)) (struck_some old new (name_of a) t (room_cause image) xs (begin guid (Some ask) ∷ []) tries.makes.left);
+    opened = tt;
+    running = tt;
+    gave = tt;
+    times = tries.makes.gave.times;
+    refused = tt;
+    name = tries.makes.goes.name;
+    started = tt;
+  }
+
+  -- room was made
+  module _ (T : Type 0) (value : T) (tries : Tries (Ok value) old mid a b t (room_cause image) xs) where
+    abbrev u : Trail
+    u = after_strokes t xs
+
+    header : HasHeader image
+    header = subst (λ (x : Base). HasHeader x.image) at (record { header = is.files.agrees.header; scn = omega (arith, is.agrees.scn, is.agrees.four) })
+
+    decided : (broken_at (pages_of History image) ≡ None) × (first_cause (not_of_form (room_in image).draft ∷ no_room (room_in image).draft ∷ no_scn image ∷ []) ≡ None)
+    decided = no_first (broken_at (pages_of History image)) (not_of_form (room_in image).draft ∷ no_room (room_in image).draft ∷ no_scn image ∷ []) tries.test
+
+    pub may_go_on : no_scn image ≡ None
+    may_go_on =
+        (no_first (no_scn image) []
+        (no_first (no_room (room_in image).draft) (no_scn image ∷ []) (no_first (not_of_form (room_in image).draft) (no_room (room_in image).draft ∷ no_scn image ∷ []) decided.1).1).1).0
+
+    like : IsLike image (room_in image).draft.image
+    like = roomed_like image header (subst (λ (x : Base). IsSoundImage x.image) at sound) decided.0
+
+    pub seen : u.base.image ≡ (room_in image).draft.image
+    seen = subst (λ (x : Base). (after_strokes t (room_in x.image).draft.strokes).base.image ≡ (room_in x.image).draft.image) at (roomed_is t)
+
+    pub same_first : first_page u.base.image ≡ first_page image
+    same_first = ap first_page seen ∙ like.first
+
+    pub still_sound : IsSoundImage u.base.image
+    still_sound = subst IsSoundImage (sym seen) like.sound
+
+    starts_here : starting_cause image ≡ None
+    starts_here =
+        let tests = no_first (file_cause s name) (earlier_cause level image ∷ []) none in
+        let first = no_first (read_only image) (not_state 0 image ∷ not_free name (s.entry name) ∷ []) tests.0 in
+        let second = no_first (not_state 0 image) (not_free name (s.entry name) ∷ []) first.1 in
+        first_next (read_only image) (not_state 0 image ∷ no_scn image ∷ []) first.0 ∙ first_next (not_state 0 image) (no_scn image ∷ []) second.0 ∙ first_next (no_scn image) [] may_go_on ∙ first_none
+
+    pub starts_there : starting_cause u.base.image ≡ None
+    starts_there = ap starting_of same_first ∙ starts_here
+
+    room_open : IsOpen mid b u
+    room_open = tries_opened value old mid a b t (room_cause image) xs tries
+
+    room_left : Strikes old mid (name_of a) t xs
+    room_left = subst (λ (ss : List Stroke). Strikes old mid (name_of a) t ss) (unless_none (room_cause image) xs tries.test) tries.makes.left
+
+    module _ (bare : LevelHead) where
+      begun_left : (result : Result LevelHead Fault) → BeginsFor result mid new b d u guid (Some ask) session bare → Strikes old new (name_of a) t (xs ++ begin guid (Some ask) ∷ [])
+      begun_left result begins =
+          strokes_composed after_stroke (StandsIn (name_of a)) (OfFiles (name_of a)) old mid new t xs (begin guid (Some ask) ∷ []) room_left
+          (subst (λ (n : List ℕ). Strikes mid new n u (begin guid (Some ask) ∷ [])) tries.makes.goes.name
+          (subst (λ (ss : List Stroke). Strikes mid new (name_of b) u ss) (unless_none (starting_cause u.base.image) (begin guid (Some ask) ∷ []) starts_there) begins.left))
+
+      pub start_unbegun : (fault : Fault) → BeginsFor (Err fault) mid new b d u guid (Some ask) session bare → StartsBackup (Err fault) old new a d t guid outcome
+      start_unbegun (RefusedFault r) begins = absurd (none_some (sym starts_there ∙ begins.test))
+        where
+          none_some : None ≡ Some r → ⊥
+          none_some e = cc
+      start_unbegun Device begins =
+          subst (λ (x : Outcome). StartsBackup (Err Device) old new a d t guid x) (sym (turn_started s session level name none tries.test)) (record {
+            says = tt;
+            left = begun_left (Err Device) begins;
+            opened = tt;
+            running = tt;
+            gave = tt;
+            times = begins.times ∙ tries.makes.gave.times;
+            refused = tt;
+            name = begins.name ∙ tries.makes.goes.name;
+            started = tt;
+          })
+      start_unbegun Memory begins =
+          subst (λ (x : Outcome). StartsBackup (Err Memory) old new a d t guid x) (sym (turn_started s session level name none tries.test)) (record {
+            says = tt;
+            left = begun_left (Err Memory) begins;
+            opened = tt;
+            running = tt;
+            gave = tt;
+            times = begins.times ∙ tries.makes.gave.times;
+            refused = tt;
+            name = begins.name ∙ tries.makes.goes.name;
+            started = tt;
+          })
+
+      -- it has begun
+      module _ (begun : LevelHead) (begins : BeginsFor (Ok begun) mid new b d u guid (Some ask) session bare) where
+        abbrev v : Trail
+        v = after_strokes u (begin guid (Some ask) ∷ [])
+
+        all_strokes : after_strokes t (strokes s session level name) ≡ v
+        all_strokes = after_all-joined after_stroke t xs (begin guid (Some ask) ∷ [])
+
+        pub start_done : (copier : Backed) → IsStarted new d v copier (started s session level name) → StartsBackup (Ok copier) old new a d t guid outcome
+        start_done copier is_started =
+            subst (λ (x : Outcome). StartsBackup (Ok copier) old new a d t guid x) (sym (turn_started s session level name none tries.test)) (record {
+              says = refl;
+              left = begun_left (Ok begun) begins;
+              opened = subst (λ (w : Trail). IsOpen new d w) (sym all_strokes) begins.opened;
+              running = begins.running;
+              gave = begins.gave ∙ ap (λ (gs : List (List ℕ)). gs ++ guid ∷ []) tries.makes.gave.guids;
+              times = begins.times ∙ tries.makes.gave.times;
+              refused = tt;
+              name = begins.name ∙ tries.makes.goes.name;
+              started = subst (λ (w : Trail). IsStarted new d w copier (started s session level name)) (sym all_strokes) is_started;
+            })
+
+        -- its copier
+        module _ (kept : Kept) (f g : FileCopy) (count : ℕ) (sixteen : length guid ≡ 16) (asked : ask_by bare ≡ ask) (roomed : IsRoomIn image kept) (low : kept.page < length (room_in image).draft.image) (is_new : IsNewFile name bare f) (file : IsStartedFile f g begun count)
+            (counted : count ≡ d.files.count) (nine : bare.level ≤ 9) (previous : length bare.previous ≡ 16) (wide : IsTrue (is_page_size bare.page_size)) (size : bare.page_size ≡ a.files.page_size) where
+          abbrev its : Backing
+          its = record { name = name; ask = ask_by begun; scn = begun.scn; guid = begun.guid; page = kept.page; slot = kept.slot }
+
+          u_header : HasHeader u.base.image
+          u_header = record { header = room_open.files.agrees.header; scn = omega (arith, room_open.agrees.scn, room_open.agrees.four) }
+
+          long : length v.base.image ≡ length (room_in image).draft.image
+          long = begun_long u guid (Some ask) ∙ ap length seen
+
+          count_is : count ≡ length v.base.image
+          count_is = counted ∙ begins.opened.files.agrees.count
+
+          backing_is : ◌≡◌ {A = Backing} (record { name = name; ask = ask; scn = image_scn image; guid = guid; page = (room_in image).page; slot = (room_in image).slot }) its
+          backing_is =
+              let head = begins.head in
+              ap (λ (x : Ask). record { name = name; ask = x; scn = image_scn image; guid = guid; page = (room_in image).page; slot = (room_in image).slot }) (sym (ap (λ (h : LevelHead). ask_by h) head ∙ asked))
+              ∙ ap (λ (n : ℕ). record { name = name; ask = ask_by begun; scn = n; guid = guid; page = (room_in image).page; slot = (room_in image).slot }) (sym (ap (λ (h : LevelHead). h.scn) head ∙ ap scn_of same_first))
+              ∙ ap (λ (x : List ℕ). record { name = name; ask = ask_by begun; scn = begun.scn; guid = x; page = (room_in image).page; slot = (room_in image).slot }) (sym (ap (λ (h : LevelHead). h.guid) head))
+              ∙ ap (λ (n : ℕ). record { name = name; ask = ask_by begun; scn = begun.scn; guid = begun.guid; page = n; slot = (room_in image).slot }) (sym roomed.page)
+              ∙ ap (λ (n : ℕ). record { name = name; ask = ask_by begun; scn = begun.scn; guid = begun.guid; page = kept.page; slot = n }) (sym roomed.slot)
+
+          sized : bare.page_size ≡ image_size v.base.frozen
+          sized =
+              size ∙ is.files.agrees.page_size ∙ ap (λ (x : Base). image_size x.image) at ∙ sym (ap size_of same_first) ∙ sym (begun_size u guid (Some ask) u_header.header sixteen) ∙ ap image_size (sym (begun_frozen u guid (Some ask)))
+
+          frozen_sound : IsSoundImage v.base.frozen
+          frozen_sound =
+              subst IsSoundImage (sym (begun_frozen u guid (Some ask) ∙ begun_image u guid (Some ask)))
+              (control_sound 1 (image_scn u.base.image + 1) guid u.base.image u_header still_sound (may_begin u.base.image u_header guid sixteen (begin_facts u.base.image starts_there).1))
+
+          pub started_is : IsStarted new d v (record { backing = its; page_size = begun.page_size; file = g }) (started s session level name)
+          started_is =
+              let firsts = file_first name bare begun count f g is_new file in
+              record {
+                turns = ap (λ (n : ℕ). replicate n Copies ++ ClosesBackup (record { name = name; ask = ask; scn = image_scn image; guid = guid; page = (room_in image).page; slot = (room_in image).slot }) ∷ []) (sym (firsts.0 ∙ count_is ∙ long))
+                    ∙ ap (λ (x : Backing). replicate (file_count g) Copies ++ ClosesBackup x ∷ []) backing_is;
+                first = firsts.1;
+                stalled = begins.opened.files.agrees.state ∙ begun_state u guid (Some ask) u_header.header sixteen;
+                below = omega (arith, low, long);
+                goes =
+                    file_starts new name bare begun guid (image_scn u.base.image) count v.base.frozen kept.page kept.slot begins.head nine sixteen previous u_header.scn wide sized (count_is ∙ ap length (sym (begun_frozen u guid (Some ask)))) frozen_sound f g is_new file;
+              }

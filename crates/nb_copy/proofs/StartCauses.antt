@@ -1,0 +1,105 @@
+-- Why no backup may begin, test by test.
+use Rattle.std.proofs.Common.{◌≡◌, ◌≢◌, ℕ, zero, suc, List, [], ◌∷◌, replicate, refl, sym, ap, subst, ◌∙◌, arith}
+use Rattle.std.specs.Prelude.{Bool, true, false, Option, Some, None, is_none, not, nat_eq}
+use Rattle.std.proofs.lemmas.Bool.{eq-eqb, ne_eqb}
+use Rattle.nb_host.specs.declared.refusals.Refusal.{Refusal}
+use Rattle.nb_host.specs.declared.refusals.Refusal.TheVariants.{Access, WrongState, FileExists, NoHistory}
+use Rattle.nb_model.specs.Account.{Ask}
+use Rattle.nb_model.specs.Image.{Image, image_state, is_read_only}
+use Rattle.nb_model.specs.Backups.{ask_of}
+use Rattle.nb_model.specs.Causes.{Cause, first_cause, when, read_only, not_state, not_free, is_free_entry, broken_at}
+use Rattle.nb_model.specs.Chains.{History, Spot, pages_of, backup_spot, level_in}
+use Rattle.nb_model.specs.Outcomes.{Seen}
+use Rattle.nb_engine.specs.declared.rows.HistoryRow.{HistoryRow}
+use Rattle.nb_engine.specs.History.{row_at}
+use Rattle.nb_engine.proofs.CauseLaws.{first_none, first_next, first_here}
+use Rattle.nb_engine.proofs.FreeLaws.{closed_cause, open_cause}
+use Rattle.nb_copy.specs.Starting.{ask_in, earlier_row, earlier_cause, file_cause}
+
+-- the tests of the database and of the file's name
+module _ (s : Seen) (name : List ℕ) where
+  abbrev image : Image
+  image = s.base.image
+
+  pub closed : is_read_only image ≡ true → file_cause s name ≡ Some (Access 1)
+  closed e = first_here (read_only image) (not_state 0 image ∷ not_free name (s.entry name) ∷ []) (Access 1) (closed_cause image e)
+
+  module _ (may : is_read_only image ≡ false) where
+    opened : file_cause s name ≡ first_cause (not_state 0 image ∷ not_free name (s.entry name) ∷ [])
+    opened = first_next (read_only image) (not_state 0 image ∷ not_free name (s.entry name) ∷ []) (open_cause image may)
+
+    pub busy : image_state image ≢ 0 → file_cause s name ≡ Some (WrongState (image_state image))
+    busy e = opened ∙ first_here (not_state 0 image) (not_free name (s.entry name) ∷ []) (WrongState (image_state image)) (ap (λ (b : Bool). when (not b) (WrongState (image_state image))) (ne_eqb (image_state image) 0 e))
+
+    module _ (normal : image_state image ≡ 0) where
+      left : file_cause s name ≡ first_cause (not_free name (s.entry name) ∷ [])
+      left = opened ∙ first_next (not_state 0 image) (not_free name (s.entry name) ∷ []) (ap (λ (b : Bool). when (not b) (WrongState (image_state image))) (eq-eqb (image_state image) 0 normal))
+
+      pub there : is_free_entry (s.entry name) ≡ false → file_cause s name ≡ Some (FileExists name)
+      there e = left ∙ first_here (not_free name (s.entry name)) [] (FileExists name) (ap (λ (b : Bool). when (not b) (FileExists name)) e)
+
+      pub allowed : is_free_entry (s.entry name) ≡ true → file_cause s name ≡ None
+      allowed e = left ∙ first_next (not_free name (s.entry name)) [] (ap (λ (b : Bool). when (not b) (FileExists name)) e) ∙ first_none
+
+-- level 0 goes on from no backup
+pub none_asked : (level : ℕ) (image : Image) → level ≡ 0 → ◌≡◌ {A = Ask} (record { level = level; previous = replicate 16 0; previous_scn = 0 }) (ask_in level image)
+unfolding ask_of
+none_asked zero image e = refl
+none_asked (suc level) image e = absurd (omega (arith, e))
+
+-- the others go on from the latest one of the level below
+abbrev row_below : (below : ℕ) → Image → Option Spot
+row_below below image = backup_spot (λ slot. nat_eq (level_in slot) below) image
+
+abbrev cause_below : (below : ℕ) → Image → Cause
+cause_below below image = first_cause (broken_at (pages_of History image) ∷ when (is_none (row_below below image)) (NoHistory below) ∷ [])
+
+cause_is : (level below : ℕ) (image : Image) → level ≡ suc below → earlier_cause level image ≡ cause_below below image
+cause_is level below image e = ap (λ (n : ℕ). earlier_cause n image) e
+
+pub chain_broken : (level below : ℕ) (image : Image) → level ≡ suc below → (r : Refusal) → broken_at (pages_of History image) ≡ Some r → earlier_cause level image ≡ Some r
+chain_broken level below image e r broken = cause_is level below image e ∙ first_here (broken_at (pages_of History image)) (when (is_none (row_below below image)) (NoHistory below) ∷ []) r broken
+
+module _ (level below : ℕ) (image : Image) (e : level ≡ suc below) (linked : broken_at (pages_of History image) ≡ None) where
+  found : (t : Bool) → is_none (row_below below image) ≡ t → earlier_cause level image ≡ first_cause (when t (NoHistory below) ∷ [])
+  found t is =
+      cause_is level below image e ∙ first_next (broken_at (pages_of History image)) (when (is_none (row_below below image)) (NoHistory below) ∷ []) linked
+      ∙ ap (λ (b : Bool). first_cause (when b (NoHistory below) ∷ [])) is
+
+  pub none_found : (o : Option HistoryRow) → o ≡ None → o ≡ row_at (row_below below image) → earlier_cause level image ≡ Some (NoHistory below)
+  none_found o none is = found true (by (row_below below image) (sym none ∙ is)) ∙ first_here (Some (NoHistory below)) [] (NoHistory below) refl
+    where
+      by : (x : Option Spot) → None ≡ row_at x → is_none x ≡ true
+      by None d = refl
+      by (Some spot) d = cc
+
+  pub one_found : (o : Option HistoryRow) (row : HistoryRow) → o ≡ Some row → o ≡ row_at (row_below below image) → earlier_cause level image ≡ None
+  one_found o row some is = found false (by (row_below below image) (sym some ∙ is)) ∙ first_next None [] refl ∙ first_none
+    where
+      by : (x : Option Spot) → Some row ≡ row_at x → is_none x ≡ false
+      by None d = cc
+      by (Some spot) d = refl
+
+-- what is asked of its copy
+pub row_asked : (level below : ℕ) (image : Image) (o : Option HistoryRow) (row : HistoryRow) → level ≡ suc below → o ≡ Some row → o ≡ row_at (row_below below image)
+    → ◌≡◌ {A = Ask} (record { level = level; previous = row.guid; previous_scn = row.scn }) (ask_in level image)
+unfolding ask_of
+row_asked level below image o row e some is =
+    by (row_below below image) (sym some ∙ is) ∙ subst (λ (n : ℕ). ask_of level (row_below below image) ≡ ask_of level (earlier_row n image)) (sym e) refl
+  where
+    the_row : Option HistoryRow → HistoryRow
+    the_row None = row
+    the_row (Some r) = r
+
+    by : (x : Option Spot) → Some row ≡ row_at x → ◌≡◌ {A = Ask} (record { level = level; previous = row.guid; previous_scn = row.scn }) (ask_of level x)
+    by None d = cc
+    by (Some spot) d = ap (λ (x : Option HistoryRow). record { level = level; previous = (the_row x).guid; previous_scn = (the_row x).scn }) d
+
+-- the last of the causes
+last_cause : (c : Cause) → first_cause (c ∷ []) ≡ c
+unfolding first_cause
+last_cause None = refl
+last_cause (Some r) = refl
+
+pub after_none : (c d : Cause) → c ≡ None → d ≡ first_cause (c ∷ d ∷ [])
+after_none c d none = sym (first_next c (d ∷ []) none ∙ last_cause d)

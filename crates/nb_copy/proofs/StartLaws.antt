@@ -1,0 +1,158 @@
+-- The start of a backup: tests, room in the history, and the begin.
+use Rattle.std.proofs.Common.{◌≡◌, ◌⊎◌, ℕ, zero, suc, List, [], ◌∷◌, ◌++◌, length, replicate, refl, sym, ap, subst, ◌∙◌}
+use Rattle.std.specs.Prelude.{Some, None, is_none, Err}
+use Rattle.nb_host.specs.World.{World}
+use Rattle.nb_host.specs.declared.faults.Fault.{Fault}
+use Rattle.nb_host.specs.declared.faults.Fault.TheVariants.{Refused as RefusedFault, Device, Memory}
+use Rattle.nb_host.specs.declared.refusals.Refusal.{Refusal}
+use Rattle.nb_host.specs.declared.refusals.Refusal.TheVariants.{NoHistory}
+use Rattle.nb_page.specs.Quiet.{Quiet}
+use Rattle.nb_change.specs.Gave.{GaveNothing}
+use Rattle.nb_base.specs.Takes.{Strikes}
+use Rattle.nb_level.specs.declared.head.LevelHead.{LevelHead}
+use Rattle.nb_model.specs.declared.reply.Reply.TheVariants.{Refused}
+use Rattle.nb_model.specs.Backups.{Room, room_in, starts, backup_turn}
+use Rattle.nb_model.specs.Causes.{Cause, first_cause, when, read_only, not_state, not_free, no_scn, no_room, not_of_form, broken_at}
+use Rattle.nb_model.specs.Chains.{History, pages_of}
+use Rattle.nb_model.specs.Image.{Image, image_scn}
+use Rattle.nb_model.specs.Outcomes.{Outcome, Copies, ClosesBackup, Seen, next_guid, without_guid, says, unless}
+use Rattle.nb_model.specs.Strokes.{Stroke, begin}
+use Rattle.nb_model.specs.Trail.{Trail}
+use Rattle.nb_state.specs.Open.{Held, IsOpen}
+use Rattle.nb_state.specs.Does.{Tested, unless_by}
+use Rattle.nb_state.specs.Turns.{GaveAtMost}
+use Rattle.nb_state.proofs.MakesLaws.{open_still, none_yet}
+use Rattle.nb_state.proofs.TurnLaws.{struck_front}
+use Rattle.nb_engine.specs.Room.{room_cause}
+use Rattle.nb_engine.proofs.CauseLaws.{unless_refused, unless_allowed, first_here}
+use Rattle.nb_copy.specs.Starting.{StartsBackup, earlier_row, earlier_cause, file_cause, ask_in}
+use Rattle.nb_copy.proofs.StartCauses.{after_none}
+
+-- the tests in the order of the calls are those of the turn
+at_once : (a b c d e f g h : Cause) → first_cause (first_cause (first_cause (a ∷ b ∷ c ∷ []) ∷ first_cause (d ∷ e ∷ []) ∷ []) ∷ first_cause (d ∷ f ∷ g ∷ h ∷ []) ∷ []) ≡ first_cause (a ∷ b ∷ c ∷ d ∷ e ∷ f ∷ g ∷ h ∷ [])
+unfolding first_cause
+at_once (Some r) b c d e f g h = refl
+at_once None (Some r) c d e f g h = refl
+at_once None None (Some r) d e f g h = refl
+at_once None None None (Some r) e f g h = refl
+at_once None None None None (Some r) f g h = refl
+at_once None None None None None (Some r) g h = refl
+at_once None None None None None None (Some r) h = refl
+at_once None None None None None None None (Some r) = refl
+at_once None None None None None None None None = refl
+
+none_early : (a b c d f g h : Cause) → first_cause (first_cause (first_cause (a ∷ b ∷ c ∷ []) ∷ None ∷ []) ∷ first_cause (d ∷ f ∷ g ∷ h ∷ []) ∷ []) ≡ first_cause (a ∷ b ∷ c ∷ d ∷ None ∷ f ∷ g ∷ h ∷ [])
+unfolding first_cause
+none_early (Some r) b c d f g h = refl
+none_early None (Some r) c d f g h = refl
+none_early None None (Some r) d f g h = refl
+none_early None None None (Some r) f g h = refl
+none_early None None None None (Some r) g h = refl
+none_early None None None None None (Some r) h = refl
+none_early None None None None None None (Some r) = refl
+none_early None None None None None None None = refl
+
+module _ (s : Seen) (session level : ℕ) (name : List ℕ) where
+  abbrev image : Image
+  image = s.base.image
+
+  abbrev room : Room
+  room = room_in image
+
+  abbrev pub early : Cause
+  early = first_cause (file_cause s name ∷ earlier_cause level image ∷ [])
+
+  abbrev pub start_cause : Cause
+  start_cause = first_cause (early ∷ room_cause image ∷ [])
+
+  abbrev pub strokes : List Stroke
+  strokes = room.draft.strokes ++ begin (next_guid s.given) (Some (ask_in level image)) ∷ []
+
+  abbrev pub started : Outcome
+  started = record {
+    strokes = strokes;
+    reply = None;
+    next = replicate (length room.draft.image) Copies
+        ++ ClosesBackup (record { name = name; ask = ask_in level image; scn = image_scn image; guid = next_guid s.given; page = room.page; slot = room.slot }) ∷ [];
+    running = Some session;
+    made = None;
+    given = without_guid s.given;
+  }
+
+turn_by : (s : Seen) (session level : ℕ) (name : List ℕ) → backup_turn s session level name ≡ unless s (start_cause s session level name) (started s session level name)
+unfolding backup_turn starts
+turn_by s session zero name =
+    ap (λ (c : Cause). unless s c (started s session zero name))
+    (sym (none_early (read_only s.base.image) (not_state 0 s.base.image) (not_free name (s.entry name)) (broken_at (pages_of History s.base.image)) (not_of_form (room_in s.base.image).draft) (no_room (room_in s.base.image).draft) (no_scn s.base.image)))
+turn_by s session (suc below) name =
+    ap (λ (c : Cause). unless s c (started s session (suc below) name))
+    (sym (at_once (read_only s.base.image) (not_state 0 s.base.image) (not_free name (s.entry name)) (broken_at (pages_of History s.base.image)) (when (is_none (earlier_row (suc below) s.base.image)) (NoHistory below)) (not_of_form (room_in s.base.image).draft)
+    (no_room (room_in s.base.image).draft) (no_scn s.base.image)))
+
+strokes_by : (s : Seen) (cause : Cause) (o : Outcome) → (unless s cause o).strokes ≡ unless_by cause o.strokes
+unfolding unless
+strokes_by s None o = refl
+strokes_by s (Some r) o = refl
+
+pub struck_some : (old new : World) (n : List ℕ) (t : Trail) (cause : Cause) (xs ys : List Stroke) → Strikes old new n t (unless_by cause xs) → Strikes old new n t (unless_by cause (xs ++ ys))
+struck_some old new n t None xs ys struck = struck_front old new n t xs ys struck
+struck_some old new n t (Some r) xs ys struck = struck
+
+-- The turn, by what the calls found.
+module _ (s : Seen) (session level : ℕ) (name : List ℕ) where
+  abbrev turn : Outcome
+  turn = backup_turn s session level name
+
+  -- it is refused before room is made
+  turn_early : (r : Refusal) → early s session level name ≡ Some r → turn ≡ says s (Refused r) []
+  turn_early r e =
+      turn_by s session level name
+      ∙ unless_refused s (start_cause s session level name) (started s session level name) r (first_here (early s session level name) (room_cause s.base.image ∷ []) r e)
+
+  module _ (none : early s session level name ≡ None) where
+    room_decides : start_cause s session level name ≡ room_cause s.base.image
+    room_decides = sym (after_none (early s session level name) (room_cause s.base.image) none)
+
+    pub turn_late : (r : Refusal) → room_cause s.base.image ≡ Some r → turn ≡ says s (Refused r) []
+    turn_late r e = turn_by s session level name ∙ unless_refused s (start_cause s session level name) (started s session level name) r (room_decides ∙ e)
+
+    pub turn_strokes : turn.strokes ≡ unless_by (room_cause s.base.image) (strokes s session level name)
+    turn_strokes =
+        ap (λ (o : Outcome). o.strokes) (turn_by s session level name) ∙ strokes_by s (start_cause s session level name) (started s session level name)
+        ∙ ap (λ (c : Cause). unless_by c (strokes s session level name)) room_decides
+
+    pub turn_started : room_cause s.base.image ≡ None → turn ≡ started s session level name
+    turn_started e = turn_by s session level name ∙ unless_allowed s (start_cause s session level name) (started s session level name) (room_decides ∙ e)
+
+-- The call that begins a backup.
+module _ (old mid : World) (a b : Held) (t : Trail) (s : Seen) (session level : ℕ) (name : List ℕ) (at : t.base ≡ s.base) (runs : a.running ≡ s.running) (is : IsOpen old a t) (same : b ≡ a) (quiet : Quiet old mid) where
+  abbrev outcome : Outcome
+  outcome = backup_turn s session level name
+
+  -- it was refused, or failed, before room was made
+  pub start_refused : (r : Refusal) → early s session level name ≡ Some r → StartsBackup (Err (RefusedFault r)) old mid a b t (next_guid s.given) outcome
+  start_refused r e =
+      let o = turn_early s session level name r e in
+      subst (λ (x : Outcome). StartsBackup (Err (RefusedFault r)) old mid a b t (next_guid s.given) x) (sym o) (record {
+        says = refl;
+        left = none_yet old mid a t [] quiet is;
+        opened = open_still old mid a b t same quiet is;
+        running = ap (λ (h : Held). h.running) same ∙ runs;
+        gave = tt;
+        times = quiet.times;
+        refused = quiet;
+        name = ap (λ (h : Held). h.files.name) same;
+        started = tt;
+      })
+
+  pub start_failed : (fault : Fault) → Tested {T = LevelHead} (Err fault) (early s session level name) → StartsBackup (Err fault) old mid a b t (next_guid s.given) outcome
+  start_failed (RefusedFault r) e = start_refused r e
+  start_failed Device e = record { says = tt; left = none_yet old mid a t outcome.strokes quiet is; opened = tt; running = tt; gave = tt; times = quiet.times; refused = tt; name = ap (λ (h : Held). h.files.name) same; started = tt }
+  start_failed Memory e = record { says = tt; left = none_yet old mid a t outcome.strokes quiet is; opened = tt; running = tt; gave = tt; times = quiet.times; refused = tt; name = ap (λ (h : Held). h.files.name) same; started = tt }
+
+-- the GUID is asked for behind the room
+pub given_later : (old mid new : World) (id : List ℕ) → GaveNothing old mid → GaveAtMost old new id → GaveAtMost mid new id
+given_later old mid new id gave given = subst (λ (gs : List (List ℕ)). (new.guids ≡ gs) ⊎ (new.guids ≡ gs ++ id ∷ [])) (sym gave.guids) given
+
+pub given_before : (old mid new : World) (id : List ℕ) → GaveNothing old mid → GaveAtMost mid new id → GaveAtMost old new id
+given_before old mid new id gave given = subst (λ (gs : List (List ℕ)). (new.guids ≡ gs) ⊎ (new.guids ≡ gs ++ id ∷ [])) gave.guids given

@@ -1,0 +1,56 @@
+use Rattle.std.proofs.Common.{◌≡◌, length, ap, subst, ◌∙◌, arith, sym}
+use Rattle.std.specs.Prelude.{IsTrue}
+use Rattle.std.proofs.lemmas.List.{with_items_is}
+use Rattle.nb_fields.specs.Places.{is_page_size, entries_in}
+use Rattle.nb_level.specs.declared.head.LevelHead.{LevelHead}
+use Rattle.nb_page.proofs.QuietLemmas.{quiet_joined as quiet_joined}
+use Rattle.nb_state.specs.Open.{Held}
+use Rattle.nb_state.proofs.MakesLaws.{open_still}
+use Rattle.nb_copy.specs.LevelCopying.{LevelCopying}
+use Rattle.nb_model.specs.Image.{page_at, image_size}
+use Rattle.nb_copy.proofs.PlaceLaws.{own_page, entry_low}
+use Rattle.nb_copy.proofs.level_copy.LevelCopy.fetch.Goals as goal
+
+pub returns-then-is_place-clause-fetched : goal.returns-then-is_place-clause-fetched
+returns-then-is_place-clause-fetched g c t tells open_ stalled of ready =
+    let frozen = t.base.frozen in
+    let load = c.in_ok-index.ensures in
+    let head = ap (λ (h : LevelHead). h.page_size) c.head-head.ensures in
+    let size : c.head-head.result.now.page_size ≡ image_size frozen = head ∙ ap (λ (v : LevelCopying). v.file.head.page_size) c.self.view_is ∙ ap (λ (v : LevelCopying). v.file.head.page_size) load.same ∙ of.size in
+    let next : c.self.inside.next ≡ c.args.self.now.next = ap (λ (v : LevelCopying). v.next) c.self.view_is ∙ ap (λ (v : LevelCopying). v.next) load.same in
+    let is = subst (λ n. IsTrue (is_page_size n)) (sym head) c.self.invariant.is_size in
+    let own = own_page frozen c.head-head.result.now.page_size c.self.inside.next size is (sym c.is_place.ensures.value ∙ c.if-is_place.true) in
+    c.copy_from_slice.ensures.items ∙ c.deref.ensures.value ∙ ap (λ (v : LevelCopying). v.scn_page) c.self.view_is ∙ load.entries t tells open_ stalled of ready
+    ∙ ap (λ n. page_at frozen (Rattle.nb_model.specs.Forms.scn_page_of frozen n)) (sym next) ∙ ap (page_at frozen) (own ∙ next)
+
+pub returns-then-entry-head-clause-fetched : goal.returns-then-entry-head-clause-fetched
+returns-then-entry-head-clause-fetched g c t tells open_ stalled of ready =
+    let frozen = t.base.frozen in
+    let load = c.in_ok-index.ensures in
+    let head = ap (λ (h : LevelHead). h.page_size) c.head-head.ensures in
+    let size : c.head-head.result.now.page_size ≡ image_size frozen = head ∙ ap (λ (v : LevelCopying). v.file.head.page_size) c.self.view_is ∙ ap (λ (v : LevelCopying). v.file.head.page_size) load.same ∙ of.size in
+    let same : c.args.self.now.file.head.page_size ≡ image_size frozen = of.size in
+    let next : c.self.inside.next ≡ c.args.self.now.next = ap (λ (v : LevelCopying). v.next) c.self.view_is ∙ ap (λ (v : LevelCopying). v.next) load.same in
+    let scn : c.head-head.result.now.previous_scn ≡ c.args.self.now.file.head.previous_scn =
+    ap (λ (h : LevelHead). h.previous_scn) c.head-head.ensures ∙ ap (λ (v : LevelCopying). v.file.head.previous_scn) c.self.view_is ∙ ap (λ (v : LevelCopying). v.file.head.previous_scn) load.same in
+    let other = sym c.is_place.ensures.value ∙ c.if-is_place.false in
+    let place = ap (λ n. Rattle.nb_fields.specs.Places.is_scn_place n c.args.self.now.next) (same ∙ sym size) ∙ ap (Rattle.nb_fields.specs.Places.is_scn_place c.head-head.result.now.page_size) (sym next) ∙ other in
+    let long = ap length c.deref-2.ensures.value ∙ c.self.invariant.scn_room in
+    entry_low frozen c.args.self.now.file.head.page_size c.args.self.now.next c.in_ok-index.index c.args.self.now.file.head.previous_scn c.entry.result c.deref-2.result.now of.sound.sound.entries same load.index
+    (same ∙ sym size ∙ head ∙ sym long) load.inside (c.deref-2.ensures.value ∙ ap (λ (v : LevelCopying). v.scn_page) c.self.view_is ∙ load.entries t tells open_ stalled of ready) c.entry.ensures (omega (arith, c.if-entry-head.true, scn))
+    c.requires.some (omega (arith, c.requires.below, of.long)) place
+
+pub returns-in_err-read_main-clause-quiet : goal.returns-in_err-read_main-clause-quiet
+returns-in_err-read_main-clause-quiet g c = quiet_joined _ _ _ c.in_ok-index.ensures.quiet c.read_main.ensures.quiet
+
+pub returns-clause-fetched : goal.returns-clause-fetched
+returns-clause-fetched g c t tells open_ stalled of ready =
+    let frozen = t.base.frozen in
+    let load = c.in_ok-index.ensures in
+    let next : c.self.inside.next ≡ c.args.self.now.next = ap (λ (v : LevelCopying). v.next) c.self.view_is ∙ ap (λ (v : LevelCopying). v.next) load.same in
+    let page = with_items_is c.self.inside.page c.read_main.new.into (omega (arith, c.read_main.auto.into, ap length c.deref_mut.ensures.value, c.self.inside.page.ok.0)) in
+    let still = open_still _ _ _ _ t load.engine load.quiet open_ in
+    page ∙ c.in_ok-read_main.ensures.page t tells still (ap (λ (e : Held). e.files.state) load.engine ∙ stalled) (omega (arith, c.requires.below, of.long, next)) ∙ ap (page_at frozen) next
+
+pub returns-clause-quiet : goal.returns-clause-quiet
+returns-clause-quiet g c = quiet_joined _ _ _ c.in_ok-index.ensures.quiet c.read_main.ensures.quiet

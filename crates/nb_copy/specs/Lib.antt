@@ -1,0 +1,10 @@
+pub mod Making
+pub mod Copying
+pub mod Gathering
+pub mod LevelCopying
+pub mod Turns
+pub mod FileStarting
+pub mod FileCopying
+pub mod Starting
+pub mod Closing
+pub mod FileCopies

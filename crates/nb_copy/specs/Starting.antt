@@ -1,0 +1,100 @@
+-- The start of a backup.
+use Rattle.std.specs.Prelude.{◌≡◌, ℕ, zero, suc, ◌<◌, ◌≤◌, List, [], ◌∷◌, ◌++◌, length, replicate, Option, Some, None, is_none, nat_eq, Result, OnOk, IfOk}
+use Rattle.nb_host.specs.Files.{Files}
+use Rattle.nb_host.specs.World.{World}
+use Rattle.nb_host.specs.declared.faults.Fault.{Fault}
+use Rattle.nb_host.specs.declared.refusals.Refusal.TheVariants.{NoHistory}
+use Rattle.nb_page.specs.Free.{is_free_name}
+use Rattle.nb_page.specs.Quiet.{Quiet}
+use Rattle.nb_level.specs.declared.head.LevelHead.{LevelHead}
+use Rattle.nb_model.specs.Image.{Image, image_state, image_scn}
+use Rattle.nb_model.specs.Account.{Ask, Kept}
+use Rattle.nb_model.specs.Backups.{ask_of}
+use Rattle.nb_model.specs.Causes.{Cause, first_cause, when, read_only, not_state, not_free, is_free_entry, broken_at}
+use Rattle.nb_model.specs.Chains.{History, Spot, pages_of, backup_spot, level_in}
+use Rattle.nb_model.specs.Levels.{file_of, count_in}
+use Rattle.nb_model.specs.Strokes.{begin}
+use Rattle.nb_model.specs.Outcomes.{Backing, Copies, ClosesBackup, Seen, Outcome}
+use Rattle.nb_model.specs.Trail.{Trail}
+use Rattle.nb_base.specs.Takes.{Strikes, after_strokes}
+use Rattle.nb_state.specs.Open.{Held, IsOpen, name_of}
+use Rattle.nb_state.specs.Does.{Tested, WhereEnded, WhereRefused, unless_by}
+use Rattle.nb_engine.specs.Turns.{SaysNone, starting_cause}
+use Rattle.nb_copy.specs.declared.file_copy.FileCopy.{FileCopy}
+use Rattle.nb_copy.specs.FileCopying.{file_name, file_count, file_next, whole_file, whole_count, IsFileCopying}
+
+-- What a contract sees of a copier: what its close needs, the size of each page, and the file that it makes.
+pub record Backed : Type 0 where
+  pub backing : Backing
+  pub page_size : ℕ
+  pub file : FileCopy
+
+-- what the begin of a backup has kept
+abbrev pub kept_of : Backing → Image → Kept
+kept_of b frozen = record { guid = b.guid; scn = b.scn; ask = Some b.ask; image = frozen }
+
+-- A backup goes on: its file is a copy of this frozen image, and whole it is the file of what the begin has kept, with its pages.
+pub record IsBackingUp (w : World) (copier : Backed) (frozen : Image) : Type 0 where
+  pub name : file_name copier.file ≡ copier.backing.name
+  pub whole : whole_file copier.file frozen ≡ file_of 102 (kept_of copier.backing frozen)
+  pub count : whole_count copier.file frozen ≡ count_in (kept_of copier.backing frozen) copier.backing.ask
+  pub goes : IsFileCopying w copier.file frozen
+
+-- A copier that was started: its session has one turn left for each frozen page, and one for the close.
+pub record IsStarted (w : World) (held : Held) (t : Trail) (copier : Backed) (turn : Outcome) : Type 0 where
+  pub turns : turn.next ≡ replicate (file_count copier.file) Copies ++ ClosesBackup copier.backing ∷ []
+  pub first : file_next copier.file ≡ 0
+  pub stalled : held.files.state ≡ 1
+  pub below : copier.backing.page < length t.base.image
+  pub goes : IsBackingUp w copier t.base.frozen
+
+-- A backup is started, as its turn says; or it is refused, and changes nothing.
+pub record StartsBackup (result : Result Backed Fault) (old new : World) (before after : Held) (t : Trail) (guid : List ℕ) (turn : Outcome) : Type 0 where
+  pub says : SaysNone result turn.reply
+  pub left : Strikes old new (name_of before) t turn.strokes
+  pub opened : WhereEnded result (IsOpen new after (after_strokes t turn.strokes))
+  pub running : WhereEnded result (after.running ≡ turn.running)
+  pub gave : OnOk result (new.guids ≡ old.guids ++ guid ∷ [])
+  pub times : new.times ≡ old.times
+  pub refused : WhereRefused result (Quiet old new)
+  pub name : name_of after ≡ name_of before
+  pub started : IfOk result (λ copier. IsStarted new after (after_strokes t turn.strokes) copier turn)
+
+-- the row of the history that a backup of that level goes on from
+abbrev pub earlier_row : (level : ℕ) → Image → Option Spot
+earlier_row zero image = None
+earlier_row (suc below) image = backup_spot (λ row. nat_eq (level_in row) below) image
+
+-- what is asked of its copy
+abbrev pub ask_in : (level : ℕ) → Image → Ask
+ask_in level image = ask_of level (earlier_row level image)
+
+-- why there is none to go on from
+abbrev pub earlier_cause : (level : ℕ) → Image → Cause
+earlier_cause zero image = None
+earlier_cause (suc below) image = first_cause (broken_at (pages_of History image) ∷ when (is_none (earlier_row (suc below) image)) (NoHistory below) ∷ [])
+
+-- in the state of that number the account knows whether the name is free
+abbrev pub KnowsFree : (state : ℕ) → Files → Seen → (name : List ℕ) → Type 0
+KnowsFree state files s name = image_state s.base.image ≡ state → is_free_name files name ≡ is_free_entry (s.entry name)
+
+-- why no backup into a file of that name may begin
+abbrev pub file_cause : Seen → (name : List ℕ) → Cause
+file_cause s name = first_cause (read_only s.base.image ∷ not_state 0 s.base.image ∷ not_free name (s.entry name) ∷ [])
+
+-- what a head says of the backup that it goes on from
+abbrev pub ask_by : LevelHead → Ask
+ask_by head = record { level = head.level; previous = head.previous; previous_scn = head.previous_scn }
+
+-- A backup whose head has no GUID and SCN yet begins for the session, with this GUID and whatever is asked of its copy; or it is
+-- refused, and changes nothing.
+pub record BeginsFor (result : Result LevelHead Fault) (old new : World) (before after : Held) (t : Trail) (guid : List ℕ) (ask : Option Ask) (session : ℕ) (bare : LevelHead) : Type 0 where
+  pub test : Tested result (starting_cause t.base.image)
+  pub left : Strikes old new (name_of before) t (unless_by (starting_cause t.base.image) (begin guid ask ∷ []))
+  pub opened : OnOk result (IsOpen new after (after_strokes t (begin guid ask ∷ [])))
+  pub head : IfOk result (λ begun. begun ≡ record bare { guid = guid; scn = image_scn t.base.image })
+  pub gave : OnOk result (new.guids ≡ old.guids ++ guid ∷ [])
+  pub times : new.times ≡ old.times
+  pub refused : WhereRefused result (Quiet old new)
+  pub running : OnOk result (after.running ≡ Some session)
+  pub name : name_of after ≡ name_of before

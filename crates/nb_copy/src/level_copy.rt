@@ -1,0 +1,226 @@
+ghost use Rattle.std.specs.Prelude.{◌≡◌, ◌+◌, ◌%◌, ◌<◌, ◌≤◌, IsTrue, IfOk, OnOk, length};
+ghost use Rattle.nb_fields.specs.Places.{is_page_size, entries_in};
+ghost use Rattle.nb_host.specs.Causes.{CountsFault};
+ghost use Rattle.nb_change.specs.Changes.{Changes, Only, Remade};
+ghost use Rattle.nb_change.specs.Gave.{GaveNothing};
+ghost use Rattle.nb_page.specs.Quiet.{Quiet};
+ghost use Rattle.nb_model.specs.Forms.{scn_page_of};
+ghost use Rattle.nb_model.specs.Image.{page_at};
+ghost use Rattle.nb_model.specs.Trail.{Trail};
+ghost use Rattle.nb_state.specs.Open.{IsOpen};
+ghost use Rattle.nb_copy.specs.Gathering.{HasTaken};
+ghost use Rattle.nb_copy.specs.LevelCopying.{HasEntriesOf, IsFresh, IsLevelBegun, IsLevelCopying, IsLevelOf, taken_below, whole_level};
+ghost use Rattle.nb_copy.specs.Making.{IsUnfinished, IsUnfinishedOr};
+ghost use Rattle.nb_copy.specs.Turns.{Fetched, LevelTurn, LevelCounts};
+
+use crate::level_file::LevelFile;
+use nb_engine::Engine;
+use nb_host::{Host, HostFault, Name};
+use nb_level::LevelHead;
+use nb_scn::{covers, entry, is_place, place_of};
+use nb_state::Progress;
+use std::alloc::{AllocError, Global};
+use std::marker::Model;
+
+/// A level of 1 to 9: the pages of a frozen image that changed since an earlier backup.
+///
+/// A page is taken by its stamp. It is read only where its SCN entry says that it may have changed, since an entry is at least the
+/// stamp. Page 0 and the SCN pages have no entry, and are always read.
+#[derive(Drop)]
+pub struct LevelCopy {
+    file: LevelFile,
+    /// How many pages the frozen image has.
+    count: u32,
+    /// The page that the next turn deals with.
+    next: u32,
+    /// The SCN page that was read last.
+    scn_page: Vec<u8>,
+    /// Room for the page that is dealt with.
+    page: Vec<u8>,
+}
+
+impl Model for LevelCopy {
+    ghost use Rattle.std.specs.Prelude.{length};
+    ghost use Rattle.nb_copy.specs.LevelCopying.{LevelCopying, IsLevelCopier};
+
+    ghost Value = { LevelCopying };
+
+    ghost view = { λ c. record { file = c.file; count = c.count; next = c.next; scn_page = c.scn_page.items; page = c.page.items } };
+
+    ghost invariant = { λ c. IsLevelCopier c.file c.count c.next (length c.scn_page.items) (length c.page.items) };
+}
+
+impl LevelCopy {
+    /// A level with that head, of which `start` says the GUID and the SCN, into the file of that name. It takes the memory for 18 pages,
+    /// and makes no file.
+    pub fn new(alloc: Global, head: &LevelHead, name: &Name) -> Result<LevelCopy, AllocError>
+        requires { IsTrue (is_page_size head.now.page_size) }
+        ensures name { IfOk result (λ copy. copy.file.name ≡ name.now) }
+        ensures head { IfOk result (λ copy. copy.file.head ≡ head.now) }
+        ensures next { IfOk result (λ copy. copy.next ≡ 0) }
+        ensures fresh { IfOk result IsFresh }
+    {
+        let file = LevelFile::new(alloc, name, head)?;
+        let scn_page = vec![in alloc; 0; head.page_size as usize]?;
+        let page = vec![in alloc; 0; head.page_size as usize]?;
+        Ok(LevelCopy {
+            file,
+            count: 0,
+            next: 0,
+            scn_page,
+            page,
+        })
+    }
+
+    /// The backup has begun with that GUID at that SCN, and the frozen image has so many pages. Its first turn is the next.
+    pub fn start(&mut self, guid: &[u8; 16], scn: u32, count: u32)
+        requires next { self.old.next ≡ 0 }
+        requires most { count ≤ 1048576 }
+        ensures { self.new ≡ record self.old { file = record self.old.file { head = record self.old.file.head { guid = guid.now; scn = scn } }; count = count } }
+    {
+        self.file.start(guid, scn);
+        self.count = count;
+    }
+
+    /// How many pages were taken.
+    pub fn written(&self) -> u32
+        ensures { result ≡ self.now.file.written }
+    {
+        self.file.written()
+    }
+
+    /// Reads the SCN page of the page that is dealt with, where that is the first page that has an entry there, and answers the place
+    /// of the entry.
+    fn load<H: Host>(&mut self, host: &mut H, engine: &mut Engine) -> Result<u32, HostFault>
+        requires size { self.old.file.head.page_size ≡ engine.old.files.page_size }
+        requires some { 1 ≤ self.old.next }
+        requires below { self.old.next < self.old.count }
+        ensures entries { (t : Trail) → IsTrue H.tells → IsOpen (H.world host.old) engine.old t → engine.old.files.state ≡ 1 → IsLevelOf self.old t.base.frozen → HasEntriesOf self.old t.base.frozen
+            → OnOk result (self.new.scn_page ≡ page_at t.base.frozen (scn_page_of t.base.frozen self.old.next)) }
+        ensures index { IfOk result (λ index. index ≡ self.old.next % entries_in self.old.file.head.page_size) }
+        ensures inside { IfOk result (λ index. index < entries_in self.old.file.head.page_size) }
+        ensures same { self.new ≡ record self.old { scn_page = self.new.scn_page } }
+        ensures engine { engine.new ≡ engine.old }
+        ensures quiet { Quiet (H.world host.old) (H.world host.new) }
+        ensures once { IsTrue H.tells → (H.world host.new).reads ≤ (H.world host.old).reads + 1 }
+        ensures cause { CountsFault result (H.faults host.old) (H.faults host.new) }
+    {
+        let page_size = self.file.head().page_size;
+        let (k, index) = covers(page_size, self.next);
+        if self.next == 1 || index == 0 {
+            engine.read_main(host, place_of(page_size, k), &mut self.scn_page)?;
+        }
+        Ok(index)
+    }
+
+    /// Reads the page that is dealt with, where it may have changed, and says whether it may. An SCN page was read for its entries.
+    fn fetch<H: Host>(&mut self, host: &mut H, engine: &mut Engine) -> Result<bool, HostFault>
+        requires size { self.old.file.head.page_size ≡ engine.old.files.page_size }
+        requires some { 1 ≤ self.old.next }
+        requires below { self.old.next < self.old.count }
+        ensures fetched { (t : Trail) → IsTrue H.tells → IsOpen (H.world host.old) engine.old t → engine.old.files.state ≡ 1 → IsLevelOf self.old t.base.frozen → HasEntriesOf self.old t.base.frozen
+            → Fetched result self.old self.new.page t.base.frozen }
+        ensures entries { (t : Trail) → IsTrue H.tells → IsOpen (H.world host.old) engine.old t → engine.old.files.state ≡ 1 → IsLevelOf self.old t.base.frozen → HasEntriesOf self.old t.base.frozen
+            → OnOk result (self.new.scn_page ≡ page_at t.base.frozen (scn_page_of t.base.frozen self.old.next)) }
+        ensures same { self.new ≡ record self.old { scn_page = self.new.scn_page; page = self.new.page } }
+        ensures engine { engine.new ≡ engine.old }
+        ensures quiet { Quiet (H.world host.old) (H.world host.new) }
+        ensures twice { IsTrue H.tells → (H.world host.new).reads ≤ (H.world host.old).reads + 2 }
+        ensures cause { CountsFault result (H.faults host.old) (H.faults host.new) }
+    {
+        let index = self.load(host, engine)?;
+        let head = *self.file.head();
+        if is_place(head.page_size, self.next) {
+            self.page.copy_from_slice(&self.scn_page);
+            return Ok(true);
+        }
+        if entry(&self.scn_page, index) <= head.previous_scn {
+            return Ok(false);
+        }
+        engine.read_main(host, self.next, &mut self.page)?;
+        Ok(true)
+    }
+
+    /// Reads page 0, makes the file with its head, and takes the page.
+    fn begin<H: Host>(&mut self, host: &mut H, engine: &mut Engine) -> Result<(), HostFault>
+        requires size { self.old.file.head.page_size ≡ engine.old.files.page_size }
+        requires next { self.old.next ≡ 0 }
+        requires some { 0 < self.old.count }
+        ensures left { (t : Trail) → IsTrue H.tells → IsOpen (H.world host.old) engine.old t → engine.old.files.state ≡ 1 → IsLevelOf self.old t.base.frozen → IsFresh self.old
+            → Changes (H.world host.old) (H.world host.new) (Only self.old.file.name) (Remade (H.world host.old) self.old.file.name IsUnfinished) }
+        ensures begun { (t : Trail) → IsTrue H.tells → IsOpen (H.world host.old) engine.old t → engine.old.files.state ≡ 1 → IsLevelOf self.old t.base.frozen → IsFresh self.old
+            → OnOk result (HasTaken (H.world host.new) self.new.file (taken_below 1 self.old t.base.frozen)) }
+        ensures same { OnOk result (self.new ≡ record self.old { file = record self.old.file { written = self.new.file.written; run = self.new.file.run }; next = 1; page = self.new.page }) }
+        ensures size { self.new.file.head.page_size ≡ self.old.file.head.page_size }
+        ensures engine { engine.new ≡ engine.old }
+        ensures gave { GaveNothing (H.world host.old) (H.world host.new) }
+        ensures once { IsTrue H.tells → (H.world host.new).reads ≤ (H.world host.old).reads + 1 }
+        ensures cause { CountsFault result (H.faults host.old) (H.faults host.new) }
+    {
+        engine.read_main(host, 0, &mut self.page)?;
+        self.file.make(host)?;
+        self.next = 1;
+        self.file.take(host, 0, &self.page)
+    }
+
+    /// Deals with a page behind page 0.
+    fn copy_page<H: Host>(&mut self, host: &mut H, engine: &mut Engine) -> Result<(), HostFault>
+        requires size { self.old.file.head.page_size ≡ engine.old.files.page_size }
+        requires some { 1 ≤ self.old.next }
+        requires below { self.old.next < self.old.count }
+        ensures left { (t : Trail) → IsTrue H.tells → IsOpen (H.world host.old) engine.old t → engine.old.files.state ≡ 1 → IsLevelOf self.old t.base.frozen → IsLevelBegun (H.world host.old) self.old t.base.frozen
+            → Changes (H.world host.old) (H.world host.new) (Only self.old.file.name) (Remade (H.world host.old) self.old.file.name IsUnfinished) }
+        ensures copied { (t : Trail) → IsTrue H.tells → IsOpen (H.world host.old) engine.old t → engine.old.files.state ≡ 1 → IsLevelOf self.old t.base.frozen → IsLevelBegun (H.world host.old) self.old t.base.frozen
+            → OnOk result (HasTaken (H.world host.new) self.new.file (taken_below (self.old.next + 1) self.old t.base.frozen)) }
+        ensures entries { (t : Trail) → IsTrue H.tells → IsOpen (H.world host.old) engine.old t → engine.old.files.state ≡ 1 → IsLevelOf self.old t.base.frozen → HasEntriesOf self.old t.base.frozen
+            → OnOk result (self.new.scn_page ≡ page_at t.base.frozen (scn_page_of t.base.frozen self.old.next)) }
+        ensures same { OnOk result (self.new ≡ record self.old { file = record self.old.file { written = self.new.file.written; run = self.new.file.run }; next = self.old.next + 1; scn_page = self.new.scn_page; page = self.new.page }) }
+        ensures size { self.new.file.head.page_size ≡ self.old.file.head.page_size }
+        ensures engine { engine.new ≡ engine.old }
+        ensures gave { GaveNothing (H.world host.old) (H.world host.new) }
+        ensures twice { IsTrue H.tells → (H.world host.new).reads ≤ (H.world host.old).reads + 2 }
+        ensures cause { CountsFault result (H.faults host.old) (H.faults host.new) }
+    {
+        let number = self.next;
+        let may_be_changed = self.fetch(host, engine)?;
+        self.next = number + 1;
+        if may_be_changed {
+            self.file.take(host, number, &self.page)?;
+        }
+        Ok(())
+    }
+
+    /// Deals with one page of the frozen image, and answers `More`; or, where all were dealt with before, makes the file whole, keeps
+    /// it for good, and answers `Finished`.
+    ///
+    /// The first turn makes the file: nothing touches it before. The engine is as it was. A turn that answers a fault leaves a file that
+    /// is unfinished or whole, or what stood there before; the copier isn't used again then.
+    pub fn turn<H: Host>(
+        &mut self,
+        host: &mut H,
+        engine: &mut Engine,
+    ) -> Result<Progress, HostFault>
+        requires size { self.old.file.head.page_size ≡ engine.old.files.page_size }
+        ensures left { (t : Trail) → IsTrue H.tells → IsOpen (H.world host.old) engine.old t → engine.old.files.state ≡ 1 → IsLevelCopying (H.world host.old) self.old t.base.frozen
+            → Changes (H.world host.old) (H.world host.new) (Only self.old.file.name) (Remade (H.world host.old) self.old.file.name (IsUnfinishedOr (whole_level self.old t.base.frozen))) }
+        ensures answer { (t : Trail) → IsTrue H.tells → IsOpen (H.world host.old) engine.old t → engine.old.files.state ≡ 1 → IsLevelCopying (H.world host.old) self.old t.base.frozen
+            → LevelTurn result (H.world host.new) self.old self.new t.base.frozen }
+        ensures counts { LevelCounts result self.old self.new }
+        ensures size { self.new.file.head.page_size ≡ self.old.file.head.page_size }
+        ensures engine { engine.new ≡ engine.old }
+        ensures gave { GaveNothing (H.world host.old) (H.world host.new) }
+        ensures twice { IsTrue H.tells → (H.world host.new).reads ≤ (H.world host.old).reads + 2 }
+        ensures cause { CountsFault result (H.faults host.old) (H.faults host.new) }
+    {
+        if self.next == self.count {
+            self.file.close(host)?;
+            return Ok(Progress::Finished);
+        }
+        if self.next == 0 {
+            self.begin(host, engine)?;
+        } else {
+            self.copy_page(host, engine)?;
+        }
+        Ok(Progress::More)
+    }
+}
