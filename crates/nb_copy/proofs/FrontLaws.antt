@@ -1,7 +1,7 @@
 -- The front of a copy grows page by page, and with page 0 it is the whole.
 use Rattle.std.proofs.Common.{◌≡◌, ℕ, zero, suc, ◌+◌, ◌*◌, ◌<◌, ◌≤◌, List, [], ◌∷◌, ◌++◌, length, take, drop, replicate, refl, sym, ap, ◌∙◌, arith}
 use Rattle.std.specs.Prelude.{Some}
-use Rattle.std.proofs.lemmas.List.{take_all, take-append-le, length-take-le, length-replicate}
+use Rattle.std.proofs.lemmas.List.{take_all, drop_all, take-append-le, length-take-le, length-replicate}
 use Rattle.nb_fields.specs.Bytes.{is_zeros}
 use Rattle.nb_host.specs.Files.{put_at}
 use Rattle.nb_model.specs.Image.{Page, Image, page_at, first_page}

@@ -62,7 +62,7 @@ pub record BackupTurn (result : Result Progress Fault) (old new : World) (before
 
 -- whether a page was left, and that the next one follows
 abbrev pub BackupCounts : Result Progress Fault → (copier later : Backed) → Type 0
-BackupCounts (Ok More) copier later = (file_next copier.file < file_count copier.file) × (file_next later.file ≡ file_next copier.file + 1)
+BackupCounts (Ok More) copier later = (file_next copier.file < file_count copier.file) × (file_next later.file ≡ file_next copier.file + 1) × (file_count later.file ≡ file_count copier.file)
 BackupCounts (Ok Finished) copier later = (file_next copier.file ≡ file_count copier.file) × (file_next later.file ≡ file_next copier.file)
 BackupCounts (Err fault) copier later = Unit {0}
 

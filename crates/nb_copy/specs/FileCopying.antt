@@ -68,6 +68,6 @@ pub record IsSameFile (before after : FileCopy) (frozen : Image) : Type 0 where
 
 -- whether a page was left, and that the next one follows
 abbrev pub FileCounts : Result Progress HostFault → (before after : FileCopy) → Type 0
-FileCounts (Ok More) before after = (file_next before < file_count before) × (file_next after ≡ file_next before + 1)
+FileCounts (Ok More) before after = (file_next before < file_count before) × (file_next after ≡ file_next before + 1) × (file_count after ≡ file_count before)
 FileCounts (Ok Finished) before after = (file_next before ≡ file_count before) × (file_next after ≡ file_next before) × (file_written after ≡ file_written before)
 FileCounts (Err fault) before after = Unit {0}

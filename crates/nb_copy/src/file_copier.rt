@@ -1,5 +1,5 @@
 // A copy of the frozen file of a stalled database, which no history names.
-ghost use Rattle.std.specs.Prelude.{◌≡◌, ◌+◌, ◌≤◌, IsTrue, IfOk, OnOk, None, Some};
+ghost use Rattle.std.specs.Prelude.{◌≡◌, ◌+◌, ◌-◌, ◌≤◌, IsTrue, IfOk, OnOk, None, Some};
 ghost use Rattle.nb_host.specs.Causes.{CountsFault};
 ghost use Rattle.nb_change.specs.Counts.{CountsDevice};
 ghost use Rattle.nb_change.specs.Gave.{GaveNothing};
@@ -88,6 +88,13 @@ impl FileCopier {
         pages.start(engine.main_count());
         engine.set_running(Some(session));
         Ok(FileCopier { pages })
+    }
+
+    /// How many pages of the frozen image are left to deal with.
+    pub fn left(&self) -> u32
+        ensures { result ≡ self.now.count - self.now.next }
+    {
+        self.pages.left()
     }
 
     /// How many pages of the frozen image were dealt with.

@@ -1,5 +1,5 @@
 // The file of a backup of any level, while it is made.
-ghost use Rattle.std.specs.Prelude.{◌≡◌, ◌+◌, ◌≤◌, IsTrue, IfOk, OnOk};
+ghost use Rattle.std.specs.Prelude.{◌≡◌, ◌+◌, ◌-◌, ◌≤◌, IsTrue, IfOk, OnOk};
 ghost use Rattle.nb_fields.specs.Places.{is_page_size};
 ghost use Rattle.nb_host.specs.Causes.{CountsFault};
 ghost use Rattle.nb_change.specs.Changes.{Changes, Only, Remade};
@@ -7,7 +7,7 @@ ghost use Rattle.nb_change.specs.Gave.{GaveNothing};
 ghost use Rattle.nb_model.specs.Image.{Image};
 ghost use Rattle.nb_model.specs.Trail.{Trail};
 ghost use Rattle.nb_state.specs.Open.{IsOpen};
-ghost use Rattle.nb_copy.specs.FileCopying.{file_name, file_page_size, file_next, file_written, whole_file, IsFileCopying, IsSameFile, FileTurn, FileCounts};
+ghost use Rattle.nb_copy.specs.FileCopying.{file_name, file_page_size, file_count, file_next, file_written, whole_file, IsFileCopying, IsSameFile, FileTurn, FileCounts};
 ghost use Rattle.nb_copy.specs.FileStarting.{IsNewFile, IsStartedFile};
 ghost use Rattle.nb_copy.specs.Making.{IsUnfinishedOr};
 
@@ -50,6 +50,16 @@ impl FileCopy {
         match self {
             FileCopy::Pages(copy) => copy.start(count),
             FileCopy::Level(copy) => copy.start(&head.guid, head.scn, count),
+        }
+    }
+
+    /// How many pages of the frozen image are left to deal with.
+    pub(crate) fn left(&self) -> u32
+        ensures { result ≡ file_count self.now - file_next self.now }
+    {
+        match self {
+            FileCopy::Pages(copy) => copy.left(),
+            FileCopy::Level(copy) => copy.left(),
         }
     }
 

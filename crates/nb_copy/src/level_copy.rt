@@ -1,4 +1,4 @@
-ghost use Rattle.std.specs.Prelude.{◌≡◌, ◌+◌, ◌%◌, ◌<◌, ◌≤◌, IsTrue, IfOk, OnOk, length};
+ghost use Rattle.std.specs.Prelude.{◌≡◌, ◌+◌, ◌-◌, ◌%◌, ◌<◌, ◌≤◌, IsTrue, IfOk, OnOk, length};
 ghost use Rattle.nb_fields.specs.Places.{is_page_size, entries_in};
 ghost use Rattle.nb_host.specs.Causes.{CountsFault};
 ghost use Rattle.nb_change.specs.Changes.{Changes, Only, Remade};
@@ -80,6 +80,13 @@ impl LevelCopy {
     {
         self.file.start(guid, scn);
         self.count = count;
+    }
+
+    /// How many pages of the frozen image are left to deal with.
+    pub fn left(&self) -> u32
+        ensures { result ≡ self.now.count - self.now.next }
+    {
+        self.count - self.next
     }
 
     /// How many pages were taken.

@@ -1,4 +1,4 @@
-ghost use Rattle.std.specs.Prelude.{◌≡◌, ◌+◌, ◌<◌, ◌≤◌, IsTrue, IfOk, OnOk, length, Some};
+ghost use Rattle.std.specs.Prelude.{◌≡◌, ◌+◌, ◌-◌, ◌<◌, ◌≤◌, IsTrue, IfOk, OnOk, length, Some};
 ghost use Rattle.nb_fields.specs.Places.{is_page_size};
 ghost use Rattle.nb_host.specs.Causes.{CountsFault};
 ghost use Rattle.nb_change.specs.Changes.{Changes, Only, Remade};
@@ -77,6 +77,13 @@ impl PageCopy {
         ensures { result ≡ self.now.next }
     {
         self.next
+    }
+
+    /// How many pages of the frozen image are left to deal with.
+    pub fn left(&self) -> u32
+        ensures { result ≡ self.now.count - self.now.next }
+    {
+        self.count - self.next
     }
 
     /// Takes page 0, and makes the file.

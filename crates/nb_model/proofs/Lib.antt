@@ -57,12 +57,9 @@ pub mod ControlLaws
 pub mod ControlSound
 pub mod ControlMay
 pub mod ControlWell
-pub mod FinishLaws
 pub mod RecordLaws
 pub mod SteadyLaws
 pub mod SteadyTurns
 pub mod GrownLaws
-pub mod SoundTurns
-pub mod AccountLaws
 pub mod GuidLaws
 pub mod UnseenLaws

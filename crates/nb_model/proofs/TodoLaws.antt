@@ -503,22 +503,6 @@ pub end_never_usage : (s : Seen) (session : ℕ) → (first_turn s session EndBa
 unfolding first_turn end_turn ends_by
 end_never_usage s session = guarded_other s _ _ (other_first _ (other_when _ _ (λ e. cc), (other_runs s.running session, tt))) (λ e. cc)
 
-pub built_never_usage : (statement : Statement) → IsTrue (is_built statement) → (s : Seen) (session : ℕ) → (first_turn s session statement).reply ≢ Some (Refused Usage)
-unfolding first_turn header_turn
-built_never_usage (CreateDb name size raw cache) h = λ s session e. cc
-built_never_usage (OpenDb name cache) h = λ s session e. cc
-built_never_usage PageNew h = λ s session. new_never_usage s session
-built_never_usage (Free p) h = λ s session. free_never_usage s session p
-built_never_usage (Write p text) h = λ s session. write_never_usage s session p text
-built_never_usage (Read p) h = λ s session. read_never_usage s session p
-built_never_usage BeginBackup h = λ s session. begin_never_usage s session
-built_never_usage EndBackup h = λ s session. end_never_usage s session
-built_never_usage (Forced on) h = λ s session. forced_never_usage s session on
-built_never_usage (SetAccess closed) h = λ s session. access_never_usage s session closed
-built_never_usage Sync h = λ s session e. cc
-built_never_usage ShowHeader h = λ s session e. cc
-built_never_usage other h = absurd (true≢false (sym h))
-
 -- the reply is a refusal
 abbrev pub is_refusal : Reply → Bool
 is_refusal reply = elim reply [ Refused refusal ↦ true | _ ↦ false ]
