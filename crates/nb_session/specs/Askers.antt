@@ -2,45 +2,87 @@
 use Rattle.std.specs.Prelude.{◌≡◌, ◌≢◌, ℕ, zero, suc, ◌+◌, ◌-◌, Bool, false, List, [], ◌∷◌, ◌++◌, length, map, replicate, Option, Some, None}
 use Rattle.std.specs.List.{AllByRecursion, list_any, slice_index_or}
 use Rattle.nb_model.specs.declared.statement.Statement.{Statement}
-use Rattle.nb_model.specs.declared.reply.Reply.TheVariants.{Scn}
-use Rattle.nb_model.specs.Outcomes.{Turn, Begins, Merges, Finishes}
+use Rattle.nb_model.specs.declared.statement.Statement.TheVariants.{EndBackup, Backup as BackupTo, CopyTo}
+use Rattle.nb_model.specs.Outcomes.{Turn, Begins, Copies, ClosesBackup, ClosesCopy, Ends, Merges, Finishes}
 use Rattle.nb_model.specs.Run.{Now, all_sessions}
+use Rattle.nb_copy.specs.FileCopying.{file_count, file_next}
 use Rattle.nb_script.specs.Asked.{IsFurther}
 use Rattle.nb_script.specs.Scripts.{Plan, statements_of}
 use Rattle.nb_state.specs.Open.{Held}
-use Rattle.nb_session.specs.declared.merges.Merging.{Merging}
+use Rattle.nb_session.specs.declared.task.Task.{Task}
+use Rattle.nb_session.specs.declared.task.Task.TheVariants.{Backup, Copy, End, Merge}
+
+-- the statement is done in one turn
+abbrev pub IsOneTurn : Statement → Type 0
+IsOneTurn EndBackup = ⊥
+IsOneTurn (BackupTo level name) = ⊥
+IsOneTurn (CopyTo name) = ⊥
+IsOneTurn other = Unit {0}
 
 -- What a contract sees of a session.
 pub record Asker : Type 0 where
   pub number : ℕ
   -- the statements that it has not begun
   pub statements : List Statement
-  -- its merge that is under way
-  pub merge : Option Merging
+  -- its statement of many turns that is under way
+  pub task : Option Task
   -- whether a statement of it was refused
   pub refused : Bool
 
--- the turns of a merge that is under way
-abbrev pub merge_todo : Option Merging → List Turn
-merge_todo None = []
-merge_todo (Some merge) = replicate merge.left Merges ++ Finishes (Scn merge.scn) ∷ []
+-- so many turns, and then a last one: the first of them, and those behind it
+abbrev pub copy_first : (left : ℕ) → (last : Turn) → Turn
+copy_first zero last = last
+copy_first (suc left) last = Copies
+
+abbrev pub copy_rest : (left : ℕ) → (last : Turn) → List Turn
+copy_rest zero last = []
+copy_rest (suc left) last = replicate left Copies ++ last ∷ []
+
+abbrev pub merge_first : (left : ℕ) → (last : Turn) → Turn
+merge_first zero last = last
+merge_first (suc left) last = Merges
+
+abbrev pub merge_rest : (left : ℕ) → (last : Turn) → List Turn
+merge_rest zero last = []
+merge_rest (suc left) last = replicate left Merges ++ last ∷ []
+
+-- the next turn of a statement that is under way, and those behind it
+abbrev pub task_first : Task → Turn
+task_first (Backup c) = copy_first (file_count c.file - file_next c.file) (ClosesBackup c.backing)
+task_first (Copy c) = copy_first (c.count - c.next) (ClosesCopy c.name)
+task_first (End reply) = Ends reply
+task_first (Merge m) = merge_first m.left (Finishes m.reply)
+
+abbrev pub task_rest : Task → List Turn
+task_rest (Backup c) = copy_rest (file_count c.file - file_next c.file) (ClosesBackup c.backing)
+task_rest (Copy c) = copy_rest (c.count - c.next) (ClosesCopy c.name)
+task_rest (End reply) = []
+task_rest (Merge m) = merge_rest m.left (Finishes m.reply)
+
+-- all of them, if one is under way
+abbrev pub task_todo : Option Task → List Turn
+task_todo None = []
+task_todo (Some task) = task_first task ∷ task_rest task
 
 -- what the session has still to do
 abbrev pub todo_of : Asker → List Turn
-todo_of asker = merge_todo asker.merge ++ map Begins asker.statements
+todo_of asker = task_todo asker.task ++ map Begins asker.statements
 
 -- it is what stands for it between two turns
 abbrev pub HasTodo : Asker → Now → Type 0
 HasTodo asker now = slice_index_or now.todo (asker.number - 1) [] ≡ todo_of asker
 
--- how many turns of a merge are left
-abbrev pub merge_left : Option Merging → ℕ
-merge_left None = 0
-merge_left (Some merge) = merge.left + 1
+-- How much is left of a statement that is under way. Each turn of it lowers this: a copy comes before an end, and an end before a merge.
+abbrev pub task_left : Option Task → ℕ
+task_left None = 0
+task_left (Some (Backup c)) = 17179869184 + (file_count c.file - file_next c.file)
+task_left (Some (Copy c)) = 17179869184 + (c.count - c.next)
+task_left (Some (End reply)) = 8589934592
+task_left (Some (Merge m)) = m.left + 1
 
--- its statements that are left, and then the turns of its merge
+-- its statements that are left, and then that
 abbrev pub left_of : Asker → ℕ × ℕ
-left_of asker = (length asker.statements, merge_left asker.merge)
+left_of asker = (length asker.statements, task_left asker.task)
 
 -- A merge of this session is under way, and so many entries are not merged yet.
 pub record IsMerging (session left : ℕ) (held : Held) : Type 0 where
@@ -48,41 +90,27 @@ pub record IsMerging (session left : ℕ) (held : Held) : Type 0 where
   pub running : held.running ≡ Some session
   pub rest : length held.files.entries ≡ held.merged + left
 
--- the merge of this session, if one is under way, is as the session left it
-abbrev pub MergeFits : (session : ℕ) → Option Merging → Held → Type 0
-MergeFits session None held = Unit {0}
-MergeFits session (Some merge) held = IsMerging session merge.left held
+-- What a statement that is under way needs of the database: a copy has room for its pages, and a merge is as the session left it.
+abbrev pub TaskFits : (session : ℕ) → Option Task → Held → Type 0
+TaskFits session None held = Unit {0}
+TaskFits session (Some (Backup c)) held = c.page_size ≡ held.files.page_size
+TaskFits session (Some (Copy c)) held = c.size ≡ held.files.page_size
+TaskFits session (Some (End reply)) held = Unit {0}
+TaskFits session (Some (Merge m)) held = IsMerging session m.left held
 
--- What a session needs: its statements can be asked, and its merge is as it left it.
+-- What a session needs: its statements can be asked, and what is under way of it fits.
 pub record IsFit (asker : Asker) (held : Held) : Type 0 where
   pub asks : AllByRecursion IsFurther asker.statements
-  pub merge : MergeFits asker.number asker.merge held
+  pub task : TaskFits asker.number asker.task held
 
--- a merge of another session that is under way stays as it is
-abbrev pub KeepsOthers : (session : ℕ) → (before after : Held) → Type 0
-KeepsOthers session before after = (other left : ℕ) → other ≢ session → IsMerging other left before → IsMerging other left after
-
--- so each other session has what it needs
-pub keeps_fit : (session : ℕ) (other : Asker) (before after : Held) → other.number ≢ session → KeepsOthers session before after → IsFit other before → IsFit other after
-keeps_fit session other before after apart keeps fit = record { asks = fit.asks; merge = by other.merge fit.merge }
-  where
-    by : (merge : Option Merging) → MergeFits other.number merge before → MergeFits other.number merge after
-    by None is = tt
-    by (Some merge) is = keeps other.number merge.left apart is
-
--- the first turn of a merge of which so many entries are left
-abbrev pub first_merging : (left scn : ℕ) → Turn
-first_merging zero scn = Finishes (Scn scn)
-first_merging (suc left) scn = Merges
-
--- and what is left behind it
-abbrev pub IsBehind : (left scn : ℕ) → Option Merging → Type 0
-IsBehind zero scn merge = merge ≡ None
-IsBehind (suc left) scn merge = merge ≡ Some (record { left = left; scn = scn })
+-- The page size stays, and a merge of another session that is under way stays as it is.
+pub record KeepsOthers (session : ℕ) (before after : Held) : Type 0 where
+  pub page_size : after.files.page_size ≡ before.files.page_size
+  pub merging : (other left : ℕ) → other ≢ session → IsMerging other left before → IsMerging other left after
 
 -- a session that has all of its statements to do
 abbrev pub fresh_asker : Plan → (session : ℕ) → Asker
-fresh_asker plan session = record { number = session; statements = statements_of plan session; merge = None; refused = false }
+fresh_asker plan session = record { number = session; statements = statements_of plan session; task = None; refused = false }
 
 -- the sessions of a script before their first turns
 abbrev pub first_askers : Plan → List Asker

@@ -1,28 +1,38 @@
 -- What is open is the database as it stands between two turns.
-use Rattle.std.specs.Prelude.{◌≡◌, ◌⊎◌}
-use Rattle.std.specs.List.{AllByRecursion}
+use Rattle.std.specs.Prelude.{◌≡◌, ◌≢◌, ℕ, List, Option, Some, None, false}
+use Rattle.nb_host.specs.Names.{is_delta}
 use Rattle.nb_host.specs.World.{World}
-use Rattle.nb_model.specs.declared.statement.Statement.TheVariants.{PageNew, EndBackup}
-use Rattle.nb_model.specs.Outcomes.{Turn, Begins, Merges, Finishes}
+use Rattle.nb_page.specs.Free.{is_free_name}
+use Rattle.nb_model.specs.Account.{IsBase}
+use Rattle.nb_model.specs.Causes.{is_free_entry}
+use Rattle.nb_model.specs.Image.{Image}
+use Rattle.nb_model.specs.Making.{IsNoneOf, under_way}
 use Rattle.nb_model.specs.Run.{Now, base_now}
-use Rattle.nb_model.specs.Sound.{IsSoundImage}
 use Rattle.nb_model.specs.Trail.{Trail}
+use Rattle.nb_copy.specs.Copying.{IsCopying}
+use Rattle.nb_copy.specs.Starting.{IsBackingUp}
 use Rattle.nb_state.specs.Open.{Held, IsOpen, name_of}
+use Rattle.nb_session.specs.declared.task.Task.{Task}
+use Rattle.nb_session.specs.declared.task.Task.TheVariants.{Backup, Copy, End, Merge}
 
+-- The database is open under its name. Of each other name, but those of files in the making, the account knows whether it is free.
 pub record IsReady (w : World) (held : Held) (t : Trail) (now : Now) : Type 0 where
   pub opened : IsOpen w held t
   pub base : t.base ≡ base_now now
+  pub there : now.account.entry now.name ≡ IsBase (base_now now)
   pub named : name_of held ≡ now.name
   pub running : held.running ≡ now.running
+  pub known : (m : List ℕ) → is_delta m ≡ false → IsNoneOf (under_way now) m → is_free_name w.files m ≡ is_free_entry (now.account.entry m)
 
--- the turn is done on any image: only a new page and a merge need one whose inventories agree with its pages
-abbrev pub TakesAnyImage : Turn → Type 0
-TakesAnyImage (Begins PageNew) = ⊥
-TakesAnyImage (Begins EndBackup) = ⊥
-TakesAnyImage Merges = ⊥
-TakesAnyImage (Finishes reply) = ⊥
-TakesAnyImage other = Unit {0}
+-- the name isn't that of the database, nor that of a difference file
+pub record IsApart (held : Held) (name : List ℕ) : Type 0 where
+  pub plain : is_delta name ≡ false
+  pub other : name ≢ name_of held
 
--- The inventories of the database agree with its pages, or no turn that is left needs it.
-abbrev pub IsCalm : Now → Type 0
-IsCalm now = IsSoundImage (base_now now).image ⊎ AllByRecursion (AllByRecursion TakesAnyImage) now.todo
+-- a copy that is under way goes on from where it is, into a file of its own
+abbrev pub TaskGoes : World → Held → (frozen : Image) → Option Task → Type 0
+TaskGoes w held frozen None = Unit {0}
+TaskGoes w held frozen (Some (Backup c)) = IsBackingUp w c frozen × IsApart held c.backing.name
+TaskGoes w held frozen (Some (Copy c)) = IsCopying w c frozen × IsApart held c.name
+TaskGoes w held frozen (Some (End reply)) = Unit {0}
+TaskGoes w held frozen (Some (Merge m)) = Unit {0}

@@ -1,20 +1,24 @@
 -- What one turn of a session does.
-use Rattle.std.specs.Prelude.{◌≡◌, ℕ, List, ◌∷◌, ◌||◌, Bool, IsTrue, Result, Ok, Err, OnOk, IfErr}
+use Rattle.std.specs.Prelude.{◌≡◌, ℕ, List, ◌∷◌, ◌++◌, ◌||◌, Bool, IsTrue, Option, Result, Ok, Err, OnOk, IfOk, IfErr}
 use Rattle.nb_host.specs.World.{World}
 use Rattle.nb_host.specs.declared.faults.Fault.{Fault}
 use Rattle.nb_host.specs.declared.faults.Fault.TheVariants.{Refused, Device, Memory}
 use Rattle.nb_change.specs.Counts.{CountsDevice}
 use Rattle.nb_model.specs.Gifts.{Foretells}
+use Rattle.nb_model.specs.Going.{IsGoing}
+use Rattle.nb_model.specs.Making.{making, making_by}
 use Rattle.nb_model.specs.Outcomes.{Turn}
-use Rattle.nb_model.specs.Run.{Now, take_turn, one_turn}
+use Rattle.nb_model.specs.Run.{Now, base_now, outcome, take_turn, one_turn}
+use Rattle.nb_model.specs.Strokes.{base_after}
 use Rattle.nb_model.specs.Trail.{Trail}
 use Rattle.nb_base.specs.Takes.{IsNoRefusal}
 use Rattle.nb_state.specs.Open.{Held}
 use Rattle.nb_session.specs.declared.stop.Stop.{Stop}
 use Rattle.nb_session.specs.declared.stop.Stop.TheVariants.{Device as DeviceStop, Memory as MemoryStop}
 use Rattle.nb_session.specs.Acts.{Grows}
-use Rattle.nb_session.specs.Askers.{Asker, HasTodo, KeepsOthers}
-use Rattle.nb_session.specs.Ready.{IsReady, IsCalm}
+use Rattle.nb_session.specs.declared.task.Task.{Task}
+use Rattle.nb_session.specs.Askers.{Asker, HasTodo, KeepsOthers, task_todo}
+use Rattle.nb_session.specs.Ready.{IsReady, TaskGoes}
 use Rattle.nb_session.specs.Stops.{Plays}
 
 -- an answer as that of turns: whether a statement was refused, or why they ended early
@@ -24,24 +28,33 @@ as_played refused (Err (Refused refusal)) = Err MemoryStop
 as_played refused (Err Device) = Err DeviceStop
 as_played refused (Err Memory) = Err MemoryStop
 
--- A turn was taken, and its line said, where the outside gave what it may give; `rest` is what its session has to do behind it.
-pub record Turns {T : Type 0} (refused : T → Bool) (result : Result T Fault) (old new : World) (before after : Held) (t : Trail) (now : Now) (session : ℕ) (turn : Turn) : Type 0 where
-  pub grows : Grows old new
-  pub plays : (rest : List Turn) → Foretells now.given old new → Plays (as_played refused result) old new before after t now (take_turn session (turn ∷ rest) now)
+-- What a turn leaves of its statement, where `tail` stood behind it: what is under way then, and that it goes on from where it is.
+pub record IsBehind (w : World) (held : Held) (session : ℕ) (turn : Turn) (tail : List Turn) (now : Now) (task : Option Task) : Type 0 where
+  pub next : (outcome session turn now).next ++ tail ≡ task_todo task
+  pub goes : TaskGoes w held (base_after (base_now now) (outcome session turn now).strokes).frozen task
 
--- The next turn of a session was taken, and what it has to do then is left. No turn that is left needs what the image doesn't have.
+-- A turn was taken, and its line said, where the outside gave what it may give. `tail` is what its statement has to do behind it, and `rest`
+-- all that its session has.
+pub record Turns {T : Type 0} (refused : T → Bool) (task : T → Option Task) (result : Result T Fault) (old new : World) (before after : Held) (t : Trail) (now : Now) (session : ℕ) (turn : Turn) (tail : List Turn) : Type 0 where
+  pub grows : Grows old new
+  pub plays : (rest : List Turn) → Foretells now.given old new
+      → Plays (as_played refused result) old new before after t now (take_turn session (turn ∷ rest) now) (making (base_now now).frozen (turn ∷ tail))
+  pub behind : Foretells now.given old new → IfOk result (λ value. IsBehind new after session turn tail now (task value))
+
+-- The next turn of a session was taken, what it has to do then is left, and what is under way of it goes on.
 pub record TakesNext (refused : Bool) (result : Result (Unit {0}) Fault) (old new : World) (before after : Held) (t : Trail) (now : Now) (asker moved : Asker) : Type 0 where
   pub grows : Grows old new
-  pub plays : Foretells now.given old new → Plays (as_played (λ done. refused) result) old new before after t now (one_turn asker.number now)
-  pub todo : OnOk result (HasTodo moved (one_turn asker.number now).1)
-  pub calm : Foretells now.given old new → OnOk result (IsCalm (one_turn asker.number now).1)
+  pub plays : Foretells now.given old new → Plays (as_played (λ done. refused) result) old new before after t now (one_turn asker.number now) (making_by asker.number now)
+  pub todo : Foretells now.given old new → OnOk result (HasTodo moved (one_turn asker.number now).1)
+  pub goes : Foretells now.given old new → OnOk result (TaskGoes new after (base_now (one_turn asker.number now).1).frozen moved.task)
 
 -- One turn of a session on a database that is open. Whatever the host tells, other sessions have what they need, and the count of faults
 -- is as the answer says.
 pub record Steps (tells : Bool) (result : Result (Unit {0}) Fault) (old new : World) (faults faults' : ℕ) (before after : Held) (asker moved : Asker) : Type 0 where
   pub refused : Bool
   pub noted : OnOk result (moved.refused ≡ (asker.refused || refused))
-  pub takes : (now : Now) (t : Trail) → IsTrue tells → IsReady old before t now → IsCalm now → HasTodo asker now → TakesNext refused result old new before after t now asker moved
+  pub takes : (now : Now) (t : Trail) → IsTrue tells → IsReady old before t now → IsGoing now → HasTodo asker now → TaskGoes old before t.base.frozen asker.task
+      → TakesNext refused result old new before after t now asker moved
   pub others : KeepsOthers asker.number before after
   pub cause : CountsDevice result faults faults'
   pub not_refused : IfErr result IsNoRefusal

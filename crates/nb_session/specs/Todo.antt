@@ -1,6 +1,6 @@
 -- What sessions have still to do.
 use Rattle.std.specs.Prelude.{ℕ, List, ◌++◌, Bool, Result}
-use Rattle.nb_model.specs.Run.{Now, play, rounds, AreFinished}
+use Rattle.nb_model.specs.Run.{Now, play, rounds, files_made, AreFinished}
 use Rattle.nb_model.specs.Trail.{Trail}
 use Rattle.nb_host.specs.World.{World}
 use Rattle.nb_state.specs.Open.{Held}
@@ -8,8 +8,8 @@ use Rattle.nb_session.specs.declared.stop.Stop.{Stop}
 use Rattle.nb_session.specs.Stops.{Plays}
 
 -- The turns of a schedule were taken, and then rounds until every session had finished, or some of these until a call of the host failed
--- or memory ran out.
+-- or memory ran out. All files that they make are among these.
 pub record PlaysWhole (result : Result Bool Stop) (old new : World) (before after : Held) (t : Trail) (now : Now) (schedule : List ℕ) : Type 0 where
   pub how_often : ℕ
-  pub plays : Plays result old new before after t now (play (schedule ++ rounds how_often) now)
+  pub plays : Plays result old new before after t now (play (schedule ++ rounds how_often) now) (files_made (play (schedule ++ rounds how_often) now).0)
   pub finished : AreFinished (play (schedule ++ rounds how_often) now).1.todo

@@ -1,16 +1,15 @@
 // A statement and the line of its reply.
-ghost use Rattle.std.specs.Prelude.{◌≡◌, ◌≢◌, ℕ, IsTrue, IfErr};
+ghost use Rattle.std.specs.Prelude.{◌≡◌, ℕ, [], None, IsTrue, IfErr};
 ghost use Rattle.nb_change.specs.Counts.{CountsDevice};
 ghost use Rattle.nb_change.specs.Gave.{GaveNothing};
-ghost use Rattle.nb_model.specs.declared.statement.Statement.TheVariants.{PageNew, EndBackup};
+ghost use Rattle.nb_model.specs.Going.{IsGoing};
 ghost use Rattle.nb_model.specs.Lines.{line_text};
 ghost use Rattle.nb_model.specs.Outcomes.{Begins};
 ghost use Rattle.nb_model.specs.Run.{Now};
-ghost use Rattle.nb_model.specs.Sound.{IsSoundImage};
 ghost use Rattle.nb_model.specs.Trail.{Trail};
 ghost use Rattle.nb_base.specs.Takes.{IsNoRefusal};
 ghost use Rattle.nb_script.specs.Asked.{IsFurther};
-ghost use Rattle.nb_session.specs.Askers.{KeepsOthers};
+ghost use Rattle.nb_session.specs.Askers.{IsOneTurn, KeepsOthers};
 ghost use Rattle.nb_session.specs.Ready.{IsReady};
 ghost use Rattle.nb_session.specs.Replies.{is_refusal};
 ghost use Rattle.nb_session.specs.Says.{SaysLine};
@@ -56,9 +55,9 @@ pub fn answer<H: Host>(
     statement: &Statement,
 ) -> Result<bool, Fault>
     requires asked { IsFurther statement.now }
-    requires single { statement.now ≢ EndBackup }
-    ensures turn { (now : Now) (t : Trail) → IsTrue H.tells → IsReady (H.world host.old) engine.old t now → (statement.now ≡ PageNew → IsSoundImage t.base.image)
-        → Turns (λ refused. refused) result (H.world host.old) (H.world host.new) engine.old engine.new t now session (Begins statement.now) }
+    requires single { IsOneTurn statement.now }
+    ensures turn { (now : Now) (t : Trail) → IsTrue H.tells → IsReady (H.world host.old) engine.old t now → IsGoing now
+        → Turns (λ refused. refused) (λ refused. None) result (H.world host.old) (H.world host.new) engine.old engine.new t now session (Begins statement.now) [] }
     ensures others { (number : ℕ) → KeepsOthers number engine.old engine.new }
     ensures cause { CountsDevice result (H.faults host.old) (H.faults host.new) }
     ensures not_refused { IfErr result IsNoRefusal }

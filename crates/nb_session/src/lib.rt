@@ -6,11 +6,13 @@
 #![tactic(auto)]
 
 mod answer;
+mod copies;
 mod merges;
 mod session;
 mod sessions;
 mod statement;
 mod stop;
+mod task;
 
 pub use answer::say;
 pub use sessions::take_turns;

@@ -1,37 +1,50 @@
 // The end of a backup, which takes many turns: one that ends the stalled state, one for each page that is merged, and a last one.
-ghost use Rattle.std.specs.Prelude.{◌≡◌, ℕ, None, IsTrue, IfOk, IfErr, OnOk, false};
+ghost use Rattle.std.specs.Prelude.{◌≡◌, ◌<◌, ℕ, [], ◌++◌, None, Some, IsTrue, IfOk, IfErr};
+ghost use Rattle.std.specs.List.{slice_index_or};
 ghost use Rattle.nb_change.specs.Counts.{CountsDevice};
+ghost use Rattle.nb_model.specs.declared.reply.Reply.TheVariants.{Refused as RefusedReply};
 ghost use Rattle.nb_model.specs.declared.statement.Statement.TheVariants.{EndBackup};
-ghost use Rattle.nb_model.specs.Outcomes.{Begins};
-ghost use Rattle.nb_model.specs.Run.{Now, outcome};
-ghost use Rattle.nb_model.specs.Sound.{HasNoZeros};
+ghost use Rattle.nb_model.specs.Going.{IsGoing};
+ghost use Rattle.nb_model.specs.Outcomes.{Begins, Turn};
+ghost use Rattle.nb_model.specs.Run.{Now};
 ghost use Rattle.nb_model.specs.Trail.{Trail};
 ghost use Rattle.nb_base.specs.Takes.{IsNoRefusal};
-ghost use Rattle.nb_session.specs.Askers.{IsMerging, MergeFits, KeepsOthers, merge_todo, first_merging, IsBehind};
+ghost use Rattle.nb_session.specs.Askers.{IsMerging, KeepsOthers, TaskFits, task_first, task_rest, task_left};
+ghost use Rattle.nb_session.specs.declared.task.Task.TheVariants.{End, Merge};
 ghost use Rattle.nb_session.specs.Ready.{IsReady};
 ghost use Rattle.nb_session.specs.Steps.{Turns};
 
 use crate::answer::say;
+use crate::task::{Merging, Taken, Task};
 use nb_engine::Engine;
-use nb_host::{Fault, Host};
+use nb_host::{Fault, Host, Refusal};
 use nb_model::Reply;
 use nb_state::Progress;
 use std::alloc::Global;
 
-/// A merge that is under way.
-#[derive(Clone, Copy, Debug, PartialEq, Eq)]
-pub struct Merging {
-    /// How many pages have still to be merged.
-    pub left: u32,
-    /// The SCN that is said once all are merged.
-    pub scn: u32,
+/// A merge of all that the difference file holds. This is said once all is merged.
+fn merge_of(engine: &Engine, reply: Reply) -> Taken {
+    Taken {
+        task: Some(Task::Merge(Merging {
+            left: engine.store().delta_count(),
+            reply,
+        })),
+        refused: false,
+    }
 }
 
-/// What a turn left: the merge of its session that is under way, and whether its statement was refused.
-#[derive(Clone, Copy, Debug, PartialEq, Eq)]
-pub struct Taken {
-    pub merge: Option<Merging>,
-    pub refused: bool,
+/// Says a refusal, with which a statement is done.
+pub fn say_refused<H: Host>(
+    alloc: Global,
+    host: &mut H,
+    session: u32,
+    refusal: Refusal,
+) -> Result<Taken, Fault> {
+    say(alloc, host, session, &Reply::Refused { refusal })?;
+    Ok(Taken {
+        task: None,
+        refused: true,
+    })
 }
 
 /// The first turn of `alter database end backup`. Where it is refused the refusal is said, and it is done.
@@ -41,30 +54,41 @@ pub fn begin_merge<H: Host>(
     engine: &mut Engine,
     session: u32,
 ) -> Result<Taken, Fault>
-    ensures turn { (now : Now) (t : Trail) → IsTrue H.tells → IsReady (H.world host.old) engine.old t now
-        → Turns (λ taken. taken.refused) result (H.world host.old) (H.world host.new) engine.old engine.new t now session (Begins EndBackup) }
-    ensures next { (now : Now) (t : Trail) → IsTrue H.tells → IsReady (H.world host.old) engine.old t now
-        → IfOk result (λ taken. (outcome session (Begins EndBackup) now).next ≡ merge_todo taken.merge) }
-    ensures merge { IfOk result (λ taken. MergeFits session taken.merge engine.new) }
+    ensures turn { (now : Now) (t : Trail) → IsTrue H.tells → IsReady (H.world host.old) engine.old t now → IsGoing now
+        → Turns (λ taken. taken.refused) (λ taken. taken.task) result (H.world host.old) (H.world host.new) engine.old engine.new t now session (Begins EndBackup) [] }
+    ensures fits { IfOk result (λ taken. TaskFits session taken.task engine.new) }
     ensures others { KeepsOthers session engine.old engine.new }
     ensures cause { CountsDevice result (H.faults host.old) (H.faults host.new) }
     ensures not_refused { IfErr result IsNoRefusal }
 {
     match engine.end(host, session) {
-        Ok(scn) => Ok(Taken {
-            merge: Some(Merging {
-                left: engine.store().delta_count(),
-                scn,
-            }),
-            refused: false,
-        }),
-        Err(Fault::Refused(refusal)) => {
-            say(alloc, host, session, &Reply::Refused { refusal })?;
-            Ok(Taken {
-                merge: None,
-                refused: true,
-            })
-        }
+        Ok(scn) => Ok(merge_of(engine, Reply::Scn { scn })),
+        Err(Fault::Refused(refusal)) => say_refused(alloc, host, session, refusal),
+        Err(Fault::Device) => Err(Fault::Device),
+        Err(Fault::Memory) => Err(Fault::Memory),
+    }
+}
+
+/// The turn behind a backup's copy: the stalled state ends, and its merge begins.
+pub fn end_backup<H: Host>(
+    alloc: Global,
+    host: &mut H,
+    engine: &mut Engine,
+    session: u32,
+    reply: Reply,
+) -> Result<Taken, Fault>
+    ensures turn { (now : Now) (t : Trail) (more : List Turn) → IsTrue H.tells → IsReady (H.world host.old) engine.old t now → IsGoing now
+        → slice_index_or now.todo (session - 1) [] ≡ task_first (End reply.now) ∷ (task_rest (End reply.now) ++ more)
+        → Turns (λ taken. taken.refused) (λ taken. taken.task) result (H.world host.old) (H.world host.new) engine.old engine.new t now session (task_first (End reply.now)) (task_rest (End reply.now)) }
+    ensures falls { IfOk result (λ taken. task_left taken.task < task_left (Some (End reply.now))) }
+    ensures fits { IfOk result (λ taken. TaskFits session taken.task engine.new) }
+    ensures others { KeepsOthers session engine.old engine.new }
+    ensures cause { CountsDevice result (H.faults host.old) (H.faults host.new) }
+    ensures not_refused { IfErr result IsNoRefusal }
+{
+    match engine.end(host, session) {
+        Ok(_) => Ok(merge_of(engine, reply)),
+        Err(Fault::Refused(refusal)) => say_refused(alloc, host, session, refusal),
         Err(Fault::Device) => Err(Fault::Device),
         Err(Fault::Memory) => Err(Fault::Memory),
     }
@@ -76,29 +100,30 @@ pub fn merge_on<H: Host>(
     host: &mut H,
     engine: &mut Engine,
     session: u32,
-    merge: Merging,
+    merging: Merging,
 ) -> Result<Taken, Fault>
-    requires merging { IsMerging session merge.left engine.old }
-    ensures turn { (now : Now) (t : Trail) → IsTrue H.tells → IsReady (H.world host.old) engine.old t now → HasNoZeros t.base.image
-        → Turns (λ taken. taken.refused) result (H.world host.old) (H.world host.new) engine.old engine.new t now session (first_merging merge.left merge.scn) }
-    ensures behind { IfOk result (λ taken. (taken.refused ≡ false) × IsBehind merge.left merge.scn taken.merge) }
-    ensures merge { IfOk result (λ taken. MergeFits session taken.merge engine.new) }
+    requires merging { IsMerging session merging.now.left engine.old }
+    ensures turn { (now : Now) (t : Trail) (more : List Turn) → IsTrue H.tells → IsReady (H.world host.old) engine.old t now → IsGoing now
+        → slice_index_or now.todo (session - 1) [] ≡ task_first (Merge merging.now) ∷ (task_rest (Merge merging.now) ++ more)
+        → Turns (λ taken. taken.refused) (λ taken. taken.task) result (H.world host.old) (H.world host.new) engine.old engine.new t now session (task_first (Merge merging.now)) (task_rest (Merge merging.now)) }
+    ensures falls { IfOk result (λ taken. task_left taken.task < task_left (Some (Merge merging.now))) }
+    ensures fits { IfOk result (λ taken. TaskFits session taken.task engine.new) }
     ensures others { KeepsOthers session engine.old engine.new }
     ensures cause { CountsDevice result (H.faults host.old) (H.faults host.new) }
     ensures not_refused { IfErr result IsNoRefusal }
 {
     match engine.merge_turn(host)? {
         Progress::More => Ok(Taken {
-            merge: Some(Merging {
-                left: merge.left - 1,
-                scn: merge.scn,
-            }),
+            task: Some(Task::Merge(Merging {
+                left: merging.left - 1,
+                reply: merging.reply,
+            })),
             refused: false,
         }),
         Progress::Finished => {
-            say(alloc, host, session, &Reply::Scn { scn: merge.scn })?;
+            say(alloc, host, session, &merging.reply)?;
             Ok(Taken {
-                merge: None,
+                task: None,
                 refused: false,
             })
         }

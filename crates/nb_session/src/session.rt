@@ -1,19 +1,21 @@
 // One session of a script.
-ghost use Rattle.std.specs.Prelude.{◌≡◌, ℕ, IsTrue, IfOk, IfErr, List, false};
+ghost use Rattle.std.specs.Prelude.{◌≡◌, ◌<◌, ℕ, List, [], ◌∷◌, ◌++◌, IsTrue, IfOk, IfErr, None, Some, false};
+ghost use Rattle.std.specs.List.{slice_index_or};
 ghost use Rattle.nb_change.specs.Counts.{CountsDevice};
-ghost use Rattle.nb_model.specs.declared.statement.Statement.TheVariants.{PageNew};
-ghost use Rattle.nb_model.specs.Outcomes.{Begins};
-ghost use Rattle.nb_model.specs.Run.{Now, outcome};
-ghost use Rattle.nb_model.specs.Sound.{IsSoundImage};
+ghost use Rattle.nb_model.specs.Going.{IsGoing};
+ghost use Rattle.nb_model.specs.Outcomes.{Begins, Turn};
+ghost use Rattle.nb_model.specs.Run.{Now};
 ghost use Rattle.nb_model.specs.Trail.{Trail};
 ghost use Rattle.nb_base.specs.Takes.{IsNoRefusal};
 ghost use Rattle.nb_script.specs.Asked.{IsFurther};
-ghost use Rattle.nb_session.specs.Askers.{MergeFits, KeepsOthers, merge_todo};
-ghost use Rattle.nb_session.specs.Ready.{IsReady};
+ghost use Rattle.nb_session.specs.Askers.{TaskFits, KeepsOthers, task_first, task_rest, task_left};
+ghost use Rattle.nb_session.specs.Ready.{IsReady, TaskGoes};
 ghost use Rattle.nb_session.specs.Steps.{Turns};
 
 use crate::answer::answer;
-use crate::merges::{Merging, Taken, begin_merge, merge_on};
+use crate::copies::{back_up_on, begin_backup, begin_copy, copy_on};
+use crate::merges::{begin_merge, end_backup, merge_on};
+use crate::task::{Taken, Task};
 use nb_engine::Engine;
 use nb_host::{Fault, Host};
 use nb_model::Statement;
@@ -21,14 +23,14 @@ use nb_sched::Agent;
 use std::alloc::Global;
 use std::marker::Model;
 
-/// A session: its statements, how far it has come, and whether one of them was refused.
+/// A session: its statements, how far it has come, what is under way, and whether a statement of it was refused.
 #[derive(Drop)]
 pub struct Session<'a> {
     alloc: Global,
     number: u32,
     statements: &'a [Statement],
     next: usize,
-    merge: Option<Merging>,
+    task: Option<Task>,
     refused: bool,
 }
 
@@ -38,7 +40,7 @@ impl<'a> Model for Session<'a> {
 
     ghost Value = { Asker };
 
-    ghost view = { λ s. record { number = s.number; statements = drop s.next s.statements.now; merge = s.merge; refused = s.refused } };
+    ghost view = { λ s. record { number = s.number; statements = drop s.next s.statements.now; task = s.task; refused = s.refused } };
 
     ghost invariant = { λ s. s.next ≤ length s.statements.now };
 }
@@ -52,38 +54,66 @@ fn begin_statement<H: Host>(
     statement: &Statement,
 ) -> Result<Taken, Fault>
     requires asked { IsFurther statement.now }
-    ensures turn { (now : Now) (t : Trail) → IsTrue H.tells → IsReady (H.world host.old) engine.old t now → (statement.now ≡ PageNew → IsSoundImage t.base.image)
-        → Turns (λ taken. taken.refused) result (H.world host.old) (H.world host.new) engine.old engine.new t now session (Begins statement.now) }
-    ensures next { (now : Now) (t : Trail) → IsTrue H.tells → IsReady (H.world host.old) engine.old t now
-        → IfOk result (λ taken. (outcome session (Begins statement.now) now).next ≡ merge_todo taken.merge) }
-    ensures merge { IfOk result (λ taken. MergeFits session taken.merge engine.new) }
+    ensures turn { (now : Now) (t : Trail) → IsTrue H.tells → IsReady (H.world host.old) engine.old t now → IsGoing now
+        → Turns (λ taken. taken.refused) (λ taken. taken.task) result (H.world host.old) (H.world host.new) engine.old engine.new t now session (Begins statement.now) [] }
+    ensures fits { IfOk result (λ taken. TaskFits session taken.task engine.new) }
     ensures others { KeepsOthers session engine.old engine.new }
     ensures cause { CountsDevice result (H.faults host.old) (H.faults host.new) }
     ensures not_refused { IfErr result IsNoRefusal }
 {
     match statement {
         Statement::EndBackup => begin_merge(alloc, host, engine, session),
+        Statement::Backup { level, name } => {
+            begin_backup(alloc, host, engine, session, *level, name)
+        }
+        Statement::CopyTo { name } => begin_copy(alloc, host, engine, session, name),
         _ => {
             let refused = answer(alloc, host, engine, session, statement)?;
             Ok(Taken {
-                merge: None,
+                task: None,
                 refused,
             })
         }
     }
 }
 
+/// A further turn of a statement of many turns.
+fn go_on<H: Host>(
+    alloc: Global,
+    host: &mut H,
+    engine: &mut Engine,
+    session: u32,
+    task: Task,
+) -> Result<Taken, Fault>
+    requires fits { TaskFits session (Some task.now) engine.old }
+    ensures turn { (now : Now) (t : Trail) (more : List Turn) → IsTrue H.tells → IsReady (H.world host.old) engine.old t now → IsGoing now
+        → slice_index_or now.todo (session - 1) [] ≡ task_first task.now ∷ (task_rest task.now ++ more) → TaskGoes (H.world host.old) engine.old t.base.frozen (Some task.now)
+        → Turns (λ taken. taken.refused) (λ taken. taken.task) result (H.world host.old) (H.world host.new) engine.old engine.new t now session (task_first task.now) (task_rest task.now) }
+    ensures falls { IfOk result (λ taken. task_left taken.task < task_left (Some task.now)) }
+    ensures fits { IfOk result (λ taken. TaskFits session taken.task engine.new) }
+    ensures others { KeepsOthers session engine.old engine.new }
+    ensures cause { CountsDevice result (H.faults host.old) (H.faults host.new) }
+    ensures not_refused { IfErr result IsNoRefusal }
+{
+    match task {
+        Task::Backup(copier) => back_up_on(alloc, host, engine, session, copier),
+        Task::Copy(copier) => copy_on(alloc, host, engine, session, copier),
+        Task::End(reply) => end_backup(alloc, host, engine, session, reply),
+        Task::Merge(merging) => merge_on(alloc, host, engine, session, merging),
+    }
+}
+
 impl<'a> Session<'a> {
     /// A session that has all of its statements to do.
     pub fn new(alloc: Global, number: u32, statements: &'a [Statement]) -> Session<'a>
-        ensures { result ≡ record { number = number; statements = statements.now; merge = None; refused = false } }
+        ensures { result ≡ record { number = number; statements = statements.now; task = None; refused = false } }
     {
         Session {
             alloc,
             number,
             statements,
             next: 0,
-            merge: None,
+            task: None,
             refused: false,
         }
     }
@@ -111,17 +141,18 @@ impl<'a, H: Host> Agent<H, Engine> for Session<'a> {
     ghost keeps_others = { λ mover other host engine moved host' engine' apart fits also made. keeps_fit mover.number other engine engine' apart made.others also };
 
     fn turn(&mut self, host: &mut H, engine: &mut Engine) -> Result<(), Fault> {
-        match self.merge {
-            Some(merge) => {
-                let taken = merge_on(self.alloc, host, engine, self.number, merge)?;
-                self.merge = taken.merge;
+        match self.task.take() {
+            Some(task) => {
+                let taken = go_on(self.alloc, host, engine, self.number, task)?;
+                self.task = taken.task;
+                self.refused |= taken.refused;
                 Ok(())
             }
             None => {
                 let statement = &self.statements[self.next];
                 let taken = begin_statement(self.alloc, host, engine, self.number, statement)?;
                 self.next += 1;
-                self.merge = taken.merge;
+                self.task = taken.task;
                 self.refused |= taken.refused;
                 Ok(())
             }
@@ -129,13 +160,13 @@ impl<'a, H: Host> Agent<H, Engine> for Session<'a> {
     }
 
     fn finished(&self) -> bool {
-        self.merge.is_none() && self.next == self.statements.len()
+        self.task.is_none() && self.next == self.statements.len()
     }
 
     fn left(&self) -> (u64, u64) {
         let statements = (self.statements.len() - self.next) as u64;
-        match self.merge {
-            Some(merge) => (statements, u64::from(merge.left) + 1),
+        match &self.task {
+            Some(task) => (statements, task.left()),
             None => (statements, 0),
         }
     }

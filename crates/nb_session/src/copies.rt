@@ -1,0 +1,158 @@
+// Backups and copies of the frozen file, which take a turn for each page.
+ghost use Rattle.std.specs.Prelude.{◌≡◌, ◌<◌, ◌≤◌, ℕ, [], ◌++◌, None, Some, false, IsTrue, IfOk, IfErr};
+ghost use Rattle.std.specs.List.{slice_index_or};
+ghost use Rattle.nb_host.specs.Names.{is_delta};
+ghost use Rattle.nb_change.specs.Counts.{CountsDevice};
+ghost use Rattle.nb_model.specs.declared.statement.Statement.TheVariants.{Backup as BackupTo, CopyTo};
+ghost use Rattle.nb_model.specs.Going.{IsGoing};
+ghost use Rattle.nb_model.specs.Outcomes.{Begins, Turn};
+ghost use Rattle.nb_model.specs.Run.{Now};
+ghost use Rattle.nb_model.specs.Trail.{Trail};
+ghost use Rattle.nb_base.specs.Takes.{IsNoRefusal};
+ghost use Rattle.nb_session.specs.Askers.{KeepsOthers, TaskFits, task_first, task_rest, task_left};
+ghost use Rattle.nb_session.specs.declared.task.Task.TheVariants.{Backup, Copy};
+ghost use Rattle.nb_session.specs.Ready.{IsReady, TaskGoes};
+ghost use Rattle.nb_session.specs.Steps.{Turns};
+
+use crate::answer::say;
+use crate::merges::say_refused;
+use crate::task::{Taken, Task};
+use nb_copy::{Copier, FileCopier};
+use nb_engine::Engine;
+use nb_host::{Fault, Host, Name};
+use nb_model::Reply;
+use nb_state::Progress;
+use std::alloc::Global;
+
+/// The statement is under way, and not refused.
+fn under_way(task: Task) -> Taken {
+    Taken {
+        task: Some(task),
+        refused: false,
+    }
+}
+
+/// The first turn of `backup L to`. Where it is refused the refusal is said, and it is done.
+pub fn begin_backup<H: Host>(
+    alloc: Global,
+    host: &mut H,
+    engine: &mut Engine,
+    session: u32,
+    level: u8,
+    name: &Name,
+) -> Result<Taken, Fault>
+    requires level { level ≤ 9 }
+    requires plain { is_delta name.now ≡ false }
+    ensures turn { (now : Now) (t : Trail) → IsTrue H.tells → IsReady (H.world host.old) engine.old t now → IsGoing now
+        → Turns (λ taken. taken.refused) (λ taken. taken.task) result (H.world host.old) (H.world host.new) engine.old engine.new t now session (Begins (BackupTo level name.now)) [] }
+    ensures fits { IfOk result (λ taken. TaskFits session taken.task engine.new) }
+    ensures others { KeepsOthers session engine.old engine.new }
+    ensures cause { CountsDevice result (H.faults host.old) (H.faults host.new) }
+    ensures not_refused { IfErr result IsNoRefusal }
+{
+    match Copier::start(alloc, host, engine, session, level, name) {
+        Ok(copier) => Ok(under_way(Task::Backup(copier))),
+        Err(Fault::Refused(refusal)) => say_refused(alloc, host, session, refusal),
+        Err(Fault::Device) => Err(Fault::Device),
+        Err(Fault::Memory) => Err(Fault::Memory),
+    }
+}
+
+/// The first turn of `copy to`. Where it is refused the refusal is said, and it is done.
+pub fn begin_copy<H: Host>(
+    alloc: Global,
+    host: &mut H,
+    engine: &mut Engine,
+    session: u32,
+    name: &Name,
+) -> Result<Taken, Fault>
+    requires plain { is_delta name.now ≡ false }
+    ensures turn { (now : Now) (t : Trail) → IsTrue H.tells → IsReady (H.world host.old) engine.old t now → IsGoing now
+        → Turns (λ taken. taken.refused) (λ taken. taken.task) result (H.world host.old) (H.world host.new) engine.old engine.new t now session (Begins (CopyTo name.now)) [] }
+    ensures fits { IfOk result (λ taken. TaskFits session taken.task engine.new) }
+    ensures others { KeepsOthers session engine.old engine.new }
+    ensures cause { CountsDevice result (H.faults host.old) (H.faults host.new) }
+    ensures not_refused { IfErr result IsNoRefusal }
+{
+    match FileCopier::start(alloc, host, engine, session, name) {
+        Ok(copier) => Ok(under_way(Task::Copy(copier))),
+        Err(Fault::Refused(refusal)) => say_refused(alloc, host, session, refusal),
+        Err(Fault::Device) => Err(Fault::Device),
+        Err(Fault::Memory) => Err(Fault::Memory),
+    }
+}
+
+/// A further turn of a backup. Once its row is written the stalled state is to end.
+pub fn back_up_on<H: Host>(
+    alloc: Global,
+    host: &mut H,
+    engine: &mut Engine,
+    session: u32,
+    copier: Copier,
+) -> Result<Taken, Fault>
+    requires fits { TaskFits session (Some (Backup copier.now)) engine.old }
+    ensures turn { (now : Now) (t : Trail) (more : List Turn) → IsTrue H.tells → IsReady (H.world host.old) engine.old t now → IsGoing now
+        → slice_index_or now.todo (session - 1) [] ≡ task_first (Backup copier.now) ∷ (task_rest (Backup copier.now) ++ more) → TaskGoes (H.world host.old) engine.old t.base.frozen (Some (Backup copier.now))
+        → Turns (λ taken. taken.refused) (λ taken. taken.task) result (H.world host.old) (H.world host.new) engine.old engine.new t now session (task_first (Backup copier.now)) (task_rest (Backup copier.now)) }
+    ensures falls { IfOk result (λ taken. task_left taken.task < task_left (Some (Backup copier.now))) }
+    ensures fits { IfOk result (λ taken. TaskFits session taken.task engine.new) }
+    ensures others { KeepsOthers session engine.old engine.new }
+    ensures cause { CountsDevice result (H.faults host.old) (H.faults host.new) }
+    ensures not_refused { IfErr result IsNoRefusal }
+{
+    let mut copier = copier;
+    match copier.turn(host, engine) {
+        Ok(Progress::More) => Ok(under_way(Task::Backup(copier))),
+        Ok(Progress::Finished) => Ok(under_way(Task::End(Reply::Level {
+            level: copier.level(),
+            scn: copier.scn(),
+            pages: copier.written(),
+            guid: copier.guid(),
+        }))),
+        Err(Fault::Refused(refusal)) => {
+            engine.set_running(None);
+            say_refused(alloc, host, session, refusal)
+        }
+        Err(Fault::Device) => Err(Fault::Device),
+        Err(Fault::Memory) => Err(Fault::Memory),
+    }
+}
+
+/// A further turn of a copy of the frozen file. In the last one it is said how many pages it has.
+pub fn copy_on<H: Host>(
+    alloc: Global,
+    host: &mut H,
+    engine: &mut Engine,
+    session: u32,
+    copier: FileCopier,
+) -> Result<Taken, Fault>
+    requires fits { TaskFits session (Some (Copy copier.now)) engine.old }
+    ensures turn { (now : Now) (t : Trail) (more : List Turn) → IsTrue H.tells → IsReady (H.world host.old) engine.old t now → IsGoing now
+        → slice_index_or now.todo (session - 1) [] ≡ task_first (Copy copier.now) ∷ (task_rest (Copy copier.now) ++ more) → TaskGoes (H.world host.old) engine.old t.base.frozen (Some (Copy copier.now))
+        → Turns (λ taken. taken.refused) (λ taken. taken.task) result (H.world host.old) (H.world host.new) engine.old engine.new t now session (task_first (Copy copier.now)) (task_rest (Copy copier.now)) }
+    ensures falls { IfOk result (λ taken. task_left taken.task < task_left (Some (Copy copier.now))) }
+    ensures fits { IfOk result (λ taken. TaskFits session taken.task engine.new) }
+    ensures others { KeepsOthers session engine.old engine.new }
+    ensures cause { CountsDevice result (H.faults host.old) (H.faults host.new) }
+    ensures not_refused { IfErr result IsNoRefusal }
+{
+    let mut copier = copier;
+    match copier.turn(host, engine)? {
+        Progress::More => Ok(under_way(Task::Copy(copier))),
+        Progress::Finished => {
+            engine.set_running(None);
+            say(
+                alloc,
+                host,
+                session,
+                &Reply::Pages {
+                    pages: copier.written(),
+                },
+            )?;
+            Ok(Taken {
+                task: None,
+                refused: false,
+            })
+        }
+    }
+}
