@@ -1,6 +1,7 @@
 pub mod AllLaws
 pub mod SaysLaws
 pub mod GiftLaws
+pub mod MadeLaws
 pub mod StopLaws
 pub mod PlayLaws
 pub mod EventLaws

@@ -1,26 +1,32 @@
 -- Turns behind turns.
-use Rattle.std.proofs.Common.{◌≡◌, ℕ, List, [], ◌++◌, Bool, false, refl, sym, ap, subst, ◌∙◌, arith, append_assoc, max}
-use Rattle.std.specs.Prelude.{Ok, Err, ◌||◌, if◌then◌else◌}
+use Rattle.std.proofs.Common.{◌≡◌, inl, inr, ℕ, zero, suc, List, [], ◌++◌, length, take, Bool, false, refl, sym, ap, subst, ◌∙◌, arith, append_assoc, max}
+use Rattle.std.specs.Prelude.{Contains, Result, Ok, Err, IfOk, ◌||◌, if◌then◌else◌}
 use Rattle.std.proofs.lemmas.List.{append-nil}
+use Rattle.std.proofs.lemmas.List.Elements.{Contains-append_cases}
+use Rattle.nb_host.specs.Files.{File}
 use Rattle.nb_host.specs.World.{World}
-use Rattle.nb_host.specs.Crash.{Untouched}
+use Rattle.nb_host.specs.Crash.{Leaves, Untouched}
 use Rattle.nb_host.specs.Moments.{IsTimely, AtEachMoment}
 use Rattle.nb_change.specs.Changes.{Other}
-use Rattle.nb_change.proofs.MomentLaws.{started, joined, weaker, untouched_joined, untouched_begun}
-use Rattle.nb_model.specs.Run.{Event, Now, Played, replies_of}
+use Rattle.nb_change.proofs.MomentLaws.{started, joined, weaker, untouched_joined, untouched_fewer, untouched_begun}
+use Rattle.nb_model.specs.Making.{MadeFile, AreAmong, IsNoneOf, NamesOnce}
+use Rattle.nb_model.specs.Run.{Event, Now, Played, replies_of, files_made}
 use Rattle.nb_model.specs.Output.{output, status_of}
-use Rattle.nb_model.specs.Steps.{steps_of, after_steps}
+use Rattle.nb_model.specs.Steps.{steps_of, after_steps, acked_turns}
 use Rattle.nb_model.specs.Trail.{Trail, StandsIn}
 use Rattle.nb_model.proofs.OutputLaws.{output_append, status_events, output_no_event, status_no_event}
 use Rattle.nb_model.proofs.StepsLaws.{steps_none, steps_append, after_steps_append, after_no_step, acked_steps_none}
 use Rattle.nb_model.proofs.TodoLaws.{status_or}
 use Rattle.nb_base.specs.Open.{OfFiles}
+use Rattle.nb_copy.specs.Making.{IsKept}
 use Rattle.nb_state.specs.Open.{Held, name_of}
 use Rattle.nb_session.specs.declared.stop.Stop.{Stop}
+use Rattle.nb_session.specs.Acts.{Touched, AreKept}
 use Rattle.nb_session.specs.Ready.{IsReady}
-use Rattle.nb_session.specs.Stops.{StopLeft, Plays}
+use Rattle.nb_session.specs.Stops.{StopLeft, PlayedOut, Plays}
 use Rattle.nb_session.proofs.GiftLaws.{given_nothing, given_joined}
-use Rattle.nb_session.proofs.StopLaws.{stop_more, stop_then}
+use Rattle.nb_session.proofs.MadeLaws.{among_left, among_right, made_append}
+use Rattle.nb_session.proofs.StopLaws.{AreApart, FileLeft, Stays, others_fewer, left_more, stop_wider, stop_more, stop_then}
 
 -- one list of turns behind another
 abbrev pub behind : Played → Played → Played
@@ -30,19 +36,98 @@ behind p q = (p.0 ++ q.0, q.1)
 abbrev pub trail_after : Trail → Played → Trail
 trail_after t p = after_steps t (steps_of p.0)
 
+-- What holds of turns however they end.
+pub record Leads (old new : World) (name : List ℕ) (t : Trail) (events : List Event) (made : List MadeFile) : Type 0 where
+  pub stops : AtEachMoment old new (StopLeft old name t events made)
+  pub left : (n bytes : List ℕ) (file : File) → Contains made (n, bytes) → Leaves new n file → FileLeft old n bytes file
+  pub apart : AreApart name made
+  pub others : Untouched old new (Other (Touched name made))
+  pub others_read : (m : List ℕ) → Other (Touched name made) m → new.files m ≡ old.files m
+
+-- the files that are made are among these
+pub leads_wider : (old new : World) (name : List ℕ) (t : Trail) (es : List Event) (few many : List MadeFile) → AreAmong few many → NamesOnce many → AreApart name many → Leads old new name t es few → Leads old new name t es many
+leads_wider old new name t es few many among once apart leads = record {
+  stops = weaker old new _ _ leads.stops (λ files said left. stop_wider name few many among once apart old t es files said left);
+  left = left_more name few many among once apart old new leads.left leads.others;
+  apart = apart;
+  others = untouched_fewer old new _ _ leads.others (others_fewer name few many among);
+  others_read = λ m other. leads.others_read m (others_fewer name few many among m other);
+}
+
+-- more turns would have come
+leads_more : (old new : World) (name : List ℕ) (t : Trail) (es fs : List Event) (made : List MadeFile) → Leads old new name t es made → Leads old new name t (es ++ fs) made
+leads_more old new name t es fs made leads = record {
+  stops = weaker old new _ _ leads.stops (λ files said left. stop_more old name t es fs made files said left);
+  left = leads.left;
+  apart = leads.apart;
+  others = leads.others;
+  others_read = leads.others_read;
+}
+
+-- Turns behind turns, which leave the files that those made whole. No two of all files have the same name.
+module _ (old mid new : World) (name : List ℕ) (t : Trail) (es fs : List Event) (made more : List MadeFile) (once : NamesOnce (made ++ more)) where
+  abbrev all : List MadeFile
+  all = made ++ more
+
+  all_apart : AreApart name made → AreApart name more → AreApart name all
+  all_apart first second n bytes there own = elim (Contains-append_cases made more (n, bytes) there) [ inl one ↦ first n bytes one own | inr two ↦ second n bytes two own ]
+
+  leads_then : mid.said ≡ old.said ++ output es → ((n bytes : List ℕ) → Contains (files_made es) (n, bytes) → Stays mid name more n bytes)
+      → Leads old mid name t es made → Leads mid new name (after_steps t (steps_of es)) fs more → Leads old new name t (es ++ fs) all
+  leads_then said stays first second =
+      let apart : AreApart name all = all_apart first.apart second.apart in
+      let front : Leads old mid name t es all = leads_wider old mid name t es made all (among_left made more) once apart first in
+      let rest : Leads mid new name (after_steps t (steps_of es)) fs all = leads_wider mid new name (after_steps t (steps_of es)) fs more all (among_right made more) once apart second in
+      record {
+        stops = joined old mid new _ _ _ front.stops second.stops
+            (λ files s left. stop_more old name t es fs all files s left)
+            (λ files s left. stop_then old mid name t es fs more all (among_right made more) once apart files s said front.others front.left stays left);
+        left = λ n bytes file there leaves. elim (rest.left n bytes file there leaves) [ inl before ↦ front.left n bytes file there before | inr is ↦ inr is ];
+        apart = apart;
+        others = untouched_joined old mid new _ front.others rest.others;
+        others_read = λ m other. rest.others_read m other ∙ front.others_read m other;
+      }
+
+module _ (result : Result Bool Stop) (old new : World) (before after : Held) (t : Trail) (now : Now) (p : Played) where
+  leads_of : (made : List MadeFile) → Plays result old new before after t now p made → Leads old new (name_of before) t p.0 made
+  leads_of made plays = record { stops = plays.stops; left = plays.left; apart = plays.apart; others = plays.others; others_read = plays.others_read }
+
+  plays_by : (made : List MadeFile) → Leads old new (name_of before) t p.0 made → name_of after ≡ name_of before → IfOk result (λ refused. PlayedOut refused old new after t now p)
+      → Plays result old new before after t now p made
+  plays_by made leads name done = record { stops = leads.stops; left = leads.left; apart = leads.apart; others = leads.others; others_read = leads.others_read; name = name; done = done }
+
+  -- the files that they make are among these
+  pub plays_wider : (few many : List MadeFile) → AreAmong few many → NamesOnce many → AreApart (name_of before) many → Plays result old new before after t now p few → Plays result old new before after t now p many
+  plays_wider few many among once apart plays = plays_by many (leads_wider old new (name_of before) t p.0 few many among once apart (leads_of few plays)) plays.name plays.done
+
 -- no turn yet
 after_none : (t : Trail) → after_steps t (steps_of []) ≡ t
 after_none t = ap (after_steps t) steps_none ∙ after_no_step t
 
-pub plays_none : (old : World) (held : Held) (t : Trail) (now : Now) → IsTimely old → IsReady old held t now → Plays (Ok false) old old held held t now ([], now)
+none_made : (k : ℕ) → files_made (take k []) ≡ []
+unfolding files_made
+none_made zero = refl
+none_made (suc k) = refl
+
+no_file : (n bytes : List ℕ) → Contains {X = MadeFile} [] (n, bytes) → ⊥
+no_file n bytes there = omega (arith, there.1)
+
+no_made : (k : ℕ) (n bytes : List ℕ) → Contains (files_made (take k [])) (n, bytes) → ⊥
+no_made k n bytes there = no_file n bytes (subst (λ (files : List MadeFile). Contains files (n, bytes)) (none_made k) there)
+
+pub plays_none : (old : World) (held : Held) (t : Trail) (now : Now) → IsTimely old → IsReady old held t now → Plays (Ok false) old old held held t now ([], now) []
 plays_none old held t now timely ready = record {
   stops = started old _ timely (λ files said is. record {
     out = record { part = []; is = is.output ∙ sym (append-nil old.said); front = refl };
     count = 0;
     front = record { most = omega arith; acknowledged = omega (arith, acked_steps_none []) };
     database = subst (λ (u : Trail). StandsIn (name_of held) u files) (sym (after_no_step t)) (ready.opened.files.left files is.left);
+    each = λ n bytes there. absurd (no_file n bytes there);
+    whole = λ n bytes there. absurd (no_made (acked_turns [] 0) n bytes there);
     others = λ m other. is.left m;
   });
+  left = λ n bytes file there leaves. inl leaves;
+  apart = λ n bytes there. absurd (no_file n bytes there);
   others = untouched_begun old _;
   others_read = λ m other. refl;
   name = refl;
@@ -51,65 +136,59 @@ plays_none old held t now timely ready = record {
     said = sym (append-nil old.said) ∙ ap (λ (l : List ℕ). old.said ++ l) (sym output_no_event);
     status = status_no_event;
     given = given_nothing old old now.given now.given (record { guids = refl; times = refl }) refl;
+    kept = λ n bytes there. absurd (no_made 0 n bytes there);
   };
 }
 
-module _ (old mid new : World) (e0 e1 e2 : Held) (t : Trail) (now : Now) (p q : Played) where
-  stops_then : AtEachMoment old mid (StopLeft old (name_of e0) t p.0) → AtEachMoment mid new (StopLeft mid (name_of e1) (trail_after t p) q.0) → name_of e1 ≡ name_of e0 → mid.said ≡ old.said ++ output p.0
-      → Untouched old mid (Other (OfFiles (name_of e0))) → AtEachMoment old new (StopLeft old (name_of e0) t (p.0 ++ q.0))
-  stops_then first second same said others =
-      joined old mid new _ _ _ first second
-      (λ files s left. stop_more old (name_of e0) t p.0 q.0 files s left)
-      (λ files s left. stop_then old mid (name_of e0) t p.0 q.0 files s said others (subst (λ (n : List ℕ). StopLeft mid n (trail_after t p) q.0 files s) same left))
+-- a file that is kept stays so
+kept_on : (mid new : World) (name : List ℕ) (made : List MadeFile) (n bytes : List ℕ) → Untouched mid new (Other (Touched name made)) → ((m : List ℕ) → Other (Touched name made) m → new.files m ≡ mid.files m)
+    → Other (Touched name made) n → IsKept mid n bytes → IsKept new n bytes
+kept_on mid new name made n bytes same read other kept = record {
+  durable = record { none_back = λ c back. kept.durable.none_back c (same.back n c other back); only = λ c now. kept.durable.only c (same.now n c other now) };
+  reads = read n other ∙ kept.reads;
+}
 
-  abbrev Others : World → World → List ℕ → Type 0
-  Others a b name = Untouched a b (Other (OfFiles name))
-
-  others_then : Others old mid (name_of e0) → Others mid new (name_of e1) → name_of e1 ≡ name_of e0 → Others old new (name_of e0)
-  others_then first second same = untouched_joined old mid new _ first (subst (λ (n : List ℕ). Others mid new n) same second)
-
-  abbrev Read : World → World → List ℕ → Type 0
-  Read a b name = (m : List ℕ) → Other (OfFiles name) m → b.files m ≡ a.files m
-
-  read_then : Read old mid (name_of e0) → Read mid new (name_of e1) → name_of e1 ≡ name_of e0 → Read old new (name_of e0)
-  read_then first second same m other = subst (λ (n : List ℕ). Read mid new n) same second m other ∙ first m other
-
+-- The turns of q behind those of p. All files that p made whole are among its own, and q makes none of their names.
+module _ (old mid new : World) (e0 e1 e2 : Held) (t : Trail) (now : Now) (p q : Played) (made more : List MadeFile) (once : NamesOnce (made ++ more)) (has : AreAmong (files_made p.0) made)
+    (others : (n bytes : List ℕ) → Contains (files_made p.0) (n, bytes) → IsNoneOf more n) where
   trail_is : after_steps (trail_after t p) (steps_of q.0) ≡ after_steps t (steps_of (p.0 ++ q.0))
   trail_is = sym (after_steps_append t (steps_of p.0) (steps_of q.0)) ∙ ap (after_steps t) (sym (steps_append p.0 q.0))
 
+  module _ (a : Bool) (result : Result Bool Stop) (first : Plays (Ok a) old mid e0 e1 t now p made) (second : Plays result mid new e1 e2 (trail_after t p) p.1 q more) where
+    rest : Leads mid new (name_of e0) (trail_after t p) q.0 more
+    rest = subst (λ (n : List ℕ). Leads mid new n (trail_after t p) q.0 more) first.name (leads_of result mid new e1 e2 (trail_after t p) p.1 q more second)
+
+    other_then : (n bytes : List ℕ) → Contains (files_made p.0) (n, bytes) → Other (Touched (name_of e0) more) n
+    other_then n bytes there (inl own) = first.apart n bytes (has (n, bytes) there) own
+    other_then n bytes there (inr one) = others n bytes there one.0 one.1
+
+    both : Leads old new (name_of e0) t (p.0 ++ q.0) (made ++ more)
+    both = leads_then old mid new (name_of e0) t p.0 q.0 made more once first.done.said
+        (λ n bytes there. record { durable = (first.done.kept n bytes there).durable; other = other_then n bytes there }) (leads_of (Ok a) old mid e0 e1 t now p made first) rest
+
+    kept_then : AreKept new (files_made q.0) → AreKept new (files_made (p.0 ++ q.0))
+    kept_then kept n bytes there = elim (Contains-append_cases (files_made p.0) (files_made q.0) (n, bytes) (subst (λ (files : List MadeFile). Contains files (n, bytes)) (made_append p.0 q.0) there)) [
+      | inl one ↦ kept_on mid new (name_of e0) more n bytes rest.others rest.others_read (other_then n bytes one) (first.done.kept n bytes one)
+      | inr two ↦ kept n bytes two
+    ]
+
   -- both to their end
-  pub plays_then : (a b : Bool) → Plays (Ok a) old mid e0 e1 t now p → Plays (Ok b) mid new e1 e2 (trail_after t p) p.1 q → Plays (Ok (a || b)) old new e0 e2 t now (behind p q)
-  plays_then a b first second = record {
-    stops = stops_then first.stops second.stops first.name first.done.said first.others;
-    others = others_then first.others second.others first.name;
-    others_read = read_then first.others_read second.others_read first.name;
-    name = second.name ∙ first.name;
-    done = record {
-      ready = subst (λ (u : Trail). IsReady new e2 u q.1) trail_is second.done.ready;
-      said = second.done.said ∙ ap (λ (l : List ℕ). l ++ output q.0) first.done.said ∙ append_assoc old.said (output p.0) (output q.0) ∙ ap (λ (l : List ℕ). old.said ++ l) (sym (output_append p.0 q.0));
-      status = status_events p.0 q.0 ∙ ap (λ (x : ℕ). max x (status_of (replies_of q.0))) first.done.status
-          ∙ ap (λ (x : ℕ). max (if a then 1 else 0) x) second.done.status ∙ status_or a b;
-      given = given_joined old mid new now.given p.1.given q.1.given first.done.given second.done.given;
-    };
-  }
+  pub plays_then : (a b : Bool) → Plays (Ok a) old mid e0 e1 t now p made → Plays (Ok b) mid new e1 e2 (trail_after t p) p.1 q more → Plays (Ok (a || b)) old new e0 e2 t now (behind p q) (made ++ more)
+  plays_then a b first second = plays_by (Ok (a || b)) old new e0 e2 t now (behind p q) (made ++ more) (both a (Ok b) first second) (second.name ∙ first.name) (record {
+    ready = subst (λ (u : Trail). IsReady new e2 u q.1) trail_is second.done.ready;
+    said = second.done.said ∙ ap (λ (l : List ℕ). l ++ output q.0) first.done.said ∙ append_assoc old.said (output p.0) (output q.0) ∙ ap (λ (l : List ℕ). old.said ++ l) (sym (output_append p.0 q.0));
+    status = status_events p.0 q.0 ∙ ap (λ (x : ℕ). max x (status_of (replies_of q.0))) first.done.status
+        ∙ ap (λ (x : ℕ). max (if a then 1 else 0) x) second.done.status ∙ status_or a b;
+    given = given_joined old mid new now.given p.1.given q.1.given first.done.given second.done.given;
+    kept = kept_then a (Ok b) first second second.done.kept;
+  })
 
   -- the second ends early
-  pub plays_failed : (a : Bool) (e : Stop) → Plays (Ok a) old mid e0 e1 t now p → Plays (Err e) mid new e1 e2 (trail_after t p) p.1 q → Plays (Err e) old new e0 e2 t now (behind p q)
-  plays_failed a e first second = record {
-    stops = stops_then first.stops second.stops first.name first.done.said first.others;
-    others = others_then first.others second.others first.name;
-    others_read = read_then first.others_read second.others_read first.name;
-    name = second.name ∙ first.name;
-    done = tt;
-  }
+  pub plays_failed : (a : Bool) (e : Stop) → Plays (Ok a) old mid e0 e1 t now p made → Plays (Err e) mid new e1 e2 (trail_after t p) p.1 q more → Plays (Err e) old new e0 e2 t now (behind p q) (made ++ more)
+  plays_failed a e first second = plays_by (Err e) old new e0 e2 t now (behind p q) (made ++ more) (both a (Err e) first second) (second.name ∙ first.name) tt
 
 -- what turns would have come behind those that ended early
-pub plays_cut : (old new : World) (before after : Held) (t : Trail) (now : Now) (p : Played) (more : List Event) (last : Now) (e : Stop) → Plays (Err e) old new before after t now p
-    → Plays (Err e) old new before after t now (p.0 ++ more, last)
-plays_cut old new before after t now p more last e plays = record {
-  stops = weaker old new _ _ plays.stops (λ files said left. stop_more old (name_of before) t p.0 more files said left);
-  others = plays.others;
-  others_read = plays.others_read;
-  name = plays.name;
-  done = tt;
-}
+pub plays_cut : (old new : World) (before after : Held) (t : Trail) (now : Now) (p : Played) (more : List Event) (last : Now) (made : List MadeFile) (e : Stop) → Plays (Err e) old new before after t now p made
+    → Plays (Err e) old new before after t now (p.0 ++ more, last) made
+plays_cut old new before after t now p more last made e plays =
+    plays_by (Err e) old new before after t now (p.0 ++ more, last) made (leads_more old new (name_of before) t p.0 more made (leads_of (Err e) old new before after t now p made plays)) plays.name tt

@@ -1,0 +1,69 @@
+-- Lists of files that are made.
+use Rattle.std.proofs.Common.{◌≡◌, ◌⊎◌, inl, inr, ℕ, zero, suc, ◌≤◌, List, [], ◌∷◌, ◌++◌, take, refl, sym, ap, subst, arith}
+use Rattle.std.specs.Prelude.{Contains, Option, Some, None}
+use Rattle.std.proofs.lemmas.List.Elements.{Contains-append_left, Contains-append_right, Contains-append_cases}
+use Rattle.nb_change.proofs.NameLaws.{decide}
+use Rattle.nb_model.specs.Making.{MadeFile, AreAmong, IsNoneOf, NamesOnce}
+use Rattle.nb_model.specs.Run.{Event, files_made}
+
+-- none are among any
+pub none_among : (files : List MadeFile) → AreAmong [] files
+none_among files file there = absurd (omega (arith, there.1))
+
+pub among_left : (xs ys : List MadeFile) → AreAmong xs (xs ++ ys)
+among_left xs ys file there = Contains-append_left xs ys file there
+
+pub among_right : (xs ys : List MadeFile) → AreAmong ys (xs ++ ys)
+among_right xs ys file there = Contains-append_right xs ys file there
+
+-- two lists among a third
+pub both_among : (xs ys files : List MadeFile) → AreAmong xs files → AreAmong ys files → AreAmong (xs ++ ys) files
+both_among xs ys files first second file there = elim (Contains-append_cases xs ys file there) [ inl one ↦ first file one | inr two ↦ second file two ]
+
+pub among_more : (xs ys zs : List MadeFile) → AreAmong ys zs → AreAmong (xs ++ ys) (xs ++ zs)
+among_more xs ys zs among = both_among xs ys (xs ++ zs) (among_left xs zs) (λ file there. among_right xs zs file (among file there))
+
+-- fewer files have names no more often
+pub once_fewer : (few many : List MadeFile) → AreAmong few many → NamesOnce many → NamesOnce few
+once_fewer few many among once name bytes others one other = once name bytes others (among (name, bytes) one) (among (name, others) other)
+
+alone : (f g : MadeFile) → Contains (f ∷ []) g → f ≡ g
+alone f g (zero, low, is) = is
+alone f g (suc i, low, is) = absurd (omega (arith, low))
+
+-- whether a name is that of one of them
+pub named_tells : (files : List MadeFile) (name : List ℕ) → ((bytes : List ℕ) × Contains files (name, bytes)) ⊎ IsNoneOf files name
+named_tells [] name = inr (λ bytes there. omega (arith, there.1))
+named_tells (f ∷ files) name = elim (decide f.0 name) [
+  | inl same ↦ inl (f.1, subst (λ (n : List ℕ). Contains (f ∷ files) (n, f.1)) same (Contains-append_left (f ∷ []) files f (0, omega arith, refl)))
+  | inr other ↦ elim (named_tells files name) [
+    | inl some ↦ inl (some.0, Contains-append_right (f ∷ []) files (name, some.0) some.1)
+    | inr none ↦ inr (λ bytes there. elim (Contains-append_cases (f ∷ []) files (name, bytes) there) [
+      | inl here ↦ other (ap (λ (file : MadeFile). file.0) (alone f (name, bytes) here))
+      | inr later ↦ none bytes later
+    ])
+  ]
+]
+
+-- the files of turns behind turns
+pub made_append : (es fs : List Event) → files_made (es ++ fs) ≡ files_made es ++ files_made fs
+unfolding files_made
+made_append [] fs = refl
+made_append (e ∷ es) fs = by (made_append es fs) e.made
+  where
+    by : files_made (es ++ fs) ≡ files_made es ++ files_made fs → (m : Option MadeFile)
+        → elim m as (λ z. List MadeFile) [ Some file ↦ file ∷ files_made (es ++ fs) | None ↦ files_made (es ++ fs) ]
+        ≡ elim m as (λ z. List MadeFile) [ Some file ↦ file ∷ files_made es | None ↦ files_made es ] ++ files_made fs
+    by rest (Some file) = ap (λ (files : List MadeFile). file ∷ files) rest
+    by rest None = rest
+
+-- more turns make no fewer files
+pub made_grow : (es : List Event) (m n : ℕ) → m ≤ n → AreAmong (files_made (take m es)) (files_made (take n es))
+unfolding files_made
+made_grow es zero n low = none_among (files_made (take n es))
+made_grow [] (suc m) n low = none_among (files_made (take n []))
+made_grow (e ∷ es) (suc m) zero low = absurd (omega arith)
+made_grow (e ∷ es) (suc m) (suc n) low =
+    subst (λ (files : List MadeFile). AreAmong files (files_made (e ∷ take n es))) (sym (made_append (e ∷ []) (take m es)))
+    (subst (AreAmong (files_made (e ∷ []) ++ files_made (take m es))) (sym (made_append (e ∷ []) (take n es)))
+    (among_more (files_made (e ∷ [])) (files_made (take m es)) (files_made (take n es)) (made_grow es m n (omega arith))))
