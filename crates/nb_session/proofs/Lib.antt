@@ -9,8 +9,10 @@ pub mod TurnLaws
 pub mod KeepLaws
 pub mod ActLaws
 pub mod MergeLaws
-pub mod CalmLaws
+pub mod PureLaws
+pub mod MakingLaws
 pub mod StepLaws
+pub mod GoesLaws
 pub mod SceneLaws
 pub mod AnyLaws
 pub mod EndLaws

@@ -57,6 +57,20 @@ made_append (e ∷ es) fs = by (made_append es fs) e.made
     by rest (Some file) = ap (λ (files : List MadeFile). file ∷ files) rest
     by rest None = rest
 
+pub made_first : (es fs : List Event) → AreAmong (files_made es) (files_made (es ++ fs))
+made_first es fs = subst (AreAmong (files_made es)) (sym (made_append es fs)) (among_left (files_made es) (files_made fs))
+
+pub made_second : (es fs : List Event) → AreAmong (files_made fs) (files_made (es ++ fs))
+made_second es fs = subst (AreAmong (files_made fs)) (sym (made_append es fs)) (among_right (files_made es) (files_made fs))
+
+-- Where turns make some of the files, and leave the others to be made.
+pub made_ahead : (es fs : List Event) (now then : List MadeFile) → AreAmong now (files_made fs ++ then) → AreAmong (files_made es ++ now) (files_made (es ++ fs) ++ then)
+made_ahead es fs now then goes =
+    let all : List MadeFile = files_made (es ++ fs) ++ then in
+    both_among (files_made es) now all
+    (λ file there. among_left (files_made (es ++ fs)) then file (made_first es fs file there))
+    (λ file there. both_among (files_made fs) then all (λ f one. among_left (files_made (es ++ fs)) then f (made_second es fs f one)) (among_right (files_made (es ++ fs)) then) file (goes file there))
+
 -- more turns make no fewer files
 pub made_grow : (es : List Event) (m n : ℕ) → m ≤ n → AreAmong (files_made (take m es)) (files_made (take n es))
 unfolding files_made

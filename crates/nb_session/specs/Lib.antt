@@ -1,3 +1,4 @@
+pub mod Pure
 pub mod Causes
 pub mod Ready
 pub mod Stops

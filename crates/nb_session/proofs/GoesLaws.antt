@@ -1,0 +1,108 @@
+-- A statement that is under way goes on while other sessions take turns.
+use Rattle.std.proofs.Common.{◌≡◌, ◌≢◌, inl, inr, ℕ, ◌-◌, List, [], ◌∷◌, ◌++◌, map, sym, ap, subst, ◌∙◌, arith}
+use Rattle.std.specs.Prelude.{Bool, Ok, Option, Some, None}
+use Rattle.nb_host.specs.World.{World}
+use Rattle.nb_host.specs.Crash.{Untouched}
+use Rattle.nb_change.specs.Changes.{Names, Other}
+use Rattle.nb_model.specs.Going.{Runs, IsGoing}
+use Rattle.nb_model.specs.Image.{Image}
+use Rattle.nb_model.specs.Making.{MadeFile, making_by}
+use Rattle.nb_model.specs.Outcomes.{Begins, ClosesBackup, ClosesCopy, Ends}
+use Rattle.nb_model.specs.Run.{Now, base_now, one_turn}
+use Rattle.nb_model.specs.Trail.{Trail}
+use Rattle.nb_model.proofs.StandsLaws.{no_main}
+use Rattle.nb_copy.specs.declared.file_copy.FileCopy.{FileCopy}
+use Rattle.nb_copy.specs.declared.file_copy.FileCopy.TheVariants.{Pages, Level}
+use Rattle.nb_copy.specs.Copying.{Copying, IsCopying}
+use Rattle.nb_copy.specs.FileCopying.{file_name, file_count, file_next, IsFileCopying}
+use Rattle.nb_copy.specs.LevelCopying.{LevelCopying, IsLevelCopying}
+use Rattle.nb_copy.specs.Starting.{Backed, IsBackingUp}
+use Rattle.nb_state.specs.Open.{Held, name_of}
+use Rattle.nb_session.specs.declared.task.Task.{Task}
+use Rattle.nb_session.specs.declared.task.Task.TheVariants.{Backup, Copy, End, Merge}
+use Rattle.nb_session.specs.Acts.{Touched}
+use Rattle.nb_session.specs.Askers.{Asker, task_first, task_rest, task_todo, HasTodo}
+use Rattle.nb_session.specs.Ready.{IsReady, IsApart, TaskGoes}
+use Rattle.nb_session.specs.Stops.{Plays}
+use Rattle.nb_session.proofs.MakingLaws.{IsCopyTurn, first_copies, copy_runs, none_making}
+use Rattle.nb_session.proofs.PureLaws.{IsUndisturbed, others_stay}
+
+-- What touches other files keeps a copy.
+module _ (old new : World) (names : Names) (others : Untouched old new (Other names)) (read : (m : List ℕ) → Other names m → new.files m ≡ old.files m) (frozen : Image) where
+  copy_kept : (copy : Copying) → Other names copy.name → IsCopying old copy frozen → IsCopying new copy frozen
+  copy_kept copy other is = record {
+    of = is.of;
+    begun = λ some.
+        let begun = is.begun some in
+        record { first = begun.first; reads = read copy.name other ∙ begun.reads; blank = λ c now. begun.blank c (others.now copy.name c other now) };
+  }
+
+  level_kept : (copy : LevelCopying) → Other names copy.file.name → IsLevelCopying old copy frozen → IsLevelCopying new copy frozen
+  level_kept copy other is = record {
+    of = is.of;
+    fresh = is.fresh;
+    begun = λ some.
+        let begun = is.begun some in
+        record {
+          has = record {
+            stands = record { reads = read copy.file.name other ∙ begun.has.stands.reads; torn = λ c now. begun.has.stands.torn c (others.now copy.file.name c other now) };
+            waits = begun.has.waits;
+            counted = begun.has.counted;
+          };
+          entries = begun.entries;
+        };
+  }
+
+  file_kept : (f : FileCopy) → Other names (file_name f) → IsFileCopying old f frozen → IsFileCopying new f frozen
+  file_kept (Pages copy) other is = copy_kept copy other is
+  file_kept (Level copy) other is = level_kept copy other is
+
+  backup_kept : (copier : Backed) → Other names copier.backing.name → IsBackingUp old copier frozen → IsBackingUp new copier frozen
+  backup_kept copier other is = record { name = is.name; whole = is.whole; count = is.count; goes = file_kept copier.file (subst (λ (n : List ℕ). Other names n) (sym is.name) other) is.goes }
+
+-- none of the files that are made is that of a copy
+apart_other : (held : Held) (name : List ℕ) → IsApart held name → Other (Touched (name_of held) []) name
+apart_other held name apart (inl (inl same)) = apart.other same
+apart_other held name apart (inl (inr delta)) = no_main (name_of held) name apart.plain (sym delta)
+apart_other held name apart (inr made) = omega (arith, made.1.1)
+
+-- A turn of another session.
+module _ (session : ℕ) (asker : Asker) (off : session - 1 ≢ asker.number - 1) (refused : Bool) (old new : World) (before after : Held) (t : Trail) (now : Now) (ready : IsReady old before t now) (going : IsGoing now) (has : HasTodo asker now)
+    (plays : Plays (Ok refused) old new before after t now (one_turn session now) (making_by session now)) where
+  abbrev then : Now
+  then = (one_turn session now).1
+
+  apart_kept : (name : List ℕ) → IsApart before name → IsApart after name
+  apart_kept name apart = record { plain = apart.plain; other = λ same. apart.other (same ∙ plays.name) }
+
+  -- it keeps all that rests on a session that runs
+  module _ (runs : Runs now (asker.number - 1) 1) where
+    still : IsUndisturbed now (asker.number - 1) (one_turn session now)
+    still = others_stay session now going (asker.number - 1) 1 (omega arith) runs off
+
+    runs_on : before.running ≡ Some asker.number → after.running ≡ Some asker.number
+    runs_on is = plays.done.ready.running ∙ still.running ∙ sym ready.running ∙ is
+
+    untouched : Untouched old new (Other (Touched (name_of before) []))
+    untouched = subst (λ (files : List MadeFile). Untouched old new (Other (Touched (name_of before) files))) (none_making session now going (asker.number - 1) runs off) plays.others
+
+    read_on : (m : List ℕ) → Other (Touched (name_of before) []) m → new.files m ≡ old.files m
+    read_on = subst (λ (files : List MadeFile). (m : List ℕ) → Other (Touched (name_of before) files) m → new.files m ≡ old.files m) (none_making session now going (asker.number - 1) runs off) plays.others_read
+
+  -- who copies, or is to end the stalled state, runs
+  runs_by : (task : Task) → asker.task ≡ Some task → IsCopyTurn (task_first task) → Runs now (asker.number - 1) 1
+  runs_by task is copies = copy_runs now (asker.number - 1) _ (task_first task) (task_rest task ++ map Begins asker.statements) (going.each (asker.number - 1))
+      (has ∙ ap (λ (x : Option Task). task_todo x ++ map Begins asker.statements) is) copies
+
+  pub goes_on : (task : Option Task) → asker.task ≡ task → TaskGoes asker.number old before (base_now now).frozen task → TaskGoes asker.number new after (base_now then).frozen task
+  goes_on None is goes = tt
+  goes_on (Some (Backup c)) is goes =
+      let runs = runs_by (Backup c) is (first_copies (file_count c.file - file_next c.file) (ClosesBackup c.backing) tt) in
+      (subst (IsBackingUp new c) (sym (still runs).frozen) (backup_kept old new (Touched (name_of before) []) (untouched runs) (read_on runs) (base_now now).frozen c (apart_other before c.backing.name goes.1) goes.0),
+      apart_kept c.backing.name goes.1, runs_on runs goes.2)
+  goes_on (Some (Copy c)) is goes =
+      let runs = runs_by (Copy c) is (first_copies (c.count - c.next) (ClosesCopy c.name) tt) in
+      (subst (IsCopying new c) (sym (still runs).frozen) (copy_kept old new (Touched (name_of before) []) (untouched runs) (read_on runs) (base_now now).frozen c (apart_other before c.name goes.1) goes.0),
+      apart_kept c.name goes.1, runs_on runs goes.2)
+  goes_on (Some (End reply)) is goes = runs_on (runs_by (End reply) is tt) goes
+  goes_on (Some (Merge m)) is goes = tt
