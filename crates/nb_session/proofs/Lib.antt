@@ -13,6 +13,7 @@ pub mod PureLaws
 pub mod MakingLaws
 pub mod StepLaws
 pub mod GoesLaws
+pub mod NextLaws
 pub mod SceneLaws
 pub mod AnyLaws
 pub mod EndLaws

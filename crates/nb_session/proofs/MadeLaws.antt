@@ -63,6 +63,9 @@ made_first es fs = subst (AreAmong (files_made es)) (sym (made_append es fs)) (a
 pub made_second : (es fs : List Event) → AreAmong (files_made fs) (files_made (es ++ fs))
 made_second es fs = subst (AreAmong (files_made fs)) (sym (made_append es fs)) (among_right (files_made es) (files_made fs))
 
+pub made_both : (es fs : List Event) (files : List MadeFile) → AreAmong (files_made es) files → AreAmong (files_made fs) files → AreAmong (files_made (es ++ fs)) files
+made_both es fs files first second = subst (λ (all : List MadeFile). AreAmong all files) (sym (made_append es fs)) (both_among (files_made es) (files_made fs) files first second)
+
 -- Where turns make some of the files, and leave the others to be made.
 pub made_ahead : (es fs : List Event) (now then : List MadeFile) → AreAmong now (files_made fs ++ then) → AreAmong (files_made es ++ now) (files_made (es ++ fs) ++ then)
 made_ahead es fs now then goes =

@@ -112,7 +112,7 @@ none_made (suc k) = refl
 no_file : (n bytes : List ℕ) → Contains {X = MadeFile} [] (n, bytes) → ⊥
 no_file n bytes there = omega (arith, there.1)
 
-no_made : (k : ℕ) (n bytes : List ℕ) → Contains (files_made (take k [])) (n, bytes) → ⊥
+pub no_made : (k : ℕ) (n bytes : List ℕ) → Contains (files_made (take k [])) (n, bytes) → ⊥
 no_made k n bytes there = no_file n bytes (subst (λ (files : List MadeFile). Contains files (n, bytes)) (none_made k) there)
 
 pub plays_none : (old : World) (held : Held) (t : Trail) (now : Now) → IsTimely old → IsReady old held t now → Plays (Ok false) old old held held t now ([], now) []

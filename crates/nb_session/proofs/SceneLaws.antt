@@ -1,30 +1,37 @@
 -- What holds while sessions take their turns.
-use Rattle.std.proofs.Common.{◌≡◌, ◌≢◌, inl, inr, ℕ, zero, suc, ◌-◌, ◌<◌, ◌≤◌, List, [], ◌∷◌, ◌++◌, length, map, get_or, refl, sym, ap, subst, ◌∙◌, arith, append_assoc, get_or-set_other, length-set}
-use Rattle.std.specs.Prelude.{Bool, true, false, ◌||◌, IsTrue, Result, Ok, Option, Some, None, slice_get, slice_set}
+use Rattle.std.proofs.Common.{◌≡◌, ◌≢◌, inl, inr, ℕ, zero, suc, ◌-◌, ◌<◌, ◌≤◌, List, [], ◌∷◌, ◌++◌, length, map, refl, sym, ap, subst, ◌∙◌, arith, append_assoc, length-set}
+use Rattle.std.specs.Prelude.{Contains, Bool, true, false, ◌||◌, IsTrue, Result, Ok, Option, Some, None, slice_get, slice_set}
 use Rattle.std.specs.List.{AllByRecursion, slice_index_or}
 use Rattle.std.proofs.lemmas.List.{append-nil}
 use Rattle.nb_host.specs.World.{World}
 use Rattle.nb_host.specs.Moments.{IsTimely}
 use Rattle.nb_host.specs.declared.faults.Fault.{Fault}
 use Rattle.nb_model.specs.declared.statement.Statement.{Statement}
+use Rattle.nb_model.specs.Account.{Base}
 use Rattle.nb_model.specs.Gifts.{Foretells}
+use Rattle.nb_model.specs.Making.{MadeFile, making_by, under_way, AreAmong}
 use Rattle.nb_model.specs.Outcomes.{Turn, Begins, Given}
-use Rattle.nb_model.specs.Run.{Event, Now, Played, outcome, stands_then, take_turn, one_turn, play}
+use Rattle.nb_model.specs.Run.{Event, Now, Played, base_now, one_turn, play, files_made}
 use Rattle.nb_model.specs.Trail.{Trail}
-use Rattle.nb_model.proofs.RunLaws.{play-append}
 use Rattle.nb_model.proofs.TodoLaws.{one_turn_idle}
 use Rattle.nb_sched.specs.Turns.{Scene, scene, Kind, kind, agent_of, Rests, Moves}
 use Rattle.nb_sched.proofs.AgentLaws.{agent_there, agent_of_set}
 use Rattle.nb_script.specs.Fits.{IsSession}
 use Rattle.nb_state.specs.Open.{Held}
-use Rattle.nb_session.specs.declared.merges.Merging.{Merging}
-use Rattle.nb_session.specs.Acts.{Grows}
-use Rattle.nb_session.specs.Askers.{Asker, merge_todo, merge_left, todo_of, HasTodo, left_of, IsFit, any_refused}
-use Rattle.nb_session.specs.Ready.{IsReady, IsCalm}
+use Rattle.nb_session.specs.declared.task.Task.{Task}
+use Rattle.nb_session.specs.declared.task.Task.TheVariants.{Backup, Copy, End, Merge}
+use Rattle.nb_session.specs.Acts.{AreSixteen, Grows}
+use Rattle.nb_session.specs.Askers.{Asker, task_todo, task_left, todo_of, HasTodo, left_of, IsFit, any_refused}
+use Rattle.nb_session.specs.Pure.{IsMaking}
+use Rattle.nb_session.specs.Ready.{IsReady, TaskGoes}
 use Rattle.nb_session.specs.Steps.{as_played, Steps, TakesNext}
 use Rattle.nb_session.specs.Stops.{Plays}
 use Rattle.nb_session.proofs.GiftLaws.{foretold_first, foretold_then, foretold_itself, grows_none, grows_joined}
-use Rattle.nb_session.proofs.PlayLaws.{behind, trail_after, plays_none, plays_then}
+use Rattle.nb_session.proofs.GoesLaws.{goes_on}
+use Rattle.nb_session.proofs.MadeLaws.{none_among}
+use Rattle.nb_session.proofs.NextLaws.{keeps_todo, play_more, giving, making_giving, next_once, next_others, next_among, next_has}
+use Rattle.nb_session.proofs.PlayLaws.{behind, trail_after, no_made, plays_none, plays_then}
+use Rattle.nb_session.proofs.PureLaws.{making_play}
 
 -- the sessions of a script as agents
 abbrev pub sessions_kind : {H : Type 0} (tells : Bool) (world : H → World) (faults : H → ℕ) → Kind Asker H Held
@@ -51,45 +58,17 @@ any_set (x ∷ xs) zero a b refused there noted =
 any_set (x ∷ xs) (suc i) a b refused there noted =
     ap (λ (r : Bool). x.refused || r) (any_set xs i a b refused there noted) ∙ or_group x.refused (any_refused xs) refused
 
--- a turn leaves to the other sessions what they have to do
-keeps_todo : (session i : ℕ) (now : Now) → i ≢ session - 1 → get_or (one_turn session now).1.todo i [] ≡ get_or now.todo i []
-unfolding one_turn take_turn stands_then
-keeps_todo session i now other = by (get_or now.todo (session - 1) [])
-  where
-    by : (ts : List Turn) → get_or (take_turn session ts now).1.todo i [] ≡ get_or now.todo i []
-    by [] = refl
-    by (t ∷ rest) = get_or-set_other now.todo (session - 1) i ((outcome session t now).next ++ rest) [] other
-
-turn_length : (session : ℕ) (now : Now) → length (one_turn session now).1.todo ≡ length now.todo
-unfolding one_turn take_turn stands_then
-turn_length session now = by (get_or now.todo (session - 1) [])
-  where
-    by : (ts : List Turn) → length (take_turn session ts now).1.todo ≡ length now.todo
-    by [] = refl
-    by (t ∷ rest) = length-set now.todo (session - 1) ((outcome session t now).next ++ rest)
-
-pub play_length : (order : List ℕ) (now : Now) → length (play order now).1.todo ≡ length now.todo
-unfolding play
-play_length [] now = refl
-play_length (x ∷ order) now = play_length order (one_turn x now).1 ∙ turn_length x now
-
-play_one : (session : ℕ) (now : Now) → play (session ∷ []) now ≡ one_turn session now
-unfolding play
-play_one session now = ap (λ (es : List Event). (es, (one_turn session now).1)) (append-nil (one_turn session now).0)
-
--- one number more of an order
-pub play_more : (front : List ℕ) (session : ℕ) (now : Now) → play (front ++ session ∷ []) now ≡ behind (play front now) (one_turn session (play front now).1)
-play_more front session now =
-    play-append front (session ∷ []) now ∙ ap (λ (p : Played). ((play front now).0 ++ p.0, p.1)) (play_one session (play front now).1)
-
 -- who has finished has nothing to do
-done_parts : (merge : Option Merging) (statements : List Statement) → length statements ≡ 0 → merge_left merge ≡ 0 → merge_todo merge ++ map Begins statements ≡ []
+done_parts : (task : Option Task) (statements : List Statement) → length statements ≡ 0 → task_left task ≡ 0 → task_todo task ++ map Begins statements ≡ []
 done_parts None [] none over = refl
 done_parts None (s ∷ statements) none over = absurd (omega (arith, none))
-done_parts (Some merge) statements none over = absurd (omega (arith, over))
+done_parts (Some (Backup c)) statements none over = absurd (omega (arith, over))
+done_parts (Some (Copy c)) statements none over = absurd (omega (arith, over))
+done_parts (Some (End reply)) statements none over = absurd (omega (arith, over))
+done_parts (Some (Merge m)) statements none over = absurd (omega (arith, over))
 
 pub done_todo : (asker : Asker) → left_of asker ≡ (0, 0) → todo_of asker ≡ []
-done_todo asker done = done_parts asker.merge asker.statements (ap (λ (p : ℕ × ℕ). p.0) done) (ap (λ (p : ℕ × ℕ). p.1) done)
+done_todo asker done = done_parts asker.task asker.statements (ap (λ (p : ℕ × ℕ). p.0) done) (ap (λ (p : ℕ × ℕ). p.1) done)
 
 -- a number that stands somewhere in an order
 pub at_place : (P : ℕ → Type 0) (front rest : List ℕ) (n : ℕ) → AllByRecursion P (front ++ (n ∷ rest)) → P n
@@ -105,24 +84,28 @@ agent_some askers (suc place) low high = there askers place (omega arith)
     there (x ∷ xs) zero within = (x, refl)
     there (x ∷ xs) (suc i) within = there xs i (omega arith)
 
--- the same, whatever the outside gives
-abbrev pub giving : Now → Given → Now
-giving now given = record now { given = given }
-
 module _ {H : Type 0} (tells : Bool) (told : IsTrue tells) (world : H → World) (faults : H → ℕ) (old : H) (before : Held) (t : Trail) (now : Now) (order : List ℕ)
-    (numbers : AllByRecursion IsSession order) where
-  -- The turns so far were taken, each session has still to do what stands for it, and no turn that is left needs what the image doesn't have.
+    (numbers : AllByRecursion IsSession order) (making : IsMaking now) where
+  -- where the outside gives these
+  abbrev from : Given → Now
+  from given = giving now given
+
+  -- The turns so far were taken. Each session has still to do what stands for it, and goes on from where it is. Of the files that were made
+  -- since all that are whole are among these, and those of copies that are under way may be.
   pub record IsSoFar (front : List ℕ) (s : Scene Asker H Held) (given : Given) : Type 0 where
-    pub plays : Plays (Ok (any_refused s.agents)) (world old) (world s.host) before s.shared t (giving now given) (play front (giving now given))
-    pub todo : (session : ℕ) (asker : Asker) → agent_of s.agents session ≡ Some asker → HasTodo asker (play front (giving now given)).1
-    pub calm : IsCalm (play front (giving now given)).1
+    pub made : List MadeFile
+    pub plays : Plays (Ok (any_refused s.agents)) (world old) (world s.host) before s.shared t (from given) (play front (from given)) made
+    pub among : AreAmong made (files_made (play front (from given)).0 ++ under_way (play front (from given)).1)
+    pub has : AreAmong (files_made (play front (from given)).0) made
+    pub todo : (session : ℕ) (asker : Asker) → agent_of s.agents session ≡ Some asker → HasTodo asker (play front (from given)).1
+    pub goes : (session : ℕ) (asker : Asker) → agent_of s.agents session ≡ Some asker → TaskGoes asker.number (world s.host) s.shared (base_now (play front (from given)).1).frozen asker.task
 
   -- It is so whatever of it the outside gave.
   pub record HoldsAt (front : List ℕ) (s : Scene Asker H Held) : Type 0 where
     pub grown : Grows (world old) (world s.host)
     pub sixteen : length s.agents ≡ 16
     pub placed : (session : ℕ) (asker : Asker) → agent_of s.agents session ≡ Some asker → asker.number ≡ session
-    pub so_far : (given : Given) → Foretells given (world old) (world s.host) → IsSoFar front s given
+    pub so_far : (given : Given) → AreSixteen given.guids → Foretells given (world old) (world s.host) → IsSoFar front s given
 
   abbrev pub Holds : List ℕ → Scene Asker H Held → Type 0
   Holds front s = (rest : List ℕ) → front ++ rest ≡ order → HoldsAt front s
@@ -135,16 +118,19 @@ module _ {H : Type 0} (tells : Bool) (told : IsTrue tells) (world : H → World)
   is_session front rest session is = at_place IsSession front rest session (subst (AllByRecursion IsSession) (sym is) numbers)
 
   -- a session that has finished does nothing
-  idle_then : (front : List ℕ) (session : ℕ) (s : Scene Asker H Held) (given : Given) → one_turn session (play front (giving now given)).1 ≡ ([], (play front (giving now given)).1)
+  idle_then : (front : List ℕ) (session : ℕ) (s : Scene Asker H Held) (given : Given) → one_turn session (play front (from given)).1 ≡ ([], (play front (from given)).1)
       → IsSoFar front s given → IsSoFar (front ++ session ∷ []) s given
   idle_then front session s given idle far =
-      let p : Played = play front (giving now given) in
-      let same : play (front ++ session ∷ []) (giving now given) ≡ p =
-      play_more front session (giving now given) ∙ ap (λ (q : Played). (p.0 ++ q.0, q.1)) idle ∙ ap (λ (es : List Event). (es, p.1)) (append-nil p.0) in
+      let p : Played = play front (from given) in
+      let same : play (front ++ session ∷ []) (from given) ≡ p =
+      play_more front session (from given) ∙ ap (λ (q : Played). (p.0 ++ q.0, q.1)) idle ∙ ap (λ (es : List Event). (es, p.1)) (append-nil p.0) in
       record {
-        plays = subst (Plays (Ok (any_refused s.agents)) (world old) (world s.host) before s.shared t (giving now given)) (sym same) far.plays;
+        made = far.made;
+        plays = subst (λ (q : Played). Plays (Ok (any_refused s.agents)) (world old) (world s.host) before s.shared t (from given) q far.made) (sym same) far.plays;
+        among = subst (λ (q : Played). AreAmong far.made (files_made q.0 ++ under_way q.1)) (sym same) far.among;
+        has = subst (λ (q : Played). AreAmong (files_made q.0) far.made) (sym same) far.has;
         todo = λ n asker there. subst (λ (q : Played). HasTodo asker q.1) (sym same) (far.todo n asker there);
-        calm = subst (λ (q : Played). IsCalm q.1) (sym same) far.calm;
+        goes = λ n asker there. subst (λ (q : Played). TaskGoes asker.number (world s.host) s.shared (base_now q.1).frozen asker.task) (sym same) (far.goes n asker there);
       }
 
   pub rests_hold : (front : List ℕ) (session : ℕ) (s : Scene Asker H Held) → Holds front s → Rests left_of s.agents session → Holds (front ++ session ∷ []) s
@@ -157,11 +143,11 @@ module _ {H : Type 0} (tells : Bool) (told : IsTrue tells) (world : H → World)
         grown = here.grown;
         sixteen = here.sixteen;
         placed = here.placed;
-        so_far = λ given foretold.
-            let far = here.so_far given foretold in
-            let todo : List (List Turn) = (play front (giving now given)).1.todo in
+        so_far = λ given sixteen foretold.
+            let far = here.so_far given sixteen foretold in
+            let todo : List (List Turn) = (play front (from given)).1.todo in
             idle_then front session s given
-            (one_turn_idle session (play front (giving now given)).1
+            (one_turn_idle session (play front (from given)).1
             (ap (λ (n : ℕ). slice_index_or todo (n - 1) []) (sym (here.placed session one.0 one.1)) ∙ far.todo session one.0 one.1 ∙ done_todo one.0 (rests one.0 one.1))) far;
       }
 
@@ -173,89 +159,120 @@ module _ {H : Type 0} (tells : Bool) (told : IsTrue tells) (world : H → World)
 
     module _ (answer : Result (Unit {0}) Fault) (made : Steps tells answer (world s.host) (world s'.host) (faults s.host) (faults s'.host) s.shared s'.shared asker moved) where
       -- what it did, where this was given so far
-      pub took : (given : Given) → Foretells given (world old) (world s.host)
-          → TakesNext made.refused answer (world s.host) (world s'.host) s.shared s'.shared (trail_after t (play front (giving now given))) (play front (giving now given)).1 asker moved
-      took given foretold =
-          let far = here.so_far given foretold in
-          made.takes (play front (giving now given)).1 (trail_after t (play front (giving now given))) told far.plays.done.ready far.calm (far.todo session asker there)
+      pub took : (given : Given) → AreSixteen given.guids → Foretells given (world old) (world s.host)
+          → TakesNext made.refused answer (world s.host) (world s'.host) s.shared s'.shared (trail_after t (play front (from given))) (play front (from given)).1 asker moved
+      took given sixteen foretold =
+          let far = here.so_far given sixteen foretold in
+          let ready = far.plays.done.ready in
+          made.takes (play front (from given)).1 (trail_after t (play front (from given))) told ready (making_play front (from given) (making_giving now given sixteen making)).going (far.todo session asker there)
+          (subst (λ (b : Base). TaskGoes asker.number (world s.host) s.shared b.frozen asker.task) (sym ready.base) (far.goes session asker there))
 
       pub turn_grows : Grows (world s.host) (world s'.host)
-      turn_grows = (took (record { guids = here.grown.ids; times = here.grown.clock; holds = [] }) (foretold_itself (world old) (world s.host) [] here.grown)).grows
+      turn_grows = (took (record { guids = here.grown.ids; times = here.grown.clock; holds = [] }) here.grown.sixteen (foretold_itself (world old) (world s.host) [] here.grown)).grows
 
-      pub turn_plays : (given : Given) → Foretells given (world old) (world s'.host)
-          → Plays (as_played (λ done. made.refused) answer) (world s.host) (world s'.host) s.shared s'.shared (trail_after t (play front (giving now given))) (play front (giving now given)).1
-          (one_turn session (play front (giving now given)).1)
-      turn_plays given foretold =
-          let first = foretold_first (world old) (world s.host) (world s'.host) given here.grown turn_grows foretold in
-          let far = here.so_far given first in
-          subst (λ (n : ℕ). Plays (as_played (λ done. made.refused) answer) (world s.host) (world s'.host) s.shared s'.shared (trail_after t (play front (giving now given))) (play front (giving now given)).1
-          (one_turn n (play front (giving now given)).1)) mine
-          ((took given first).plays (foretold_then (world old) (world s.host) (world s'.host) given (play front (giving now given)).1.given far.plays.done.given turn_grows foretold))
+      -- what is foretold of the turn
+      told_first : (given : Given) → Foretells given (world old) (world s'.host) → Foretells given (world old) (world s.host)
+      told_first given foretold = foretold_first (world old) (world s.host) (world s'.host) given here.grown turn_grows foretold
+
+      told_then : (given : Given) → AreSixteen given.guids → Foretells given (world old) (world s'.host) → Foretells (play front (from given)).1.given (world s.host) (world s'.host)
+      told_then given sixteen foretold =
+          foretold_then (world old) (world s.host) (world s'.host) given (play front (from given)).1.given (here.so_far given sixteen (told_first given foretold)).plays.done.given turn_grows foretold
+
+      pub turn_plays : (given : Given) → AreSixteen given.guids → Foretells given (world old) (world s'.host)
+          → Plays (as_played (λ done. made.refused) answer) (world s.host) (world s'.host) s.shared s'.shared (trail_after t (play front (from given))) (play front (from given)).1
+          (one_turn session (play front (from given)).1) (making_by session (play front (from given)).1)
+      turn_plays given sixteen foretold =
+          subst (λ (n : ℕ). Plays (as_played (λ done. made.refused) answer) (world s.host) (world s'.host) s.shared s'.shared (trail_after t (play front (from given))) (play front (from given)).1
+          (one_turn n (play front (from given)).1) (making_by n (play front (from given)).1)) mine
+          ((took given sixteen (told_first given foretold)).plays (told_then given sixteen foretold))
 
     module _ (made : Steps tells (Ok tt) (world s.host) (world s'.host) (faults s.host) (faults s'.host) s.shared s'.shared asker moved)
-        (placed : (n : ℕ) (a : Asker) → agent_of s'.agents n ≡ Some a → a.number ≡ n) where
-      todo_then : (given : Given) → Foretells given (world old) (world s'.host) → (n : ℕ) (a : Asker) → agent_of s'.agents n ≡ Some a → HasTodo a (one_turn session (play front (giving now given)).1).1
-      todo_then given foretold n a at =
-          let now' : Now = (play front (giving now given)).1 in
-          let first = foretold_first (world old) (world s.host) (world s'.host) given here.grown (turn_grows (Ok tt) made) foretold in
-          let low : 0 < session = omega (arith, number.0) in
-          elim (agent_of_set s.agents session n moved a low (subst (λ (list : List Asker). agent_of list n ≡ Some a) agents at)) [
-            | inl this ↦ subst (λ (x : Asker). HasTodo x (one_turn session now').1) (sym this.1) (subst (λ (k : ℕ). HasTodo moved (one_turn k now').1) mine (took (Ok tt) made given first).todo)
-            | inr other ↦ (
-                let its : a.number ≡ n = here.placed n a other.1 in
-                let some = (agent_there s.agents n a other.1).0 in
-                let apart : a.number - 1 ≢ session - 1 = λ e. other.0 (omega (arith, e, its, some, low)) in
-                keeps_todo session (a.number - 1) now' apart ∙ (here.so_far given first).todo n a other.1)
-          ]
+        (placed : (n : ℕ) (a : Asker) → agent_of s'.agents n ≡ Some a → a.number ≡ n) (given : Given) (sixteen : AreSixteen given.guids) (foretold : Foretells given (world old) (world s'.host)) where
+      abbrev p : Played
+      p = play front (from given)
 
-      calm_then : (given : Given) → Foretells given (world old) (world s'.host) → IsCalm (one_turn session (play front (giving now given)).1).1
-      calm_then given foretold =
-          let grows = turn_grows (Ok tt) made in
-          let first = foretold_first (world old) (world s.host) (world s'.host) given here.grown grows foretold in
-          let now' : Now = (play front (giving now given)).1 in
-          subst (λ (n : ℕ). IsCalm (one_turn n now').1) mine
-          ((took (Ok tt) made given first).calm (foretold_then (world old) (world s.host) (world s'.host) given now'.given (here.so_far given first).plays.done.given grows foretold))
+      far : IsSoFar front s given
+      far = here.so_far given sixteen (told_first (Ok tt) made given foretold)
 
-      pub turn_holds : HoldsAt (front ++ session ∷ []) s'
-      turn_holds = record {
-        grown = grows_joined (world old) (world s.host) (world s'.host) here.grown (turn_grows (Ok tt) made);
-        sixteen = ap length agents ∙ length-set s.agents (session - 1) moved ∙ here.sixteen;
-        placed = placed;
-        so_far = λ given foretold.
-            let n : Now = giving now given in
-            let first = foretold_first (world old) (world s.host) (world s'.host) given here.grown (turn_grows (Ok tt) made) foretold in
-            let far = here.so_far given first in
-            let more : play (front ++ session ∷ []) n ≡ behind (play front n) (one_turn session (play front n).1) = play_more front session n in
-            let refused : any_refused s'.agents ≡ any_refused s.agents || made.refused =
-            ap any_refused agents ∙ any_set s.agents (session - 1) asker moved made.refused (agent_there s.agents session asker there).1 made.noted in
-            record {
-              plays = subst (λ (q : Played). Plays (Ok (any_refused s'.agents)) (world old) (world s'.host) before s'.shared t n q) (sym more)
-                  (subst (λ (r : Bool). Plays (Ok r) (world old) (world s'.host) before s'.shared t n (behind (play front n) (one_turn session (play front n).1))) (sym refused)
-                  (plays_then (world old) (world s.host) (world s'.host) before s.shared s'.shared t n (play front n) (one_turn session (play front n).1) (any_refused s.agents) made.refused far.plays
-                  (turn_plays (Ok tt) made given foretold)));
-              todo = λ k a at. subst (λ (q : Played). HasTodo a q.1) (sym more) (todo_then given foretold k a at);
-              calm = subst (λ (q : Played). IsCalm q.1) (sym more) (calm_then given foretold);
-            };
-      }
+      next_is : TakesNext made.refused (Ok tt) (world s.host) (world s'.host) s.shared s'.shared (trail_after t p) p.1 asker moved
+      next_is = took (Ok tt) made given sixteen (told_first (Ok tt) made given foretold)
+
+      low : 0 < session
+      low = omega (arith, number.0)
+
+      -- of the session itself, and of the others
+      each_then : (P : Asker → Type 0) → P moved → ((n : ℕ) (a : Asker) → agent_of s.agents n ≡ Some a → session - 1 ≢ a.number - 1 → P a) → (n : ℕ) (a : Asker) → agent_of s'.agents n ≡ Some a → P a
+      each_then P own others n a at = elim (agent_of_set s.agents session n moved a low (subst (λ (list : List Asker). agent_of list n ≡ Some a) agents at)) [
+        | inl this ↦ subst P (sym this.1) own
+        | inr other ↦ (
+            let its : a.number ≡ n = here.placed n a other.1 in
+            let some = (agent_there s.agents n a other.1).0 in
+            others n a other.1 (λ e. other.0 (omega (arith, e, its, some, low))))
+      ]
+
+      todo_then : (n : ℕ) (a : Asker) → agent_of s'.agents n ≡ Some a → HasTodo a (one_turn session p.1).1
+      todo_then = each_then (λ a. HasTodo a (one_turn session p.1).1) (subst (λ (k : ℕ). HasTodo moved (one_turn k p.1).1) mine (next_is.todo (told_then (Ok tt) made given sixteen foretold)))
+          (λ n a at off. keeps_todo session (a.number - 1) p.1 (λ e. off (sym e)) ∙ far.todo n a at)
+
+      goes_then : (n : ℕ) (a : Asker) → agent_of s'.agents n ≡ Some a → TaskGoes a.number (world s'.host) s'.shared (base_now (one_turn session p.1).1).frozen a.task
+      goes_then = each_then (λ a. TaskGoes a.number (world s'.host) s'.shared (base_now (one_turn session p.1).1).frozen a.task)
+          (subst (λ (k : ℕ). TaskGoes k (world s'.host) s'.shared (base_now (one_turn session p.1).1).frozen moved.task) (sym same)
+          (subst (λ (k : ℕ). TaskGoes asker.number (world s'.host) s'.shared (base_now (one_turn k p.1).1).frozen moved.task) mine (next_is.goes (told_then (Ok tt) made given sixteen foretold))))
+          (λ n a at off. goes_on session a off made.refused (world s.host) (world s'.host) s.shared s'.shared (trail_after t p) p.1 far.plays.done.ready (making_play front (from given) (making_giving now given sixteen making)).going
+          (far.todo n a at) (turn_plays (Ok tt) made given sixteen foretold) a.task refl (far.goes n a at))
+
+      turn_far : IsSoFar (front ++ session ∷ []) s' given
+      turn_far =
+          let n : Now = from given in
+          let given_making : IsMaking n = making_giving now given sixteen making in
+          let files : List MadeFile = far.made ++ making_by session p.1 in
+          let q : Played = behind p (one_turn session p.1) in
+          let more : play (front ++ session ∷ []) n ≡ q = play_more front session n in
+          let refused : any_refused s'.agents ≡ any_refused s.agents || made.refused =
+          ap any_refused agents ∙ any_set s.agents (session - 1) asker moved made.refused (agent_there s.agents session asker there).1 made.noted in
+          record {
+            made = files;
+            plays = subst (λ (r : Played). Plays (Ok (any_refused s'.agents)) (world old) (world s'.host) before s'.shared t n r files) (sym more)
+                (subst (λ (r : Bool). Plays (Ok r) (world old) (world s'.host) before s'.shared t n q files) (sym refused)
+                (plays_then (world old) (world s.host) (world s'.host) before s.shared s'.shared t n p (one_turn session p.1) far.made (making_by session p.1)
+                (next_once n given_making front session far.made far.among) far.has (next_others n given_making front session)
+                (any_refused s.agents) made.refused far.plays (turn_plays (Ok tt) made given sixteen foretold)));
+            among = subst (λ (r : Played). AreAmong files (files_made r.0 ++ under_way r.1)) (sym more) (next_among n given_making front session far.made far.among);
+            has = subst (λ (r : Played). AreAmong (files_made r.0) files) (sym more) (next_has n given_making front session far.made far.among far.has);
+            todo = λ k a at. subst (λ (r : Played). HasTodo a r.1) (sym more) (todo_then k a at);
+            goes = λ k a at. subst (λ (r : Played). TaskGoes a.number (world s'.host) s'.shared (base_now r.1).frozen a.task) (sym more) (goes_then k a at);
+          }
+
+    turn_holds : (made : Steps tells (Ok tt) (world s.host) (world s'.host) (faults s.host) (faults s'.host) s.shared s'.shared asker moved) → ((n : ℕ) (a : Asker) → agent_of s'.agents n ≡ Some a → a.number ≡ n)
+        → HoldsAt (front ++ session ∷ []) s'
+    turn_holds made placed = record {
+      grown = grows_joined (world old) (world s.host) (world s'.host) here.grown (turn_grows (Ok tt) made);
+      sixteen = ap length agents ∙ length-set s.agents (session - 1) moved ∙ here.sixteen;
+      placed = placed;
+      so_far = λ given sixteen foretold. turn_far made placed given sixteen foretold;
+    }
 
   pub moves_hold : (front : List ℕ) (session : ℕ) (s s' : Scene Asker H Held) → Holds front s → Moves (sessions_kind tells world faults) session s (Ok tt) s' → Holds (front ++ session ∷ []) s'
   moves_hold front session s s' holds move rest is =
       let on = one_more front rest session is in
       turn_holds front rest session s s' on (holds (session ∷ rest) on) (is_session front rest session on) move.agent move.moved move.there move.agents move.same_session move.made (λ n a at. move.still_ready.placed n a at)
 
-  -- before the first turn
-  pub none_hold : (agents : List Asker) → IsTimely (world old) → IsReady (world old) before t now → IsCalm now → length agents ≡ 16 → any_refused agents ≡ false
+  -- before the first turn nothing is under way
+  pub none_hold : (agents : List Asker) → IsTimely (world old) → IsReady (world old) before t now → length agents ≡ 16 → any_refused agents ≡ false
       → ((session : ℕ) (asker : Asker) → agent_of agents session ≡ Some asker → asker.number ≡ session)
-      → ((session : ℕ) (asker : Asker) → agent_of agents session ≡ Some asker → HasTodo asker now) → Holds [] (scene agents old before)
+      → ((session : ℕ) (asker : Asker) → agent_of agents session ≡ Some asker → HasTodo asker now × (asker.task ≡ None)) → Holds [] (scene agents old before)
   unfolding play
-  none_hold agents timely ready calm sixteen none placed todo rest is = record {
+  none_hold agents timely ready sixteen none placed fresh rest is = record {
     grown = grows_none (world old) (world old) (record { guids = refl; times = refl });
     sixteen = sixteen;
     placed = placed;
-    so_far = λ given foretold. record {
-      plays = subst (λ (r : Bool). Plays (Ok r) (world old) (world old) before before t (giving now given) ([], giving now given)) (sym none)
-          (plays_none (world old) before t (giving now given) timely (record { opened = ready.opened; base = ready.base; named = ready.named; running = ready.running }));
-      todo = todo;
-      calm = calm;
+    so_far = λ given guids foretold. record {
+      made = [];
+      plays = subst (λ (r : Bool). Plays (Ok r) (world old) (world old) before before t (from given) ([], from given) []) (sym none)
+          (plays_none (world old) before t (from given) timely (record { opened = ready.opened; base = ready.base; there = ready.there; named = ready.named; running = ready.running; known = ready.known }));
+      among = none_among (files_made [] ++ under_way (from given));
+      has = λ file there. absurd (no_made 0 file.0 file.1 there);
+      todo = λ session asker there. (fresh session asker there).0;
+      goes = λ session asker there. subst (TaskGoes asker.number (world old) before (base_now (from given)).frozen) (sym (fresh session asker there).1) tt;
     };
   }

@@ -1,0 +1,103 @@
+-- What stands behind one number more of an order, and what is made then.
+use Rattle.std.proofs.Common.{◌≡◌, ◌≢◌, ℕ, ◌-◌, List, [], ◌∷◌, ◌++◌, length, get_or, refl, sym, ap, ◌∙◌, get_or-set_other, length-set}
+use Rattle.std.specs.Prelude.{Contains, true}
+use Rattle.std.specs.List.{slice_index_or}
+use Rattle.std.proofs.lemmas.Bool.{true≢false}
+use Rattle.std.proofs.lemmas.List.{append-nil}
+use Rattle.nb_model.specs.Going.{IsAt, waits, backs_up, copies, ends, merges}
+use Rattle.nb_model.specs.Making.{MadeFile, making_by, under_way, AreAmong, IsNoneOf, NamesOnce}
+use Rattle.nb_model.specs.Outcomes.{Turn, Given}
+use Rattle.nb_model.specs.Run.{Event, Now, Played, base_now, outcome, stands_then, take_turn, one_turn, play, files_made}
+use Rattle.nb_model.proofs.RunLaws.{play-append}
+use Rattle.nb_session.specs.Acts.{AreSixteen}
+use Rattle.nb_session.specs.Pure.{IsMaking}
+use Rattle.nb_session.proofs.MadeLaws.{among_left, among_right, both_among, once_fewer, made_ahead, made_both}
+use Rattle.nb_session.proofs.PlayLaws.{behind}
+use Rattle.nb_session.proofs.PureLaws.{making_play, under_at, under_free, under_among, made_among, played_used, names_once}
+
+-- a turn leaves to the other sessions what they have to do
+pub keeps_todo : (session i : ℕ) (now : Now) → i ≢ session - 1 → get_or (one_turn session now).1.todo i [] ≡ get_or now.todo i []
+unfolding one_turn take_turn stands_then
+keeps_todo session i now other = by (get_or now.todo (session - 1) [])
+  where
+    by : (ts : List Turn) → get_or (take_turn session ts now).1.todo i [] ≡ get_or now.todo i []
+    by [] = refl
+    by (t ∷ rest) = get_or-set_other now.todo (session - 1) i ((outcome session t now).next ++ rest) [] other
+
+turn_length : (session : ℕ) (now : Now) → length (one_turn session now).1.todo ≡ length now.todo
+unfolding one_turn take_turn stands_then
+turn_length session now = by (get_or now.todo (session - 1) [])
+  where
+    by : (ts : List Turn) → length (take_turn session ts now).1.todo ≡ length now.todo
+    by [] = refl
+    by (t ∷ rest) = length-set now.todo (session - 1) ((outcome session t now).next ++ rest)
+
+pub play_length : (order : List ℕ) (now : Now) → length (play order now).1.todo ≡ length now.todo
+unfolding play
+play_length [] now = refl
+play_length (x ∷ order) now = play_length order (one_turn x now).1 ∙ turn_length x now
+
+play_one : (session : ℕ) (now : Now) → play (session ∷ []) now ≡ one_turn session now
+unfolding play
+play_one session now = ap (λ (es : List Event). (es, (one_turn session now).1)) (append-nil (one_turn session now).0)
+
+-- one number more of an order
+pub play_more : (front : List ℕ) (session : ℕ) (now : Now) → play (front ++ session ∷ []) now ≡ behind (play front now) (one_turn session (play front now).1)
+play_more front session now =
+    play-append front (session ∷ []) now ∙ ap (λ (p : Played). ((play front now).0 ++ p.0, p.1)) (play_one session (play front now).1)
+
+-- the same, whatever the outside gives
+abbrev pub giving : Now → Given → Now
+giving now given = record now { given = given }
+
+at_giving : (now : Now) (given : Given) (place : ℕ) (todo : List Turn) → IsAt now place todo → IsAt (giving now given) place todo
+at_giving now given place todo (waits all) = waits all
+at_giving now given place todo (backs_up left b rest is all runs room free) = backs_up left b rest is all (record { by = runs.by; running = runs.running; its = runs.its; state = runs.state }) room free
+at_giving now given place todo (copies left name rest is all runs free) = copies left name rest is all (record { by = runs.by; running = runs.running; its = runs.its; state = runs.state }) free
+at_giving now given place todo (ends reply rest is all runs) = ends reply rest is all (record { by = runs.by; running = runs.running; its = runs.its; state = runs.state })
+at_giving now given place todo (merges turns runs) = merges turns (record { by = runs.by; running = runs.running; its = runs.its; state = runs.state })
+
+pub making_giving : (now : Now) (given : Given) → AreSixteen given.guids → IsMaking now → IsMaking (giving now given)
+making_giving now given sixteen making = record {
+  going = record {
+    header = making.going.header;
+    sound = making.going.sound;
+    state = making.going.state;
+    frozen = making.going.frozen;
+    each = λ place. at_giving now given place (slice_index_or now.todo place []) (making.going.each place);
+    sixteen = sixteen;
+  };
+  named = making.named;
+  stalled = making.stalled;
+}
+
+-- One number more of an order: of what is made then no two have the same name, and it is among what was made or is under way.
+module _ (now : Now) (making : IsMaking now) (front : List ℕ) (session : ℕ) where
+  abbrev so_far : Played
+  so_far = play front now
+
+  abbrev next : Played
+  next = one_turn session so_far.1
+
+  far_making : IsMaking so_far.1
+  far_making = making_play front now making
+
+  by_among : AreAmong (making_by session so_far.1) (under_way so_far.1)
+  by_among file there = under_at (base_now so_far.1).frozen so_far.1.todo (session - 1) file there
+
+  pub next_others : (n bytes : List ℕ) → Contains (files_made so_far.0) (n, bytes) → IsNoneOf (making_by session so_far.1) n
+  next_others n bytes there other other_there = true≢false (sym (under_free so_far.1 far_making.going (n, other) (by_among (n, other) other_there)) ∙ played_used front now making (n, bytes) there)
+
+  module _ (made : List MadeFile) (among : AreAmong made (files_made so_far.0 ++ under_way so_far.1)) where
+    all_among : AreAmong (made ++ making_by session so_far.1) (files_made so_far.0 ++ under_way so_far.1)
+    all_among = both_among made (making_by session so_far.1) (files_made so_far.0 ++ under_way so_far.1) among (λ file there. among_right (files_made so_far.0) (under_way so_far.1) file (by_among file there))
+
+    pub next_once : NamesOnce (made ++ making_by session so_far.1)
+    next_once = once_fewer (made ++ making_by session so_far.1) (files_made so_far.0 ++ under_way so_far.1) all_among (names_once front now making)
+
+    pub next_among : AreAmong (made ++ making_by session so_far.1) (files_made (so_far.0 ++ next.0) ++ under_way next.1)
+    next_among file there = made_ahead so_far.0 next.0 (under_way so_far.1) (under_way next.1) (under_among session so_far.1 far_making.going) file (all_among file there)
+
+    pub next_has : AreAmong (files_made so_far.0) made → AreAmong (files_made (so_far.0 ++ next.0)) (made ++ making_by session so_far.1)
+    next_has has = made_both so_far.0 next.0 (made ++ making_by session so_far.1) (λ file there. among_left made (making_by session so_far.1) file (has file there))
+        (λ file there. among_right made (making_by session so_far.1) file (made_among session so_far.1 far_making.going file there))
