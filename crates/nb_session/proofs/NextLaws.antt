@@ -1,5 +1,5 @@
 -- What stands behind one number more of an order, and what is made then.
-use Rattle.std.proofs.Common.{◌≡◌, ◌≢◌, ℕ, ◌-◌, List, [], ◌∷◌, ◌++◌, length, get_or, refl, sym, ap, ◌∙◌, get_or-set_other, length-set}
+use Rattle.std.proofs.Common.{◌≡◌, ◌≢◌, ℕ, ◌-◌, List, [], ◌∷◌, ◌++◌, length, get_or, refl, sym, ap, subst, ◌∙◌, get_or-set_other, length-set}
 use Rattle.std.specs.Prelude.{Contains, true}
 use Rattle.std.specs.List.{slice_index_or}
 use Rattle.std.proofs.lemmas.Bool.{true≢false}
@@ -7,13 +7,13 @@ use Rattle.std.proofs.lemmas.List.{append-nil}
 use Rattle.nb_model.specs.Going.{IsAt, waits, backs_up, copies, ends, merges}
 use Rattle.nb_model.specs.Making.{MadeFile, making_by, under_way, AreAmong, IsNoneOf, NamesOnce}
 use Rattle.nb_model.specs.Outcomes.{Turn, Given}
-use Rattle.nb_model.specs.Run.{Event, Now, Played, base_now, outcome, stands_then, take_turn, one_turn, play, files_made}
+use Rattle.nb_model.specs.Run.{Event, Now, Played, base_now, outcome, stands_then, take_turn, one_turn, play, files_made, AreFinished}
 use Rattle.nb_model.proofs.RunLaws.{play-append}
 use Rattle.nb_session.specs.Acts.{AreSixteen}
 use Rattle.nb_session.specs.Pure.{IsMaking}
-use Rattle.nb_session.proofs.MadeLaws.{among_left, among_right, both_among, once_fewer, made_ahead, made_both}
+use Rattle.nb_session.proofs.MadeLaws.{none_among, among_left, among_right, both_among, once_fewer, made_ahead, made_both}
 use Rattle.nb_session.proofs.PlayLaws.{behind}
-use Rattle.nb_session.proofs.PureLaws.{making_play, under_at, under_free, under_among, made_among, played_used, names_once}
+use Rattle.nb_session.proofs.PureLaws.{making_play, finished_none, under_at, under_free, under_among, under_play, made_among, played_used, names_once}
 
 -- a turn leaves to the other sessions what they have to do
 pub keeps_todo : (session i : ℕ) (now : Now) → i ≢ session - 1 → get_or (one_turn session now).1.todo i [] ≡ get_or now.todo i []
@@ -89,7 +89,7 @@ module _ (now : Now) (making : IsMaking now) (front : List ℕ) (session : ℕ) 
   next_others n bytes there other other_there = true≢false (sym (under_free so_far.1 far_making.going (n, other) (by_among (n, other) other_there)) ∙ played_used front now making (n, bytes) there)
 
   module _ (made : List MadeFile) (among : AreAmong made (files_made so_far.0 ++ under_way so_far.1)) where
-    all_among : AreAmong (made ++ making_by session so_far.1) (files_made so_far.0 ++ under_way so_far.1)
+    pub all_among : AreAmong (made ++ making_by session so_far.1) (files_made so_far.0 ++ under_way so_far.1)
     all_among = both_among made (making_by session so_far.1) (files_made so_far.0 ++ under_way so_far.1) among (λ file there. among_right (files_made so_far.0) (under_way so_far.1) file (by_among file there))
 
     pub next_once : NamesOnce (made ++ making_by session so_far.1)
@@ -101,3 +101,24 @@ module _ (now : Now) (making : IsMaking now) (front : List ℕ) (session : ℕ) 
     pub next_has : AreAmong (files_made so_far.0) made → AreAmong (files_made (so_far.0 ++ next.0)) (made ++ making_by session so_far.1)
     next_has has = made_both so_far.0 next.0 (made ++ making_by session so_far.1) (λ file there. among_left made (making_by session so_far.1) file (has file there))
         (λ file there. among_right made (making_by session so_far.1) file (made_among session so_far.1 far_making.going file there))
+
+-- What is under way behind a front of an order was made behind all of it, or is under way still.
+pub play_ahead : (front rest : List ℕ) (now : Now) → IsMaking now
+    → AreAmong (files_made (play front now).0 ++ under_way (play front now).1) (files_made (play (front ++ rest) now).0 ++ under_way (play (front ++ rest) now).1)
+play_ahead front rest now making =
+    let p : Played = play front now in
+    let q : Played = play rest p.1 in
+    let behind_it : IsMaking p.1 = making_play front now making in
+    subst (λ (r : Played). AreAmong (files_made p.0 ++ under_way p.1) (files_made r.0 ++ under_way r.1)) (sym (play-append front rest now))
+    (made_ahead p.0 q.0 (under_way p.1) (under_way q.1) (under_play rest p.1 behind_it.named behind_it.going))
+
+-- once all have finished nothing is
+pub finished_among : (events : List Event) (now : Now) → AreFinished now.todo → AreAmong (files_made events ++ under_way now) (files_made events)
+finished_among events now finished =
+    both_among (files_made events) (under_way now) (files_made events) (λ file there. there) (subst (λ (files : List MadeFile). AreAmong files (files_made events)) (sym (finished_none now finished)) (none_among (files_made events)))
+
+-- no two files that were made have the same name
+pub made_once : (order : List ℕ) (now : Now) → IsMaking now → NamesOnce (files_made (play order now).0)
+made_once order now making =
+    let p : Played = play order now in
+    once_fewer (files_made p.0) (files_made p.0 ++ under_way p.1) (among_left (files_made p.0) (under_way p.1)) (names_once order now making)

@@ -1,6 +1,6 @@
 -- A script that is played: its schedule, and then rounds until all sessions have finished.
 use Rattle.std.proofs.Common.{◌≡◌, ℕ, zero, suc, ◌+◌, ◌-◌, ◌≤◌, List, [], ◌∷◌, ◌++◌, length, map, get_or, append_assoc, inl, inr, refl, sym, ap, subst, ◌∙◌, arith}
-use Rattle.std.specs.Prelude.{Bool, IsTrue, Result, Ok, Err, Some, slice_get}
+use Rattle.std.specs.Prelude.{Bool, IsTrue, true, Result, Ok, Err, Some, None, slice_get}
 use Rattle.std.specs.List.{AllByRecursion, range_with_len, slice_index_or}
 use Rattle.std.proofs.lemmas.Bool.{cases_lt}
 use Rattle.std.proofs.lemmas.List.{append-nil, get_or_past, length-map}
@@ -11,29 +11,37 @@ use Rattle.nb_host.specs.declared.faults.Fault.{Fault}
 use Rattle.nb_host.specs.declared.faults.Fault.TheVariants.{Refused}
 use Rattle.nb_host.specs.declared.refusals.Refusal.{Refusal}
 use Rattle.nb_change.specs.Counts.{CountsDevice}
+use Rattle.nb_model.specs.Causes.{is_free_entry}
 use Rattle.nb_model.specs.Gifts.{Foretells}
+use Rattle.nb_model.specs.Making.{MadeFile, making_by, under_way, AreAmong}
 use Rattle.nb_model.specs.Outcomes.{Turn, Begins}
-use Rattle.nb_model.specs.Run.{Now, Played, one_turn, play, rounds, all_sessions, AreFinished, begun}
+use Rattle.nb_model.specs.Run.{Now, Played, one_turn, play, rounds, all_sessions, files_made, AreFinished, begun}
 use Rattle.nb_model.specs.Trail.{Trail}
 use Rattle.nb_model.proofs.RunLaws.{play-append}
+use Rattle.nb_model.proofs.StandsLaws.{no_main}
 use Rattle.nb_sched.specs.Turns.{Scene, scene, agent_of, AllDone, IsReady as AreReady, TakesTurns, EndsWith, FailsBehind}
 use Rattle.nb_sched.proofs.TurnLaws.{turns_hold}
 use Rattle.nb_script.specs.Asked.{IsAskable}
 use Rattle.nb_script.specs.Fits.{IsSession}
 use Rattle.nb_script.specs.Scripts.{Plan}
-use Rattle.nb_state.specs.Open.{Held}
+use Rattle.nb_state.specs.Open.{Held, name_of}
 use Rattle.nb_session.specs.declared.stop.Stop.{Stop}
 use Rattle.nb_session.specs.Acts.{Grows}
 use Rattle.nb_session.specs.Askers.{Asker, HasTodo, left_of, IsFit, any_refused, fresh_asker, first_askers}
-use Rattle.nb_session.specs.Ready.{IsReady, IsCalm}
+use Rattle.nb_session.specs.Pure.{IsMaking}
+use Rattle.nb_session.specs.Ready.{IsReady}
 use Rattle.nb_session.specs.Stops.{Plays}
 use Rattle.nb_session.specs.Steps.{as_played}
 use Rattle.nb_session.specs.Todo.{PlaysWhole}
-use Rattle.nb_session.proofs.PlayLaws.{behind, trail_after, plays_failed, plays_cut}
-use Rattle.nb_session.proofs.SceneLaws.{sessions_kind, done_todo, agent_some, play_length, play_more, Holds, HoldsAt, rests_hold, moves_hold, none_hold, turn_plays, turn_grows, at_place}
-use Rattle.nb_session.proofs.GiftLaws.{foretold_first, grows_joined}
 use Rattle.nb_session.proofs.AllLaws.{all_append}
 use Rattle.nb_session.proofs.EndLaws.{turns_end}
+use Rattle.nb_session.proofs.GiftLaws.{foretold_first, grows_joined}
+use Rattle.nb_session.proofs.MadeLaws.{among_left}
+use Rattle.nb_session.proofs.NextLaws.{play_length, play_more, all_among, next_once, next_others, play_ahead, finished_among, made_once}
+use Rattle.nb_session.proofs.PlayLaws.{behind, trail_after, plays_wider, plays_failed, plays_cut}
+use Rattle.nb_session.proofs.PureLaws.{own_in_use, free_play, named_play}
+use Rattle.nb_session.proofs.SceneLaws.{sessions_kind, done_todo, agent_some, Holds, HoldsAt, rests_hold, moves_hold, none_hold, turn_plays, turn_grows, at_place}
+use Rattle.nb_session.proofs.StopLaws.{AreApart}
 
 -- the numbers of sessions
 in_range : (first n : ℕ) → 1 ≤ first → first + n ≤ 17 → AllByRecursion IsSession (range_with_len first n)
@@ -61,6 +69,9 @@ first_agent plan (suc place) asker there = let same : 1 + place ≡ suc place = 
 pub first_number : (plan : Plan) (session : ℕ) (asker : Asker) → agent_of (first_askers plan) session ≡ Some asker → asker.number ≡ session
 first_number plan session asker there = ap (λ (a : Asker). a.number) (first_agent plan session asker there)
 
+pub first_task : (plan : Plan) (session : ℕ) (asker : Asker) → agent_of (first_askers plan) session ≡ Some asker → asker.task ≡ None
+first_task plan session asker there = ap (λ (a : Asker). a.task) (first_agent plan session asker there)
+
 pub first_todo : (plan : Plan) (now : Now) (session : ℕ) (asker : Asker) → now.todo ≡ begun plan.sessions → agent_of (first_askers plan) session ≡ Some asker → HasTodo asker now
 first_todo plan now session asker begins there =
     subst (λ (a : Asker). HasTodo a now) (sym (first_agent plan session asker there))
@@ -71,8 +82,15 @@ all_finished : (todo : List (List Turn)) → ((i : ℕ) → get_or todo i [] ≡
 all_finished [] none = tt
 all_finished (ts ∷ todo) none = subst (λ (xs : List Turn). AreFinished (xs ∷ todo)) (sym (none 0)) (all_finished todo (λ i. none (suc i)))
 
+-- none of the files that are made is one of the database's two
+made_apart : (w : World) (held : Held) (t : Trail) (now : Now) → IsReady w held t now → IsMaking now → (order : List ℕ) → AreApart (name_of held) (files_made (play order now).0)
+made_apart w held t now ready making order n bytes there (inl own) =
+    own_in_use now making.going (subst (λ (m : List ℕ). is_free_entry (now.account.entry m) ≡ true) (own ∙ ready.named)
+    (free_play order now making.named making.going (n, bytes) (among_left (files_made (play order now).0) (under_way (play order now).1) (n, bytes) there)))
+made_apart w held t now ready making order n bytes there (inr delta) = no_main (name_of held) n (named_play order now making (n, bytes) there) (sym delta)
+
 module _ {H : Type 0} (tells : Bool) (told : IsTrue tells) (world : H → World) (faults : H → ℕ) (old : H) (before : Held) (t : Trail) (now : Now) (plan : Plan) (askable : IsAskable plan) (how_often : ℕ)
-    (calm : IsCalm now) (timely : IsTimely (world old)) (ready : IsReady (world old) before t now) (begins : now.todo ≡ begun plan.sessions) where
+    (making : IsMaking now) (timely : IsTimely (world old)) (ready : IsReady (world old) before t now) (begins : now.todo ≡ begun plan.sessions) where
   abbrev order : List ℕ
   order = plan.schedule ++ rounds how_often
 
@@ -82,55 +100,68 @@ module _ {H : Type 0} (tells : Bool) (told : IsTrue tells) (world : H → World)
   abbrev start : Scene Asker H Held
   start = scene (first_askers plan) old before
 
-  begun_holds : Holds tells told world faults old before t now order numbers [] start
-  begun_holds = none_hold tells told world faults old before t now order numbers (first_askers plan) timely ready calm refl refl (first_number plan) (λ session asker there. first_todo plan now session asker begins there)
+  begun_holds : Holds tells told world faults old before t now order numbers making [] start
+  begun_holds = none_hold tells told world faults old before t now order numbers making (first_askers plan) timely ready refl refl (first_number plan)
+      (λ session asker there. (first_todo plan now session asker begins there, first_task plan session asker there))
 
   ends : (after : Scene Asker H Held) (answer : Result (Unit {0}) Fault) → TakesTurns (sessions_kind tells world faults) order start answer after
-      → EndsWith (sessions_kind tells world faults) (Holds tells told world faults old before t now order numbers) order answer after
+      → EndsWith (sessions_kind tells world faults) (Holds tells told world faults old before t now order numbers making) order answer after
   ends after answer turns =
-      turns_hold (sessions_kind tells world faults) (Holds tells told world faults old before t now order numbers)
-      (λ front session s holds rests. rests_hold tells told world faults old before t now order numbers front session s holds rests)
-      (λ front session s s' holds move. moves_hold tells told world faults old before t now order numbers front session s s' holds move)
+      turns_hold (sessions_kind tells world faults) (Holds tells told world faults old before t now order numbers making)
+      (λ front session s holds rests. rests_hold tells told world faults old before t now order numbers making front session s holds rests)
+      (λ front session s s' holds move. moves_hold tells told world faults old before t now order numbers making front session s s' holds move)
       order start after answer begun_holds turns
 
   todo_length : length (play order now).1.todo ≡ 16
   todo_length = play_length order now ∙ ap length begins ∙ length-map plan.sessions (map Begins) ∙ askable.sixteen
+
+  -- once all have finished what was made is whole
+  made_whole : (result : Result Bool Stop) (new : World) (held : Held) (xs : List ℕ) (made : List MadeFile) → AreFinished (play xs now).1.todo → AreAmong made (files_made (play xs now).0 ++ under_way (play xs now).1)
+      → Plays result (world old) new before held t now (play xs now) made → Plays result (world old) new before held t now (play xs now) (files_made (play xs now).0)
+  made_whole result new held xs made finished among =
+      plays_wider result (world old) new before held t now (play xs now) made (files_made (play xs now).0) (λ file there. finished_among (play xs now).0 (play xs now).1 finished file (among file there))
+      (made_once xs now making) (made_apart (world old) before t now ready making xs)
 
   -- to their end
   pub whole_played : (after : Scene Asker H Held) → TakesTurns (sessions_kind tells world faults) order start (Ok tt) after → AllDone left_of after.agents → Foretells now.given (world old) (world after.host)
       → PlaysWhole (Ok (any_refused after.agents)) (world old) (world after.host) before after.shared t now plan.schedule
   whole_played after turns done foretold =
       let here = ends after (Ok tt) turns [] (append-nil order) in
-      let far = here.so_far now.given foretold in
+      let far = here.so_far now.given making.going.sixteen foretold in
+      let finished : AreFinished (play order now).1.todo = all_finished (play order now).1.todo (λ i. elim (cases_lt i 16) [
+        | inl low ↦ (
+            let one = agent_some after.agents (i + 1) (omega arith) (omega (arith, low, here.sixteen)) in
+            let place : one.0.number - 1 ≡ i = omega (arith, here.placed (i + 1) one.0 one.1) in
+            ap (λ (k : ℕ). get_or (play order now).1.todo k []) (sym place) ∙ far.todo (i + 1) one.0 one.1 ∙ done_todo one.0 (done (i + 1) one.0 one.1))
+        | inr high ↦ get_or_past (play order now).1.todo i [] (omega (arith, high, todo_length))
+      ]) in
       record {
         how_often = how_often;
-        plays = far.plays;
-        finished = all_finished (play order now).1.todo (λ i. elim (cases_lt i 16) [
-          | inl low ↦ (
-              let one = agent_some after.agents (i + 1) (omega arith) (omega (arith, low, here.sixteen)) in
-              let place : one.0.number - 1 ≡ i = omega (arith, here.placed (i + 1) one.0 one.1) in
-              ap (λ (k : ℕ). get_or (play order now).1.todo k []) (sym place) ∙ far.todo (i + 1) one.0 one.1 ∙ done_todo one.0 (done (i + 1) one.0 one.1))
-          | inr high ↦ get_or_past (play order now).1.todo i [] (omega (arith, high, todo_length))
-        ]);
+        plays = made_whole (Ok (any_refused after.agents)) (world after.host) after.shared order far.made finished far.among far.plays;
+        finished = finished;
       }
 
-  failed : (front rest : List ℕ) (session : ℕ) (mid new : World) (e1 e2 : Held) (r : Bool) (e : Stop) → order ≡ front ++ (session ∷ rest) → Plays (Ok r) (world old) mid before e1 t now (play front now)
-      → Plays (Err e) mid new e1 e2 (trail_after t (play front now)) (play front now).1 (one_turn session (play front now).1) → Plays (Err e) (world old) new before e2 t now (play order now)
-  failed front rest session mid new e1 e2 r e is first second =
+  -- A turn ended early, and these would have come behind it.
+  failed : (front rest whole : List ℕ) (session : ℕ) (mid new : World) (e1 e2 : Held) (r : Bool) (e : Stop) (made : List MadeFile) → whole ≡ front ++ (session ∷ rest)
+      → AreAmong made (files_made (play front now).0 ++ under_way (play front now).1) → AreAmong (files_made (play front now).0) made → Plays (Ok r) (world old) mid before e1 t now (play front now) made
+      → Plays (Err e) mid new e1 e2 (trail_after t (play front now)) (play front now).1 (one_turn session (play front now).1) (making_by session (play front now).1)
+      → Plays (Err e) (world old) new before e2 t now (play whole now) (made ++ making_by session (play front now).1)
+  failed front rest whole session mid new e1 e2 r e made is among has first second =
       let p : Played = play front now in
       let two : Played = play (front ++ session ∷ []) now in
+      let files : List MadeFile = made ++ making_by session p.1 in
       let more : two ≡ behind p (one_turn session p.1) = play_more front session now in
-      let both = plays_failed (world old) mid new before e1 e2 t now p (one_turn session p.1) r e first second in
-      let cut = plays_cut (world old) new before e2 t now two (play rest two.1).0 (play rest two.1).1 e (subst (Plays (Err e) (world old) new before e2 t now) (sym more) both) in
-      subst (Plays (Err e) (world old) new before e2 t now)
+      let both = plays_failed (world old) mid new before e1 e2 t now p (one_turn session p.1) made (making_by session p.1) (next_once now making front session made among) has (next_others now making front session) r e first second in
+      let cut = plays_cut (world old) new before e2 t now two (play rest two.1).0 (play rest two.1).1 files e (subst (λ (q : Played). Plays (Err e) (world old) new before e2 t now q files) (sym more) both) in
+      subst (λ (q : Played). Plays (Err e) (world old) new before e2 t now q files)
       (sym (play-append (front ++ session ∷ []) rest now) ∙ ap (λ (xs : List ℕ). play xs now) (append_assoc front (session ∷ []) rest ∙ sym is)) cut
 
   -- where one turn ended early
   module _ (after : Scene Asker H Held) (fault : Fault) (turns : TakesTurns (sessions_kind tells world faults) order start (Err fault) after) where
-    abbrev e : FailsBehind (sessions_kind tells world faults) (Holds tells told world faults old before t now order numbers) order fault after
+    abbrev e : FailsBehind (sessions_kind tells world faults) (Holds tells told world faults old before t now order numbers making) order fault after
     e = ends after (Err fault) turns
 
-    before_it : HoldsAt tells told world faults old before t now order numbers e.front e.last
+    before_it : HoldsAt tells told world faults old before t now order numbers making e.front e.last
     before_it = e.holds (e.session ∷ e.rest) (sym e.is)
 
     number : IsSession e.session
@@ -138,30 +169,31 @@ module _ {H : Type 0} (tells : Bool) (told : IsTrue tells) (world : H → World)
 
     last_grows : Grows (world e.last.host) (world after.host)
     last_grows =
-        turn_grows tells told world faults old before t now order numbers e.front e.rest e.session e.last after (sym e.is) before_it number e.move.agent e.move.moved e.move.there e.move.agents e.move.same_session (Err fault) e.move.made
+        turn_grows tells told world faults old before t now order numbers making e.front e.rest e.session e.last after (sym e.is) before_it number e.move.agent e.move.moved e.move.there e.move.agents e.move.same_session (Err fault) e.move.made
 
     all_grow : Grows (world old) (world after.host)
     all_grow = grows_joined (world old) (world e.last.host) (world after.host) before_it.grown last_grows
-
-    order_failed : (stop : Stop) → ((refused : Unit {0} → Bool) → as_played refused (Err fault) ≡ Err stop) → Foretells now.given (world old) (world after.host)
-        → Plays (Err stop) (world old) (world after.host) before after.shared t now (play order now)
-    order_failed stop same foretold =
-        let plays = turn_plays tells told world faults old before t now order numbers e.front e.rest e.session e.last after (sym e.is) before_it number e.move.agent e.move.moved e.move.there e.move.agents e.move.same_session
-        (Err fault) e.move.made now.given foretold in
-        let first = foretold_first (world old) (world e.last.host) (world after.host) now.given before_it.grown last_grows foretold in
-        failed e.front e.rest e.session (world e.last.host) (world after.host) e.last.shared after.shared _ stop e.is (before_it.so_far now.given first).plays
-        (subst (λ (r : Result Bool Stop). Plays r (world e.last.host) (world after.host) e.last.shared after.shared (trail_after t (play e.front now)) (play e.front now).1 (one_turn e.session (play e.front now).1)) (same (λ done. e.move.made.refused)) plays)
 
     -- or until one ended early
     pub whole_failed : (stop : Stop) → ((refused : Unit {0} → Bool) → as_played refused (Err fault) ≡ Err stop) → Foretells now.given (world old) (world after.host)
         → PlaysWhole (Err stop) (world old) (world after.host) before after.shared t now plan.schedule
     whole_failed stop same foretold =
-        let end = turns_end plan askable now begins how_often in
-        let p : Played = play order now in
-        let cut = plays_cut (world old) (world after.host) before after.shared t now p (play end.more p.1).0 (play end.more p.1).1 stop (order_failed stop same foretold) in
+        let end = turns_end plan askable now making.going begins how_often in
+        let whole : List ℕ = plan.schedule ++ rounds end.how_often in
+        let is : whole ≡ e.front ++ (e.session ∷ (e.rest ++ end.more)) = end.is ∙ ap (λ (xs : List ℕ). xs ++ end.more) e.is ∙ append_assoc e.front (e.session ∷ e.rest) end.more in
+        let plays = turn_plays tells told world faults old before t now order numbers making e.front e.rest e.session e.last after (sym e.is) before_it number e.move.agent e.move.moved e.move.there e.move.agents e.move.same_session
+        (Err fault) e.move.made now.given making.going.sixteen foretold in
+        let far = before_it.so_far now.given making.going.sixteen (foretold_first (world old) (world e.last.host) (world after.host) now.given before_it.grown last_grows foretold) in
+        let p : Played = play e.front now in
+        let files : List MadeFile = far.made ++ making_by e.session p.1 in
+        let among : AreAmong files (files_made (play whole now).0 ++ under_way (play whole now).1) =
+        λ file there. subst (λ (xs : List ℕ). AreAmong (files_made p.0 ++ under_way p.1) (files_made (play xs now).0 ++ under_way (play xs now).1)) (sym is) (play_ahead e.front (e.session ∷ (e.rest ++ end.more)) now making) file
+        (all_among now making e.front e.session far.made far.among file there) in
         record {
           how_often = end.how_often;
-          plays = subst (Plays (Err stop) (world old) (world after.host) before after.shared t now) (sym (play-append order end.more now) ∙ ap (λ (xs : List ℕ). play xs now) (sym end.is)) cut;
+          plays = made_whole (Err stop) (world after.host) after.shared whole files end.finished among
+              (failed e.front (e.rest ++ end.more) whole e.session (world e.last.host) (world after.host) e.last.shared after.shared _ stop far.made is far.among far.has far.plays
+              (subst (λ (r : Result Bool Stop). Plays r (world e.last.host) (world after.host) e.last.shared after.shared (trail_after t p) p.1 (one_turn e.session p.1) (making_by e.session p.1)) (same (λ done. e.move.made.refused)) plays));
           finished = end.finished;
         }
 
@@ -186,7 +218,7 @@ first_ready tells world faults plan askable agents host held first = record {
   placed = λ session asker there. first_number plan session asker (subst (λ (list : List Asker). agent_of list session ≡ Some asker) first there);
   fit = λ session asker there.
       subst (λ (a : Asker). IsFit a held) (sym (first_agent plan session asker (subst (λ (list : List Asker). agent_of list session ≡ Some asker) first there)))
-      (record { asks = askable.further session; merge = tt });
+      (record { asks = askable.further session; task = tt });
 }
 
 -- The count of faults, and refusals.
