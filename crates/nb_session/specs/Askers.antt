@@ -1,4 +1,5 @@
 -- A session of a script between two of its turns.
+use Rattle.std.proofs.Common.{sym, ◌∙◌}
 use Rattle.std.specs.Prelude.{◌≡◌, ◌≢◌, ℕ, zero, suc, ◌+◌, ◌-◌, Bool, false, List, [], ◌∷◌, ◌++◌, length, map, replicate, Option, Some, None}
 use Rattle.std.specs.List.{AllByRecursion, list_any, slice_index_or}
 use Rattle.nb_model.specs.declared.statement.Statement.{Statement}
@@ -9,6 +10,7 @@ use Rattle.nb_copy.specs.FileCopying.{file_count, file_next}
 use Rattle.nb_script.specs.Asked.{IsFurther}
 use Rattle.nb_script.specs.Scripts.{Plan, statements_of}
 use Rattle.nb_state.specs.Open.{Held}
+use Rattle.nb_session.specs.Replies.{is_refusal}
 use Rattle.nb_session.specs.declared.task.Task.{Task}
 use Rattle.nb_session.specs.declared.task.Task.TheVariants.{Backup, Copy, End, Merge}
 
@@ -90,13 +92,14 @@ pub record IsMerging (session left : ℕ) (held : Held) : Type 0 where
   pub running : held.running ≡ Some session
   pub rest : length held.files.entries ≡ held.merged + left
 
--- What a statement that is under way needs of the database: a copy has room for its pages, and a merge is as the session left it.
+-- What a statement that is under way needs of the database: a copy has room for its pages, and a merge is as the session left it. What is
+-- said once all is merged is no refusal.
 abbrev pub TaskFits : (session : ℕ) → Option Task → Held → Type 0
 TaskFits session None held = Unit {0}
 TaskFits session (Some (Backup c)) held = c.page_size ≡ held.files.page_size
 TaskFits session (Some (Copy c)) held = c.size ≡ held.files.page_size
-TaskFits session (Some (End reply)) held = Unit {0}
-TaskFits session (Some (Merge m)) held = IsMerging session m.left held
+TaskFits session (Some (End reply)) held = is_refusal reply ≡ false
+TaskFits session (Some (Merge m)) held = IsMerging session m.left held × (is_refusal m.reply ≡ false)
 
 -- What a session needs: its statements can be asked, and what is under way of it fits.
 pub record IsFit (asker : Asker) (held : Held) : Type 0 where
@@ -107,6 +110,17 @@ pub record IsFit (asker : Asker) (held : Held) : Type 0 where
 pub record KeepsOthers (session : ℕ) (before after : Held) : Type 0 where
   pub page_size : after.files.page_size ≡ before.files.page_size
   pub merging : (other left : ℕ) → other ≢ session → IsMerging other left before → IsMerging other left after
+
+-- so each other session has what it needs
+pub keeps_fit : (session : ℕ) (other : Asker) (before after : Held) → other.number ≢ session → KeepsOthers session before after → IsFit other before → IsFit other after
+keeps_fit session other before after apart keeps fit = record { asks = fit.asks; task = by other.task fit.task }
+  where
+    by : (task : Option Task) → TaskFits other.number task before → TaskFits other.number task after
+    by None is = tt
+    by (Some (Backup c)) is = is ∙ sym keeps.page_size
+    by (Some (Copy c)) is = is ∙ sym keeps.page_size
+    by (Some (End reply)) is = is
+    by (Some (Merge m)) is = (keeps.merging other.number m.left apart is.0, is.1)
 
 -- a session that has all of its statements to do
 abbrev pub fresh_asker : Plan → (session : ℕ) → Asker

@@ -29,10 +29,10 @@ pub record IsApart (held : Held) (name : List ℕ) : Type 0 where
   pub plain : is_delta name ≡ false
   pub other : name ≢ name_of held
 
--- a copy that is under way goes on from where it is, into a file of its own
-abbrev pub TaskGoes : World → Held → (frozen : Image) → Option Task → Type 0
-TaskGoes w held frozen None = Unit {0}
-TaskGoes w held frozen (Some (Backup c)) = IsBackingUp w c frozen × IsApart held c.backing.name
-TaskGoes w held frozen (Some (Copy c)) = IsCopying w c frozen × IsApart held c.name
-TaskGoes w held frozen (Some (End reply)) = Unit {0}
-TaskGoes w held frozen (Some (Merge m)) = Unit {0}
+-- A copy that is under way goes on from where it is, into a file of its own. Up to the end behind it its session runs.
+abbrev pub TaskGoes : (session : ℕ) → World → Held → (frozen : Image) → Option Task → Type 0
+TaskGoes session w held frozen None = Unit {0}
+TaskGoes session w held frozen (Some (Backup c)) = IsBackingUp w c frozen × IsApart held c.backing.name × (held.running ≡ Some session)
+TaskGoes session w held frozen (Some (Copy c)) = IsCopying w c frozen × IsApart held c.name × (held.running ≡ Some session)
+TaskGoes session w held frozen (Some (End reply)) = held.running ≡ Some session
+TaskGoes session w held frozen (Some (Merge m)) = Unit {0}

@@ -31,14 +31,14 @@ as_played refused (Err Memory) = Err MemoryStop
 -- What a turn leaves of its statement, where `tail` stood behind it: what is under way then, and that it goes on from where it is.
 pub record IsBehind (w : World) (held : Held) (session : ℕ) (turn : Turn) (tail : List Turn) (now : Now) (task : Option Task) : Type 0 where
   pub next : (outcome session turn now).next ++ tail ≡ task_todo task
-  pub goes : TaskGoes w held (base_after (base_now now) (outcome session turn now).strokes).frozen task
+  pub goes : TaskGoes session w held (base_after (base_now now) (outcome session turn now).strokes).frozen task
 
--- A turn was taken, and its line said, where the outside gave what it may give. `tail` is what its statement has to do behind it, and `rest`
--- all that its session has.
-pub record Turns {T : Type 0} (refused : T → Bool) (task : T → Option Task) (result : Result T Fault) (old new : World) (before after : Held) (t : Trail) (now : Now) (session : ℕ) (turn : Turn) (tail : List Turn) : Type 0 where
+-- A turn was taken, and its line said, where the outside gave what it may give. `tail` is what its statement has to do behind it, and `more`
+-- what its session has behind that.
+pub record Turns {T : Type 0} (refused : T → Bool) (task : T → Option Task) (result : Result T Fault) (old new : World) (before after : Held) (t : Trail) (now : Now) (session : ℕ) (turn : Turn) (tail more : List Turn) : Type 0 where
   pub grows : Grows old new
-  pub plays : (rest : List Turn) → Foretells now.given old new
-      → Plays (as_played refused result) old new before after t now (take_turn session (turn ∷ rest) now) (making (base_now now).frozen (turn ∷ tail))
+  pub plays : Foretells now.given old new
+      → Plays (as_played refused result) old new before after t now (take_turn session (turn ∷ (tail ++ more)) now) (making (base_now now).frozen (turn ∷ tail))
   pub behind : Foretells now.given old new → IfOk result (λ value. IsBehind new after session turn tail now (task value))
 
 -- The next turn of a session was taken, what it has to do then is left, and what is under way of it goes on.
@@ -46,14 +46,14 @@ pub record TakesNext (refused : Bool) (result : Result (Unit {0}) Fault) (old ne
   pub grows : Grows old new
   pub plays : Foretells now.given old new → Plays (as_played (λ done. refused) result) old new before after t now (one_turn asker.number now) (making_by asker.number now)
   pub todo : Foretells now.given old new → OnOk result (HasTodo moved (one_turn asker.number now).1)
-  pub goes : Foretells now.given old new → OnOk result (TaskGoes new after (base_now (one_turn asker.number now).1).frozen moved.task)
+  pub goes : Foretells now.given old new → OnOk result (TaskGoes asker.number new after (base_now (one_turn asker.number now).1).frozen moved.task)
 
 -- One turn of a session on a database that is open. Whatever the host tells, other sessions have what they need, and the count of faults
 -- is as the answer says.
 pub record Steps (tells : Bool) (result : Result (Unit {0}) Fault) (old new : World) (faults faults' : ℕ) (before after : Held) (asker moved : Asker) : Type 0 where
   pub refused : Bool
   pub noted : OnOk result (moved.refused ≡ (asker.refused || refused))
-  pub takes : (now : Now) (t : Trail) → IsTrue tells → IsReady old before t now → IsGoing now → HasTodo asker now → TaskGoes old before t.base.frozen asker.task
+  pub takes : (now : Now) (t : Trail) → IsTrue tells → IsReady old before t now → IsGoing now → HasTodo asker now → TaskGoes asker.number old before t.base.frozen asker.task
       → TakesNext refused result old new before after t now asker moved
   pub others : KeepsOthers asker.number before after
   pub cause : CountsDevice result faults faults'

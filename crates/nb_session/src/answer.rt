@@ -1,10 +1,11 @@
 // A statement and the line of its reply.
-ghost use Rattle.std.specs.Prelude.{◌≡◌, ℕ, [], None, IsTrue, IfErr};
+ghost use Rattle.std.specs.Prelude.{◌≡◌, ℕ, ◌-◌, List, [], ◌∷◌, None, IsTrue, IfErr};
+ghost use Rattle.std.specs.List.{slice_index_or};
 ghost use Rattle.nb_change.specs.Counts.{CountsDevice};
 ghost use Rattle.nb_change.specs.Gave.{GaveNothing};
 ghost use Rattle.nb_model.specs.Going.{IsGoing};
 ghost use Rattle.nb_model.specs.Lines.{line_text};
-ghost use Rattle.nb_model.specs.Outcomes.{Begins};
+ghost use Rattle.nb_model.specs.Outcomes.{Begins, Turn};
 ghost use Rattle.nb_model.specs.Run.{Now};
 ghost use Rattle.nb_model.specs.Trail.{Trail};
 ghost use Rattle.nb_base.specs.Takes.{IsNoRefusal};
@@ -56,8 +57,9 @@ pub fn answer<H: Host>(
 ) -> Result<bool, Fault>
     requires asked { IsFurther statement.now }
     requires single { IsOneTurn statement.now }
-    ensures turn { (now : Now) (t : Trail) → IsTrue H.tells → IsReady (H.world host.old) engine.old t now → IsGoing now
-        → Turns (λ refused. refused) (λ refused. None) result (H.world host.old) (H.world host.new) engine.old engine.new t now session (Begins statement.now) [] }
+    ensures turn { (now : Now) (t : Trail) (more : List Turn) → IsTrue H.tells → IsReady (H.world host.old) engine.old t now → IsGoing now
+        → slice_index_or now.todo (session - 1) [] ≡ Begins statement.now ∷ more
+        → Turns (λ refused. refused) (λ refused. None) result (H.world host.old) (H.world host.new) engine.old engine.new t now session (Begins statement.now) [] more }
     ensures others { (number : ℕ) → KeepsOthers number engine.old engine.new }
     ensures cause { CountsDevice result (H.faults host.old) (H.faults host.new) }
     ensures not_refused { IfErr result IsNoRefusal }

@@ -1,5 +1,5 @@
 // Backups and copies of the frozen file, which take a turn for each page.
-ghost use Rattle.std.specs.Prelude.{◌≡◌, ◌<◌, ◌≤◌, ℕ, [], ◌++◌, None, Some, false, IsTrue, IfOk, IfErr};
+ghost use Rattle.std.specs.Prelude.{◌≡◌, ◌≢◌, ◌<◌, ◌≤◌, ℕ, ◌-◌, List, [], ◌∷◌, ◌++◌, None, Some, false, IsTrue, IfOk, IfErr};
 ghost use Rattle.std.specs.List.{slice_index_or};
 ghost use Rattle.nb_host.specs.Names.{is_delta};
 ghost use Rattle.nb_change.specs.Counts.{CountsDevice};
@@ -25,10 +25,23 @@ use nb_state::Progress;
 use std::alloc::Global;
 
 /// The statement is under way, and not refused.
-fn under_way(task: Task) -> Taken {
+fn under_way(task: Task) -> Taken
+    ensures { result ≡ record { task = Some task.now; refused = false } }
+{
     Taken {
         task: Some(task),
         refused: false,
+    }
+}
+
+/// No copy of this session runs any more.
+fn stop_running(engine: &mut Engine, session: u32)
+    ensures own { engine.old.running ≡ Some session → engine.new ≡ record engine.old { running = None } }
+    ensures other { (other : ℕ) → engine.old.running ≡ Some other → other ≢ session → engine.new ≡ engine.old }
+    ensures page_size { engine.new.files.page_size ≡ engine.old.files.page_size }
+{
+    if engine.store().running() == Some(session) {
+        engine.set_running(None);
     }
 }
 
@@ -43,8 +56,9 @@ pub fn begin_backup<H: Host>(
 ) -> Result<Taken, Fault>
     requires level { level ≤ 9 }
     requires plain { is_delta name.now ≡ false }
-    ensures turn { (now : Now) (t : Trail) → IsTrue H.tells → IsReady (H.world host.old) engine.old t now → IsGoing now
-        → Turns (λ taken. taken.refused) (λ taken. taken.task) result (H.world host.old) (H.world host.new) engine.old engine.new t now session (Begins (BackupTo level name.now)) [] }
+    ensures turn { (now : Now) (t : Trail) (more : List Turn) → IsTrue H.tells → IsReady (H.world host.old) engine.old t now → IsGoing now
+        → slice_index_or now.todo (session - 1) [] ≡ Begins (BackupTo level name.now) ∷ more
+        → Turns (λ taken. taken.refused) (λ taken. taken.task) result (H.world host.old) (H.world host.new) engine.old engine.new t now session (Begins (BackupTo level name.now)) [] more }
     ensures fits { IfOk result (λ taken. TaskFits session taken.task engine.new) }
     ensures others { KeepsOthers session engine.old engine.new }
     ensures cause { CountsDevice result (H.faults host.old) (H.faults host.new) }
@@ -67,8 +81,9 @@ pub fn begin_copy<H: Host>(
     name: &Name,
 ) -> Result<Taken, Fault>
     requires plain { is_delta name.now ≡ false }
-    ensures turn { (now : Now) (t : Trail) → IsTrue H.tells → IsReady (H.world host.old) engine.old t now → IsGoing now
-        → Turns (λ taken. taken.refused) (λ taken. taken.task) result (H.world host.old) (H.world host.new) engine.old engine.new t now session (Begins (CopyTo name.now)) [] }
+    ensures turn { (now : Now) (t : Trail) (more : List Turn) → IsTrue H.tells → IsReady (H.world host.old) engine.old t now → IsGoing now
+        → slice_index_or now.todo (session - 1) [] ≡ Begins (CopyTo name.now) ∷ more
+        → Turns (λ taken. taken.refused) (λ taken. taken.task) result (H.world host.old) (H.world host.new) engine.old engine.new t now session (Begins (CopyTo name.now)) [] more }
     ensures fits { IfOk result (λ taken. TaskFits session taken.task engine.new) }
     ensures others { KeepsOthers session engine.old engine.new }
     ensures cause { CountsDevice result (H.faults host.old) (H.faults host.new) }
@@ -92,8 +107,8 @@ pub fn back_up_on<H: Host>(
 ) -> Result<Taken, Fault>
     requires fits { TaskFits session (Some (Backup copier.now)) engine.old }
     ensures turn { (now : Now) (t : Trail) (more : List Turn) → IsTrue H.tells → IsReady (H.world host.old) engine.old t now → IsGoing now
-        → slice_index_or now.todo (session - 1) [] ≡ task_first (Backup copier.now) ∷ (task_rest (Backup copier.now) ++ more) → TaskGoes (H.world host.old) engine.old t.base.frozen (Some (Backup copier.now))
-        → Turns (λ taken. taken.refused) (λ taken. taken.task) result (H.world host.old) (H.world host.new) engine.old engine.new t now session (task_first (Backup copier.now)) (task_rest (Backup copier.now)) }
+        → slice_index_or now.todo (session - 1) [] ≡ task_first (Backup copier.now) ∷ (task_rest (Backup copier.now) ++ more) → TaskGoes session (H.world host.old) engine.old t.base.frozen (Some (Backup copier.now))
+        → Turns (λ taken. taken.refused) (λ taken. taken.task) result (H.world host.old) (H.world host.new) engine.old engine.new t now session (task_first (Backup copier.now)) (task_rest (Backup copier.now)) more }
     ensures falls { IfOk result (λ taken. task_left taken.task < task_left (Some (Backup copier.now))) }
     ensures fits { IfOk result (λ taken. TaskFits session taken.task engine.new) }
     ensures others { KeepsOthers session engine.old engine.new }
@@ -110,7 +125,7 @@ pub fn back_up_on<H: Host>(
             guid: copier.guid(),
         }))),
         Err(Fault::Refused(refusal)) => {
-            engine.set_running(None);
+            stop_running(engine, session);
             say_refused(alloc, host, session, refusal)
         }
         Err(Fault::Device) => Err(Fault::Device),
@@ -128,8 +143,8 @@ pub fn copy_on<H: Host>(
 ) -> Result<Taken, Fault>
     requires fits { TaskFits session (Some (Copy copier.now)) engine.old }
     ensures turn { (now : Now) (t : Trail) (more : List Turn) → IsTrue H.tells → IsReady (H.world host.old) engine.old t now → IsGoing now
-        → slice_index_or now.todo (session - 1) [] ≡ task_first (Copy copier.now) ∷ (task_rest (Copy copier.now) ++ more) → TaskGoes (H.world host.old) engine.old t.base.frozen (Some (Copy copier.now))
-        → Turns (λ taken. taken.refused) (λ taken. taken.task) result (H.world host.old) (H.world host.new) engine.old engine.new t now session (task_first (Copy copier.now)) (task_rest (Copy copier.now)) }
+        → slice_index_or now.todo (session - 1) [] ≡ task_first (Copy copier.now) ∷ (task_rest (Copy copier.now) ++ more) → TaskGoes session (H.world host.old) engine.old t.base.frozen (Some (Copy copier.now))
+        → Turns (λ taken. taken.refused) (λ taken. taken.task) result (H.world host.old) (H.world host.new) engine.old engine.new t now session (task_first (Copy copier.now)) (task_rest (Copy copier.now)) more }
     ensures falls { IfOk result (λ taken. task_left taken.task < task_left (Some (Copy copier.now))) }
     ensures fits { IfOk result (λ taken. TaskFits session taken.task engine.new) }
     ensures others { KeepsOthers session engine.old engine.new }
@@ -140,7 +155,7 @@ pub fn copy_on<H: Host>(
     match copier.turn(host, engine)? {
         Progress::More => Ok(under_way(Task::Copy(copier))),
         Progress::Finished => {
-            engine.set_running(None);
+            stop_running(engine, session);
             say(
                 alloc,
                 host,

@@ -1,17 +1,20 @@
 // The end of a backup, which takes many turns: one that ends the stalled state, one for each page that is merged, and a last one.
-ghost use Rattle.std.specs.Prelude.{◌≡◌, ◌<◌, ℕ, [], ◌++◌, None, Some, IsTrue, IfOk, IfErr};
+ghost use Rattle.std.specs.Prelude.{◌≡◌, ◌<◌, ℕ, ◌-◌, List, [], ◌∷◌, ◌++◌, length, None, Some, true, false, IsTrue, IfOk, IfErr};
 ghost use Rattle.std.specs.List.{slice_index_or};
 ghost use Rattle.nb_change.specs.Counts.{CountsDevice};
+ghost use Rattle.nb_change.specs.Gave.{GaveNothing};
 ghost use Rattle.nb_model.specs.declared.reply.Reply.TheVariants.{Refused as RefusedReply};
 ghost use Rattle.nb_model.specs.declared.statement.Statement.TheVariants.{EndBackup};
 ghost use Rattle.nb_model.specs.Going.{IsGoing};
+ghost use Rattle.nb_model.specs.Lines.{line_text};
 ghost use Rattle.nb_model.specs.Outcomes.{Begins, Turn};
 ghost use Rattle.nb_model.specs.Run.{Now};
 ghost use Rattle.nb_model.specs.Trail.{Trail};
 ghost use Rattle.nb_base.specs.Takes.{IsNoRefusal};
-ghost use Rattle.nb_session.specs.Askers.{IsMerging, KeepsOthers, TaskFits, task_first, task_rest, task_left};
+ghost use Rattle.nb_session.specs.Askers.{KeepsOthers, TaskFits, task_first, task_rest, task_left};
 ghost use Rattle.nb_session.specs.declared.task.Task.TheVariants.{End, Merge};
-ghost use Rattle.nb_session.specs.Ready.{IsReady};
+ghost use Rattle.nb_session.specs.Ready.{IsReady, TaskGoes};
+ghost use Rattle.nb_session.specs.Says.{SaysLine};
 ghost use Rattle.nb_session.specs.Steps.{Turns};
 
 use crate::answer::say;
@@ -23,7 +26,9 @@ use nb_state::Progress;
 use std::alloc::Global;
 
 /// A merge of all that the difference file holds. This is said once all is merged.
-fn merge_of(engine: &Engine, reply: Reply) -> Taken {
+fn merge_of(engine: &Engine, reply: Reply) -> Taken
+    ensures { result ≡ record { task = Some (Merge (record { left = length engine.now.files.entries; reply = reply.now })); refused = false } }
+{
     Taken {
         task: Some(Task::Merge(Merging {
             left: engine.store().delta_count(),
@@ -39,7 +44,13 @@ pub fn say_refused<H: Host>(
     host: &mut H,
     session: u32,
     refusal: Refusal,
-) -> Result<Taken, Fault> {
+) -> Result<Taken, Fault>
+    ensures line { IsTrue H.tells → SaysLine result (H.world host.old) (H.world host.new) (line_text session (RefusedReply refusal.now)) }
+    ensures taken { IfOk result (λ taken. taken ≡ record { task = None; refused = true }) }
+    ensures gave { GaveNothing (H.world host.old) (H.world host.new) }
+    ensures cause { CountsDevice result (H.faults host.old) (H.faults host.new) }
+    ensures not_refused { IfErr result IsNoRefusal }
+{
     say(alloc, host, session, &Reply::Refused { refusal })?;
     Ok(Taken {
         task: None,
@@ -54,8 +65,9 @@ pub fn begin_merge<H: Host>(
     engine: &mut Engine,
     session: u32,
 ) -> Result<Taken, Fault>
-    ensures turn { (now : Now) (t : Trail) → IsTrue H.tells → IsReady (H.world host.old) engine.old t now → IsGoing now
-        → Turns (λ taken. taken.refused) (λ taken. taken.task) result (H.world host.old) (H.world host.new) engine.old engine.new t now session (Begins EndBackup) [] }
+    ensures turn { (now : Now) (t : Trail) (more : List Turn) → IsTrue H.tells → IsReady (H.world host.old) engine.old t now → IsGoing now
+        → slice_index_or now.todo (session - 1) [] ≡ Begins EndBackup ∷ more
+        → Turns (λ taken. taken.refused) (λ taken. taken.task) result (H.world host.old) (H.world host.new) engine.old engine.new t now session (Begins EndBackup) [] more }
     ensures fits { IfOk result (λ taken. TaskFits session taken.task engine.new) }
     ensures others { KeepsOthers session engine.old engine.new }
     ensures cause { CountsDevice result (H.faults host.old) (H.faults host.new) }
@@ -77,9 +89,10 @@ pub fn end_backup<H: Host>(
     session: u32,
     reply: Reply,
 ) -> Result<Taken, Fault>
+    requires fits { TaskFits session (Some (End reply.now)) engine.old }
     ensures turn { (now : Now) (t : Trail) (more : List Turn) → IsTrue H.tells → IsReady (H.world host.old) engine.old t now → IsGoing now
-        → slice_index_or now.todo (session - 1) [] ≡ task_first (End reply.now) ∷ (task_rest (End reply.now) ++ more)
-        → Turns (λ taken. taken.refused) (λ taken. taken.task) result (H.world host.old) (H.world host.new) engine.old engine.new t now session (task_first (End reply.now)) (task_rest (End reply.now)) }
+        → slice_index_or now.todo (session - 1) [] ≡ task_first (End reply.now) ∷ (task_rest (End reply.now) ++ more) → TaskGoes session (H.world host.old) engine.old t.base.frozen (Some (End reply.now))
+        → Turns (λ taken. taken.refused) (λ taken. taken.task) result (H.world host.old) (H.world host.new) engine.old engine.new t now session (task_first (End reply.now)) (task_rest (End reply.now)) more }
     ensures falls { IfOk result (λ taken. task_left taken.task < task_left (Some (End reply.now))) }
     ensures fits { IfOk result (λ taken. TaskFits session taken.task engine.new) }
     ensures others { KeepsOthers session engine.old engine.new }
@@ -102,10 +115,10 @@ pub fn merge_on<H: Host>(
     session: u32,
     merging: Merging,
 ) -> Result<Taken, Fault>
-    requires merging { IsMerging session merging.now.left engine.old }
+    requires fits { TaskFits session (Some (Merge merging.now)) engine.old }
     ensures turn { (now : Now) (t : Trail) (more : List Turn) → IsTrue H.tells → IsReady (H.world host.old) engine.old t now → IsGoing now
         → slice_index_or now.todo (session - 1) [] ≡ task_first (Merge merging.now) ∷ (task_rest (Merge merging.now) ++ more)
-        → Turns (λ taken. taken.refused) (λ taken. taken.task) result (H.world host.old) (H.world host.new) engine.old engine.new t now session (task_first (Merge merging.now)) (task_rest (Merge merging.now)) }
+        → Turns (λ taken. taken.refused) (λ taken. taken.task) result (H.world host.old) (H.world host.new) engine.old engine.new t now session (task_first (Merge merging.now)) (task_rest (Merge merging.now)) more }
     ensures falls { IfOk result (λ taken. task_left taken.task < task_left (Some (Merge merging.now))) }
     ensures fits { IfOk result (λ taken. TaskFits session taken.task engine.new) }
     ensures others { KeepsOthers session engine.old engine.new }

@@ -1,5 +1,5 @@
 // One session of a script.
-ghost use Rattle.std.specs.Prelude.{◌≡◌, ◌<◌, ℕ, List, [], ◌∷◌, ◌++◌, IsTrue, IfOk, IfErr, None, Some, false};
+ghost use Rattle.std.specs.Prelude.{◌≡◌, ◌<◌, ℕ, ◌-◌, List, [], ◌∷◌, ◌++◌, IsTrue, IfOk, IfErr, None, Some, false};
 ghost use Rattle.std.specs.List.{slice_index_or};
 ghost use Rattle.nb_change.specs.Counts.{CountsDevice};
 ghost use Rattle.nb_model.specs.Going.{IsGoing};
@@ -54,8 +54,9 @@ fn begin_statement<H: Host>(
     statement: &Statement,
 ) -> Result<Taken, Fault>
     requires asked { IsFurther statement.now }
-    ensures turn { (now : Now) (t : Trail) → IsTrue H.tells → IsReady (H.world host.old) engine.old t now → IsGoing now
-        → Turns (λ taken. taken.refused) (λ taken. taken.task) result (H.world host.old) (H.world host.new) engine.old engine.new t now session (Begins statement.now) [] }
+    ensures turn { (now : Now) (t : Trail) (more : List Turn) → IsTrue H.tells → IsReady (H.world host.old) engine.old t now → IsGoing now
+        → slice_index_or now.todo (session - 1) [] ≡ Begins statement.now ∷ more
+        → Turns (λ taken. taken.refused) (λ taken. taken.task) result (H.world host.old) (H.world host.new) engine.old engine.new t now session (Begins statement.now) [] more }
     ensures fits { IfOk result (λ taken. TaskFits session taken.task engine.new) }
     ensures others { KeepsOthers session engine.old engine.new }
     ensures cause { CountsDevice result (H.faults host.old) (H.faults host.new) }
@@ -87,8 +88,8 @@ fn go_on<H: Host>(
 ) -> Result<Taken, Fault>
     requires fits { TaskFits session (Some task.now) engine.old }
     ensures turn { (now : Now) (t : Trail) (more : List Turn) → IsTrue H.tells → IsReady (H.world host.old) engine.old t now → IsGoing now
-        → slice_index_or now.todo (session - 1) [] ≡ task_first task.now ∷ (task_rest task.now ++ more) → TaskGoes (H.world host.old) engine.old t.base.frozen (Some task.now)
-        → Turns (λ taken. taken.refused) (λ taken. taken.task) result (H.world host.old) (H.world host.new) engine.old engine.new t now session (task_first task.now) (task_rest task.now) }
+        → slice_index_or now.todo (session - 1) [] ≡ task_first task.now ∷ (task_rest task.now ++ more) → TaskGoes session (H.world host.old) engine.old t.base.frozen (Some task.now)
+        → Turns (λ taken. taken.refused) (λ taken. taken.task) result (H.world host.old) (H.world host.new) engine.old engine.new t now session (task_first task.now) (task_rest task.now) more }
     ensures falls { IfOk result (λ taken. task_left taken.task < task_left (Some task.now)) }
     ensures fits { IfOk result (λ taken. TaskFits session taken.task engine.new) }
     ensures others { KeepsOthers session engine.old engine.new }
