@@ -85,7 +85,11 @@ impl FileCopier {
     {
         check_copy(host, engine, name)?;
         let mut pages = PageCopy::new(alloc, engine.page_size(), name)?;
-        pages.start(engine.main_count());
+        let count = engine.main_count();
+        if count > 1_048_576 {
+            return Err(Fault::Memory);
+        }
+        pages.start(count);
         engine.set_running(Some(session));
         Ok(FileCopier { pages })
     }
