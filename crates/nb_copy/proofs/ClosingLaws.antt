@@ -193,20 +193,22 @@ module _ (old mid : World) (a b : Held) (copier : Backed) (t : Trail) (is : IsOp
   mid_open = subst (λ (h : Held). IsOpen mid h t) (sym same) (open_other old a t is copier.backing.name whole apart reads mid file stalled)
 
   pub turn_failed : (later : Backed) (time : ℕ) (xs : List Stroke) → BackupTurn (Err Device) old mid a b copier later t time xs
-  turn_failed later time xs = record { left = file_left old a t is copier.backing.name whole apart reads mid file xs; answer = tt; guids = gave.guids; sure = tt }
+  turn_failed later time xs = record { left = file_left old a t is copier.backing.name whole apart reads mid file xs; alone = λ some. file; answer = tt; guids = gave.guids; sure = tt }
 
   pub turn_more : (later : Backed) (time : ℕ) (xs : List Stroke) → IsBackingUp mid later t.base.frozen → BackupTurn (Ok More) old mid a b copier later t time xs
   turn_more later time xs goes = record {
     left = file_left old a t is copier.backing.name whole apart reads mid file xs;
+    alone = λ some. file;
     answer = record { left = file; same = same; opened = mid_open; gave = gave; goes = goes };
     guids = gave.guids;
     sure = tt;
   }
 
-  module _ (new : World) (d : Held) (later : Backed) (time : ℕ) (xs : List Stroke) (kept : IsKept mid copier.backing.name whole) where
+  module _ (new : World) (d : Held) (later : Backed) (time : ℕ) (xs : List Stroke) (kept : IsKept mid copier.backing.name whole) (all : file_next copier.file ≡ file_count copier.file) where
     pub close_failed : (fault : Fault) → Closes (Err fault) mid new b d t time xs → BackupTurn (Err fault) old new a d copier later t time xs
     close_failed fault closes = record {
       left = close_left old a t is copier.backing.name whole apart reads mid file new xs kept (subst (λ (h : Held). Strikes mid new (name_of h) t xs) same closes.left);
+      alone = λ some. absurd (omega (arith, some, all));
       answer = tt;
       guids = closes.guids ∙ gave.guids;
       sure = closes.sure;
@@ -217,6 +219,7 @@ module _ (old mid : World) (a b : Held) (copier : Backed) (t : Trail) (is : IsOp
         let struck : Strikes mid new (name_of a) t xs = subst (λ (h : Held). Strikes mid new (name_of h) t xs) same closes.left in
         record {
           left = close_left old a t is copier.backing.name whole apart reads mid file new xs kept struck;
+          alone = λ some. absurd (omega (arith, some, all));
           answer = record {
             kept = kept_still old a t is copier.backing.name whole apart reads mid file new xs kept struck;
             opened = closes.opened;

@@ -3,7 +3,7 @@ use Rattle.std.proofs.Common.{◌≡◌, ℕ, zero, suc, ◌+◌, ◌*◌, ◌<�
 use Rattle.std.specs.Prelude.{Some}
 use Rattle.std.proofs.lemmas.List.{take_all, drop_all, take-append-le, length-take-le, length-replicate}
 use Rattle.nb_fields.specs.Bytes.{is_zeros}
-use Rattle.nb_host.specs.Files.{put_at}
+use Rattle.nb_host.specs.Files.{padded, put_at}
 use Rattle.nb_model.specs.Image.{Page, Image, page_at, first_page}
 use Rattle.nb_model.specs.Levels.{joined}
 use Rattle.nb_model.specs.Sound.{IsOfSize}
@@ -41,6 +41,11 @@ module _ (size : ℕ) where
   front_next (suc k) (p ∷ ps) page sizes some low is long =
       next_page k p ps page sizes (omega (arith, low)) is long ∙ ap (λ n. joined (front_pages size n (p ∷ ps))) (let e : suc (suc k) ≡ suc k + 1 = omega arith in e)
 
+  -- a page put into nothing
+  put_nothing : (page : Page) → put_at [] 0 page ≡ page ++ []
+  unfolding put_at padded
+  put_nothing page = ap (λ (rest : List ℕ). page ++ rest) (drop_all (0 + length page) [] (omega arith))
+
   -- page 0 over the zeros in its place
   pub front_whole : (k : ℕ) (frozen : Image) (first : Page) → IsOfSize size frozen → 1 ≤ k → k ≡ length frozen → first ≡ first_page frozen
       → put_at (joined (front_pages size k frozen)) (0 * length first) first ≡ joined frozen
@@ -48,7 +53,7 @@ module _ (size : ℕ) where
   front_whole k [] first sizes some all is = absurd (omega (arith, some, all))
   front_whole zero (p ∷ ps) first sizes some all is = absurd (omega (arith, some))
   front_whole (suc zero) (p ∷ []) first sizes some all is =
-      ap (λ x. put_at [] x first) (let e : 0 * length first ≡ 0 = omega arith in e) ∙ ap (λ (rest : List ℕ). first ++ rest) (drop_all (length first) [] (omega arith)) ∙ ap (λ (x : Page). joined (x ∷ [])) is
+      ap (λ x. put_at [] x first) (let e : 0 * length first ≡ 0 = omega arith in e) ∙ put_nothing first ∙ ap (λ (x : Page). joined (x ∷ [])) is
   front_whole (suc zero) (p ∷ q ∷ ps) first sizes some all is = absurd (omega (arith, all))
   front_whole (suc (suc k)) (p ∷ ps) first sizes some all is =
       let cut : take (suc k) ps ≡ ps = take_all (suc k) ps (omega (arith, all)) in

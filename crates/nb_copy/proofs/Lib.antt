@@ -16,6 +16,7 @@ pub mod CloseLaws
 pub mod PlaceLaws
 pub mod LevelLaws
 pub mod StartCauses
+pub mod CopyCauses
 pub mod BegunLaws
 pub mod ClosingLaws
 pub mod FirstLaws
@@ -23,4 +24,5 @@ pub mod RoomedLaws
 pub mod FileStartLaws
 pub mod StartLaws
 pub mod RoomStartLaws
+pub mod FileCopyLaws
 pub mod KeepLaws

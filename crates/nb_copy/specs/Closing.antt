@@ -56,6 +56,8 @@ BackupAnswers (Err fault) old new before after copier later t time strokes = Uni
 -- A turn of a backup: a page more, or the close with these strokes at that time.
 pub record BackupTurn (result : Result Progress Fault) (old new : World) (before after : Held) (copier later : Backed) (t : Trail) (time : ℕ) (strokes : List Stroke) : Type 0 where
   pub left : Changes old new (OfBackup copier.backing.name before.files.name) (CloseLeft old copier.backing.name (whole_file copier.file t.base.frozen) before.files.name t strokes)
+  -- while pages are left the file alone is touched
+  pub alone : file_next copier.file < file_count copier.file → Changes old new (Only copier.backing.name) (Remade old copier.backing.name (IsUnfinishedOr (whole_file copier.file t.base.frozen)))
   pub answer : BackupAnswers result old new before after copier later t time strokes
   pub guids : new.guids ≡ old.guids
   pub sure : IfErr result IsNoRefusal

@@ -54,6 +54,7 @@ impl Model for Copier {
 fn check_file<H: Host>(host: &mut H, engine: &Engine, name: &Name) -> Result<(), Fault>
     ensures test { (s : Seen) (t : Trail) → IsTrue H.tells → t.base ≡ s.base → IsOpen (H.world host.old) engine.now t → KnowsFree 0 (H.world host.old).files s name.now
         → Tested result (file_cause s name.now) }
+    ensures normal { OnOk result (engine.now.files.state ≡ 0) }
     ensures quiet { Quiet (H.world host.old) (H.world host.new) }
     ensures cause { CountsDevice result (H.faults host.old) (H.faults host.new) }
 {
@@ -123,6 +124,7 @@ fn check_start<H: Host>(
 ) -> Result<LevelHead, Fault>
     ensures test { (s : Seen) (t : Trail) → IsTrue H.tells → t.base ≡ s.base → IsOpen (H.world host.old) engine.old t → KnowsFree 0 (H.world host.old).files s name.now
         → Tested result (first_cause (file_cause s name.now ∷ earlier_cause level t.base.image ∷ [])) }
+    ensures normal { OnOk result (engine.old.files.state ≡ 0) }
     ensures head { (t : Trail) → IsTrue H.tells → IsOpen (H.world host.old) engine.old t → IfOk result (λ head. ask_by head ≡ ask_in level t.base.image) }
     ensures level { IfOk result (λ head. head.level ≡ level) }
     ensures previous { IfOk result (λ head. length head.previous ≡ 16) }
@@ -183,6 +185,7 @@ impl Copier {
             → KnowsFree 0 (H.world host.old).files s name.now → GaveAtMost (H.world host.old) (H.world host.new) (next_guid s.given)
             → StartsBackup result (H.world host.old) (H.world host.new) engine.old engine.new t (next_guid s.given) (backup_turn s session level name.now) }
         ensures asks { (t : Trail) → IsTrue H.tells → IsOpen (H.world host.old) engine.old t → (guid : List ℕ) × (length guid ≡ 16) × GaveAtMost (H.world host.old) (H.world host.new) guid }
+        ensures stays { engine.old.files.state ≡ 2 → engine.new ≡ engine.old }
         ensures level { IfOk result (λ copier. copier.backing.ask.level ≡ level) }
         ensures size { IfOk result (λ copier. copier.page_size ≡ engine.old.files.page_size) }
         ensures page_size { engine.new.files.page_size ≡ engine.old.files.page_size }

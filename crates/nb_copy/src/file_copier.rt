@@ -1,5 +1,5 @@
 // A copy of the frozen file of a stalled database, which no history names.
-ghost use Rattle.std.specs.Prelude.{◌≡◌, ◌+◌, ◌-◌, ◌≤◌, IsTrue, IfOk, OnOk, None, Some};
+ghost use Rattle.std.specs.Prelude.{◌≡◌, ◌+◌, ◌-◌, ◌≤◌, IsTrue, IfOk, IfErr, OnOk, None, Some};
 ghost use Rattle.nb_host.specs.Causes.{CountsFault};
 ghost use Rattle.nb_change.specs.Counts.{CountsDevice};
 ghost use Rattle.nb_change.specs.Gave.{GaveNothing};
@@ -80,12 +80,17 @@ impl FileCopier {
         ensures size { IfOk result (λ copy. copy.size ≡ engine.old.files.page_size) }
         ensures none { OnOk result (engine.old.running ≡ None) }
         ensures held { OnOk result (engine.new ≡ record engine.old { running = Some session }) }
+        ensures stays { IfErr result (λ fault. engine.new ≡ engine.old) }
         ensures quiet { Quiet (H.world host.old) (H.world host.new) }
         ensures cause { CountsDevice result (H.faults host.old) (H.faults host.new) }
     {
         check_copy(host, engine, name)?;
         let mut pages = PageCopy::new(alloc, engine.page_size(), name)?;
-        pages.start(engine.main_count());
+        let count = engine.main_count();
+        if count > 1_048_576 {
+            return Err(Fault::Memory);
+        }
+        pages.start(count);
         engine.set_running(Some(session));
         Ok(FileCopier { pages })
     }

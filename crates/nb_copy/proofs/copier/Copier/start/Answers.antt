@@ -4,6 +4,7 @@ use Rattle.nb_host.specs.declared.faults.Fault.{Fault}
 use Rattle.nb_host.specs.declared.faults.Fault.TheVariants.{Memory}
 use Rattle.nb_model.specs.Account.{Base}
 use Rattle.nb_model.specs.Backups.{backup_turn}
+use Rattle.nb_model.specs.Image.{image_state}
 use Rattle.nb_model.specs.Outcomes.{Seen, next_guid}
 use Rattle.nb_state.proofs.MakesLaws.{passed_on, open_still}
 use Rattle.nb_copy.specs.Starting.{Backed, StartsBackup}
@@ -28,7 +29,7 @@ returns-in_err-head-clause-turn g c s t tells same runs is sound free given =
     let fault = c.in_err-head.field-0.0 in
     subst (λ (x : Base). StartsBackup c.from_residual.result old mid c.args.engine.now c.check_start.new.engine t (next_guid s.given) (backup_turn (record s { base = x }) c.args.session c.args.level c.args.name.now)) same
     (subst (λ (r : Result Backed Fault). StartsBackup r old mid c.args.engine.now c.check_start.new.engine t (next_guid s.given) (backup_turn seen c.args.session c.args.level c.args.name.now)) (sym (passed_on c.from_residual.result fault c.from_residual.ensures))
-    (start_failed old mid c.args.engine.now c.check_start.new.engine t seen c.args.session c.args.level c.args.name.now refl runs is c.check_start.ensures.same c.check_start.ensures.quiet fault (c.in_err-head.ensures.test seen t tells refl is free)))
+    (start_failed old mid c.args.engine.now c.check_start.new.engine t seen c.args.session c.args.level c.args.name.now refl runs is c.check_start.ensures.same c.check_start.ensures.quiet fault (c.in_err-head.ensures.test seen t tells refl is (λ zero. free (sym (ap (λ (b : Base). image_state b.image) same) ∙ zero)))))
 
 pub returns-in_err-file-clause-turn : goal.returns-in_err-file-clause-turn
 returns-in_err-file-clause-turn g c s t tells same runs is sound free given =
@@ -54,7 +55,7 @@ returns-in_err-room-clause-turn g c s t tells same runs is sound free given =
     let a = c.args.engine.now in
     let d = c.history_room.new.self in
     let fault = c.in_err-room.field-0.0 in
-    let none = c.in_ok-head.ensures.test seen t tells refl is free in
+    let none = c.in_ok-head.ensures.test seen t tells refl is (λ zero. free (sym (ap (λ (b : Base). image_state b.image) same) ∙ zero)) in
     let here = open_still old mid a c.check_start.new.engine t c.check_start.ensures.same c.check_start.ensures.quiet is in
     let tries = tries_after {T = Room} (Err fault) old mid new a c.check_start.new.engine d t (room_cause t.base.image) (room_in t.base.image).draft.strokes c.check_start.ensures.same c.check_start.ensures.quiet is (c.in_err-room.ensures.makes t tells here sound) in
     subst (λ (x : Base). StartsBackup c.from_residual-in_err-room.result old new a d t (next_guid s.given) (backup_turn (record s { base = x }) c.args.session c.args.level c.args.name.now)) same
@@ -79,7 +80,7 @@ returns-in_err-head-2-clause-turn g c s t tells same runs is sound free given =
     let b = c.history_room.new.self in
     let d = c.begin.new.engine in
     let fault = c.in_err-head-2.field-0.0 in
-    let none = c.in_ok-head.ensures.test seen t tells refl is free in
+    let none = c.in_ok-head.ensures.test seen t tells refl is (λ zero. free (sym (ap (λ (b : Base). image_state b.image) same) ∙ zero)) in
     let here = open_still old mid a c.check_start.new.engine t c.check_start.ensures.same c.check_start.ensures.quiet is in
     let tries = tries_after {T = Room} (Ok c.in_ok-room.room) old mid there a c.check_start.new.engine b t (room_cause t.base.image) (room_in t.base.image).draft.strokes c.check_start.ensures.same c.check_start.ensures.quiet is (c.in_ok-room.ensures.makes t tells here sound) in
     let xs = (room_in t.base.image).draft.strokes in
@@ -123,7 +124,7 @@ returns-clause-turn g c s t tells same runs is sound free given =
     let room = c.in_ok-room.room in
     let name : List ℕ = c.args.name.now in
     let guid : List ℕ = next_guid s.given in
-    let none = c.in_ok-head.ensures.test seen t tells refl is free in
+    let none = c.in_ok-head.ensures.test seen t tells refl is (λ zero. free (sym (ap (λ (b : Base). image_state b.image) same) ∙ zero)) in
     let here = open_still old mid a c.check_start.new.engine t c.check_start.ensures.same c.check_start.ensures.quiet is in
     let tries = tries_after {T = Room} (Ok room) old mid there a c.check_start.new.engine b t (room_cause t.base.image) (room_in t.base.image).draft.strokes c.check_start.ensures.same c.check_start.ensures.quiet is (c.in_ok-room.ensures.makes t tells here sound) in
     let xs = (room_in t.base.image).draft.strokes in

@@ -1,4 +1,4 @@
-use Rattle.std.proofs.Common.{◌<◌, List, length, sym, ap, subst, ◌∙◌, arith}
+use Rattle.std.proofs.Common.{◌≡◌, ◌<◌, List, length, sym, ap, subst, ◌∙◌, arith}
 use Rattle.std.specs.Prelude.{Ok, Err, Result}
 use Rattle.nb_host.specs.declared.faults.Fault.{Fault}
 use Rattle.nb_host.specs.declared.faults.Fault.TheVariants.{Device}
@@ -9,11 +9,15 @@ use Rattle.nb_state.specs.Open.{Held}
 use Rattle.nb_state.specs.declared.turns.Progress.{Progress}
 use Rattle.nb_state.proofs.MakesLaws.{passed_on}
 use Rattle.nb_copy.specs.declared.file_copy.FileCopy.{FileCopy}
-use Rattle.nb_copy.specs.FileCopying.{IsFileCopying, FileTurn, FileCounts, whole_count}
+use Rattle.nb_copy.specs.FileCopying.{IsFileCopying, FileTurn, FileCounts, file_count, file_next, whole_count}
 use Rattle.nb_copy.specs.Starting.{Backed, ask_by}
 use Rattle.nb_copy.specs.Closing.{BackupTurn, Closes}
 use Rattle.nb_copy.proofs.ClosingLaws.{file_named, kept_named, asked_behind, asked_before, goes_further, mid_open, turn_failed, turn_more, close_failed, close_finished, written_all}
 use Rattle.nb_copy.proofs.copier.Copier.turn.Goals as goal
+
+-- no page is left of the same file
+ends_all : (f g : FileCopy) → f ≡ g → file_next f ≡ file_count f → file_next g ≡ file_count g
+ends_all f g same all = subst (λ (x : FileCopy). file_next x ≡ file_count x) same all
 
 pub returns-in_err-turn-clause-turn : goal.returns-in_err-turn-clause-turn
 returns-in_err-turn-clause-turn g c s t tells same is stalled sound backing below apart given =
@@ -81,10 +85,12 @@ returns-in_err-close-in-Finished-clause-turn g c s t tells same is stalled sound
       file = c.turn.new.self;
     } in
     let fault = c.in_err-close-in-Finished.field-0.0 in
+    let counts = subst (λ (p : Progress). FileCounts (Ok p) c.self.inside.file c.turn.new.self) c.in-Finished.is c.in_ok-turn.ensures.counts in
+    let all = ends_all c.self.inside.file copier.file filed counts.0 in
     let ours = subst (λ (b : Backing). Closes (Err fault) mid new c.turn.new.engine c.close.new.engine t (next_time s.given) (close_backup s b).strokes) backed closes in
     subst (λ (r : Result Progress Fault). BackupTurn r old new c.args.engine.now c.close.new.engine copier later t (next_time s.given) (close_backup s copier.backing).strokes)
     (sym (passed_on c.from_residual-in_err-close-in-Finished.result fault c.from_residual-in_err-close-in-Finished.ensures))
-    (close_failed old mid c.args.engine.now c.turn.new.engine copier t is stalled apart reads c.turn.ensures.engine file gave new c.close.new.engine later (next_time s.given) (close_backup s copier.backing).strokes kept fault ours)
+    (close_failed old mid c.args.engine.now c.turn.new.engine copier t is stalled apart reads c.turn.ensures.engine file gave new c.close.new.engine later (next_time s.given) (close_backup s copier.backing).strokes kept all fault ours)
 
 pub returns-in_ok-close-in-Finished-clause-turn : goal.returns-in_ok-close-in-Finished-clause-turn
 returns-in_ok-close-in-Finished-clause-turn g c s t tells same is stalled sound backing below apart given =
@@ -106,7 +112,7 @@ returns-in_ok-close-in-Finished-clause-turn g c s t tells same is stalled sound 
     let ours = subst (λ (b : Backing). Closes (Ok tt) mid new c.turn.new.engine c.close.new.engine t (next_time s.given) (close_backup s b).strokes) backed closes in
     let counts = subst (λ (p : Progress). FileCounts (Ok p) c.self.inside.file c.turn.new.self) c.in-Finished.is c.in_ok-turn.ensures.counts in
     let written = counts.2 ∙ written_all old c.self.inside.file t.base.frozen goes counts.0 ∙ ap (λ (f : FileCopy). whole_count f t.base.frozen) filed ∙ backing.count in
-    close_finished old mid c.args.engine.now c.turn.new.engine copier t is stalled apart reads c.turn.ensures.engine file gave new c.close.new.engine _ (next_time s.given) (close_backup s copier.backing).strokes kept ours written
+    close_finished old mid c.args.engine.now c.turn.new.engine copier t is stalled apart reads c.turn.ensures.engine file gave new c.close.new.engine _ (next_time s.given) (close_backup s copier.backing).strokes kept (ends_all c.self.inside.file copier.file filed counts.0) ours written
 
 pub returns-in_err-close-in-Finished-clause-asks : goal.returns-in_err-close-in-Finished-clause-asks
 returns-in_err-close-in-Finished-clause-asks g c t tells is stalled backing below apart =

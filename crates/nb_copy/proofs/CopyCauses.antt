@@ -1,0 +1,35 @@
+-- Why no copy of the frozen file may begin, test by test.
+use Rattle.std.proofs.Common.{◌≡◌, ◌≢◌, ℕ, List, [], ◌∷◌, ap, ◌∙◌}
+use Rattle.std.specs.Prelude.{Bool, true, false, Option, Some, None, not}
+use Rattle.std.proofs.lemmas.Bool.{eq-eqb, ne_eqb}
+use Rattle.nb_host.specs.declared.refusals.Refusal.TheVariants.{WrongState, BackupRunning, FileExists}
+use Rattle.nb_model.specs.Image.{Image, image_state}
+use Rattle.nb_model.specs.Causes.{Cause, first_cause, when, not_state, not_free, is_free_entry, runs_any}
+use Rattle.nb_model.specs.Outcomes.{Seen}
+use Rattle.nb_engine.proofs.CauseLaws.{first_none, first_next, first_here}
+use Rattle.nb_copy.specs.FileCopies.{copy_cause}
+
+module _ (s : Seen) (name : List ℕ) where
+  abbrev image : Image
+  image = s.base.image
+
+  pub not_stalled : image_state image ≢ 1 → copy_cause s name ≡ Some (WrongState (image_state image))
+  not_stalled e =
+      first_here (not_state 1 image) (runs_any s.running ∷ not_free name (s.entry name) ∷ []) (WrongState (image_state image)) (ap (λ (b : Bool). when (not b) (WrongState (image_state image))) (ne_eqb (image_state image) 1 e))
+
+  module _ (stalled : image_state image ≡ 1) where
+    behind : copy_cause s name ≡ first_cause (runs_any s.running ∷ not_free name (s.entry name) ∷ [])
+    behind = first_next (not_state 1 image) (runs_any s.running ∷ not_free name (s.entry name) ∷ []) (ap (λ (b : Bool). when (not b) (WrongState (image_state image))) (eq-eqb (image_state image) 1 stalled))
+
+    pub other_runs : (other : ℕ) → s.running ≡ Some other → copy_cause s name ≡ Some (BackupRunning other)
+    other_runs other e = behind ∙ first_here (runs_any s.running) (not_free name (s.entry name) ∷ []) (BackupRunning other) (ap runs_any e)
+
+    module _ (none : s.running ≡ None) where
+      left : copy_cause s name ≡ first_cause (not_free name (s.entry name) ∷ [])
+      left = behind ∙ first_next (runs_any s.running) (not_free name (s.entry name) ∷ []) (ap runs_any none)
+
+      pub name_taken : is_free_entry (s.entry name) ≡ false → copy_cause s name ≡ Some (FileExists name)
+      name_taken e = left ∙ first_here (not_free name (s.entry name)) [] (FileExists name) (ap (λ (b : Bool). when (not b) (FileExists name)) e)
+
+      pub copy_allowed : is_free_entry (s.entry name) ≡ true → copy_cause s name ≡ None
+      copy_allowed e = left ∙ first_next (not_free name (s.entry name)) [] (ap (λ (b : Bool). when (not b) (FileExists name)) e) ∙ first_none
