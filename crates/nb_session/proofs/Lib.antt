@@ -4,6 +4,8 @@ pub mod GiftLaws
 pub mod MadeLaws
 pub mod StopLaws
 pub mod PlayLaws
+pub mod MakesLaws
+pub mod ReadyLaws
 pub mod EventLaws
 pub mod TurnLaws
 pub mod KeepLaws

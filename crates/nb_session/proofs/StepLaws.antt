@@ -132,46 +132,80 @@ module _ {S : Type 0} (fault : Fault) where
       by Memory is = is
 
 -- what is under way comes first
-pub going_on : (asker : Asker) (task : Task) → asker.task ≡ Some task → todo_of asker ≡ task_first task ∷ (task_rest task ++ map Begins asker.statements)
+going_on : (asker : Asker) (task : Task) → asker.task ≡ Some task → todo_of asker ≡ task_first task ∷ (task_rest task ++ map Begins asker.statements)
 going_on asker task is = ap (λ (x : Option Task). task_todo x ++ map Begins asker.statements) is
 
 -- or else the first of the statements
-pub beginning : (asker : Asker) (statement : Statement) (rest : List Statement) → asker.task ≡ None → asker.statements ≡ statement ∷ rest → todo_of asker ≡ Begins statement ∷ ([] ++ map Begins rest)
+beginning : (asker : Asker) (statement : Statement) (rest : List Statement) → asker.task ≡ None → asker.statements ≡ statement ∷ rest → todo_of asker ≡ Begins statement ∷ ([] ++ map Begins rest)
 beginning asker statement rest is first = ap (λ (x : Option Task). task_todo x ++ map Begins asker.statements) is ∙ ap (map Begins) first
 
-module _ (tells : Bool) (old new : World) (faults faults' : ℕ) (a b : Held) (asker moved : Asker) (turn : Turn) (tail : List Turn) (rest : List Statement) (here : todo_of asker ≡ turn ∷ (tail ++ map Begins rest))
-    (others : KeepsOthers asker.number a b) where
-  -- what the turn did, where the session comes to it
-  abbrev pub Turned : Result Taken Fault → Type 0
-  Turned result = (now : Now) (t : Trail) → IsTrue tells → IsReady old a t now → IsGoing now → slice_index_or now.todo (asker.number - 1) [] ≡ turn ∷ (tail ++ map Begins rest) → TaskGoes asker.number old a t.base.frozen asker.task
-      → Turns (λ (x : Taken). x.refused) (λ (x : Taken). x.task) result old new a b t now asker.number turn tail (map Begins rest)
+module _ (tells : Bool) (old new : World) (faults faults' : ℕ) (a b : Held) (asker moved : Asker) (others : KeepsOthers asker.number a b) where
+  module _ (turn : Turn) (tail : List Turn) (rest : List Statement) (here : todo_of asker ≡ turn ∷ (tail ++ map Begins rest)) where
+    -- what the turn did, where the session comes to it
+    abbrev Turned : Result Taken Fault → Type 0
+    Turned result = (now : Now) (t : Trail) → IsTrue tells → IsReady old a t now → IsGoing now → slice_index_or now.todo (asker.number - 1) [] ≡ turn ∷ (tail ++ map Begins rest) → TaskGoes asker.number old a t.base.frozen asker.task
+        → Turns (λ (x : Taken). x.refused) (λ (x : Taken). x.task) result old new a b t now asker.number turn tail (map Begins rest)
 
-  pub step_failed : (fault : Fault) (answer : Result (Unit {0}) Fault) → IsErr answer × IsErrAnd answer (λ e. e ≡ fault) → Turned (Err fault) → CountsDevice {T = Taken} (Err fault) faults faults' → IsNoRefusal fault
-      → Steps tells answer old new faults faults' a b asker moved
-  step_failed fault answer handed turned counts none = record {
-    refused = false;
-    noted = on_handed answer handed;
-    takes = λ now t told ready going has goes. takes_none old new a b t now asker moved turn tail rest here has fault answer false handed (turned now t told ready going (has ∙ here) goes);
-    others = others;
-    cause = counts_handed fault Taken answer faults faults' handed counts;
-    not_refused = none_handed fault answer handed none;
-  }
-    where
-      on_handed : (answer : Result (Unit {0}) Fault) → IsErr answer × IsErrAnd answer (λ e. e ≡ fault) → OnOk answer (moved.refused ≡ (asker.refused || false))
-      on_handed (Ok done) is = absurd is.1
-      on_handed (Err e) is = tt
+    step_failed : (fault : Fault) (answer : Result (Unit {0}) Fault) → IsErr answer × IsErrAnd answer (λ e. e ≡ fault) → Turned (Err fault) → CountsDevice {T = Taken} (Err fault) faults faults' → IsNoRefusal fault
+        → Steps tells answer old new faults faults' a b asker moved
+    step_failed fault answer handed turned counts none = record {
+      refused = false;
+      noted = on_handed answer handed;
+      takes = λ now t told ready going has goes. takes_none old new a b t now asker moved turn tail rest here has fault answer false handed (turned now t told ready going (has ∙ here) goes);
+      others = others;
+      cause = counts_handed fault Taken answer faults faults' handed counts;
+      not_refused = none_handed fault answer handed none;
+    }
+      where
+        on_handed : (answer : Result (Unit {0}) Fault) → IsErr answer × IsErrAnd answer (λ e. e ≡ fault) → OnOk answer (moved.refused ≡ (asker.refused || false))
+        on_handed (Ok done) is = absurd is.1
+        on_handed (Err e) is = tt
 
-  pub step_taken : (taken : Taken) → moved ≡ record { number = asker.number; statements = rest; task = taken.task; refused = asker.refused || taken.refused } → Turned (Ok taken) → faults' ≡ faults
-      → Steps tells (Ok tt) old new faults faults' a b asker moved
-  step_taken taken same turned counts = record {
-    refused = taken.refused;
-    noted = ap (λ (x : Asker). x.refused) same;
-    takes = λ now t told ready going has goes.
-        takes_turn old new a b t now asker moved turn tail rest here has taken (asker.refused || taken.refused) same (turned now t told ready going (has ∙ here) goes);
-    others = others;
-    cause = counts;
-    not_refused = tt;
-  }
+    step_taken : (taken : Taken) → moved ≡ record { number = asker.number; statements = rest; task = taken.task; refused = asker.refused || taken.refused } → Turned (Ok taken) → faults' ≡ faults
+        → Steps tells (Ok tt) old new faults faults' a b asker moved
+    step_taken taken same turned counts = record {
+      refused = taken.refused;
+      noted = ap (λ (x : Asker). x.refused) same;
+      takes = λ now t told ready going has goes.
+          takes_turn old new a b t now asker moved turn tail rest here has taken (asker.refused || taken.refused) same (turned now t told ready going (has ∙ here) goes);
+      others = others;
+      cause = counts;
+      not_refused = tt;
+    }
+
+  -- a further turn of what is under way
+  module _ (task : Task) (is : asker.task ≡ Some task) where
+    abbrev Went : Result Taken Fault → Type 0
+    Went result = (now : Now) (t : Trail) (more : List Turn) → IsTrue tells → IsReady old a t now → IsGoing now → slice_index_or now.todo (asker.number - 1) [] ≡ task_first task ∷ (task_rest task ++ more)
+        → TaskGoes asker.number old a t.base.frozen (Some task) → Turns (λ (x : Taken). x.refused) (λ (x : Taken). x.task) result old new a b t now asker.number (task_first task) (task_rest task) more
+
+    came : (result : Result Taken Fault) → Went result → Turned (task_first task) (task_rest task) asker.statements (going_on asker task is) result
+    came result went now t told ready going at goes = went now t (map Begins asker.statements) told ready going at (subst (TaskGoes asker.number old a t.base.frozen) is goes)
+
+    pub went_failed : (fault : Fault) (answer : Result (Unit {0}) Fault) → IsErr answer × IsErrAnd answer (λ e. e ≡ fault) → Went (Err fault) → CountsDevice {T = Taken} (Err fault) faults faults' → IsNoRefusal fault
+        → Steps tells answer old new faults faults' a b asker moved
+    went_failed fault answer handed went counts none =
+        step_failed (task_first task) (task_rest task) asker.statements (going_on asker task is) fault answer handed (came (Err fault) went) counts none
+
+    pub went_taken : (taken : Taken) → moved ≡ record { number = asker.number; statements = asker.statements; task = taken.task; refused = asker.refused || taken.refused } → Went (Ok taken) → faults' ≡ faults
+        → Steps tells (Ok tt) old new faults faults' a b asker moved
+    went_taken taken same went counts = step_taken (task_first task) (task_rest task) asker.statements (going_on asker task is) taken same (came (Ok taken) went) counts
+
+  -- the first turn of a statement
+  module _ (statement : Statement) (rest : List Statement) (is : asker.task ≡ None) (first : asker.statements ≡ statement ∷ rest) where
+    abbrev Began : Result Taken Fault → Type 0
+    Began result = (now : Now) (t : Trail) (more : List Turn) → IsTrue tells → IsReady old a t now → IsGoing now → slice_index_or now.todo (asker.number - 1) [] ≡ Begins statement ∷ more
+        → Turns (λ (x : Taken). x.refused) (λ (x : Taken). x.task) result old new a b t now asker.number (Begins statement) [] more
+
+    pub began_failed : (fault : Fault) (answer : Result (Unit {0}) Fault) → IsErr answer × IsErrAnd answer (λ e. e ≡ fault) → Began (Err fault) → CountsDevice {T = Taken} (Err fault) faults faults' → IsNoRefusal fault
+        → Steps tells answer old new faults faults' a b asker moved
+    began_failed fault answer handed began counts none =
+        step_failed (Begins statement) [] rest (beginning asker statement rest is first) fault answer handed (λ now t told ready going at goes. began now t (map Begins rest) told ready going at) counts none
+
+    pub began_taken : (taken : Taken) → moved ≡ record { number = asker.number; statements = rest; task = taken.task; refused = asker.refused || taken.refused } → Began (Ok taken) → faults' ≡ faults
+        → Steps tells (Ok tt) old new faults faults' a b asker moved
+    began_taken taken same began counts =
+        step_taken (Begins statement) [] rest (beginning asker statement rest is first) taken same (λ now t told ready going at goes. began now t (map Begins rest) told ready going at) counts
 
 -- a session that has not finished, with nothing under way, has a statement left
 pub begun_within : (asker : Asker) (all : List Statement) (next : ℕ) → (IsDone (left_of asker) → ⊥) → asker.statements ≡ drop next all → asker.task ≡ None → next < length all
