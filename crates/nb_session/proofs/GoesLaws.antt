@@ -10,6 +10,7 @@ use Rattle.nb_model.specs.Making.{MadeFile, making_by}
 use Rattle.nb_model.specs.Outcomes.{Begins, ClosesBackup, ClosesCopy, Ends}
 use Rattle.nb_model.specs.Run.{Now, base_now, one_turn}
 use Rattle.nb_model.specs.Trail.{Trail}
+use Rattle.nb_model.proofs.GoingLaws.{IsUndisturbed, others_stay}
 use Rattle.nb_model.proofs.StandsLaws.{no_main}
 use Rattle.nb_copy.specs.declared.file_copy.FileCopy.{FileCopy}
 use Rattle.nb_copy.specs.declared.file_copy.FileCopy.TheVariants.{Pages, Level}
@@ -24,8 +25,7 @@ use Rattle.nb_session.specs.Acts.{Touched}
 use Rattle.nb_session.specs.Askers.{Asker, task_first, task_rest, task_todo, HasTodo}
 use Rattle.nb_session.specs.Ready.{IsReady, IsApart, TaskGoes}
 use Rattle.nb_session.specs.Stops.{Plays}
-use Rattle.nb_session.proofs.MakingLaws.{IsCopyTurn, first_copies, copy_runs, none_making}
-use Rattle.nb_session.proofs.PureLaws.{IsUndisturbed, others_stay}
+use Rattle.nb_session.proofs.UnderWayLaws.{IsCopyTurn, first_copies, copy_runs, none_making}
 
 -- What touches other files keeps a copy.
 module _ (old new : World) (names : Names) (others : Untouched old new (Other names)) (read : (m : List ℕ) → Other names m → new.files m ≡ old.files m) (frozen : Image) where

@@ -11,11 +11,11 @@ pub mod TurnLaws
 pub mod KeepLaws
 pub mod ActLaws
 pub mod MergeLaws
-pub mod PureLaws
-pub mod MakingLaws
+pub mod UnderWayLaws
 pub mod StepLaws
 pub mod GoesLaws
 pub mod NextLaws
+pub mod NameLaws
 pub mod SceneLaws
 pub mod AnyLaws
 pub mod EndLaws

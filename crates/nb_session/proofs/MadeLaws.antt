@@ -5,6 +5,7 @@ use Rattle.std.proofs.lemmas.List.Elements.{Contains-append_left, Contains-appen
 use Rattle.nb_change.proofs.NameLaws.{decide}
 use Rattle.nb_model.specs.Making.{MadeFile, AreAmong, IsNoneOf, NamesOnce}
 use Rattle.nb_model.specs.Run.{Event, files_made}
+use Rattle.nb_model.proofs.MakingLaws.{made_append}
 
 -- none are among any
 pub none_among : (files : List MadeFile) → AreAmong [] files
@@ -45,18 +46,7 @@ named_tells (f ∷ files) name = elim (decide f.0 name) [
   ]
 ]
 
--- the files of turns behind turns
-pub made_append : (es fs : List Event) → files_made (es ++ fs) ≡ files_made es ++ files_made fs
-unfolding files_made
-made_append [] fs = refl
-made_append (e ∷ es) fs = by (made_append es fs) e.made
-  where
-    by : files_made (es ++ fs) ≡ files_made es ++ files_made fs → (m : Option MadeFile)
-        → elim m as (λ z. List MadeFile) [ Some file ↦ file ∷ files_made (es ++ fs) | None ↦ files_made (es ++ fs) ]
-        ≡ elim m as (λ z. List MadeFile) [ Some file ↦ file ∷ files_made es | None ↦ files_made es ] ++ files_made fs
-    by rest (Some file) = ap (λ (files : List MadeFile). file ∷ files) rest
-    by rest None = rest
-
+-- what turns make, and those behind them
 pub made_first : (es fs : List Event) → AreAmong (files_made es) (files_made (es ++ fs))
 made_first es fs = subst (AreAmong (files_made es)) (sym (made_append es fs)) (among_left (files_made es) (files_made fs))
 

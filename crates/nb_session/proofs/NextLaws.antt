@@ -4,16 +4,17 @@ use Rattle.std.specs.Prelude.{Contains, true}
 use Rattle.std.specs.List.{slice_index_or}
 use Rattle.std.proofs.lemmas.Bool.{true≢false}
 use Rattle.std.proofs.lemmas.List.{append-nil}
-use Rattle.nb_model.specs.Going.{IsAt, waits, backs_up, copies, ends, merges}
+use Rattle.nb_model.specs.Going.{IsAt, waits, backs_up, copies, ends, merges, IsMaking}
 use Rattle.nb_model.specs.Making.{MadeFile, making_by, under_way, AreAmong, IsNoneOf, NamesOnce}
 use Rattle.nb_model.specs.Outcomes.{Turn, Given}
 use Rattle.nb_model.specs.Run.{Event, Now, Played, base_now, outcome, stands_then, take_turn, one_turn, play, files_made, AreFinished}
+use Rattle.nb_model.proofs.GoingLaws.{making_play}
+use Rattle.nb_model.proofs.MakingLaws.{finished_none, under_free, under_among, under_play, made_among, played_used, names_once}
 use Rattle.nb_model.proofs.RunLaws.{play-append}
 use Rattle.nb_session.specs.Acts.{AreSixteen}
-use Rattle.nb_session.specs.Pure.{IsMaking}
 use Rattle.nb_session.proofs.MadeLaws.{none_among, among_left, among_right, both_among, once_fewer, made_ahead, made_both}
 use Rattle.nb_session.proofs.PlayLaws.{behind}
-use Rattle.nb_session.proofs.PureLaws.{making_play, finished_none, under_at, under_free, under_among, under_play, made_among, played_used, names_once}
+use Rattle.nb_session.proofs.UnderWayLaws.{by_among}
 
 -- a turn leaves to the other sessions what they have to do
 pub keeps_todo : (session i : ℕ) (now : Now) → i ≢ session - 1 → get_or (one_turn session now).1.todo i [] ≡ get_or now.todo i []
@@ -82,15 +83,12 @@ module _ (now : Now) (making : IsMaking now) (front : List ℕ) (session : ℕ) 
   far_making : IsMaking so_far.1
   far_making = making_play front now making
 
-  by_among : AreAmong (making_by session so_far.1) (under_way so_far.1)
-  by_among file there = under_at (base_now so_far.1).frozen so_far.1.todo (session - 1) file there
-
   pub next_others : (n bytes : List ℕ) → Contains (files_made so_far.0) (n, bytes) → IsNoneOf (making_by session so_far.1) n
-  next_others n bytes there other other_there = true≢false (sym (under_free so_far.1 far_making.going (n, other) (by_among (n, other) other_there)) ∙ played_used front now making (n, bytes) there)
+  next_others n bytes there other other_there = true≢false (sym (under_free so_far.1 far_making.going (n, other) (by_among session so_far.1 (n, other) other_there)) ∙ played_used front now making (n, bytes) there)
 
   module _ (made : List MadeFile) (among : AreAmong made (files_made so_far.0 ++ under_way so_far.1)) where
     pub all_among : AreAmong (made ++ making_by session so_far.1) (files_made so_far.0 ++ under_way so_far.1)
-    all_among = both_among made (making_by session so_far.1) (files_made so_far.0 ++ under_way so_far.1) among (λ file there. among_right (files_made so_far.0) (under_way so_far.1) file (by_among file there))
+    all_among = both_among made (making_by session so_far.1) (files_made so_far.0 ++ under_way so_far.1) among (λ file there. among_right (files_made so_far.0) (under_way so_far.1) file (by_among session so_far.1 file there))
 
     pub next_once : NamesOnce (made ++ making_by session so_far.1)
     next_once = once_fewer (made ++ making_by session so_far.1) (files_made so_far.0 ++ under_way so_far.1) all_among (names_once front now making)
@@ -116,9 +114,3 @@ play_ahead front rest now making =
 pub finished_among : (events : List Event) (now : Now) → AreFinished now.todo → AreAmong (files_made events ++ under_way now) (files_made events)
 finished_among events now finished =
     both_among (files_made events) (under_way now) (files_made events) (λ file there. there) (subst (λ (files : List MadeFile). AreAmong files (files_made events)) (sym (finished_none now finished)) (none_among (files_made events)))
-
--- no two files that were made have the same name
-pub made_once : (order : List ℕ) (now : Now) → IsMaking now → NamesOnce (files_made (play order now).0)
-made_once order now making =
-    let p : Played = play order now in
-    once_fewer (files_made p.0) (files_made p.0 ++ under_way p.1) (among_left (files_made p.0) (under_way p.1)) (names_once order now making)

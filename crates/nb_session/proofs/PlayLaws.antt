@@ -14,6 +14,7 @@ use Rattle.nb_model.specs.Run.{Event, Now, Played, replies_of, files_made}
 use Rattle.nb_model.specs.Output.{output, status_of}
 use Rattle.nb_model.specs.Steps.{steps_of, after_steps, acked_turns}
 use Rattle.nb_model.specs.Trail.{Trail, StandsIn}
+use Rattle.nb_model.proofs.MakingLaws.{made_append}
 use Rattle.nb_model.proofs.OutputLaws.{output_append, status_events, output_no_event, status_no_event}
 use Rattle.nb_model.proofs.StepsLaws.{steps_none, steps_append, after_steps_append, after_no_step, acked_steps_none}
 use Rattle.nb_model.proofs.TodoLaws.{status_or}
@@ -25,7 +26,7 @@ use Rattle.nb_session.specs.Acts.{Touched, AreKept}
 use Rattle.nb_session.specs.Ready.{IsReady}
 use Rattle.nb_session.specs.Stops.{StopLeft, PlayedOut, Plays}
 use Rattle.nb_session.proofs.GiftLaws.{given_nothing, given_joined}
-use Rattle.nb_session.proofs.MadeLaws.{among_left, among_right, made_append}
+use Rattle.nb_session.proofs.MadeLaws.{among_left, among_right}
 use Rattle.nb_session.proofs.StopLaws.{AreApart, FileLeft, Stays, others_fewer, left_more, stop_wider, stop_more, stop_then}
 
 -- one list of turns behind another

@@ -9,10 +9,12 @@ use Rattle.nb_host.specs.declared.faults.Fault.{Fault}
 use Rattle.nb_model.specs.declared.statement.Statement.{Statement}
 use Rattle.nb_model.specs.Account.{Base}
 use Rattle.nb_model.specs.Gifts.{Foretells}
+use Rattle.nb_model.specs.Going.{IsMaking}
 use Rattle.nb_model.specs.Making.{MadeFile, making_by, under_way, AreAmong}
 use Rattle.nb_model.specs.Outcomes.{Turn, Begins, Given}
 use Rattle.nb_model.specs.Run.{Event, Now, Played, base_now, one_turn, play, files_made}
 use Rattle.nb_model.specs.Trail.{Trail}
+use Rattle.nb_model.proofs.GoingLaws.{making_play}
 use Rattle.nb_model.proofs.TodoLaws.{one_turn_idle}
 use Rattle.nb_sched.specs.Turns.{Scene, scene, Kind, kind, agent_of, Rests, Moves}
 use Rattle.nb_sched.proofs.AgentLaws.{agent_there, agent_of_set}
@@ -22,7 +24,6 @@ use Rattle.nb_session.specs.declared.task.Task.{Task}
 use Rattle.nb_session.specs.declared.task.Task.TheVariants.{Backup, Copy, End, Merge}
 use Rattle.nb_session.specs.Acts.{AreSixteen, Grows}
 use Rattle.nb_session.specs.Askers.{Asker, task_todo, task_left, todo_of, HasTodo, left_of, IsFit, any_refused}
-use Rattle.nb_session.specs.Pure.{IsMaking}
 use Rattle.nb_session.specs.Ready.{IsReady, TaskGoes}
 use Rattle.nb_session.specs.Steps.{as_played, Steps, TakesNext}
 use Rattle.nb_session.specs.Stops.{Plays}
@@ -31,7 +32,6 @@ use Rattle.nb_session.proofs.GoesLaws.{goes_on}
 use Rattle.nb_session.proofs.MadeLaws.{none_among}
 use Rattle.nb_session.proofs.NextLaws.{keeps_todo, play_more, giving, making_giving, next_once, next_others, next_among, next_has}
 use Rattle.nb_session.proofs.PlayLaws.{behind, trail_after, no_made, plays_none, plays_then}
-use Rattle.nb_session.proofs.PureLaws.{making_play}
 
 -- the sessions of a script as agents
 abbrev pub sessions_kind : {H : Type 0} (tells : Bool) (world : H → World) (faults : H → ℕ) → Kind Asker H Held
@@ -164,7 +164,7 @@ module _ {H : Type 0} (tells : Bool) (told : IsTrue tells) (world : H → World)
       took given sixteen foretold =
           let far = here.so_far given sixteen foretold in
           let ready = far.plays.done.ready in
-          made.takes (play front (from given)).1 (trail_after t (play front (from given))) told ready (making_play front (from given) (making_giving now given sixteen making)).going (far.todo session asker there)
+          made.takes (play front (from given)).1 (trail_after t (play front (from given))) told ready (making_play front (from given) (making_giving now given sixteen making)) (far.todo session asker there)
           (subst (λ (b : Base). TaskGoes asker.number (world s.host) s.shared b.frozen asker.task) (sym ready.base) (far.goes session asker there))
 
       pub turn_grows : Grows (world s.host) (world s'.host)

@@ -12,14 +12,13 @@ use Rattle.nb_change.specs.Counts.{CountsDevice}
 use Rattle.nb_base.specs.Takes.{IsNoRefusal}
 use Rattle.nb_model.specs.declared.statement.Statement.{Statement}
 use Rattle.nb_model.specs.Account.{Base}
-use Rattle.nb_model.specs.Going.{IsGoing}
+use Rattle.nb_model.specs.Going.{IsMaking}
 use Rattle.nb_model.specs.Making.{MadeFile, making, making_by}
 use Rattle.nb_model.specs.Outcomes.{Turn, Begins, Outcome}
-use Rattle.nb_model.specs.Run.{Now, Played, base_now, outcome, event_of, stands_then, take_turn, one_turn, strokes_of}
-use Rattle.nb_model.specs.Strokes.{Stroke, base_after}
+use Rattle.nb_model.specs.Run.{Now, Played, base_now, outcome, stands_then, take_turn, one_turn}
+use Rattle.nb_model.specs.Strokes.{base_after}
 use Rattle.nb_model.specs.Trail.{Trail}
-use Rattle.nb_model.proofs.OutputLaws.{strokes_one}
-use Rattle.nb_model.proofs.RunLaws.{taken_is}
+use Rattle.nb_model.proofs.RunLaws.{turn_stands}
 use Rattle.nb_state.specs.Open.{Held}
 use Rattle.nb_session.specs.declared.stop.Stop.{Stop}
 use Rattle.nb_session.specs.declared.task.Task.{Task}
@@ -28,7 +27,7 @@ use Rattle.nb_session.specs.Askers.{Asker, task_first, task_rest, task_todo, tas
 use Rattle.nb_session.specs.Ready.{IsReady, TaskGoes}
 use Rattle.nb_session.specs.Steps.{as_played, Turns, TakesNext, Steps}
 use Rattle.nb_session.specs.Stops.{Plays}
-use Rattle.nb_session.proofs.MakingLaws.{making_append, making_begins}
+use Rattle.nb_session.proofs.UnderWayLaws.{making_append, making_begins}
 
 -- a session takes the first turn that it has to do
 one_turn_is : (session : ℕ) (now : Now) (ts : List Turn) → slice_index_or now.todo (session - 1) [] ≡ ts → one_turn session now ≡ take_turn session ts now
@@ -50,13 +49,10 @@ taken_todo : (session : ℕ) (now : Now) (t : Turn) (rest : List Turn) → slice
 unfolding take_turn stands_then
 taken_todo session now t rest is = get_or-set_same now.todo (session - 1) ((outcome session t now).next ++ rest) [] (place_in now.todo (session - 1) t rest is)
 
-taken_strokes : (session : ℕ) (now : Now) (t : Turn) (rest : List Turn) → strokes_of (take_turn session (t ∷ rest) now).0 ≡ (outcome session t now).strokes
-unfolding take_turn
-taken_strokes session now t rest = strokes_one (event_of session t (outcome session t now))
-
 -- the database is that behind its strokes
 taken_base : (session : ℕ) (now : Now) (t : Turn) (rest : List Turn) → base_now (take_turn session (t ∷ rest) now).1 ≡ base_after (base_now now) (outcome session t now).strokes
-taken_base session now t rest = taken_is session (t ∷ rest) now ∙ ap (base_after (base_now now)) (taken_strokes session now t rest)
+unfolding take_turn
+taken_base session now t rest = turn_stands session rest (outcome session t now) now
 
 -- which value would have come says nothing of a failure
 plays_err : {T S : Type 0} (f : T → Bool) (g : S → Bool) (fault : Fault) (old new : World) (before after : Held) (t : Trail) (now : Now) (p : Played) (made : List MadeFile)
@@ -143,7 +139,7 @@ module _ (tells : Bool) (old new : World) (faults faults' : ℕ) (a b : Held) (a
   module _ (turn : Turn) (tail : List Turn) (rest : List Statement) (here : todo_of asker ≡ turn ∷ (tail ++ map Begins rest)) where
     -- what the turn did, where the session comes to it
     abbrev Turned : Result Taken Fault → Type 0
-    Turned result = (now : Now) (t : Trail) → IsTrue tells → IsReady old a t now → IsGoing now → slice_index_or now.todo (asker.number - 1) [] ≡ turn ∷ (tail ++ map Begins rest) → TaskGoes asker.number old a t.base.frozen asker.task
+    Turned result = (now : Now) (t : Trail) → IsTrue tells → IsReady old a t now → IsMaking now → slice_index_or now.todo (asker.number - 1) [] ≡ turn ∷ (tail ++ map Begins rest) → TaskGoes asker.number old a t.base.frozen asker.task
         → Turns (λ (x : Taken). x.refused) (λ (x : Taken). x.task) result old new a b t now asker.number turn tail (map Begins rest)
 
     step_failed : (fault : Fault) (answer : Result (Unit {0}) Fault) → IsErr answer × IsErrAnd answer (λ e. e ≡ fault) → Turned (Err fault) → CountsDevice {T = Taken} (Err fault) faults faults' → IsNoRefusal fault
@@ -176,7 +172,7 @@ module _ (tells : Bool) (old new : World) (faults faults' : ℕ) (a b : Held) (a
   -- a further turn of what is under way
   module _ (task : Task) (is : asker.task ≡ Some task) where
     abbrev Went : Result Taken Fault → Type 0
-    Went result = (now : Now) (t : Trail) (more : List Turn) → IsTrue tells → IsReady old a t now → IsGoing now → slice_index_or now.todo (asker.number - 1) [] ≡ task_first task ∷ (task_rest task ++ more)
+    Went result = (now : Now) (t : Trail) (more : List Turn) → IsTrue tells → IsReady old a t now → IsMaking now → slice_index_or now.todo (asker.number - 1) [] ≡ task_first task ∷ (task_rest task ++ more)
         → TaskGoes asker.number old a t.base.frozen (Some task) → Turns (λ (x : Taken). x.refused) (λ (x : Taken). x.task) result old new a b t now asker.number (task_first task) (task_rest task) more
 
     came : (result : Result Taken Fault) → Went result → Turned (task_first task) (task_rest task) asker.statements (going_on asker task is) result
@@ -194,7 +190,7 @@ module _ (tells : Bool) (old new : World) (faults faults' : ℕ) (a b : Held) (a
   -- the first turn of a statement
   module _ (statement : Statement) (rest : List Statement) (is : asker.task ≡ None) (first : asker.statements ≡ statement ∷ rest) where
     abbrev Began : Result Taken Fault → Type 0
-    Began result = (now : Now) (t : Trail) (more : List Turn) → IsTrue tells → IsReady old a t now → IsGoing now → slice_index_or now.todo (asker.number - 1) [] ≡ Begins statement ∷ more
+    Began result = (now : Now) (t : Trail) (more : List Turn) → IsTrue tells → IsReady old a t now → IsMaking now → slice_index_or now.todo (asker.number - 1) [] ≡ Begins statement ∷ more
         → Turns (λ (x : Taken). x.refused) (λ (x : Taken). x.task) result old new a b t now asker.number (Begins statement) [] more
 
     pub began_failed : (fault : Fault) (answer : Result (Unit {0}) Fault) → IsErr answer × IsErrAnd answer (λ e. e ≡ fault) → Began (Err fault) → CountsDevice {T = Taken} (Err fault) faults faults' → IsNoRefusal fault

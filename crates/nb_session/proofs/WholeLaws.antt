@@ -1,10 +1,11 @@
 -- A script that is played: its schedule, and then rounds until all sessions have finished.
 use Rattle.std.proofs.Common.{◌≡◌, ℕ, zero, suc, ◌+◌, ◌-◌, ◌≤◌, List, [], ◌∷◌, ◌++◌, length, map, get_or, append_assoc, inl, inr, refl, sym, ap, subst, ◌∙◌, arith}
-use Rattle.std.specs.Prelude.{Bool, IsTrue, true, Result, Ok, Err, Some, None, slice_get}
+use Rattle.std.specs.Prelude.{Bool, IsTrue, true, false, Result, Ok, Err, Some, None, slice_get}
 use Rattle.std.specs.List.{AllByRecursion, range_with_len, slice_index_or}
 use Rattle.std.proofs.lemmas.Bool.{cases_lt}
 use Rattle.std.proofs.lemmas.List.{append-nil, get_or_past, length-map}
 use Rattle.std.proofs.Math.ListN.{get_or-map}
+use Rattle.nb_host.specs.Names.{is_delta}
 use Rattle.nb_host.specs.World.{World}
 use Rattle.nb_host.specs.Moments.{IsTimely}
 use Rattle.nb_host.specs.declared.faults.Fault.{Fault}
@@ -13,10 +14,13 @@ use Rattle.nb_host.specs.declared.refusals.Refusal.{Refusal}
 use Rattle.nb_change.specs.Counts.{CountsDevice}
 use Rattle.nb_model.specs.Causes.{is_free_entry}
 use Rattle.nb_model.specs.Gifts.{Foretells}
+use Rattle.nb_model.specs.Going.{IsMaking}
 use Rattle.nb_model.specs.Making.{MadeFile, making_by, under_way, AreAmong}
 use Rattle.nb_model.specs.Outcomes.{Turn, Begins}
 use Rattle.nb_model.specs.Run.{Now, Played, one_turn, play, rounds, all_sessions, files_made, AreFinished, begun}
 use Rattle.nb_model.specs.Trail.{Trail}
+use Rattle.nb_model.proofs.GoingLaws.{own_in_use}
+use Rattle.nb_model.proofs.MakingLaws.{free_play, made_once}
 use Rattle.nb_model.proofs.RunLaws.{play-append}
 use Rattle.nb_model.proofs.StandsLaws.{no_main}
 use Rattle.nb_sched.specs.Turns.{Scene, scene, agent_of, AllDone, IsReady as AreReady, TakesTurns, EndsWith, FailsBehind}
@@ -28,7 +32,6 @@ use Rattle.nb_state.specs.Open.{Held, name_of}
 use Rattle.nb_session.specs.declared.stop.Stop.{Stop}
 use Rattle.nb_session.specs.Acts.{Grows}
 use Rattle.nb_session.specs.Askers.{Asker, HasTodo, left_of, IsFit, any_refused, fresh_asker, first_askers}
-use Rattle.nb_session.specs.Pure.{IsMaking}
 use Rattle.nb_session.specs.Ready.{IsReady}
 use Rattle.nb_session.specs.Stops.{Plays}
 use Rattle.nb_session.specs.Steps.{as_played}
@@ -37,9 +40,9 @@ use Rattle.nb_session.proofs.AllLaws.{all_append}
 use Rattle.nb_session.proofs.EndLaws.{turns_end}
 use Rattle.nb_session.proofs.GiftLaws.{foretold_first, grows_joined}
 use Rattle.nb_session.proofs.MadeLaws.{among_left}
-use Rattle.nb_session.proofs.NextLaws.{play_length, play_more, all_among, next_once, next_others, play_ahead, finished_among, made_once}
+use Rattle.nb_session.proofs.NameLaws.{HaveNames, made_named, begun_plain}
+use Rattle.nb_session.proofs.NextLaws.{play_length, play_more, all_among, next_once, next_others, play_ahead, finished_among}
 use Rattle.nb_session.proofs.PlayLaws.{behind, trail_after, plays_wider, plays_failed, plays_cut}
-use Rattle.nb_session.proofs.PureLaws.{own_in_use, free_play, named_play}
 use Rattle.nb_session.proofs.SceneLaws.{sessions_kind, done_todo, agent_some, Holds, HoldsAt, rests_hold, moves_hold, none_hold, turn_plays, turn_grows, at_place}
 use Rattle.nb_session.proofs.StopLaws.{AreApart}
 
@@ -83,11 +86,11 @@ all_finished [] none = tt
 all_finished (ts ∷ todo) none = subst (λ (xs : List Turn). AreFinished (xs ∷ todo)) (sym (none 0)) (all_finished todo (λ i. none (suc i)))
 
 -- none of the files that are made is one of the database's two
-made_apart : (w : World) (held : Held) (t : Trail) (now : Now) → IsReady w held t now → IsMaking now → (order : List ℕ) → AreApart (name_of held) (files_made (play order now).0)
-made_apart w held t now ready making order n bytes there (inl own) =
+made_apart : (w : World) (held : Held) (t : Trail) (now : Now) → IsReady w held t now → IsMaking now → HaveNames (λ name. is_delta name ≡ false) now → (order : List ℕ) → AreApart (name_of held) (files_made (play order now).0)
+made_apart w held t now ready making plain order n bytes there (inl own) =
     own_in_use now making.going (subst (λ (m : List ℕ). is_free_entry (now.account.entry m) ≡ true) (own ∙ ready.named)
     (free_play order now making.named making.going (n, bytes) (among_left (files_made (play order now).0) (under_way (play order now).1) (n, bytes) there)))
-made_apart w held t now ready making order n bytes there (inr delta) = no_main (name_of held) n (named_play order now making (n, bytes) there) (sym delta)
+made_apart w held t now ready making plain order n bytes there (inr delta) = no_main (name_of held) n (made_named (λ name. is_delta name ≡ false) order now making.named making.going plain (n, bytes) there) (sym delta)
 
 module _ {H : Type 0} (tells : Bool) (told : IsTrue tells) (world : H → World) (faults : H → ℕ) (old : H) (before : Held) (t : Trail) (now : Now) (plan : Plan) (askable : IsAskable plan) (how_often : ℕ)
     (making : IsMaking now) (timely : IsTimely (world old)) (ready : IsReady (world old) before t now) (begins : now.todo ≡ begun plan.sessions) where
@@ -120,7 +123,7 @@ module _ {H : Type 0} (tells : Bool) (told : IsTrue tells) (world : H → World)
       → Plays result (world old) new before held t now (play xs now) made → Plays result (world old) new before held t now (play xs now) (files_made (play xs now).0)
   made_whole result new held xs made finished among =
       plays_wider result (world old) new before held t now (play xs now) made (files_made (play xs now).0) (λ file there. finished_among (play xs now).0 (play xs now).1 finished file (among file there))
-      (made_once xs now making) (made_apart (world old) before t now ready making xs)
+      (made_once xs now making) (made_apart (world old) before t now ready making (begun_plain plan askable now begins) xs)
 
   -- to their end
   pub whole_played : (after : Scene Asker H Held) → TakesTurns (sessions_kind tells world faults) order start (Ok tt) after → AllDone left_of after.agents → Foretells now.given (world old) (world after.host)

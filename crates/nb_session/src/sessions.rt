@@ -1,13 +1,13 @@
 // The sessions of a script take their turns.
 ghost use Rattle.std.specs.Prelude.{◌≡◌, IsTrue};
 ghost use Rattle.nb_model.specs.Gifts.{Foretells};
+ghost use Rattle.nb_model.specs.Going.{IsMaking};
 ghost use Rattle.nb_model.specs.Run.{Now, begun};
 ghost use Rattle.nb_model.specs.Trail.{Trail};
 ghost use Rattle.nb_script.specs.Asked.{IsAskable};
 ghost use Rattle.nb_session.specs.Acts.{Grows};
 ghost use Rattle.nb_session.specs.Askers.{first_askers, any_refused as some_refused};
 ghost use Rattle.nb_session.specs.Causes.{CountsStop};
-ghost use Rattle.nb_session.specs.Pure.{IsMaking};
 ghost use Rattle.nb_session.specs.Ready.{IsReady};
 ghost use Rattle.nb_session.specs.Todo.{PlaysWhole};
 

@@ -1,0 +1,142 @@
+-- The files that turns make have the names that their statements give.
+use Rattle.std.proofs.Common.{◌≡◌, inl, inr, ℕ, zero, suc, ◌+◌, ◌-◌, List, [], ◌∷◌, ◌++◌, map, length, replicate, get_or, refl, sym, ap, subst, ◌∙◌, arith}
+use Rattle.std.specs.Prelude.{Bool, Contains, true, false, not, ◌&&◌}
+use Rattle.std.specs.List.{AllByRecursion, slice_index_or}
+use Rattle.std.proofs.lemmas.Bool.{and_parts}
+use Rattle.std.proofs.lemmas.Bool.Decides.{eqb_tells}
+use Rattle.std.proofs.lemmas.List.Elements.{Contains-append_cases}
+use Rattle.std.proofs.Math.ListN.{get_or-map}
+use Rattle.nb_host.specs.Names.{is_delta}
+use Rattle.nb_model.specs.declared.reply.Reply.{Reply}
+use Rattle.nb_model.specs.declared.statement.Statement.{Statement}
+use Rattle.nb_model.specs.declared.statement.Statement.TheVariants.{Backup, BackupSince, CopyTo}
+use Rattle.nb_model.specs.Backups.{room_in, close_backup, close_copy}
+use Rattle.nb_model.specs.Built.{is_built}
+use Rattle.nb_model.specs.Going.{AreNamed, IsGoing}
+use Rattle.nb_model.specs.Image.{Image}
+use Rattle.nb_model.specs.Making.{MadeFile, making}
+use Rattle.nb_model.specs.Outcomes.{Turn, Begins, Copies, ClosesBackup, ClosesCopy, Ends, Merges, Finishes, Seen, Outcome}
+use Rattle.nb_model.specs.Pages.{ends_by}
+use Rattle.nb_model.specs.Run.{Now, base_now, outcome, stands_then, one_turn, play, files_made, begun}
+use Rattle.nb_model.specs.Turns.{first_turn, turn}
+use Rattle.nb_model.proofs.FinishLaws.{IsPlainTurn}
+use Rattle.nb_model.proofs.GoingLaws.{one_cases, own_todo, other_todo, going_plain, going_turn, named_turn}
+use Rattle.nb_model.proofs.MakingLaws.{made_append, made_among}
+use Rattle.nb_model.proofs.TurnCases.{built_cases, begin_either, end_either, backup_either, copy_either, pages_once}
+use Rattle.nb_script.specs.Asked.{IsFurther, IsAskable}
+use Rattle.nb_script.specs.Fits.{Fits, IsFile}
+use Rattle.nb_script.specs.Scripts.{Plan}
+use Rattle.nb_session.proofs.AllLaws.{all_append}
+
+-- P holds of the name of the file that a turn makes, or leaves to be made
+abbrev pub HasName : (List ℕ → Type 0) → Turn → Type 0
+HasName P (Begins (Backup level name)) = P name
+HasName P (Begins (BackupSince guid name)) = P name
+HasName P (Begins (CopyTo name)) = P name
+HasName P (Begins other) = Unit {0}
+HasName P Copies = Unit {0}
+HasName P (ClosesBackup b) = P b.name
+HasName P (ClosesCopy name) = P name
+HasName P (Ends reply) = Unit {0}
+HasName P Merges = Unit {0}
+HasName P (Finishes reply) = Unit {0}
+
+-- of each turn that is to come
+abbrev pub HaveNames : (List ℕ → Type 0) → Now → Type 0
+HaveNames P now = (place : ℕ) → AllByRecursion (HasName P) (slice_index_or now.todo place [])
+
+module _ (P : List ℕ → Type 0) where
+  abbrev Named : List Turn → Type 0
+  Named = AllByRecursion (HasName P)
+
+  many : (n : ℕ) (t last : Turn) → HasName P t → HasName P last → Named (replicate n t ++ last ∷ [])
+  many zero t last each end = (end, tt)
+  many (suc n) t last each end = (each, many n t last each end)
+
+  module _ (session : ℕ) (s : Seen) where
+    abbrev Leaves : Outcome → Type 0
+    Leaves o = Named o.next
+
+    merging_names : (reply : Reply) → Leaves (ends_by s session reply)
+    unfolding ends_by
+    merging_names reply = many (length s.base.diverted) Merges (Finishes reply) tt tt
+
+    first_names : (statement : Statement) → is_built statement ≡ true → HasName P (Begins statement) → Leaves (first_turn s session statement)
+    unfolding first_turn
+    first_names = built_cases (λ x. HasName P (Begins x) → Leaves (first_turn s session x))
+        (λ x is on named. subst Named (sym (pages_once x is on s session).next) tt)
+        (λ named. begin_either Leaves s (λ r. tt) (λ may. tt))
+        (λ named. end_either Leaves s session (λ r. tt) (λ may. merging_names _))
+        (λ level name named. backup_either Leaves s session level name (λ r. tt) (λ from is may. many (length (room_in s.base.image).draft.image) Copies _ tt named))
+        (λ name named. copy_either Leaves s session name (λ r. tt) (λ may. many (length s.base.frozen) Copies (ClosesCopy name) tt named))
+
+    next_names : (u : Turn) → IsPlainTurn u → HasName P u → Leaves (turn s session u)
+    unfolding turn close_backup close_copy
+    next_names (Begins statement) plain named = first_names statement plain named
+    next_names (Ends reply) plain named = merging_names reply
+    next_names Copies plain named = tt
+    next_names (ClosesBackup b) plain named = (tt, tt)
+    next_names (ClosesCopy name) plain named = tt
+    next_names Merges plain named = tt
+    next_names (Finishes reply) plain named = tt
+
+  one_names : (session : ℕ) (now : Now) → IsGoing now → HaveNames P now → HaveNames P (one_turn session now).1
+  unfolding outcome
+  one_names session now going named = one_cases (λ p. HaveNames P p.1) session now named (λ u rest is place.
+      let o : Outcome = outcome session u now in
+      let here : Named (u ∷ rest) = subst Named is (named (session - 1)) in
+      let plain : AllByRecursion IsPlainTurn (u ∷ rest) = subst (AllByRecursion IsPlainTurn) is (going_plain now going (session - 1)) in
+      elim (eqb_tells place (session - 1)) [
+        | inl w ↦ subst (λ (p : ℕ). Named (get_or (stands_then session rest o now).todo p [])) (sym w.1)
+            (subst Named (sym (own_todo session now u rest is o)) (all_append (HasName P) o.next rest (next_names session _ u plain.0 here.0) here.1))
+        | inr w ↦ subst Named (sym (other_todo session now u rest is o place w.1)) (named place)
+      ])
+
+  making_names : (frozen : Image) (ts : List Turn) → Named ts → (f : MadeFile) → Contains (making frozen ts) f → P f.0
+  unfolding making
+  making_names frozen [] all f there = absurd (omega (arith, there.1))
+  making_names frozen (ClosesBackup b ∷ ts) all f (zero, low, is) = subst (λ (file : MadeFile). P file.0) is all.0
+  making_names frozen (ClosesBackup b ∷ ts) all f (suc i, low, is) = making_names frozen ts all.1 f (i, omega (arith, low), is)
+  making_names frozen (ClosesCopy name ∷ ts) all f (zero, low, is) = subst (λ (file : MadeFile). P file.0) is all.0
+  making_names frozen (ClosesCopy name ∷ ts) all f (suc i, low, is) = making_names frozen ts all.1 f (i, omega (arith, low), is)
+  making_names frozen (Begins statement ∷ ts) all f there = making_names frozen ts all.1 f there
+  making_names frozen (Copies ∷ ts) all f there = making_names frozen ts all.1 f there
+  making_names frozen (Ends reply ∷ ts) all f there = making_names frozen ts all.1 f there
+  making_names frozen (Merges ∷ ts) all f there = making_names frozen ts all.1 f there
+  making_names frozen (Finishes reply ∷ ts) all f there = making_names frozen ts all.1 f there
+
+  -- so P holds of the names of all files that turns make
+  pub made_named : (order : List ℕ) (now : Now) → AreNamed now → IsGoing now → HaveNames P now → (f : MadeFile) → Contains (files_made (play order now).0) f → P f.0
+  unfolding play files_made
+  made_named [] now are going named f there = absurd (omega (arith, there.1))
+  made_named (x ∷ xs) now are going named f there =
+      elim (Contains-append_cases (files_made (one_turn x now).0) (files_made (play xs (one_turn x now).1).0) f
+      (subst (λ (files : List MadeFile). Contains files f) (made_append (one_turn x now).0 (play xs (one_turn x now).1).0) there)) [
+        | inl one ↦ making_names (base_now now).frozen (get_or now.todo (x - 1) []) (named (x - 1)) f (made_among x now going f one)
+        | inr later ↦ made_named xs (one_turn x now).1 (named_turn x now are going) (going_turn x now are going) (one_names x now going named) f later
+      ]
+
+-- a name that a user may give is that of no difference file
+given_plain : (name : List ℕ) → IsFile name → is_delta name ≡ false
+given_plain name is = by (is_delta name) (and_parts _ (not (is_delta name)) is).1
+  where
+    by : (delta : Bool) → not delta ≡ true → delta ≡ false
+    by false h = refl
+    by true h = sym h
+
+asked_plain : (statement : Statement) → Fits statement → HasName (λ name. is_delta name ≡ false) (Begins statement)
+asked_plain (Backup level name) fits = given_plain name fits.1
+asked_plain (BackupSince guid name) fits = absurd fits
+asked_plain (CopyTo name) fits = given_plain name fits
+asked_plain other fits = tt
+
+all_plain : (statements : List Statement) → AllByRecursion IsFurther statements → AllByRecursion (HasName (λ name. is_delta name ≡ false)) (map Begins statements)
+all_plain [] all = tt
+all_plain (s ∷ statements) all = (asked_plain s all.0.fits, all_plain statements all.1)
+
+-- so none of those that a script names is
+pub begun_plain : (plan : Plan) → IsAskable plan → (now : Now) → now.todo ≡ begun plan.sessions → HaveNames (λ name. is_delta name ≡ false) now
+begun_plain plan askable now todo i =
+    let same : i + 1 - 1 ≡ i = omega arith in
+    subst (AllByRecursion (HasName (λ name. is_delta name ≡ false))) (sym (ap (λ (x : List (List Turn)). get_or x i []) todo ∙ get_or-map (map Begins) plan.sessions i []))
+    (all_plain (get_or plan.sessions i []) (subst (λ (k : ℕ). AllByRecursion IsFurther (get_or plan.sessions k [])) same (askable.further (i + 1))))
