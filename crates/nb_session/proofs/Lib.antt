@@ -3,8 +3,12 @@ pub mod SaysLaws
 pub mod GiftLaws
 pub mod StopLaws
 pub mod PlayLaws
+pub mod MakesLaws
+pub mod ReadyLaws
+pub mod UsedLaws
 pub mod EventLaws
 pub mod TurnLaws
+pub mod KeptLaws
 pub mod KeepLaws
 pub mod ActLaws
 pub mod MergeLaws

@@ -26,7 +26,7 @@ use std::alloc::Global;
 
 /// The statement is under way, and not refused.
 fn under_way(task: Task) -> Taken
-    ensures { result ≡ record { task = Some task.now; refused = false } }
+    ensures { result ≡ record { task = Some task; refused = false } }
 {
     Taken {
         task: Some(task),
@@ -105,11 +105,11 @@ pub fn back_up_on<H: Host>(
     session: u32,
     copier: Copier,
 ) -> Result<Taken, Fault>
-    requires fits { TaskFits session (Some (Backup copier.now)) engine.old }
+    requires fits { TaskFits session (Some (Backup copier)) engine.old }
     ensures turn { (now : Now) (t : Trail) (more : List Turn) → IsTrue H.tells → IsReady (H.world host.old) engine.old t now → IsGoing now
-        → slice_index_or now.todo (session - 1) [] ≡ task_first (Backup copier.now) ∷ (task_rest (Backup copier.now) ++ more) → TaskGoes session (H.world host.old) engine.old t.base.frozen (Some (Backup copier.now))
-        → Turns (λ taken. taken.refused) (λ taken. taken.task) result (H.world host.old) (H.world host.new) engine.old engine.new t now session (task_first (Backup copier.now)) (task_rest (Backup copier.now)) more }
-    ensures falls { IfOk result (λ taken. task_left taken.task < task_left (Some (Backup copier.now))) }
+        → slice_index_or now.todo (session - 1) [] ≡ task_first (Backup copier) ∷ (task_rest (Backup copier) ++ more) → TaskGoes session (H.world host.old) engine.old t.base.frozen (Some (Backup copier))
+        → Turns (λ taken. taken.refused) (λ taken. taken.task) result (H.world host.old) (H.world host.new) engine.old engine.new t now session (task_first (Backup copier)) (task_rest (Backup copier)) more }
+    ensures falls { IfOk result (λ taken. task_left taken.task < task_left (Some (Backup copier))) }
     ensures fits { IfOk result (λ taken. TaskFits session taken.task engine.new) }
     ensures others { KeepsOthers session engine.old engine.new }
     ensures cause { CountsDevice result (H.faults host.old) (H.faults host.new) }
@@ -141,11 +141,11 @@ pub fn copy_on<H: Host>(
     session: u32,
     copier: FileCopier,
 ) -> Result<Taken, Fault>
-    requires fits { TaskFits session (Some (Copy copier.now)) engine.old }
+    requires fits { TaskFits session (Some (Copy copier)) engine.old }
     ensures turn { (now : Now) (t : Trail) (more : List Turn) → IsTrue H.tells → IsReady (H.world host.old) engine.old t now → IsGoing now
-        → slice_index_or now.todo (session - 1) [] ≡ task_first (Copy copier.now) ∷ (task_rest (Copy copier.now) ++ more) → TaskGoes session (H.world host.old) engine.old t.base.frozen (Some (Copy copier.now))
-        → Turns (λ taken. taken.refused) (λ taken. taken.task) result (H.world host.old) (H.world host.new) engine.old engine.new t now session (task_first (Copy copier.now)) (task_rest (Copy copier.now)) more }
-    ensures falls { IfOk result (λ taken. task_left taken.task < task_left (Some (Copy copier.now))) }
+        → slice_index_or now.todo (session - 1) [] ≡ task_first (Copy copier) ∷ (task_rest (Copy copier) ++ more) → TaskGoes session (H.world host.old) engine.old t.base.frozen (Some (Copy copier))
+        → Turns (λ taken. taken.refused) (λ taken. taken.task) result (H.world host.old) (H.world host.new) engine.old engine.new t now session (task_first (Copy copier)) (task_rest (Copy copier)) more }
+    ensures falls { IfOk result (λ taken. task_left taken.task < task_left (Some (Copy copier))) }
     ensures fits { IfOk result (λ taken. TaskFits session taken.task engine.new) }
     ensures others { KeepsOthers session engine.old engine.new }
     ensures cause { CountsDevice result (H.faults host.old) (H.faults host.new) }

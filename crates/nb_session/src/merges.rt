@@ -27,7 +27,7 @@ use std::alloc::Global;
 
 /// A merge of all that the difference file holds. This is said once all is merged.
 fn merge_of(engine: &Engine, reply: Reply) -> Taken
-    ensures { result ≡ record { task = Some (Merge (record { left = length engine.now.files.entries; reply = reply.now })); refused = false } }
+    ensures { result ≡ record { task = Some (Merge (record { left = length engine.now.files.entries; reply = reply })); refused = false } }
 {
     Taken {
         task: Some(Task::Merge(Merging {
@@ -45,7 +45,7 @@ pub fn say_refused<H: Host>(
     session: u32,
     refusal: Refusal,
 ) -> Result<Taken, Fault>
-    ensures line { IsTrue H.tells → SaysLine result (H.world host.old) (H.world host.new) (line_text session (RefusedReply refusal.now)) }
+    ensures line { IsTrue H.tells → SaysLine result (H.world host.old) (H.world host.new) (line_text session (RefusedReply refusal)) }
     ensures taken { IfOk result (λ taken. taken ≡ record { task = None; refused = true }) }
     ensures gave { GaveNothing (H.world host.old) (H.world host.new) }
     ensures cause { CountsDevice result (H.faults host.old) (H.faults host.new) }
@@ -89,11 +89,11 @@ pub fn end_backup<H: Host>(
     session: u32,
     reply: Reply,
 ) -> Result<Taken, Fault>
-    requires fits { TaskFits session (Some (End reply.now)) engine.old }
+    requires fits { TaskFits session (Some (End reply)) engine.old }
     ensures turn { (now : Now) (t : Trail) (more : List Turn) → IsTrue H.tells → IsReady (H.world host.old) engine.old t now → IsGoing now
-        → slice_index_or now.todo (session - 1) [] ≡ task_first (End reply.now) ∷ (task_rest (End reply.now) ++ more) → TaskGoes session (H.world host.old) engine.old t.base.frozen (Some (End reply.now))
-        → Turns (λ taken. taken.refused) (λ taken. taken.task) result (H.world host.old) (H.world host.new) engine.old engine.new t now session (task_first (End reply.now)) (task_rest (End reply.now)) more }
-    ensures falls { IfOk result (λ taken. task_left taken.task < task_left (Some (End reply.now))) }
+        → slice_index_or now.todo (session - 1) [] ≡ task_first (End reply) ∷ (task_rest (End reply) ++ more) → TaskGoes session (H.world host.old) engine.old t.base.frozen (Some (End reply))
+        → Turns (λ taken. taken.refused) (λ taken. taken.task) result (H.world host.old) (H.world host.new) engine.old engine.new t now session (task_first (End reply)) (task_rest (End reply)) more }
+    ensures falls { IfOk result (λ taken. task_left taken.task < task_left (Some (End reply))) }
     ensures fits { IfOk result (λ taken. TaskFits session taken.task engine.new) }
     ensures others { KeepsOthers session engine.old engine.new }
     ensures cause { CountsDevice result (H.faults host.old) (H.faults host.new) }
@@ -115,11 +115,11 @@ pub fn merge_on<H: Host>(
     session: u32,
     merging: Merging,
 ) -> Result<Taken, Fault>
-    requires fits { TaskFits session (Some (Merge merging.now)) engine.old }
+    requires fits { TaskFits session (Some (Merge merging)) engine.old }
     ensures turn { (now : Now) (t : Trail) (more : List Turn) → IsTrue H.tells → IsReady (H.world host.old) engine.old t now → IsGoing now
-        → slice_index_or now.todo (session - 1) [] ≡ task_first (Merge merging.now) ∷ (task_rest (Merge merging.now) ++ more)
-        → Turns (λ taken. taken.refused) (λ taken. taken.task) result (H.world host.old) (H.world host.new) engine.old engine.new t now session (task_first (Merge merging.now)) (task_rest (Merge merging.now)) more }
-    ensures falls { IfOk result (λ taken. task_left taken.task < task_left (Some (Merge merging.now))) }
+        → slice_index_or now.todo (session - 1) [] ≡ task_first (Merge merging) ∷ (task_rest (Merge merging) ++ more)
+        → Turns (λ taken. taken.refused) (λ taken. taken.task) result (H.world host.old) (H.world host.new) engine.old engine.new t now session (task_first (Merge merging)) (task_rest (Merge merging)) more }
+    ensures falls { IfOk result (λ taken. task_left taken.task < task_left (Some (Merge merging))) }
     ensures fits { IfOk result (λ taken. TaskFits session taken.task engine.new) }
     ensures others { KeepsOthers session engine.old engine.new }
     ensures cause { CountsDevice result (H.faults host.old) (H.faults host.new) }

@@ -86,11 +86,11 @@ fn go_on<H: Host>(
     session: u32,
     task: Task,
 ) -> Result<Taken, Fault>
-    requires fits { TaskFits session (Some task.now) engine.old }
+    requires fits { TaskFits session (Some task) engine.old }
     ensures turn { (now : Now) (t : Trail) (more : List Turn) → IsTrue H.tells → IsReady (H.world host.old) engine.old t now → IsGoing now
-        → slice_index_or now.todo (session - 1) [] ≡ task_first task.now ∷ (task_rest task.now ++ more) → TaskGoes session (H.world host.old) engine.old t.base.frozen (Some task.now)
-        → Turns (λ taken. taken.refused) (λ taken. taken.task) result (H.world host.old) (H.world host.new) engine.old engine.new t now session (task_first task.now) (task_rest task.now) more }
-    ensures falls { IfOk result (λ taken. task_left taken.task < task_left (Some task.now)) }
+        → slice_index_or now.todo (session - 1) [] ≡ task_first task ∷ (task_rest task ++ more) → TaskGoes session (H.world host.old) engine.old t.base.frozen (Some task)
+        → Turns (λ taken. taken.refused) (λ taken. taken.task) result (H.world host.old) (H.world host.new) engine.old engine.new t now session (task_first task) (task_rest task) more }
+    ensures falls { IfOk result (λ taken. task_left taken.task < task_left (Some task)) }
     ensures fits { IfOk result (λ taken. TaskFits session taken.task engine.new) }
     ensures others { KeepsOthers session engine.old engine.new }
     ensures cause { CountsDevice result (H.faults host.old) (H.faults host.new) }
