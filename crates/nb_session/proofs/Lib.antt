@@ -11,6 +11,7 @@ pub mod TurnLaws
 pub mod KeptLaws
 pub mod KeepLaws
 pub mod ActLaws
+pub mod WayLaws
 pub mod MergeLaws
 pub mod CalmLaws
 pub mod StepLaws

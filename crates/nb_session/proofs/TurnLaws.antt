@@ -6,7 +6,9 @@ use Rattle.std.proofs.lemmas.List.{append-nil}
 use Rattle.nb_host.specs.World.{World}
 use Rattle.nb_host.specs.declared.faults.Fault.{Fault}
 use Rattle.nb_host.specs.declared.faults.Fault.TheVariants.{Refused, Device, Memory}
+use Rattle.nb_host.specs.declared.refusals.Refusal.{Refusal}
 use Rattle.nb_model.specs.declared.reply.Reply.{Reply}
+use Rattle.nb_model.specs.declared.reply.Reply.TheVariants.{Refused as RefusedBy}
 use Rattle.nb_model.specs.declared.statement.Statement.{Statement}
 use Rattle.nb_model.specs.Built.{is_built}
 use Rattle.nb_model.specs.Gifts.{Foretells}
@@ -23,6 +25,7 @@ use Rattle.nb_state.specs.Open.{Held}
 use Rattle.nb_session.specs.declared.stop.Stop.{Stop}
 use Rattle.nb_session.specs.declared.stop.Stop.TheVariants.{Device as DeviceStop, Memory as MemoryStop}
 use Rattle.nb_session.specs.declared.task.Task.{Task}
+use Rattle.nb_session.specs.declared.task.Taken.{Taken}
 use Rattle.nb_session.specs.Acts.{Says, Grows, Acts, MayAct}
 use Rattle.nb_session.specs.Ready.{IsReady}
 use Rattle.nb_session.specs.Replies.{HasEnded, is_refusal}
@@ -132,3 +135,19 @@ status_none r none = status_plain r (λ usage. refused_is (sym none ∙ ap is_re
 pub single_behind : (w : World) (held : Held) (session : ℕ) (statement : Statement) (now : Now) → IsSingle statement → IsBehind w held session (Begins statement) [] now None
 single_behind w held session statement now single =
     record { next = append-nil (outcome session (Begins statement) now).next ∙ ap (λ o. o.next) (outcome_is session statement now) ∙ single (seen_now now) session; goes = tt }
+
+-- A turn that was refused, and whose refusal is said.
+module _ {T : Type 0} (reply : T → Option Reply) (refusal : Refusal) (old mid new : World) (e0 e1 : Held) (t : Trail) (now : Now) (session : ℕ) (u : Turn) (tail more : List Turn)
+    (files : List MadeFile) (files_are : files ≡ making (base_now now).frozen (u ∷ tail)) (going : IsGoing now) (place : slice_index_or now.todo (session - 1) [] ≡ u ∷ (tail ++ more))
+    (may : MayAct reply (Err (Refused refusal)) old mid e0 e1 t now session u files) (mark : Acts reply (Err (Refused refusal)) old mid e0 e1 t now session u files → Marks old mid e0 files) (ready : IsReady old e0 t now) where
+  pub turns_refused : (answer : Result Taken Fault) → SaysLine answer mid new (line_text session (RefusedBy refusal)) → IfOk answer (λ taken. taken ≡ record { task = None; refused = true })
+      → ((outcome session u now).reply ≡ Some (RefusedBy refusal) → status_after (RefusedBy refusal) ≡ 1) → (Foretells now.given old mid → IsBehind new e1 session u tail now None)
+      → Turns (λ taken. taken.refused) (λ taken. taken.task) answer old new e0 e1 t now session u tail more
+  turns_refused (Ok taken) says is status behind =
+      turns_said reply (Err (Refused refusal)) (λ (x : Taken). x.refused) (λ (x : Taken). x.task) old mid new e0 e1 t now session u tail more files files_are going place may mark tt (RefusedBy refusal) (λ said s. s) (Ok taken) says ready
+      taken says.said
+      (λ replied. status replied ∙ ap (λ (x : Taken). if x.refused then 1 else 0) (sym is))
+      (λ told. subst (λ (x : Taken). IsBehind new e1 session u tail now x.task) (sym is) (behind told))
+  turns_refused (Err fault) says is status behind =
+      turns_unsaid reply (Err (Refused refusal)) (λ (x : Taken). x.refused) (λ (x : Taken). x.task) old mid new e0 e1 t now session u tail more files files_are going place may mark tt (RefusedBy refusal) (λ said s. s) (Err fault) says ready
+      (Err fault) refl
