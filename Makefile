@@ -1,4 +1,4 @@
-# `make` proves and builds the program, leaves it at bin/nehumiro, and runs a sample script with it on real files.
+# `make` proves and builds the program, leaves it at bin/nehumiro, and runs the first session of the README with it on real files.
 # `make test` is the gate: every proof, every must-fail edit, every test and the program's stored run.
 
 PROGRAM := bin/nehumiro
@@ -7,7 +7,8 @@ BUILT := crates/nb_cli/out/nb_cli
 .PHONY: all test clean
 
 all: $(PROGRAM)
-	@folder=$$(mktemp -d) && trap 'rm -rf "$$folder"' EXIT && cp crates/nb_cli/data/s "$$folder/" && cd "$$folder" && $(CURDIR)/$(PROGRAM) run s
+	@folder=$$(mktemp -d) && trap 'rm -rf "$$folder"' EXIT && cp examples/first examples/look "$$folder/" && cd "$$folder" \
+		&& $(CURDIR)/$(PROGRAM) run first && $(CURDIR)/$(PROGRAM) -R b.db a.0 a.1 && $(CURDIR)/$(PROGRAM) run look
 
 # The program without words ends with status 2, which says that it was proved, built and run.
 $(PROGRAM): crates.txt HANDLES $(shell find crates -name out -prune -o -type f -print)

@@ -86,7 +86,8 @@ impl TwoFiles {
 
     /// How many pages the main file has, as it is frozen in the stalled state.
     pub fn main_count(&self) -> u32
-        ensures { result ≡ self.now.main_count }
+        ensures value { result ≡ self.now.main_count }
+        ensures most { result ≤ 1048576 }
     {
         self.main_count
     }

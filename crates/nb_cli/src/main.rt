@@ -10,7 +10,7 @@ ghost use Rattle.nb_host.specs.Causes.{Rose};
 ghost use Rattle.nb_model.specs.Account.{Account};
 ghost use Rattle.nb_model.specs.Gifts.{Foretells};
 ghost use Rattle.nb_model.specs.Outcomes.{Given};
-ghost use Rattle.nb_top.specs.Performed.{Knows, Performs};
+ghost use Rattle.nb_top.specs.Performed.{Knows, MayBeGiven, Performs};
 ghost use Rattle.nb_top.specs.Requests.{job_asked, request_asked};
 ghost use Rattle.nb_cli.specs.Exit.{number_of};
 
@@ -38,7 +38,7 @@ fn status_of<H: Host>(alloc: Global, words: io::Result<Vec<String>>, host: &mut 
     ensures usage { result ≡ Status.Usage → IfOk words (λ words. job_asked (map string_bytes words.items) ≡ None) }
     ensures no_job { IfOk words (λ words. job_asked (map string_bytes words.items) ≡ None → result ≢ Status.Done × result ≢ Status.Refused) }
     ensures performs { IfOk words (λ words. (account : Account) (given : Given) → IsTrue H.tells → Knows (H.world host.old).files account (request_asked (H.world host.old).files (map string_bytes words.items))
-        → Foretells given (H.world host.old) (H.world host.new)
+        → MayBeGiven given → Foretells given (H.world host.old) (H.world host.new)
         → Performs result (H.world host.old) (H.world host.new) (request_asked (H.world host.old).files (map string_bytes words.items)) account given) }
 
     // Others make it Usage, where memory and the host suffice to say so.

@@ -39,12 +39,13 @@ use Rattle.nb_engine.specs.Tries.{Tries}
 use Rattle.nb_engine.proofs.DoesLaws.{unless_none}
 use Rattle.nb_engine.proofs.MakeLaws.{entry_none, from_well}
 use Rattle.nb_engine.proofs.WhereLaws.{sure_of}
+use Rattle.nb_model.specs.Making.{kept_of}
 use Rattle.nb_copy.specs.Making.{IsKept, IsUnfinishedOr}
 use Rattle.nb_copy.proofs.LevelLaws.{below_all}
 use Rattle.nb_copy.specs.declared.file_copy.FileCopy.{FileCopy}
 use Rattle.nb_copy.specs.declared.file_copy.FileCopy.TheVariants.{Pages, Level}
 use Rattle.nb_copy.specs.FileCopying.{file_name, file_count, file_next, file_written, whole_file, whole_count, IsFileCopying, IsSameFile}
-use Rattle.nb_copy.specs.Starting.{Backed, IsBackingUp, kept_of}
+use Rattle.nb_copy.specs.Starting.{Backed, IsBackingUp}
 use Rattle.nb_copy.specs.Closing.{OfBackup, GaveTimeAtMost, CloseLeft, Closes, BackupTurn}
 
 -- the time that was given is the one that may have been given

@@ -24,7 +24,6 @@ use Rattle.nb_model.specs.Trail.{Trail, StandsIn, after_stroke}
 use Rattle.nb_model.proofs.ControlMay.{may_begin}
 use Rattle.nb_model.proofs.ControlSound.{control_sound}
 use Rattle.nb_model.proofs.PutSound.{no_first}
-use Rattle.nb_model.proofs.SteadyTurns.{begin_facts}
 use Rattle.nb_state.specs.Open.{Held, IsOpen, name_of}
 use Rattle.nb_engine.specs.declared.walk.Room.{Room as Kept}
 use Rattle.nb_engine.specs.Room.{room_cause, IsRoomIn}
@@ -36,6 +35,7 @@ use Rattle.nb_copy.specs.Starting.{Backed, StartsBackup, IsStarted, BeginsFor, e
 use Rattle.nb_copy.specs.declared.file_copy.FileCopy.{FileCopy}
 use Rattle.nb_copy.specs.FileStarting.{IsNewFile, IsStartedFile}
 use Rattle.nb_copy.specs.FileCopying.{file_count}
+use Rattle.nb_copy.proofs.StartCauses.{scn_room}
 use Rattle.nb_copy.proofs.BegunLaws.{begun_image, begun_frozen, begun_long, begun_size, begun_state}
 use Rattle.nb_copy.proofs.FileStartLaws.{file_first, file_starts}
 use Rattle.nb_copy.proofs.RoomedLaws.{IsLike, roomed_is, roomed_like}
@@ -235,7 +235,7 @@ module _ (old mid new : World) (a b d : Held) (t : Trail) (s : Seen) (session le
           frozen_sound : IsSoundImage v.base.frozen
           frozen_sound =
               subst IsSoundImage (sym (begun_frozen u guid (Some ask) ∙ begun_image u guid (Some ask)))
-              (control_sound 1 (image_scn u.base.image + 1) guid u.base.image u_header still_sound (may_begin u.base.image u_header guid sixteen (begin_facts u.base.image starts_there).1))
+              (control_sound 1 (image_scn u.base.image + 1) guid u.base.image u_header still_sound (may_begin u.base.image u_header guid sixteen (scn_room u.base.image starts_there)))
 
           pub started_is : IsStarted new d v (record { backing = its; page_size = begun.page_size; file = g }) (started s session level name)
           started_is =

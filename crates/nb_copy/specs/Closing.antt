@@ -13,9 +13,10 @@ use Rattle.nb_base.specs.Takes.{Strikes, after_strokes, IsNoRefusal}
 use Rattle.nb_state.specs.Open.{Held, IsOpen, name_of}
 use Rattle.nb_state.specs.declared.turns.Progress.{Progress}
 use Rattle.nb_state.specs.declared.turns.Progress.TheVariants.{More, Finished}
+use Rattle.nb_model.specs.Making.{kept_of}
 use Rattle.nb_copy.specs.Making.{IsKept, IsUnfinishedOr}
 use Rattle.nb_copy.specs.FileCopying.{file_count, file_next, file_written, whole_file}
-use Rattle.nb_copy.specs.Starting.{Backed, IsBackingUp, kept_of}
+use Rattle.nb_copy.specs.Starting.{Backed, IsBackingUp}
 
 -- the file of a backup, and the two files of its database
 abbrev pub OfBackup : (name db : List ℕ) → Names

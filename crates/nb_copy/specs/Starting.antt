@@ -8,11 +8,12 @@ use Rattle.nb_page.specs.Free.{is_free_name}
 use Rattle.nb_page.specs.Quiet.{Quiet}
 use Rattle.nb_level.specs.declared.head.LevelHead.{LevelHead}
 use Rattle.nb_model.specs.Image.{Image, image_state, image_scn}
-use Rattle.nb_model.specs.Account.{Ask, Kept}
+use Rattle.nb_model.specs.Account.{Ask}
 use Rattle.nb_model.specs.Backups.{ask_of}
 use Rattle.nb_model.specs.Causes.{Cause, first_cause, when, read_only, not_state, not_free, is_free_entry, broken_at}
 use Rattle.nb_model.specs.Chains.{History, Spot, pages_of, backup_spot, level_in}
 use Rattle.nb_model.specs.Levels.{file_of, count_in}
+use Rattle.nb_model.specs.Making.{kept_of}
 use Rattle.nb_model.specs.Strokes.{begin}
 use Rattle.nb_model.specs.Outcomes.{Backing, Copies, ClosesBackup, Seen, Outcome}
 use Rattle.nb_model.specs.Trail.{Trail}
@@ -28,10 +29,6 @@ pub record Backed : Type 0 where
   pub backing : Backing
   pub page_size : ℕ
   pub file : FileCopy
-
--- what the begin of a backup has kept
-abbrev pub kept_of : Backing → Image → Kept
-kept_of b frozen = record { guid = b.guid; scn = b.scn; ask = Some b.ask; image = frozen }
 
 -- A backup goes on: its file is a copy of this frozen image, and whole it is the file of what the begin has kept, with its pages.
 pub record IsBackingUp (w : World) (copier : Backed) (frozen : Image) : Type 0 where

@@ -86,11 +86,7 @@ impl FileCopier {
     {
         check_copy(host, engine, name)?;
         let mut pages = PageCopy::new(alloc, engine.page_size(), name)?;
-        let count = engine.main_count();
-        if count > 1_048_576 {
-            return Err(Fault::Memory);
-        }
-        pages.start(count);
+        pages.start(engine.main_count());
         engine.set_running(Some(session));
         Ok(FileCopier { pages })
     }

@@ -118,7 +118,8 @@ impl Engine {
 
     /// How many pages the main file has.
     pub fn main_count(&self) -> u32
-        ensures { result ≡ self.now.files.main_count }
+        ensures value { result ≡ self.now.files.main_count }
+        ensures most { result ≤ 1048576 }
     {
         self.store.main_count()
     }

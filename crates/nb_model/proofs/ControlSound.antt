@@ -26,13 +26,13 @@ unfolding with_control
 control_first state scn guid [] some = absurd (omega arith)
 control_first state scn guid (p ∷ ps) some = refl
 
-control_rest : (state scn : ℕ) (guid : List ℕ) (image : Image) (q : ℕ) → 1 ≤ q → page_at (with_control state scn guid image) q ≡ page_at image q
+pub control_rest : (state scn : ℕ) (guid : List ℕ) (image : Image) (q : ℕ) → 1 ≤ q → page_at (with_control state scn guid image) q ≡ page_at image q
 unfolding with_control
 control_rest state scn guid [] q some = refl
 control_rest state scn guid (p ∷ ps) zero some = absurd (omega arith)
 control_rest state scn guid (p ∷ ps) (suc q) some = refl
 
-control_long : (state scn : ℕ) (guid : List ℕ) (image : Image) → length (with_control state scn guid image) ≡ length image
+pub control_long : (state scn : ℕ) (guid : List ℕ) (image : Image) → length (with_control state scn guid image) ≡ length image
 unfolding with_control
 control_long state scn guid [] = refl
 control_long state scn guid (p ∷ ps) = refl
@@ -89,7 +89,7 @@ module _ (state scn : ℕ) (guid : List ℕ) (image : Image) (h : HasHeader imag
   new_entry : (p : ℕ) → scn_entry new p ≡ scn_entry image p
   new_entry p = entry_same new image new_size p (rest (scn_page_of image p) (omega (arith, scn_place_some (image_size image) (p / entries_in (image_size image)) fields.size)))
 
-  new_free : (p : ℕ) → is_free_page new p ≡ is_free_page image p
+  pub new_free : (p : ℕ) → is_free_page new p ≡ is_free_page image p
   new_free p = free_same new image new_size p (rest (inventory_of image p) (inventory_place_some (image_size image) (p / bits_in (image_size image)) fields.size))
 
   -- what holds of page 0, and of the others as before

@@ -75,7 +75,7 @@ module _ (kept : List Kept) (b : Base) (w : IsWellBaseIn kept b) where
     kept_now : IsKeptAs (kept ++ r ∷ []) guid r
     kept_now = record { there = Contains-append_right kept (r ∷ []) r (0, omega arith, refl); named = refl }
 
-    goes_on_now : GoesOn r now
+    pub goes_on_now : GoesOn r now
     goes_on_now = record { earlier = omega (arith, begun_scn); follows = record { size = refl; no_shorter = omega arith; same = λ p low old. (low, refl) } }
 
     none_raised : IsRaised now []

@@ -1,14 +1,15 @@
 -- Strokes of which each writes a page that fits at its point: what such a page keeps holds after each front of them.
-use Rattle.std.proofs.Common.{◌≡◌, ℕ, zero, suc, ◌≤◌, List, [], ◌∷◌, ◌++◌, take, sym, ap, subst}
+use Rattle.std.proofs.Common.{◌≡◌, inl, inr, ℕ, zero, suc, ◌≤◌, List, [], ◌∷◌, ◌++◌, length, take, refl, sym, ap, subst, ◌∙◌, arith}
+use Rattle.std.proofs.lemmas.Bool.Decides.{eqb_tells}
 use Rattle.nb_fields.specs.Page.{stamped}
-use Rattle.nb_model.specs.Image.{Page, Image, image_scn, with_page}
+use Rattle.nb_model.specs.Image.{Page, Image, page_at, image_size, image_state, image_scn, with_page}
 use Rattle.nb_model.specs.Account.{Base}
 use Rattle.nb_model.specs.Strokes.{Stroke, page, on_base, base_after, merged_page}
 use Rattle.nb_model.specs.Forms.{Draft, drafted, old_page, wrote, written, needs, is_kind, no_page}
 use Rattle.nb_model.specs.Sound.{IsSoundImage}
 use Rattle.nb_model.proofs.DraftLaws.{either, IsOf, drafted_is, drafts_are}
-use Rattle.nb_model.proofs.SoundLaws.{HasFields, FitsAt, fields_stay, page_sound}
-use Rattle.nb_model.proofs.StrokeLaws.{whole_page}
+use Rattle.nb_model.proofs.SoundLaws.{HasFields, FitsAt, written_other, with_page_length, size_stays, scn_stays, state_stays, fields_stay, page_sound}
+use Rattle.nb_model.proofs.StrokeLaws.{whole_page, with_page_same}
 
 -- a sound image with the fields of a header
 pub record IsWhole (image : Image) : Type 0 where
@@ -104,3 +105,46 @@ module _ (Q : Image → Type 0) (K : Page → Type 0)
   front_keeps [] b fits h also (suc k) = also
   front_keeps (s ∷ ss) b fits h also zero = also
   front_keeps (s ∷ ss) b fits h also (suc k) = front_keeps ss (on_base s b) fits.1 (whole_one K s b fits.0 h) (one_keeps s b fits.0 h also) k
+
+  -- and after all of them
+  pub all_keep : (ss : List Stroke) (b : Base) → AreFitting K b ss → IsWhole b.image → Q b.image → Q (base_after b ss).image
+  unfolding base_after
+  all_keep [] b fits h also = also
+  all_keep (s ∷ ss) b fits h also = all_keep ss (on_base s b) fits.1 (whole_one K s b fits.0 h) (one_keeps s b fits.0 h also)
+
+-- K holds of a page still, where it held before.
+pub page_keeps : (K : Page → Type 0) (q : ℕ) (ss : List Stroke) (b : Base) → AreFitting K b ss → IsWhole b.image → K (page_at b.image q) → K (page_at (base_after b ss).image q)
+page_keeps K q = all_keep (λ image. K (page_at image q)) K (λ image p bytes fields is fits holds before. elim (eqb_tells q p) [
+  | inl w ↦ subst K (sym (ap (page_at (with_page p bytes image)) w.1 ∙ with_page_same p bytes image fits.there)) holds
+  | inr w ↦ subst K (sym (written_other image p bytes fields is fits q w.1)) before
+])
+
+-- What such strokes leave as it was. The image gets no shorter.
+pub record Stays (old new : Base) : Type 0 where
+  pub size : image_size new.image ≡ image_size old.image
+  pub longer : length old.image ≤ length new.image
+  pub state : image_state new.image ≡ image_state old.image
+  pub scn : image_scn new.image ≡ image_scn old.image
+  pub frozen : new.frozen ≡ old.frozen
+
+pub stays_still : (b : Base) → Stays b b
+stays_still b = record { size = refl; longer = omega arith; state = refl; scn = refl; frozen = refl }
+
+stays_both : (a b c : Base) → Stays a b → Stays b c → Stays a c
+stays_both a b c x y = record { size = y.size ∙ x.size; longer = omega (arith, x.longer, y.longer); state = y.state ∙ x.state; scn = y.scn ∙ x.scn; frozen = y.frozen ∙ x.frozen }
+
+stays_one : (K : Page → Type 0) (s : Stroke) (b : Base) → IsFitting K b.image s → IsWhole b.image → Stays b (on_base s b)
+unfolding on_base
+stays_one K (page p bytes) b fits h = record {
+  size = size_stays b.image p (merged_page p bytes b.image) h.fields h.sound fits.0;
+  longer = omega (arith, with_page_length p (merged_page p bytes b.image) b.image fits.0.there);
+  state = state_stays b.image p (merged_page p bytes b.image) h.fields h.sound fits.0;
+  scn = scn_stays b.image p (merged_page p bytes b.image) h.fields h.sound fits.0;
+  frozen = refl;
+}
+stays_one K other b fits h = absurd fits
+
+pub fitting_stays : (K : Page → Type 0) (ss : List Stroke) (b : Base) → AreFitting K b ss → IsWhole b.image → Stays b (base_after b ss)
+unfolding base_after
+fitting_stays K [] b fits h = stays_still b
+fitting_stays K (s ∷ ss) b fits h = stays_both b (on_base s b) (base_after (on_base s b) ss) (stays_one K s b fits.0 h) (fitting_stays K ss (on_base s b) fits.1 (whole_one K s b fits.0 h))

@@ -13,7 +13,7 @@ use Rattle.nb_model.specs.Image.{Image}
 use Rattle.nb_model.specs.Account.{Base, base_of, Kept, Entry, Missing, Plain, IsBase, Account, with_entry}
 use Rattle.nb_model.specs.Levels.{Contents, begins_level, read_level}
 use Rattle.nb_model.specs.Owner.{delta_name, owner, entry_of_files, entry_in}
-use Rattle.nb_model.specs.Stands.{nil, HoldsItsRecord, Stands}
+use Rattle.nb_model.specs.Stands.{nil, IsKeptAs, HoldsItsRecord, is_applying, Stands}
 use Rattle.nb_model.specs.Well.{IsWell}
 use Rattle.nb_model.proofs.HeadSound.{all_zeros}
 use Rattle.nb_model.proofs.HeaderLaws.{header-long, header-other}
@@ -46,7 +46,7 @@ free_closed name (Some bytes) delta b free e = by (owner name (Some bytes) delta
     by (Ok c) is h = true≢false (sym free ∙ opened_in_use name bytes delta c is)
 
 -- Such a file begins with zeros, or a restore was stopped.
-free_cases : (bytes : List ℕ) → is_free_file (Some bytes) ≡ true → (is_zeros (take 64 bytes) ≡ true) ⊎ (is_unfinished bytes ≡ true)
+pub free_cases : (bytes : List ℕ) → is_free_file (Some bytes) ≡ true → (is_zeros (take 64 bytes) ≡ true) ⊎ (is_unfinished bytes ≡ true)
 unfolding is_free_file
 free_cases bytes free = or_cases (is_zeros (take 64 bytes)) (is_unfinished bytes) free
 
@@ -88,30 +88,35 @@ free_holds kept bytes free = record {
   copy = λ r header stalled whole named. absurd (let applying = (free_header bytes free header).0 in omega arith);
 }
 
--- The name is free: nothing stands under it, or a file whose name may be taken, and no difference file beside it.
-pub free_under : (files : Files) (kept : List Kept) (name : List ℕ) → ((r : Kept) → Contains kept r → r.guid ≢ nil) → is_free_file (files name) ≡ true → files (delta_name name) ≡ None
+-- A file isn't opened, and no difference file stands beside it: it has to hold the record that it names, and to wait for none.
+pub closed_under : (files : Files) (kept : List Kept) (name : List ℕ) → files (delta_name name) ≡ None → ((b : Base) → entry_in files name ≡ IsBase b → ⊥) → ((bytes : List ℕ) → files name ≡ Some bytes → HoldsItsRecord kept bytes)
+    → ((bytes : List ℕ) (r : Kept) → files name ≡ Some bytes → IsTrue (is_applying bytes) → IsKeptAs kept (pending_of bytes) r → ⊥)
     → StandsUnder files kept name (entry_in files name)
-free_under files kept name not_nil free alone = record {
+closed_under files kept name alone closed holds waits = record {
   same = refl;
   frozen = λ b e stalled. absurd (closed b e);
   sound = λ b e. absurd (closed b e);
   stalled = λ b e stalled. absurd (closed b e);
   past = λ b e. absurd (closed b e);
-  holds = λ bytes there. free_holds kept bytes (free_bytes bytes there);
+  holds = holds;
   no_stray = λ beside. absurd (none_some (files (delta_name name)) alone beside);
-  standby = λ bytes r there applying named.
-      let pending = (free_header bytes (free_bytes bytes there) (and_parts (is_header bytes) (state_of bytes == 3) applying).0).1 in
-      absurd (not_nil r named.there (named.named ∙ pending));
+  standby = λ bytes r there applying named. absurd (waits bytes r there applying named);
 }
   where
-    closed : (b : Base) → entry_in files name ≡ IsBase b → ⊥
-    closed b e = free_closed name (files name) (files (delta_name name)) b free e
-
-    free_bytes : (bytes : List ℕ) → files name ≡ Some bytes → is_free_file (Some bytes) ≡ true
-    free_bytes bytes there = ap is_free_file (sym there) ∙ free
-
     none_some : (f : File) → f ≡ None → IsTrue (is_some f) → ⊥
     none_some f e some = true≢false (sym some ∙ ap is_some e)
+
+-- The name is free: nothing stands under it, or a file whose name may be taken, and no difference file beside it.
+pub free_under : (files : Files) (kept : List Kept) (name : List ℕ) → ((r : Kept) → Contains kept r → r.guid ≢ nil) → is_free_file (files name) ≡ true → files (delta_name name) ≡ None
+    → StandsUnder files kept name (entry_in files name)
+free_under files kept name not_nil free alone =
+    closed_under files kept name alone (λ b e. free_closed name (files name) (files (delta_name name)) b free e) (λ bytes there. free_holds kept bytes (free_bytes bytes there))
+    (λ bytes r there applying named.
+    let pending = (free_header bytes (free_bytes bytes there) (and_parts (is_header bytes) (state_of bytes == 3) applying).0).1 in
+    not_nil r named.there (named.named ∙ pending))
+  where
+    free_bytes : (bytes : List ℕ) → files name ≡ Some bytes → is_free_file (Some bytes) ≡ true
+    free_bytes bytes there = ap is_free_file (sym there) ∙ free
 
 -- The files stand for the account with what they give under a free name, as a creation leaves it that was stopped.
 pub stands_free : (old new : Files) (account : Account) (name : List ℕ)

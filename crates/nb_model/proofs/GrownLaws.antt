@@ -8,7 +8,6 @@ use Rattle.nb_host.specs.Names.{is_delta}
 use Rattle.nb_host.specs.World.{World}
 use Rattle.nb_host.specs.Crash.{LeavesAll, Leaves}
 use Rattle.nb_model.specs.Account.{Ask, Kept, Base, Account}
-use Rattle.nb_model.specs.Image.{image_scn}
 use Rattle.nb_model.specs.NewGuids.{IsUnnamed, ComeOnce, AreNew, guids_in}
 use Rattle.nb_model.specs.Sound.{IsSoundImage}
 use Rattle.nb_model.specs.Stands.{Stands, NamesItsPast, nil}
@@ -18,7 +17,7 @@ use Rattle.nb_model.specs.Trail.{Trail, settled, after_stroke}
 use Rattle.nb_model.specs.WellTrail.{IsWellTrail}
 use Rattle.nb_model.proofs.TrailLaws.{trail_base}
 use Rattle.nb_model.proofs.RecordLaws.{IsFresh, with_record, stands_with_record}
-use Rattle.nb_model.proofs.SteadyLaws.{WellAlong, kept_along, along_first}
+use Rattle.nb_model.proofs.SteadyLaws.{WellAlong, record_of, kept_along, along_first}
 
 -- these GUIDs are in none of the records and in none of the files, and none comes twice
 pub record AreUnused (files : Files) (kept : List Kept) (guids : List (List ℕ)) : Type 0 where
@@ -55,10 +54,6 @@ unused_then files kept r guids unused = record {
     other guid there q (zero, low, is) e = unused.once.0 (subst (Contains guids) (sym (ap (λ (x : Kept). x.guid) is ∙ e)) there)
     other guid there q (suc k, low, is) e = absurd (omega (arith, low))
 
--- the record that a begin keeps
-abbrev record_of : Trail → (guid : List ℕ) → Option Ask → Kept
-record_of t guid ask = record { guid = guid; scn = image_scn t.base.image; ask = ask; image = (on_base (begin guid ask) t.base).image }
-
 record_is : (t : Trail) (guid : List ℕ) (ask : Option Ask) → records_of (begin guid ask) t.base ≡ record_of t guid ask ∷ []
 unfolding records_of
 record_is t guid ask = refl
@@ -72,7 +67,7 @@ module _ (files : Files) where
       let same : (after_stroke (begin guid ask) t).base.image ≡ (on_base (begin guid ask) t.base).image = ap (λ (b : Base). b.image) (trail_base (begin guid ask) t) in
       record {
         begun = w.1.0;
-        bare = w.1.1;
+        parent = w.1.1;
         sound = subst IsSoundImage same later.base.well.sound;
         past = subst (NamesItsPast (account.kept ++ record_of t guid ask ∷ [])) same
             (subst (λ (rs : List Kept). NamesItsPast (account.kept ++ rs) (after_stroke (begin guid ask) t).base.image) (record_is t guid ask) later.base.well.past);

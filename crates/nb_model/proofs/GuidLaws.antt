@@ -1,6 +1,6 @@
 -- The GUIDs of the backups that begin in a part of a run are among those of all of it.
-use Rattle.std.proofs.Common.{◌≡◌, ℕ, List, [], ◌∷◌, ◌++◌, take, drop, refl, sym, ap, subst, ◌∙◌, take-append-drop}
-use Rattle.std.specs.Prelude.{true, false, Bool}
+use Rattle.std.proofs.Common.{◌≡◌, ℕ, List, [], ◌∷◌, ◌++◌, length, take, drop, refl, sym, ap, subst, ◌∙◌, take-append-drop}
+use Rattle.std.specs.Prelude.{true, false, Bool, Contains}
 use Rattle.std.proofs.lemmas.List.{append-nil}
 use Rattle.std.proofs.lemmas.List.Elements.{Contains-append_left, Contains-append_right}
 use Rattle.nb_host.specs.World.{World}
@@ -8,10 +8,19 @@ use Rattle.nb_model.specs.Account.{Kept, Base}
 use Rattle.nb_model.specs.NewGuids.{ComeOnce, AreNew, guids_in}
 use Rattle.nb_model.specs.Run.{Event, strokes_of}
 use Rattle.nb_model.specs.Steps.{Step, makes, settles, after_step, after_steps, made, strokes_in, steps_in, steps_of}
-use Rattle.nb_model.specs.Strokes.{Stroke, base_after}
+use Rattle.nb_model.specs.Strokes.{Stroke, begin, base_after}
 use Rattle.nb_model.specs.Trail.{Trail, settled, after_stroke}
-use Rattle.nb_model.proofs.SteadyTurns.{guids_append}
 use Rattle.nb_model.proofs.TrailLaws.{trail_base}
+
+-- the GUIDs of these strokes have 16 bytes
+abbrev pub AreSixteen : List Stroke → Type 0
+AreSixteen ss = (guid : List ℕ) → Contains (guids_in ss) guid → length guid ≡ 16
+
+pub guids_append : (xs ys : List Stroke) → guids_in (xs ++ ys) ≡ guids_in xs ++ guids_in ys
+unfolding guids_in
+guids_append [] ys = refl
+guids_append (begin guid ask ∷ xs) ys = ap (λ (l : List (List ℕ)). guid ∷ l) (guids_append xs ys)
+guids_append (other ∷ xs) ys = guids_append xs ys
 
 -- the strokes among steps
 pub strokes_in_append : (xs ys : List Step) → strokes_in (xs ++ ys) ≡ strokes_in xs ++ strokes_in ys

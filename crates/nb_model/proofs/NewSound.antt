@@ -19,8 +19,8 @@ use Rattle.nb_model.specs.Forms.{Draft, drafted, old_page, is_kind, put, scn_pag
 use Rattle.nb_model.specs.Sound.{IsSoundImage, HasHeader}
 use Rattle.nb_model.proofs.SoundLaws.{inventory_there, scn_page_there, HasFields, FitsAt, scn_no_entry, with_page_length}
 use Rattle.nb_model.proofs.FreshSound.{kind_inventory, kind_scn, inventory_length, scn_length}
-use Rattle.nb_model.proofs.FitLaws.{IsWhole, Fits, fits_first, fits_full, fits_needs}
-use Rattle.nb_model.proofs.PutSound.{IsPlace, Raises, IsPut, header_whole, needs_image, old_length, now_length, now_some, now_stamp, now_kind, put_fits, plain_put}
+use Rattle.nb_model.proofs.FitLaws.{IsWhole, Fits, fits_first, fits_full, fits_needs, form_page}
+use Rattle.nb_model.proofs.PutSound.{IsPlace, Raises, IsPut, header_whole, needs_image, old_length, now_length, now_some, now_stamp, now_kind, put_fits, plain_here}
 use Rattle.nb_model.proofs.BitSound.{bit_put}
 
 -- no page is of both kinds of inventory
@@ -274,11 +274,11 @@ module _ (K : Page → Type 0) (kinds : HoldsOfKinds K) (b : Base) where
           (kind_there p 10 _ d at before (λ low. held.sound.sound.system.scn_pages p low scn) (scn_page_made p d scn at before))
 
   -- a new page with a payload that fits into each page size
-  new_fits : (tries kind : ℕ) (payload : ℕ → List ℕ) (d : Draft) → (kind == 0) ≡ false → ((p : ℕ) → length (payload p) ≤ 1008) → ((bytes : Page) → kind_of bytes ≡ kind → K bytes)
+  pub new_fits : (tries kind : ℕ) (payload : ℕ → List ℕ) (d : Draft) → (kind == 0) ≡ false → ((p : ℕ) → length (payload p) ≤ 1008) → ((x : Image) (p : ℕ) → IsWhole x → K (form_page p kind (payload p) x))
       → Fits K b d → Fits K b (new_within tries kind payload d).0
   unfolding new_within
-  new_fits zero kind payload d some room of_kind before = fits_full K b d before
-  new_fits (suc tries) kind payload d some room of_kind before = by_end (λ e h. new_fits tries kind payload e some room of_kind h) (lowest_free d.image == 1048576) refl
+  new_fits zero kind payload d some room holds before = fits_full K b d before
+  new_fits (suc tries) kind payload d some room holds before = by_end (λ e h. new_fits tries kind payload e some room holds h) (lowest_free d.image == 1048576) refl
     where
       p : ℕ
       p = lowest_free d.image
@@ -312,7 +312,8 @@ module _ (K : Page → Type 0) (kinds : HoldsOfKinds K) (b : Base) where
           let plain = plain_place (image_size read.image) p (ap (λ (x : Image). is_system_place (image_size x) p) same ∙ place) in
           let size : SizeFacts (image_size read.image) = size_facts (image_size read.image) read_fits.whole.fields.size in
           taken_fits p (put p kind (payload p) read) (omega (arith, between.0)) (put_there read.image p kind (payload p) _ at
-          (plain_put K kinds.scn_pages b p kind (payload p) read read_fits (record { place = at; no_inventory = plain.0; no_scn_page = plain.1 }) some (omega (arith, size.at_least, room p)) of_kind))
+          (plain_here K kinds.scn_pages b p kind (payload p) read read_fits (record { place = at; no_inventory = plain.0; no_scn_page = plain.1 }) some (omega (arith, size.at_least, room p))
+          (holds read.image p read_fits.whole)))
 
       by_end : ((e : Draft) → Fits K b e → Fits K b (new_within tries kind payload e).0) → (t : Bool) → (p == 1048576) ≡ t
           → Fits K b (elim t as (λ z. Draft × ℕ) [
@@ -330,4 +331,4 @@ empty_text p = omega arith
 pub new_raw_fits : (K : Page → Type 0) → HoldsOfKinds K → ((bytes : Page) → kind_of bytes ≡ 8 → K bytes) → (b : Base) → HasHeader b.image → IsSoundImage b.image
     → Fits K b (new_page 8 (λ p. text_payload []) (drafted b.image)).0
 new_raw_fits K kinds raw_pages b h is =
-    new_fits K kinds b (length b.image + 4) 8 (λ p. text_payload []) (drafted b.image) refl empty_text raw_pages (fits_first K b (header_whole b.image h is))
+    new_fits K kinds b (length b.image + 4) 8 (λ p. text_payload []) (drafted b.image) refl empty_text (λ x p whole. raw_pages _ (stamped_kind (old_page p x) 8 (text_payload []) (image_scn x) p)) (fits_first K b (header_whole b.image h is))

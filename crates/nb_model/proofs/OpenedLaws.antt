@@ -40,7 +40,7 @@ pages_zeros [] h = refl
 pages_zeros (z ∷ zs) h = zeros_join z (joined zs) h.0 (pages_zeros zs h.1)
 
 -- the first 64 bytes of pages that are joined
-joined_front : (image : Image) (rest : List Page) → is_header (first_page image) ≡ true → take 64 (joined (image ++ rest)) ≡ take 64 (first_page image)
+pub joined_front : (image : Image) (rest : List Page) → is_header (first_page image) ≡ true → take 64 (joined (image ++ rest)) ≡ take 64 (first_page image)
 joined_front [] rest header = absurd (let some = some_page [] header in omega arith)
 joined_front (p ∷ ps) rest header = take-append-le 64 p (joined (ps ++ rest)) (header-long p header)
 

@@ -48,7 +48,7 @@ err_ok : (answer : Result Base Refusal) (r : Refusal) (b : Base) → answer ≡ 
 err_ok answer r b e f = cc
 
 -- a file in use: a header in another state
-in_use : (bytes : List ℕ) → is_header bytes ≡ true → (state_of bytes == 3) ≡ false → is_free_file (Some bytes) ≡ false
+pub in_use : (bytes : List ℕ) → is_header bytes ≡ true → (state_of bytes == 3) ≡ false → is_free_file (Some bytes) ≡ false
 unfolding is_free_file
 in_use bytes header state =
     ap (λ (t : Bool). t || (is_header bytes && state_of bytes == 3 && is_zeros (pending_of bytes))) (header-other (take 64 bytes) (is_header-take bytes ∙ header))

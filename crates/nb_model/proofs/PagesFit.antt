@@ -39,7 +39,7 @@ unfolding unless
 guarded_fits s None o fits = fits refl
 guarded_fits s (Some r) o fits = tt
 
-short_text : (text : List ℕ) → too_long text ≡ None → length text ≤ 200
+pub short_text : (text : List ℕ) → too_long text ≡ None → length text ≤ 200
 short_text text none = elim (leb_tells 201 (length text)) [
   | inl w ↦ absurd (true≢false (sym w.0 ∙ not_when (nat_lt 200 (length text)) _ none))
   | inr w ↦ omega (arith, w.1)

@@ -46,7 +46,7 @@ goes_on_still image p bytes fields is fits r on =
 
 -- What passes one test passes another.
 module _ (kept : List Kept) (P R : Kept → Type 0) (goes : (r : Kept) → P r → R r) where
-  remembered_with : (row : Slot) → IsRemembered kept P row → IsRemembered kept R row
+  pub remembered_with : (row : Slot) → IsRemembered kept P row → IsRemembered kept R row
   remembered_with row h = record { backup = h.backup; kept_as = h.kept_as; scn = h.scn; level = h.level; passes = goes h.backup h.passes }
 
   pub rows_with : (page : Page) → HasRows kept P page → HasRows kept R page

@@ -1,6 +1,6 @@
 -- Each stroke of `put` fits at its point.
-use Rattle.std.proofs.Common.{◌≡◌, ◌≢◌, inl, inr, ℕ, suc, ◌+◌, ◌-◌, ◌*◌, ◌/◌, ◌%◌, ◌^◌, ◌<◌, ◌≤◌, List, ◌∷◌, ◌++◌, length, take, drop, refl, sym, ap, subst, ◌∙◌, arith, length-drop}
-use Rattle.std.specs.Prelude.{Bool, true, false, not, ◌==◌, nat_le, Some, None}
+use Rattle.std.proofs.Common.{◌≡◌, ◌≢◌, inl, inr, ℕ, suc, ◌+◌, ◌-◌, ◌*◌, ◌/◌, ◌%◌, ◌^◌, ◌<◌, ◌≤◌, List, ◌∷◌, ◌++◌, length, take, drop, replicate, refl, sym, ap, subst, ◌∙◌, arith, length-drop}
+use Rattle.std.specs.Prelude.{Bool, true, false, not, ◌==◌, nat_le, nat_lt, Some, None}
 use Rattle.std.proofs.lemmas.Bool.{true≢false, cases_lt}
 use Rattle.std.proofs.lemmas.Bool.Decides.{eqb_tells, leb_tells}
 use Rattle.std.proofs.lemmas.List.{length-replicate, drop-drop}
@@ -213,6 +213,17 @@ pub record Raises (image x : Image) (p : ℕ) : Type 0 where
   pub others : (q : ℕ) → q ≢ scn_page_of image p → page_at x q ≡ page_at image q
   pub current : has_entry x p ≡ true → scn_entry x p ≡ image_scn x
 
+-- that changes no page that isn't an SCN page
+raised_old : (image x : Image) (p : ℕ) → HasFields image → IsPlain image p → Raises image x p → old_page p x ≡ old_page p image
+unfolding old_page
+raised_old image x p fields plain raises =
+    ap (λ (n : ℕ). elim (nat_lt p n) as (λ z. Page) [ true ↦ page_at x p | false ↦ replicate (image_size x) 0 ]) raises.long
+    ∙ ap (λ (page : Page). elim (nat_lt p (length image)) as (λ z. Page) [ true ↦ page | false ↦ replicate (image_size x) 0 ]) (raises.others p other)
+    ∙ ap (λ (n : ℕ). elim (nat_lt p (length image)) as (λ z. Page) [ true ↦ page_at image p | false ↦ replicate n 0 ]) raises.size
+  where
+    other : p ≢ scn_page_of image p
+    other e = true≢false (sym (scn_page_there (image_size image) (p / entries_in (image_size image)) fields.size) ∙ ap (is_scn_place (image_size image)) (sym e) ∙ plain.no_scn_page)
+
 -- a draft whose image is the image with that entry raised
 pub record IsRaised (K : Page → Type 0) (b : Base) (image : Image) (p : ℕ) (d : Draft) : Type 0 where
   pub fits : Fits K b d
@@ -292,19 +303,26 @@ module _ (K : Page → Type 0) (scn_pages : (bytes : Page) → kind_of bytes ≡
       }
 
   -- a page that is no system page fits then
-  pub plain_put : (p kind : ℕ) (payload : List ℕ) (d : Draft) → Fits K b d → IsPlain d.image p → (kind == 0) ≡ false → 16 + length payload ≤ image_size d.image
-      → ((bytes : Page) → kind_of bytes ≡ kind → K bytes) → IsPut K b d.image p kind payload (put p kind payload d)
-  plain_put p kind payload d before plain some room of_kind = put_fits p kind payload d before plain.place fit
+  pub plain_here : (p kind : ℕ) (payload : List ℕ) (d : Draft) → Fits K b d → IsPlain d.image p → (kind == 0) ≡ false → 16 + length payload ≤ image_size d.image
+      → K (form_page p kind payload d.image) → IsPut K b d.image p kind payload (put p kind payload d)
+  plain_here p kind payload d before plain some room holds = put_fits p kind payload d before plain.place fit
     where
       fit : (x : Image) → IsWhole x → Raises d.image x p → FitsAt x p (form_page p kind payload x) × K (form_page p kind payload x)
       fit x h raises =
-          let room_x : 16 + length payload ≤ image_size x = omega (arith, raises.size) in
+          let room_x : 16 + length payload ≤ image_size x = omega (arith, room, raises.size) in
           let plain_x : IsPlain x p = record {
             place = record { behind = plain.place.behind; there = let low = plain.place.there in omega (arith, raises.long); most = plain.place.most };
             no_inventory = ap (λ (s : ℕ). is_inventory_place s p) raises.size ∙ plain.no_inventory;
             no_scn_page = ap (λ (s : ℕ). is_scn_place s p) raises.size ∙ plain.no_scn_page;
           } in
-          (plain_fits x p kind payload h.fields h.sound some room_x plain_x raises.current, of_kind _ (now_kind x p kind payload h.fields h.sound some room_x))
+          let same : form_page p kind payload x ≡ form_page p kind payload d.image =
+          ap (λ (old : Page). stamped old kind payload (image_scn x) p) (raised_old d.image x p before.whole.fields plain raises) ∙ ap (λ (n : ℕ). stamped (old_page p d.image) kind payload n p) raises.scn in
+          (plain_fits x p kind payload h.fields h.sound some room_x plain_x raises.current, subst K (sym same) holds)
+
+  pub plain_put : (p kind : ℕ) (payload : List ℕ) (d : Draft) → Fits K b d → IsPlain d.image p → (kind == 0) ≡ false → 16 + length payload ≤ image_size d.image
+      → ((bytes : Page) → kind_of bytes ≡ kind → K bytes) → IsPut K b d.image p kind payload (put p kind payload d)
+  plain_put p kind payload d before plain some room of_kind =
+      plain_here p kind payload d before plain some room (of_kind _ (now_kind d.image p kind payload before.whole.fields before.whole.sound some room))
 
 pub header_fields : (image : Image) → HasHeader image → HasFields image
 header_fields image h = record { size = header-size (first_page image) h.header; scn = h.scn }

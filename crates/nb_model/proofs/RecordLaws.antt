@@ -1,6 +1,6 @@
 -- The files stand for the account with one record of a backup more, where no file names it.
 use Rattle.std.proofs.Common.{◌≡◌, ◌≢◌, inl, inr, ⊎_elim, ◌⊎◌, ℕ, zero, suc, List, [], ◌∷◌, ◌++◌, sym, ap, subst, ◌∙◌, arith}
-use Rattle.std.specs.Prelude.{Some, None, false, Contains}
+use Rattle.std.specs.Prelude.{Some, false, Contains}
 use Rattle.std.proofs.lemmas.List.Elements.{Contains-append_cases}
 use Rattle.nb_fields.specs.Header.{guid_of, pending_of}
 use Rattle.nb_host.specs.Files.{Files}
@@ -12,10 +12,15 @@ use Rattle.nb_model.specs.Sound.{IsSoundImage}
 use Rattle.nb_model.specs.Stands.{Stands, Belongs, to_base, to_record, IsKeptAs, IsBegun, IsParent, IsLineTo, IsAncestor, IsSpan, IsFileOf, HoldsItsRecord, GoesOn, NamesItsPast, GoesOnFrom, IsStopped, nil}
 use Rattle.nb_model.proofs.PastLaws.{kept_more, past_more}
 
--- A record that no file names: it is as a bare begin leaves it, its image is sound and names its past, and its GUID is new.
+-- the record goes on from the one that it asks for, where it asks for one
+abbrev pub HasParent : List Kept → Kept → Type 0
+HasParent kept r = (ask : Ask) → r.ask ≡ Some ask → ask.previous ≢ nil → GoesOnFrom kept r ask
+
+-- A record that no file names: it is as a begin leaves it, goes on from the one that it asks for, its image is sound and names its past,
+-- and its GUID is new.
 pub record IsFresh (files : Files) (kept : List Kept) (r : Kept) : Type 0 where
   pub begun : IsBegun r
-  pub bare : r.ask ≡ None
+  pub parent : HasParent kept r
   pub sound : IsSoundImage r.image
   pub past : NamesItsPast (kept ++ r ∷ []) r.image
   pub some : r.guid ≢ nil
@@ -84,12 +89,6 @@ module _ (files : Files) (account : Account) (r : Kept) (stands : Stands files a
   each_image P old new x (to_base n b e is) = old x (to_base n b e is)
   each_image P old new x (to_record q there is) = ⊎_elim (λ before. old x (to_record q before is)) (λ same. subst P (ap (λ (y : Kept). y.image) same ∙ is) new) (which q there)
 
-  not_asked : (ask : Ask) (q : Kept) → r ≡ q → q.ask ≡ Some ask → ⊥
-  not_asked ask q same is = none_some (sym fresh.bare ∙ ap (λ (x : Kept). x.ask) same ∙ is)
-    where
-      none_some : None ≡ Some ask → ⊥
-      none_some h = cc
-
   pub stands_with_record : Stands files (with_record r account)
   stands_with_record = record {
     same_image = stands.same_image;
@@ -109,7 +108,7 @@ module _ (files : Files) (account : Account) (r : Kept) (stands : Stands files a
     };
     history = record {
       images = each_image (NamesItsPast more) (λ x belongs. past_more account.kept (r ∷ []) (λ q. GoesOn q x) x (stands.history.images x belongs)) fresh.past;
-      records = λ q ask there is asks. ⊎_elim (λ before. from_grows q ask (stands.history.records q ask before is asks)) (λ same. absurd (not_asked ask q same is)) (which q there);
+      records = λ q ask there is asks. ⊎_elim (λ before. from_grows q ask (stands.history.records q ask before is asks)) (λ same. from_grows q ask (subst (HasParent account.kept) same fresh.parent ask is asks)) (which q there);
     };
     no_stray = stands.no_stray;
     standbys = λ n bytes q plain there applying named.

@@ -1,9 +1,9 @@
 -- A round of the search for a new page in a sound image: what it finds, what it leaves, and where the search goes on.
 use Rattle.std.proofs.Common.{◌≡◌, ◌≢◌, inl, inr, ℕ, zero, suc, ◌+◌, ◌-◌, ◌*◌, ◌/◌, ◌%◌, ◌<◌, ◌≤◌, List, [], ◌∷◌, ◌++◌, length, drop, replicate, refl, sym, ap, subst, ◌∙◌, arith, mul-le-mul_right, div-add-mod'}
 use Rattle.std.specs.Prelude.{Bool, true, false, ◌==◌, nat_lt, IsTrue}
-use Rattle.std.proofs.lemmas.Bool.{true≢false, and_from, lt-ltb, eq-eqb, eqb-false}
+use Rattle.std.proofs.lemmas.Bool.{true≢false, and_from, or_parts, lt-ltb, eq-eqb, eqb-false}
 use Rattle.std.proofs.lemmas.Bool.Decides.{eqb_tells}
-use Rattle.nb_fields.specs.Places.{is_page_size, entries_in, bits_in, inventory_place, is_inventory_place, is_scn_place, is_system_place}
+use Rattle.nb_fields.specs.Places.{is_page_size, entries_in, bits_in, inventory_place, scn_place, is_inventory_place, is_scn_place, is_system_place}
 use Rattle.nb_fields.specs.Page.{kind_of, stamped}
 use Rattle.nb_fields.specs.Payloads.{bit_of}
 use Rattle.nb_fields.proofs.SizeLemmas.{SizeFacts, size_facts}
@@ -17,14 +17,14 @@ use Rattle.nb_model.proofs.SoundLaws.{all_at, inventory_there, inventory_place_s
 use Rattle.nb_model.proofs.FitLaws.{IsWhole, Fits, fits_first, written_image}
 use Rattle.nb_model.proofs.PutSound.{IsPlace, Raises, is_raised, scn_page_below, plain_put}
 use Rattle.nb_model.proofs.BitLaws.{bit_else, bit_here, with_bit_length, bit_behind, one_bit}
-use Rattle.nb_model.proofs.NewSound.{HoldsOfKinds, IsThere, places_apart, inventory_before, lowest_between, plain_place, put_there, taken_fits, system_there}
+use Rattle.nb_model.proofs.NewSound.{HoldsOfKinds, IsThere, places_apart, inventory_before, lowest_between, plain_place, put_there, taken_fits, system_there, stamped_kind}
 use Rattle.nb_model.proofs.ReadLaws.{eq_no}
 use Rattle.nb_model.proofs.DraftJoin.{joined, joined_new, join_set_bit, join_new}
 
-abbrev AnyPage : Page → Type 0
+abbrev pub AnyPage : Page → Type 0
 AnyPage bytes = Unit {0}
 
-any_kinds : HoldsOfKinds AnyPage
+pub any_kinds : HoldsOfKinds AnyPage
 any_kinds = record { inventories = λ bytes e. tt; scn_pages = λ bytes e. tt }
 
 started : (image : Image) → IsWhole image → Fits AnyPage (base_of image) (drafted image)
@@ -35,9 +35,17 @@ pub kind_found : (image : Image) (kind p : ℕ) → p < length image → kind_of
 unfolding is_kind
 kind_found image kind p low same = and_from (nat_lt p (length image)) (kind_of (page_at image p) == kind) (lt-ltb p (length image) low) (eq-eqb (kind_of (page_at image p)) kind same)
 
-needs_found : (image : Image) (kind p : ℕ) → is_kind image kind p ≡ true → needs kind p (drafted image) ≡ drafted image
+pub needs_found : (image : Image) (kind p : ℕ) → is_kind image kind p ≡ true → needs kind p (drafted image) ≡ drafted image
 unfolding needs
 needs_found image kind p is = rw (is, needs) refl
+
+-- no system page is a page inventory page or an SCN page
+pub no_place : (image : Image) → IsWhole image → (q : ℕ) → is_system_place (image_size image) q ≡ false → ((k : ℕ) → q ≢ inventory_place (image_size image) k) × ((k : ℕ) → q ≢ scn_place (image_size image) k)
+no_place image h q plain =
+    let places = plain_place (image_size image) q plain in (
+      λ k e. true≢false (sym (inventory_there (image_size image) k h.fields.size) ∙ ap (is_inventory_place (image_size image)) (sym e) ∙ places.0),
+      λ k e. true≢false (sym (scn_page_there (image_size image) k h.fields.size) ∙ ap (is_scn_place (image_size image)) (sym e) ∙ places.1),
+    )
 
 -- What is written at a place of a sound image.
 module _ (image : Image) (h : IsWhole image) (p : ℕ) (at : IsPlace image p) where
@@ -120,6 +128,9 @@ module _ (image : Image) (h : IsWhole image) (p : ℕ) (at : IsPlace image p) wh
     pub put_long : p < length image → length (put p kind payload (drafted image)).image ≡ length image
     put_long low = ap length put_image ∙ with_page_length p bytes before.image below_end ∙ omega (arith, raises.long, low)
 
+    pub put_longer : length image ≤ length (put p kind payload (drafted image)).image
+    put_longer = omega (arith, ap length put_image, with_page_length p bytes before.image below_end, raises.long)
+
     pub put_here : page_at (put p kind payload (drafted image)).image p ≡ bytes
     put_here = ap (λ (x : Image). page_at x p) put_image ∙ with_page_same p bytes before.image below_end
 
@@ -140,7 +151,7 @@ module _ (image : Image) (h : IsWhole image) (p : ℕ) (at : IsPlace image p) wh
         put_other r ne (λ e. places_apart (image_size image) r h.fields.size place (subst (λ (n : ℕ). is_scn_place (image_size image) n ≡ true) (sym e) (scn_page_there (image_size image) (p / entries_in (image_size image)) h.fields.size)))
 
 -- the bit of a page by its inventory page
-bit_by : (image after : Image) (q : ℕ) → image_size after ≡ image_size image → page_at after (inventory_of image q) ≡ page_at image (inventory_of image q) → is_free_page after q ≡ is_free_page image q
+pub bit_by : (image after : Image) (q : ℕ) → image_size after ≡ image_size image → page_at after (inventory_of image q) ≡ page_at image (inventory_of image q) → is_free_page after q ≡ is_free_page image q
 unfolding is_free_page
 bit_by image after q size same =
     ap (λ (s : ℕ). bit_of (page_at after (inventory_place s (q / bits_in s))) (q % bits_in s) == 1) size ∙ ap (λ (x : Page). bit_of x (bit_number image q) == 1) same
@@ -171,7 +182,7 @@ module _ (image : Image) (h : IsWhole image) (p : ℕ) (two : 2 ≤ p) (low : p 
   i_place : IsPlace image i
   i_place = record { behind = inventory_place_some (image_size image) (p / bits_in (image_size image)) h.fields.size; there = omega (arith, i_low); most = let most = h.sound.most in omega (arith, i_low) }
 
-  i_found : is_kind image 2 i ≡ true
+  pub i_found : is_kind image 2 i ≡ true
   i_found = kind_found image 2 i i_low (h.sound.sound.system.inventories i i_low (inventory_there (image_size image) (p / bits_in (image_size image)) h.fields.size))
 
   pub take_is : take_page p (drafted image) ≡ taken
@@ -196,6 +207,12 @@ module _ (image : Image) (h : IsWhole image) (p : ℕ) (two : 2 ≤ p) (low : p 
           let long : length (put i 2 (drop 16 row) (drafted image)).image ≡ length image = put_long image h i i_place 2 (drop 16 row) i_low in
           let same : length (take_page p (drafted image)).image ≡ length image = ap (λ (d : Draft). length d.image) take_is ∙ long in
           (same, omega (arith, same, low))
+
+  -- no page that isn't a system page changes
+  pub take_plain : (q : ℕ) → is_system_place (image_size image) q ≡ false → page_at (take_page p (drafted image)).image q ≡ page_at image q
+  take_plain q plain =
+      let other = no_place image h q plain in
+      ap (λ (d : Draft). page_at d.image q) take_is ∙ put_other image h i i_place 2 (drop 16 row) q (other.0 (p / bits_in (image_size image))) (other.1 (i / entries_in (image_size image)))
 
   i_long : length (page_at image i) ≡ image_size image
   i_long = all_at (λ x. length x ≡ image_size image) image h.sound.sizes i i_low
@@ -296,6 +313,13 @@ module _ (image : Image) (h : IsWhole image) (p : ℕ) (at : IsPlace image p) (p
   pub system_bits : (q : ℕ) → 2 ≤ q → q ≤ p → is_free_page made.image q ≡ is_free_page image q
   system_bits q two le = system_either (λ d. is_free_page d.image q ≡ is_free_page image q) refl (put_bits image h p (system_kind image p) (system_payload image p) at q two le)
 
+  system_size : image_size made.image ≡ image_size image
+  system_size = system_either (λ d. image_size d.image ≡ image_size image) refl (put_size image h p at (system_kind image p) (system_payload image p))
+
+  system_plain : (q : ℕ) → is_system_place (image_size image) q ≡ false → page_at made.image q ≡ page_at image q
+  system_plain q plain = system_either (λ d. page_at d.image q ≡ page_at image q) refl
+      (put_other image h p at (system_kind image p) (system_payload image p) q (λ e. true≢false (sym place ∙ ap (is_system_place (image_size image)) (sym e) ∙ plain)) ((no_place image h q plain).1 (p / entries_in (image_size image))))
+
   module _ (two : 2 ≤ p) where
     abbrev last : Draft
     last = take_page p (drafted made.image)
@@ -315,6 +339,14 @@ module _ (image : Image) (h : IsWhole image) (p : ℕ) (at : IsPlace image p) (p
 
     pub round_well : IsWhole (round p image).image
     round_well = subst IsWhole (sym round_image) (take_well made.image system_well p two system_low)
+
+    -- no page changes but system pages
+    pub round_size : image_size (round p image).image ≡ image_size image
+    round_size = ap image_size round_image ∙ take_size made.image system_well p two system_low ∙ system_size
+
+    pub round_plain : (q : ℕ) → is_system_place (image_size image) q ≡ false → page_at (round p image).image q ≡ page_at image q
+    round_plain q plain =
+        ap (λ (x : Image). page_at x q) round_image ∙ take_plain made.image system_well p two system_low q (ap (λ (s : ℕ). is_system_place s q) system_size ∙ plain) ∙ system_plain q plain
 
     -- the place is taken then, and the pages before it are as they were
     pub round_here : is_free_page (round p image).image p ≡ false
@@ -350,6 +382,26 @@ module _ (image : Image) (h : IsWhole image) (p kind : ℕ) (payload : List ℕ)
   pub last_unbroken : 2 ≤ p → (take_page p put_at).broken ≡ []
   last_unbroken two =
       ap (λ (d : Draft). d.broken) (join_set_bit 0 p put_at) ∙ ap (λ (ps : List ℕ). ps ++ put_at.broken) (take_unbroken put_at.image plain_well p two plain_low) ∙ put_unbroken image h p at kind payload
+
+  -- no page changes but that one and system pages
+  module _ (two : 2 ≤ p) where
+    pub last_image : (take_page p put_at).image ≡ (take_page p (drafted put_at.image)).image
+    last_image = ap (λ (d : Draft). d.image) (join_set_bit 0 p put_at)
+
+    pub last_size : image_size (take_page p put_at).image ≡ image_size image
+    last_size = ap image_size last_image ∙ take_size put_at.image plain_well p two plain_low ∙ put_size image h p at kind payload
+
+    pub last_low : p < length (take_page p put_at).image
+    last_low = subst (λ (x : Image). p < length x) (sym last_image) (take_long put_at.image plain_well p two plain_low)
+
+    pub last_same : (q : ℕ) → is_system_place (image_size image) q ≡ false → page_at (take_page p put_at).image q ≡ page_at put_at.image q
+    last_same q other = ap (λ (x : Image). page_at x q) last_image ∙ take_plain put_at.image plain_well p two plain_low q (ap (λ (s : ℕ). is_system_place s q) (put_size image h p at kind payload) ∙ other)
+
+    pub last_kind : kind_of (page_at (take_page p put_at).image p) ≡ kind
+    last_kind = ap kind_of (last_same p plain ∙ put_here image h p at kind payload) ∙ stamped_kind (old_page p image) kind payload (image_scn image) p
+
+    pub last_plain : (q : ℕ) → is_system_place (image_size image) q ≡ false → q ≢ p → page_at (take_page p put_at).image q ≡ page_at image q
+    last_plain q other ne = last_same q other ∙ put_other image h p at kind payload q ne ((no_place image h q other).1 (p / entries_in (image_size image)))
 
 -- no page before the one that is found is free
 free_before : (left p : ℕ) (image : Image) (q : ℕ) → p ≤ q → q < free_from left p image → is_free_page image q ≡ false
@@ -490,3 +542,59 @@ new_unbroken (suc left) kind payload image h some room = by_full (λ x well_x. n
     by_full : ((x : Image) → IsWhole x → (new_within left kind payload (drafted x)).0.broken ≡ []) → (t : Bool) → (p == 1048576) ≡ t → (new_within (suc left) kind payload (drafted image)).0.broken ≡ []
     by_full rest true e = ap (λ (x : Draft × ℕ). x.0.broken) (new_by image h kind payload left true (is_system_place (image_size image) p) e refl)
     by_full rest false e = by_system rest e (is_system_place (image_size image) p) refl
+
+-- A new page stands where no system page does, and no page but it and system pages has changed.
+pub record IsNew (image : Image) (kind : ℕ) (made : Draft × ℕ) : Type 0 where
+  pub size : image_size made.0.image ≡ image_size image
+  pub behind : 1 ≤ made.1
+  pub below : made.1 < length made.0.image
+  pub plain : is_system_place (image_size image) made.1 ≡ false
+  pub of_kind : kind_of (page_at made.0.image made.1) ≡ kind
+  pub others : (q : ℕ) → is_system_place (image_size image) q ≡ false → q ≢ made.1 → page_at made.0.image q ≡ page_at image q
+
+-- where a page was left for it
+pub new_is_new : (tries kind : ℕ) (payload : ℕ → List ℕ) (image : Image) → IsWhole image → (kind == 0) ≡ false → ((p : ℕ) → length (payload p) ≤ 1008)
+    → (new_within tries kind payload (drafted image)).0.full ≡ false → IsNew image kind (new_within tries kind payload (drafted image))
+new_is_new zero kind payload image h some room left = absurd (no_tries (found image h kind payload zero left).tries_is)
+  where
+    no_tries : {n : ℕ} → zero ≡ suc n → ⊥
+    no_tries e = omega (arith, e)
+new_is_new (suc tries) kind payload image h some room left = by (λ x well full. new_is_new tries kind payload x well some room full) (is_system_place (image_size image) p) refl
+  where
+    p : ℕ
+    p = lowest_free image
+
+    f : IsFound image (suc tries) p
+    f = found image h kind payload (suc tries) left
+
+    two : 2 ≤ p
+    two = omega (arith, f.five)
+
+    new : Draft × ℕ
+    new = new_within (suc tries) kind payload (drafted image)
+
+    more : Draft × ℕ
+    more = new_within tries kind payload (drafted (round p image).image)
+
+    by : ((x : Image) → IsWhole x → (new_within tries kind payload (drafted x)).0.full ≡ false → IsNew x kind (new_within tries kind payload (drafted x))) → (t : Bool) → is_system_place (image_size image) p ≡ t → IsNew image kind new
+    by rest true place =
+        let e : new ≡ joined_new (round p image) more = new_more image h kind payload tries f.at.most place in
+        let full : more.0.full ≡ false = (or_parts more.0.full (round p image).full (ap (λ (x : Draft × ℕ). x.0.full) (sym e) ∙ left)).0 in
+        let size : image_size (round p image).image ≡ image_size image = round_size image h p f.at place two in
+        let one : IsNew (round p image).image kind more = rest (round p image).image (round_well image h p f.at place two) full in
+        subst (IsNew image kind) (sym e) (record {
+          size = one.size ∙ size;
+          behind = one.behind;
+          below = one.below;
+          plain = ap (λ (s : ℕ). is_system_place s more.1) (sym size) ∙ one.plain;
+          of_kind = one.of_kind;
+          others = λ q plain ne. one.others q (ap (λ (s : ℕ). is_system_place s q) size ∙ plain) ne ∙ round_plain image h p f.at place two q plain;
+        })
+    by rest false place = subst (IsNew image kind) (sym (new_last image h kind payload tries f.at.most place)) (record {
+      size = last_size image h p kind (payload p) f.at place some (room p) two;
+      behind = f.at.behind;
+      below = last_low image h p kind (payload p) f.at place some (room p) two;
+      plain = place;
+      of_kind = last_kind image h p kind (payload p) f.at place some (room p) two;
+      others = λ q plain ne. last_plain image h p kind (payload p) f.at place some (room p) two q plain ne;
+    })

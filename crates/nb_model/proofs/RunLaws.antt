@@ -49,7 +49,7 @@ unfolding strokes_of
 strokes_of-append [] ys = refl
 strokes_of-append (x ∷ xs) ys = ap (λ (ss : List Stroke). x.strokes ++ ss) (strokes_of-append xs ys) ∙ sym (append_assoc x.strokes (strokes_of xs) (strokes_of ys))
 
-turn_stands : (session : ℕ) (rest : List Turn) (o : Outcome) (now : Now) → base_now (stands_then session rest o now) ≡ base_after (base_now now) o.strokes
+pub turn_stands : (session : ℕ) (rest : List Turn) (o : Outcome) (now : Now) → base_now (stands_then session rest o now) ≡ base_after (base_now now) o.strokes
 unfolding stands_then
 turn_stands session rest o now = after_turn now.name o.strokes o.made now.account
 

@@ -75,7 +75,7 @@ formed_header bytes formed = by_test (is_header bytes) refl
     by_test false is = absurd (some_none (not_database bytes) (refused is) formed)
 
 -- and begins no level file
-no_level_begins : (bytes : List ℕ) → number_in 0 1 bytes ≡ 1 → begins_level bytes ≡ false
+pub no_level_begins : (bytes : List ℕ) → number_in 0 1 bytes ≡ 1 → begins_level bytes ≡ false
 unfolding number_in number_of begins_level
 no_level_begins [] h = refl
 no_level_begins (b ∷ bs) h = let e : b ≡ 1 = omega arith in rw e refl

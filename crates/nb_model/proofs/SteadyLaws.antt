@@ -1,26 +1,28 @@
 -- What was seen of a database in a run is well at each step, with the records of the backups that have begun.
 use Rattle.std.proofs.Common.{◌≡◌, ℕ, zero, suc, ◌+◌, ◌≤◌, List, [], ◌∷◌, ◌++◌, length, take, refl, sym, ap, subst, ◌∙◌, arith, append_assoc}
-use Rattle.std.specs.Prelude.{Bool, None, true, false}
+use Rattle.std.specs.Prelude.{Bool, Option, true, false}
 use Rattle.std.proofs.lemmas.List.{append-nil}
 use Rattle.nb_model.specs.declared.statement.Statement.{Statement}
-use Rattle.nb_model.specs.Account.{Kept, Base}
-use Rattle.nb_model.specs.Image.{image_state, image_scn}
+use Rattle.nb_model.specs.Account.{Ask, Kept, Base}
+use Rattle.nb_model.specs.Image.{Page, image_state, image_scn}
 use Rattle.nb_model.specs.Outcomes.{Seen}
 use Rattle.nb_model.specs.Sound.{HasHeader, IsSoundImage}
-use Rattle.nb_model.specs.Stands.{IsBegun}
+use Rattle.nb_model.specs.Stands.{IsBegun, HasRows}
 use Rattle.nb_model.specs.Steps.{Step, makes, settles, after_step, after_steps, made, strokes_in}
-use Rattle.nb_model.specs.Strokes.{Stroke, page, begin, ends, finish, on_base, records_of, records_after}
-use Rattle.nb_model.specs.Trail.{Trail, settled, settles_at, after_stroke, after_strokes}
+use Rattle.nb_model.specs.Strokes.{Stroke, page, merged_page, begin, ends, finish, on_base, records_of, records_after}
+use Rattle.nb_model.specs.Trail.{Trail, settled, settles_at, after_stroke}
 use Rattle.nb_model.specs.Turns.{first_turn}
 use Rattle.nb_model.specs.Well.{is_on_pages}
-use Rattle.nb_model.specs.WellTrail.{IsWellTrail}
+use Rattle.nb_model.specs.WellTrail.{AllGoOn, IsWellTrail}
 use Rattle.nb_model.proofs.ControlMay.{may_begin}
 use Rattle.nb_model.proofs.ControlSound.{MayControl, new_state, new_scn, new_guid, new_header, control_old}
 use Rattle.nb_model.proofs.ControlWell.{begin_well, ends_well, finish_well}
 use Rattle.nb_model.proofs.FitLaws.{AreFitting}
 use Rattle.nb_model.proofs.PagesFit.{HasNoRows, pages_fit}
+use Rattle.nb_model.proofs.PastLaws.{rows_with, no_rows_pass}
+use Rattle.nb_model.proofs.RecordLaws.{HasParent}
 use Rattle.nb_model.proofs.TrailLaws.{trail_base}
-use Rattle.nb_model.proofs.WellTrailLaws.{fitting_well, settling_well}
+use Rattle.nb_model.proofs.WellTrailLaws.{go_on, stroke_well, settling_well}
 
 -- the records behind one step, and behind steps
 abbrev pub kept_step : List Kept → Trail → Step → List Kept
@@ -31,15 +33,19 @@ abbrev pub kept_along : List Kept → Trail → List Step → List Kept
 kept_along kept t [] = kept
 kept_along kept t (s ∷ ss) = kept_along (kept_step kept t s) (after_step s t) ss
 
--- a begin keeps a record as a begin leaves it, for no level
-abbrev pub KeepsGood : Trail → Step → Type 0
-KeepsGood t (makes (begin guid ask)) = IsBegun (record { guid = guid; scn = image_scn t.base.image; ask = ask; image = (on_base (begin guid ask) t.base).image }) × (ask ≡ None)
-KeepsGood t other = Unit {0}
+-- the record that a begin keeps
+abbrev pub record_of : Trail → (guid : List ℕ) → Option Ask → Kept
+record_of t guid ask = record { guid = guid; scn = image_scn t.base.image; ask = ask; image = (on_base (begin guid ask) t.base).image }
+
+-- a begin keeps a record as a begin leaves it, which goes on from the one that it asks for
+abbrev pub KeepsGood : List Kept → Trail → Step → Type 0
+KeepsGood kept t (makes (begin guid ask)) = IsBegun (record_of t guid ask) × HasParent kept (record_of t guid ask)
+KeepsGood kept t other = Unit {0}
 
 -- What was seen is well before each step and behind all, with the records kept until then.
 abbrev pub WellAlong : List Kept → Trail → List Step → Type 0
 WellAlong kept t [] = IsWellTrail kept t
-WellAlong kept t (s ∷ ss) = IsWellTrail kept t × KeepsGood t s × WellAlong (kept_step kept t s) (after_step s t) ss
+WellAlong kept t (s ∷ ss) = IsWellTrail kept t × KeepsGood kept t s × WellAlong (kept_step kept t s) (after_step s t) ss
 
 pub along_first : (kept : List Kept) (t : Trail) (ss : List Step) → WellAlong kept t ss → IsWellTrail kept t
 along_first kept t [] w = w
@@ -66,6 +72,10 @@ unfolding after_steps
 kept_append kept t [] ys = refl
 kept_append kept t (x ∷ xs) ys = kept_append (kept_step kept t x) (after_step x t) xs ys
 
+page_frozen : (p : ℕ) (bytes : Page) (t : Trail) → (after_stroke (page p bytes) t).base.frozen ≡ t.base.frozen
+unfolding on_base
+page_frozen p bytes t = ap (λ (b : Base). b.frozen) (trail_base (page p bytes) t)
+
 stroke_seen : (t : Trail) (s : Stroke) → (after_stroke s t).base ≡ on_base s t.base
 unfolding after_stroke
 stroke_seen t s = trail_base s t
@@ -85,30 +95,56 @@ unfolding after_step
 settling_along kept t true w = (w, tt, settling_well kept t w)
 settling_along kept t false w = w
 
--- strokes that write pages which fit
-made_along : (kept : List Kept) (t : Trail) (ss : List Stroke) → AreFitting HasNoRows t.base ss → IsWellTrail kept t → WellAlong kept t (made ss)
-unfolding made after_step records_of after_strokes
-made_along kept t [] fits w = w
-made_along kept t (page p bytes ∷ ss) fits w =
-    let later : IsWellTrail kept (after_stroke (page p bytes) t) = fitting_well kept (page p bytes ∷ []) t (fits.0, tt) w 1 in (
-      w,
-      tt,
-      subst (λ (rs : List Kept). WellAlong rs (after_stroke (page p bytes) t) (made ss)) (sym (append-nil kept))
-          (made_along kept (after_stroke (page p bytes) t) ss (subst (λ (b : Base). AreFitting HasNoRows b ss) (sym (stroke_seen t (page p bytes))) fits.1) later),
-    )
-made_along kept t (other ∷ ss) fits w = absurd fits.0
+-- What was seen is well along steps that keep no record, change no frozen image, and leave all that was seen going on from each record from
+-- which it did.
+pub record KeepsAlong (kept : List Kept) (t : Trail) (ss : List Step) : Type 0 where
+  pub along : WellAlong kept t ss
+  pub none : kept_along kept t ss ≡ kept
+  pub frozen : (after_steps t ss).base.frozen ≡ t.base.frozen
+  pub go_on : (r : Kept) → AllGoOn t r → AllGoOn (after_steps t ss) r
+
+pub none_along : (kept : List Kept) (t : Trail) → IsWellTrail kept t → KeepsAlong kept t []
+unfolding after_steps
+none_along kept t w = record { along = w; none = refl; frozen = refl; go_on = λ r all. all }
+
+-- strokes that write pages which fit, whose rows name backups from which all that was seen goes on
+pub rows_along : (kept : List Kept) (P : Kept → Type 0) (ss : List Stroke) (t : Trail) → AreFitting (HasRows kept P) t.base ss → ((r : Kept) → P r → AllGoOn t r) → IsWellTrail kept t → KeepsAlong kept t (made ss)
+unfolding made after_steps after_step records_of
+rows_along kept P [] t fits goes w = none_along kept t w
+rows_along kept P (page p bytes ∷ ss) t fits goes w =
+    let rows : HasRows kept (AllGoOn t) (merged_page p bytes t.base.image) = rows_with kept P (AllGoOn t) goes (merged_page p bytes t.base.image) fits.0.1 in
+    let go_on_one : (r : Kept) → AllGoOn t r → AllGoOn (after_stroke (page p bytes) t) r = go_on kept t p bytes w fits.0.0 rows in
+    let later : KeepsAlong kept (after_stroke (page p bytes) t) (made ss) =
+    rows_along kept P ss (after_stroke (page p bytes) t) (subst (λ (b : Base). AreFitting (HasRows kept P) b ss) (sym (stroke_seen t (page p bytes))) fits.1) (λ r h. go_on_one r (goes r h))
+    (stroke_well kept t p bytes w fits.0.0 rows) in
+    let same : kept ++ [] ≡ kept = append-nil kept in
+    record {
+      along = (w, tt, subst (λ (rs : List Kept). WellAlong rs (after_stroke (page p bytes) t) (made ss)) (sym same) later.along);
+      none = ap (λ (rs : List Kept). kept_along rs (after_stroke (page p bytes) t) (made ss)) same ∙ later.none;
+      frozen = later.frozen ∙ page_frozen p bytes t;
+      go_on = λ r all. later.go_on r (go_on_one r all);
+    }
+rows_along kept P (other ∷ ss) t fits goes w = absurd fits.0
+
+-- pages without rows name none
+no_rows_fit : (kept : List Kept) (ss : List Stroke) (b : Base) → AreFitting HasNoRows b ss → AreFitting (HasRows kept (λ r. ⊥)) b ss
+no_rows_fit kept [] b fits = tt
+no_rows_fit kept (page p bytes ∷ ss) b fits = ((fits.0.0, no_rows_pass kept (λ r. ⊥) (merged_page p bytes b.image) fits.0.1), no_rows_fit kept ss (on_base (page p bytes) b) fits.1)
+no_rows_fit kept (other ∷ ss) b fits = absurd fits.0
 
 -- statements on pages
-pub pages_along : (kept : List Kept) (statement : Statement) → is_on_pages statement ≡ true → (s : Seen) (session : ℕ) (t : Trail) → s.base ≡ t.base → IsWellTrail kept t → WellAlong kept t (made (first_turn s session statement).strokes)
+pub pages_along : (kept : List Kept) (statement : Statement) → is_on_pages statement ≡ true → (s : Seen) (session : ℕ) (t : Trail) → s.base ≡ t.base → IsWellTrail kept t → KeepsAlong kept t (made (first_turn s session statement).strokes)
 pages_along kept statement on s session t is w =
     let header : HasHeader s.base.image = subst (λ (b : Base). HasHeader b.image) (sym is) (record { header = w.base.well.header; scn = w.base.well.scn }) in
     let sound : IsSoundImage s.base.image = subst (λ (b : Base). IsSoundImage b.image) (sym is) w.base.well.sound in
-    made_along kept t (first_turn s session statement).strokes (subst (λ (b : Base). AreFitting HasNoRows b (first_turn s session statement).strokes) is (pages_fit statement on s session header sound)) w
+    let ss : List Stroke = (first_turn s session statement).strokes in
+    rows_along kept (λ r. ⊥) ss t (no_rows_fit kept ss t.base (subst (λ (b : Base). AreFitting HasNoRows b ss) is (pages_fit statement on s session header sound))) (λ r none. absurd none) w
 
--- a backup begins
-pub begin_along : (kept : List Kept) (t : Trail) (guid : List ℕ) → IsWellTrail kept t → image_state t.base.image ≡ 0 → length guid ≡ 16 → image_scn t.base.image ≤ 4294967293 → WellAlong kept t (made (begin guid None ∷ []))
+-- a backup begins, and goes on from the one that it asks for
+pub begin_along : (kept : List Kept) (t : Trail) (guid : List ℕ) (ask : Option Ask) → IsWellTrail kept t → image_state t.base.image ≡ 0 → length guid ≡ 16 → image_scn t.base.image ≤ 4294967293 → HasParent kept (record_of t guid ask)
+    → WellAlong kept t (made (begin guid ask ∷ []))
 unfolding made after_step after_stroke settles_at on_base
-begin_along kept t guid w normal sixteen room = (w, (good, refl), begin_well kept t.base w.base guid None normal sixteen room)
+begin_along kept t guid ask w normal sixteen room parent = (w, (good, parent), begin_well kept t.base w.base guid ask normal sixteen room)
   where
     header : HasHeader t.base.image
     header = record { header = w.base.well.header; scn = w.base.well.scn }
@@ -116,7 +152,7 @@ begin_along kept t guid w normal sixteen room = (w, (good, refl), begin_well kep
     may : MayControl 1 (image_scn t.base.image + 1) guid t.base.image
     may = may_begin t.base.image header guid sixteen room
 
-    good : IsBegun (record { guid = guid; scn = image_scn t.base.image; ask = None; image = (on_base (begin guid None) t.base).image })
+    good : IsBegun (record_of t guid ask)
     good = record {
       header = new_header 1 (image_scn t.base.image + 1) guid t.base.image header w.base.well.sound may;
       state = new_state 1 (image_scn t.base.image + 1) guid t.base.image header w.base.well.sound may;

@@ -1,7 +1,7 @@
 -- What sessions have still to do, when they have finished, and what page statements answer.
 use Rattle.std.proofs.Common.{◌≡◌, ◌≢◌, inl, inr, ℕ, zero, suc, ◌+◌, ◌-◌, ◌<◌, ◌≤◌, List, [], ◌∷◌, ◌++◌, length, map, drop, replicate, get_or, set, max, refl, sym, ap, subst, ◌∙◌, arith, get_or-set_other, get_or-set_same, append_assoc, drop_of_length-le, ◌⊎◌}
 use Rattle.nb_fields.specs.Header.{is_header, size_of}
-use Rattle.std.specs.Prelude.{Bool, Option, Some, None, true, false, nat_eq, nat_lt, not, min, ◌/◌, ◌%◌, ◌==◌, ◌||◌, if◌then◌else◌, slice_index, slice_set, IsTrue}
+use Rattle.std.specs.Prelude.{Bool, Option, Some, None, Result, Ok, Err, true, false, nat_eq, nat_lt, not, min, ◌/◌, ◌%◌, ◌==◌, ◌||◌, if◌then◌else◌, slice_index, slice_set, IsTrue}
 use Rattle.std.specs.List.{AllByRecursion, slice_index_or}
 use Rattle.std.proofs.lemmas.Bool.{true≢false}
 use Rattle.std.proofs.lemmas.Bool.Decides.{eqb_tells, leb_tells}
@@ -12,16 +12,17 @@ use Rattle.nb_host.specs.declared.refusals.Refusal.TheVariants.{Usage, NotDataba
 use Rattle.nb_model.specs.declared.reply.Reply.{Reply}
 use Rattle.nb_model.specs.declared.reply.Reply.TheVariants.{Done, Refused}
 use Rattle.nb_model.specs.declared.statement.Statement.{Statement}
-use Rattle.nb_model.specs.declared.statement.Statement.TheVariants.{CreateDb, OpenDb, PageNew, Write, Read, Free, BeginBackup, EndBackup, CreateTable, DropTable, Insert, Update, Delete, Get, Scan, Forced, Access as SetAccess, Sync, ShowHeader, ShowPages, ShowImage, ShowCache}
+use Rattle.nb_model.specs.declared.statement.Statement.TheVariants.{CreateDb, OpenDb, PageNew, Write, Read, Free, BeginBackup, EndBackup, Backup, CopyTo, CreateTable, DropTable, Insert, Update, Delete, Get, Scan, Forced, Access as SetAccess, Sync, ShowHeader, ShowPages, ShowImage, ShowCache}
+use Rattle.nb_model.specs.Account.{Ask}
 use Rattle.nb_model.specs.Image.{Image}
 use Rattle.nb_model.specs.Forms.{Draft}
 use Rattle.nb_model.specs.Built.{is_built}
-use Rattle.nb_model.specs.Causes.{Cause, first_cause, when, read_only, not_raw, not_database, lowest_broken, not_of_form, no_room, runs_other}
-use Rattle.nb_model.specs.Chains.{Chain, Slot, Spot}
+use Rattle.nb_model.specs.Causes.{Cause, first_cause, when, read_only, not_raw, not_database, lowest_broken, not_of_form, no_room, runs_other, runs_any, broken_at}
+use Rattle.nb_model.specs.Chains.{Chain, History, Slot, Spot, pages_of}
 use Rattle.nb_model.specs.Outcomes.{Turn, Begins, Copies, ClosesBackup, ClosesCopy, Ends, Merges, Finishes, Seen, Outcome, unless, changes}
 use Rattle.nb_model.specs.Pages.{new_turn, write_turn, read_turn, free_turn, begin_turn, end_turn, ends_by, forced_turn, access_turn, header_turn, image_turn, cache_turn}
 use Rattle.nb_model.specs.Tables.{with_spot, in_table, in_row, create_turn, drop_turn, insert_turn, update_turn, delete_turn, get_turn, scan_turn}
-use Rattle.nb_model.specs.Backups.{pages_turn}
+use Rattle.nb_model.specs.Backups.{room_in, starts, backup_turn, copy_turn, pages_turn}
 use Rattle.nb_model.specs.Turns.{first_turn, turn}
 use Rattle.nb_model.specs.Run.{Now, Played, outcome, stands_then, take_turn, one_turn, play, rounds, all_sessions, AreFinished, begun}
 use Rattle.nb_model.specs.Output.{status_after}
@@ -502,6 +503,48 @@ begin_never_usage s session = guarded_other s _ _ (other_first _ (other_read_onl
 pub end_never_usage : (s : Seen) (session : ℕ) → (first_turn s session EndBackup).reply ≢ Some (Refused Usage)
 unfolding first_turn end_turn ends_by
 end_never_usage s session = guarded_other s _ _ (other_first _ (other_when _ _ (λ e. cc), (other_runs s.running session, tt))) (λ e. cc)
+
+other_pages : (pages : Result (List ℕ) ℕ) → IsOther (broken_at pages)
+other_pages (Ok ps) = none_other
+other_pages (Err p) = λ e. cc
+
+start_never_usage : (s : Seen) (session : ℕ) (name : List ℕ) (ask : Ask) (missing : Cause) → IsOther missing → NoUsage (starts s session name ask missing)
+unfolding starts
+start_never_usage s session name ask missing other = guarded_other s _ _ (other_first _ (
+  other_read_only s.base.image,
+  (other_when _ _ (λ e. cc), (other_when _ _ (λ e. cc), (other_pages (pages_of History s.base.image), (other, (other_broken (room_in s.base.image).draft.broken, (other_when _ _ (λ e. cc), (other_when _ _ (λ e. cc), tt))))))),
+)) (λ e. cc)
+
+pub backup_never_usage : (s : Seen) (session level : ℕ) (name : List ℕ) → (first_turn s session (Backup level name)).reply ≢ Some (Refused Usage)
+unfolding first_turn backup_turn
+backup_never_usage s session zero name = start_never_usage s session name _ None none_other
+backup_never_usage s session (suc below) name = start_never_usage s session name _ _ (other_when _ _ (λ e. cc))
+
+other_runs_any : (running : Option ℕ) → IsOther (runs_any running)
+other_runs_any None = none_other
+other_runs_any (Some other) = λ e. cc
+
+pub copy_never_usage : (s : Seen) (session : ℕ) (name : List ℕ) → (first_turn s session (CopyTo name)).reply ≢ Some (Refused Usage)
+unfolding first_turn copy_turn
+copy_never_usage s session name = guarded_other s _ _ (other_first _ (other_when _ _ (λ e. cc), (other_runs_any s.running, (other_when _ _ (λ e. cc), tt)))) (λ e. cc)
+
+pub built_never_usage : (statement : Statement) → IsTrue (is_built statement) → (s : Seen) (session : ℕ) → (first_turn s session statement).reply ≢ Some (Refused Usage)
+unfolding first_turn header_turn
+built_never_usage (CreateDb name size raw cache) h = λ s session e. cc
+built_never_usage (OpenDb name cache) h = λ s session e. cc
+built_never_usage PageNew h = λ s session. new_never_usage s session
+built_never_usage (Free p) h = λ s session. free_never_usage s session p
+built_never_usage (Write p text) h = λ s session. write_never_usage s session p text
+built_never_usage (Read p) h = λ s session. read_never_usage s session p
+built_never_usage BeginBackup h = λ s session. begin_never_usage s session
+built_never_usage EndBackup h = λ s session. end_never_usage s session
+built_never_usage (Backup level name) h = λ s session. backup_never_usage s session level name
+built_never_usage (CopyTo name) h = λ s session. copy_never_usage s session name
+built_never_usage (Forced on) h = λ s session. forced_never_usage s session on
+built_never_usage (SetAccess closed) h = λ s session. access_never_usage s session closed
+built_never_usage Sync h = λ s session e. cc
+built_never_usage ShowHeader h = λ s session e. cc
+built_never_usage other h = absurd (true≢false (sym h))
 
 -- the reply is a refusal
 abbrev pub is_refusal : Reply → Bool

@@ -6,9 +6,9 @@ use Rattle.nb_fields.specs.Bytes.{is_zeros}
 use Rattle.nb_fields.specs.Free.{is_free_file}
 use Rattle.nb_fields.specs.Header.{is_header, size_of, state_of}
 use Rattle.nb_host.specs.Files.{File}
-use Rattle.nb_model.specs.Account.{Base, base_of, Entry, Missing, Plain, IsBase}
+use Rattle.nb_model.specs.Account.{Entry, Missing, Plain, IsBase}
 use Rattle.nb_model.specs.Causes.{is_free_entry}
-use Rattle.nb_model.specs.Image.{Page, Image, first_page, image_in, cut, trimmed}
+use Rattle.nb_model.specs.Image.{Page, Image, first_page, image_state, image_in, cut, trimmed}
 use Rattle.nb_model.specs.Owner.{owner}
 use Rattle.nb_model.specs.Strokes.{base_in}
 use Rattle.nb_model.proofs.FreeLaws.{free_header}
@@ -66,18 +66,19 @@ image_front bytes header = by (length bytes) header
 false_true : false ≡ true → ⊥
 false_true h = cc
 
--- No two files show what stands for a database under a free name.
-pub unseen : (name : List ℕ) (entry : Entry) (m d : File) → is_free_entry entry ≡ true → owner name m d ≡ Ok (base_in entry) → ⊥
+-- What stands under a free name is no database in one of the three states.
+pub free_unseen : (entry : Entry) → is_free_entry entry ≡ true → is_header (first_page (base_in entry).image) ≡ true → image_state (base_in entry).image ≤ 2 → ⊥
 unfolding is_free_entry base_in
-unseen name Missing m d free opens =
-    let main : HasMain (base_of []) m = has_main name (base_of []) m d opens in
-    no_header (main_header (base_of []) m main)
-unseen name (Plain bytes delta) m d free opens =
-    let b : Base = base_of (image_in bytes) in
-    let main : HasMain b m = has_main name b m d opens in
-    let header : is_header (first_page (image_in bytes)) ≡ true = main_header b m main in
+free_unseen Missing free header state = no_header header
+free_unseen (Plain bytes delta) free header state =
     let front : take 64 (first_page (image_in bytes)) ≡ take 64 bytes = image_front bytes header in
     let same : state_of (first_page (image_in bytes)) ≡ state_of bytes = same-number (first_page (image_in bytes)) bytes front 22 2 (omega arith) in
     let three : state_of bytes ≡ 3 = (free_header bytes (and_parts _ (is_free_file (Some bytes)) free).1 (sym (same-header (first_page (image_in bytes)) bytes front) ∙ header)).0 in
-    absurd (omega (arith, same, three, same_state b m main, main.state))
-unseen name (IsBase b) m d free opens = false_true free
+    absurd (omega (arith, same, three, state))
+free_unseen (IsBase b) free header state = false_true free
+
+-- So no two files show one there.
+pub unseen : (name : List ℕ) (entry : Entry) (m d : File) → is_free_entry entry ≡ true → owner name m d ≡ Ok (base_in entry) → ⊥
+unseen name entry m d free opens =
+    let main : HasMain (base_in entry) m = has_main name (base_in entry) m d opens in
+    free_unseen entry free (main_header (base_in entry) m main) (omega (arith, same_state (base_in entry) m main, main.state))

@@ -112,8 +112,8 @@ module _ (kept : List Kept) (t : Trail) (p : ℕ) (bytes : Page) (w : IsWellTrai
   now_there : Contains (images_of t) now
   now_there = last_there t.earlier now
 
-  -- all go on
-  go_on : (r : Kept) → AllGoOn t r → AllGoOn later r
+  -- all go on from a record from which all went on
+  pub go_on : (r : Kept) → AllGoOn t r → AllGoOn later r
   go_on r all = images_after (GoesOn r) (page p bytes) t all (subst (GoesOn r) (sym image_is) (goes_on_still now p page_now whole.fields whole.sound fits r (all now now_there)))
 
   past_now : NamesPast kept (AllGoOn later) later_base.image

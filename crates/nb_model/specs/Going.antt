@@ -3,7 +3,9 @@ use Rattle.std.specs.Prelude.{◌≡◌, ℕ, ◌+◌, ◌-◌, ◌*◌, ◌<◌
 use Rattle.std.specs.List.{AllByRecursion, slice_index_or}
 use Rattle.nb_fields.specs.Places.{is_inventory_place, is_scn_place}
 use Rattle.nb_fields.specs.Header.{is_header}
+use Rattle.nb_host.specs.Names.{is_name}
 use Rattle.nb_model.specs.declared.reply.Reply.{Reply}
+use Rattle.nb_model.specs.declared.statement.Statement.TheVariants.{Backup, BackupSince, CopyTo}
 use Rattle.nb_model.specs.Built.{is_built}
 use Rattle.nb_model.specs.Image.{Image, first_page, image_size, image_state}
 use Rattle.nb_model.specs.Causes.{is_free_entry}
@@ -34,6 +36,23 @@ AreMerging (ClosesCopy name ∷ ts) = ⊥
 AreMerging (Ends reply ∷ ts) = ⊥
 AreMerging (Merges ∷ ts) = AreMerging ts
 AreMerging (Finishes reply ∷ ts) = AreBeginnings ts
+
+-- The file that a turn will make has a name, and the GUID of a backup under way has 16 bytes.
+abbrev pub IsNamed : Turn → Type 0
+IsNamed (Begins (Backup level name)) = is_name name ≡ true
+IsNamed (Begins (BackupSince guid name)) = is_name name ≡ true
+IsNamed (Begins (CopyTo name)) = is_name name ≡ true
+IsNamed (Begins other) = Unit {0}
+IsNamed Copies = Unit {0}
+IsNamed (ClosesBackup backing) = (is_name backing.name ≡ true) × (length backing.guid ≡ 16)
+IsNamed (ClosesCopy name) = is_name name ≡ true
+IsNamed (Ends reply) = Unit {0}
+IsNamed Merges = Unit {0}
+IsNamed (Finishes reply) = Unit {0}
+
+-- so of each turn that is to come
+abbrev pub AreNamed : Now → Type 0
+AreNamed now = (place : ℕ) → AllByRecursion IsNamed (slice_index_or now.todo place [])
 
 -- The page and the slot are a place for a row of the history: the page is no system page, and the slot is within it.
 pub record HasRoom (image : Image) (page slot : ℕ) : Type 0 where
@@ -70,3 +89,10 @@ pub record IsGoing (now : Now) : Type 0 where
   pub frozen : image_state (base_now now).image ≡ 1 → is_header (first_page (base_now now).frozen) ≡ true
   pub each : (place : ℕ) → IsAt now place (slice_index_or now.todo place [])
   pub sixteen : AllByRecursion (λ (guid : List ℕ). length guid ≡ 16) now.given.guids
+
+-- What holds between two turns of all files that are still to be made: it goes on, they have names, and in the stalled state the frozen
+-- image is in that state.
+pub record IsMaking (now : Now) : Type 0 where
+  pub going : IsGoing now
+  pub named : AreNamed now
+  pub stalled : image_state (base_now now).image ≡ 1 → image_state (base_now now).frozen ≡ 1

@@ -1,9 +1,10 @@
 -- The files that backups and copies make.
-use Rattle.std.specs.Prelude.{◌≡◌, ℕ, ◌-◌, List, [], ◌∷◌, ◌++◌, Some, Contains}
+use Rattle.std.specs.Prelude.{◌≡◌, ℕ, ◌-◌, List, [], ◌∷◌, ◌++◌, Some, None, Ok, false, Contains}
 use Rattle.std.specs.List.{slice_index_or}
+use Rattle.nb_fields.specs.Header.{is_header}
 use Rattle.nb_model.specs.Image.{Image}
-use Rattle.nb_model.specs.Account.{Kept}
-use Rattle.nb_model.specs.Levels.{file_of, joined}
+use Rattle.nb_model.specs.Account.{Kept, Plain, Account, with_entry}
+use Rattle.nb_model.specs.Levels.{Contents, read_level, file_of, joined}
 use Rattle.nb_model.specs.Outcomes.{Turn, Begins, Copies, ClosesBackup, ClosesCopy, Ends, Merges, Finishes, Backing}
 use Rattle.nb_model.specs.Run.{Now, base_now}
 
@@ -49,3 +50,18 @@ IsNoneOf files name = (bytes : List ℕ) → Contains files (name, bytes) → �
 -- no two of them have the same name
 abbrev pub NamesOnce : List MadeFile → Type 0
 NamesOnce files = (name bytes others : List ℕ) → Contains files (name, bytes) → Contains files (name, others) → bytes ≡ others
+
+-- the account with these files, in order, with no difference file beside any of them
+unfoldable pub with_files : List MadeFile → Account → Account
+with_files [] account = account
+with_files (file ∷ files) account = with_files files (with_entry file.0 (Plain file.1 None) account)
+
+-- The bytes are the file of a kept record, or the pages of its image.
+pub data IsOfKept (kept : List Kept) (bytes : List ℕ) : Type 0 where
+  its_file : (r : Kept) → Contains kept r → bytes ≡ file_of 102 r → IsOfKept kept bytes
+  its_pages : (r : Kept) → Contains kept r → bytes ≡ joined r.image → IsOfKept kept bytes
+
+-- No job takes the bytes for a backup: they are no level file, and begin with no header.
+pub record IsNoBackup (bytes : List ℕ) : Type 0 where
+  pub no_level : (c : Contents) → read_level bytes ≡ Ok c → ⊥
+  pub no_header : is_header bytes ≡ false

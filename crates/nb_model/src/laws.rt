@@ -1,20 +1,23 @@
 // Laws: each is a public function with an empty body, whose contract is the law. They show that the definitions mean what
 // they say.
-ghost use Rattle.nb_model.specs.Account.{Account, Ask, Base, IsBase, Kept, base_of};
+ghost use Rattle.nb_model.specs.Account.{Account, Ask, Base, IsBase, Kept, Plain, base_of, with_entry};
 ghost use Rattle.nb_model.specs.Earlier.{IsEarlier, IsSoundTrail, LowersNone};
 ghost use Rattle.nb_model.specs.Follows.{Follows, IsMixed};
 ghost use Rattle.nb_model.specs.Forms.{drafted, give_page, new_page, put, take_page};
+ghost use Rattle.nb_model.specs.Going.{AreBeginnings, AreNamed, IsGoing};
 ghost use Rattle.nb_model.specs.Image.{Image, Numbered, Page, first_page, image_guid, image_scn, image_size, image_state, is_forced, is_read_only, overwritten, page_at, with_page, written_at};
 ghost use Rattle.nb_model.specs.Levels.{Head, IsLevel, read_level, taken};
 ghost use Rattle.nb_model.specs.Line.{AreZeroPages, HoldLine, HoldsFirst, IsLine, first_file, last_in, next_files};
+ghost use Rattle.nb_model.specs.Making.{IsNoBackup, IsOfKept, MadeFile};
 ghost use Rattle.nb_model.specs.Outcomes.{DoesNothing, Seen};
 ghost use Rattle.nb_model.specs.Output.{acked};
-ghost use Rattle.nb_model.specs.Owner.{entry_for, owned, owner, slot_page};
+ghost use Rattle.nb_model.specs.Owner.{delta_name, entry_for, entry_in, owned, owner, slot_page};
 ghost use Rattle.nb_model.specs.Pagewise.{AgreesWith, IsPagewise};
 ghost use Rattle.nb_model.specs.Restoring.{applied, verdict};
-ghost use Rattle.nb_model.specs.Run.{Event, IsPlayed, Now, base_now, play, rounds, strokes_of};
+ghost use Rattle.nb_model.specs.Run.{Event, IsPlayed, Now, base_now, files_made, play, rounds, strokes_of};
 ghost use Rattle.nb_model.specs.Sound.{HasNoZeros, IsSoundImage, SoundInventory};
 ghost use Rattle.nb_model.specs.Stands.{GoesOn, IsRaised, Stands};
+ghost use Rattle.nb_model.specs.Steps.{after_steps, steps_of, strokes_in};
 ghost use Rattle.nb_model.specs.Strokes.{Stroke, after, base_after, begin, ends, finish, fixed, merged_page, on_base, page as page_stroke, records_after, records_of};
 ghost use Rattle.nb_model.specs.Trail.{AreSynced, IsBehindFirst, IsLeft, IsMixture, ShowsIn, StandsIn, StandsOn, Trail, after_stroke, after_strokes, images_of, is_kept_place, settled};
 ghost use Rattle.nb_model.specs.Turns.{first_turn};
@@ -28,7 +31,7 @@ ghost use Rattle.nb_fields.specs.Places.{is_page_size};
 ghost use Rattle.nb_host.specs.Files.{File, Files};
 ghost use Rattle.nb_host.specs.Names.{is_delta};
 ghost use Rattle.nb_host.specs.declared.refusals.Refusal.{Refusal};
-ghost use Rattle.std.specs.Prelude.{Contains, IsTrue, List, Ok, Option, Some, [], ◌++◌, ◌+◌, ◌<◌, ◌∷◌, ◌≡◌, ◌≢◌, ◌≤◌, drop, false, length, replicate, slice_set, take, true, ℕ};
+ghost use Rattle.std.specs.Prelude.{Contains, IsTrue, List, None, Ok, Option, Some, [], ◌++◌, ◌+◌, ◌<◌, ◌∷◌, ◌≡◌, ◌≢◌, ◌≤◌, drop, false, length, replicate, slice_set, take, true, ℕ};
 ghost use Rattle.std.specs.List.{AllByRecursion, slice_index_or};
 
 /// Lineage goes on: an image follows each one that it followed step by step, at the lowest SCN.
@@ -231,4 +234,22 @@ pub fn control_strokes_keep_well()
         → IsWellTrail (kept ++ records_of (begin guid ask) b) (settled (on_base (begin guid ask) b)) }
     ensures ends { (kept : List Kept) (b : Base) → IsWellBaseIn kept b → image_state b.image ≡ 1 → IsWellTrail kept (settled (on_base ends b)) }
     ensures finish { (kept : List Kept) (b : Base) → IsWellBaseIn kept b → image_state b.image ≡ 2 → IsWellTrail kept (settled (on_base finish b)) }
+{}
+
+/// What turns have seen of their database is well behind each of their steps, whatever backups and copies are under way, with the records of
+/// the backups that have begun by then. The files that they make are those of kept records.
+pub fn turns_keep_well()
+    ensures well { (kept : List Kept) (now : Now) (order : List ℕ) (k : ℕ) → IsGoing now → AreNamed now → ((place : ℕ) → AreBeginnings (slice_index_or now.todo place [])) → IsWellTrail kept (settled (base_now now))
+        → IsWellTrail (kept ++ records_after (base_now now) (strokes_in (take k (steps_of (play order now).0)))) (after_steps (settled (base_now now)) (take k (steps_of (play order now).0))) }
+    ensures files { (kept : List Kept) (now : Now) (order : List ℕ) (f : MadeFile) → IsGoing now → AreNamed now → ((place : ℕ) → AreBeginnings (slice_index_or now.todo place [])) → IsWellTrail kept (settled (base_now now))
+        → Contains (files_made (play order now).0) f → IsOfKept (kept ++ records_after (base_now now) (strokes_of (play order now).0)) f.1 }
+{}
+
+/// The files stand for the account with a file that a backup or a copy has made, and with one that it left unfinished, where no difference
+/// file stands beside it.
+pub fn made_files_stand()
+    ensures whole { (old new : Files) (account : Account) (name bytes : List ℕ) → Stands old account → is_delta name ≡ false → ((m : List ℕ) → m ≢ name → m ≢ delta_name name → new m ≡ old m) → new (delta_name name) ≡ None
+        → new name ≡ Some bytes → IsOfKept account.kept bytes → Stands new (with_entry name (Plain bytes None) account) }
+    ensures unfinished { (old new : Files) (account : Account) (name : List ℕ) → Stands old account → is_delta name ≡ false → ((m : List ℕ) → m ≢ name → m ≢ delta_name name → new m ≡ old m) → new (delta_name name) ≡ None
+        → ((bytes : List ℕ) → new name ≡ Some bytes → IsNoBackup bytes) → Stands new (with_entry name (entry_in new name) account) }
 {}

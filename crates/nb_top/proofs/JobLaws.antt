@@ -7,7 +7,7 @@ use Rattle.nb_model.specs.declared.job.Job.TheVariants.{Run, Stat, Gen, Backup, 
 use Rattle.nb_model.specs.declared.statement.Statement.{Statement}
 use Rattle.nb_model.specs.declared.statement.Statement.TheVariants.{BeginBackup, EndBackup}
 use Rattle.nb_model.specs.Account.{Account}
-use Rattle.nb_model.specs.Jobs.{Asks, IsAttaching, account_behind, asks_of, restore_turn, turn_of}
+use Rattle.nb_model.specs.Jobs.{Asks, IsAttaching, account_behind, asks_of, restore_turn, fixup_turn, turn_of}
 use Rattle.nb_model.specs.Outcomes.{Given}
 use Rattle.nb_model.specs.Run.{Event}
 use Rattle.nb_top.specs.Performed.{IsPerformed}
@@ -77,5 +77,6 @@ unfolding turn_of
 turn_performed files (Restore db names) row before last given left events built is done =
     subst (λ (r : Row). (events ≡ r.1 ∷ []) × (last ≡ account_behind r.0 r.1 before)) (same_row (db, restore_turn files before db names) row is) (done.0, done.1)
 turn_performed files (Apply db file) row before last given left events built is done = absurd (not_built built)
-turn_performed files (Fixup db) row before last given left events built is done = absurd (not_built built)
+turn_performed files (Fixup db) row before last given left events built is done =
+    subst (λ (r : Row). (events ≡ r.1 ∷ []) × (last ≡ account_behind r.0 r.1 before)) (same_row (db, fixup_turn files db) row is) (done.0, done.1)
 turn_performed files other row before last given left events built is done = absurd (no_row row is)

@@ -11,7 +11,7 @@ use Rattle.nb_change.proofs.MomentLaws.{weaker}
 use Rattle.nb_page.specs.Quiet.{Quiet}
 use Rattle.nb_model.specs.declared.reply.Reply.TheVariants.{Refused as RefusedReply}
 use Rattle.nb_model.specs.Account.{Account}
-use Rattle.nb_model.specs.Jobs.{restore_turn, account_behind}
+use Rattle.nb_model.specs.Jobs.{restore_turn, fixup_turn, account_behind}
 use Rattle.nb_model.specs.Lines.{line_text}
 use Rattle.nb_model.specs.Outcomes.{Given}
 use Rattle.nb_model.specs.Output.{status_after}
@@ -24,7 +24,8 @@ use Rattle.nb_session.specs.Says.{SaysLine}
 use Rattle.nb_top.specs.declared.status.Status.{Status}
 use Rattle.nb_top.specs.declared.status.Status.TheVariants.{Refused as RefusedStatus, Usage as UsageStatus, Device, Memory}
 use Rattle.nb_top.specs.Performed.{HasSmallScn, HoldsKept, RunLeft, RunStands, RunsTo, Performs, Finished, IsPerformed, IsSure, IsUndone, Knows, RestoresKept, StandsFor, kept_after, target_of, number_of, refused_job}
-use Rattle.nb_top.specs.Requests.{Request, ToRun, ToRestore, request_asked, script_in, to_run}
+use Rattle.nb_top.specs.Requests.{Request, ToRun, ToRestore, ToFix, request_asked, script_in, to_run}
+use Rattle.nb_top.proofs.FixedRuns.{fix_left, fix_end, fixes_kept}
 use Rattle.nb_top.proofs.LeftLaws.{left_first, first_count}
 use Rattle.nb_top.proofs.QuietRuns.{left_quietly}
 use Rattle.nb_top.proofs.RefusedRuns.{refused_runs}
@@ -75,6 +76,15 @@ module _ (old : World) (account : Account) (given : Given) (e : Stop) (quiet : Q
     stops = left_quietly old old account (target_of (Ok (ToRestore db names)) (restore_turn old.files account db names ∷ [])) (restore_turn old.files account db names ∷ []) quiet;
     finished = tt;
   }
+  request_unasked (ToFix db) can knows = record {
+    events = fixup_turn old.files db ∷ [];
+    last = account_behind db (fixup_turn old.files db) account;
+    left = given;
+    performed = (refl, refl, refl);
+    opened = inr quiet;
+    stops = left_quietly old old account (target_of (Ok (ToFix db)) (fixup_turn old.files db ∷ [])) (fixup_turn old.files db ∷ []) quiet;
+    finished = tt;
+  }
 
   pub unasked_runs : (words : List (List ℕ)) → Knows old.files account (request_asked old.files words) → RunsTo (Err e) old old (request_asked old.files words) account given
   unasked_runs words = by (request_asked old.files words) refl
@@ -106,6 +116,7 @@ module _ (old : World) (account : Account) (given : Given) (before : (name : Lis
   sure_left (Err refusal) allowed performed sure small files said l = sure.stands.left files (λ m. l.others m tt)
   sure_left (Ok (ToRun plan is_quiet)) allowed performed sure small files said l = script_left old plan is_quiet (allowed (ToRun plan is_quiet) refl) account given before events last left performed sure small files said l
   sure_left (Ok (ToRestore db names)) allowed performed sure small files said l = restored_left old db names account given (allowed (ToRestore db names) refl) before events last left performed sure files said l
+  sure_left (Ok (ToFix db)) allowed performed sure small files said l = fix_left old db account given (allowed (ToFix db) refl) before events last left performed sure files said l
 
   -- at its end
   sure_end : (asked : Result Request Refusal) → ((r : Request) → asked ≡ Ok r → CanBeAsked r) → IsPerformed old.files asked account given events last left → IsSure old account asked events → HasSmallScn account (target_of asked events)
@@ -118,12 +129,14 @@ module _ (old : World) (account : Account) (given : Given) (before : (name : Lis
       script_end old plan is_quiet (allowed (ToRun plan is_quiet) refl) account given before events last left performed sure small new timely reads stops status done
   sure_end (Ok (ToRestore db names)) allowed performed sure small new timely reads stops status done =
       restored_end old db names account given (allowed (ToRestore db names) refl) before events last left performed sure new timely reads status stops done
+  sure_end (Ok (ToFix db)) allowed performed sure small new timely reads stops status done = fix_end old db account given (allowed (ToFix db) refl) before events last left performed sure new timely reads status stops done
 
-  -- what is restored
+  -- what is restored, and what is fixed
   sure_kept : (asked : Result Request Refusal) → ((r : Request) → asked ≡ Ok r → CanBeAsked r) → IsSure old account asked events → RestoresKept old.files account.kept asked
   sure_kept (Err refusal) allowed sure = tt
   sure_kept (Ok (ToRun plan is_quiet)) allowed sure = tt
   sure_kept (Ok (ToRestore db names)) allowed sure = restores_kept old db names account (allowed (ToRestore db names) refl) events sure
+  sure_kept (Ok (ToFix db)) allowed sure = fixes_kept old db account (allowed (ToFix db) refl) events sure
 
 module _ (old new : World) (asked : Result Request Refusal) (allowed : (r : Request) → asked ≡ Ok r → CanBeAsked r) (account : Account) (given : Given) (before : (name : List ℕ) → Leaves old name (old.files name))
     (timely : IsTimely new) (reads : (name : List ℕ) → Leaves new name (new.files name)) where

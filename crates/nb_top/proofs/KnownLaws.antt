@@ -9,7 +9,7 @@ use Rattle.nb_host.specs.declared.refusals.Refusal.{Refusal}
 use Rattle.nb_host.specs.declared.refusals.Refusal.TheVariants.{Usage}
 use Rattle.nb_page.specs.Free.{has_delta, is_free_name}
 use Rattle.nb_model.specs.declared.job.Job.{Job}
-use Rattle.nb_model.specs.declared.job.Job.TheVariants.{Run, Restore, Lock, Unlock}
+use Rattle.nb_model.specs.declared.job.Job.TheVariants.{Run, Restore, Lock, Unlock, Fixup}
 use Rattle.nb_model.specs.declared.statement.Statement.{Statement}
 use Rattle.nb_model.specs.declared.statement.Statement.TheVariants.{CreateDb, OpenDb}
 use Rattle.nb_model.specs.Account.{Account}
@@ -51,6 +51,7 @@ module _ (files : Files) (account : Account) (stands : Stands files account) whe
   known_job (Run name) fits = known_script name (script_in name (files name)) refl
   known_job (Lock db) fits = known_first (OpenDb db usual_cache) (begin_askable db fits).first.fits
   known_job (Unlock db) fits = known_first (OpenDb db usual_cache) (end_askable db fits).first.fits
+  known_job (Fixup db) fits = stands.same_image db (plain_file db (and_parts (is_file db) (nat_le (length db) 94) fits).0)
   known_job (Restore db names) fits = let parts = and_parts (is_file db) (nat_le (length db) 94) fits.0 in known_free db parts.1 (plain_file db parts.0)
   known_job other fits = tt
 

@@ -26,3 +26,8 @@ pub mod ChainRefusals
 pub mod RestoreTurns
 pub mod RestoringRuns
 pub mod RestoredRuns
+pub mod TurnRuns
+pub mod SureTargets
+pub mod FixTurns
+pub mod FixingRuns
+pub mod FixedRuns

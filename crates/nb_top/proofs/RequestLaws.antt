@@ -18,11 +18,13 @@ use Rattle.nb_script.specs.Asked.{IsFurther, IsAskable}
 use Rattle.nb_script.specs.Fits.{IsBase}
 use Rattle.nb_script.specs.Scripts.{Plan}
 use Rattle.nb_script.proofs.AskedLemmas.{answer_is_askable}
-use Rattle.nb_top.specs.Requests.{Request, ToRun, ToRestore, FitsJob, is_job_built, built_job, job_asked, script_in, to_run, plan_of, request_of, request_asked}
+use Rattle.nb_top.specs.Requests.{Request, ToRun, ToRestore, ToFix, FitsJob, is_job_built, built_job, job_asked, script_in, to_run, plan_of, request_of, request_asked}
 
--- The statements of a script can be asked today. The names of a restore are none that a difference file may have, and there is a first file.
+-- The statements of a script can be asked today. The names of a restore and of a fixup are none that a difference file may have, and a restore has a
+-- first file.
 abbrev pub CanBeAsked : Request → Type 0
 CanBeAsked (ToRun plan is_quiet) = IsAskable plan
+CanBeAsked (ToFix db) = is_delta db ≡ false
 CanBeAsked (ToRestore db names) = (is_delta db ≡ false) × AllByRecursion (λ (name : List ℕ). is_delta name ≡ false) names × (1 ≤ length names)
 
 -- The names of a job that words give.
@@ -51,7 +53,7 @@ sized_fits (db ∷ w ∷ ws) = tt
 
 fixup_fits : (plain : List Word) → IfJob (database_job Fixup plain)
 fixup_fits [] = tt
-fixup_fits (db ∷ []) = if_fits (is_database db) (Fixup db) (λ is. tt)
+fixup_fits (db ∷ []) = if_fits (is_database db) (Fixup db) (λ is. is)
 fixup_fits (db ∷ w ∷ ws) = tt
 
 apply_fits : (plain : List Word) → IfJob (apply_job plain)
@@ -213,6 +215,7 @@ module _ (files : Files) (r : Request) where
   job_can (Run name) fits e = run_asked name (script_in name (files name)) refl e
   job_can (Lock db) fits e = this_asked (ToRun (plan_of db BeginBackup) true) (begin_askable db fits) e
   job_can (Unlock db) fits e = this_asked (ToRun (plan_of db EndBackup) true) (end_askable db fits) e
+  job_can (Fixup db) fits e = this_asked (ToFix db) (plain_file db (and_parts (is_file db) (nat_le (length db) 94) fits).0) e
   job_can (Restore db names) fits e = this_asked (ToRestore db names) (restore_asked db names fits) e
   job_can other fits e = none_asked Usage e
 

@@ -1,11 +1,12 @@
 -- Where the files stand for the account as a restore begins, they stand for one at each moment, and what it gives is a kept image.
-use Rattle.std.proofs.Common.{◌≡◌, ⊎_elim, ℕ, zero, suc, ◌≤◌, List, [], ◌∷◌, length, take, true, refl, sym, ap, subst, ◌∙◌, arith}
+use Rattle.std.proofs.Common.{◌≡◌, ℕ, ◌≤◌, List, [], ◌∷◌, length, take, true, refl, sym, ap, subst, ◌∙◌, arith}
 use Rattle.std.specs.Prelude.{None, Some, Result, Ok}
 use Rattle.nb_host.specs.Files.{Files}
 use Rattle.nb_host.specs.World.{World}
 use Rattle.nb_host.specs.Crash.{Leaves}
 use Rattle.nb_host.specs.Moments.{IsTimely, AtEachMoment}
 use Rattle.nb_host.specs.declared.refusals.Refusal.{Refusal}
+use Rattle.nb_model.specs.declared.reply.Reply.TheVariants.{Pages}
 use Rattle.nb_model.specs.Account.{Base, base_of, Account, with_entry}
 use Rattle.nb_model.specs.Causes.{is_free_entry}
 use Rattle.nb_model.specs.Image.{Image}
@@ -16,24 +17,21 @@ use Rattle.nb_model.specs.Restoring.{Link, verdict, applied}
 use Rattle.nb_model.specs.Run.{Event, with_made, account_after}
 use Rattle.nb_model.specs.Steps.{makes, settles, after_step, after_steps, steps_of, strokes_in}
 use Rattle.nb_model.specs.Strokes.{make, fixed, on_base, base_in, base_after, records_of, records_after}
-use Rattle.nb_model.specs.Trail.{Trail, StandsIn, settled, settles_at, after_stroke}
+use Rattle.nb_model.specs.Trail.{settled, settles_at, after_stroke}
 use Rattle.nb_model.specs.WellTrail.{IsWellTrail}
 use Rattle.nb_model.proofs.AccountLaws.{IsGrown}
-use Rattle.nb_model.proofs.SteadyLaws.{settling_along}
-use Rattle.nb_model.proofs.StepsLaws.{after_no_step}
-use Rattle.nb_model.proofs.TrailLaws.{settled_shows}
 use Rattle.nb_model.proofs.UnseenLaws.{unseen}
 use Rattle.nb_restore.specs.Kept.{GivesKept}
 use Rattle.nb_restore.specs.Restore.{base_from}
 use Rattle.nb_restore.proofs.ChainLaws.{split_chain}
 use Rattle.nb_top.specs.declared.status.Status.{Status}
-use Rattle.nb_top.specs.Performed.{RunLeft, Finished, HoldsKept, IsPerformed, IsSure, RestoresKept, StandsFor, Target, kept_after, seen_after, target_of}
+use Rattle.nb_top.specs.Performed.{RunLeft, Finished, HoldsKept, IsPerformed, IsSure, RestoresKept, StandsFor, Target, kept_after, target_of}
 use Rattle.nb_top.specs.Requests.{Request, ToRestore}
 use Rattle.nb_restore.proofs.KeptLaws.{chain_kept, restored_well}
 use Rattle.nb_top.proofs.RequestLaws.{CanBeAsked}
-use Rattle.nb_top.proofs.RestoreTurns.{RestoreTurn, refuses, restores, made_turn, made_account, made_steps, refused_account, turn_is}
-use Rattle.nb_top.proofs.SureFiles.{kept_none, stood_holds, unbegun_holds, ended_stands, still_stands}
-use Rattle.nb_top.proofs.WellRuns.{IsWellRun}
+use Rattle.nb_top.proofs.RestoreTurns.{RestoreTurn, refuses, restores, made_turn, made_account, refused_account, turn_is}
+use Rattle.nb_top.proofs.SureFiles.{still_stands}
+use Rattle.nb_top.proofs.SureTargets.{IsSureRun, turn_sure, target_left, target_end}
 
 -- a chain of one file or more has a link
 some_links : (files : Files) (names : List (List ℕ)) (links : List Link) → 1 ≤ length names → verdict files names ≡ Ok links → 1 ≤ length links
@@ -75,39 +73,19 @@ module _ (old : World) (db : List ℕ) (names : List (List ℕ)) (account : Acco
   abbrev target : Target
   target = record { name = db; creates = true }
 
-  run : IsWellRun account db one after
-  run = record {
-    first = makes (make (fixed (applied links))) ∷ [];
-    further = settles ∷ [];
-    steps = made_steps links;
-    base = base_from links;
-    seen = made_seen (base_in (account.entry db)) (fixed (applied links));
-    none = made_keeps (base_in (account.entry db)) (fixed (applied links));
-    along = settling_along account.kept (settled (base_from links)) true (restored_trail old db names account can one sure links accepted);
-    grown = subst (IsGrown db (after_steps (settled (base_from links)) (settles ∷ [])).base (records_after (base_from links) (strokes_in (settles ∷ []))) account) (sym (made_account old.files account db names links))
-        (made_grown account db (fixed (applied links)));
-  }
-
   -- before it no database is there
-  begun : (count : ℕ) (files : Files) → StandsIn db (seen_after account db (take count (steps_of one))) files → 1 ≤ count
-  begun zero files s =
-      absurd (unseen db (account.entry db) (files db) (files (delta_name db)) free
-      (settled_shows db (base_in (account.entry db)) (files db) (files (delta_name db)) (subst (λ (t : Trail). StandsIn db t files) (after_no_step (settled (base_in (account.entry db)))) s)))
-  begun (suc n) files s = omega arith
+  known : IsSureRun account target one after
+  known =
+      turn_sure account target (Pages (length (applied links))) (make (fixed (applied links))) (base_from links) after (made_seen (base_in (account.entry db)) (fixed (applied links))) (made_keeps (base_in (account.entry db)) (fixed (applied links)))
+      (subst (IsGrown db (after_steps (settled (base_from links)) (settles ∷ [])).base (records_after (base_from links) (strokes_in (settles ∷ []))) account) (sym (made_account old.files account db names links)) (made_grown account db (fixed (applied links))))
+      (restored_trail old db names account can one sure links accepted) (λ files. unseen db (account.entry db) (files db) (files (delta_name db)) free) can.0 (λ e. free)
 
   made_left : (files : Files) (said : List ℕ) (l : RunLeft old account (Some target) one files said) → HoldsKept files (kept_after account (Some target) (take l.count (steps_of one)))
-  unfolding run
-  made_left files said l = ⊎_elim
-      (λ s. stood_holds old account sure.stands before db can.0 one after run sure.new l.count (begun l.count files s) files l.others s)
-      (λ none. subst (HoldsKept files) (sym (ap (λ (n : ℕ). kept_after account (Some target) (take n (steps_of one))) none.none ∙ kept_none account (Some target)))
-      (unbegun_holds old account sure.stands before db can.0 one after run sure.new target refl (λ e. free) (length l.out.part) l.count files l.others none))
-      l.database
+  made_left = target_left old account sure.stands before target one after sure.new known
 
   made_end : (new : World) → IsTimely new → ((m : List ℕ) → Leaves new m (new.files m)) → AtEachMoment old new (RunLeft old account (Some target) one) → (given left : Given) (status : Status)
       → Finished status old new account (Some target) one given left → StandsFor new after
-  made_end new timely reads stops given left status finished =
-      ended_stands old account sure.stands before db can.0 one after run sure.new new finished.database finished.others reads
-      (λ files leaves. (stops.each files new.said (timely.counts_now old.moment files stops.later leaves)).others)
+  made_end = target_end old account sure.stands before target one after sure.new known
 
 -- Any restore.
 module _ (old : World) (db : List ℕ) (names : List (List ℕ)) (account : Account) (given : Given) (can : CanBeAsked (ToRestore db names)) (before : (m : List ℕ) → Leaves old m (old.files m)) (events : List Event) (last : Account)

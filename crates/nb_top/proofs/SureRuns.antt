@@ -1,5 +1,5 @@
 -- Where the files stand for the account as a run begins, and the GUIDs that it takes are new, they stand for one at each moment.
-use Rattle.std.proofs.Common.{◌≡◌, ⊎_elim, ℕ, zero, suc, ◌<◌, ◌≤◌, List, [], ◌∷◌, ◌++◌, length, take, true, false, refl, sym, ap, subst, ◌∙◌, arith}
+use Rattle.std.proofs.Common.{◌≡◌, ℕ, zero, suc, ◌<◌, ◌≤◌, List, [], ◌∷◌, ◌++◌, take, true, false, refl, sym, ap, subst, ◌∙◌, arith}
 use Rattle.std.specs.Prelude.{Bool, Result, Ok, Err, Option, Some, None, Contains}
 use Rattle.std.proofs.lemmas.List.Elements.{Contains-append_right}
 use Rattle.nb_fields.specs.Fresh.{fresh}
@@ -41,7 +41,8 @@ use Rattle.nb_top.specs.Requests.{Request, ToRun}
 use Rattle.nb_top.proofs.CreatingRuns.{base_name}
 use Rattle.nb_top.proofs.OpenLaws.{shown_entry, refused_entry}
 use Rattle.nb_top.proofs.ScriptRuns.{Opens, creates, opens, first_opens}
-use Rattle.nb_top.proofs.SureFiles.{kept_none, stood_holds, unbegun_holds, ended_stands, still_stands}
+use Rattle.nb_top.proofs.SureFiles.{still_stands}
+use Rattle.nb_top.proofs.SureTargets.{IsSureRun, target_left, target_end}
 use Rattle.nb_top.proofs.ToldLaws.{told_steps, told_strokes, told_begins}
 use Rattle.nb_top.proofs.WellRuns.{IsWellRun, IsWellBehind, rest_well}
 
@@ -51,13 +52,6 @@ false_true h = cc
 -- an event with a refusal begins no run
 refused_begins : (o : Opening) (session : ℕ) (refusal : Refusal) (account : Account) (events rest : List Event) → events ≡ o.event ∷ rest → o ≡ refused_opening session (Refused refusal) account → begins_refused events ≡ true
 refused_begins o session refusal account events rest is refused = ap begins_refused is ∙ ap (λ (x : Opening). begins_refused (x.event ∷ rest)) refused
-
--- What is known of a run with a database: it is well behind its first steps, and where it creates the database the name was free.
-record IsSureRun (account : Account) (target : Target) (events : List Event) (last : Account) : Type 0 where
-  plain : is_delta target.name ≡ false
-  free : target.creates ≡ true → is_free_entry (account.entry target.name) ≡ true
-  run : IsWellRun account target.name events last
-  begun : (count : ℕ) (files : Files) → StandsIn target.name (seen_after account target.name (take count (steps_of events))) files → length run.first ≤ count
 
 -- the GUIDs of later turns have 16 bytes
 later_sixteen : (old : World) (account : Account) (e : Event) (rest : List Event) → AreNew old account.kept (guids_in (strokes_of (e ∷ rest))) → AreSixteen (strokes_of rest)
@@ -308,13 +302,7 @@ module _ (old : World) (plan : Plan) (is_quiet : Bool) (askable : IsAskable plan
       where
         by : (target : Option Target) → target_of asked events ≡ target → HasSmallScn account target → (l : RunLeft old account target events files said) → HoldsKept files (kept_after account target (take l.count (steps_of events)))
         by None is few l = sure.stands.left files (λ m. l.others m tt)
-        by (Some target) is few l =
-            let known : IsSureRun account target events last = sure_run target is few in
-            ⊎_elim
-            (λ s. stood_holds old account sure.stands before target.name known.plain events last known.run sure.new l.count (known.begun l.count files s) files l.others s)
-            (λ none. subst (HoldsKept files) (sym (ap (λ (n : ℕ). kept_after account (Some target) (take n (steps_of events))) none.none ∙ kept_none account (Some target)))
-            (unbegun_holds old account sure.stands before target.name known.plain events last known.run sure.new target refl known.free (length l.out.part) l.count files l.others none))
-            l.database
+        by (Some target) is few l = target_left old account sure.stands before target events last sure.new (sure_run target is few) files said l
 
     -- a run without a database leaves the account
     last_is : target_of asked events ≡ None → last ≡ account
@@ -338,7 +326,4 @@ module _ (old : World) (plan : Plan) (is_quiet : Bool) (askable : IsAskable plan
         by None is few moments done =
             subst (StandsFor new) (sym (last_is is))
             (still_stands old new account sure.stands reads (λ m. done.others m tt) (λ files leaves m. (moments.each files new.said (timely.counts_now old.moment files moments.later leaves)).others m tt))
-        by (Some target) is few moments done =
-            let known : IsSureRun account target events last = sure_run target is few in
-            ended_stands old account sure.stands before target.name known.plain events last known.run sure.new new done.database done.others reads
-            (λ files leaves. (moments.each files new.said (timely.counts_now old.moment files moments.later leaves)).others)
+        by (Some target) is few moments done = target_end old account sure.stands before target events last sure.new (sure_run target is few) new timely reads moments given left status done

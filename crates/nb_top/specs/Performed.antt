@@ -1,14 +1,16 @@
 -- What a run promises, from the words of the command line to its last reply.
 --
--- The words ask for the run of a script, for a restore, or for a refusal. Each tells the events of the run one by one: whose turn, which
+-- The words ask for the run of a script, for a restore, for a fixup, or for a refusal. Each tells the events of the run one by one: whose turn, which
 -- strokes, which reply.
 -- Whatever stops the run, at each moment a front of its lines was said, and both files of its database can be opened and hold what may be
--- left behind a front of its steps, with each acknowledged one among them. No other file changes. At its end all lines were said and all
--- steps stand. Where the files stood for an account with the records of its backups, and the GUIDs that the outside gives are new, they
+-- left behind a front of its steps, with each acknowledged one among them. A file that a backup or a copy makes is as it was, unfinished or
+-- whole, and whole once that is acknowledged. No other file changes. At its end all lines were said, all steps stand, and all files are whole. Where the files stood for an account with the records of its backups, and the GUIDs that the outside gives are new, they
 -- stand for one at each moment, with the records of the backups that have begun by then.
 use Rattle.std.specs.Prelude.{◌≡◌, ◌≢◌, ◌⊎◌, ℕ, ◌<◌, List, [], ◌∷◌, ◌++◌, length, take, Bool, true, false, Option, None, Some, Result, Ok, Err, IfOk, if◌then◌else◌}
 use Rattle.std.specs.Global.{Vec}
+use Rattle.std.specs.List.{AllByRecursion}
 use Rattle.nb_fields.specs.Free.{is_free_file}
+use Rattle.nb_fields.specs.Header.{guid_of}
 use Rattle.nb_host.specs.Files.{File, Files}
 use Rattle.nb_host.specs.Names.{is_delta}
 use Rattle.nb_host.specs.World.{World}
@@ -27,29 +29,32 @@ use Rattle.nb_model.specs.declared.statement.Statement.TheVariants.{CreateDb, Op
 use Rattle.nb_model.specs.Account.{Kept, Base, IsBase, Account}
 use Rattle.nb_model.specs.Causes.{is_free_entry}
 use Rattle.nb_model.specs.Gifts.{WasGiven}
-use Rattle.nb_model.specs.Image.{image_scn}
+use Rattle.nb_model.specs.Image.{image_in, image_scn}
 use Rattle.nb_model.specs.NewGuids.{AreNew, guids_in}
-use Rattle.nb_model.specs.Jobs.{quiet, refusal_in, restore_turn, account_behind}
+use Rattle.nb_model.specs.Jobs.{quiet, refusal_in, restore_turn, fixup_turn, account_behind}
 use Rattle.nb_model.specs.Outcomes.{Given}
 use Rattle.nb_model.specs.Output.{output, status_of}
 use Rattle.nb_model.specs.Owner.{delta_name, entry_in}
-use Rattle.nb_model.specs.Run.{Event, Now, Played, IsRun, AreFinished, play, rounds, strokes_of, replies_of}
+use Rattle.nb_model.specs.Making.{IsNoneOf}
+use Rattle.nb_model.specs.Run.{Event, Now, Played, IsRun, AreFinished, play, rounds, strokes_of, replies_of, files_made}
 use Rattle.nb_model.specs.Sound.{IsSoundImage}
 use Rattle.nb_model.specs.Restoring.{Link, verdict}
-use Rattle.nb_model.specs.Stands.{Stands}
+use Rattle.nb_model.specs.Stands.{IsKeptAs, Stands}
 use Rattle.nb_model.specs.Steps.{Step, steps_of, strokes_in, after_steps, acked_turns}
 use Rattle.nb_model.specs.Strokes.{Stroke, base_in, records_after}
 use Rattle.nb_model.specs.Trail.{Trail, StandsIn, ShowsIn, settled}
 use Rattle.nb_base.specs.Open.{OfFiles}
 use Rattle.nb_state.specs.Open.{Held}
+use Rattle.nb_fixup.specs.Fixup.{IsFixable}
 use Rattle.nb_restore.specs.Kept.{AreKept, GivesKept}
 use Rattle.nb_script.specs.Scripts.{Plan}
 use Rattle.nb_session.specs.declared.stop.Stop.{Stop}
 use Rattle.nb_session.specs.Replies.{is_refusal}
-use Rattle.nb_session.specs.Stops.{IsSaid, IsFront, Plays}
+use Rattle.nb_session.specs.Acts.{MadeLeft, AreKept}
+use Rattle.nb_session.specs.Stops.{IsSaid, IsFront, AreWhole, Plays}
 use Rattle.nb_top.specs.declared.status.Status.{Status}
 use Rattle.nb_top.specs.declared.status.Status.TheVariants.{Done, Refused as RefusedStatus, Usage as UsageStatus, Device, Memory}
-use Rattle.nb_top.specs.Requests.{Request, ToRun, ToRestore, script_in}
+use Rattle.nb_top.specs.Requests.{Request, ToRun, ToRestore, ToFix, script_in}
 
 -- what the first statement of a run did, or what is said in place of a run
 abbrev pub first_event : (session : ℕ) → List Stroke → Reply → Event
@@ -73,15 +78,16 @@ pub record IsScriptRun (plan : Plan) (is_quiet : Bool) (before : Account) (given
 abbrev pub told_first : (is_quiet : Bool) → Event → Event
 told_first is_quiet e = if is_quiet then record e { reply = refusal_in e.reply } else e
 
--- What is asked for is done: the run of a script, the one turn of a restore, or one refusal. `left` is what it leaves of what may be given.
+-- What is asked for is done: the run of a script, the one turn of a restore or of a fixup, or one refusal. `left` is what it leaves of what may be given.
 abbrev pub IsPerformed : Files → Result Request Refusal → (before : Account) → Given → List Event → (last : Account) → (left : Given) → Type 0
 IsPerformed files (Err refusal) before given events last left = (events ≡ refused_job refusal) × (last ≡ before) × (left ≡ given)
 IsPerformed files (Ok (ToRun plan is_quiet)) before given events last left = IsScriptRun plan is_quiet before given events last left
 IsPerformed files (Ok (ToRestore db names)) before given events last left =
     let turn : Event = restore_turn files before db names in
     (events ≡ turn ∷ []) × (last ≡ account_behind db turn before) × (left ≡ given)
+IsPerformed files (Ok (ToFix db)) before given events last left = (events ≡ fixup_turn files db ∷ []) × (last ≡ account_behind db (fixup_turn files db) before) × (left ≡ given)
 
--- the database of a run, which its first statement creates or opens
+-- the database of a run, which it creates, opens or fixes
 pub record Target : Type 0 where
   pub name : List ℕ
   pub creates : Bool
@@ -102,6 +108,7 @@ begins_refused (e ∷ es) = elim e.reply [ None ↦ false | Some reply ↦ is_re
 abbrev pub target_asked : Request → Option Target
 target_asked (ToRun plan is_quiet) = target_named plan.first
 target_asked (ToRestore db names) = Some (record { name = db; creates = true })
+target_asked (ToFix db) = Some (record { name = db; creates = false })
 
 -- the database of a run, if it isn't refused at once
 abbrev pub target_of : Result Request Refusal → List Event → Option Target
@@ -113,18 +120,22 @@ pub record HoldsUnder (files : Files) (account : Account) (name : List ℕ) : Ty
   pub same : account.entry name ≡ entry_in files name
   pub sound : (b : Base) → account.entry name ≡ IsBase b → IsSoundImage b.image
 
--- What a first statement asks the account for is what the files tell: whether a name is free, or the database that stands there. Of
--- nothing else must the account know.
-abbrev pub KnowsFirst : Files → Account → (first : Statement) → Type 0
-KnowsFirst files account (CreateDb name page_size raw cache) = is_free_name files name ≡ is_free_entry (account.entry name)
-KnowsFirst files account (OpenDb name cache) = HoldsUnder files account name
-KnowsFirst files account other = Unit {0}
+-- of each name that a database or a backup may have the account knows whether it is free
+abbrev pub KnowsNames : Files → Account → Type 0
+KnowsNames files account = (name : List ℕ) → is_delta name ≡ false → is_free_name files name ≡ is_free_entry (account.entry name)
 
--- so it is of what is asked for: of a restore, whether the name of its target is free
+-- of a database that is opened it has what the files hold
+abbrev pub KnowsOpened : Files → Account → (first : Statement) → Type 0
+KnowsOpened files account (OpenDb name cache) = HoldsUnder files account name
+KnowsOpened files account other = Unit {0}
+
+-- What is asked for asks the account for what the files tell: a run, whether names are free, and for the database that it opens; a restore,
+-- whether the name of its target is free; and a fixup, what stands under the name.
 abbrev pub Knows : Files → Account → Result Request Refusal → Type 0
 Knows files account (Err refusal) = Unit {0}
-Knows files account (Ok (ToRun plan is_quiet)) = KnowsFirst files account plan.first
+Knows files account (Ok (ToRun plan is_quiet)) = KnowsNames files account × KnowsOpened files account plan.first
 Knows files account (Ok (ToRestore db names)) = is_free_name files db ≡ is_free_entry (account.entry db)
+Knows files account (Ok (ToFix db)) = account.entry db ≡ entry_in files db
 
 -- the name isn't that of the database, nor of its difference file
 abbrev pub IsUnasked : Option Target → List ℕ → Type 0
@@ -154,13 +165,16 @@ StandsAsked old account None events said count files = Unit {0}
 StandsAsked old account (Some target) events said count files = StandsIn target.name (seen_after account target.name (take count (steps_of events))) files ⊎ IsUnbegun old target events said count files
 
 -- At a moment of a run: a front of its lines was said, and a stop leaves the database behind so many of its steps, with each
--- acknowledged one among them. Other files are as a stop would have left them before.
+-- acknowledged one among them. A file that the run makes is as it was, unfinished or whole, and whole once its turn is acknowledged. Other
+-- files are as a stop would have left them before.
 pub record RunLeft (old : World) (account : Account) (target : Option Target) (events : List Event) (files : Files) (said : List ℕ) : Type 0 where
   pub out : IsSaid old events said
   pub count : ℕ
   pub front : IsFront events (length out.part) count
   pub database : StandsAsked old account target events (length out.part) count files
-  pub others : (m : List ℕ) → IsUnasked target m → Leaves old m (files m)
+  pub each : MadeLeft old (files_made events) files
+  pub whole : AreWhole (files_made (take (acked_turns events (length out.part)) events)) files
+  pub others : (m : List ℕ) → IsUnasked target m → IsNoneOf (files_made events) m → Leaves old m (files m)
 
 -- the files stand for an account with these records of backups
 pub record HoldsKept (files : Files) (kept : List Kept) : Type 0 where
@@ -176,25 +190,33 @@ pub record StandsFor (w : World) (account : Account) : Type 0 where
   pub left : (files : Files) → LeavesAll w files → HoldsKept files account.kept
   pub free : (name : List ℕ) → is_delta name ≡ false → is_free_file (w.files name) ≡ true → w.files (delta_name name) ≡ None → (d : File) → Leaves w (delta_name name) d → d ≡ None
 
--- a chain that is restored is one of backups whose records are kept
+-- a chain that is restored is one of backups whose records are kept, and a copy that is fixed is of one
 abbrev pub HasKeptChain : Files → List Kept → Result Request Refusal → Type 0
 HasKeptChain files kept (Err refusal) = Unit {0}
 HasKeptChain files kept (Ok (ToRun plan is_quiet)) = Unit {0}
 HasKeptChain files kept (Ok (ToRestore db names)) = (links : List Link) → verdict files names ≡ Ok links → AreKept kept links
+HasKeptChain files kept (Ok (ToFix db)) = (bytes : List ℕ) → IsFixable files db bytes → (r : Kept) × IsKeptAs kept (guid_of bytes) r
 
 -- The premise of what follows: the files stand for the account as the run begins, the GUIDs that its backups take are new, and the files
--- that it restores from are those of backups whose records are kept. The GUIDs are those that were given in the call, and where it ended
+-- that it restores from, or the copy that it fixes, are those of backups whose records are kept. The GUIDs are those that were given in the call, and where it ended
 -- early also those that may still come.
 pub record IsSure (old : World) (account : Account) (asked : Result Request Refusal) (events : List Event) : Type 0 where
   pub stands : StandsFor old account
   pub new : AreNew old account.kept (guids_in (strokes_of events))
   pub chain : HasKeptChain old.files account.kept asked
 
--- a chain that is restored gives the image that the begin of its last backup kept
+-- the bytes have the image that the begin of their backup kept
+pub record HasKeptImage (kept : List Kept) (bytes : List ℕ) : Type 0 where
+  pub backup : Kept
+  pub kept_as : IsKeptAs kept (guid_of bytes) backup
+  pub image : image_in bytes ≡ backup.image
+
+-- A chain that is restored gives the image that the begin of its last backup kept. A copy that is fixed has that of its backup.
 abbrev pub RestoresKept : Files → List Kept → Result Request Refusal → Type 0
 RestoresKept files kept (Err refusal) = Unit {0}
 RestoresKept files kept (Ok (ToRun plan is_quiet)) = Unit {0}
 RestoresKept files kept (Ok (ToRestore db names)) = (links : List Link) → verdict files names ≡ Ok links → GivesKept kept links
+RestoresKept files kept (Ok (ToFix db)) = (bytes : List ℕ) → IsFixable files db bytes → HasKeptImage kept bytes
 
 -- At a moment of a run: what a stop leaves is what may be left behind a front of its steps. Where the run is sure, it stands for an account
 -- with the records of the backups that have begun in the same front.
@@ -221,13 +243,18 @@ EndsIn new account None events = Unit {0}
 EndsIn new account (Some target) events = IsEnded new target.name (seen_after account target.name (steps_of events))
 
 -- A run to its end: all of its lines were said, the status is the one that they give, just what the run asks for was given, the database
--- stands behind all of its steps, and other files read as before.
+-- stands behind all of its steps, each file that it made is whole and kept for good, and other files read as before.
 pub record Finished (status : Status) (old new : World) (account : Account) (target : Option Target) (events : List Event) (given left : Given) : Type 0 where
   pub said : new.said ≡ old.said ++ output events
   pub ended : number_of status ≡ status_of (replies_of events)
   pub gave : WasGiven old new given left
   pub database : EndsIn new account target events
-  pub others : (m : List ℕ) → IsUnasked target m → new.files m ≡ old.files m
+  pub kept : AreKept new (files_made events)
+  pub others : (m : List ℕ) → IsUnasked target m → IsNoneOf (files_made events) m → new.files m ≡ old.files m
+
+-- each GUID that may be given has 16 bytes
+abbrev pub MayBeGiven : Given → Type 0
+MayBeGiven given = AllByRecursion (λ (guid : List ℕ). length guid ≡ 16) given.guids
 
 -- the SCN of a database that the run opens is a number of 32 bits
 abbrev pub HasSmallScn : Account → Option Target → Type 0
@@ -254,7 +281,7 @@ pub record RunsTo (result : Result Status Stop) (old new : World) (asked : Resul
 -- What `run` does on these words. Its events are those of the run that they ask for, with the account after it and what is left to give.
 -- At each moment a stop leaves a front of it. So do the files as they read now, where it ended early too. Where no call of the host failed
 -- and memory was enough, it came to its end, and where it was sure the files stand for the account after. A chain that it is asked to restore
--- gives the image that the begin of its last backup kept.
+-- gives the image that the begin of its last backup kept, and a copy that it is asked to fix has that of its backup.
 pub record Performs (status : Status) (old new : World) (asked : Result Request Refusal) (account : Account) (given : Given) : Type 0 where
   pub events : List Event
   pub last : Account
@@ -285,7 +312,7 @@ played_behind event played = (event ∷ played.0, played.1)
 -- the strokes of the first statement.
 pub record PlaysOpened (result : Result Bool Stop) (old new : World) (before after : Held) (start : Base) (first : Event) (now : Now) (plan : Plan) : Type 0 where
   pub how_often : ℕ
-  pub plays : Plays result old new before after (settled start) now (played_behind first (play (plan.schedule ++ rounds how_often) now))
+  pub plays : Plays result old new before after (settled start) now (played_behind first (play (plan.schedule ++ rounds how_often) now)) (files_made (play (plan.schedule ++ rounds how_often) now).0)
   pub finished : AreFinished (play (plan.schedule ++ rounds how_often) now).1.todo
 
 -- what is read of a script's file: its bytes, or that it isn't there or is too long

@@ -7,7 +7,7 @@ use Rattle.nb_host.specs.declared.refusals.Refusal.TheVariants.{Usage, NoFile}
 use Rattle.nb_model.specs.declared.job.Job.{Job}
 use Rattle.nb_model.specs.declared.job.Job.TheVariants.{Run, Stat, Gen, Backup, BackupSince, Restore, Apply, Lock, LockWithSize, Unlock, Fixup}
 use Rattle.nb_model.specs.declared.statement.Statement.{Statement}
-use Rattle.nb_model.specs.declared.statement.Statement.TheVariants.{OpenDb, BeginBackup, EndBackup}
+use Rattle.nb_model.specs.declared.statement.Statement.TheVariants.{OpenDb, BeginBackup, EndBackup, Backup as BackupTo}
 use Rattle.nb_model.specs.Jobs.{usual_cache}
 use Rattle.nb_model.specs.Words.{job_of, is_database, is_file}
 use Rattle.nb_script.specs.Scripts.{Plan, script_of}
@@ -17,19 +17,21 @@ abbrev pub is_job_built : Job → Bool
 is_job_built (Run script) = true
 is_job_built (Stat db) = false
 is_job_built (Gen number script) = false
-is_job_built (Backup level db file) = false
+is_job_built (Backup level db file) = true
 is_job_built (BackupSince guid db file) = false
 is_job_built (Restore db files) = true
 is_job_built (Apply db file) = false
 is_job_built (Lock db) = true
 is_job_built (LockWithSize db) = false
 is_job_built (Unlock db) = true
-is_job_built (Fixup db) = false
+is_job_built (Fixup db) = true
 
 -- the names of such a job are those that words may give
 abbrev pub FitsJob : Job → Type 0
 FitsJob (Lock db) = is_database db ≡ true
+FitsJob (Backup level db file) = (level ≤ 9) × (is_database db ≡ true) × (is_file file ≡ true)
 FitsJob (Unlock db) = is_database db ≡ true
+FitsJob (Fixup db) = is_database db ≡ true
 FitsJob (Restore db files) = (is_database db ≡ true) × (1 ≤ length files) × (length files ≤ 10) × (list_all is_file files ≡ true)
 FitsJob other = Unit {0}
 
@@ -47,6 +49,8 @@ pub data Request : Type 0 where
   ToRun : (plan : Plan) (is_quiet : Bool) → Request
   -- a database that the files of a chain give
   ToRestore : (db : List ℕ) (names : List (List ℕ)) → Request
+  -- a copy of a stalled database that becomes a database, in place
+  ToFix : (db : List ℕ) → Request
 
 -- the script that a file spells, or why there is none
 abbrev pub script_in : (name : List ℕ) → File → Result Plan Refusal
@@ -65,9 +69,11 @@ plan_of db statement = record { first_session = 1; first = OpenDb db usual_cache
 -- what a job asks for, or why it is refused
 abbrev pub request_of : Files → Job → Result Request Refusal
 request_of files (Run script) = to_run (script_in script (files script))
+request_of files (Backup level db file) = Ok (ToRun (plan_of db (BackupTo level file)) true)
 request_of files (Lock db) = Ok (ToRun (plan_of db BeginBackup) true)
 request_of files (Unlock db) = Ok (ToRun (plan_of db EndBackup) true)
 request_of files (Restore db names) = Ok (ToRestore db names)
+request_of files (Fixup db) = Ok (ToFix db)
 request_of files other = Err Usage
 
 -- what the words ask for

@@ -5,6 +5,9 @@
 //! shows from which hosts a run begins with all that is promised of it.
 #![tactic(auto)]
 
+mod fixing;
+#[cfg(test)]
+mod fixup_tests;
 pub mod laws;
 #[cfg(test)]
 mod lock_tests;

@@ -70,7 +70,7 @@ fn lock_and_unlock(rt: HostRuntime) -> Result<(), Fail> {
         (&["-L", "-N", "a.db"], "0: refused 1 Usage\n", Status::Usage),
         (&["stat", "a.db"], "0: refused 1 Usage\n", Status::Usage),
         (
-            &["-B", "0", "a.db", "f"],
+            &["-L", "-S", "a.db"],
             "0: refused 1 Usage\n",
             Status::Usage,
         ),

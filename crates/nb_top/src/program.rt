@@ -12,10 +12,11 @@ ghost use Rattle.nb_script.specs.Asked.{IsAskable};
 ghost use Rattle.nb_session.specs.Acts.{Grows};
 ghost use Rattle.nb_session.specs.Causes.{CountsStop};
 ghost use Rattle.nb_session.specs.Says.{SaysLine};
-ghost use Rattle.nb_top.specs.Performed.{Knows, Performs, RunsTo};
+ghost use Rattle.nb_top.specs.Performed.{Knows, MayBeGiven, Performs, RunsTo};
 ghost use Rattle.nb_top.specs.Requests.{FitsJob, ToRun, is_job_built, job_asked, plan_of, request_asked, request_of, script_in, to_run};
 
 use crate::Status;
+use crate::fixing::run_fix;
 use crate::reading::read_script;
 use crate::request::{read_built, script_asking};
 use crate::restoring::run_restore;
@@ -28,7 +29,7 @@ use std::alloc::Global;
 /// Runs the script of that name.
 fn run_file<H: Host>(alloc: Global, host: &mut H, name: &Name) -> Result<Status, Stop>
     ensures runs { (account : Account) (given : Given) → IsTrue H.tells → Knows (H.world host.old).files account (to_run (script_in name.now ((H.world host.old).files name.now)))
-        → Foretells given (H.world host.old) (H.world host.new) → RunsTo result (H.world host.old) (H.world host.new) (to_run (script_in name.now ((H.world host.old).files name.now))) account given }
+        → MayBeGiven given → Foretells given (H.world host.old) (H.world host.new) → RunsTo result (H.world host.old) (H.world host.new) (to_run (script_in name.now ((H.world host.old).files name.now))) account given }
     ensures grows { (account : Account) → IsTrue H.tells → Knows (H.world host.old).files account (to_run (script_in name.now ((H.world host.old).files name.now))) → Grows (H.world host.old) (H.world host.new) }
     ensures done { IfOk result (λ status. (status ≡ Status.Done) ⊎ (status ≡ Status.Refused)) }
     ensures cause { CountsStop result (H.faults host.old) (H.faults host.new) }
@@ -47,7 +48,7 @@ fn run_asking<H: Host>(
     statement: Statement,
 ) -> Result<Status, Stop>
     requires { IsAskable (plan_of db.now statement) }
-    ensures runs { (account : Account) (given : Given) → IsTrue H.tells → Knows (H.world host.old).files account (Ok (ToRun (plan_of db.now statement) true)) → Foretells given (H.world host.old) (H.world host.new)
+    ensures runs { (account : Account) (given : Given) → IsTrue H.tells → Knows (H.world host.old).files account (Ok (ToRun (plan_of db.now statement) true)) → MayBeGiven given → Foretells given (H.world host.old) (H.world host.new)
         → RunsTo result (H.world host.old) (H.world host.new) (Ok (ToRun (plan_of db.now statement) true)) account given }
     ensures grows { (account : Account) → IsTrue H.tells → Knows (H.world host.old).files account (Ok (ToRun (plan_of db.now statement) true)) → Grows (H.world host.old) (H.world host.new) }
     ensures done { IfOk result (λ status. (status ≡ Status.Done) ⊎ (status ≡ Status.Refused)) }
@@ -64,7 +65,7 @@ fn run_job<H: Host>(alloc: Global, host: &mut H, job: &Job) -> Result<Status, St
     requires built { IsTrue (is_job_built job.now) }
     requires fits { FitsJob job.now }
     ensures runs { (account : Account) (given : Given) → IsTrue H.tells → Knows (H.world host.old).files account (request_of (H.world host.old).files job.now)
-        → Foretells given (H.world host.old) (H.world host.new) → RunsTo result (H.world host.old) (H.world host.new) (request_of (H.world host.old).files job.now) account given }
+        → MayBeGiven given → Foretells given (H.world host.old) (H.world host.new) → RunsTo result (H.world host.old) (H.world host.new) (request_of (H.world host.old).files job.now) account given }
     ensures grows { (account : Account) → IsTrue H.tells → Knows (H.world host.old).files account (request_of (H.world host.old).files job.now) → Grows (H.world host.old) (H.world host.new) }
     ensures done { IfOk result (λ status. (status ≡ Status.Done) ⊎ (status ≡ Status.Refused)) }
     ensures cause { CountsStop result (H.faults host.old) (H.faults host.new) }
@@ -72,6 +73,11 @@ fn run_job<H: Host>(alloc: Global, host: &mut H, job: &Job) -> Result<Status, St
     match job {
         Job::Run { script } => run_file(alloc, host, script),
         Job::Restore { db, files } => run_restore(alloc, host, db, files.as_slice()),
+        Job::Fixup { db } => run_fix(alloc, host, db),
+        Job::Backup { level, db, file } => {
+            let name = file.copied();
+            run_asking(alloc, host, db, Statement::Backup { level: *level, name })
+        }
         Job::Lock { db } => run_asking(alloc, host, db, Statement::BeginBackup),
         Job::Unlock { db } => run_asking(alloc, host, db, Statement::EndBackup),
         _ => unreachable!(),
@@ -91,7 +97,7 @@ fn refuse_words<H: Host>(alloc: Global, host: &mut H) -> Result<Status, Stop>
 
 fn do_job<H: Host>(alloc: Global, words: &[String], host: &mut H) -> Result<Status, Stop>
     ensures runs { (account : Account) (given : Given) → IsTrue H.tells → Knows (H.world host.old).files account (request_asked (H.world host.old).files (map string_bytes words.now))
-        → Foretells given (H.world host.old) (H.world host.new) → RunsTo result (H.world host.old) (H.world host.new) (request_asked (H.world host.old).files (map string_bytes words.now)) account given }
+        → MayBeGiven given → Foretells given (H.world host.old) (H.world host.new) → RunsTo result (H.world host.old) (H.world host.new) (request_asked (H.world host.old).files (map string_bytes words.now)) account given }
     ensures grows { (account : Account) → IsTrue H.tells → Knows (H.world host.old).files account (request_asked (H.world host.old).files (map string_bytes words.now)) → Grows (H.world host.old) (H.world host.new) }
     ensures usage { IfOk result (λ status. (status ≡ Status.Usage) ↔ (job_asked (map string_bytes words.now) ≡ None)) }
     ensures done { IfOk result (λ status. (status ≡ Status.Usage) ⊎ ((status ≡ Status.Done) ⊎ (status ≡ Status.Refused))) }
@@ -105,7 +111,7 @@ fn do_job<H: Host>(alloc: Global, words: &[String], host: &mut H) -> Result<Stat
 
 /// Does the job that the words name, which are those of the command line without the program's own name.
 ///
-/// It says one line for each reply; a job that begins or ends a backup says nothing of the opening but why it is refused. Words that
+/// It says one line for each reply; a job that makes, begins or ends a backup says nothing of the opening but why it is refused. Words that
 /// name no job that is done today, and a script that cannot be read, are refused to session 0. Where a call of the host fails or memory runs out, the
 /// run ends at once and says nothing more.
 pub fn run<H: Host>(alloc: Global, words: &[String], host: &mut H) -> Status
@@ -117,13 +123,14 @@ pub fn run<H: Host>(alloc: Global, words: &[String], host: &mut H) -> Status
     ensures usage { result ≡ Status.Usage → job_asked (map string_bytes words.now) ≡ None }
     ensures no_job { job_asked (map string_bytes words.now) ≡ None → result ≢ Status.Done × result ≢ Status.Refused }
 
-    // Where an account knows of the database what the files tell as the call begins, and whatever GUIDs and times may still be given: the
+    // Where an account knows what the files tell as the call begins, and whatever GUIDs of 16 bytes and times may still be given: the
     // output is that of the run which the words ask for, and at each moment a stop leaves what may be left of the database behind a
-    // front of its steps that holds every acknowledged one, and other files as before. So do the files as they read where the run ended
+    // front of its steps that holds every acknowledged one, each file that the run makes as it was, unfinished or whole, and whole once its
+    // turn is acknowledged, and other files as before. So do the files as they read where the run ended
     // early. Where the files stand for the account and the GUIDs are new, they stand for one with the records behind that front, and at
     // the end for the account after.
     ensures performs { (account : Account) (given : Given) → IsTrue H.tells → Knows (H.world host.old).files account (request_asked (H.world host.old).files (map string_bytes words.now))
-        → Foretells given (H.world host.old) (H.world host.new)
+        → MayBeGiven given → Foretells given (H.world host.old) (H.world host.new)
         → Performs result (H.world host.old) (H.world host.new) (request_asked (H.world host.old).files (map string_bytes words.now)) account given }
     // There are such GUIDs and times.
     ensures grows { (account : Account) → IsTrue H.tells → Knows (H.world host.old).files account (request_asked (H.world host.old).files (map string_bytes words.now))

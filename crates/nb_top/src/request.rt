@@ -18,7 +18,12 @@ fn is_built(job: &Job) -> bool
 {
     matches!(
         job,
-        Job::Run { .. } | Job::Restore { .. } | Job::Lock { .. } | Job::Unlock { .. }
+        Job::Run { .. }
+            | Job::Backup { .. }
+            | Job::Restore { .. }
+            | Job::Lock { .. }
+            | Job::Unlock { .. }
+            | Job::Fixup { .. }
     )
 }
 

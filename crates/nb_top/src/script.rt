@@ -7,6 +7,7 @@ ghost use Rattle.nb_change.specs.Gave.{GaveNothing};
 ghost use Rattle.nb_page.specs.Quiet.{Quiet};
 ghost use Rattle.nb_model.specs.Account.{Account, Base};
 ghost use Rattle.nb_model.specs.Gifts.{Foretells};
+ghost use Rattle.nb_model.specs.Going.{IsMaking};
 ghost use Rattle.nb_model.specs.Lines.{line_text};
 ghost use Rattle.nb_model.specs.Outcomes.{Given};
 ghost use Rattle.nb_model.specs.Run.{Now, base_now, begun};
@@ -19,9 +20,9 @@ ghost use Rattle.nb_state.specs.Beginnings.{Attaches, Creates};
 ghost use Rattle.nb_script.specs.Asked.{IsFirst, IsAskable};
 ghost use Rattle.nb_session.specs.Acts.{Grows};
 ghost use Rattle.nb_session.specs.Causes.{CountsStop};
-ghost use Rattle.nb_session.specs.Ready.{IsReady, IsCalm};
+ghost use Rattle.nb_session.specs.Ready.{IsReady};
 ghost use Rattle.nb_session.specs.Says.{SaysLine};
-ghost use Rattle.nb_top.specs.Performed.{Knows, RunsTo, PlaysOpened, first_event, opened_reply, told_first, number_of};
+ghost use Rattle.nb_top.specs.Performed.{Knows, MayBeGiven, RunsTo, PlaysOpened, first_event, opened_reply, told_first, number_of};
 ghost use Rattle.nb_top.specs.Requests.{ToRun};
 
 use crate::Status;
@@ -142,11 +143,11 @@ fn run_opened<H: Host>(
 ) -> Result<bool, Stop>
     requires { IsAskable script.now }
     ensures plays { (now : Now) (start : Base) (strokes : List Stroke) → IsTrue H.tells → IsReady (H.world host.old) engine.old (settled_trail (base_now now)) now → now.todo ≡ begun script.now.sessions
-        → now.running ≡ None → IsCalm now → Foretells now.given (H.world host.old) (H.world host.new)
+        → IsMaking now → Foretells now.given (H.world host.old) (H.world host.new)
         → after_steps (settled_trail start) (steps_in (first_event script.now.first_session strokes (opened_reply script.now.first engine.old.files.count engine.old.files.state))) ≡ settled_trail (base_now now)
         → PlaysOpened result (H.world host.old) (H.world host.new) engine.old engine.new start
         (told_first is_quiet (first_event script.now.first_session strokes (opened_reply script.now.first engine.old.files.count engine.old.files.state))) now script.now }
-    ensures grows { (now : Now) → IsTrue H.tells → IsReady (H.world host.old) engine.old (settled_trail (base_now now)) now → now.todo ≡ begun script.now.sessions → now.running ≡ None → IsCalm now
+    ensures grows { (now : Now) → IsTrue H.tells → IsReady (H.world host.old) engine.old (settled_trail (base_now now)) now → now.todo ≡ begun script.now.sessions → IsMaking now
         → Grows (H.world host.old) (H.world host.new) }
     ensures cause { CountsStop result (H.faults host.old) (H.faults host.new) }
 {
@@ -175,7 +176,7 @@ pub fn run_script<H: Host>(
     is_quiet: bool,
 ) -> Result<Status, Stop>
     requires { IsAskable script.now }
-    ensures runs { (account : Account) (given : Given) → IsTrue H.tells → Knows (H.world host.old).files account (Ok (ToRun script.now is_quiet)) → Foretells given (H.world host.old) (H.world host.new)
+    ensures runs { (account : Account) (given : Given) → IsTrue H.tells → Knows (H.world host.old).files account (Ok (ToRun script.now is_quiet)) → MayBeGiven given → Foretells given (H.world host.old) (H.world host.new)
         → RunsTo result (H.world host.old) (H.world host.new) (Ok (ToRun script.now is_quiet)) account given }
     ensures grows { (account : Account) → IsTrue H.tells → Knows (H.world host.old).files account (Ok (ToRun script.now is_quiet)) → Grows (H.world host.old) (H.world host.new) }
     ensures done { IfOk result (λ status. (status ≡ Status.Done) ⊎ (status ≡ Status.Refused)) }

@@ -1,8 +1,10 @@
-use Rattle.std.proofs.Common.{sym, subst}
-use Rattle.std.specs.Prelude.{Ok}
+use Rattle.std.proofs.Common.{length, sym, subst}
+use Rattle.std.specs.Prelude.{Ok, nat_le}
+use Rattle.std.proofs.lemmas.Bool.{and_parts, leb-true}
+use Rattle.nb_model.specs.Words.{is_file}
 use Rattle.nb_session.proofs.GiftLaws.{grows_none}
 use Rattle.nb_top.specs.Performed.{RunsTo, Knows}
-use Rattle.nb_top.specs.Requests.{ToRestore, request_of}
+use Rattle.nb_top.specs.Requests.{FitsJob, ToRestore, request_of}
 use Rattle.nb_top.proofs.program.run_job.Goals as goal
 
 pub returns-in-Run-clause-runs : goal.returns-in-Run-clause-runs
@@ -27,6 +29,21 @@ returns-in-Restore-clause-runs g c account given tells knows told =
 
 pub returns-in-Restore-clause-grows : goal.returns-in-Restore-clause-grows
 returns-in-Restore-clause-grows g c account tells knows = grows_none (g.H.Host.world c.args.host.now) (g.H.Host.world c.run_restore.new.host) (c.run_restore.ensures.gave tells)
+
+pub run_fix-requires : goal.run_fix-requires
+run_fix-requires g c =
+    let db = c.in-Fixup.db in
+    leb-true (length db) 94 (and_parts (is_file db) (nat_le (length db) 94) (subst FitsJob c.in-Fixup.is c.requires.fits)).1
+
+pub returns-in-Fixup-clause-runs : goal.returns-in-Fixup-clause-runs
+returns-in-Fixup-clause-runs g c account given tells knows told =
+    let old = g.H.Host.world c.args.host.now in
+    let new = g.H.Host.world c.run_fix.new.host in
+    subst (λ job. RunsTo c.run_fix.result old new (request_of old.files job) account given) (sym c.in-Fixup.is)
+    (c.run_fix.ensures.runs account given tells (subst (λ job. Knows old.files account (request_of old.files job)) c.in-Fixup.is knows) told)
+
+pub returns-in-Fixup-clause-grows : goal.returns-in-Fixup-clause-grows
+returns-in-Fixup-clause-grows g c account tells knows = grows_none (g.H.Host.world c.args.host.now) (g.H.Host.world c.run_fix.new.host) (c.run_fix.ensures.gave tells)
 
 pub returns-in-Lock-clause-runs : goal.returns-in-Lock-clause-runs
 returns-in-Lock-clause-runs g c account given tells knows told =

@@ -25,4 +25,4 @@ returns-clause-turn g c s t tells same runs is free =
     copy_begun old new c.args.engine.now c.set_running.new.self t s c.args.session c.args.name.now c.check_copy.ensures.quiet runs copy (c.in_ok-check_copy.ensures.test s t tells same runs is free) same is c.in_ok-check_copy.ensures.stalled
     c.set_running.ensures
     (ap (λ (x : Copying). x.name) c.start.ensures ∙ c.in_ok-pages.ensures.name) (ap (λ (x : Copying). x.next) c.start.ensures ∙ c.in_ok-pages.ensures.next)
-    (ap (λ (x : Copying). x.count) c.start.ensures ∙ c.main_count-count.ensures) (ap (λ (x : Copying). x.size) c.start.ensures ∙ c.in_ok-pages.ensures.size ∙ c.page_size.ensures.value)
+    (ap (λ (x : Copying). x.count) c.start.ensures ∙ c.main_count.ensures.value) (ap (λ (x : Copying). x.size) c.start.ensures ∙ c.in_ok-pages.ensures.size ∙ c.page_size.ensures.value)

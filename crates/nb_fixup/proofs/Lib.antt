@@ -1,0 +1,5 @@
+pub mod AnswerLaws
+pub mod CauseLaws
+pub mod ImageLaws
+pub mod FixupLaws
+pub mod KeptLaws

@@ -1,0 +1,616 @@
+-- What holds between two turns holds behind each turn.
+use Rattle.std.proofs.Common.{◌≡◌, ◌≢◌, inl, inr, ◌⊎◌, ℕ, zero, suc, ◌-◌, ◌<◌, ◌≤◌, List, [], ◌∷◌, ◌++◌, length, map, drop, replicate, get_or, set, refl, sym, ap, subst, ◌∙◌, arith, append_assoc}
+use Rattle.std.specs.Prelude.{Bool, Option, Some, None, true, false, ◌==◌, ◌&&◌}
+use Rattle.std.specs.List.{AllByRecursion, slice_index_or}
+use Rattle.std.proofs.Math.ListN.{get_or-map}
+use Rattle.std.proofs.lemmas.Bool.{true≢false, eqb-true, eqb-false, leb-true}
+use Rattle.std.proofs.lemmas.Bool.Decides.{eqb_tells, leb_tells}
+use Rattle.std.proofs.lemmas.List.{get_or_past, get_or-set_same, get_or-set_other}
+use Rattle.nb_fields.specs.Header.{is_header}
+use Rattle.nb_host.specs.Names.{is_name}
+use Rattle.nb_host.specs.declared.refusals.Refusal.{Refusal}
+use Rattle.nb_model.specs.declared.reply.Reply.{Reply}
+use Rattle.nb_model.specs.declared.statement.Statement.{Statement}
+use Rattle.nb_model.specs.Account.{Base, Account, Ask}
+use Rattle.nb_model.specs.Backups.{room_in, close_backup, close_copy}
+use Rattle.nb_model.specs.Built.{is_built}
+use Rattle.nb_model.specs.Causes.{is_free_entry, runs_other}
+use Rattle.nb_model.specs.Going.{IsBeginning, AreBeginnings, AreMerging, IsNamed, AreNamed, HasRoom, Runs, IsAt, waits, backs_up, copies, ends as ending, merges, IsGoing, IsMaking}
+use Rattle.nb_model.specs.Image.{Page, Image, first_page, image_state}
+use Rattle.nb_model.specs.Outcomes.{Turn, Begins, Copies, ClosesBackup, ClosesCopy, Ends, Merges, Finishes, Backing, Seen, Outcome, Given, next_guid, passes}
+use Rattle.nb_model.specs.Pages.{ends_by, end_strokes}
+use Rattle.nb_model.specs.Run.{Now, Played, base_now, account_after, outcome, stands_then, take_turn, one_turn, play, event_of, begun, files_made}
+use Rattle.nb_model.specs.Sound.{HasHeader, IsSoundImage}
+use Rattle.nb_model.specs.Strokes.{Stroke, begin, ends, on_base, base_after}
+use Rattle.nb_model.specs.Turns.{first_turn, turn}
+use Rattle.nb_model.specs.Well.{is_on_pages}
+use Rattle.nb_model.proofs.FinishLaws.{IsPlainTurn, ArePlain}
+use Rattle.nb_model.proofs.FitLaws.{AreFitting, Stays, fitting_stays}
+use Rattle.nb_model.proofs.OpeningLaws.{after_others}
+use Rattle.nb_model.proofs.PagesFit.{HasNoRows, pages_fit}
+use Rattle.nb_model.proofs.PutSound.{header_whole}
+use Rattle.nb_model.proofs.RoomLaws.{AnyPage, room_with}
+use Rattle.nb_model.proofs.RunLaws.{turn_stands}
+use Rattle.nb_model.proofs.SoundTurns.{StaysSound, fitting_keeps, begin_keeps, ends_keep, finish_keeps, IsStarted, start_keeps, HasPlace, close_fits, seen_now}
+use Rattle.nb_model.proofs.TurnCases.{MayBegin, MayEnd, MayStart, MayCopy, refused, started, copied, IsOnce, refused_once, built_cases, begin_either, end_either, its_own, backup_either, copy_either, pages_once}
+use Rattle.nb_model.proofs.TurnCases as cases
+use Rattle.nb_model.proofs.UnseenLaws.{free_unseen}
+
+-- the GUIDs that may still be given have 16 bytes
+abbrev AreSixteen : List (List ℕ) → Type 0
+AreSixteen guids = AllByRecursion (λ (guid : List ℕ). length guid ≡ 16) guids
+
+pub next_sixteen : (given : Given) → AreSixteen given.guids → length (next_guid given) ≡ 16
+next_sixteen given all = by given.guids all
+  where
+    by : (guids : List (List ℕ)) → AreSixteen guids → length (slice_index_or guids 0 (replicate 16 0)) ≡ 16
+    by [] h = refl
+    by (g ∷ gs) h = h.0
+
+rest_sixteen : (guids : List (List ℕ)) → AreSixteen guids → AreSixteen (drop 1 guids)
+rest_sixteen [] h = h
+rest_sixteen (g ∷ gs) h = h.1
+
+some_same : (m n : ℕ) → Some m ≡ Some n → m ≡ n
+some_same m n e = cc
+
+-- one session at most runs
+pub one_runs : (now : Now) (place other m n : ℕ) → Runs now place m → Runs now other n → place ≡ other
+one_runs now place other m n a b = sym a.its ∙ ap (λ (x : ℕ). x - 1) (some_same a.by b.by (sym a.running ∙ b.running)) ∙ b.its
+
+-- the name of the database isn't free
+pub own_in_use : (now : Now) → IsGoing now → is_free_entry (now.account.entry now.name) ≡ true → ⊥
+own_in_use now going free = free_unseen (now.account.entry now.name) free going.header.header going.state
+
+-- What stands behind an outcome.
+module _ (session : ℕ) (rest : List Turn) (o : Outcome) (now : Now) where
+  abbrev pub then : Now
+  then = stands_then session rest o now
+
+  pub then_base : base_now then ≡ base_after (base_now now) o.strokes
+  then_base = turn_stands session rest o now
+
+  pub then_running : then.running ≡ o.running
+  unfolding stands_then
+  then_running = refl
+
+  then_given : then.given ≡ o.given
+  unfolding stands_then
+  then_given = refl
+
+  pub then_todo : then.todo ≡ set now.todo (session - 1) (o.next ++ rest)
+  unfolding stands_then
+  then_todo = refl
+
+  then_account : then.account ≡ account_after now.name o.strokes o.made now.account
+  unfolding stands_then
+  then_account = refl
+
+  -- a name that is free stays so, where no file is made
+  free_then : IsGoing now → o.made ≡ None → (name : List ℕ) → is_free_entry (now.account.entry name) ≡ true → is_free_entry (then.account.entry name) ≡ true
+  free_then going none name free =
+      ap (λ (a : Account). is_free_entry (a.entry name)) (then_account ∙ ap (λ (made : Option (List ℕ × List ℕ)). account_after now.name o.strokes made now.account) none)
+      ∙ ap is_free_entry (after_others now.name o.strokes now.account name (λ same. own_in_use now going (subst (λ (n : List ℕ). is_free_entry (now.account.entry n) ≡ true) same free))) ∙ free
+
+  runs_then : (place by number : ℕ) → o.running ≡ Some by → by - 1 ≡ place → image_state (base_after (base_now now) o.strokes).image ≡ number → Runs then place number
+  runs_then place by number running its state = record { by = by; running = then_running ∙ running; its = its; state = ap (λ (b : Base). image_state b.image) then_base ∙ state }
+
+  room_then : (p slot : ℕ) → HasRoom (base_after (base_now now) o.strokes).image p slot → HasRoom (base_now then).image p slot
+  room_then p slot room = subst (λ (b : Base). HasRoom b.image p slot) (sym then_base) room
+
+-- What a turn leaves of a copy or a merge of another session: all that it rests on.
+pub record OthersStay (now : Now) (o : Outcome) : Type 0 where
+  pub running : o.running ≡ now.running
+  pub state : image_state (base_after (base_now now) o.strokes).image ≡ image_state (base_now now).image
+  pub frozen : (base_after (base_now now) o.strokes).frozen ≡ (base_now now).frozen
+  pub made : o.made ≡ None
+
+-- what is frozen stays so in the stalled state, or is the image as it becomes
+abbrev pub IsFrozenThen : Base → Base → Type 0
+IsFrozenThen old new = ((image_state old.image ≡ 1) × (new.frozen ≡ old.frozen)) ⊎ (new.frozen ≡ new.image)
+
+-- What a turn does where it comes.
+pub record IsStep (now : Now) (session : ℕ) (o : Outcome) (rest : List Turn) : Type 0 where
+  pub keeps : StaysSound (base_now now) (base_after (base_now now) o.strokes)
+  pub state : image_state (base_after (base_now now) o.strokes).image ≤ 2
+  pub frozen : image_state (base_after (base_now now) o.strokes).image ≡ 1 → IsFrozenThen (base_now now) (base_after (base_now now) o.strokes)
+  pub sixteen : AreSixteen o.given.guids
+  pub own : IsAt (stands_then session rest o now) (session - 1) (o.next ++ rest)
+  pub others : (other number : ℕ) → other ≢ session - 1 → 1 ≤ number → Runs now other number → OthersStay now o
+
+merge_turns : (n : ℕ) (reply : Reply) (rest : List Turn) → AreBeginnings rest → AreMerging ((replicate n Merges ++ Finishes reply ∷ []) ++ rest)
+merge_turns zero reply rest all = all
+merge_turns (suc n) reply rest all = merge_turns n reply rest all
+
+begun_frozen : (b : Base) (guid : List ℕ) (ask : Option Ask) → (base_after b (begin guid ask ∷ [])).frozen ≡ (base_after b (begin guid ask ∷ [])).image
+unfolding base_after on_base
+begun_frozen b guid ask = refl
+
+no_more : (b : Base) → base_after b [] ≡ b
+unfolding base_after
+no_more b = refl
+
+module _ (session : ℕ) (now : Now) (going : IsGoing now) where
+  abbrev s : Seen
+  s = seen_now now
+
+  abbrev b : Base
+  b = base_now now
+
+  -- It writes pages that fit.
+  module _ (rest : List Turn) (o : Outcome) (K : Page → Type 0) (fits : AreFitting K b o.strokes) where
+    stays : Stays b (base_after b o.strokes)
+    stays = fitting_stays K o.strokes b fits (header_whole b.image going.header going.sound)
+
+    fitting_step : o.given.guids ≡ s.given.guids → IsAt (stands_then session rest o now) (session - 1) (o.next ++ rest)
+        → ((other number : ℕ) → other ≢ session - 1 → Runs now other number → (o.running ≡ s.running) × (o.made ≡ None)) → IsStep now session o rest
+    fitting_step given own others = record {
+      keeps = fitting_keeps K o.strokes b fits going.header going.sound;
+      state = omega (arith, stays.state, going.state);
+      frozen = λ stalled. inl (sym stays.state ∙ stalled, stays.frozen);
+      sixteen = subst AreSixteen (sym given) going.sixteen;
+      own = own;
+      others = λ other number off some runs. let both = others other number off runs in record { running = both.0; state = stays.state; frozen = stays.frozen; made = both.1 };
+    }
+
+    once_step : IsOnce s o → AreBeginnings rest → IsStep now session o rest
+    once_step once all = fitting_step (ap (λ (g : Given). g.guids) once.given) (waits (subst (λ (ts : List Turn). AreBeginnings (ts ++ rest)) (sym once.next) all)) (λ other number off runs. (once.running, once.made))
+
+  -- It is refused.
+  refused_step : (rest : List Turn) → AreBeginnings rest → (r : Refusal) → IsStep now session (refused s r) rest
+  refused_step rest all r = once_step rest (refused s r) AnyPage tt (refused_once s r) all
+
+  pages_step : (rest : List Turn) (statement : Statement) → is_built statement ≡ true → is_on_pages statement ≡ true → AreBeginnings rest → IsStep now session (first_turn s session statement) rest
+  pages_step rest statement is on all =
+      once_step rest (first_turn s session statement) HasNoRows (pages_fit statement on s session going.header going.sound) (pages_once statement is on s session) all
+
+  -- no copy and no merge is under way in the normal state
+  none_runs : image_state b.image ≡ 0 → (other number : ℕ) → 1 ≤ number → Runs now other number → ⊥
+  none_runs normal other number some runs = omega (arith, normal, some, runs.state)
+
+  begun_step : (rest : List Turn) → AreBeginnings rest → MayBegin b.image → IsStep now session (cases.begun s) rest
+  begun_step rest all may =
+      let keeps = begin_keeps b (next_guid s.given) None going.header going.sound may.scn (next_sixteen s.given going.sixteen) in
+      record {
+        keeps = keeps.0;
+        state = omega (arith, keeps.1);
+        frozen = λ stalled. inr (begun_frozen b (next_guid s.given) None);
+        sixteen = rest_sixteen s.given.guids going.sixteen;
+        own = waits all;
+        others = λ other number off some runs. absurd (none_runs may.normal other number some runs);
+      }
+
+  -- the merge begins
+  ended_step : (rest : List Turn) → AreBeginnings rest → (reply : Reply) → image_state b.image ≢ 0 → ((other number : ℕ) → other ≢ session - 1 → Runs now other number → ⊥) → IsStep now session (ends_by s session reply) rest
+  unfolding ends_by end_strokes
+  ended_step rest all reply some alone = by (image_state b.image == 1) refl
+    where
+      ended : List Stroke → Outcome
+      ended ss = record { strokes = ss; reply = None; next = replicate (length b.diverted) Merges ++ Finishes reply ∷ []; running = Some session; made = None; given = s.given }
+
+      with_strokes : (ss : List Stroke) → StaysSound b (base_after b ss) → image_state (base_after b ss).image ≡ 2 → IsStep now session (ended ss) rest
+      with_strokes ss keeps state = record {
+        keeps = keeps;
+        state = omega (arith, state);
+        frozen = λ stalled. absurd (omega (arith, state, stalled));
+        sixteen = going.sixteen;
+        own = merges (merge_turns (length b.diverted) reply rest all) (runs_then session rest (ended ss) now (session - 1) session 2 refl refl state);
+        others = λ other number off some runs. absurd (alone other number off runs);
+      }
+
+      by : (test : Bool) → (image_state b.image == 1) ≡ test → IsStep now session (ended (elim test as (λ z. List Stroke) [ true ↦ ends ∷ [] | false ↦ [] ])) rest
+      by true is = let keeps = ends_keep b going.header going.sound (eqb-true (image_state b.image) 1 is) in with_strokes (ends ∷ []) keeps.0 keeps.1
+      by false is =
+          let two : image_state b.image ≡ 2 = omega (arith, some, going.state, eqb-false (image_state b.image) 1 is) in
+          with_strokes [] (fitting_keeps AnyPage [] b tt going.header going.sound) (ap (λ (x : Base). image_state x.image) (no_more b) ∙ two)
+
+  -- the backup begins
+  started_step : (rest : List Turn) → AreBeginnings rest → (name : List ℕ) (ask : Ask) → MayStart s name → IsStep now session (started s session name ask) rest
+  started_step rest all name ask may =
+      let o : Outcome = started s session name ask in
+      let is : IsStarted b (base_after b o.strokes) (room_in b.image).page (room_in b.image).slot = start_keeps s session name ask going.header going.sound may (next_sixteen s.given going.sixteen) in
+      record {
+        keeps = is.keeps;
+        state = omega (arith, is.state);
+        frozen = λ stalled. inr is.frozen;
+        sixteen = rest_sixteen s.given.guids going.sixteen;
+        own = backs_up (length (room_in b.image).draft.image) _ rest (append_assoc (replicate (length (room_in b.image).draft.image) Copies) _ rest) all
+            (runs_then session rest o now (session - 1) session 1 refl refl is.state) (room_then session rest o now (room_in b.image).page (room_in b.image).slot is.room)
+            (free_then session rest o now going refl name may.free);
+        others = λ other number off some runs. absurd (none_runs may.may.normal other number some runs);
+      }
+
+  -- the copy begins
+  copied_step : (rest : List Turn) → AreBeginnings rest → (name : List ℕ) → MayCopy s name → IsStep now session (copied s session name) rest
+  copied_step rest all name may = fitting_step rest (copied s session name) AnyPage tt refl
+      (copies (length b.frozen) name rest (append_assoc (replicate (length b.frozen) Copies) (ClosesCopy name ∷ []) rest) all
+      (runs_then session rest (copied s session name) now (session - 1) session 1 refl refl (ap (λ (x : Base). image_state x.image) (no_more b) ∙ may.stalled))
+      (free_then session rest (copied s session name) now going refl name may.free))
+      (λ other number off runs. absurd (none_some runs.by (sym may.alone ∙ runs.running)))
+    where
+      none_some : (by : ℕ) → None ≡ Some by → ⊥
+      none_some by e = cc
+
+  pub first_step : (rest : List Turn) → AreBeginnings rest → (statement : Statement) → is_built statement ≡ true → IsStep now session (first_turn s session statement) rest
+  unfolding first_turn
+  first_step rest all = built_cases (λ x. IsStep now session (first_turn s session x) rest)
+      (λ x is on. pages_step rest x is on all)
+      (begin_either Step s (refused_step rest all) (begun_step rest all))
+      (end_either Step s session (refused_step rest all) (λ may. ended_step rest all _ may.other (alone may)))
+      (λ level name. backup_either Step s session level name (refused_step rest all) (λ from is may. started_step rest all name _ may))
+      (λ name. copy_either Step s session name (refused_step rest all) (copied_step rest all name))
+    where
+      Step : Outcome → Type 0
+      Step o = IsStep now session o rest
+
+      alone : MayEnd s session → (other number : ℕ) → other ≢ session - 1 → Runs now other number → ⊥
+      alone may other number off runs = off (sym runs.its ∙ ap (λ (x : ℕ). x - 1) (its_own runs.by session (sym (ap (λ (r : Option ℕ). runs_other r session) runs.running) ∙ may.alone)))
+
+  given_is : (backing : Backing) → (close_backup s backing).given.guids ≡ s.given.guids
+  unfolding close_backup
+  given_is backing = refl
+
+  running_is : (backing : Backing) → (close_backup s backing).running ≡ s.running
+  unfolding close_backup
+  running_is backing = refl
+
+  closing : (backing : Backing) (rest : List Turn) → AreBeginnings rest → Runs (stands_then session rest (close_backup s backing) now) (session - 1) 1
+      → IsAt (stands_then session rest (close_backup s backing) now) (session - 1) ((close_backup s backing).next ++ rest)
+  unfolding close_backup
+  closing backing rest all runs = ending _ rest refl all runs
+
+  -- The session itself runs.
+  module _ (number : ℕ) (runs : Runs now (session - 1) number) where
+    only_one : (other m : ℕ) → other ≢ session - 1 → Runs now other m → ⊥
+    only_one other m off its = off (one_runs now other (session - 1) m number its runs)
+
+    -- a page is copied, or an entry merged
+    still_runs : (rest : List Turn) → Runs (stands_then session rest (passes s) now) (session - 1) number
+    still_runs rest = runs_then session rest (passes s) now (session - 1) runs.by number runs.running runs.its (ap (λ (x : Base). image_state x.image) (no_more b) ∙ runs.state)
+
+    passed_step : (rest : List Turn) → IsAt (stands_then session rest (passes s) now) (session - 1) rest → IsStep now session (passes s) rest
+    passed_step rest own = fitting_step rest (passes s) AnyPage tt refl own (λ other m off its. (refl, refl))
+
+    -- the level file is whole, and its row is written
+    closed_step : (backing : Backing) (rest : List Turn) → number ≡ 1 → AreBeginnings rest → HasPlace b.image backing → IsStep now session (close_backup s backing) rest
+    closed_step backing rest one all place = fitting_step rest (close_backup s backing) AnyPage fits (given_is backing) own (λ other m off its. absurd (only_one other m off its))
+      where
+        fits : AreFitting AnyPage b (close_backup s backing).strokes
+        fits = close_fits s backing going.header going.sound place
+
+        own : IsAt (stands_then session rest (close_backup s backing) now) (session - 1) ((close_backup s backing).next ++ rest)
+        own = closing backing rest all (runs_then session rest (close_backup s backing) now (session - 1) runs.by 1 (running_is backing ∙ runs.running) runs.its
+            ((fitting_stays AnyPage (close_backup s backing).strokes b fits (header_whole b.image going.header going.sound)).state ∙ runs.state ∙ one))
+
+    finished_step : (reply : Reply) (rest : List Turn) → AreBeginnings rest → IsStep now session (outcome session (Finishes reply) now) rest
+    unfolding outcome turn
+    finished_step reply rest all =
+        let keeps = finish_keeps b going.header going.sound in
+        record {
+          keeps = keeps.0;
+          state = omega (arith, keeps.1);
+          frozen = λ stalled. absurd (omega (arith, keeps.1, stalled));
+          sixteen = going.sixteen;
+          own = waits all;
+          others = λ other m off some its. absurd (only_one other m off its);
+        }
+
+-- a name has 100 bytes at most
+pub name_short : (name : List ℕ) → is_name name ≡ true → length name ≤ 100
+name_short name is = leb-true (length name) 100 (second _ _ _ is)
+  where
+    second : (a b c : Bool) → (a && b && c) ≡ true → b ≡ true
+    second true true c k = refl
+    second true false c k = absurd (true≢false (sym k))
+    second false b c k = absurd (true≢false (sym k))
+
+-- The turn that a session has next.
+module _ (session : ℕ) (now : Now) (going : IsGoing now) where
+  abbrev Steps : Turn → List Turn → Type 0
+  Steps u rest = IsStep now session (outcome session u now) rest
+
+  step_as : (u v : Turn) (rest tail : List Turn) → u ∷ rest ≡ v ∷ tail → Steps v tail → Steps u rest
+  step_as u v rest tail e step =
+      let head : v ≡ u = cc in
+      let behind : tail ≡ rest = cc in
+      subst (λ (x : Turn). Steps x rest) head (subst (Steps v) behind step)
+
+  beginning_step : (u : Turn) (rest : List Turn) → AreBeginnings (u ∷ rest) → Steps u rest
+  unfolding outcome turn
+  beginning_step (Begins statement) rest all = first_step session now going rest all.1 statement all.0
+  beginning_step other rest all = absurd all.0
+
+  copying_step : (rest : List Turn) → Runs now (session - 1) 1 → IsAt (stands_then session rest (passes (seen_now now)) now) (session - 1) rest → Steps Copies rest
+  unfolding outcome turn
+  copying_step rest runs own = passed_step session now going 1 runs rest own
+
+  backup_step : (left : ℕ) (backing : Backing) (u : Turn) (rest tail : List Turn) → u ∷ rest ≡ replicate left Copies ++ ClosesBackup backing ∷ tail → AllByRecursion IsNamed (u ∷ rest) → AreBeginnings tail
+      → Runs now (session - 1) 1 → HasRoom (base_now now).image backing.page backing.slot → is_free_entry (now.account.entry backing.name) ≡ true → Steps u rest
+  unfolding outcome turn
+  backup_step zero backing u rest tail e named all runs room free =
+      let is : IsNamed (ClosesBackup backing) = (subst (AllByRecursion IsNamed) e named).0 in
+      step_as u (ClosesBackup backing) rest tail e
+      (closed_step session now going 1 runs backing tail refl all (record { room = room; sixteen = is.1; short = let short = name_short backing.name is.0 in omega (arith, short) }))
+  backup_step (suc left) backing u rest tail e named all runs room free =
+      let behind : List Turn = replicate left Copies ++ ClosesBackup backing ∷ tail in
+      step_as u Copies rest behind e (copying_step behind runs
+      (backs_up left backing tail refl all (still_runs session now going 1 runs behind)
+      (room_then session behind (passes (seen_now now)) now backing.page backing.slot (subst (λ (x : Base). HasRoom x.image backing.page backing.slot) (sym (no_more (base_now now))) room))
+      (free_then session behind (passes (seen_now now)) now going refl backing.name free)))
+
+  copy_step : (left : ℕ) (name : List ℕ) (u : Turn) (rest tail : List Turn) → u ∷ rest ≡ replicate left Copies ++ ClosesCopy name ∷ tail → AreBeginnings tail
+      → Runs now (session - 1) 1 → is_free_entry (now.account.entry name) ≡ true → Steps u rest
+  unfolding outcome turn close_copy
+  copy_step zero name u rest tail e all runs free =
+      step_as u (ClosesCopy name) rest tail e
+      (fitting_step session now going tail (close_copy (seen_now now) name) AnyPage tt refl (waits all) (λ other m off its. absurd (only_one session now going 1 runs other m off its)))
+  copy_step (suc left) name u rest tail e all runs free =
+      let behind : List Turn = replicate left Copies ++ ClosesCopy name ∷ tail in
+      step_as u Copies rest behind e
+      (copying_step behind runs (copies left name tail refl all (still_runs session now going 1 runs behind) (free_then session behind (passes (seen_now now)) now going refl name free)))
+
+  merging_step : (u : Turn) (rest : List Turn) → AreMerging (u ∷ rest) → Runs now (session - 1) 2 → Steps u rest
+  unfolding outcome turn
+  merging_step Merges rest turns runs = passed_step session now going 2 runs rest (merges turns (still_runs session now going 2 runs rest))
+  merging_step (Finishes reply) rest turns runs = finished_step session now going 2 runs reply rest turns
+  merging_step other rest turns runs = absurd turns
+
+  pub turn_step : (u : Turn) (rest : List Turn) → IsAt now (session - 1) (u ∷ rest) → AllByRecursion IsNamed (u ∷ rest) → Steps u rest
+  unfolding outcome turn
+  turn_step u rest (waits all) named = beginning_step u rest all
+  turn_step u rest (backs_up left backing tail e all runs room free) named = backup_step left backing u rest tail e named all runs room free
+  turn_step u rest (copies left name tail e all runs free) named = copy_step left name u rest tail e all runs free
+  turn_step u rest (ending reply tail e all runs) named =
+      step_as u (Ends reply) rest tail e (ended_step session now going tail all reply (λ e. absurd (omega (arith, e, runs.state))) (only_one session now going 1 runs))
+  turn_step u rest (merges turns runs) named = merging_step u rest turns runs
+
+-- What stands behind it: what its session has still to do, and the others.
+module _ (session : ℕ) (now : Now) (u : Turn) (rest : List Turn) (is : get_or now.todo (session - 1) [] ≡ u ∷ rest) (o : Outcome) where
+  inside : session - 1 < length now.todo
+  inside = elim (leb_tells (length now.todo) (session - 1)) [
+    | inl low ↦ absurd (none_some (sym (get_or_past now.todo (session - 1) [] low.1) ∙ is))
+    | inr low ↦ omega (arith, low.1)
+  ]
+    where
+      none_some : [] ≡ u ∷ rest → ⊥
+      none_some e = absurd (let long = ap length e in omega arith)
+
+  pub own_todo : get_or (stands_then session rest o now).todo (session - 1) [] ≡ o.next ++ rest
+  own_todo = ap (λ (todo : List (List Turn)). get_or todo (session - 1) []) (then_todo session rest o now) ∙ get_or-set_same now.todo (session - 1) (o.next ++ rest) [] inside
+
+  pub other_todo : (place : ℕ) → place ≢ session - 1 → get_or (stands_then session rest o now).todo place [] ≡ get_or now.todo place []
+  other_todo place off = ap (λ (todo : List (List Turn)). get_or todo place []) (then_todo session rest o now) ∙ get_or-set_other now.todo (session - 1) place (o.next ++ rest) [] off
+
+module _ (session : ℕ) (now : Now) (going : IsGoing now) (u : Turn) (rest : List Turn) (is : get_or now.todo (session - 1) [] ≡ u ∷ rest) (o : Outcome) (step : IsStep now session o rest) where
+  abbrev last : Now
+  last = stands_then session rest o now
+
+  module _ (place : ℕ) (off : place ≢ session - 1) where
+    stays_running : (number : ℕ) → 1 ≤ number → Runs now place number → Runs last place number
+    stays_running number some runs =
+        let stay : OthersStay now o = step.others place number off some runs in
+        runs_then session rest o now place runs.by number (stay.running ∙ runs.running) runs.its (stay.state ∙ runs.state)
+
+    at_stays : (ts : List Turn) → IsAt now place ts → IsAt last place ts
+    at_stays ts (waits all) = waits all
+    at_stays ts (backs_up left backing tail e all runs room free) =
+        backs_up left backing tail e all (stays_running 1 (omega arith) runs)
+        (room_then session rest o now backing.page backing.slot (room_with (base_now now).image (base_after (base_now now) o.strokes).image backing.page backing.slot step.keeps.size step.keeps.longer room))
+        (free_then session rest o now going (step.others place 1 off (omega arith) runs).made backing.name free)
+    at_stays ts (copies left name tail e all runs free) =
+        copies left name tail e all (stays_running 1 (omega arith) runs) (free_then session rest o now going (step.others place 1 off (omega arith) runs).made name free)
+    at_stays ts (ending reply tail e all runs) = ending reply tail e all (stays_running 1 (omega arith) runs)
+    at_stays ts (merges turns runs) = merges turns (stays_running 2 (omega arith) runs)
+
+  frozen_keeps : (P : Image → Type 0) → IsFrozenThen (base_now now) (base_after (base_now now) o.strokes) → (image_state (base_now now).image ≡ 1 → P (base_now now).frozen) → P (base_after (base_now now) o.strokes).image
+      → P (base_after (base_now now) o.strokes).frozen
+  frozen_keeps P (inl same) before new = subst P (sym same.1) (before same.0)
+  frozen_keeps P (inr now_it) before new = subst P (sym now_it) new
+
+  stalled_then : (image_state (base_now now).image ≡ 1 → image_state (base_now now).frozen ≡ 1) → image_state (base_now last).image ≡ 1 → image_state (base_now last).frozen ≡ 1
+  stalled_then before = subst (λ (x : Base). image_state x.image ≡ 1 → image_state x.frozen ≡ 1) (sym (then_base session rest o now))
+      (λ stalled. frozen_keeps (λ image. image_state image ≡ 1) (step.frozen stalled) before stalled)
+
+  pub going_then : IsGoing last
+  going_then = record {
+    header = subst (λ (x : Base). HasHeader x.image) (sym base) step.keeps.header;
+    sound = subst (λ (x : Base). IsSoundImage x.image) (sym base) step.keeps.sound;
+    state = subst (λ (x : Base). image_state x.image ≤ 2) (sym base) step.state;
+    frozen = subst (λ (x : Base). image_state x.image ≡ 1 → is_header (first_page x.frozen) ≡ true) (sym base)
+        (λ stalled. frozen_keeps (λ image. is_header (first_page image) ≡ true) (step.frozen stalled) going.frozen step.keeps.header.header);
+    each = λ place. elim (eqb_tells place (session - 1)) [
+      | inl w ↦ subst (λ (p : ℕ). IsAt last p (get_or last.todo p [])) (sym w.1) (subst (IsAt last (session - 1)) (sym (own_todo session now u rest is o)) step.own)
+      | inr w ↦ subst (IsAt last place) (sym (other_todo session now u rest is o place w.1)) (at_stays place w.1 (get_or now.todo place []) (going.each place))
+    ];
+    sixteen = subst (λ (g : Given). AreSixteen g.guids) (sym (then_given session rest o now)) step.sixteen;
+  }
+    where
+      base : base_now last ≡ base_after (base_now now) o.strokes
+      base = then_base session rest o now
+
+-- One number of an order: the session has finished, or takes its next turn.
+pub one_cases : (P : Played → Type 0) (session : ℕ) (now : Now) → P ([], now)
+    → ((u : Turn) (rest : List Turn) → get_or now.todo (session - 1) [] ≡ u ∷ rest → P (event_of session u (outcome session u now) ∷ [], stands_then session rest (outcome session u now) now)) → P (one_turn session now)
+unfolding one_turn take_turn
+one_cases P session now idle takes = by (get_or now.todo (session - 1) []) refl
+  where
+    by : (ts : List Turn) → get_or now.todo (session - 1) [] ≡ ts → P (take_turn session ts now)
+    by [] is = idle
+    by (u ∷ rest) is = takes u rest is
+
+module _ (session : ℕ) (now : Now) (named : AreNamed now) (going : IsGoing now) where
+  pub next_step : (u : Turn) (rest : List Turn) → get_or now.todo (session - 1) [] ≡ u ∷ rest → IsStep now session (outcome session u now) rest
+  next_step u rest is = turn_step session now going u rest (subst (IsAt now (session - 1)) is (going.each (session - 1))) (subst (AllByRecursion IsNamed) is (named (session - 1)))
+
+  -- So it goes on.
+  pub going_turn : IsGoing (one_turn session now).1
+  going_turn = one_cases (λ p. IsGoing p.1) session now going (λ u rest is. going_then session now going u rest is (outcome session u now) (next_step u rest is))
+
+-- What is to come are turns of statements that can be asked.
+all_plain : (ts : List Turn) → AreBeginnings ts → AllByRecursion IsPlainTurn ts
+all_plain [] all = tt
+all_plain (t ∷ ts) all = (one t all.0, all_plain ts all.1)
+  where
+    one : (t : Turn) → IsBeginning t → IsPlainTurn t
+    one (Begins statement) h = h
+    one other h = absurd h
+
+many : (P : Turn → Type 0) (n : ℕ) (t : Turn) (ts : List Turn) → P t → AllByRecursion P ts → AllByRecursion P (replicate n t ++ ts)
+many P zero t ts h all = all
+many P (suc n) t ts h all = (h, many P n t ts h all)
+
+merging_plain : (ts : List Turn) → AreMerging ts → AllByRecursion IsPlainTurn ts
+merging_plain (Merges ∷ ts) turns = (tt, merging_plain ts turns)
+merging_plain (Finishes reply ∷ ts) turns = (tt, all_plain ts turns)
+merging_plain other turns = absurd turns
+
+at_plain : (now : Now) (place : ℕ) (ts : List Turn) → IsAt now place ts → AllByRecursion IsPlainTurn ts
+at_plain now place ts (waits all) = all_plain ts all
+at_plain now place ts (backs_up left backing tail e all runs room free) = subst (AllByRecursion IsPlainTurn) (sym e) (many IsPlainTurn left Copies (ClosesBackup backing ∷ tail) tt (tt, all_plain tail all))
+at_plain now place ts (copies left name tail e all runs free) = subst (AllByRecursion IsPlainTurn) (sym e) (many IsPlainTurn left Copies (ClosesCopy name ∷ tail) tt (tt, all_plain tail all))
+at_plain now place ts (ending reply tail e all runs) = subst (AllByRecursion IsPlainTurn) (sym e) (tt, all_plain tail all)
+at_plain now place ts (merges turns runs) = merging_plain ts turns
+
+pub going_plain : (now : Now) → IsGoing now → ArePlain now
+going_plain now going place = at_plain now place (get_or now.todo place []) (going.each place)
+
+-- The files that are still to be made have names.
+module _ (session : ℕ) (s : Seen) (sixteen : length (next_guid s.given) ≡ 16) where
+  abbrev Names : Outcome → Type 0
+  Names o = AllByRecursion IsNamed o.next
+
+  merging_named : (reply : Reply) → Names (ends_by s session reply)
+  unfolding ends_by
+  merging_named reply = many IsNamed (length s.base.diverted) Merges (Finishes reply ∷ []) tt (tt, tt)
+
+  first_named : (statement : Statement) → is_built statement ≡ true → IsNamed (Begins statement) → Names (first_turn s session statement)
+  unfolding first_turn
+  first_named = built_cases (λ x. IsNamed (Begins x) → Names (first_turn s session x))
+      (λ x is on named. subst (AllByRecursion IsNamed) (sym (pages_once x is on s session).next) tt)
+      (λ named. begin_either Names s (λ r. tt) (λ may. tt))
+      (λ named. end_either Names s session (λ r. tt) (λ may. merging_named _))
+      (λ level name named. backup_either Names s session level name (λ r. tt) (λ from is may. many IsNamed (length (room_in s.base.image).draft.image) Copies _ tt ((named, sixteen), tt)))
+      (λ name named. copy_either Names s session name (λ r. tt) (λ may. many IsNamed (length s.base.frozen) Copies (ClosesCopy name ∷ []) tt (named, tt)))
+
+  next_named : (u : Turn) → IsPlainTurn u → IsNamed u → Names (turn s session u)
+  unfolding turn close_backup close_copy
+  next_named (Begins statement) plain named = first_named statement plain named
+  next_named (Ends reply) plain named = merging_named reply
+  next_named Copies plain named = tt
+  next_named (ClosesBackup backing) plain named = (tt, tt)
+  next_named (ClosesCopy name) plain named = tt
+  next_named Merges plain named = tt
+  next_named (Finishes reply) plain named = tt
+
+named_append : (xs ys : List Turn) → AllByRecursion IsNamed xs → AllByRecursion IsNamed ys → AllByRecursion IsNamed (xs ++ ys)
+named_append [] ys a b = b
+named_append (x ∷ xs) ys a b = (a.0, named_append xs ys a.1 b)
+
+pub named_turn : (session : ℕ) (now : Now) → AreNamed now → IsGoing now → AreNamed (one_turn session now).1
+unfolding outcome
+named_turn session now named going = one_cases (λ p. AreNamed p.1) session now named (λ u rest is place.
+    let step : IsStep now session (outcome session u now) rest = next_step session now named going u rest is in
+    let o : Outcome = outcome session u now in
+    let here : AllByRecursion IsNamed (u ∷ rest) = subst (AllByRecursion IsNamed) is (named (session - 1)) in
+    let plain : AllByRecursion IsPlainTurn (u ∷ rest) = subst (AllByRecursion IsPlainTurn) is (going_plain now going (session - 1)) in
+    let after : Now = stands_then session rest o now in
+    elim (eqb_tells place (session - 1)) [
+      | inl w ↦ subst (λ (p : ℕ). AllByRecursion IsNamed (get_or after.todo p [])) (sym w.1)
+          (subst (AllByRecursion IsNamed) (sym (own_todo session now u rest is o))
+          (named_append o.next rest (next_named session (seen_now now) (next_sixteen now.given going.sixteen) u plain.0 here.0) here.1))
+      | inr w ↦ subst (AllByRecursion IsNamed) (sym (other_todo session now u rest is o place w.1)) (named place)
+    ])
+
+-- It goes on behind turns in an order.
+pub going_play : (order : List ℕ) (now : Now) → AreNamed now → IsGoing now → IsGoing (play order now).1 × AreNamed (play order now).1
+unfolding play
+going_play [] now named going = (going, named)
+going_play (x ∷ xs) now named going = going_play xs (one_turn x now).1 (named_turn x now named going) (going_turn x now named going)
+
+-- So do the files that are to be made.
+pub making_turn : (session : ℕ) (now : Now) → IsMaking now → IsMaking (one_turn session now).1
+making_turn session now m = record {
+  going = going_turn session now m.named m.going;
+  named = named_turn session now m.named m.going;
+  stalled = one_cases (λ p. image_state (base_now p.1).image ≡ 1 → image_state (base_now p.1).frozen ≡ 1) session now m.stalled
+      (λ u rest is. stalled_then session now m.going u rest is (outcome session u now) (next_step session now m.named m.going u rest is) m.stalled);
+}
+
+pub making_play : (order : List ℕ) (now : Now) → IsMaking now → IsMaking (play order now).1
+unfolding play
+making_play [] now m = m
+making_play (x ∷ xs) now m = making_play xs (one_turn x now).1 (making_turn x now m)
+
+-- What a turn of another session leaves of a copy or a merge that is under way at that place.
+pub record IsUndisturbed (now : Now) (place : ℕ) (p : Played) : Type 0 where
+  pub running : p.1.running ≡ now.running
+  pub state : image_state (base_now p.1).image ≡ image_state (base_now now).image
+  pub frozen : (base_now p.1).frozen ≡ (base_now now).frozen
+  pub todo : slice_index_or p.1.todo place [] ≡ slice_index_or now.todo place []
+  pub made : files_made p.0 ≡ []
+  pub free : (name : List ℕ) → is_free_entry (now.account.entry name) ≡ true → is_free_entry (p.1.account.entry name) ≡ true
+
+pub none_made : files_made [] ≡ []
+unfolding files_made
+none_made = refl
+
+pub made_by : (session : ℕ) (u : Turn) (o : Outcome) → o.made ≡ None → files_made (event_of session u o ∷ []) ≡ []
+unfolding files_made
+made_by session u o none = ap (λ (made : Option (List ℕ × List ℕ)). elim made as (λ z. List (List ℕ × List ℕ)) [ Some file ↦ file ∷ [] | None ↦ [] ]) none
+
+module _ (session : ℕ) (now : Now) (going : IsGoing now) (place number : ℕ) (some : 1 ≤ number) (runs : Runs now place number) (off : session - 1 ≢ place) where
+  alone : (m : ℕ) → Runs now (session - 1) m → ⊥
+  alone m its = off (one_runs now (session - 1) place m number its runs)
+
+  -- so the session that has the turn waits
+  waiting_step : (u : Turn) (rest : List Turn) → IsAt now (session - 1) (u ∷ rest) → IsStep now session (outcome session u now) rest
+  waiting_step u rest (waits all) = beginning_step session now going u rest all
+  waiting_step u rest (backs_up left backing tail e all its room free) = absurd (alone 1 its)
+  waiting_step u rest (copies left name tail e all its free) = absurd (alone 1 its)
+  waiting_step u rest (ending reply tail e all its) = absurd (alone 1 its)
+  waiting_step u rest (merges turns its) = absurd (alone 2 its)
+
+  pub others_stay : IsUndisturbed now place (one_turn session now)
+  others_stay = one_cases (IsUndisturbed now place) session now (record { running = refl; state = refl; frozen = refl; todo = refl; made = none_made; free = λ name free. free }) (λ u rest is.
+      let o : Outcome = outcome session u now in
+      let step : IsStep now session o rest = waiting_step u rest (subst (IsAt now (session - 1)) is (going.each (session - 1))) in
+      let stay : OthersStay now o = step.others place number (λ e. off (sym e)) some runs in
+      let base : base_now (stands_then session rest o now) ≡ base_after (base_now now) o.strokes = then_base session rest o now in
+      record {
+        running = then_running session rest o now ∙ stay.running;
+        state = ap (λ (x : Base). image_state x.image) base ∙ stay.state;
+        frozen = ap (λ (x : Base). x.frozen) base ∙ stay.frozen;
+        todo = other_todo session now u rest is o place (λ e. off (sym e));
+        made = made_by session u o stay.made;
+        free = λ name free. free_then session rest o now going stay.made name free;
+      })
+
+  pub runs_stay : Runs (one_turn session now).1 place number
+  runs_stay = record { by = runs.by; running = others_stay.running ∙ runs.running; its = runs.its; state = others_stay.state ∙ runs.state }
+
+-- At the start each session has statements to begin.
+pub begun_at : (now : Now) (sessions : List (List Statement)) → now.todo ≡ begun sessions → (place : ℕ) → get_or now.todo place [] ≡ map Begins (get_or sessions place [])
+begun_at now sessions is place = ap (λ (todo : List (List Turn)). get_or todo place []) is ∙ get_or-map (map Begins) sessions place []
+
+all_begin : (P : Turn → Type 0) (statements : List Statement) → AllByRecursion (λ (x : Statement). P (Begins x)) statements → AllByRecursion P (map Begins statements)
+all_begin P [] h = tt
+all_begin P (x ∷ xs) h = (h.0, all_begin P xs h.1)
+
+pub begun_going : (now : Now) (sessions : List (List Statement)) → now.todo ≡ begun sessions → ((place : ℕ) → AllByRecursion (λ (x : Statement). is_built x ≡ true) (slice_index_or sessions place []))
+    → HasHeader (base_now now).image → IsSoundImage (base_now now).image → image_state (base_now now).image ≤ 2
+    → (image_state (base_now now).image ≡ 1 → is_header (first_page (base_now now).frozen) ≡ true) → AllByRecursion (λ (guid : List ℕ). length guid ≡ 16) now.given.guids → IsGoing now
+begun_going now sessions is built header sound state frozen sixteen = record {
+  header = header;
+  sound = sound;
+  state = state;
+  frozen = frozen;
+  each = λ place. waits (subst AreBeginnings (sym (begun_at now sessions is place)) (all_begin IsBeginning (get_or sessions place []) (built place)));
+  sixteen = sixteen;
+}
+
+pub begun_named : (now : Now) (sessions : List (List Statement)) → now.todo ≡ begun sessions → ((place : ℕ) → AllByRecursion (λ (x : Statement). IsNamed (Begins x)) (slice_index_or sessions place [])) → AreNamed now
+begun_named now sessions is named place = subst (AllByRecursion IsNamed) (sym (begun_at now sessions is place)) (all_begin IsNamed (get_or sessions place []) (named place))
+
+pub begun_making : (now : Now) (sessions : List (List Statement)) → now.todo ≡ begun sessions → ((place : ℕ) → AllByRecursion (λ (x : Statement). IsNamed (Begins x)) (slice_index_or sessions place []))
+    → (image_state (base_now now).image ≡ 1 → image_state (base_now now).frozen ≡ 1) → IsGoing now → IsMaking now
+begun_making now sessions is named stalled going = record { going = going; named = begun_named now sessions is named; stalled = stalled }
