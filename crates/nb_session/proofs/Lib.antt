@@ -5,7 +5,6 @@ pub mod StopLaws
 pub mod PlayLaws
 pub mod MakesLaws
 pub mod ReadyLaws
-pub mod UsedLaws
 pub mod EventLaws
 pub mod TurnLaws
 pub mod KeptLaws

@@ -12,7 +12,7 @@ use Rattle.nb_model.specs.declared.reply.Reply.TheVariants.{Refused as RefusedBy
 use Rattle.nb_model.specs.declared.statement.Statement.{Statement}
 use Rattle.nb_model.specs.Built.{is_built}
 use Rattle.nb_model.specs.Gifts.{Foretells}
-use Rattle.nb_model.specs.Going.{IsGoing}
+use Rattle.nb_model.specs.Going.{IsMaking}
 use Rattle.nb_model.specs.Lines.{line_text}
 use Rattle.nb_model.specs.Making.{MadeFile, making}
 use Rattle.nb_model.specs.Outcomes.{Turn, Begins, Seen}
@@ -20,7 +20,7 @@ use Rattle.nb_model.specs.Output.{status_after}
 use Rattle.nb_model.specs.Run.{Now, Played, base_now, outcome, take_turn}
 use Rattle.nb_model.specs.Trail.{Trail}
 use Rattle.nb_model.specs.Turns.{first_turn, turn}
-use Rattle.nb_model.proofs.TodoLaws.{IsSingle, status_plain}
+use Rattle.nb_model.proofs.TodoLaws.{IsSingle, built_never_usage, status_plain}
 use Rattle.nb_state.specs.Open.{Held}
 use Rattle.nb_session.specs.declared.stop.Stop.{Stop}
 use Rattle.nb_session.specs.declared.stop.Stop.TheVariants.{Device as DeviceStop, Memory as MemoryStop}
@@ -34,7 +34,6 @@ use Rattle.nb_session.specs.Steps.{as_played, IsBehind, Turns}
 use Rattle.nb_session.specs.Stops.{Plays}
 use Rattle.nb_session.proofs.EventLaws.{Marks, event_failed, event_quiet, event_unsaid, event_said}
 use Rattle.nb_session.proofs.GiftLaws.{foretold_still, grows_joined, grows_none}
-use Rattle.nb_session.proofs.UsedLaws.{used_here, never_usage}
 
 -- a result that is a failure
 plays_err : {T : Type 0} (refused : T → Bool) (result : Result T Fault) (old new : World) (before after : Held) (t : Trail) (now : Now) (p : Played) (files : List MadeFile) → IsErr result
@@ -50,7 +49,7 @@ err_none (Err e) P is = tt
 
 -- A turn of the session that has it to do next, and `tail` and `more` behind it.
 module _ {T S : Type 0} (reply : T → Option Reply) (result : Result T Fault) (refused : S → Bool) (task : S → Option Task) (old mid new : World) (e0 e1 : Held) (t : Trail) (now : Now) (session : ℕ)
-    (u : Turn) (tail more : List Turn) (files : List MadeFile) (files_are : files ≡ making (base_now now).frozen (u ∷ tail)) (going : IsGoing now) (place : slice_index_or now.todo (session - 1) [] ≡ u ∷ (tail ++ more))
+    (u : Turn) (tail more : List Turn) (files : List MadeFile) (files_are : files ≡ making (base_now now).frozen (u ∷ tail)) (makes : IsMaking now) (place : slice_index_or now.todo (session - 1) [] ≡ u ∷ (tail ++ more))
     (may : MayAct reply result old mid e0 e1 t now session u files) (mark : Acts reply result old mid e0 e1 t now session u files → Marks old mid e0 files) where
   abbrev played : Played
   played = take_turn session (u ∷ (tail ++ more)) now
@@ -77,7 +76,7 @@ module _ {T S : Type 0} (reply : T → Option Reply) (result : Result T Fault) (
     plays = λ told.
         let acts = acting told in
         subst (λ (b : Bool). Plays (Ok b) old mid e0 e1 t now played (making (base_now now).frozen (u ∷ tail))) (sym not_refused)
-        (event_quiet old mid mid e0 e1 t now session u tail more result reply acts (marks told) has place ready (used_here now session u (tail ++ more) going place) (quiet _ acts.says));
+        (event_quiet old mid mid e0 e1 t now session u tail more result reply acts (marks told) has place ready makes (quiet _ acts.says));
     behind = behind;
   }
 
@@ -95,7 +94,7 @@ module _ {T S : Type 0} (reply : T → Option Reply) (result : Result T Fault) (
       plays = λ told.
           let acts = acting (before told) in
           plays_err refused answer old new e0 e1 t now played (making (base_now now).frozen (u ∷ tail)) failed
-          (event_unsaid old mid new e0 e1 t now session u tail more result reply acts (marks (before told)) has place ready (used_here now session u (tail ++ more) going place) r (is_said _ acts.says) told_line says);
+          (event_unsaid old mid new e0 e1 t now session u tail more result reply acts (marks (before told)) has place ready makes r (is_said _ acts.says) told_line says);
       behind = λ told. err_none answer _ failed;
     }
 
@@ -107,7 +106,7 @@ module _ {T S : Type 0} (reply : T → Option Reply) (result : Result T Fault) (
       plays = λ told.
           let acts = acting (before told) in
           let reply_is = is_said _ acts.says in
-          event_said old mid new e0 e1 t now session u tail more result reply acts (marks (before told)) has place ready (used_here now session u (tail ++ more) going place) r reply_is told_line says (refused value) said (status reply_is);
+          event_said old mid new e0 e1 t now session u tail more result reply acts (marks (before told)) has place ready makes r reply_is told_line says (refused value) said (status reply_is);
       behind = λ told. behind (before told);
     }
 
@@ -122,7 +121,7 @@ outcome_is session statement now = refl
 -- the status behind a statement is 1 where it was refused
 pub status_told : (session : ℕ) (statement : Statement) (now : Now) (r : Reply) → IsTrue (is_built statement) → (outcome session (Begins statement) now).reply ≡ Some r → status_after r ≡ (if is_refusal r then 1 else 0)
 status_told session statement now r can is =
-    status_plain r (λ usage. never_usage statement can (seen_now now) session (sym (ap (λ o. o.reply) (outcome_is session statement now)) ∙ is ∙ ap Some usage))
+    status_plain r (λ usage. built_never_usage statement can (seen_now now) session (sym (ap (λ o. o.reply) (outcome_is session statement now)) ∙ is ∙ ap Some usage))
 
 -- behind a reply that is no refusal it is 0
 pub status_none : (r : Reply) → is_refusal r ≡ false → status_after r ≡ 0
@@ -138,16 +137,16 @@ single_behind w held session statement now single =
 
 -- A turn that was refused, and whose refusal is said.
 module _ {T : Type 0} (reply : T → Option Reply) (refusal : Refusal) (old mid new : World) (e0 e1 : Held) (t : Trail) (now : Now) (session : ℕ) (u : Turn) (tail more : List Turn)
-    (files : List MadeFile) (files_are : files ≡ making (base_now now).frozen (u ∷ tail)) (going : IsGoing now) (place : slice_index_or now.todo (session - 1) [] ≡ u ∷ (tail ++ more))
+    (files : List MadeFile) (files_are : files ≡ making (base_now now).frozen (u ∷ tail)) (makes : IsMaking now) (place : slice_index_or now.todo (session - 1) [] ≡ u ∷ (tail ++ more))
     (may : MayAct reply (Err (Refused refusal)) old mid e0 e1 t now session u files) (mark : Acts reply (Err (Refused refusal)) old mid e0 e1 t now session u files → Marks old mid e0 files) (ready : IsReady old e0 t now) where
   pub turns_refused : (answer : Result Taken Fault) → SaysLine answer mid new (line_text session (RefusedBy refusal)) → IfOk answer (λ taken. taken ≡ record { task = None; refused = true })
       → ((outcome session u now).reply ≡ Some (RefusedBy refusal) → status_after (RefusedBy refusal) ≡ 1) → (Foretells now.given old mid → IsBehind new e1 session u tail now None)
       → Turns (λ taken. taken.refused) (λ taken. taken.task) answer old new e0 e1 t now session u tail more
   turns_refused (Ok taken) says is status behind =
-      turns_said reply (Err (Refused refusal)) (λ (x : Taken). x.refused) (λ (x : Taken). x.task) old mid new e0 e1 t now session u tail more files files_are going place may mark tt (RefusedBy refusal) (λ said s. s) (Ok taken) says ready
+      turns_said reply (Err (Refused refusal)) (λ (x : Taken). x.refused) (λ (x : Taken). x.task) old mid new e0 e1 t now session u tail more files files_are makes place may mark tt (RefusedBy refusal) (λ said s. s) (Ok taken) says ready
       taken says.said
       (λ replied. status replied ∙ ap (λ (x : Taken). if x.refused then 1 else 0) (sym is))
       (λ told. subst (λ (x : Taken). IsBehind new e1 session u tail now x.task) (sym is) (behind told))
   turns_refused (Err fault) says is status behind =
-      turns_unsaid reply (Err (Refused refusal)) (λ (x : Taken). x.refused) (λ (x : Taken). x.task) old mid new e0 e1 t now session u tail more files files_are going place may mark tt (RefusedBy refusal) (λ said s. s) (Err fault) says ready
+      turns_unsaid reply (Err (Refused refusal)) (λ (x : Taken). x.refused) (λ (x : Taken). x.task) old mid new e0 e1 t now session u tail more files files_are makes place may mark tt (RefusedBy refusal) (λ said s. s) (Err fault) says ready
       (Err fault) refl

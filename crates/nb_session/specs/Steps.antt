@@ -5,7 +5,7 @@ use Rattle.nb_host.specs.declared.faults.Fault.{Fault}
 use Rattle.nb_host.specs.declared.faults.Fault.TheVariants.{Refused, Device, Memory}
 use Rattle.nb_change.specs.Counts.{CountsDevice}
 use Rattle.nb_model.specs.Gifts.{Foretells}
-use Rattle.nb_model.specs.Going.{IsGoing}
+use Rattle.nb_model.specs.Going.{IsMaking}
 use Rattle.nb_model.specs.Making.{making, making_by}
 use Rattle.nb_model.specs.Outcomes.{Turn}
 use Rattle.nb_model.specs.Run.{Now, base_now, outcome, take_turn, one_turn}
@@ -53,7 +53,7 @@ pub record TakesNext (refused : Bool) (result : Result (Unit {0}) Fault) (old ne
 pub record Steps (tells : Bool) (result : Result (Unit {0}) Fault) (old new : World) (faults faults' : ℕ) (before after : Held) (asker moved : Asker) : Type 0 where
   pub refused : Bool
   pub noted : OnOk result (moved.refused ≡ (asker.refused || refused))
-  pub takes : (now : Now) (t : Trail) → IsTrue tells → IsReady old before t now → IsGoing now → HasTodo asker now → TaskGoes asker.number old before t.base.frozen asker.task
+  pub takes : (now : Now) (t : Trail) → IsTrue tells → IsReady old before t now → IsMaking now → HasTodo asker now → TaskGoes asker.number old before t.base.frozen asker.task
       → TakesNext refused result old new before after t now asker moved
   pub others : KeepsOthers asker.number before after
   pub cause : CountsDevice result faults faults'

@@ -4,7 +4,7 @@ ghost use Rattle.std.specs.List.{slice_index_or};
 ghost use Rattle.nb_host.specs.Names.{is_delta};
 ghost use Rattle.nb_change.specs.Counts.{CountsDevice};
 ghost use Rattle.nb_model.specs.declared.statement.Statement.TheVariants.{Backup as BackupTo, CopyTo};
-ghost use Rattle.nb_model.specs.Going.{IsGoing};
+ghost use Rattle.nb_model.specs.Going.{IsMaking};
 ghost use Rattle.nb_model.specs.Outcomes.{Begins, Turn};
 ghost use Rattle.nb_model.specs.Run.{Now};
 ghost use Rattle.nb_model.specs.Trail.{Trail};
@@ -56,7 +56,7 @@ pub fn begin_backup<H: Host>(
 ) -> Result<Taken, Fault>
     requires level { level ≤ 9 }
     requires plain { is_delta name.now ≡ false }
-    ensures turn { (now : Now) (t : Trail) (more : List Turn) → IsTrue H.tells → IsReady (H.world host.old) engine.old t now → IsGoing now
+    ensures turn { (now : Now) (t : Trail) (more : List Turn) → IsTrue H.tells → IsReady (H.world host.old) engine.old t now → IsMaking now
         → slice_index_or now.todo (session - 1) [] ≡ Begins (BackupTo level name.now) ∷ more
         → Turns (λ taken. taken.refused) (λ taken. taken.task) result (H.world host.old) (H.world host.new) engine.old engine.new t now session (Begins (BackupTo level name.now)) [] more }
     ensures fits { IfOk result (λ taken. TaskFits session taken.task engine.new) }
@@ -81,7 +81,7 @@ pub fn begin_copy<H: Host>(
     name: &Name,
 ) -> Result<Taken, Fault>
     requires plain { is_delta name.now ≡ false }
-    ensures turn { (now : Now) (t : Trail) (more : List Turn) → IsTrue H.tells → IsReady (H.world host.old) engine.old t now → IsGoing now
+    ensures turn { (now : Now) (t : Trail) (more : List Turn) → IsTrue H.tells → IsReady (H.world host.old) engine.old t now → IsMaking now
         → slice_index_or now.todo (session - 1) [] ≡ Begins (CopyTo name.now) ∷ more
         → Turns (λ taken. taken.refused) (λ taken. taken.task) result (H.world host.old) (H.world host.new) engine.old engine.new t now session (Begins (CopyTo name.now)) [] more }
     ensures fits { IfOk result (λ taken. TaskFits session taken.task engine.new) }
@@ -106,7 +106,7 @@ pub fn back_up_on<H: Host>(
     copier: Copier,
 ) -> Result<Taken, Fault>
     requires fits { TaskFits session (Some (Backup copier)) engine.old }
-    ensures turn { (now : Now) (t : Trail) (more : List Turn) → IsTrue H.tells → IsReady (H.world host.old) engine.old t now → IsGoing now
+    ensures turn { (now : Now) (t : Trail) (more : List Turn) → IsTrue H.tells → IsReady (H.world host.old) engine.old t now → IsMaking now
         → slice_index_or now.todo (session - 1) [] ≡ task_first (Backup copier) ∷ (task_rest (Backup copier) ++ more) → TaskGoes session (H.world host.old) engine.old t.base.frozen (Some (Backup copier))
         → Turns (λ taken. taken.refused) (λ taken. taken.task) result (H.world host.old) (H.world host.new) engine.old engine.new t now session (task_first (Backup copier)) (task_rest (Backup copier)) more }
     ensures falls { IfOk result (λ taken. task_left taken.task < task_left (Some (Backup copier))) }
@@ -142,7 +142,7 @@ pub fn copy_on<H: Host>(
     copier: FileCopier,
 ) -> Result<Taken, Fault>
     requires fits { TaskFits session (Some (Copy copier)) engine.old }
-    ensures turn { (now : Now) (t : Trail) (more : List Turn) → IsTrue H.tells → IsReady (H.world host.old) engine.old t now → IsGoing now
+    ensures turn { (now : Now) (t : Trail) (more : List Turn) → IsTrue H.tells → IsReady (H.world host.old) engine.old t now → IsMaking now
         → slice_index_or now.todo (session - 1) [] ≡ task_first (Copy copier) ∷ (task_rest (Copy copier) ++ more) → TaskGoes session (H.world host.old) engine.old t.base.frozen (Some (Copy copier))
         → Turns (λ taken. taken.refused) (λ taken. taken.task) result (H.world host.old) (H.world host.new) engine.old engine.new t now session (task_first (Copy copier)) (task_rest (Copy copier)) more }
     ensures falls { IfOk result (λ taken. task_left taken.task < task_left (Some (Copy copier))) }

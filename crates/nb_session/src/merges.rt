@@ -5,7 +5,7 @@ ghost use Rattle.nb_change.specs.Counts.{CountsDevice};
 ghost use Rattle.nb_change.specs.Gave.{GaveNothing};
 ghost use Rattle.nb_model.specs.declared.reply.Reply.TheVariants.{Refused as RefusedReply};
 ghost use Rattle.nb_model.specs.declared.statement.Statement.TheVariants.{EndBackup};
-ghost use Rattle.nb_model.specs.Going.{IsGoing};
+ghost use Rattle.nb_model.specs.Going.{IsMaking};
 ghost use Rattle.nb_model.specs.Lines.{line_text};
 ghost use Rattle.nb_model.specs.Outcomes.{Begins, Turn};
 ghost use Rattle.nb_model.specs.Run.{Now};
@@ -65,7 +65,7 @@ pub fn begin_merge<H: Host>(
     engine: &mut Engine,
     session: u32,
 ) -> Result<Taken, Fault>
-    ensures turn { (now : Now) (t : Trail) (more : List Turn) → IsTrue H.tells → IsReady (H.world host.old) engine.old t now → IsGoing now
+    ensures turn { (now : Now) (t : Trail) (more : List Turn) → IsTrue H.tells → IsReady (H.world host.old) engine.old t now → IsMaking now
         → slice_index_or now.todo (session - 1) [] ≡ Begins EndBackup ∷ more
         → Turns (λ taken. taken.refused) (λ taken. taken.task) result (H.world host.old) (H.world host.new) engine.old engine.new t now session (Begins EndBackup) [] more }
     ensures fits { IfOk result (λ taken. TaskFits session taken.task engine.new) }
@@ -90,7 +90,7 @@ pub fn end_backup<H: Host>(
     reply: Reply,
 ) -> Result<Taken, Fault>
     requires fits { TaskFits session (Some (End reply)) engine.old }
-    ensures turn { (now : Now) (t : Trail) (more : List Turn) → IsTrue H.tells → IsReady (H.world host.old) engine.old t now → IsGoing now
+    ensures turn { (now : Now) (t : Trail) (more : List Turn) → IsTrue H.tells → IsReady (H.world host.old) engine.old t now → IsMaking now
         → slice_index_or now.todo (session - 1) [] ≡ task_first (End reply) ∷ (task_rest (End reply) ++ more) → TaskGoes session (H.world host.old) engine.old t.base.frozen (Some (End reply))
         → Turns (λ taken. taken.refused) (λ taken. taken.task) result (H.world host.old) (H.world host.new) engine.old engine.new t now session (task_first (End reply)) (task_rest (End reply)) more }
     ensures falls { IfOk result (λ taken. task_left taken.task < task_left (Some (End reply))) }
@@ -116,7 +116,7 @@ pub fn merge_on<H: Host>(
     merging: Merging,
 ) -> Result<Taken, Fault>
     requires fits { TaskFits session (Some (Merge merging)) engine.old }
-    ensures turn { (now : Now) (t : Trail) (more : List Turn) → IsTrue H.tells → IsReady (H.world host.old) engine.old t now → IsGoing now
+    ensures turn { (now : Now) (t : Trail) (more : List Turn) → IsTrue H.tells → IsReady (H.world host.old) engine.old t now → IsMaking now
         → slice_index_or now.todo (session - 1) [] ≡ task_first (Merge merging) ∷ (task_rest (Merge merging) ++ more)
         → Turns (λ taken. taken.refused) (λ taken. taken.task) result (H.world host.old) (H.world host.new) engine.old engine.new t now session (task_first (Merge merging)) (task_rest (Merge merging)) more }
     ensures falls { IfOk result (λ taken. task_left taken.task < task_left (Some (Merge merging))) }
