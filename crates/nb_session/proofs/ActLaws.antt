@@ -1,26 +1,30 @@
 -- What the calls of the engine make of a turn.
-use Rattle.std.proofs.Common.{◌≡◌, inl, inr, ℕ, List, [], ◌∷◌, ◌++◌, length, drop, replicate, refl, sym, ap, subst, ◌∙◌}
-use Rattle.std.specs.Prelude.{Result, Ok, Err, IsErr, IsErrAnd, Option, Some, true, false}
+use Rattle.std.proofs.Common.{◌≡◌, inl, inr, ℕ, List, [], ◌∷◌, ◌++◌, length, drop, replicate, refl, sym, ap, subst, ◌∙◌, arith}
+use Rattle.std.specs.Prelude.{Result, Ok, Err, IsErr, IsErrAnd, Option, Some, None, Contains, true, false}
 use Rattle.std.specs.List.{slice_index_or}
 use Rattle.std.proofs.lemmas.List.{append-nil, append_cancel_left}
 use Rattle.nb_host.specs.World.{World}
 use Rattle.nb_host.specs.declared.faults.Fault.{Fault}
 use Rattle.nb_host.specs.declared.faults.Fault.TheVariants.{Refused, Device, Memory}
 use Rattle.nb_page.specs.Quiet.{Quiet}
+use Rattle.nb_change.specs.Changes.{Changes, Reached}
 use Rattle.nb_change.specs.Gave.{GaveNothing}
+use Rattle.nb_change.proofs.ChangesLaws.{weakened}
 use Rattle.nb_model.specs.declared.reply.Reply.{Reply}
 use Rattle.nb_model.specs.declared.reply.Reply.TheVariants.{Done}
 use Rattle.nb_model.specs.declared.statement.Statement.{Statement}
 use Rattle.nb_model.specs.declared.statement.Statement.TheVariants.{Sync}
 use Rattle.nb_model.specs.Gifts.{Foretells, WasGiven}
+use Rattle.nb_model.specs.Making.{MadeFile}
 use Rattle.nb_model.specs.Outcomes.{Turn, Begins, Seen, Given, Outcome, next_guid, says}
 use Rattle.nb_model.specs.Pages.{begin_turn}
-use Rattle.nb_model.specs.Run.{Now, Event, base_now, outcome, event_of, is_sync}
+use Rattle.nb_model.specs.Run.{Now, Event, base_now, outcome, event_of, is_sync, files_made}
 use Rattle.nb_model.specs.Steps.{Step, steps_in, after_steps, made, settles}
 use Rattle.nb_model.specs.Strokes.{Stroke}
-use Rattle.nb_model.specs.Trail.{Trail, settled}
+use Rattle.nb_model.specs.Trail.{Trail, StandsIn, settled, after_stroke}
 use Rattle.nb_model.specs.Turns.{first_turn}
 use Rattle.nb_model.proofs.StepsLaws.{steps_plain, after_settling}
+use Rattle.nb_base.specs.Open.{OfFiles}
 use Rattle.nb_base.specs.Takes.{Strikes, after_strokes}
 use Rattle.nb_state.specs.Open.{Held, IsOpen, name_of}
 use Rattle.nb_state.specs.Does.{WhereEnded, Answers, Does}
@@ -28,12 +32,25 @@ use Rattle.nb_state.specs.Turns.{GaveAtMost}
 use Rattle.nb_state.proofs.MakesLaws.{where_ended, none_yet}
 use Rattle.nb_engine.specs.Replies.{scn_is}
 use Rattle.nb_engine.specs.Turns.{DoesBegin}
-use Rattle.nb_session.specs.Acts.{Says, Grows, Acts, MayAct}
+use Rattle.nb_session.specs.Acts.{Says, Grows, Touched, TurnLeft, AreKept, Acts, MayAct}
 use Rattle.nb_session.specs.Ready.{IsReady}
 use Rattle.nb_session.proofs.EventLaws.{strokes_are_steps}
 use Rattle.nb_session.proofs.GiftLaws.{given_nothing, grows_none}
-use Rattle.nb_session.proofs.KeepLaws.{KeepsRun, begin_gives, begin_refused, begin_running, sync_is}
+use Rattle.nb_session.proofs.KeepLaws.{KeepsRun, begin_gives, begin_refused, begin_running, begin_made, sync_is}
 use Rattle.nb_session.proofs.TurnLaws.{seen_now, outcome_is}
+
+-- strokes of a turn that makes no file
+pub strikes_left : (old new : World) (name : List ℕ) (t : Trail) (ss : List Stroke) → Strikes old new name t ss → Changes old new (Touched name []) (TurnLeft old name t ss [])
+strikes_left old new name t ss struck =
+    weakened old new (OfFiles name) (Touched name []) (Reached after_stroke (StandsIn name) t ss) (TurnLeft old name t ss []) struck (λ m one. inl one)
+    (λ files others has. record { database = has; each = λ n bytes there. absurd (omega (arith, there.1)) })
+
+-- an event that made no file
+pub kept_none : (w : World) (e : Event) → e.made ≡ None → AreKept w (files_made (e ∷ []))
+unfolding files_made
+kept_none w e none name bytes there =
+    let held : Contains {X = MadeFile} [] (name, bytes) = subst (λ (m : Option MadeFile). Contains (elim m as (λ z. List MadeFile) [ Some file ↦ file ∷ [] | None ↦ [] ]) (name, bytes)) none there in
+    absurd (omega (arith, held.1))
 
 -- a reply for each value
 abbrev pub some_by : {T : Type 0} → (T → Reply) → T → Option Reply
@@ -53,32 +70,32 @@ ended_map (Err Device) f is = tt
 ended_map (Err Memory) f is = tt
 
 -- The answer of one call, said of another.
-module _ {T S : Type 0} (reply : T → Option Reply) (other : S → Option Reply) (old new : World) (a b : Held) (t : Trail) (now : Now) (session : ℕ) (turn : Turn) where
-  by_fault : (fault : Fault) → Acts reply (Err fault) old new a b t now session turn → Acts other (Err fault) old new a b t now session turn
-  by_fault (Refused refusal) acts = record { says = acts.says; left = acts.left; opened = acts.opened; running = acts.running; given = acts.given; name = acts.name }
-  by_fault Device acts = record { says = acts.says; left = acts.left; opened = acts.opened; running = acts.running; given = acts.given; name = acts.name }
-  by_fault Memory acts = record { says = acts.says; left = acts.left; opened = acts.opened; running = acts.running; given = acts.given; name = acts.name }
+module _ {T S : Type 0} (reply : T → Option Reply) (other : S → Option Reply) (old new : World) (a b : Held) (t : Trail) (now : Now) (session : ℕ) (turn : Turn) (files : List MadeFile) where
+  by_fault : (fault : Fault) → Acts reply (Err fault) old new a b t now session turn files → Acts other (Err fault) old new a b t now session turn files
+  by_fault (Refused refusal) acts = record { says = acts.says; left = acts.left; opened = acts.opened; running = acts.running; given = acts.given; kept = acts.kept; name = acts.name }
+  by_fault Device acts = record { says = acts.says; left = acts.left; opened = acts.opened; running = acts.running; given = acts.given; kept = acts.kept; name = acts.name }
+  by_fault Memory acts = record { says = acts.says; left = acts.left; opened = acts.opened; running = acts.running; given = acts.given; kept = acts.kept; name = acts.name }
 
   -- it is passed on at the exit of a `?`
-  pub may_passed : (fault : Fault) (result : Result S Fault) → IsErr result × IsErrAnd result (λ e. e ≡ fault) → MayAct reply (Err fault) old new a b t now session turn → MayAct other result old new a b t now session turn
+  pub may_passed : (fault : Fault) (result : Result S Fault) → IsErr result × IsErrAnd result (λ e. e ≡ fault) → MayAct reply (Err fault) old new a b t now session turn files → MayAct other result old new a b t now session turn files
   may_passed fault (Ok value) is may = absurd is.1
   may_passed fault (Err e) is may =
-      subst (λ (f : Fault). MayAct other (Err f) old new a b t now session turn) (sym is.1) (record { grows = may.grows; acts = λ told. by_fault fault (may.acts told) })
+      subst (λ (f : Fault). MayAct other (Err f) old new a b t now session turn files) (sym is.1) (record { grows = may.grows; acts = λ told. by_fault fault (may.acts told) })
 
   -- memory runs out behind it
-  pub may_then_memory : (value : T) (fault : Fault) (result : Result S Fault) → fault ≡ Memory → IsErr result × IsErrAnd result (λ e. e ≡ fault) → MayAct reply (Ok value) old new a b t now session turn → MayAct other result old new a b t now session turn
+  pub may_then_memory : (value : T) (fault : Fault) (result : Result S Fault) → fault ≡ Memory → IsErr result × IsErrAnd result (λ e. e ≡ fault) → MayAct reply (Ok value) old new a b t now session turn files → MayAct other result old new a b t now session turn files
   may_then_memory value fault (Ok x) memory is may = absurd is.1
   may_then_memory value fault (Err e) memory is may =
-      subst (λ (f : Fault). MayAct other (Err f) old new a b t now session turn) (sym (is.1 ∙ memory)) (record {
+      subst (λ (f : Fault). MayAct other (Err f) old new a b t now session turn files) (sym (is.1 ∙ memory)) (record {
         grows = may.grows;
-        acts = λ told. let acts = may.acts told in record { says = tt; left = acts.left; opened = tt; running = tt; given = tt; name = acts.name };
+        acts = λ told. let acts = may.acts told in record { says = tt; left = acts.left; opened = tt; running = tt; given = tt; kept = tt; name = acts.name };
       })
 
   -- the same value, said otherwise
-  pub may_value : (value : T) (said : S) → reply value ≡ other said → MayAct reply (Ok value) old new a b t now session turn → MayAct other (Ok said) old new a b t now session turn
+  pub may_value : (value : T) (said : S) → reply value ≡ other said → MayAct reply (Ok value) old new a b t now session turn files → MayAct other (Ok said) old new a b t now session turn files
   may_value value said same may = record {
     grows = may.grows;
-    acts = λ told. let acts = may.acts told in record { says = acts.says ∙ same; left = acts.left; opened = acts.opened; running = acts.running; given = acts.given; name = acts.name };
+    acts = λ told. let acts = may.acts told in record { says = acts.says ∙ same; left = acts.left; opened = acts.opened; running = acts.running; given = acts.given; kept = acts.kept; name = acts.name };
   }
 
 -- the trail behind a turn that waits for nothing
@@ -88,18 +105,19 @@ trail_plain t e plain = strokes_are_steps t e.strokes ∙ ap (after_steps t) (sy
 -- A statement that is done in one turn, for which nothing is given.
 pub does_acts : {T : Type 0} (reply : T → Reply) (result : Result T Fault) (old new : World) (a b : Held) (t : Trail) (now : Now) (session : ℕ) (statement : Statement) (o : Outcome)
     → o ≡ first_turn (seen_now now) session statement → is_sync (Begins statement) ≡ false → KeepsRun (seen_now now) o → IsReady old a t now → Does reply result old new a b t o
-    → MayAct (some_by reply) result old new a b t now session (Begins statement)
+    → MayAct (some_by reply) result old new a b t now session (Begins statement) []
 does_acts reply result old new a b t now session statement o turn_is plain keeps ready does =
     let same : o ≡ outcome session (Begins statement) now = turn_is ∙ sym (outcome_is session statement now) in
     record {
       grows = grows_none old new does.makes.gave;
       acts = λ told. record {
         says = subst (λ (x : Outcome). Says (some_by reply) result x.reply) same (as_says reply result o.reply does.answer);
-        left = subst (λ (x : Outcome). Strikes old new (name_of a) t x.strokes) same does.makes.left;
+        left = strikes_left old new (name_of a) t _ (subst (λ (x : Outcome). Strikes old new (name_of a) t x.strokes) same does.makes.left);
         opened = ended_map result (subst (IsOpen new b) (trail_plain t (event_of session (Begins statement) (outcome session (Begins statement) now)) plain))
             (subst (λ (x : Outcome). WhereEnded result (IsOpen new b (after_strokes t x.strokes))) same does.makes.opened);
         running = where_ended result _ (does.makes.goes.running ∙ ready.running ∙ sym (sym (ap (λ (x : Outcome). x.running) same) ∙ keeps.running));
         given = where_ended result _ (given_nothing old new now.given (outcome session (Begins statement) now).given does.makes.gave (sym (ap (λ (x : Outcome). x.given) same) ∙ keeps.given));
+        kept = where_ended result _ (kept_none new (event_of session (Begins statement) (outcome session (Begins statement) now)) (sym (ap (λ (x : Outcome). x.made) same) ∙ keeps.made));
         name = does.makes.goes.name;
       };
     }
@@ -112,8 +130,8 @@ module _ (old new : World) (a b : Held) (t : Trail) (now : Now) (session : ℕ) 
   sync_gave : GaveNothing old new
   sync_gave = record { guids = quiet.guids; times = quiet.times }
 
-  sync_left : Strikes old new (name_of a) t (outcome session (Begins statement) now).strokes
-  sync_left = subst (λ (x : Outcome). Strikes old new (name_of a) t x.strokes) (sym sync_turn) (none_yet old new a t [] quiet ready.opened)
+  sync_left : Changes old new (Touched (name_of a) []) (TurnLeft old (name_of a) t (outcome session (Begins statement) now).strokes [])
+  sync_left = strikes_left old new (name_of a) t _ (subst (λ (x : Outcome). Strikes old new (name_of a) t x.strokes) (sym sync_turn) (none_yet old new a t [] quiet ready.opened))
 
   sync_steps : (o : Outcome) → o.strokes ≡ [] → settled t.base ≡ after_steps t (steps_in (event_of session (Begins statement) o))
   unfolding made
@@ -122,7 +140,7 @@ module _ (old new : World) (a b : Held) (t : Trail) (now : Now) (session : ℕ) 
       ∙ ap (λ (x : Statement). after_steps t (made [] ++ elim (is_sync (Begins x)) as (λ z. List Step) [ true ↦ settles ∷ [] | false ↦ [] ])) (sym is)
       ∙ ap (λ (ss : List Stroke). after_steps t (made ss ++ elim (is_sync (Begins statement)) as (λ z. List Step) [ true ↦ settles ∷ [] | false ↦ [] ])) (sym none)
 
-  pub sync_acts : {T : Type 0} (value : T) → IsOpen new b (settled t.base) → MayAct (λ v. Some Done) (Ok value) old new a b t now session (Begins statement)
+  pub sync_acts : {T : Type 0} (value : T) → IsOpen new b (settled t.base) → MayAct (λ v. Some Done) (Ok value) old new a b t now session (Begins statement) []
   sync_acts value opened = record {
     grows = grows_none old new sync_gave;
     acts = λ told. record {
@@ -131,14 +149,15 @@ module _ (old new : World) (a b : Held) (t : Trail) (now : Now) (session : ℕ) 
       opened = subst (IsOpen new b) (sync_steps (outcome session (Begins statement) now) (ap (λ (x : Outcome). x.strokes) sync_turn)) opened;
       running = ap (λ (h : Held). h.running) same ∙ ready.running ∙ sym (ap (λ (x : Outcome). x.running) sync_turn);
       given = given_nothing old new now.given (outcome session (Begins statement) now).given sync_gave (ap (λ (x : Outcome). x.given) sync_turn);
+      kept = kept_none new (event_of session (Begins statement) (outcome session (Begins statement) now)) (ap (λ (x : Outcome). x.made) sync_turn);
       name = ap (λ (h : Held). name_of h) same;
     };
   }
 
-  pub sync_failed : {T : Type 0} (reply : T → Option Reply) → MayAct reply (Err Device) old new a b t now session (Begins statement)
+  pub sync_failed : {T : Type 0} (reply : T → Option Reply) → MayAct reply (Err Device) old new a b t now session (Begins statement) []
   sync_failed reply = record {
     grows = grows_none old new sync_gave;
-    acts = λ told. record { says = tt; left = sync_left; opened = tt; running = tt; given = tt; name = ap (λ (h : Held). name_of h) same };
+    acts = λ told. record { says = tt; left = sync_left; opened = tt; running = tt; given = tt; kept = tt; name = ap (λ (h : Held). name_of h) same };
   }
 
 -- a GUID that was given is the next one that is foretold
@@ -187,18 +206,19 @@ module _ (result : Result ℕ Fault) (old new : World) (a b : Held) (t : Trail) 
   begin_given (Err Device) does told = tt
   begin_given (Err Memory) does told = tt
 
-  pub begin_acts : MayAct (some_by scn_is) result old new a b t now session (Begins statement)
+  pub begin_acts : MayAct (some_by scn_is) result old new a b t now session (Begins statement) []
   begin_acts = record {
     grows = grows_at_most old new guid sixteen asked begin_times;
     acts = λ told.
         let does = begins (seen_now now) ready.base (at_most old new guid now.given asked told) in
         record {
           says = subst (λ (x : Outcome). Says (some_by scn_is) result x.reply) same (as_says scn_is result (begin_turn (seen_now now)).reply does.answer);
-          left = subst (λ (x : Outcome). Strikes old new (name_of a) t x.strokes) same does.left;
+          left = strikes_left old new (name_of a) t _ (subst (λ (x : Outcome). Strikes old new (name_of a) t x.strokes) same does.left);
           opened = ended_map result (subst (IsOpen new b) (trail_plain t (event_of session (Begins statement) this) plain))
               (subst (λ (x : Outcome). WhereEnded result (IsOpen new b (after_strokes t x.strokes))) same does.opened);
           running = where_ended result _ (does.running ∙ ready.running ∙ sym (sym (ap (λ (x : Outcome). x.running) same) ∙ begin_running (seen_now now)));
           given = subst (λ (x : Outcome). WhereEnded result (WasGiven old new now.given x.given)) same (begin_given result does told);
+          kept = where_ended result _ (kept_none new (event_of session (Begins statement) this) (sym (ap (λ (x : Outcome). x.made) same) ∙ begin_made (seen_now now)));
           name = does.name;
         };
   }

@@ -3,7 +3,6 @@ use Rattle.std.proofs.Common.{◌≡◌, ◌⊎◌, inl, inr, ℕ, zero, suc, �
 use Rattle.std.specs.Prelude.{Result, Ok, Err, IfOk, Option, Some, None, Contains, if◌then◌else◌}
 use Rattle.std.specs.List.{slice_index_or}
 use Rattle.std.proofs.lemmas.List.{append-nil, take_all}
-use Rattle.nb_fields.specs.Free.{is_free_file}
 use Rattle.nb_host.specs.Files.{File, Files, with_file}
 use Rattle.nb_host.specs.World.{World}
 use Rattle.nb_host.specs.Crash.{Leaves, LeavesAll, Untouched}
@@ -19,6 +18,7 @@ use Rattle.nb_change.proofs.ReachedLaws.{reached_by}
 use Rattle.nb_change.proofs.SettledLaws.{durable_is, durable_still}
 use Rattle.nb_model.specs.declared.reply.Reply.{Reply}
 use Rattle.nb_model.specs.Strokes.{Stroke}
+use Rattle.nb_model.specs.Going.{IsMaking}
 use Rattle.nb_model.specs.Lines.{line_text}
 use Rattle.nb_model.specs.Making.{MadeFile, making}
 use Rattle.nb_model.specs.Outcomes.{Turn, Outcome}
@@ -170,8 +170,7 @@ module _ (old mid new : World) (e0 e1 : Held) (t : Trail) (now : Now) (session :
     pub event_failed : (e : Stop) → Plays (Err e) old mid e0 e1 t now played files
     event_failed e = plays_with (Err e) mid during still_here tt
 
-    module _ (has : HasEnded result) (place : slice_index_or now.todo (session - 1) [] ≡ u ∷ (tail ++ more)) (ready : IsReady old e0 t now)
-        (used : (n bytes : List ℕ) → here.made ≡ Some (n, bytes) → is_free_file (Some bytes) ≡ false) where
+    module _ (has : HasEnded result) (place : slice_index_or now.todo (session - 1) [] ≡ u ∷ (tail ++ more)) (ready : IsReady old e0 t now) (makes : IsMaking now) where
       opened_mid : IsOpen mid e1 (after_steps t (steps_in event))
       opened_mid = ended result has acts.opened
 
@@ -183,7 +182,7 @@ module _ (old mid new : World) (e0 e1 : Held) (t : Trail) (now : Now) (session :
       ready_at w still =
           subst (λ (x : Trail). IsReady w e1 x one.1) trail_is
           (ready_then old w e0 e1 t now session u tail more ready place (still_open mid w e1 (after_steps t (steps_in event)) still opened_mid) acts.name (ended result has acts.running) (kept_still mid w (files_made (event ∷ [])) still kept_mid)
-          (λ m other. ap (λ (f : Files). f m) still.files ∙ acts.left.others_read m other) marks.apart used)
+          (λ m other. ap (λ (f : Files). f m) still.files ∙ acts.left.others_read m other) marks.apart makes)
 
       -- it has nothing to say
       pub event_quiet : here.reply ≡ None → Plays (Ok false) old mid e0 e1 t now played files

@@ -1,11 +1,11 @@
 -- Turns that leave nothing to do, and what they leave of who runs and of what is given.
-use Rattle.std.proofs.Common.{◌≡◌, ◌≢◌, ℕ, List, [], ◌∷◌, ◌+◌, refl, sym, ap, ◌∙◌}
+use Rattle.std.proofs.Common.{◌≡◌, ℕ, List, [], ◌∷◌, ◌+◌, refl, sym, ap, ◌∙◌}
 use Rattle.std.specs.Prelude.{Bool, false, Some, None}
 use Rattle.std.proofs.lemmas.Bool.{true≢false}
 use Rattle.nb_model.specs.declared.reply.Reply.{Reply}
 use Rattle.nb_model.specs.declared.reply.Reply.TheVariants.{Refused, Scn, Done}
 use Rattle.nb_model.specs.declared.statement.Statement.{Statement}
-use Rattle.nb_model.specs.declared.statement.Statement.TheVariants.{CreateDb, OpenDb, PageNew, Write, Read, Free, BeginBackup, EndBackup, Forced, Access, Sync, ShowHeader}
+use Rattle.nb_model.specs.declared.statement.Statement.TheVariants.{CreateDb, OpenDb, PageNew, Write, Read, Free, BeginBackup, EndBackup, Backup, CopyTo, Forced, Access, Sync, ShowHeader}
 use Rattle.nb_host.specs.declared.refusals.Refusal.{Refusal}
 use Rattle.nb_model.specs.Image.{image_scn}
 use Rattle.nb_model.specs.Strokes.{begin}
@@ -17,20 +17,22 @@ use Rattle.nb_model.specs.Run.{is_sync}
 use Rattle.nb_model.specs.Turns.{first_turn}
 use Rattle.nb_model.proofs.TodoLaws.{IsSingle, new_single, write_single, read_single, free_single, begin_single, forced_single, access_single, sync_single, header_single}
 use Rattle.nb_script.specs.Asked.{IsFurther}
+use Rattle.nb_session.specs.Askers.{IsOneTurn}
 
--- the same session's copy or merge runs, and the outside gave nothing
+-- the same session's copy or merge runs, the outside gave nothing, and no file was made
 pub record KeepsRun (s : Seen) (o : Outcome) : Type 0 where
   pub running : o.running ≡ s.running
   pub given : o.given ≡ s.given
+  pub made : o.made ≡ None
 
 guarded : (s : Seen) (c : Cause) (o : Outcome) → KeepsRun s o → KeepsRun s (unless s c o)
 unfolding unless
 guarded s None o keeps = keeps
-guarded s (Some r) o keeps = record { running = refl; given = refl }
+guarded s (Some r) o keeps = record { running = refl; given = refl; made = refl }
 
 changed : (s : Seen) (cs : List Cause) (d : Draft) (reply : Reply) → KeepsRun s (changes s cs d reply)
 unfolding changes
-changed s cs d reply = guarded s _ _ (record { running = refl; given = refl })
+changed s cs d reply = guarded s _ _ (record { running = refl; given = refl; made = refl })
 
 pub new_keeps : (s : Seen) → KeepsRun s (new_turn s)
 unfolding new_turn
@@ -42,7 +44,7 @@ write_keeps s p text = changed s _ _ _
 
 pub read_keeps : (s : Seen) (p : ℕ) → KeepsRun s (read_turn s p)
 unfolding read_turn
-read_keeps s p = guarded s _ _ (record { running = refl; given = refl })
+read_keeps s p = guarded s _ _ (record { running = refl; given = refl; made = refl })
 
 pub free_keeps : (s : Seen) (p : ℕ) → KeepsRun s (free_turn s p)
 unfolding free_turn
@@ -50,15 +52,15 @@ free_keeps s p = changed s _ _ _
 
 pub forced_keeps : (s : Seen) (on : Bool) → KeepsRun s (forced_turn s on)
 unfolding forced_turn
-forced_keeps s on = guarded s _ _ (record { running = refl; given = refl })
+forced_keeps s on = guarded s _ _ (record { running = refl; given = refl; made = refl })
 
 pub access_keeps : (s : Seen) (closed : Bool) → KeepsRun s (access_turn s closed)
 unfolding access_turn
-access_keeps s closed = guarded s _ _ (record { running = refl; given = refl })
+access_keeps s closed = guarded s _ _ (record { running = refl; given = refl; made = refl })
 
 pub header_keeps : (s : Seen) → KeepsRun s (header_turn s)
 unfolding header_turn
-header_keeps s = record { running = refl; given = refl }
+header_keeps s = record { running = refl; given = refl; made = refl }
 
 -- the turn of a statement by what the statement is
 module _ (s : Seen) (session : ℕ) (statement : Statement) where
@@ -102,21 +104,23 @@ module _ (s : Seen) (session : ℕ) (statement : Statement) where
 pub no_sync : (statement other : Statement) → statement ≡ other → is_sync (Begins other) ≡ false → is_sync (Begins statement) ≡ false
 no_sync statement other is plain = ap (λ (x : Statement). is_sync (Begins x)) is ∙ plain
 
--- Of what a session can ask today all but the end of a backup is done in one turn.
-pub further_single : (statement : Statement) → IsFurther statement → statement ≢ EndBackup → IsSingle statement
-further_single (CreateDb name size raw cache) is other = absurd (true≢false (sym is.opens_none))
-further_single (OpenDb name cache) is other = absurd (true≢false (sym is.opens_none))
-further_single PageNew is other = new_single
-further_single (Write p text) is other = write_single p text
-further_single (Read p) is other = read_single p
-further_single (Free p) is other = free_single p
-further_single BeginBackup is other = begin_single
-further_single EndBackup is other = absurd (other refl)
-further_single (Forced on) is other = forced_single on
-further_single (Access closed) is other = access_single closed
-further_single Sync is other = sync_single
-further_single ShowHeader is other = header_single
-further_single other is apart = absurd (true≢false (sym is.is_built))
+-- Of what a session can ask today all but a copy and the end of a backup is done in one turn.
+pub further_single : (statement : Statement) → IsFurther statement → IsOneTurn statement → IsSingle statement
+further_single (CreateDb name size raw cache) is once = absurd (true≢false (sym is.opens_none))
+further_single (OpenDb name cache) is once = absurd (true≢false (sym is.opens_none))
+further_single PageNew is once = new_single
+further_single (Write p text) is once = write_single p text
+further_single (Read p) is once = read_single p
+further_single (Free p) is once = free_single p
+further_single BeginBackup is once = begin_single
+further_single EndBackup is once = absurd once
+further_single (Backup level name) is once = absurd once
+further_single (CopyTo name) is once = absurd once
+further_single (Forced on) is once = forced_single on
+further_single (Access closed) is once = access_single closed
+further_single Sync is once = sync_single
+further_single ShowHeader is once = header_single
+further_single other is once = absurd (true≢false (sym is.is_built))
 
 -- a backup that begins
 abbrev begun : Seen → Outcome
@@ -166,3 +170,11 @@ runs s (Some r) = refl
 
 pub begin_running : (s : Seen) → (begin_turn s).running ≡ s.running
 begin_running s = ap (λ (o : Outcome). o.running) (begin_turn_is s) ∙ runs s (begin_causes s)
+
+made : (s : Seen) (c : Cause) → (unless s c (begun s)).made ≡ None
+unfolding unless
+made s None = refl
+made s (Some r) = refl
+
+pub begin_made : (s : Seen) → (begin_turn s).made ≡ None
+begin_made s = ap (λ (o : Outcome). o.made) (begin_turn_is s) ∙ made s (begin_causes s)

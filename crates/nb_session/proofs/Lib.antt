@@ -8,8 +8,10 @@ pub mod MakesLaws
 pub mod ReadyLaws
 pub mod EventLaws
 pub mod TurnLaws
+pub mod KeptLaws
 pub mod KeepLaws
 pub mod ActLaws
+pub mod WayLaws
 pub mod MergeLaws
 pub mod UnderWayLaws
 pub mod StepLaws

@@ -1,5 +1,5 @@
 -- Which turns make a file of which name.
-use Rattle.std.proofs.Common.{◌≡◌, ◌≢◌, inl, inr, ℕ, zero, suc, ◌-◌, ◌<◌, ◌≤◌, List, [], ◌∷◌, ◌++◌, length, get_or, set, refl, sym, ap, subst, ◌∙◌, arith, get_or-set_same}
+use Rattle.std.proofs.Common.{◌≡◌, ◌≢◌, inl, inr, ℕ, zero, suc, ◌-◌, ◌<◌, ◌≤◌, List, [], ◌∷◌, ◌++◌, length, replicate, get_or, set, refl, sym, ap, subst, ◌∙◌, arith, get_or-set_same}
 use Rattle.std.specs.Prelude.{Contains}
 use Rattle.std.specs.List.{AllByRecursion, slice_index_or}
 use Rattle.std.proofs.lemmas.List.Elements.{Contains-append_left, Contains-append_right, Contains-append_cases}
@@ -13,6 +13,7 @@ use Rattle.nb_model.specs.Making.{MadeFile, kept_of, making, making_all, under_w
 use Rattle.nb_model.specs.Outcomes.{Turn, Begins, Copies, ClosesBackup, ClosesCopy, Ends, Merges, Finishes, Outcome}
 use Rattle.nb_model.specs.Run.{Now, base_now, outcome, event_of, stands_then, files_made}
 use Rattle.nb_model.specs.Turns.{turn}
+use Rattle.nb_session.specs.Askers.{merge_first, merge_rest}
 use Rattle.nb_session.proofs.AllLaws.{all_at}
 
 -- the turn makes no file of that name
@@ -164,3 +165,21 @@ none_runs now going none name = make_none_all (base_now now).frozen now.todo nam
     at place ts (copies left n rest is all runs free) = absurd (none place 1 (omega arith) runs)
     at place ts (ends reply rest is all runs) = absurd (none place 1 (omega arith) runs)
     at place ts (merges all runs) = absurd (none place 2 (omega arith) runs)
+
+-- What turns make that are no copies.
+pub begins_make : (frozen : Image) (statement : Statement) → [] ≡ making frozen (Begins statement ∷ [])
+unfolding making
+begins_make frozen statement = refl
+
+pub ends_make : (frozen : Image) (reply : Reply) → [] ≡ making frozen (Ends reply ∷ [])
+unfolding making
+ends_make frozen reply = refl
+
+pub merges_make : (frozen : Image) (left : ℕ) (reply : Reply) → [] ≡ making frozen (merge_first left (Finishes reply) ∷ merge_rest left (Finishes reply))
+unfolding making
+merges_make frozen zero reply = refl
+merges_make frozen (suc left) reply = by left
+  where
+    by : (n : ℕ) → [] ≡ making frozen (replicate n Merges ++ Finishes reply ∷ [])
+    by zero = refl
+    by (suc n) = by n

@@ -1,18 +1,22 @@
 -- The turns of the end of a backup.
-use Rattle.std.proofs.Common.{◌≡◌, ◌≢◌, ℕ, zero, suc, ◌+◌, ◌-◌, ◌<◌, ◌≤◌, List, [], ◌∷◌, ◌++◌, length, replicate, refl, sym, ap, subst, ◌∙◌, arith}
-use Rattle.std.specs.Prelude.{Result, Ok, Err, IfErr, Option, Some, None, Bool, true, false, ◌==◌}
+use Rattle.std.proofs.Common.{◌≡◌, inl, inr, ℕ, zero, suc, ◌+◌, ◌-◌, ◌<◌, ◌≤◌, List, [], ◌∷◌, ◌++◌, length, replicate, refl, sym, ap, subst, ◌∙◌, arith}
+use Rattle.std.specs.Prelude.{Result, Ok, Err, IfErr, Option, Some, None, Bool, true, false, not, ◌==◌}
+use Rattle.std.specs.List.{slice_index_or}
+use Rattle.std.proofs.lemmas.Bool.Decides.{eqb_tells}
+use Rattle.std.proofs.lemmas.List.{append-nil}
 use Rattle.nb_host.specs.World.{World}
 use Rattle.nb_host.specs.declared.faults.Fault.{Fault}
 use Rattle.nb_host.specs.declared.faults.Fault.TheVariants.{Refused, Device, Memory}
 use Rattle.nb_host.specs.declared.refusals.Refusal.{Refusal}
-use Rattle.nb_host.specs.declared.refusals.Refusal.TheVariants.{WrongState}
+use Rattle.nb_host.specs.declared.refusals.Refusal.TheVariants.{WrongState, BackupRunning}
 use Rattle.nb_model.specs.declared.reply.Reply.{Reply}
 use Rattle.nb_model.specs.declared.reply.Reply.TheVariants.{Refused as RefusedBy, Scn}
 use Rattle.nb_model.specs.declared.statement.Statement.TheVariants.{EndBackup}
 use Rattle.nb_model.specs.Account.{Base}
 use Rattle.nb_model.specs.Causes.{Cause, first_cause, when, runs_other}
+use Rattle.nb_model.specs.Going.{IsAt, IsGoing}
 use Rattle.nb_model.specs.Image.{Image, image_state}
-use Rattle.nb_model.specs.Outcomes.{Begins, Merges as MergesOne, Finishes, Seen, Outcome, unless, passes}
+use Rattle.nb_model.specs.Outcomes.{Turn, Begins, Ends, Merges as MergesOne, Finishes, Seen, Outcome, unless, passes}
 use Rattle.nb_model.specs.Pages.{end_turn, ends_by, end_scn, end_strokes}
 use Rattle.nb_model.specs.Run.{Now, base_now, outcome, event_of}
 use Rattle.nb_model.specs.Strokes.{Stroke, ends, finish, on_base, base_after}
@@ -27,11 +31,41 @@ use Rattle.nb_state.specs.declared.turns.Progress.TheVariants.{More, Finished}
 use Rattle.nb_state.proofs.MakesLaws.{after_base, where_ended}
 use Rattle.nb_engine.specs.Turns.{SaysNone, DoesEnd}
 use Rattle.nb_session.specs.Acts.{Says, Acts, MayAct}
-use Rattle.nb_session.specs.Askers.{IsMerging, KeepsOthers, merge_todo, first_merging, IsBehind}
+use Rattle.nb_session.specs.Askers.{IsMerging, merge_first, merge_rest, task_todo}
+use Rattle.nb_session.specs.declared.task.Merging.{Merging}
+use Rattle.nb_session.specs.declared.task.Task.TheVariants.{Merge}
 use Rattle.nb_session.specs.Ready.{IsReady}
-use Rattle.nb_session.proofs.ActLaws.{trail_plain, ended_map}
+use Rattle.nb_session.specs.Steps.{IsBehind}
+use Rattle.nb_session.proofs.ActLaws.{trail_plain, ended_map, strikes_left, kept_none}
 use Rattle.nb_session.proofs.GiftLaws.{given_nothing, grows_none}
 use Rattle.nb_session.proofs.TurnLaws.{seen_now, outcome_is}
+use Rattle.nb_session.proofs.WayLaws.{merge_turns, ending_at}
+
+-- The parts of a turn that ends the stalled state.
+module _ (s : Seen) (session : ℕ) (reply : Reply) where
+  ends_strokes : (ends_by s session reply).strokes ≡ end_strokes s.base.image
+  unfolding ends_by
+  ends_strokes = refl
+
+  ends_reply : (ends_by s session reply).reply ≡ None
+  unfolding ends_by
+  ends_reply = refl
+
+  ends_next : (ends_by s session reply).next ≡ replicate (length s.base.diverted) MergesOne ++ Finishes reply ∷ []
+  unfolding ends_by
+  ends_next = refl
+
+  ends_running : (ends_by s session reply).running ≡ Some session
+  unfolding ends_by
+  ends_running = refl
+
+  ends_given : (ends_by s session reply).given ≡ s.given
+  unfolding ends_by
+  ends_given = refl
+
+  ends_made : (ends_by s session reply).made ≡ None
+  unfolding ends_by
+  ends_made = refl
 
 -- the end of a backup, where nothing is against it
 abbrev ending : Seen → (session : ℕ) → Outcome
@@ -48,38 +82,66 @@ end_is : (session : ℕ) (now : Now) → end_turn (seen_now now) session ≡ out
 unfolding first_turn
 end_is session now = sym (outcome_is session EndBackup now)
 
-gives_none : (s : Seen) (session : ℕ) (c : Cause) → (unless s c (ending s session)).given ≡ s.given
-unfolding unless ends_by
-gives_none s session None = refl
-gives_none s session (Some r) = refl
+some_none : (r : Refusal) → Some (RefusedBy r) ≡ None → ⊥
+some_none r e = cc
 
-end_given : (s : Seen) (session : ℕ) → (end_turn s session).given ≡ s.given
-end_given s session = ap (λ (o : Outcome). o.given) (end_turn_is s session) ∙ gives_none s session (end_causes s session)
+-- where it says nothing yet
+goes_by : (s : Seen) (session : ℕ) (c : Cause) → (unless s c (ending s session)).reply ≡ None → unless s c (ending s session) ≡ ending s session
+unfolding unless
+goes_by s session None is = refl
+goes_by s session (Some r) is = absurd (some_none r is)
 
--- what is left to do, where it says nothing yet
-next_by : (s : Seen) (session : ℕ) (c : Cause) → (unless s c (ending s session)).reply ≡ None
-    → (unless s c (ending s session)).next ≡ replicate (length s.base.diverted) MergesOne ++ Finishes (Scn (end_scn s.base.image)) ∷ []
-unfolding unless ends_by
-next_by s session None is = refl
-next_by s session (Some r) is = absurd (apart is)
-  where
-    apart : Some (RefusedBy r) ≡ None → ⊥
-    apart e = cc
+end_goes : (s : Seen) (session : ℕ) → (end_turn s session).reply ≡ None → end_turn s session ≡ ending s session
+end_goes s session is = end_turn_is s session ∙ goes_by s session (end_causes s session) (sym (ap (λ (o : Outcome). o.reply) (end_turn_is s session)) ∙ is)
 
-end_next : (s : Seen) (session : ℕ) → (end_turn s session).reply ≡ None → (end_turn s session).next ≡ replicate (length s.base.diverted) MergesOne ++ Finishes (Scn (end_scn s.base.image)) ∷ []
-end_next s session is = ap (λ (o : Outcome). o.next) (end_turn_is s session) ∙ next_by s session (end_causes s session) (sym (ap (λ (o : Outcome). o.reply) (end_turn_is s session)) ∙ is)
-
--- and where it is refused
+-- where it is refused nothing is left to do
 none_by : (s : Seen) (session : ℕ) (c : Cause) (refusal : Refusal) → (unless s c (ending s session)).reply ≡ Some (RefusedBy refusal) → (unless s c (ending s session)).next ≡ []
-unfolding unless ends_by
-none_by s session None refusal is = absurd (apart is)
-  where
-    apart : None ≡ Some (RefusedBy refusal) → ⊥
-    apart e = cc
+unfolding unless
+none_by s session None refusal is = absurd (some_none refusal (sym is ∙ ends_reply s session (Scn (end_scn s.base.image))))
 none_by s session (Some r) refusal is = refl
 
 end_none : (s : Seen) (session : ℕ) (refusal : Refusal) → (end_turn s session).reply ≡ Some (RefusedBy refusal) → (end_turn s session).next ≡ []
 end_none s session refusal is = ap (λ (o : Outcome). o.next) (end_turn_is s session) ∙ none_by s session (end_causes s session) refusal (sym (ap (λ (o : Outcome). o.reply) (end_turn_is s session)) ∙ is)
+
+-- either way nothing is given, and no file is made
+given_by : (s : Seen) (session : ℕ) (c : Cause) → (unless s c (ending s session)).given ≡ s.given
+unfolding unless
+given_by s session None = ends_given s session (Scn (end_scn s.base.image))
+given_by s session (Some r) = refl
+
+end_given : (s : Seen) (session : ℕ) → (end_turn s session).given ≡ s.given
+end_given s session = ap (λ (o : Outcome). o.given) (end_turn_is s session) ∙ given_by s session (end_causes s session)
+
+made_by : (s : Seen) (session : ℕ) (c : Cause) → (unless s c (ending s session)).made ≡ None
+unfolding unless
+made_by s session None = ends_made s session (Scn (end_scn s.base.image))
+made_by s session (Some r) = refl
+
+end_made : (s : Seen) (session : ℕ) → (end_turn s session).made ≡ None
+end_made s session = ap (λ (o : Outcome). o.made) (end_turn_is s session) ∙ made_by s session (end_causes s session)
+
+-- In the stalled state the session that runs isn't refused.
+cause_none : (first second : Cause) → first ≡ None → second ≡ None → first_cause (first ∷ second ∷ []) ≡ None
+unfolding first_cause
+cause_none first second one two = rw (one, two, first_cause) refl
+
+own_runs : (session : ℕ) → runs_other (Some session) session ≡ None
+own_runs session = elim (eqb_tells session session) [
+  | inl w ↦ ap (λ (b : Bool). when (not b) (BackupRunning session)) w.0
+  | inr w ↦ absurd (w.1 refl)
+]
+
+none_against : (s : Seen) (session : ℕ) → image_state s.base.image ≡ 1 → s.running ≡ Some session → end_causes s session ≡ None
+none_against s session stalled runs =
+    cause_none _ _ (ap (λ (n : ℕ). when (n == 0) (WrongState 0)) stalled) (ap (λ (r : Option ℕ). runs_other r session) runs ∙ own_runs session)
+
+unopposed : (s : Seen) (session : ℕ) → (unless s None (ending s session)).reply ≡ None
+unfolding unless
+unopposed s session = ends_reply s session (Scn (end_scn s.base.image))
+
+pub end_quiet : (s : Seen) (session : ℕ) → image_state s.base.image ≡ 1 → s.running ≡ Some session → (end_turn s session).reply ≡ None
+end_quiet s session stalled runs =
+    ap (λ (o : Outcome). o.reply) (end_turn_is s session) ∙ ap (λ (c : Cause). (unless s c (ending s session)).reply) (none_against s session stalled runs) ∙ unopposed s session
 
 says_none : (result : Result ℕ Fault) (said : Option Reply) → SaysNone result said → Says (λ scn. None) result said
 says_none (Ok scn) said is = is
@@ -97,65 +159,114 @@ end_diverted : (b : Base) (image : Image) → (base_after b (end_strokes image))
 unfolding end_strokes
 end_diverted b image = ends_diverted b (image_state image == 1)
 
-strokes_by : (s : Seen) (session : ℕ) (c : Cause) → (unless s c (ending s session)).reply ≡ None → (unless s c (ending s session)).strokes ≡ end_strokes s.base.image
-unfolding unless ends_by
-strokes_by s session None is = refl
-strokes_by s session (Some r) is = absurd (apart is)
-  where
-    apart : Some (RefusedBy r) ≡ None → ⊥
-    apart e = cc
+ends_is : (session : ℕ) (reply : Reply) (now : Now) → outcome session (Ends reply) now ≡ ends_by (seen_now now) session reply
+unfolding outcome turn
+ends_is session reply now = refl
 
-end_made : (s : Seen) (session : ℕ) → (end_turn s session).reply ≡ None → (end_turn s session).strokes ≡ end_strokes s.base.image
-end_made s session is = ap (λ (o : Outcome). o.strokes) (end_turn_is s session) ∙ strokes_by s session (end_causes s session) (sym (ap (λ (o : Outcome). o.reply) (end_turn_is s session)) ∙ is)
-
--- The first turn of `alter database end backup`.
+-- A turn that ends the stalled state.
 module _ (old new : World) (a b : Held) (t : Trail) (now : Now) (session : ℕ) (ready : IsReady old a t now) where
   abbrev turn_of : Outcome
   turn_of = end_turn (seen_now now) session
 
-  pub end_acts : (result : Result ℕ Fault) → DoesEnd result old new a b t (end_scn t.base.image) turn_of → MayAct (λ scn. None) result old new a b t now session (Begins EndBackup)
+  -- the first turn of `alter database end backup`
+  pub end_acts : (result : Result ℕ Fault) → DoesEnd result old new a b t (end_scn t.base.image) turn_of → MayAct (λ scn. None) result old new a b t now session (Begins EndBackup) []
   end_acts result does =
       let same = end_is session now in
       record {
         grows = grows_none old new does.gave;
         acts = λ told. record {
           says = subst (λ (x : Outcome). Says (λ scn. None) result x.reply) same (says_none result turn_of.reply does.says);
-          left = subst (λ (x : Outcome). Strikes old new (name_of a) t x.strokes) same does.left;
+          left = strikes_left old new (name_of a) t _ (subst (λ (x : Outcome). Strikes old new (name_of a) t x.strokes) same does.left);
           opened = ended_map result (subst (IsOpen new b) (trail_plain t (event_of session (Begins EndBackup) (outcome session (Begins EndBackup) now)) refl))
               (subst (λ (x : Outcome). WhereEnded result (IsOpen new b (after_strokes t x.strokes))) same does.opened);
           running = subst (λ (x : Outcome). WhereEnded result (b.running ≡ x.running)) same does.running;
           given = where_ended result _ (given_nothing old new now.given (outcome session (Begins EndBackup) now).given does.gave (sym (ap (λ (x : Outcome). x.given) same) ∙ end_given (seen_now now) session));
+          kept = where_ended result _ (kept_none new (event_of session (Begins EndBackup) (outcome session (Begins EndBackup) now)) (sym (ap (λ (x : Outcome). x.made) same) ∙ end_made (seen_now now) session));
           name = does.name;
         };
       }
 
-  -- as many turns are left as there are entries, and a last one
-  pub end_left : (scn left : ℕ) → DoesEnd (Ok scn) old new a b t (end_scn t.base.image) turn_of → left ≡ length b.files.entries
-      → (outcome session (Begins EndBackup) now).next ≡ merge_todo (Some (record { left = left; scn = scn }))
-  end_left scn left does entries =
-      let seen : after_strokes t turn_of.strokes ≡ after_strokes t (end_strokes (base_now now).image) = ap (after_strokes t) (end_made (seen_now now) session does.says) in
-      let kept : (after_strokes t turn_of.strokes).base.diverted ≡ (base_now now).diverted =
-      ap (λ (u : Trail). u.base.diverted) seen ∙ ap (λ (x : Base). x.diverted) (after_base t (end_strokes (base_now now).image)) ∙ end_diverted t.base (base_now now).image ∙ ap (λ (x : Base). x.diverted) ready.base in
-      let many : length (base_now now).diverted ≡ left = ap length (sym kept) ∙ sym (ap length does.opened.files.agrees.entries) ∙ sym entries in
-      let said : end_scn (base_now now).image ≡ scn = ap (λ (x : Base). end_scn x.image) (sym ready.base) ∙ sym does.answer in
-      sym (ap (λ (x : Outcome). x.next) (end_is session now)) ∙ end_next (seen_now now) session does.says
-      ∙ ap (λ (n : ℕ). replicate n MergesOne ++ Finishes (Scn (end_scn (base_now now).image)) ∷ []) many
-      ∙ ap (λ (n : ℕ). replicate left MergesOne ++ Finishes (Scn n) ∷ []) said
+  -- as many turns are left then as there are entries, and a last one
+  many : (entries : ℕ) → IsOpen new b (after_strokes t (end_strokes (base_now now).image)) → entries ≡ length b.files.entries → length (base_now now).diverted ≡ entries
+  many entries opened are =
+      let kept : (after_strokes t (end_strokes (base_now now).image)).base.diverted ≡ (base_now now).diverted =
+      ap (λ (x : Base). x.diverted) (after_base t (end_strokes (base_now now).image)) ∙ end_diverted t.base (base_now now).image ∙ ap (λ (x : Base). x.diverted) ready.base in
+      ap length (sym kept) ∙ sym (ap length opened.files.agrees.entries) ∙ sym are
+
+  module _ (entries : ℕ) (are : entries ≡ length b.files.entries) (scn : ℕ) (does : DoesEnd (Ok scn) old new a b t (end_scn t.base.image) turn_of) where
+    is_ending : turn_of ≡ ending (seen_now now) session
+    is_ending = end_goes (seen_now now) session does.says
+
+    entries_are : length (base_now now).diverted ≡ entries
+    entries_are = many entries (subst (λ (ss : List Stroke). IsOpen new b (after_strokes t ss)) (ap (λ (o : Outcome). o.strokes) is_ending ∙ ends_strokes (seen_now now) session (Scn (end_scn (base_now now).image))) does.opened) are
+
+    next_is : (reply : Reply) → replicate (length (base_now now).diverted) MergesOne ++ Finishes reply ∷ [] ≡ task_todo (Some (Merge (record { left = entries; reply = reply })))
+    next_is reply = ap (λ (n : ℕ). replicate n MergesOne ++ Finishes reply ∷ []) entries_are ∙ merge_turns entries (Finishes reply)
+
+    pub end_behind : IsBehind new b session (Begins EndBackup) [] now (Some (Merge (record { left = entries; reply = Scn scn })))
+    end_behind = record {
+      next = append-nil (outcome session (Begins EndBackup) now).next ∙ sym (ap (λ (x : Outcome). x.next) (end_is session now)) ∙ ap (λ (x : Outcome). x.next) is_ending
+          ∙ ends_next (seen_now now) session (Scn (end_scn (base_now now).image)) ∙ next_is (Scn (end_scn (base_now now).image))
+          ∙ ap (λ (n : ℕ). task_todo (Some (Merge (record { left = entries; reply = Scn n })))) (ap (λ (x : Base). end_scn x.image) (sym ready.base) ∙ sym does.answer);
+      goes = tt;
+    }
+
+    -- and behind a backup
+    pub ends_behind : (reply : Reply) → IsBehind new b session (Ends reply) [] now (Some (Merge (record { left = entries; reply = reply })))
+    ends_behind reply = record {
+      next = append-nil (outcome session (Ends reply) now).next ∙ ap (λ (x : Outcome). x.next) (ends_is session reply now) ∙ ends_next (seen_now now) session reply ∙ next_is reply;
+      goes = tt;
+    }
 
   -- none is where it is refused
-  pub end_refused : (refusal : Refusal) → DoesEnd (Err (Refused refusal)) old new a b t (end_scn t.base.image) turn_of → (outcome session (Begins EndBackup) now).next ≡ merge_todo None
-  end_refused refusal does = sym (ap (λ (x : Outcome). x.next) (end_is session now)) ∙ end_none (seen_now now) session refusal does.says
+  pub end_refused : (refusal : Refusal) → DoesEnd (Err (Refused refusal)) old new a b t (end_scn t.base.image) turn_of → (w : World) → IsBehind w b session (Begins EndBackup) [] now None
+  end_refused refusal does w = record {
+    next = append-nil (outcome session (Begins EndBackup) now).next ∙ sym (ap (λ (x : Outcome). x.next) (end_is session now)) ∙ end_none (seen_now now) session refusal does.says;
+    goes = tt;
+  }
 
--- whoever asks for the end of a backup, a merge of another session stays as it is
-pub end_others : (session : ℕ) (a b : Held) → ((other : ℕ) → a.running ≡ Some other → other ≢ session → b ≡ a) → KeepsOthers session a b
-end_others session a b stays other left apart is = subst (IsMerging other left) (sym (stays other is.running apart)) is
+  -- The end behind a backup, where its session runs.
+  module _ (reply : Reply) (quiet : turn_of.reply ≡ None) where
+    is_quiet : turn_of ≡ ending (seen_now now) session
+    is_quiet = end_goes (seen_now now) session quiet
 
--- only the session whose merge runs goes on with it
-pub merging_others : (session mine : ℕ) (a b : Held) → IsMerging session mine a → KeepsOthers session a b
-merging_others session mine a b this other left apart is = absurd (apart (same (sym is.running ∙ this.running)))
-  where
-    same : Some other ≡ Some session → other ≡ session
-    same e = cc
+    abbrev this : Outcome
+    this = outcome session (Ends reply) now
+
+    strokes_are : turn_of.strokes ≡ this.strokes
+    strokes_are = ap (λ (x : Outcome). x.strokes) is_quiet ∙ ends_strokes (seen_now now) session (Scn (end_scn (base_now now).image))
+        ∙ sym (ap (λ (x : Outcome). x.strokes) (ends_is session reply now) ∙ ends_strokes (seen_now now) session reply)
+
+    running_is : turn_of.running ≡ this.running
+    running_is = ap (λ (x : Outcome). x.running) is_quiet ∙ ends_running (seen_now now) session (Scn (end_scn (base_now now).image))
+        ∙ sym (ap (λ (x : Outcome). x.running) (ends_is session reply now) ∙ ends_running (seen_now now) session reply)
+
+    reply_is : turn_of.reply ≡ this.reply
+    reply_is = quiet ∙ sym (ap (λ (x : Outcome). x.reply) (ends_is session reply now) ∙ ends_reply (seen_now now) session reply)
+
+    pub ends_acts : (result : Result ℕ Fault) → DoesEnd result old new a b t (end_scn t.base.image) turn_of → MayAct (λ scn. None) result old new a b t now session (Ends reply) []
+    ends_acts result does = record {
+      grows = grows_none old new does.gave;
+      acts = λ told. record {
+        says = subst (Says (λ scn. None) result) reply_is (says_none result turn_of.reply does.says);
+        left = strikes_left old new (name_of a) t _ (subst (Strikes old new (name_of a) t) strokes_are does.left);
+        opened = ended_map result (subst (IsOpen new b) (trail_plain t (event_of session (Ends reply) this) refl)) (subst (λ (ss : List Stroke). WhereEnded result (IsOpen new b (after_strokes t ss))) strokes_are does.opened);
+        running = subst (λ (r : Option ℕ). WhereEnded result (b.running ≡ r)) running_is does.running;
+        given = where_ended result _ (given_nothing old new now.given this.given does.gave (ap (λ (x : Outcome). x.given) (ends_is session reply now) ∙ ends_given (seen_now now) session reply));
+        kept = where_ended result _ (kept_none new (event_of session (Ends reply) this) (ap (λ (x : Outcome). x.made) (ends_is session reply now) ∙ ends_made (seen_now now) session reply));
+        name = does.name;
+      };
+    }
+
+-- The stalled state ends behind a backup whose session runs: it isn't refused.
+pub ends_quiet : (w : World) (held : Held) (t : Trail) (now : Now) (session : ℕ) → IsReady w held t now → IsGoing now → (reply : Reply) (more : List Turn) → slice_index_or now.todo (session - 1) [] ≡ Ends reply ∷ more
+    → held.running ≡ Some session → (end_turn (seen_now now) session).reply ≡ None
+ends_quiet w held t now session ready going reply more here runs =
+    end_quiet (seen_now now) session (ending_at now (session - 1) reply more (subst (IsAt now (session - 1)) here (going.each (session - 1)))).state (sym ready.running ∙ runs)
+
+pub ends_unrefused : (old new : World) (a b : Held) (t : Trail) (now : Now) (session : ℕ) → IsReady old a t now → IsGoing now → (reply : Reply) (more : List Turn) → slice_index_or now.todo (session - 1) [] ≡ Ends reply ∷ more
+    → a.running ≡ Some session → (refusal : Refusal) → DoesEnd (Err (Refused refusal)) old new a b t (end_scn t.base.image) (end_turn (seen_now now) session) → ⊥
+ends_unrefused old new a b t now session ready going reply more here runs refusal does = some_none refusal (sym does.says ∙ ends_quiet old a t now session ready going reply more here runs)
 
 finish_is : (session : ℕ) (reply : Reply) (now : Now) → outcome session (Finishes reply) now ≡ record { strokes = finish ∷ []; reply = Some reply; next = []; running = None; made = None; given = now.given }
 unfolding outcome turn
@@ -166,69 +277,74 @@ unfolding outcome turn
 merge_is session now = refl
 
 -- what a turn of a merge is to say
-abbrev pub merge_said : (scn : ℕ) → Progress → Option Reply
-merge_said scn More = None
-merge_said scn Finished = Some (Scn scn)
+abbrev pub merge_said : Reply → Progress → Option Reply
+merge_said reply More = None
+merge_said reply Finished = Some reply
 
 -- A further turn of a merge.
-module _ (old new : World) (a b : Held) (t : Trail) (now : Now) (session scn : ℕ) (ready : IsReady old a t now) where
-  many : (left : ℕ) → IsMerging session left a → length t.base.diverted ≡ a.merged + left
-  many left merging = sym (ap length ready.opened.files.agrees.entries) ∙ merging.rest
+module _ (old new : World) (a b : Held) (t : Trail) (now : Now) (session : ℕ) (reply : Reply) (ready : IsReady old a t now) where
+  diverted : (left : ℕ) → IsMerging session left a → length t.base.diverted ≡ a.merged + left
+  diverted left merging = sym (ap length ready.opened.files.agrees.entries) ∙ merging.rest
 
-  finishes : (result : Result Progress Fault) → IfErr result IsNoRefusal → IsMerging session 0 a → Merges result old new a b t
-      → Acts (merge_said scn) result old new a b t now session (Finishes (Scn scn))
-  finishes (Ok More) none merging merges = absurd (omega (arith, many 0 merging, merges.on.0))
+  -- it fails
+  failed : (u : Turn) (ss : List Stroke) (fault : Fault) → IsNoRefusal fault → (outcome session u now).strokes ≡ ss → Strikes old new (name_of a) t ss → name_of b ≡ name_of a → Acts (merge_said reply) (Err fault) old new a b t now session u []
+  failed u ss (Refused refusal) none is struck name = absurd none
+  failed u ss Device none is struck name = record { says = tt; left = strikes_left old new (name_of a) t _ (subst (Strikes old new (name_of a) t) (sym is) struck); opened = tt; running = tt; given = tt; kept = tt; name = name }
+  failed u ss Memory none is struck name = record { says = tt; left = strikes_left old new (name_of a) t _ (subst (Strikes old new (name_of a) t) (sym is) struck); opened = tt; running = tt; given = tt; kept = tt; name = name }
+
+  finishes : (result : Result Progress Fault) → IfErr result IsNoRefusal → IsMerging session 0 a → Merges result old new a b t → Acts (merge_said reply) result old new a b t now session (Finishes reply) []
+  finishes (Ok More) none merging merges = absurd (omega (arith, diverted 0 merging, merges.on.0))
   finishes (Ok Finished) none merging merges =
-      let o = finish_is session (Scn scn) now in
+      let o = finish_is session reply now in
       record {
         says = ap (λ (x : Outcome). x.reply) o;
-        left = subst (λ (x : Outcome). Strikes old new (name_of a) t x.strokes) (sym o) merges.left;
-        opened = subst (IsOpen new b) (ap (λ (x : Outcome). after_strokes t x.strokes) (sym o) ∙ trail_plain t (event_of session (Finishes (Scn scn)) (outcome session (Finishes (Scn scn)) now)) refl) merges.on.2;
+        left = strikes_left old new (name_of a) t _ (subst (λ (x : Outcome). Strikes old new (name_of a) t x.strokes) (sym o) merges.left);
+        opened = subst (IsOpen new b) (ap (λ (x : Outcome). after_strokes t x.strokes) (sym o) ∙ trail_plain t (event_of session (Finishes reply) (outcome session (Finishes reply) now)) refl) merges.on.2;
         running = merges.on.1 ∙ sym (ap (λ (x : Outcome). x.running) o);
-        given = given_nothing old new now.given (outcome session (Finishes (Scn scn)) now).given merges.gave (ap (λ (x : Outcome). x.given) o);
+        given = given_nothing old new now.given (outcome session (Finishes reply) now).given merges.gave (ap (λ (x : Outcome). x.given) o);
+        kept = kept_none new (event_of session (Finishes reply) (outcome session (Finishes reply) now)) (ap (λ (x : Outcome). x.made) o);
         name = merges.name;
       }
-  finishes (Err (Refused refusal)) none merging merges = absurd none
-  finishes (Err Device) none merging merges =
-      record { says = tt; left = subst (λ (x : Outcome). Strikes old new (name_of a) t x.strokes) (sym (finish_is session (Scn scn) now)) merges.left; opened = tt; running = tt; given = tt; name = merges.name }
-  finishes (Err Memory) none merging merges =
-      record { says = tt; left = subst (λ (x : Outcome). Strikes old new (name_of a) t x.strokes) (sym (finish_is session (Scn scn) now)) merges.left; opened = tt; running = tt; given = tt; name = merges.name }
+  finishes (Err fault) none merging merges = failed (Finishes reply) (finish ∷ []) fault none (ap (λ (x : Outcome). x.strokes) (finish_is session reply now)) merges.left merges.name
 
   one_left : (left : ℕ) → IsMerging session (suc left) a → a.merged < length t.base.diverted
-  one_left left merging = omega (arith, many (suc left) merging)
+  one_left left merging = omega (arith, diverted (suc left) merging)
 
-  merges_one : (result : Result Progress Fault) → IfErr result IsNoRefusal → (left : ℕ) → IsMerging session (suc left) a → Merges result old new a b t
-      → Acts (merge_said scn) result old new a b t now session MergesOne
+  merges_one : (result : Result Progress Fault) → IfErr result IsNoRefusal → (left : ℕ) → IsMerging session (suc left) a → Merges result old new a b t → Acts (merge_said reply) result old new a b t now session MergesOne []
   merges_one (Ok More) none left merging merges =
       let o = merge_is session now in
       record {
         says = ap (λ (x : Outcome). x.reply) o;
-        left = subst (λ (x : Outcome). Strikes old new (name_of a) t x.strokes) (sym o) (merges.more (one_left left merging));
+        left = strikes_left old new (name_of a) t _ (subst (λ (x : Outcome). Strikes old new (name_of a) t x.strokes) (sym o) (merges.more (one_left left merging)));
         opened = subst (IsOpen new b) (ap (λ (x : Outcome). after_strokes t x.strokes) (sym o) ∙ trail_plain t (event_of session MergesOne (outcome session MergesOne now)) refl) merges.on.3;
         running = merges.on.2 ∙ ready.running ∙ sym (ap (λ (x : Outcome). x.running) o);
         given = given_nothing old new now.given (outcome session MergesOne now).given merges.gave (ap (λ (x : Outcome). x.given) o);
+        kept = kept_none new (event_of session MergesOne (outcome session MergesOne now)) (ap (λ (x : Outcome). x.made) o);
         name = merges.name;
       }
-  merges_one (Ok Finished) none left merging merges = absurd (omega (arith, many (suc left) merging, merges.on.0))
-  merges_one (Err (Refused refusal)) none left merging merges = absurd none
-  merges_one (Err Device) none left merging merges =
-      record { says = tt; left = subst (λ (x : Outcome). Strikes old new (name_of a) t x.strokes) (sym (merge_is session now)) (merges.more (one_left left merging)); opened = tt; running = tt; given = tt; name = merges.name }
-  merges_one (Err Memory) none left merging merges =
-      record { says = tt; left = subst (λ (x : Outcome). Strikes old new (name_of a) t x.strokes) (sym (merge_is session now)) (merges.more (one_left left merging)); opened = tt; running = tt; given = tt; name = merges.name }
+  merges_one (Ok Finished) none left merging merges = absurd (omega (arith, diverted (suc left) merging, merges.on.0))
+  merges_one (Err fault) none left merging merges = failed MergesOne [] fault none (ap (λ (x : Outcome). x.strokes) (merge_is session now)) (merges.more (one_left left merging)) merges.name
 
   pub merge_acts : (result : Result Progress Fault) → IfErr result IsNoRefusal → (left : ℕ) → IsMerging session left a → Merges result old new a b t
-      → MayAct (merge_said scn) result old new a b t now session (first_merging left scn)
+      → MayAct (merge_said reply) result old new a b t now session (merge_first left (Finishes reply)) []
   merge_acts result none zero merging merges = record { grows = grows_none old new merges.gave; acts = λ told. finishes result none merging merges }
   merge_acts result none (suc left) merging merges = record { grows = grows_none old new merges.gave; acts = λ told. merges_one result none left merging merges }
 
 -- how far the session is behind one turn
-module _ (session scn : ℕ) (a b : Held) where
+module _ (session : ℕ) (reply : Reply) (a b : Held) where
   pub more_left : (left : ℕ) → IsMerging session left a → GoesOn More a b → 1 ≤ left
   more_left left merging goes = omega (arith, merging.rest, goes.0)
 
-  pub more_behind : (left : ℕ) → IsMerging session left a → GoesOn More a b → IsBehind left scn (Some (record { left = left - 1; scn = scn }))
-  more_behind zero merging goes = absurd (omega (arith, merging.rest, goes.0))
-  more_behind (suc left) merging goes = let one : suc left - 1 ≡ left = omega arith in ap (λ (n : ℕ). Some (record { left = n; scn = scn })) one
+  pub more_behind : (w : World) (now : Now) (left : ℕ) → IsMerging session left a → GoesOn More a b
+      → IsBehind w b session (merge_first left (Finishes reply)) (merge_rest left (Finishes reply)) now (Some (Merge (record { left = left - 1; reply = reply })))
+  more_behind w now zero merging goes = absurd (omega (arith, merging.rest, goes.0))
+  more_behind w now (suc left) merging goes =
+      let one : left ≡ suc left - 1 = omega arith in
+      record {
+        next = ap (λ (x : Outcome). x.next ++ merge_rest (suc left) (Finishes reply)) (merge_is session now) ∙ merge_turns left (Finishes reply)
+            ∙ ap (λ (n : ℕ). task_todo (Some (Merge (record { left = n; reply = reply })))) one;
+        goes = tt;
+      }
 
   pub more_merging : (left : ℕ) → IsMerging session left a → GoesOn More a b → IsMerging session (left - 1) b
   more_merging left merging goes = record {
@@ -237,6 +353,7 @@ module _ (session scn : ℕ) (a b : Held) where
     rest = omega (arith, ap length goes.4, goes.1, merging.rest, goes.0);
   }
 
-  pub finished_behind : (left : ℕ) → IsMerging session left a → GoesOn Finished a b → IsBehind left scn None
-  finished_behind zero merging goes = refl
-  finished_behind (suc left) merging goes = absurd (omega (arith, merging.rest, goes))
+  pub finished_behind : (w : World) (now : Now) (left : ℕ) → IsMerging session left a → GoesOn Finished a b
+      → IsBehind w b session (merge_first left (Finishes reply)) (merge_rest left (Finishes reply)) now None
+  finished_behind w now zero merging goes = record { next = ap (λ (x : Outcome). x.next ++ []) (finish_is session reply now); goes = tt }
+  finished_behind w now (suc left) merging goes = absurd (omega (arith, merging.rest, goes))

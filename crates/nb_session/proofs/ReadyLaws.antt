@@ -12,13 +12,15 @@ use Rattle.nb_change.specs.Changes.{Other}
 use Rattle.nb_change.proofs.NameLaws.{decide}
 use Rattle.nb_model.specs.Account.{Base, Entry, Plain, IsBase, Account, with_entry}
 use Rattle.nb_model.specs.Causes.{is_free_entry}
+use Rattle.nb_model.specs.Going.{IsMaking}
 use Rattle.nb_model.specs.Making.{MadeFile, IsNoneOf, making, under_way}
 use Rattle.nb_model.specs.Outcomes.{Turn, Outcome}
 use Rattle.nb_model.specs.Owner.{delta_name, owner}
-use Rattle.nb_model.specs.Run.{Now, Event, Played, base_now, with_made, account_after, outcome, event_of, stands_then, take_turn, strokes_of, files_made}
+use Rattle.nb_model.specs.Run.{Now, Event, Played, base_now, with_made, account_after, outcome, event_of, stands_then, take_turn, one_turn, files_made}
 use Rattle.nb_model.specs.Steps.{steps_in, steps_of, after_steps}
 use Rattle.nb_model.specs.Strokes.{base_in, base_after}
 use Rattle.nb_model.specs.Trail.{Trail}
+use Rattle.nb_model.proofs.MakingLaws.{made_used}
 use Rattle.nb_model.proofs.OpenedLaws.{HasMain, has_main}
 use Rattle.nb_model.proofs.OpeningLaws.{opened_in_use}
 use Rattle.nb_model.proofs.OutputLaws.{strokes_one}
@@ -59,7 +61,7 @@ own_entry : (b : Base) → is_free_entry (IsBase b) ≡ false
 unfolding is_free_entry
 own_entry b = refl
 
-plain_entry : (bytes : List ℕ) → is_free_file (Some bytes) ≡ false → is_free_entry (Plain bytes None) ≡ false
+plain_entry : (bytes : List ℕ) → is_free_entry (Plain bytes None) ≡ false → is_free_file (Some bytes) ≡ false
 unfolding is_free_entry
 plain_entry bytes used = used
 
@@ -150,7 +152,16 @@ module _ (old w : World) (e0 e1 : Held) (t : Trail) (now : Now) (session : ℕ) 
 
   module _ (opened : IsOpen w e1 seen) (same : name_of e1 ≡ name_of e0) (runs : e1.running ≡ o.running) (kept : AreKept w (files_made (event ∷ [])))
       (read : (m : List ℕ) → Other (Touched (name_of e0) made) m → w.files m ≡ old.files m)
-      (apart : (name bytes : List ℕ) → Contains made (name, bytes) → IsApart e0 name) (used : (name bytes : List ℕ) → o.made ≡ Some (name, bytes) → is_free_file (Some bytes) ≡ false) where
+      (apart : (name bytes : List ℕ) → Contains made (name, bytes) → IsApart e0 name) (makes : IsMaking now) where
+    one_is : one_turn session now ≡ (event ∷ [], later)
+    unfolding one_turn take_turn
+    one_is = ap (λ (ts : List Turn). take_turn session ts now) here
+
+    -- the name of a file that was made isn't free
+    used : (m bytes : List ℕ) → Contains (files_made (event ∷ [])) (m, bytes) → is_free_entry (later.account.entry m) ≡ false
+    used m bytes there =
+        ap (λ (p : Played). is_free_entry (p.1.account.entry m)) (sym one_is) ∙ made_used session now makes (m, bytes) (subst (λ (p : Played). Contains (files_made p.0) (m, bytes)) (sym one_is) there)
+
     -- of a difference file beside a name that isn't the database's it stays whether it is there
     beside : (m : List ℕ) → m ≢ name_of e0 → is_some (w.files (delta_name m)) ≡ is_some (old.files (delta_name m))
     beside m other = elim (decide (delta_name m) (name_of e0)) [
@@ -180,9 +191,8 @@ module _ (old w : World) (e0 e1 : Held) (t : Trail) (now : Now) (session : ℕ) 
 
     known_made : (m bytes : List ℕ) → m ≢ now.name → Contains (files_made (event ∷ [])) (m, bytes) → is_free_name w.files m ≡ is_free_entry (later.account.entry m)
     known_made m bytes other there =
-        let is : o.made ≡ Some (m, bytes) = made_one event m bytes there in
-        is_free_name-false w.files m (ap is_free_file (kept m bytes there).reads ∙ used m bytes is)
-        ∙ sym (ap is_free_entry (made_then session (tail ++ more) o now m bytes other is) ∙ plain_entry bytes (used m bytes is))
+        let entry : later.account.entry m ≡ Plain bytes None = made_then session (tail ++ more) o now m bytes other (made_one event m bytes there) in
+        is_free_name-false w.files m (ap is_free_file (kept m bytes there).reads ∙ plain_entry bytes (ap is_free_entry (sym entry) ∙ used m bytes there)) ∙ sym (used m bytes there)
 
     known_own : (m : List ℕ) → m ≡ now.name → is_free_name w.files m ≡ is_free_entry (later.account.entry m)
     known_own m own =

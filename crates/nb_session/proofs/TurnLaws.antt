@@ -1,86 +1,113 @@
 -- One turn, by what it made of the database and by its line.
-use Rattle.std.proofs.Common.{◌≡◌, ℕ, ◌∷◌, ◌++◌, Bool, false, refl, sym, ap, subst, ◌∙◌}
-use Rattle.std.specs.Prelude.{Result, Ok, Err, IsErr, Option, Some, None, IsTrue, if◌then◌else◌}
+use Rattle.std.proofs.Common.{◌≡◌, ℕ, ◌-◌, List, [], ◌∷◌, ◌++◌, Bool, false, refl, sym, ap, subst, ◌∙◌}
+use Rattle.std.specs.Prelude.{true, Result, Ok, Err, IsErr, IfOk, Option, Some, None, IsTrue, if◌then◌else◌}
+use Rattle.std.specs.List.{slice_index_or}
+use Rattle.std.proofs.lemmas.List.{append-nil}
 use Rattle.nb_host.specs.World.{World}
 use Rattle.nb_host.specs.declared.faults.Fault.{Fault}
 use Rattle.nb_host.specs.declared.faults.Fault.TheVariants.{Refused, Device, Memory}
+use Rattle.nb_host.specs.declared.refusals.Refusal.{Refusal}
 use Rattle.nb_model.specs.declared.reply.Reply.{Reply}
+use Rattle.nb_model.specs.declared.reply.Reply.TheVariants.{Refused as RefusedBy}
 use Rattle.nb_model.specs.declared.statement.Statement.{Statement}
+use Rattle.nb_model.specs.Built.{is_built}
 use Rattle.nb_model.specs.Gifts.{Foretells}
+use Rattle.nb_model.specs.Going.{IsMaking}
 use Rattle.nb_model.specs.Lines.{line_text}
+use Rattle.nb_model.specs.Making.{MadeFile, making}
 use Rattle.nb_model.specs.Outcomes.{Turn, Begins, Seen}
 use Rattle.nb_model.specs.Output.{status_after}
 use Rattle.nb_model.specs.Run.{Now, Played, base_now, outcome, take_turn}
 use Rattle.nb_model.specs.Trail.{Trail}
 use Rattle.nb_model.specs.Turns.{first_turn, turn}
-use Rattle.nb_model.proofs.TodoLaws.{built_never_usage, status_plain}
-use Rattle.nb_model.specs.Built.{is_built}
+use Rattle.nb_model.proofs.TodoLaws.{IsSingle, built_never_usage, status_plain}
 use Rattle.nb_state.specs.Open.{Held}
 use Rattle.nb_session.specs.declared.stop.Stop.{Stop}
 use Rattle.nb_session.specs.declared.stop.Stop.TheVariants.{Device as DeviceStop, Memory as MemoryStop}
+use Rattle.nb_session.specs.declared.task.Task.{Task}
+use Rattle.nb_session.specs.declared.task.Taken.{Taken}
 use Rattle.nb_session.specs.Acts.{Says, Grows, Acts, MayAct}
 use Rattle.nb_session.specs.Ready.{IsReady}
 use Rattle.nb_session.specs.Replies.{HasEnded, is_refusal}
 use Rattle.nb_session.specs.Says.{SaysLine}
-use Rattle.nb_session.specs.Steps.{as_played, Turns}
+use Rattle.nb_session.specs.Steps.{as_played, IsBehind, Turns}
 use Rattle.nb_session.specs.Stops.{Plays}
-use Rattle.nb_session.proofs.EventLaws.{event_failed, event_quiet, event_unsaid, event_said}
+use Rattle.nb_session.proofs.EventLaws.{Marks, event_failed, event_quiet, event_unsaid, event_said}
 use Rattle.nb_session.proofs.GiftLaws.{foretold_still, grows_joined, grows_none}
 
 -- a result that is a failure
-pub plays_err : {T : Type 0} (refused : T → Bool) (result : Result T Fault) (old new : World) (before after : Held) (t : Trail) (now : Now) (p : Played) → IsErr result
-    → ((e : Stop) → Plays (Err e) old new before after t now p) → Plays (as_played refused result) old new before after t now p
-plays_err refused (Ok value) old new before after t now p is plays = absurd (cc (is))
-plays_err refused (Err (Refused refusal)) old new before after t now p is plays = plays MemoryStop
-plays_err refused (Err Device) old new before after t now p is plays = plays DeviceStop
-plays_err refused (Err Memory) old new before after t now p is plays = plays MemoryStop
+plays_err : {T : Type 0} (refused : T → Bool) (result : Result T Fault) (old new : World) (before after : Held) (t : Trail) (now : Now) (p : Played) (files : List MadeFile) → IsErr result
+    → ((e : Stop) → Plays (Err e) old new before after t now p files) → Plays (as_played refused result) old new before after t now p files
+plays_err refused (Ok value) old new before after t now p files is plays = absurd (cc (is))
+plays_err refused (Err (Refused refusal)) old new before after t now p files is plays = plays MemoryStop
+plays_err refused (Err Device) old new before after t now p files is plays = plays DeviceStop
+plays_err refused (Err Memory) old new before after t now p files is plays = plays MemoryStop
 
-module _ {T S : Type 0} (reply : T → Option Reply) (result : Result T Fault) (refused : S → Bool) (old mid new : World) (e0 e1 : Held) (t : Trail) (now : Now) (session : ℕ) (turn : Turn)
-    (may : MayAct reply result old mid e0 e1 t now session turn) where
+err_none : {S : Type 0} (result : Result S Fault) (P : S → Type 0) → IsErr result → IfOk result P
+err_none (Ok value) P is = absurd (cc (is))
+err_none (Err e) P is = tt
+
+-- A turn of the session that has it to do next, and `tail` and `more` behind it.
+module _ {T S : Type 0} (reply : T → Option Reply) (result : Result T Fault) (refused : S → Bool) (task : S → Option Task) (old mid new : World) (e0 e1 : Held) (t : Trail) (now : Now) (session : ℕ)
+    (u : Turn) (tail more : List Turn) (files : List MadeFile) (files_are : files ≡ making (base_now now).frozen (u ∷ tail)) (makes : IsMaking now) (place : slice_index_or now.todo (session - 1) [] ≡ u ∷ (tail ++ more))
+    (may : MayAct reply result old mid e0 e1 t now session u files) (mark : Acts reply result old mid e0 e1 t now session u files → Marks old mid e0 files) where
+  abbrev played : Played
+  played = take_turn session (u ∷ (tail ++ more)) now
+
+  acting : Foretells now.given old mid → Acts reply result old mid e0 e1 t now session u (making (base_now now).frozen (u ∷ tail))
+  acting told = subst (Acts reply result old mid e0 e1 t now session u) files_are (may.acts told)
+
+  marks : Foretells now.given old mid → Marks old mid e0 (making (base_now now).frozen (u ∷ tail))
+  marks told = subst (Marks old mid e0) files_are (mark (may.acts told))
+
   -- it failed before it was to say anything
-  pub turns_failed : (answer : Result S Fault) → IsErr answer → Turns refused answer old mid e0 e1 t now session turn
+  pub turns_failed : (answer : Result S Fault) → IsErr answer → Turns refused task answer old mid e0 e1 t now session u tail more
   turns_failed answer failed = record {
     grows = may.grows;
-    plays = λ rest told. plays_err refused answer old mid e0 e1 t now (take_turn session (turn ∷ rest) now) failed
-        (event_failed old mid mid e0 e1 t now session turn rest result reply (may.acts told));
+    plays = λ told. plays_err refused answer old mid e0 e1 t now played (making (base_now now).frozen (u ∷ tail)) failed (event_failed old mid mid e0 e1 t now session u tail more result reply (acting told) (marks told));
+    behind = λ told. err_none answer _ failed;
   }
 
   -- it has nothing to say
-  pub turns_quiet : (value : S) → HasEnded result → refused value ≡ false → IsReady old e0 t now → ((said : Option Reply) → Says reply result said → said ≡ None) → Turns refused (Ok value) old mid e0 e1 t now session turn
-  turns_quiet value has not_refused ready quiet = record {
+  pub turns_quiet : (value : S) → HasEnded result → refused value ≡ false → IsReady old e0 t now → ((said : Option Reply) → Says reply result said → said ≡ None)
+      → (Foretells now.given old mid → IsBehind mid e1 session u tail now (task value)) → Turns refused task (Ok value) old mid e0 e1 t now session u tail more
+  turns_quiet value has not_refused ready quiet behind = record {
     grows = may.grows;
-    plays = λ rest told.
-        let acts = may.acts told in
-        subst (λ (b : Bool). Plays (Ok b) old mid e0 e1 t now (take_turn session (turn ∷ rest) now)) (sym not_refused)
-        (event_quiet old mid mid e0 e1 t now session turn rest result reply acts has (quiet _ acts.says) ready);
+    plays = λ told.
+        let acts = acting told in
+        subst (λ (b : Bool). Plays (Ok b) old mid e0 e1 t now played (making (base_now now).frozen (u ∷ tail))) (sym not_refused)
+        (event_quiet old mid mid e0 e1 t now session u tail more result reply acts (marks told) has place ready makes (quiet _ acts.says));
+    behind = behind;
   }
 
-  module _ (has : HasEnded result) (r : Reply) (is_said : (said : Option Reply) → Says reply result said → said ≡ Some r) {V E : Type 0} (told_line : Result V E) (says : SaysLine told_line mid new (line_text session r)) where
-    acting : Foretells now.given old new → Acts reply result old mid e0 e1 t now session turn
-    acting told = may.acts (foretold_still old mid new now.given may.grows says.gave told)
+  module _ (has : HasEnded result) (r : Reply) (is_said : (said : Option Reply) → Says reply result said → said ≡ Some r) {V E : Type 0} (told_line : Result V E) (says : SaysLine told_line mid new (line_text session r)) (ready : IsReady old e0 t now) where
+    before : Foretells now.given old new → Foretells now.given old mid
+    before told = foretold_still old mid new now.given may.grows says.gave told
 
     grown : Grows old new
     grown = grows_joined old mid new may.grows (grows_none mid new says.gave)
 
     -- its line wasn't said whole
-    pub turns_unsaid : (answer : Result S Fault) → IsErr answer → Turns refused answer old new e0 e1 t now session turn
+    pub turns_unsaid : (answer : Result S Fault) → IsErr answer → Turns refused task answer old new e0 e1 t now session u tail more
     turns_unsaid answer failed = record {
       grows = grown;
-      plays = λ rest told.
-          let acts = acting told in
-          plays_err refused answer old new e0 e1 t now (take_turn session (turn ∷ rest) now) failed
-          (event_unsaid old mid new e0 e1 t now session turn rest result reply acts has r (is_said _ acts.says) told_line says);
+      plays = λ told.
+          let acts = acting (before told) in
+          plays_err refused answer old new e0 e1 t now played (making (base_now now).frozen (u ∷ tail)) failed
+          (event_unsaid old mid new e0 e1 t now session u tail more result reply acts (marks (before told)) has place ready makes r (is_said _ acts.says) told_line says);
+      behind = λ told. err_none answer _ failed;
     }
 
     -- it was
-    pub turns_said : (value : S) → IsReady old e0 t now → new.said ≡ mid.said ++ line_text session r → ((outcome session turn now).reply ≡ Some r → status_after r ≡ (if refused value then 1 else 0))
-        → Turns refused (Ok value) old new e0 e1 t now session turn
-    turns_said value ready said status = record {
+    pub turns_said : (value : S) → new.said ≡ mid.said ++ line_text session r → ((outcome session u now).reply ≡ Some r → status_after r ≡ (if refused value then 1 else 0))
+        → (Foretells now.given old mid → IsBehind new e1 session u tail now (task value)) → Turns refused task (Ok value) old new e0 e1 t now session u tail more
+    turns_said value said status behind = record {
       grows = grown;
-      plays = λ rest told.
-          let acts = acting told in
+      plays = λ told.
+          let acts = acting (before told) in
           let reply_is = is_said _ acts.says in
-          event_said old mid new e0 e1 t now session turn rest result reply acts has r reply_is told_line says (refused value) ready said (status reply_is);
+          event_said old mid new e0 e1 t now session u tail more result reply acts (marks (before told)) has place ready makes r reply_is told_line says (refused value) said (status reply_is);
+      behind = λ told. behind (before told);
     }
 
 -- what a turn sees
@@ -95,3 +122,31 @@ outcome_is session statement now = refl
 pub status_told : (session : ℕ) (statement : Statement) (now : Now) (r : Reply) → IsTrue (is_built statement) → (outcome session (Begins statement) now).reply ≡ Some r → status_after r ≡ (if is_refusal r then 1 else 0)
 status_told session statement now r can is =
     status_plain r (λ usage. built_never_usage statement can (seen_now now) session (sym (ap (λ o. o.reply) (outcome_is session statement now)) ∙ is ∙ ap Some usage))
+
+-- behind a reply that is no refusal it is 0
+pub status_none : (r : Reply) → is_refusal r ≡ false → status_after r ≡ 0
+status_none r none = status_plain r (λ usage. refused_is (sym none ∙ ap is_refusal usage)) ∙ ap (λ (b : Bool). if b then 1 else 0) none
+  where
+    refused_is : false ≡ true → ⊥
+    refused_is e = cc
+
+-- a statement that is done in one turn leaves nothing behind it
+pub single_behind : (w : World) (held : Held) (session : ℕ) (statement : Statement) (now : Now) → IsSingle statement → IsBehind w held session (Begins statement) [] now None
+single_behind w held session statement now single =
+    record { next = append-nil (outcome session (Begins statement) now).next ∙ ap (λ o. o.next) (outcome_is session statement now) ∙ single (seen_now now) session; goes = tt }
+
+-- A turn that was refused, and whose refusal is said.
+module _ {T : Type 0} (reply : T → Option Reply) (refusal : Refusal) (old mid new : World) (e0 e1 : Held) (t : Trail) (now : Now) (session : ℕ) (u : Turn) (tail more : List Turn)
+    (files : List MadeFile) (files_are : files ≡ making (base_now now).frozen (u ∷ tail)) (makes : IsMaking now) (place : slice_index_or now.todo (session - 1) [] ≡ u ∷ (tail ++ more))
+    (may : MayAct reply (Err (Refused refusal)) old mid e0 e1 t now session u files) (mark : Acts reply (Err (Refused refusal)) old mid e0 e1 t now session u files → Marks old mid e0 files) (ready : IsReady old e0 t now) where
+  pub turns_refused : (answer : Result Taken Fault) → SaysLine answer mid new (line_text session (RefusedBy refusal)) → IfOk answer (λ taken. taken ≡ record { task = None; refused = true })
+      → ((outcome session u now).reply ≡ Some (RefusedBy refusal) → status_after (RefusedBy refusal) ≡ 1) → (Foretells now.given old mid → IsBehind new e1 session u tail now None)
+      → Turns (λ taken. taken.refused) (λ taken. taken.task) answer old new e0 e1 t now session u tail more
+  turns_refused (Ok taken) says is status behind =
+      turns_said reply (Err (Refused refusal)) (λ (x : Taken). x.refused) (λ (x : Taken). x.task) old mid new e0 e1 t now session u tail more files files_are makes place may mark tt (RefusedBy refusal) (λ said s. s) (Ok taken) says ready
+      taken says.said
+      (λ replied. status replied ∙ ap (λ (x : Taken). if x.refused then 1 else 0) (sym is))
+      (λ told. subst (λ (x : Taken). IsBehind new e1 session u tail now x.task) (sym is) (behind told))
+  turns_refused (Err fault) says is status behind =
+      turns_unsaid reply (Err (Refused refusal)) (λ (x : Taken). x.refused) (λ (x : Taken). x.task) old mid new e0 e1 t now session u tail more files files_are makes place may mark tt (RefusedBy refusal) (λ said s. s) (Err fault) says ready
+      (Err fault) refl

@@ -1,45 +1,69 @@
-use Rattle.std.proofs.Common.{refl, subst}
+use Rattle.std.proofs.Common.{[], refl, sym, subst, ◌∙◌}
 use Rattle.std.specs.Prelude.{Ok, Err}
-use Rattle.nb_model.specs.declared.reply.Reply.TheVariants.{Scn}
-use Rattle.nb_state.specs.Turns.{Merges}
+use Rattle.nb_model.specs.Account.{Base}
+use Rattle.nb_model.specs.Run.{base_now}
+use Rattle.nb_model.specs.Sound.{HasNoZeros}
+use Rattle.nb_state.specs.Turns.{Merges, GoesOn}
 use Rattle.nb_state.specs.declared.turns.Progress.{Progress}
 use Rattle.nb_state.specs.declared.turns.Progress.TheVariants.{More, Finished}
-use Rattle.nb_session.specs.declared.merges.Taken.{Taken}
-use Rattle.nb_session.proofs.MergeLaws.{merge_said, merge_acts}
-use Rattle.nb_session.proofs.TurnLaws.{turns_failed, turns_quiet, turns_unsaid, turns_said}
+use Rattle.nb_session.specs.declared.task.Taken.{Taken}
+use Rattle.nb_session.proofs.EventLaws.{marks_none}
+use Rattle.nb_session.proofs.MakesLaws.{merges_make}
+use Rattle.nb_session.proofs.MergeLaws.{merge_said, merge_acts, more_behind, finished_behind}
+use Rattle.nb_session.proofs.TurnLaws.{turns_failed, turns_quiet, turns_unsaid, turns_said, status_none}
 use Rattle.nb_session.proofs.merges.merge_on.Goals as goal
 
 pub returns-in_err-merge_turn-clause-turn : goal.returns-in_err-merge_turn-clause-turn
-returns-in_err-merge_turn-clause-turn g c now t tells ready zeros =
+returns-in_err-merge_turn-clause-turn g c now t more tells ready makes here =
     let old = g.H.Host.world c.args.host.now in
     let mid = g.H.Host.world c.merge_turn.new.host in
-    turns_failed (merge_said c.args.merge.scn) (Err c.in_err-merge_turn.field-0.0) (λ (taken : Taken). taken.refused) old mid mid c.args.engine.now c.merge_turn.new.self t now c.args.session _
-    (merge_acts old mid c.args.engine.now c.merge_turn.new.self t now c.args.session c.args.merge.scn ready _ c.in_err-merge_turn.ensures.not_refused c.args.merge.left c.requires.merging (c.in_err-merge_turn.ensures.merges t tells ready.opened zeros))
+    let a = c.args.engine.now in
+    let b = c.merge_turn.new.self in
+    let m = c.args.merging in
+    let zeros = subst (λ (x : Base). HasNoZeros x.image) (sym ready.base) makes.going.sound.sound.no_zeros in
+    turns_failed (merge_said m.reply) (Err c.in_err-merge_turn.field-0.0) (λ (taken : Taken). taken.refused) (λ (taken : Taken). taken.task) old mid mid a b t now c.args.session _ _ more [] (merges_make (base_now now).frozen m.left m.reply) makes here
+    (merge_acts old mid a b t now c.args.session m.reply ready (Err c.in_err-merge_turn.field-0.0) c.in_err-merge_turn.ensures.not_refused m.left c.requires.fits.0 (c.in_err-merge_turn.ensures.merges t tells ready.opened zeros)) (λ acts. marks_none old mid a)
     c.from_residual.result c.from_residual.ensures.0
 
 pub returns-in-More-clause-turn : goal.returns-in-More-clause-turn
-returns-in-More-clause-turn g c now t tells ready zeros =
+returns-in-More-clause-turn g c now t more tells ready makes here =
     let old = g.H.Host.world c.args.host.now in
     let mid = g.H.Host.world c.merge_turn.new.host in
-    let merges = subst (λ (p : Progress). Merges (Ok p) old mid c.args.engine.now c.merge_turn.new.self t) c.in-More.is (c.in_ok-merge_turn.ensures.merges t tells ready.opened zeros) in
-    turns_quiet (merge_said c.args.merge.scn) (Ok More) (λ (taken : Taken). taken.refused) old mid mid c.args.engine.now c.merge_turn.new.self t now c.args.session _
-    (merge_acts old mid c.args.engine.now c.merge_turn.new.self t now c.args.session c.args.merge.scn ready (Ok More) tt c.args.merge.left c.requires.merging merges)
-    _ tt refl ready (λ said is. is)
+    let a = c.args.engine.now in
+    let b = c.merge_turn.new.self in
+    let m = c.args.merging in
+    let zeros = subst (λ (x : Base). HasNoZeros x.image) (sym ready.base) makes.going.sound.sound.no_zeros in
+    let merges = subst (λ (p : Progress). Merges (Ok p) old mid a b t) c.in-More.is (c.in_ok-merge_turn.ensures.merges t tells ready.opened zeros) in
+    let goes = subst (λ (p : Progress). GoesOn p a b) c.in-More.is c.in_ok-merge_turn.ensures.goes in
+    turns_quiet (merge_said m.reply) (Ok More) (λ (taken : Taken). taken.refused) (λ (taken : Taken). taken.task) old mid mid a b t now c.args.session _ _ more [] (merges_make (base_now now).frozen m.left m.reply) makes here
+    (merge_acts old mid a b t now c.args.session m.reply ready (Ok More) tt m.left c.requires.fits.0 merges) (λ acts. marks_none old mid a)
+    _ tt refl ready (λ said is. is) (λ told. more_behind c.args.session m.reply a b mid now m.left c.requires.fits.0 goes)
 
 pub returns-in_err-say-in-Finished-clause-turn : goal.returns-in_err-say-in-Finished-clause-turn
-returns-in_err-say-in-Finished-clause-turn g c now t tells ready zeros =
+returns-in_err-say-in-Finished-clause-turn g c now t more tells ready makes here =
     let old = g.H.Host.world c.args.host.now in
     let mid = g.H.Host.world c.merge_turn.new.host in
-    let merges = subst (λ (p : Progress). Merges (Ok p) old mid c.args.engine.now c.merge_turn.new.self t) c.in-Finished.is (c.in_ok-merge_turn.ensures.merges t tells ready.opened zeros) in
-    turns_unsaid (merge_said c.args.merge.scn) (Ok Finished) (λ (taken : Taken). taken.refused) old mid (g.H.Host.world c.say.new.host) c.args.engine.now c.merge_turn.new.self t now c.args.session _
-    (merge_acts old mid c.args.engine.now c.merge_turn.new.self t now c.args.session c.args.merge.scn ready (Ok Finished) tt c.args.merge.left c.requires.merging merges)
-    tt (Scn c.args.merge.scn) (λ said is. is) c.say.result (c.say.ensures.line tells) c.from_residual-in_err-say-in-Finished.result c.from_residual-in_err-say-in-Finished.ensures.0
+    let a = c.args.engine.now in
+    let b = c.merge_turn.new.self in
+    let m = c.args.merging in
+    let zeros = subst (λ (x : Base). HasNoZeros x.image) (sym ready.base) makes.going.sound.sound.no_zeros in
+    let merges = subst (λ (p : Progress). Merges (Ok p) old mid a b t) c.in-Finished.is (c.in_ok-merge_turn.ensures.merges t tells ready.opened zeros) in
+    turns_unsaid (merge_said m.reply) (Ok Finished) (λ (taken : Taken). taken.refused) (λ (taken : Taken). taken.task) old mid (g.H.Host.world c.say.new.host) a b t now c.args.session _ _ more [] (merges_make (base_now now).frozen m.left m.reply) makes here
+    (merge_acts old mid a b t now c.args.session m.reply ready (Ok Finished) tt m.left c.requires.fits.0 merges) (λ acts. marks_none old mid a)
+    tt m.reply (λ said is. is) c.say.result (c.say.ensures.line tells) ready c.from_residual-in_err-say-in-Finished.result c.from_residual-in_err-say-in-Finished.ensures.0
 
 pub returns-in_ok-say-in-Finished-clause-turn : goal.returns-in_ok-say-in-Finished-clause-turn
-returns-in_ok-say-in-Finished-clause-turn g c now t tells ready zeros =
+returns-in_ok-say-in-Finished-clause-turn g c now t more tells ready makes here =
     let old = g.H.Host.world c.args.host.now in
     let mid = g.H.Host.world c.merge_turn.new.host in
-    let merges = subst (λ (p : Progress). Merges (Ok p) old mid c.args.engine.now c.merge_turn.new.self t) c.in-Finished.is (c.in_ok-merge_turn.ensures.merges t tells ready.opened zeros) in
-    turns_said (merge_said c.args.merge.scn) (Ok Finished) (λ (taken : Taken). taken.refused) old mid (g.H.Host.world c.say.new.host) c.args.engine.now c.merge_turn.new.self t now c.args.session _
-    (merge_acts old mid c.args.engine.now c.merge_turn.new.self t now c.args.session c.args.merge.scn ready (Ok Finished) tt c.args.merge.left c.requires.merging merges)
-    tt (Scn c.args.merge.scn) (λ said is. is) c.say.result (c.say.ensures.line tells) _ ready (c.in_ok-say-in-Finished.ensures.line tells).said (λ is. refl)
+    let new = g.H.Host.world c.say.new.host in
+    let a = c.args.engine.now in
+    let b = c.merge_turn.new.self in
+    let m = c.args.merging in
+    let zeros = subst (λ (x : Base). HasNoZeros x.image) (sym ready.base) makes.going.sound.sound.no_zeros in
+    let merges = subst (λ (p : Progress). Merges (Ok p) old mid a b t) c.in-Finished.is (c.in_ok-merge_turn.ensures.merges t tells ready.opened zeros) in
+    let goes = subst (λ (p : Progress). GoesOn p a b) c.in-Finished.is c.in_ok-merge_turn.ensures.goes in
+    turns_said (merge_said m.reply) (Ok Finished) (λ (taken : Taken). taken.refused) (λ (taken : Taken). taken.task) old mid new a b t now c.args.session _ _ more [] (merges_make (base_now now).frozen m.left m.reply) makes here
+    (merge_acts old mid a b t now c.args.session m.reply ready (Ok Finished) tt m.left c.requires.fits.0 merges) (λ acts. marks_none old mid a)
+    tt m.reply (λ said is. is) c.say.result (c.say.ensures.line tells) ready _ (c.in_ok-say-in-Finished.ensures.line tells).said (λ is. status_none m.reply c.requires.fits.1)
+    (λ told. finished_behind c.args.session m.reply a b new now m.left c.requires.fits.0 goes)

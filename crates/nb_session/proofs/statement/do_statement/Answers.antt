@@ -1,4 +1,4 @@
-use Rattle.std.proofs.Common.{refl, ap, sym, subst, ◌∙◌}
+use Rattle.std.proofs.Common.{[], refl, ap, sym, subst, ◌∙◌}
 use Rattle.std.specs.Prelude.{Ok, Some}
 use Rattle.nb_host.specs.declared.faults.Fault.TheVariants.{Device}
 use Rattle.nb_model.specs.declared.reply.Reply.TheVariants.{Done, PageMade, Value, Scn}
@@ -18,7 +18,7 @@ use Rattle.nb_session.proofs.statement.do_statement.Goals as goal
 pub returns-in_err-page_write-in-Write-clause-turn : goal.returns-in_err-page_write-in-Write-clause-turn
 returns-in_err-page_write-in-Write-clause-turn g c now t session tells ready sound =
     let s = seen_now now in
-    may_passed (some_by done) some_said _ _ _ _ t now session _ _ c.from_residual.result c.from_residual.ensures
+    may_passed (some_by done) some_said _ _ _ _ t now session _ [] _ c.from_residual.result c.from_residual.ensures
     (does_acts done _ _ _ _ _ t now session c.args.statement.now (write_turn s c.in-Write.page c.as_slice.result.now)
     (ap (λ text. write_turn s c.in-Write.page text) c.as_slice.ensures ∙ write_is s session c.args.statement.now c.in-Write.page c.in-Write.text c.in-Write.is)
     (no_sync _ (Write c.in-Write.page c.in-Write.text) c.in-Write.is refl) (write_keeps s c.in-Write.page c.as_slice.result.now) ready
@@ -27,7 +27,7 @@ returns-in_err-page_write-in-Write-clause-turn g c now t session tells ready sou
 pub returns-in_ok-page_write-in-Write-clause-turn : goal.returns-in_ok-page_write-in-Write-clause-turn
 returns-in_ok-page_write-in-Write-clause-turn g c now t session tells ready sound =
     let s = seen_now now in
-    may_value (some_by done) some_said _ _ _ _ t now session _ c.in_ok-page_write-in-Write.field-0 Done refl
+    may_value (some_by done) some_said _ _ _ _ t now session _ [] c.in_ok-page_write-in-Write.field-0 Done refl
     (does_acts done _ _ _ _ _ t now session c.args.statement.now (write_turn s c.in-Write.page c.as_slice.result.now)
     (ap (λ text. write_turn s c.in-Write.page text) c.as_slice.ensures ∙ write_is s session c.args.statement.now c.in-Write.page c.in-Write.text c.in-Write.is)
     (no_sync _ (Write c.in-Write.page c.in-Write.text) c.in-Write.is refl) (write_keeps s c.in-Write.page c.as_slice.result.now) ready
@@ -36,21 +36,21 @@ returns-in_ok-page_write-in-Write-clause-turn g c now t session tells ready soun
 pub returns-in_err-text-in-Read-clause-turn : goal.returns-in_err-text-in-Read-clause-turn
 returns-in_err-text-in-Read-clause-turn g c now t session tells ready sound =
     let s = seen_now now in
-    may_passed (some_by valued) some_said _ _ _ _ t now session _ _ c.from_residual-in_err-text-in-Read.result c.from_residual-in_err-text-in-Read.ensures
+    may_passed (some_by valued) some_said _ _ _ _ t now session _ [] _ c.from_residual-in_err-text-in-Read.result c.from_residual-in_err-text-in-Read.ensures
     (does_acts valued _ _ _ _ _ t now session c.args.statement.now _ (read_is s session c.args.statement.now c.in-Read.page c.in-Read.is)
     (no_sync _ (Read c.in-Read.page) c.in-Read.is refl) (read_keeps s c.in-Read.page) ready (c.in_err-text-in-Read.ensures.turn s t tells ready.base ready.opened))
 
 pub returns-in_err-new-in-Read-clause-turn : goal.returns-in_err-new-in-Read-clause-turn
 returns-in_err-new-in-Read-clause-turn g c now t session tells ready sound =
     let s = seen_now now in
-    may_then_memory (some_by valued) some_said _ _ _ _ t now session _ _ _ c.from_residual-in_err-new-in-Read.result c.in_err-new-in-Read.ensures.only_memory c.from_residual-in_err-new-in-Read.ensures
+    may_then_memory (some_by valued) some_said _ _ _ _ t now session _ [] _ _ c.from_residual-in_err-new-in-Read.result c.in_err-new-in-Read.ensures.only_memory c.from_residual-in_err-new-in-Read.ensures
     (does_acts valued _ _ _ _ _ t now session c.args.statement.now _ (read_is s session c.args.statement.now c.in-Read.page c.in-Read.is)
     (no_sync _ (Read c.in-Read.page) c.in-Read.is refl) (read_keeps s c.in-Read.page) ready (c.in_ok-text-in-Read.ensures.turn s t tells ready.base ready.opened))
 
 pub returns-in_ok-new-in-Read-clause-turn : goal.returns-in_ok-new-in-Read-clause-turn
 returns-in_ok-new-in-Read-clause-turn g c now t session tells ready sound =
     let s = seen_now now in
-    may_value (some_by valued) some_said _ _ _ _ t now session _ c.in_ok-text-in-Read.text (Value c.in_ok-new-in-Read.field-0)
+    may_value (some_by valued) some_said _ _ _ _ t now session _ [] c.in_ok-text-in-Read.text (Value c.in_ok-new-in-Read.field-0)
     (ap (λ text. Some (Value text)) (sym (c.in_ok-new-in-Read.ensures.ok ∙ c.as_slice-in-Read.ensures.value)))
     (does_acts valued _ _ _ _ _ t now session c.args.statement.now _ (read_is s session c.args.statement.now c.in-Read.page c.in-Read.is)
     (no_sync _ (Read c.in-Read.page) c.in-Read.is refl) (read_keeps s c.in-Read.page) ready (c.in_ok-text-in-Read.ensures.turn s t tells ready.base ready.opened))
@@ -58,84 +58,84 @@ returns-in_ok-new-in-Read-clause-turn g c now t session tells ready sound =
 pub returns-in_err-page-in-PageNew-clause-turn : goal.returns-in_err-page-in-PageNew-clause-turn
 returns-in_err-page-in-PageNew-clause-turn g c now t session tells ready sound =
     let s = seen_now now in
-    may_passed (some_by page_made) some_said _ _ _ _ t now session _ _ c.from_residual-in_err-page-in-PageNew.result c.from_residual-in_err-page-in-PageNew.ensures
+    may_passed (some_by page_made) some_said _ _ _ _ t now session _ [] _ c.from_residual-in_err-page-in-PageNew.result c.from_residual-in_err-page-in-PageNew.ensures
     (does_acts page_made _ _ _ _ _ t now session c.args.statement.now _ (new_is s session c.args.statement.now c.in-PageNew.is)
     (no_sync _ PageNew c.in-PageNew.is refl) (new_keeps s) ready
-    (c.in_err-page-in-PageNew.ensures.turn s t tells ready.base ready.opened (subst (λ (b : Base). IsSoundImage b.image) ready.base (sound c.in-PageNew.is))))
+    (c.in_err-page-in-PageNew.ensures.turn s t tells ready.base ready.opened (subst (λ (b : Base). IsSoundImage b.image) ready.base sound)))
 
 pub returns-in_ok-page-in-PageNew-clause-turn : goal.returns-in_ok-page-in-PageNew-clause-turn
 returns-in_ok-page-in-PageNew-clause-turn g c now t session tells ready sound =
     let s = seen_now now in
-    may_value (some_by page_made) some_said _ _ _ _ t now session _ c.in_ok-page-in-PageNew.page (PageMade c.in_ok-page-in-PageNew.page) refl
+    may_value (some_by page_made) some_said _ _ _ _ t now session _ [] c.in_ok-page-in-PageNew.page (PageMade c.in_ok-page-in-PageNew.page) refl
     (does_acts page_made _ _ _ _ _ t now session c.args.statement.now _ (new_is s session c.args.statement.now c.in-PageNew.is)
     (no_sync _ PageNew c.in-PageNew.is refl) (new_keeps s) ready
-    (c.in_ok-page-in-PageNew.ensures.turn s t tells ready.base ready.opened (subst (λ (b : Base). IsSoundImage b.image) ready.base (sound c.in-PageNew.is))))
+    (c.in_ok-page-in-PageNew.ensures.turn s t tells ready.base ready.opened (subst (λ (b : Base). IsSoundImage b.image) ready.base sound)))
 
 pub returns-in_err-page_free-in-Free-clause-turn : goal.returns-in_err-page_free-in-Free-clause-turn
 returns-in_err-page_free-in-Free-clause-turn g c now t session tells ready sound =
     let s = seen_now now in
-    may_passed (some_by done) some_said _ _ _ _ t now session _ _ c.from_residual-in_err-page_free-in-Free.result c.from_residual-in_err-page_free-in-Free.ensures
+    may_passed (some_by done) some_said _ _ _ _ t now session _ [] _ c.from_residual-in_err-page_free-in-Free.result c.from_residual-in_err-page_free-in-Free.ensures
     (does_acts done _ _ _ _ _ t now session c.args.statement.now _ (free_is s session c.args.statement.now c.in-Free.page c.in-Free.is)
     (no_sync _ (Free c.in-Free.page) c.in-Free.is refl) (free_keeps s c.in-Free.page) ready (c.in_err-page_free-in-Free.ensures.turn s t tells ready.base ready.opened))
 
 pub returns-in_ok-page_free-in-Free-clause-turn : goal.returns-in_ok-page_free-in-Free-clause-turn
 returns-in_ok-page_free-in-Free-clause-turn g c now t session tells ready sound =
     let s = seen_now now in
-    may_value (some_by done) some_said _ _ _ _ t now session _ c.in_ok-page_free-in-Free.field-0 Done refl
+    may_value (some_by done) some_said _ _ _ _ t now session _ [] c.in_ok-page_free-in-Free.field-0 Done refl
     (does_acts done _ _ _ _ _ t now session c.args.statement.now _ (free_is s session c.args.statement.now c.in-Free.page c.in-Free.is)
     (no_sync _ (Free c.in-Free.page) c.in-Free.is refl) (free_keeps s c.in-Free.page) ready (c.in_ok-page_free-in-Free.ensures.turn s t tells ready.base ready.opened))
 
 pub returns-in_err-set_forced-in-Forced-clause-turn : goal.returns-in_err-set_forced-in-Forced-clause-turn
 returns-in_err-set_forced-in-Forced-clause-turn g c now t session tells ready sound =
     let s = seen_now now in
-    may_passed (some_by done) some_said _ _ _ _ t now session _ _ c.from_residual-in_err-set_forced-in-Forced.result c.from_residual-in_err-set_forced-in-Forced.ensures
+    may_passed (some_by done) some_said _ _ _ _ t now session _ [] _ c.from_residual-in_err-set_forced-in-Forced.result c.from_residual-in_err-set_forced-in-Forced.ensures
     (does_acts done _ _ _ _ _ t now session c.args.statement.now _ (forced_is s session c.args.statement.now c.in-Forced.on c.in-Forced.is)
     (no_sync _ (Forced c.in-Forced.on) c.in-Forced.is refl) (forced_keeps s c.in-Forced.on) ready (c.in_err-set_forced-in-Forced.ensures.turn s t tells ready.base ready.opened))
 
 pub returns-in_ok-set_forced-in-Forced-clause-turn : goal.returns-in_ok-set_forced-in-Forced-clause-turn
 returns-in_ok-set_forced-in-Forced-clause-turn g c now t session tells ready sound =
     let s = seen_now now in
-    may_value (some_by done) some_said _ _ _ _ t now session _ c.in_ok-set_forced-in-Forced.field-0 Done refl
+    may_value (some_by done) some_said _ _ _ _ t now session _ [] c.in_ok-set_forced-in-Forced.field-0 Done refl
     (does_acts done _ _ _ _ _ t now session c.args.statement.now _ (forced_is s session c.args.statement.now c.in-Forced.on c.in-Forced.is)
     (no_sync _ (Forced c.in-Forced.on) c.in-Forced.is refl) (forced_keeps s c.in-Forced.on) ready (c.in_ok-set_forced-in-Forced.ensures.turn s t tells ready.base ready.opened))
 
 pub returns-in_err-set_access-in-Access-clause-turn : goal.returns-in_err-set_access-in-Access-clause-turn
 returns-in_err-set_access-in-Access-clause-turn g c now t session tells ready sound =
     let s = seen_now now in
-    may_passed (some_by done) some_said _ _ _ _ t now session _ _ c.from_residual-in_err-set_access-in-Access.result c.from_residual-in_err-set_access-in-Access.ensures
+    may_passed (some_by done) some_said _ _ _ _ t now session _ [] _ c.from_residual-in_err-set_access-in-Access.result c.from_residual-in_err-set_access-in-Access.ensures
     (does_acts done _ _ _ _ _ t now session c.args.statement.now _ (access_is s session c.args.statement.now c.in-Access.read_only c.in-Access.is)
     (no_sync _ (Access c.in-Access.read_only) c.in-Access.is refl) (access_keeps s c.in-Access.read_only) ready (c.in_err-set_access-in-Access.ensures.turn s t tells ready.base ready.opened))
 
 pub returns-in_ok-set_access-in-Access-clause-turn : goal.returns-in_ok-set_access-in-Access-clause-turn
 returns-in_ok-set_access-in-Access-clause-turn g c now t session tells ready sound =
     let s = seen_now now in
-    may_value (some_by done) some_said _ _ _ _ t now session _ c.in_ok-set_access-in-Access.field-0 Done refl
+    may_value (some_by done) some_said _ _ _ _ t now session _ [] c.in_ok-set_access-in-Access.field-0 Done refl
     (does_acts done _ _ _ _ _ t now session c.args.statement.now _ (access_is s session c.args.statement.now c.in-Access.read_only c.in-Access.is)
     (no_sync _ (Access c.in-Access.read_only) c.in-Access.is refl) (access_keeps s c.in-Access.read_only) ready (c.in_ok-set_access-in-Access.ensures.turn s t tells ready.base ready.opened))
 
 pub returns-in_err-scn-in-BeginBackup-clause-turn : goal.returns-in_err-scn-in-BeginBackup-clause-turn
 returns-in_err-scn-in-BeginBackup-clause-turn g c now t session tells ready sound =
     let asked = c.in_err-scn-in-BeginBackup.ensures.asks tells in
-    may_passed (some_by scn_is) some_said _ _ _ _ t now session _ _ c.from_residual-in_err-scn-in-BeginBackup.result c.from_residual-in_err-scn-in-BeginBackup.ensures
+    may_passed (some_by scn_is) some_said _ _ _ _ t now session _ [] _ c.from_residual-in_err-scn-in-BeginBackup.result c.from_residual-in_err-scn-in-BeginBackup.ensures
     (begin_acts _ _ _ _ _ t now session c.args.statement.now (begin_is (seen_now now) session c.args.statement.now c.in-BeginBackup.is) (no_sync _ BeginBackup c.in-BeginBackup.is refl) ready asked.0 asked.1 asked.2
     (λ s base gave. c.in_err-scn-in-BeginBackup.ensures.turn s t tells base ready.opened gave))
 
 pub returns-in_ok-scn-in-BeginBackup-clause-turn : goal.returns-in_ok-scn-in-BeginBackup-clause-turn
 returns-in_ok-scn-in-BeginBackup-clause-turn g c now t session tells ready sound =
     let asked = c.in_ok-scn-in-BeginBackup.ensures.asks tells in
-    may_value (some_by scn_is) some_said _ _ _ _ t now session _ c.in_ok-scn-in-BeginBackup.scn (Scn c.in_ok-scn-in-BeginBackup.scn) refl
+    may_value (some_by scn_is) some_said _ _ _ _ t now session _ [] c.in_ok-scn-in-BeginBackup.scn (Scn c.in_ok-scn-in-BeginBackup.scn) refl
     (begin_acts _ _ _ _ _ t now session c.args.statement.now (begin_is (seen_now now) session c.args.statement.now c.in-BeginBackup.is) (no_sync _ BeginBackup c.in-BeginBackup.is refl) ready asked.0 asked.1 asked.2
     (λ s base gave. c.in_ok-scn-in-BeginBackup.ensures.turn s t tells base ready.opened gave))
 
 pub returns-in_ok-sync-in-Sync-clause-turn : goal.returns-in_ok-sync-in-Sync-clause-turn
 returns-in_ok-sync-in-Sync-clause-turn g c now t session tells ready sound =
-    may_value (λ v. Some Done) some_said _ _ _ _ t now session _ c.in_ok-sync-in-Sync.field-0 Done refl
+    may_value (λ v. Some Done) some_said _ _ _ _ t now session _ [] c.in_ok-sync-in-Sync.field-0 Done refl
     (sync_acts _ _ _ _ t now session c.args.statement.now c.in-Sync.is ready c.in_ok-sync-in-Sync.ensures.same c.in_ok-sync-in-Sync.ensures.quiet c.in_ok-sync-in-Sync.field-0
     (c.in_ok-sync-in-Sync.ensures.settled t tells ready.opened))
 
 pub returns-in_err-sync-in-Sync-clause-turn : goal.returns-in_err-sync-in-Sync-clause-turn
 returns-in_err-sync-in-Sync-clause-turn g c now t session tells ready sound =
-    may_passed some_said some_said _ _ _ _ t now session _ Device c.from_residual-in_err-sync-in-Sync.result c.from_residual-in_err-sync-in-Sync.ensures
+    may_passed some_said some_said _ _ _ _ t now session _ [] Device c.from_residual-in_err-sync-in-Sync.result c.from_residual-in_err-sync-in-Sync.ensures
     (sync_failed _ _ _ _ t now session c.args.statement.now c.in-Sync.is ready c.in_err-sync-in-Sync.ensures.same c.in_err-sync-in-Sync.ensures.quiet some_said)
 
 pub returns-in-ShowHeader-clause-turn : goal.returns-in-ShowHeader-clause-turn
