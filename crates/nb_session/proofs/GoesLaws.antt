@@ -1,5 +1,5 @@
 -- A statement that is under way goes on while other sessions take turns.
-use Rattle.std.proofs.Common.{◌≡◌, ◌≢◌, inl, inr, ℕ, ◌-◌, List, [], ◌∷◌, ◌++◌, map, sym, ap, subst, ◌∙◌, arith}
+use Rattle.std.proofs.Common.{◌≡◌, ◌≢◌, inl, inr, ℕ, ◌-◌, List, [], ◌++◌, map, sym, ap, subst, ◌∙◌, arith}
 use Rattle.std.specs.Prelude.{Bool, Ok, Option, Some, None}
 use Rattle.nb_host.specs.World.{World}
 use Rattle.nb_host.specs.Crash.{Untouched}
@@ -7,7 +7,7 @@ use Rattle.nb_change.specs.Changes.{Names, Other}
 use Rattle.nb_model.specs.Going.{Runs, IsGoing}
 use Rattle.nb_model.specs.Image.{Image}
 use Rattle.nb_model.specs.Making.{MadeFile, making_by}
-use Rattle.nb_model.specs.Outcomes.{Begins, ClosesBackup, ClosesCopy, Ends}
+use Rattle.nb_model.specs.Outcomes.{Begins, ClosesBackup, ClosesCopy}
 use Rattle.nb_model.specs.Run.{Now, base_now, one_turn}
 use Rattle.nb_model.specs.Trail.{Trail}
 use Rattle.nb_model.proofs.GoingLaws.{IsUndisturbed, others_stay}

@@ -1,6 +1,6 @@
 -- Lists of files that are made.
 use Rattle.std.proofs.Common.{◌≡◌, ◌⊎◌, inl, inr, ℕ, zero, suc, ◌≤◌, List, [], ◌∷◌, ◌++◌, take, refl, sym, ap, subst, arith}
-use Rattle.std.specs.Prelude.{Contains, Option, Some, None}
+use Rattle.std.specs.Prelude.{Contains}
 use Rattle.std.proofs.lemmas.List.Elements.{Contains-append_left, Contains-append_right, Contains-append_cases}
 use Rattle.nb_change.proofs.NameLaws.{decide}
 use Rattle.nb_model.specs.Making.{MadeFile, AreAmong, IsNoneOf, NamesOnce}

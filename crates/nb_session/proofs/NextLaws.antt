@@ -7,7 +7,7 @@ use Rattle.std.proofs.lemmas.List.{append-nil}
 use Rattle.nb_model.specs.Going.{IsAt, waits, backs_up, copies, ends, merges, IsMaking}
 use Rattle.nb_model.specs.Making.{MadeFile, making_by, under_way, AreAmong, IsNoneOf, NamesOnce}
 use Rattle.nb_model.specs.Outcomes.{Turn, Given}
-use Rattle.nb_model.specs.Run.{Event, Now, Played, base_now, outcome, stands_then, take_turn, one_turn, play, files_made, AreFinished}
+use Rattle.nb_model.specs.Run.{Event, Now, Played, outcome, stands_then, take_turn, one_turn, play, files_made, AreFinished}
 use Rattle.nb_model.proofs.GoingLaws.{making_play}
 use Rattle.nb_model.proofs.MakingLaws.{finished_none, under_free, under_among, under_play, made_among, played_used, names_once}
 use Rattle.nb_model.proofs.RunLaws.{play-append}

@@ -1,5 +1,5 @@
 -- Turns behind turns.
-use Rattle.std.proofs.Common.{◌≡◌, inl, inr, ℕ, zero, suc, List, [], ◌++◌, length, take, Bool, false, refl, sym, ap, subst, ◌∙◌, arith, append_assoc, max}
+use Rattle.std.proofs.Common.{◌≡◌, inl, inr, ℕ, zero, suc, List, [], ◌++◌, take, Bool, false, refl, sym, ap, subst, ◌∙◌, arith, append_assoc, max}
 use Rattle.std.specs.Prelude.{Contains, Result, Ok, Err, IfOk, ◌||◌, if◌then◌else◌}
 use Rattle.std.proofs.lemmas.List.{append-nil}
 use Rattle.std.proofs.lemmas.List.Elements.{Contains-append_cases}
@@ -18,7 +18,6 @@ use Rattle.nb_model.proofs.MakingLaws.{made_append}
 use Rattle.nb_model.proofs.OutputLaws.{output_append, status_events, output_no_event, status_no_event}
 use Rattle.nb_model.proofs.StepsLaws.{steps_none, steps_append, after_steps_append, after_no_step, acked_steps_none}
 use Rattle.nb_model.proofs.TodoLaws.{status_or}
-use Rattle.nb_base.specs.Open.{OfFiles}
 use Rattle.nb_copy.specs.Making.{IsKept}
 use Rattle.nb_state.specs.Open.{Held, name_of}
 use Rattle.nb_session.specs.declared.stop.Stop.{Stop}

@@ -1,5 +1,5 @@
 -- How what a stop leaves goes on from turn to turn.
-use Rattle.std.proofs.Common.{◌≡◌, ◌⊎◌, inl, inr, ℕ, zero, suc, ◌+◌, ◌-◌, ◌≤◌, List, [], ◌∷◌, ◌++◌, length, take, refl, sym, ap, subst, ◌∙◌, arith, append_assoc, length-append, length-take}
+use Rattle.std.proofs.Common.{◌≡◌, ◌⊎◌, inl, inr, ℕ, zero, suc, ◌+◌, ◌-◌, ◌≤◌, List, [], ◌∷◌, ◌++◌, length, take, sym, ap, subst, ◌∙◌, arith, append_assoc, length-append, length-take}
 use Rattle.std.specs.Prelude.{Contains, Bool, true, false, Option, Some, None, nat_le}
 use Rattle.std.proofs.Math.Seq.{take-append-add}
 use Rattle.std.proofs.lemmas.List.{take-append-le}
@@ -11,7 +11,7 @@ use Rattle.nb_change.specs.Changes.{Other, Remade}
 use Rattle.nb_change.proofs.MomentLaws.{left_before}
 use Rattle.nb_model.specs.declared.reply.Reply.{Reply}
 use Rattle.nb_model.specs.Lines.{line_text}
-use Rattle.nb_model.specs.Making.{MadeFile, AreAmong, IsNoneOf, NamesOnce}
+use Rattle.nb_model.specs.Making.{MadeFile, AreAmong, NamesOnce}
 use Rattle.nb_model.specs.Run.{Event, files_made}
 use Rattle.nb_model.specs.Output.{output}
 use Rattle.nb_model.specs.Steps.{Step, steps_of, after_steps, acked_turns, acked_steps}
