@@ -97,12 +97,16 @@ module _ (session : ℕ) (asker : Asker) (off : session - 1 ≢ asker.number - 1
   pub goes_on : (task : Option Task) → asker.task ≡ task → TaskGoes asker.number old before (base_now now).frozen task → TaskGoes asker.number new after (base_now then).frozen task
   goes_on None is goes = tt
   goes_on (Some (Backup c)) is goes =
-      let runs = runs_by (Backup c) is (first_copies (file_count c.file - file_next c.file) (ClosesBackup c.backing) tt) in
-      (subst (IsBackingUp new c) (sym (still runs).frozen) (backup_kept old new (Touched (name_of before) []) (untouched runs) (read_on runs) (base_now now).frozen c (apart_other before c.backing.name goes.1) goes.0),
-      apart_kept c.backing.name goes.1, runs_on runs goes.2)
+      let runs = runs_by (Backup c) is (first_copies (file_count c.file - file_next c.file) (ClosesBackup c.backing) tt) in (
+        subst (IsBackingUp new c) (sym (still runs).frozen) (backup_kept old new (Touched (name_of before) []) (untouched runs) (read_on runs) (base_now now).frozen c (apart_other before c.backing.name goes.1) goes.0),
+        apart_kept c.backing.name goes.1,
+        runs_on runs goes.2,
+      )
   goes_on (Some (Copy c)) is goes =
-      let runs = runs_by (Copy c) is (first_copies (c.count - c.next) (ClosesCopy c.name) tt) in
-      (subst (IsCopying new c) (sym (still runs).frozen) (copy_kept old new (Touched (name_of before) []) (untouched runs) (read_on runs) (base_now now).frozen c (apart_other before c.name goes.1) goes.0),
-      apart_kept c.name goes.1, runs_on runs goes.2)
+      let runs = runs_by (Copy c) is (first_copies (c.count - c.next) (ClosesCopy c.name) tt) in (
+        subst (IsCopying new c) (sym (still runs).frozen) (copy_kept old new (Touched (name_of before) []) (untouched runs) (read_on runs) (base_now now).frozen c (apart_other before c.name goes.1) goes.0),
+        apart_kept c.name goes.1,
+        runs_on runs goes.2,
+      )
   goes_on (Some (End reply)) is goes = runs_on (runs_by (End reply) is tt) goes
   goes_on (Some (Merge m)) is goes = tt

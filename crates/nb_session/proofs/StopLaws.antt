@@ -154,8 +154,8 @@ module _ (old mid : World) (name : List ℕ) (t : Trail) (es fs : List Event) (m
         each = λ n bytes there. elim (each_more name made all among once apart mid files left.each left.others n bytes there) [ inl leaves ↦ back n bytes (files n) there leaves | inr is ↦ inr is ];
         whole = λ n bytes there. elim (Contains-append_cases (files_made es) (acked_files fs (length left.out.part)) (n, bytes)
             (files_behind es fs (length left.out.part) (n, bytes) (subst (λ (k : ℕ). Contains (acked_files (es ++ fs) k) (n, bytes)) long there))) [
-          | inl first ↦ (let one = stays n bytes first in stays_whole mid name made n bytes (files n) one (left.others n one.other))
-          | inr second ↦ left.whole n bytes second
-        ];
+              | inl first ↦ (let one = stays n bytes first in stays_whole mid name made n bytes (files n) one (left.others n one.other))
+              | inr second ↦ left.whole n bytes second
+            ];
         others = λ n other. left_before old mid _ same n (files n) other (left.others n (others_fewer name made all among n other));
       }

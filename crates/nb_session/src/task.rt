@@ -7,6 +7,7 @@ use nb_model::Reply;
 
 /// What a copy lies above, and an end: each turn of a statement lowers what is left of it, from its copy to its merge.
 const COPIES: u64 = 17_179_869_184;
+
 const ENDS: u64 = 8_589_934_592;
 
 /// A merge that is under way.
