@@ -127,6 +127,22 @@ module _ {S : Type 0} (fault : Fault) where
       by Device is = is
       by Memory is = is
 
+-- A statement of one turn, of which it is known whether it was refused, as what it left.
+module _ (old new : World) (a b : Held) (t : Trail) (now : Now) (session : ℕ) (turn : Turn) (tail more : List Turn) where
+  pub turns_left : (refused : Bool) → Turns (λ (r : Bool). r) (λ r. None) (Ok refused) old new a b t now session turn tail more
+      → Turns (λ (x : Taken). x.refused) (λ (x : Taken). x.task) (Ok (record { task = None; refused = refused })) old new a b t now session turn tail more
+  turns_left refused turns = record { grows = turns.grows; plays = turns.plays; behind = turns.behind }
+
+  pub turns_handed : (fault : Fault) (answer : Result Taken Fault) → IsErr answer × IsErrAnd answer (λ e. e ≡ fault) → Turns (λ (r : Bool). r) (λ r. None) (Err fault) old new a b t now session turn tail more
+      → Turns (λ (x : Taken). x.refused) (λ (x : Taken). x.task) answer old new a b t now session turn tail more
+  turns_handed fault (Ok taken) is turns = absurd is.1
+  turns_handed fault (Err e) is turns = record {
+    grows = turns.grows;
+    plays = λ told. subst (λ (f : Fault). Plays (as_played (λ (x : Taken). x.refused) (Err f)) old new a b t now (take_turn session (turn ∷ (tail ++ more)) now) (making (base_now now).frozen (turn ∷ tail))) (sym is.1)
+        (plays_err (λ (r : Bool). r) (λ (x : Taken). x.refused) fault old new a b t now _ _ (turns.plays told));
+    behind = λ told. tt;
+  }
+
 -- what is under way comes first
 going_on : (asker : Asker) (task : Task) → asker.task ≡ Some task → todo_of asker ≡ task_first task ∷ (task_rest task ++ map Begins asker.statements)
 going_on asker task is = ap (λ (x : Option Task). task_todo x ++ map Begins asker.statements) is
