@@ -31,7 +31,7 @@ use Rattle.nb_state.specs.Does.{WhereEnded, Answers, Does}
 use Rattle.nb_state.specs.Turns.{GaveAtMost}
 use Rattle.nb_state.proofs.MakesLaws.{where_ended, none_yet}
 use Rattle.nb_engine.specs.Replies.{scn_is}
-use Rattle.nb_engine.specs.Turns.{DoesBegin}
+use Rattle.nb_engine.specs.Turns.{SaysNone, DoesBegin}
 use Rattle.nb_session.specs.Acts.{Says, Grows, Touched, TurnLeft, AreKept, Acts, MayAct}
 use Rattle.nb_session.specs.Ready.{IsReady}
 use Rattle.nb_session.proofs.EventLaws.{strokes_are_steps}
@@ -61,6 +61,13 @@ as_says reply (Ok value) said is = is
 as_says reply (Err (Refused refusal)) said is = is
 as_says reply (Err Device) said is = tt
 as_says reply (Err Memory) said is = tt
+
+-- nothing is said yet, or the refusal
+pub says_none : {T : Type 0} (result : Result T Fault) (said : Option Reply) → SaysNone result said → Says (λ value. None) result said
+says_none (Ok value) said is = is
+says_none (Err (Refused refusal)) said is = is
+says_none (Err Device) said is = tt
+says_none (Err Memory) said is = tt
 
 -- what holds where a call ended, said otherwise
 pub ended_map : {T P Q : Type 0} (result : Result T Fault) → (P → Q) → WhereEnded result P → WhereEnded result Q

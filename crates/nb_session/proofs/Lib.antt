@@ -12,6 +12,7 @@ pub mod KeepLaws
 pub mod ActLaws
 pub mod WayLaws
 pub mod MergeLaws
+pub mod CopyLaws
 pub mod CalmLaws
 pub mod StepLaws
 pub mod SceneLaws
