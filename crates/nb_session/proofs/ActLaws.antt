@@ -168,7 +168,7 @@ module _ (old new : World) (a b : Held) (t : Trail) (now : Now) (session : ℕ) 
   }
 
 -- a GUID that was given is the next one that is foretold
-next_is : (old new : World) (guid : List ℕ) (given : Given) → new.guids ≡ old.guids ++ guid ∷ [] → Foretells given old new → given.guids ≡ guid ∷ drop 1 given.guids
+pub next_is : (old new : World) (guid : List ℕ) (given : Given) → new.guids ≡ old.guids ++ guid ∷ [] → Foretells given old new → given.guids ≡ guid ∷ drop 1 given.guids
 next_is old new guid given gave told =
     let ids : told.ids ≡ guid ∷ [] = append_cancel_left old.guids told.ids (guid ∷ []) (sym told.guids ∙ gave) in
     let all : given.guids ≡ guid ∷ told.later_ids = told.guids_first ∙ ap (λ (l : List (List ℕ)). l ++ told.later_ids) ids in
@@ -177,11 +177,11 @@ next_is old new guid given gave told =
 next_guid_is : (guid : List ℕ) (given : Given) → given.guids ≡ guid ∷ drop 1 given.guids → next_guid given ≡ guid
 next_guid_is guid given is = ap (λ (l : List (List ℕ)). slice_index_or l 0 (replicate 16 0)) is
 
-at_most : (old new : World) (guid : List ℕ) (given : Given) → GaveAtMost old new guid → Foretells given old new → GaveAtMost old new (next_guid given)
+pub at_most : (old new : World) (guid : List ℕ) (given : Given) → GaveAtMost old new guid → Foretells given old new → GaveAtMost old new (next_guid given)
 at_most old new guid given (inl none) told = inl none
 at_most old new guid given (inr gave) told = inr (gave ∙ ap (λ (id : List ℕ). old.guids ++ id ∷ []) (sym (next_guid_is guid given (next_is old new guid given gave told))))
 
-grows_at_most : (old new : World) (guid : List ℕ) → length guid ≡ 16 → GaveAtMost old new guid → new.times ≡ old.times → Grows old new
+pub grows_at_most : (old new : World) (guid : List ℕ) → length guid ≡ 16 → GaveAtMost old new guid → new.times ≡ old.times → Grows old new
 grows_at_most old new guid sixteen (inl none) times = grows_none old new (record { guids = none; times = times })
 grows_at_most old new guid sixteen (inr gave) times = record { ids = guid ∷ []; clock = []; gave = record { guids = gave; times = times ∙ sym (append-nil old.times) }; sixteen = (sixteen, tt) }
 
