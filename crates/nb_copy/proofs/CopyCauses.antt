@@ -1,10 +1,10 @@
 -- Why no copy of the frozen file may begin, test by test.
 use Rattle.std.proofs.Common.{◌≡◌, ◌≢◌, ℕ, List, [], ◌∷◌, ap, ◌∙◌}
-use Rattle.std.specs.Prelude.{Bool, true, false, Option, Some, None, not}
+use Rattle.std.specs.Prelude.{Bool, true, false, Some, None, not}
 use Rattle.std.proofs.lemmas.Bool.{eq-eqb, ne_eqb}
 use Rattle.nb_host.specs.declared.refusals.Refusal.TheVariants.{WrongState, BackupRunning, FileExists}
 use Rattle.nb_model.specs.Image.{Image, image_state}
-use Rattle.nb_model.specs.Causes.{Cause, first_cause, when, not_state, not_free, is_free_entry, runs_any}
+use Rattle.nb_model.specs.Causes.{first_cause, when, not_state, not_free, is_free_entry, runs_any}
 use Rattle.nb_model.specs.Outcomes.{Seen}
 use Rattle.nb_engine.proofs.CauseLaws.{first_none, first_next, first_here}
 use Rattle.nb_copy.specs.FileCopies.{copy_cause}

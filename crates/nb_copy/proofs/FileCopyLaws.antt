@@ -28,8 +28,8 @@ use Rattle.nb_base.proofs.OwnedLaws.{Holds, holds, base-state, base-size}
 use Rattle.nb_state.specs.Does.{Tested}
 use Rattle.nb_state.specs.Open.{Held, IsOpen, name_of}
 use Rattle.nb_state.specs.declared.turns.Progress.{Progress}
-use Rattle.nb_copy.specs.Copying.{Copying, IsOf, IsCopying}
-use Rattle.nb_copy.specs.FileCopies.{CopiesFile, StartsCopy, IsCopyStarted, copy_cause}
+use Rattle.nb_copy.specs.Copying.{Copying}
+use Rattle.nb_copy.specs.FileCopies.{CopiesFile, StartsCopy, copy_cause}
 use Rattle.nb_copy.specs.Making.{IsFreeOr, IsUnfinishedOr}
 use Rattle.nb_copy.specs.Turns.{CopyTurn}
 use Rattle.nb_copy.proofs.ClosingLaws.{open_other}

@@ -1,6 +1,6 @@
 -- The file of a backup that has begun: whole it will be that of what the begin has kept.
 use Rattle.std.proofs.Common.{◌≡◌, ◌≢◌, ℕ, zero, suc, ◌<◌, ◌≤◌, List, length, refl, sym, ap, subst, ◌∙◌, arith}
-use Rattle.std.proofs.lemmas.Bool.{ne_eqb, le-leb}
+use Rattle.std.proofs.lemmas.Bool.{ne_eqb}
 use Rattle.std.specs.Prelude.{Bool, true, false, ◌&&◌, IsTrue, Some}
 use Rattle.nb_fields.specs.Places.{is_page_size}
 use Rattle.nb_host.specs.World.{World}

@@ -158,7 +158,8 @@ module _ (old new : World) (a b : Held) (t : Trail) (now : Now) (session level :
             plain = ap is_delta named ∙ plain;
             other = λ own. not_own old a t now name ready (begin_free (seen_now now) session level name starts.says) (sym named ∙ own ∙ starts.name);
           },
-          starts.running ∙ begin_runs (seen_now now) session level name starts.says);
+          starts.running ∙ begin_runs (seen_now now) session level name starts.says,
+        );
       }
 
   -- it was refused

@@ -181,7 +181,8 @@ module _ (old new : World) (a b : Held) (t : Trail) (now : Now) (session : ℕ) 
             plain = ap is_delta is.named ∙ plain;
             other = λ own. not_own old a t now name ready (begin_free (seen_now now) session name starts.says) (sym is.named ∙ own ∙ named);
           },
-          ap (λ (h : Held). h.running) starts.held ∙ begin_runs (seen_now now) session name starts.says);
+          ap (λ (h : Held). h.running) starts.held ∙ begin_runs (seen_now now) session name starts.says,
+        );
       }
 
   -- it was refused
@@ -343,7 +344,8 @@ module _ (old mid : World) (a b : Held) (t : Trail) (now : Now) (session : ℕ) 
     goes = (
       subst (IsCopying mid later) (ap (λ (x : Base). x.frozen) (ready.base ∙ sym (no_stroke (base_now now) (outcome session Copies now).strokes (none_struck (suc left))))) goes,
       record { plain = ap is_delta named ∙ apart.plain; other = λ own. apart.other (sym named ∙ own ∙ ap (λ (h : Held). name_of h) same) },
-      ap (λ (h : Held). h.running) same ∙ runs);
+      ap (λ (h : Held). h.running) same ∙ runs,
+    );
   }
 
   pub end_behind : (w : World) (left : ℕ) → left ≡ 0 → IsBehind w b session (copy_first left last) (copy_rest left last) now None

@@ -73,8 +73,9 @@ pub none_make_all : (frozen : Image) (todo : List (List Turn)) (name : List ℕ)
 unfolding making_all
 none_make_all frozen [] name none = tt
 none_make_all frozen (ts ∷ todo) name none = (
-    none_make frozen ts name (λ bytes there. none bytes (Contains-append_left (making frozen ts) (making_all frozen todo) (name, bytes) there)),
-    none_make_all frozen todo name (λ bytes there. none bytes (Contains-append_right (making frozen ts) (making_all frozen todo) (name, bytes) there)))
+  none_make frozen ts name (λ bytes there. none bytes (Contains-append_left (making frozen ts) (making_all frozen todo) (name, bytes) there)),
+  none_make_all frozen todo name (λ bytes there. none bytes (Contains-append_right (making frozen ts) (making_all frozen todo) (name, bytes) there)),
+)
 
 pub make_none_all : (frozen : Image) (todo : List (List Turn)) (name : List ℕ) → AllByRecursion (MakeNo name) todo → IsNoneOf (making_all frozen todo) name
 unfolding making_all

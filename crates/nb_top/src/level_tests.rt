@@ -72,10 +72,13 @@ fn levels_by_words(rt: HostRuntime) -> Result<(), Fail> {
     run_words(rt.alloc(), &mut host, &["-B", "2", "b.db", "b.2"])?;
     assert_eq!(rt;
         host.output().get(said..),
-        Some("1: ok level 2 scn 5 pages 4 guid 00000000-0000-0000-0000-000000000003
+        Some(
+            "1: ok level 2 scn 5 pages 4 guid 00000000-0000-0000-0000-000000000003
 1: ok pages 13
 1: ok level 2 scn 6 pages 4 guid 00000000-0000-0000-0000-000000000004
-".as_bytes())
+"
+                .as_bytes()
+        )
     );
     Ok(())
 }
@@ -150,7 +153,10 @@ fn others_write_while_one_copies(rt: HostRuntime) -> Result<(), Fail> {
     let copied = restored(rt.alloc(), &mut host, &["-R", "b.db", "a.0"])?;
     assert_eq!(rt;
         (said, copied.as_slice()),
-        (true, "1: ok pages 13 state 0\n1: ok 'hello'\n1: ok ''\n".as_bytes())
+        (
+            true,
+            "1: ok pages 13 state 0\n1: ok 'hello'\n1: ok ''\n".as_bytes()
+        )
     );
     Ok(())
 }
@@ -170,7 +176,10 @@ fn copy_and_fixup(rt: HostRuntime) -> Result<(), Fail> {
     )?;
     run_words(rt.alloc(), &mut host, &["-F", "c.db"])?;
     let copied = pages_of(rt.alloc(), &mut host, "c.db")?;
-    assert_eq!(rt; copied.as_slice(), "1: ok pages 13 state 0\n1: ok 'hello'\n1: ok ''\n".as_bytes());
+    assert_eq!(rt;
+        copied.as_slice(),
+        "1: ok pages 13 state 0\n1: ok 'hello'\n1: ok ''\n".as_bytes()
+    );
     Ok(())
 }
 

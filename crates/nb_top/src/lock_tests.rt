@@ -69,11 +69,7 @@ fn lock_and_unlock(rt: HostRuntime) -> Result<(), Fail> {
         (&["-L"], "0: refused 1 Usage\n", Status::Usage),
         (&["-L", "-N", "a.db"], "0: refused 1 Usage\n", Status::Usage),
         (&["stat", "a.db"], "0: refused 1 Usage\n", Status::Usage),
-        (
-            &["-L", "-S", "a.db"],
-            "0: refused 1 Usage\n",
-            Status::Usage,
-        ),
+        (&["-L", "-S", "a.db"], "0: refused 1 Usage\n", Status::Usage),
     ];
     let mut host = MemHost::new(rt.alloc())?;
     place(&mut host, "create", CREATED)?;

@@ -1,6 +1,6 @@
 use Rattle.std.proofs.Common.{◌≡◌, ℕ, List, refl, sym, ap, ◌∙◌}
 use Rattle.std.specs.Prelude.{Option, Some, None}
-use Rattle.nb_host.specs.declared.refusals.Refusal.TheVariants.{WrongState, BackupRunning, FileExists}
+use Rattle.nb_host.specs.declared.refusals.Refusal.TheVariants.{WrongState, FileExists}
 use Rattle.nb_model.specs.Account.{Base}
 use Rattle.nb_model.specs.Image.{image_state}
 use Rattle.nb_state.specs.Open.{Held}

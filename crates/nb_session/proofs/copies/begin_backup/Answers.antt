@@ -49,7 +49,7 @@ returns-in-Err-Refused-clause-turn g c now t more tells ready makes here =
     let asks = c.in-Err-Refused.ensures.asks t tells ready.opened in
     let sound = subst (λ (x : Base). IsSoundImage x.image) (sym ready.base) makes.going.sound in
     let starts : Starts (Err (Refused c.in-Err-Refused.refusal)) old mid a b t c.args.session level name =
-        λ s base running free gave. subst (λ (f : Fault). StartsBackup (Err f) old mid a b t (next_guid s.given) (backup_turn s c.args.session level name)) c.in-Err-Refused.field-0-is (c.in-Err-Refused.ensures.turn s t tells base running ready.opened sound free gave) in
+    λ s base running free gave. subst (λ (f : Fault). StartsBackup (Err f) old mid a b t (next_guid s.given) (backup_turn s c.args.session level name)) c.in-Err-Refused.field-0-is (c.in-Err-Refused.ensures.turn s t tells base running ready.opened sound free gave) in
     let refusal = c.in-Err-Refused.refusal in
     let new = g.H.Host.world c.say_refused.new.host in
     turns_refused (λ copier. None) refusal old mid new a b t now c.args.session (Begins (BackupTo level name)) [] more [] (begins_make (base_now now).frozen (BackupTo level name)) makes here
@@ -69,7 +69,7 @@ returns-in-Err-Device-clause-turn g c now t more tells ready makes here =
     let asks = c.in-Err-Device.ensures.asks t tells ready.opened in
     let sound = subst (λ (x : Base). IsSoundImage x.image) (sym ready.base) makes.going.sound in
     let starts : Starts (Err Device) old mid a b t c.args.session level name =
-        λ s base running free gave. subst (λ (f : Fault). StartsBackup (Err f) old mid a b t (next_guid s.given) (backup_turn s c.args.session level name)) c.in-Err-Device.field-0-is (c.in-Err-Device.ensures.turn s t tells base running ready.opened sound free gave) in
+    λ s base running free gave. subst (λ (f : Fault). StartsBackup (Err f) old mid a b t (next_guid s.given) (backup_turn s c.args.session level name)) c.in-Err-Device.field-0-is (c.in-Err-Device.ensures.turn s t tells base running ready.opened sound free gave) in
     turns_failed (λ copier. None) (Err Device) (λ (taken : Taken). taken.refused) (λ (taken : Taken). taken.task) old mid mid a b t now c.args.session (Begins (BackupTo level name)) [] more [] (begins_make (base_now now).frozen (BackupTo level name)) makes here
     (begin_acts old mid a b t now c.args.session level name ready (Err Device) knows asks.0 asks.1 asks.2 starts) (λ acts. marks_none old mid a) (Err Device) refl
 
@@ -85,6 +85,6 @@ returns-in-Err-Memory-clause-turn g c now t more tells ready makes here =
     let asks = c.in-Err-Memory.ensures.asks t tells ready.opened in
     let sound = subst (λ (x : Base). IsSoundImage x.image) (sym ready.base) makes.going.sound in
     let starts : Starts (Err Memory) old mid a b t c.args.session level name =
-        λ s base running free gave. subst (λ (f : Fault). StartsBackup (Err f) old mid a b t (next_guid s.given) (backup_turn s c.args.session level name)) c.in-Err-Memory.field-0-is (c.in-Err-Memory.ensures.turn s t tells base running ready.opened sound free gave) in
+    λ s base running free gave. subst (λ (f : Fault). StartsBackup (Err f) old mid a b t (next_guid s.given) (backup_turn s c.args.session level name)) c.in-Err-Memory.field-0-is (c.in-Err-Memory.ensures.turn s t tells base running ready.opened sound free gave) in
     turns_failed (λ copier. None) (Err Memory) (λ (taken : Taken). taken.refused) (λ (taken : Taken). taken.task) old mid mid a b t now c.args.session (Begins (BackupTo level name)) [] more [] (begins_make (base_now now).frozen (BackupTo level name)) makes here
     (begin_acts old mid a b t now c.args.session level name ready (Err Memory) knows asks.0 asks.1 asks.2 starts) (λ acts. marks_none old mid a) (Err Memory) refl

@@ -43,7 +43,7 @@ returns-in-Err-Refused-clause-turn g c now t more tells ready makes here =
     let refusal = c.in-Err-Refused.refusal in
     let named : name_of b ≡ name_of a = ap (λ (h : Held). name_of h) c.in-Err-Refused.ensures.stays in
     let starts = subst (λ (f : Fault). StartsCopy (Err f) old mid a b t name (copy_turn (seen_now now) c.args.session name)) c.in-Err-Refused.field-0-is
-        (c.in-Err-Refused.ensures.turn (seen_now now) t tells ready.base ready.running ready.opened (knows_unused old a t now name ready makes.going c.requires.plain)) in
+    (c.in-Err-Refused.ensures.turn (seen_now now) t tells ready.base ready.running ready.opened (knows_unused old a t now name ready makes.going c.requires.plain)) in
     turns_refused (λ copy. None) refusal old mid new a b t now c.args.session (Begins (CopyTo name)) [] more [] (begins_make (base_now now).frozen (CopyTo name)) makes here
     (begin_acts old mid a b t now c.args.session name ready named (Err (Refused refusal)) starts) (λ acts. marks_none old mid a) ready c.say_refused.result (c.say_refused.ensures.line tells) c.say_refused.ensures.taken
     (λ is. status_told c.args.session (CopyTo name) now (RefusedBy refusal) refl is) (λ told. begin_refused old mid a b t now c.args.session name ready named refusal starts new)
@@ -57,7 +57,7 @@ returns-in-Err-Device-clause-turn g c now t more tells ready makes here =
     let name = c.args.name.now in
     let named : name_of b ≡ name_of a = ap (λ (h : Held). name_of h) c.in-Err-Device.ensures.stays in
     let starts = subst (λ (f : Fault). StartsCopy (Err f) old mid a b t name (copy_turn (seen_now now) c.args.session name)) c.in-Err-Device.field-0-is
-        (c.in-Err-Device.ensures.turn (seen_now now) t tells ready.base ready.running ready.opened (knows_unused old a t now name ready makes.going c.requires.plain)) in
+    (c.in-Err-Device.ensures.turn (seen_now now) t tells ready.base ready.running ready.opened (knows_unused old a t now name ready makes.going c.requires.plain)) in
     turns_failed (λ copy. None) (Err Device) (λ (taken : Taken). taken.refused) (λ (taken : Taken). taken.task) old mid mid a b t now c.args.session (Begins (CopyTo name)) [] more [] (begins_make (base_now now).frozen (CopyTo name)) makes here
     (begin_acts old mid a b t now c.args.session name ready named (Err Device) starts) (λ acts. marks_none old mid a) (Err Device) refl
 
@@ -70,6 +70,6 @@ returns-in-Err-Memory-clause-turn g c now t more tells ready makes here =
     let name = c.args.name.now in
     let named : name_of b ≡ name_of a = ap (λ (h : Held). name_of h) c.in-Err-Memory.ensures.stays in
     let starts = subst (λ (f : Fault). StartsCopy (Err f) old mid a b t name (copy_turn (seen_now now) c.args.session name)) c.in-Err-Memory.field-0-is
-        (c.in-Err-Memory.ensures.turn (seen_now now) t tells ready.base ready.running ready.opened (knows_unused old a t now name ready makes.going c.requires.plain)) in
+    (c.in-Err-Memory.ensures.turn (seen_now now) t tells ready.base ready.running ready.opened (knows_unused old a t now name ready makes.going c.requires.plain)) in
     turns_failed (λ copy. None) (Err Memory) (λ (taken : Taken). taken.refused) (λ (taken : Taken). taken.task) old mid mid a b t now c.args.session (Begins (CopyTo name)) [] more [] (begins_make (base_now now).frozen (CopyTo name)) makes here
     (begin_acts old mid a b t now c.args.session name ready named (Err Memory) starts) (λ acts. marks_none old mid a) (Err Memory) refl

@@ -1,4 +1,4 @@
-use Rattle.std.proofs.Common.{sym, ap, subst}
+use Rattle.std.proofs.Common.{sym, subst}
 use Rattle.nb_change.specs.Changes.{Changes, Only, Remade}
 use Rattle.nb_model.specs.Levels.{joined}
 use Rattle.nb_copy.specs.Copying.{Copying, IsCopying}
