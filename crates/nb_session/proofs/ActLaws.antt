@@ -31,7 +31,7 @@ use Rattle.nb_state.specs.Does.{WhereEnded, Answers, Does}
 use Rattle.nb_state.specs.Turns.{GaveAtMost}
 use Rattle.nb_state.proofs.MakesLaws.{where_ended, none_yet}
 use Rattle.nb_engine.specs.Replies.{scn_is}
-use Rattle.nb_engine.specs.Turns.{DoesBegin}
+use Rattle.nb_engine.specs.Turns.{SaysNone, DoesBegin}
 use Rattle.nb_session.specs.Acts.{Says, Grows, Touched, TurnLeft, AreKept, Acts, MayAct}
 use Rattle.nb_session.specs.Ready.{IsReady}
 use Rattle.nb_session.proofs.EventLaws.{strokes_are_steps}
@@ -61,6 +61,13 @@ as_says reply (Ok value) said is = is
 as_says reply (Err (Refused refusal)) said is = is
 as_says reply (Err Device) said is = tt
 as_says reply (Err Memory) said is = tt
+
+-- nothing is said yet, or the refusal
+pub says_none : {T : Type 0} (result : Result T Fault) (said : Option Reply) → SaysNone result said → Says (λ value. None) result said
+says_none (Ok value) said is = is
+says_none (Err (Refused refusal)) said is = is
+says_none (Err Device) said is = tt
+says_none (Err Memory) said is = tt
 
 -- what holds where a call ended, said otherwise
 pub ended_map : {T P Q : Type 0} (result : Result T Fault) → (P → Q) → WhereEnded result P → WhereEnded result Q
@@ -161,7 +168,7 @@ module _ (old new : World) (a b : Held) (t : Trail) (now : Now) (session : ℕ) 
   }
 
 -- a GUID that was given is the next one that is foretold
-next_is : (old new : World) (guid : List ℕ) (given : Given) → new.guids ≡ old.guids ++ guid ∷ [] → Foretells given old new → given.guids ≡ guid ∷ drop 1 given.guids
+pub next_is : (old new : World) (guid : List ℕ) (given : Given) → new.guids ≡ old.guids ++ guid ∷ [] → Foretells given old new → given.guids ≡ guid ∷ drop 1 given.guids
 next_is old new guid given gave told =
     let ids : told.ids ≡ guid ∷ [] = append_cancel_left old.guids told.ids (guid ∷ []) (sym told.guids ∙ gave) in
     let all : given.guids ≡ guid ∷ told.later_ids = told.guids_first ∙ ap (λ (l : List (List ℕ)). l ++ told.later_ids) ids in
@@ -170,11 +177,11 @@ next_is old new guid given gave told =
 next_guid_is : (guid : List ℕ) (given : Given) → given.guids ≡ guid ∷ drop 1 given.guids → next_guid given ≡ guid
 next_guid_is guid given is = ap (λ (l : List (List ℕ)). slice_index_or l 0 (replicate 16 0)) is
 
-at_most : (old new : World) (guid : List ℕ) (given : Given) → GaveAtMost old new guid → Foretells given old new → GaveAtMost old new (next_guid given)
+pub at_most : (old new : World) (guid : List ℕ) (given : Given) → GaveAtMost old new guid → Foretells given old new → GaveAtMost old new (next_guid given)
 at_most old new guid given (inl none) told = inl none
 at_most old new guid given (inr gave) told = inr (gave ∙ ap (λ (id : List ℕ). old.guids ++ id ∷ []) (sym (next_guid_is guid given (next_is old new guid given gave told))))
 
-grows_at_most : (old new : World) (guid : List ℕ) → length guid ≡ 16 → GaveAtMost old new guid → new.times ≡ old.times → Grows old new
+pub grows_at_most : (old new : World) (guid : List ℕ) → length guid ≡ 16 → GaveAtMost old new guid → new.times ≡ old.times → Grows old new
 grows_at_most old new guid sixteen (inl none) times = grows_none old new (record { guids = none; times = times })
 grows_at_most old new guid sixteen (inr gave) times = record { ids = guid ∷ []; clock = []; gave = record { guids = gave; times = times ∙ sym (append-nil old.times) }; sixteen = (sixteen, tt) }
 

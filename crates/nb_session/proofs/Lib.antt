@@ -13,6 +13,8 @@ pub mod KeepLaws
 pub mod ActLaws
 pub mod WayLaws
 pub mod MergeLaws
+pub mod CopyLaws
+pub mod BackupLaws
 pub mod UnderWayLaws
 pub mod StepLaws
 pub mod GoesLaws

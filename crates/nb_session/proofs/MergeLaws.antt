@@ -29,14 +29,14 @@ use Rattle.nb_state.specs.Turns.{Merges, GoesOn}
 use Rattle.nb_state.specs.declared.turns.Progress.{Progress}
 use Rattle.nb_state.specs.declared.turns.Progress.TheVariants.{More, Finished}
 use Rattle.nb_state.proofs.MakesLaws.{after_base, where_ended}
-use Rattle.nb_engine.specs.Turns.{SaysNone, DoesEnd}
+use Rattle.nb_engine.specs.Turns.{DoesEnd}
 use Rattle.nb_session.specs.Acts.{Says, Acts, MayAct}
 use Rattle.nb_session.specs.Askers.{IsMerging, merge_first, merge_rest, task_todo}
 use Rattle.nb_session.specs.declared.task.Merging.{Merging}
 use Rattle.nb_session.specs.declared.task.Task.TheVariants.{Merge}
 use Rattle.nb_session.specs.Ready.{IsReady}
 use Rattle.nb_session.specs.Steps.{IsBehind}
-use Rattle.nb_session.proofs.ActLaws.{trail_plain, ended_map, strikes_left, kept_none}
+use Rattle.nb_session.proofs.ActLaws.{trail_plain, ended_map, strikes_left, kept_none, says_none}
 use Rattle.nb_session.proofs.GiftLaws.{given_nothing, grows_none}
 use Rattle.nb_session.proofs.TurnLaws.{seen_now, outcome_is}
 use Rattle.nb_session.proofs.WayLaws.{merge_turns, ending_at}
@@ -142,12 +142,6 @@ unopposed s session = ends_reply s session (Scn (end_scn s.base.image))
 pub end_quiet : (s : Seen) (session : ℕ) → image_state s.base.image ≡ 1 → s.running ≡ Some session → (end_turn s session).reply ≡ None
 end_quiet s session stalled runs =
     ap (λ (o : Outcome). o.reply) (end_turn_is s session) ∙ ap (λ (c : Cause). (unless s c (ending s session)).reply) (none_against s session stalled runs) ∙ unopposed s session
-
-says_none : (result : Result ℕ Fault) (said : Option Reply) → SaysNone result said → Says (λ scn. None) result said
-says_none (Ok scn) said is = is
-says_none (Err (Refused refusal)) said is = is
-says_none (Err Device) said is = tt
-says_none (Err Memory) said is = tt
 
 -- the end of the stalled state diverts no page
 ends_diverted : (b : Base) (state : Bool) → (base_after b (elim state as (λ z. List Stroke) [ true ↦ ends ∷ [] | false ↦ [] ])).diverted ≡ b.diverted

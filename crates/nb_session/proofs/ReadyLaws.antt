@@ -65,6 +65,11 @@ plain_entry : (bytes : List ℕ) → is_free_entry (Plain bytes None) ≡ false 
 unfolding is_free_entry
 plain_entry bytes used = used
 
+-- a name that is free isn't that of the database
+pub not_own : (w : World) (held : Held) (t : Trail) (now : Now) (name : List ℕ) → IsReady w held t now → is_free_entry (now.account.entry name) ≡ true → name ≢ name_of held
+not_own w held t now name ready free same =
+    true_false (sym free ∙ ap (λ (n : List ℕ). is_free_entry (now.account.entry n)) (same ∙ ready.named) ∙ ap is_free_entry ready.there ∙ own_entry (base_now now))
+
 -- whether a name is free, by its two files
 free_same : (one two : Files) (m : List ℕ) → two m ≡ one m → is_some (two (delta_name m)) ≡ is_some (one (delta_name m)) → is_free_name two m ≡ is_free_name one m
 unfolding is_free_name has_delta

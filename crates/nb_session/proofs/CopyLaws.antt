@@ -1,0 +1,357 @@
+-- The turns of a copy of the frozen file.
+use Rattle.std.proofs.Common.{◌≡◌, ◌≢◌, inl, inr, ℕ, zero, suc, ◌+◌, ◌-◌, ◌<◌, ◌≤◌, List, [], ◌∷◌, ◌++◌, length, replicate, refl, sym, ap, subst, ◌∙◌, arith}
+use Rattle.std.specs.Prelude.{Result, Ok, Err, IfOk, Option, Some, None, Contains, true, false}
+use Rattle.std.specs.List.{slice_index_or}
+use Rattle.std.proofs.lemmas.List.{append-nil}
+use Rattle.nb_host.specs.Files.{File, Files}
+use Rattle.nb_host.specs.Names.{is_delta}
+use Rattle.nb_host.specs.World.{World}
+use Rattle.nb_host.specs.Crash.{Leaves}
+use Rattle.nb_host.specs.declared.faults.Fault.{Fault}
+use Rattle.nb_host.specs.declared.faults.Fault.TheVariants.{Refused, Device, Memory}
+use Rattle.nb_host.specs.declared.faults.HostFault.{HostFault}
+use Rattle.nb_host.specs.declared.refusals.Refusal.{Refusal}
+use Rattle.nb_page.specs.Quiet.{Quiet}
+use Rattle.nb_page.specs.Free.{is_free_name}
+use Rattle.nb_change.specs.Changes.{Changes, Only, Remade, Reached}
+use Rattle.nb_change.specs.Gave.{GaveNothing}
+use Rattle.nb_change.proofs.ChangesLaws.{weakened}
+use Rattle.nb_change.proofs.ReachedLaws.{reached_first}
+use Rattle.nb_model.specs.declared.reply.Reply.{Reply}
+use Rattle.nb_model.specs.declared.reply.Reply.TheVariants.{Refused as RefusedBy, Pages}
+use Rattle.nb_model.specs.declared.statement.Statement.TheVariants.{CopyTo}
+use Rattle.nb_model.specs.Account.{Base, IsBase}
+use Rattle.nb_model.specs.Backups.{copy_turn, close_copy}
+use Rattle.nb_model.specs.Causes.{is_free_entry}
+use Rattle.nb_model.specs.Going.{Runs, IsAt, IsGoing}
+use Rattle.nb_model.specs.Image.{Image, image_state}
+use Rattle.nb_model.specs.Levels.{joined}
+use Rattle.nb_model.specs.Making.{MadeFile, making}
+use Rattle.nb_model.specs.Outcomes.{Turn, Begins, Copies, ClosesCopy, Seen, Outcome, passes}
+use Rattle.nb_model.specs.Run.{Now, Event, base_now, outcome, event_of, files_made}
+use Rattle.nb_model.specs.Strokes.{Stroke, base_after}
+use Rattle.nb_model.specs.Steps.{steps_in, after_steps}
+use Rattle.nb_model.specs.Trail.{Trail, StandsIn, after_stroke}
+use Rattle.nb_model.specs.Turns.{first_turn, turn}
+use Rattle.nb_model.proofs.TurnCases.{refused, copied, MayCopy, copy_either}
+use Rattle.nb_base.specs.Open.{OfFiles}
+use Rattle.nb_base.specs.Takes.{after_strokes}
+use Rattle.nb_state.specs.Open.{Held, IsOpen, name_of}
+use Rattle.nb_state.specs.Does.{WhereEnded}
+use Rattle.nb_state.specs.declared.turns.Progress.{Progress}
+use Rattle.nb_state.specs.declared.turns.Progress.TheVariants.{More, Finished}
+use Rattle.nb_state.proofs.MakesLaws.{where_ended, none_yet, gave_none, open_quiet}
+use Rattle.nb_copy.specs.Making.{IsKept, IsUnfinishedOr}
+use Rattle.nb_copy.specs.Copying.{Copying, IsCopying}
+use Rattle.nb_copy.specs.FileCopies.{StartsCopy, IsCopyStarted, CopiesFile, KnowsUnused}
+use Rattle.nb_copy.specs.Turns.{CopyTurn, CopyCounts}
+use Rattle.nb_copy.proofs.ClosingLaws.{stands}
+use Rattle.nb_session.specs.declared.task.Task.TheVariants.{Copy}
+use Rattle.nb_session.specs.Acts.{Says, Touched, TurnLeft, AreKept, Acts, MayAct}
+use Rattle.nb_session.specs.Askers.{copy_first, copy_rest, task_todo}
+use Rattle.nb_session.specs.Ready.{IsReady, IsApart}
+use Rattle.nb_session.specs.Steps.{IsBehind}
+use Rattle.nb_session.proofs.ActLaws.{trail_plain, ended_map, strikes_left, kept_none, says_none}
+use Rattle.nb_session.proofs.GiftLaws.{given_nothing, grows_none}
+use Rattle.nb_session.proofs.MakesLaws.{none_runs}
+use Rattle.nb_session.proofs.ReadyLaws.{apart_files, not_own}
+use Rattle.nb_session.proofs.TurnLaws.{seen_now, outcome_is}
+use Rattle.nb_session.proofs.WayLaws.{copy_turns, copying_at}
+
+-- who runs says nothing of the files
+pub open_running : (w : World) (held : Held) (t : Trail) (running : Option ℕ) → IsOpen w held t → IsOpen w (record held { running = running }) t
+open_running w held t running is = record {
+  files = is.files;
+  agrees = record { scn = is.agrees.scn; four = is.agrees.four; guid = is.agrees.guid; forced = is.agrees.forced; read_only = is.agrees.read_only };
+  merged = is.merged;
+  most = is.most;
+}
+
+-- no stroke
+pub no_stroke : (b : Base) (ss : List Stroke) → ss ≡ [] → base_after b ss ≡ b
+unfolding base_after
+no_stroke b ss none = ap (base_after b) none
+
+-- one file
+one_file : (f g : MadeFile) → Contains (f ∷ []) g → f ≡ g
+one_file f g (zero, low, is) = is
+one_file f g (suc i, low, is) = absurd (omega (arith, low))
+
+pub kept_one : (w : World) (name whole : List ℕ) → IsKept w name whole → AreKept w ((name, whole) ∷ [])
+kept_one w name whole kept n bytes there = subst (λ (f : MadeFile). IsKept w f.0 f.1) (one_file (name, whole) (n, bytes) there) kept
+
+pub apart_one : (held : Held) (name whole : List ℕ) → IsApart held name → (n bytes : List ℕ) → Contains {X = MadeFile} ((name, whole) ∷ []) (n, bytes) → IsApart held n
+apart_one held name whole apart n bytes there = subst (λ (f : MadeFile). IsApart held f.0) (one_file (name, whole) (n, bytes) there) apart
+
+pub made_by : (w : World) (e : Event) (file : MadeFile) → e.made ≡ Some file → AreKept w (file ∷ []) → AreKept w (files_made (e ∷ []))
+unfolding files_made
+made_by w e file made kept = subst (λ (m : Option MadeFile). AreKept w (elim m as (λ z. List MadeFile) [ Some f ↦ f ∷ [] | None ↦ [] ])) (sym made) kept
+
+-- What a stop leaves while a file that isn't the database's is made, and the database stays.
+module _ (old new : World) (a : Held) (t : Trail) (opened : IsOpen old a t) (name whole : List ℕ) (apart : IsApart a name) (reads : Leaves old name (old.files name)) where
+  touches : (m : List ℕ) → m ≡ name → Touched (name_of a) ((name, whole) ∷ []) m
+  touches m same = inr (whole, (0, omega arith, ap (λ (n : List ℕ). (n, whole)) (sym same)))
+
+  pub each_one : (files : Files) → Remade old name (IsUnfinishedOr whole) files → (n bytes : List ℕ) → Contains {X = MadeFile} ((name, whole) ∷ []) (n, bytes) → Remade old n (IsUnfinishedOr bytes) files
+  each_one files has n bytes there = subst (λ (f : MadeFile). Remade old f.0 (IsUnfinishedOr f.1) files) (one_file (name, whole) (n, bytes) there) has
+
+  pub file_left : (ss : List Stroke) → Changes old new (Only name) (Remade old name (IsUnfinishedOr whole)) → Changes old new (Touched (name_of a) ((name, whole) ∷ [])) (TurnLeft old (name_of a) t ss ((name, whole) ∷ []))
+  file_left ss changes =
+      weakened old new (Only name) (Touched (name_of a) ((name, whole) ∷ [])) (Remade old name (IsUnfinishedOr whole)) (TurnLeft old (name_of a) t ss ((name, whole) ∷ [])) changes touches
+      (λ files others has. record {
+        database = reached_first after_stroke (StandsIn (name_of a)) t ss files (stands old a t opened name whole (apart_files a name apart) reads files others);
+        each = each_one files has;
+      })
+
+-- The start of a copy, by its turn.
+some_none : (r : Refusal) → Some (RefusedBy r) ≡ None → ⊥
+some_none r e = cc
+
+module _ (s : Seen) (session : ℕ) (name : List ℕ) where
+  begin_strokes : (copy_turn s session name).strokes ≡ []
+  begin_strokes = copy_either (λ o. o.strokes ≡ []) s session name (λ r. refl) (λ may. refl)
+
+  begin_given : (copy_turn s session name).given ≡ s.given
+  begin_given = copy_either (λ o. o.given ≡ s.given) s session name (λ r. refl) (λ may. refl)
+
+  begin_made : (copy_turn s session name).made ≡ None
+  begin_made = copy_either (λ o. o.made ≡ None) s session name (λ r. refl) (λ may. refl)
+
+  begin_free : (copy_turn s session name).reply ≡ None → is_free_entry (s.entry name) ≡ true
+  begin_free = copy_either (λ o. o.reply ≡ None → is_free_entry (s.entry name) ≡ true) s session name (λ r is. absurd (some_none r is)) (λ may is. may.free)
+
+  begin_runs : (copy_turn s session name).reply ≡ None → (copy_turn s session name).running ≡ Some session
+  begin_runs = copy_either (λ o. o.reply ≡ None → o.running ≡ Some session) s session name (λ r is. absurd (some_none r is)) (λ may is. refl)
+
+  begin_none : (refusal : Refusal) → (copy_turn s session name).reply ≡ Some (RefusedBy refusal) → (copy_turn s session name).next ≡ []
+  begin_none refusal = copy_either (λ o. o.reply ≡ Some (RefusedBy refusal) → o.next ≡ []) s session name (λ r is. refl) (λ may is. absurd (some_none refusal (sym is)))
+
+begin_is : (session : ℕ) (name : List ℕ) (now : Now) → copy_turn (seen_now now) session name ≡ outcome session (Begins (CopyTo name)) now
+unfolding first_turn
+begin_is session name now = sym (outcome_is session (CopyTo name) now)
+
+-- where nobody runs the account knows of each name whether it is free
+pub knows_unused : (w : World) (held : Held) (t : Trail) (now : Now) (name : List ℕ) → IsReady w held t now → IsGoing now → is_delta name ≡ false → KnowsUnused w.files (seen_now now) name
+knows_unused w held t now name ready going plain nobody = ready.known name plain (none_runs now going (λ place number some runs. none_some runs.by (sym nobody ∙ runs.running)) name)
+  where
+    none_some : (by : ℕ) → None ≡ Some by → ⊥
+    none_some by e = cc
+
+module _ (old new : World) (a b : Held) (t : Trail) (now : Now) (session : ℕ) (name : List ℕ) (ready : IsReady old a t now) (named : name_of b ≡ name_of a) where
+  abbrev begins : Outcome
+  begins = copy_turn (seen_now now) session name
+
+  abbrev this : Outcome
+  this = outcome session (Begins (CopyTo name)) now
+
+  abbrev event : Event
+  event = event_of session (Begins (CopyTo name)) this
+
+  trail_is : t ≡ after_steps t (steps_in event)
+  trail_is = sym (ap (after_strokes t) (sym (ap (λ (o : Outcome). o.strokes) (begin_is session name now)) ∙ begin_strokes (seen_now now) session name)) ∙ trail_plain t event refl
+
+  pub begin_acts : (result : Result Copying Fault) → StartsCopy result old new a b t name begins → MayAct (λ copy. None) result old new a b t now session (Begins (CopyTo name)) []
+  begin_acts result starts =
+      let same = begin_is session name now in
+      record {
+        grows = grows_none old new (gave_none old new starts.quiet);
+        acts = λ told. record {
+          says = subst (λ (o : Outcome). Says (λ copy. None) result o.reply) same (says_none result begins.reply starts.says);
+          left = strikes_left old new (name_of a) t this.strokes (none_yet old new a t this.strokes starts.quiet ready.opened);
+          opened = ended_map result (λ held. subst (IsOpen new b) trail_is (subst (λ (h : Held). IsOpen new h t) (sym held) (open_running new a t begins.running (open_quiet old new a t starts.quiet ready.opened)))) starts.held;
+          running = ended_map result (λ held. ap (λ (h : Held). h.running) held ∙ ap (λ (o : Outcome). o.running) same) starts.held;
+          given = where_ended result _ (given_nothing old new now.given this.given (gave_none old new starts.quiet) (sym (ap (λ (o : Outcome). o.given) same) ∙ begin_given (seen_now now) session name));
+          kept = where_ended result _ (kept_none new event (sym (ap (λ (o : Outcome). o.made) same) ∙ begin_made (seen_now now) session name));
+          name = named;
+        };
+      }
+
+  -- a copy was begun
+  pub begin_behind : (copy : Copying) → is_delta name ≡ false → StartsCopy (Ok copy) old new a b t name begins → IsBehind new b session (Begins (CopyTo name)) [] now (Some (Copy copy))
+  begin_behind copy plain starts =
+      let is : IsCopyStarted new b t copy name begins = starts.started in
+      let same = begin_is session name now in
+      let all : copy.count ≡ copy.count - copy.next = omega (arith, is.first) in
+      record {
+        next = append-nil this.next ∙ sym (ap (λ (o : Outcome). o.next) same) ∙ is.turns ∙ ap (λ (n : ℕ). replicate n Copies ++ ClosesCopy name ∷ []) all ∙ ap (λ (n : List ℕ). replicate (copy.count - copy.next) Copies ++ ClosesCopy n ∷ []) (sym is.named)
+            ∙ copy_turns (copy.count - copy.next) (ClosesCopy copy.name);
+        goes = (
+          subst (IsCopying new copy) (ap (λ (x : Base). x.frozen) (ready.base ∙ sym (no_stroke (base_now now) this.strokes (sym (ap (λ (o : Outcome). o.strokes) same) ∙ begin_strokes (seen_now now) session name)))) is.goes,
+          record {
+            plain = ap is_delta is.named ∙ plain;
+            other = λ own. not_own old a t now name ready (begin_free (seen_now now) session name starts.says) (sym is.named ∙ own ∙ named);
+          },
+          ap (λ (h : Held). h.running) starts.held ∙ begin_runs (seen_now now) session name starts.says);
+      }
+
+  -- it was refused
+  pub begin_refused : (refusal : Refusal) → StartsCopy (Err (Refused refusal)) old new a b t name begins → (w : World) → IsBehind w b session (Begins (CopyTo name)) [] now None
+  begin_refused refusal starts w =
+      record { next = append-nil this.next ∙ sym (ap (λ (o : Outcome). o.next) (begin_is session name now)) ∙ begin_none (seen_now now) session name refusal starts.says; goes = tt }
+
+-- A further turn of a copy.
+page_is : (session : ℕ) (now : Now) → outcome session Copies now ≡ passes (seen_now now)
+unfolding outcome turn
+page_is session now = refl
+
+close_is : (session : ℕ) (name : List ℕ) (now : Now) → outcome session (ClosesCopy name) now ≡ close_copy (seen_now now) name
+unfolding outcome turn
+close_is session name now = refl
+
+-- The parts of the last one.
+module _ (s : Seen) (name : List ℕ) where
+  close_strokes : (close_copy s name).strokes ≡ []
+  unfolding close_copy
+  close_strokes = refl
+
+  close_reply : (close_copy s name).reply ≡ Some (Pages (length s.base.frozen))
+  unfolding close_copy
+  close_reply = refl
+
+  close_next : (close_copy s name).next ≡ []
+  unfolding close_copy
+  close_next = refl
+
+  close_running : (close_copy s name).running ≡ None
+  unfolding close_copy
+  close_running = refl
+
+  close_made : (close_copy s name).made ≡ Some (name, joined s.base.frozen)
+  unfolding close_copy
+  close_made = refl
+
+  close_given : (close_copy s name).given ≡ s.given
+  unfolding close_copy
+  close_given = refl
+
+-- the file that these turns make
+pub copies_make : (frozen : Image) (left : ℕ) (name : List ℕ) → (name, joined frozen) ∷ [] ≡ making frozen (copy_first left (ClosesCopy name) ∷ copy_rest left (ClosesCopy name))
+unfolding making
+copies_make frozen zero name = refl
+copies_make frozen (suc left) name = by left
+  where
+    by : (n : ℕ) → (name, joined frozen) ∷ [] ≡ making frozen (replicate n Copies ++ ClosesCopy name ∷ [])
+    by zero = refl
+    by (suc n) = by n
+
+-- what is to be said
+pub copy_said : (pages : ℕ) → Progress → Option Reply
+copy_said pages More = None
+copy_said pages Finished = Some (Pages pages)
+
+pub said_pages : (pages : ℕ) (p : Progress) (said : Option Reply) → Says {T = Progress} (copy_said pages) (Ok p) said → said ≡ elim p as (λ z. Option Reply) [ More ↦ None | Finished ↦ Some (Pages pages) ]
+unfolding copy_said
+said_pages pages More said is = is
+said_pages pages Finished said is = is
+
+-- in that state
+pub stalled_now : (w : World) (held : Held) (t : Trail) (now : Now) (place : ℕ) → IsReady w held t now → Runs now place 1 → held.files.state ≡ 1
+stalled_now w held t now place ready runs = ready.opened.files.agrees.state ∙ ap (λ (b : Base). image_state b.image) ready.base ∙ runs.state
+
+module _ (old mid : World) (a b : Held) (t : Trail) (now : Now) (session : ℕ) (copy later : Copying) (pages : ℕ) (ready : IsReady old a t now) (apart : IsApart a copy.name) (reads : Leaves old copy.name (old.files copy.name)) where
+  abbrev last : Turn
+  last = ClosesCopy copy.name
+
+  abbrev whole : List ℕ
+  whole = joined t.base.frozen
+
+  abbrev files : List MadeFile
+  files = (copy.name, whole) ∷ []
+
+  frozen_is : t.base.frozen ≡ (base_now now).frozen
+  frozen_is = ap (λ (x : Base). x.frozen) ready.base
+
+  pub copy_files : (left : ℕ) → files ≡ making (base_now now).frozen (copy_first left last ∷ copy_rest left last)
+  copy_files left = ap (λ (f : Image). (copy.name, joined f) ∷ []) frozen_is ∙ copies_make (base_now now).frozen left copy.name
+
+  none_struck : (left : ℕ) → (outcome session (copy_first left last) now).strokes ≡ []
+  none_struck zero = ap (λ (o : Outcome). o.strokes) (close_is session copy.name now) ∙ close_strokes (seen_now now) copy.name
+  none_struck (suc left) = ap (λ (o : Outcome). o.strokes) (page_is session now)
+
+  not_sync : (left : ℕ) (o : Outcome) → (event_of session (copy_first left last) o).syncs ≡ false
+  not_sync zero o = refl
+  not_sync (suc left) o = refl
+
+  trail_same : (left : ℕ) → t ≡ after_steps t (steps_in (event_of session (copy_first left last) (outcome session (copy_first left last) now)))
+  trail_same left =
+      sym (ap (after_strokes t) (none_struck left)) ∙ trail_plain t (event_of session (copy_first left last) (outcome session (copy_first left last) now)) (not_sync left (outcome session (copy_first left last) now))
+
+  -- the file alone is touched
+  module _ (changes : Changes old mid (Only copy.name) (Remade old copy.name (IsUnfinishedOr whole))) (gave : GaveNothing old mid) where
+    -- it fails
+    pub copy_fails : (left : ℕ) → b ≡ a → MayAct (copy_said pages) (Err Device) old mid a b t now session (copy_first left last) files
+    copy_fails left same = record {
+      grows = grows_none old mid gave;
+      acts = λ told. record {
+        says = tt;
+        left = file_left old mid a t ready.opened copy.name whole apart reads (outcome session (copy_first left last) now).strokes changes;
+        opened = tt;
+        running = tt;
+        given = tt;
+        kept = tt;
+        name = ap (λ (h : Held). name_of h) same;
+      };
+    }
+
+    -- a page is copied
+    pub copy_more : (left : ℕ) → 1 ≤ left → b ≡ a → IsOpen mid b t → MayAct (copy_said pages) (Ok More) old mid a b t now session (copy_first left last) files
+    unfolding copy_said
+    copy_more zero some same opened = absurd (omega (arith, some))
+    copy_more (suc left) some same opened =
+        let o = page_is session now in
+        record {
+          grows = grows_none old mid gave;
+          acts = λ told. record {
+            says = ap (λ (x : Outcome). x.reply) o;
+            left = file_left old mid a t ready.opened copy.name whole apart reads (outcome session Copies now).strokes changes;
+            opened = subst (IsOpen mid b) (trail_same (suc left)) opened;
+            running = ap (λ (h : Held). h.running) same ∙ ready.running ∙ sym (ap (λ (x : Outcome). x.running) o);
+            given = given_nothing old mid now.given (outcome session Copies now).given gave (ap (λ (x : Outcome). x.given) o);
+            kept = kept_none mid (event_of session Copies (outcome session Copies now)) (ap (λ (x : Outcome). x.made) o);
+            name = ap (λ (h : Held). name_of h) same;
+          };
+        }
+
+    -- the file is whole, and no copy runs any more
+    pub copy_ends : (left : ℕ) → left ≡ 0 → b ≡ record a { running = None } → IsOpen mid a t → pages ≡ length t.base.frozen → IsKept mid copy.name whole → MayAct (copy_said pages) (Ok Finished) old mid a b t now session (copy_first left last) files
+    unfolding copy_said
+    copy_ends (suc left) none same opened all kept = absurd (omega (arith, none))
+    copy_ends zero none same opened all kept =
+        let o = close_is session copy.name now in
+        record {
+          grows = grows_none old mid gave;
+          acts = λ told. record {
+            says = ap (λ (x : Outcome). x.reply) o ∙ close_reply (seen_now now) copy.name ∙ ap (λ (n : ℕ). Some (Pages n)) (sym (all ∙ ap length frozen_is));
+            left = file_left old mid a t ready.opened copy.name whole apart reads (outcome session last now).strokes changes;
+            opened = subst (IsOpen mid b) (trail_same 0) (subst (λ (h : Held). IsOpen mid h t) (sym same) (open_running mid a t None opened));
+            running = ap (λ (h : Held). h.running) same ∙ sym (ap (λ (x : Outcome). x.running) o ∙ close_running (seen_now now) copy.name);
+            given = given_nothing old mid now.given (outcome session last now).given gave (ap (λ (x : Outcome). x.given) o ∙ close_given (seen_now now) copy.name);
+            kept = made_by mid (event_of session last (outcome session last now)) (copy.name, whole) (ap (λ (x : Outcome). x.made) o ∙ close_made (seen_now now) copy.name ∙ ap (λ (f : Image). Some (copy.name, joined f)) (sym frozen_is))
+                (kept_one mid copy.name whole kept);
+            name = ap (λ (h : Held). name_of h) same;
+          };
+        }
+
+  -- what is left behind it
+  pub more_behind : (left : ℕ) → 1 ≤ left → later.count - later.next ≡ left - 1 → later.name ≡ copy.name → b ≡ a → IsCopying mid later t.base.frozen → a.running ≡ Some session
+      → IsBehind mid b session (copy_first left last) (copy_rest left last) now (Some (Copy later))
+  more_behind zero some rest named same goes runs = absurd (omega (arith, some))
+  more_behind (suc left) some rest named same goes runs = record {
+    next = ap (λ (o : Outcome). o.next ++ copy_rest (suc left) last) (page_is session now) ∙ copy_turns left last
+        ∙ ap (λ (n : ℕ). copy_first n last ∷ copy_rest n last) (let e : left ≡ later.count - later.next = omega (arith, rest) in e)
+        ∙ ap (λ (n : List ℕ). copy_first (later.count - later.next) (ClosesCopy n) ∷ copy_rest (later.count - later.next) (ClosesCopy n)) (sym named);
+    goes = (
+      subst (IsCopying mid later) (ap (λ (x : Base). x.frozen) (ready.base ∙ sym (no_stroke (base_now now) (outcome session Copies now).strokes (none_struck (suc left))))) goes,
+      record { plain = ap is_delta named ∙ apart.plain; other = λ own. apart.other (sym named ∙ own ∙ ap (λ (h : Held). name_of h) same) },
+      ap (λ (h : Held). h.running) same ∙ runs);
+  }
+
+  pub end_behind : (w : World) (left : ℕ) → left ≡ 0 → IsBehind w b session (copy_first left last) (copy_rest left last) now None
+  end_behind w zero none = record { next = ap (λ (xs : List Turn). xs ++ []) (ap (λ (o : Outcome). o.next) (close_is session copy.name now) ∙ close_next (seen_now now) copy.name); goes = tt }
+  end_behind w (suc left) none = absurd (omega (arith, none))
+
+-- the session whose copy it is has it to do in the stalled state
+pub copying_stalled : (w : World) (held : Held) (t : Trail) (now : Now) (session : ℕ) (left : ℕ) (name : List ℕ) (more : List Turn) → IsReady w held t now → IsGoing now
+    → slice_index_or now.todo (session - 1) [] ≡ copy_first left (ClosesCopy name) ∷ (copy_rest left (ClosesCopy name) ++ more) → held.files.state ≡ 1
+copying_stalled w held t now session left name more ready going here =
+    stalled_now w held t now (session - 1) ready (copying_at now (session - 1) left name more (subst (IsAt now (session - 1)) here (going.each (session - 1)))).0
