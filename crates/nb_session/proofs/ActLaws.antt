@@ -13,7 +13,8 @@ use Rattle.nb_change.proofs.ChangesLaws.{weakened}
 use Rattle.nb_model.specs.declared.reply.Reply.{Reply}
 use Rattle.nb_model.specs.declared.reply.Reply.TheVariants.{Done}
 use Rattle.nb_model.specs.declared.statement.Statement.{Statement}
-use Rattle.nb_model.specs.declared.statement.Statement.TheVariants.{Sync}
+use Rattle.nb_model.specs.declared.statement.Statement.TheVariants.{BeginBackup, Sync}
+use Rattle.nb_model.specs.Built.{is_built}
 use Rattle.nb_model.specs.Gifts.{Foretells, WasGiven}
 use Rattle.nb_model.specs.Making.{MadeFile}
 use Rattle.nb_model.specs.Outcomes.{Turn, Begins, Seen, Given, Outcome, next_guid, says}
@@ -23,6 +24,8 @@ use Rattle.nb_model.specs.Steps.{Step, steps_in, after_steps, made, settles}
 use Rattle.nb_model.specs.Strokes.{Stroke}
 use Rattle.nb_model.specs.Trail.{Trail, StandsIn, settled, after_stroke}
 use Rattle.nb_model.specs.Turns.{first_turn}
+use Rattle.nb_model.specs.Well.{is_on_pages}
+use Rattle.nb_model.proofs.TurnCases.{IsOnce, pages_once}
 use Rattle.nb_model.proofs.StepsLaws.{steps_plain, after_settling}
 use Rattle.nb_base.specs.Open.{OfFiles}
 use Rattle.nb_base.specs.Takes.{Strikes, after_strokes}
@@ -36,7 +39,7 @@ use Rattle.nb_session.specs.Acts.{Says, Grows, Touched, TurnLeft, AreKept, Acts,
 use Rattle.nb_session.specs.Ready.{IsReady}
 use Rattle.nb_session.proofs.EventLaws.{strokes_are_steps}
 use Rattle.nb_session.proofs.GiftLaws.{given_nothing, grows_none}
-use Rattle.nb_session.proofs.KeepLaws.{KeepsRun, begin_gives, begin_refused, begin_running, begin_made, sync_is}
+use Rattle.nb_session.proofs.KeepLaws.{begin_gives, begin_refused, begin_running, begin_made}
 use Rattle.nb_session.proofs.TurnLaws.{seen_now, outcome_is}
 
 -- strokes of a turn that makes no file
@@ -109,22 +112,25 @@ module _ {T S : Type 0} (reply : T → Option Reply) (other : S → Option Reply
 pub trail_plain : (t : Trail) (e : Event) → e.syncs ≡ false → after_strokes t e.strokes ≡ after_steps t (steps_in e)
 trail_plain t e plain = strokes_are_steps t e.strokes ∙ ap (after_steps t) (sym (steps_plain e plain))
 
--- A statement that is done in one turn, for which nothing is given.
-pub does_acts : {T : Type 0} (reply : T → Reply) (result : Result T Fault) (old new : World) (a b : Held) (t : Trail) (now : Now) (session : ℕ) (statement : Statement) (o : Outcome)
-    → o ≡ first_turn (seen_now now) session statement → is_sync (Begins statement) ≡ false → KeepsRun (seen_now now) o → IsReady old a t now → Does reply result old new a b t o
-    → MayAct (some_by reply) result old new a b t now session (Begins statement) []
-does_acts reply result old new a b t now session statement o turn_is plain keeps ready does =
-    let same : o ≡ outcome session (Begins statement) now = turn_is ∙ sym (outcome_is session statement now) in
+-- A statement on pages, by what the engine does of its turn.
+pub does_acts : {T : Type 0} (reply : T → Reply) (result : Result T Fault) (old new : World) (a b : Held) (t : Trail) (now : Now) (session : ℕ) (statement it : Statement) → statement ≡ it → is_sync (Begins it) ≡ false → is_on_pages it ≡ true
+    → is_built statement ≡ true → (o : Outcome) → o ≡ first_turn (seen_now now) session it → IsReady old a t now → Does reply result old new a b t o → MayAct (some_by reply) result old new a b t now session (Begins statement) []
+does_acts reply result old new a b t now session statement it is plain on built o turn_is ready does =
+    let this : Outcome = outcome session (Begins statement) now in
+    let first : this ≡ first_turn (seen_now now) session statement = outcome_is session statement now in
+    let same : o ≡ this = turn_is ∙ ap (first_turn (seen_now now) session) (sym is) ∙ sym first in
+    let once : IsOnce (seen_now now) (first_turn (seen_now now) session statement) = pages_once statement built (ap is_on_pages is ∙ on) (seen_now now) session in
+    let event : Event = event_of session (Begins statement) this in
     record {
       grows = grows_none old new does.makes.gave;
       acts = λ told. record {
         says = subst (λ (x : Outcome). Says (some_by reply) result x.reply) same (as_says reply result o.reply does.answer);
         left = strikes_left old new (name_of a) t _ (subst (λ (x : Outcome). Strikes old new (name_of a) t x.strokes) same does.makes.left);
-        opened = ended_map result (subst (IsOpen new b) (trail_plain t (event_of session (Begins statement) (outcome session (Begins statement) now)) plain))
+        opened = ended_map result (subst (IsOpen new b) (trail_plain t event (ap (λ (x : Statement). is_sync (Begins x)) is ∙ plain)))
             (subst (λ (x : Outcome). WhereEnded result (IsOpen new b (after_strokes t x.strokes))) same does.makes.opened);
-        running = where_ended result _ (does.makes.goes.running ∙ ready.running ∙ sym (sym (ap (λ (x : Outcome). x.running) same) ∙ keeps.running));
-        given = where_ended result _ (given_nothing old new now.given (outcome session (Begins statement) now).given does.makes.gave (sym (ap (λ (x : Outcome). x.given) same) ∙ keeps.given));
-        kept = where_ended result _ (kept_none new (event_of session (Begins statement) (outcome session (Begins statement) now)) (sym (ap (λ (x : Outcome). x.made) same) ∙ keeps.made));
+        running = where_ended result _ (does.makes.goes.running ∙ ready.running ∙ sym (ap (λ (x : Outcome). x.running) first ∙ once.running));
+        given = where_ended result _ (given_nothing old new now.given this.given does.makes.gave (ap (λ (x : Outcome). x.given) first ∙ once.given));
+        kept = where_ended result _ (kept_none new event (ap (λ (x : Outcome). x.made) first ∙ once.made));
         name = does.makes.goes.name;
       };
     }
@@ -132,7 +138,8 @@ does_acts reply result old new a b t now session statement o turn_is plain keeps
 -- `sync`
 module _ (old new : World) (a b : Held) (t : Trail) (now : Now) (session : ℕ) (statement : Statement) (is : statement ≡ Sync) (ready : IsReady old a t now) (same : b ≡ a) (quiet : Quiet old new) where
   sync_turn : outcome session (Begins statement) now ≡ says (seen_now now) Done []
-  sync_turn = outcome_is session statement now ∙ sym (sync_is (seen_now now) session statement is)
+  unfolding first_turn
+  sync_turn = outcome_is session statement now ∙ ap (first_turn (seen_now now) session) is
 
   sync_gave : GaveNothing old new
   sync_gave = record { guids = quiet.guids; times = quiet.times }
@@ -186,14 +193,14 @@ grows_at_most old new guid sixteen (inl none) times = grows_none old new (record
 grows_at_most old new guid sixteen (inr gave) times = record { ids = guid ∷ []; clock = []; gave = record { guids = gave; times = times ∙ sym (append-nil old.times) }; sixteen = (sixteen, tt) }
 
 -- `alter database begin backup`
-module _ (result : Result ℕ Fault) (old new : World) (a b : Held) (t : Trail) (now : Now) (session : ℕ) (statement : Statement) (turn_is : begin_turn (seen_now now) ≡ first_turn (seen_now now) session statement)
-    (plain : is_sync (Begins statement) ≡ false) (ready : IsReady old a t now) (guid : List ℕ) (sixteen : length guid ≡ 16) (asked : GaveAtMost old new guid)
+module _ (result : Result ℕ Fault) (old new : World) (a b : Held) (t : Trail) (now : Now) (session : ℕ) (statement : Statement) (is : statement ≡ BeginBackup) (ready : IsReady old a t now) (guid : List ℕ) (sixteen : length guid ≡ 16) (asked : GaveAtMost old new guid)
     (begins : (s : Seen) → t.base ≡ s.base → GaveAtMost old new (next_guid s.given) → DoesBegin result old new a b t (next_guid s.given) (begin_turn s)) where
   abbrev this : Outcome
   this = outcome session (Begins statement) now
 
   same : begin_turn (seen_now now) ≡ this
-  same = turn_is ∙ sym (outcome_is session statement now)
+  unfolding first_turn
+  same = ap (first_turn (seen_now now) session) (sym is) ∙ sym (outcome_is session statement now)
 
   begin_times : new.times ≡ old.times
   begin_times = (begins (record { base = base_now now; cache = now.cache; running = now.running; entry = now.account.entry; given = record { guids = guid ∷ []; times = []; holds = [] } }) ready.base asked).times
@@ -221,7 +228,7 @@ module _ (result : Result ℕ Fault) (old new : World) (a b : Held) (t : Trail) 
         record {
           says = subst (λ (x : Outcome). Says (some_by scn_is) result x.reply) same (as_says scn_is result (begin_turn (seen_now now)).reply does.answer);
           left = strikes_left old new (name_of a) t _ (subst (λ (x : Outcome). Strikes old new (name_of a) t x.strokes) same does.left);
-          opened = ended_map result (subst (IsOpen new b) (trail_plain t (event_of session (Begins statement) this) plain))
+          opened = ended_map result (subst (IsOpen new b) (trail_plain t (event_of session (Begins statement) this) (ap (λ (x : Statement). is_sync (Begins x)) is)))
               (subst (λ (x : Outcome). WhereEnded result (IsOpen new b (after_strokes t x.strokes))) same does.opened);
           running = where_ended result _ (does.running ∙ ready.running ∙ sym (sym (ap (λ (x : Outcome). x.running) same) ∙ begin_running (seen_now now)));
           given = subst (λ (x : Outcome). WhereEnded result (WasGiven old new now.given x.given)) same (begin_given result does told);

@@ -58,6 +58,10 @@ use Rattle.nb_session.proofs.ReadyLaws.{apart_files, not_own}
 use Rattle.nb_session.proofs.TurnLaws.{seen_now, outcome_is}
 use Rattle.nb_session.proofs.WayLaws.{copy_turns, copying_at}
 
+-- the name that is held
+pub name_kept : (a b : Held) → b ≡ a → name_of b ≡ name_of a
+name_kept a b same = ap (λ (h : Held). name_of h) same
+
 -- who runs says nothing of the files
 pub open_running : (w : World) (held : Held) (t : Trail) (running : Option ℕ) → IsOpen w held t → IsOpen w (record held { running = running }) t
 open_running w held t running is = record {

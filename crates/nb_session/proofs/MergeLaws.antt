@@ -22,6 +22,7 @@ use Rattle.nb_model.specs.Run.{Now, base_now, outcome, event_of}
 use Rattle.nb_model.specs.Strokes.{Stroke, ends, finish, on_base, base_after}
 use Rattle.nb_model.specs.Trail.{Trail}
 use Rattle.nb_model.specs.Turns.{first_turn, turn}
+use Rattle.nb_model.proofs.TurnCases.{end_either}
 use Rattle.nb_base.specs.Takes.{Strikes, after_strokes, IsNoRefusal}
 use Rattle.nb_state.specs.Open.{Held, IsOpen, name_of}
 use Rattle.nb_state.specs.Does.{WhereEnded}
@@ -86,39 +87,19 @@ some_none : (r : Refusal) → Some (RefusedBy r) ≡ None → ⊥
 some_none r e = cc
 
 -- where it says nothing yet
-goes_by : (s : Seen) (session : ℕ) (c : Cause) → (unless s c (ending s session)).reply ≡ None → unless s c (ending s session) ≡ ending s session
-unfolding unless
-goes_by s session None is = refl
-goes_by s session (Some r) is = absurd (some_none r is)
-
 end_goes : (s : Seen) (session : ℕ) → (end_turn s session).reply ≡ None → end_turn s session ≡ ending s session
-end_goes s session is = end_turn_is s session ∙ goes_by s session (end_causes s session) (sym (ap (λ (o : Outcome). o.reply) (end_turn_is s session)) ∙ is)
+end_goes s session = end_either (λ o. o.reply ≡ None → o ≡ ending s session) s session (λ r is. absurd (some_none r is)) (λ may is. refl)
 
 -- where it is refused nothing is left to do
-none_by : (s : Seen) (session : ℕ) (c : Cause) (refusal : Refusal) → (unless s c (ending s session)).reply ≡ Some (RefusedBy refusal) → (unless s c (ending s session)).next ≡ []
-unfolding unless
-none_by s session None refusal is = absurd (some_none refusal (sym is ∙ ends_reply s session (Scn (end_scn s.base.image))))
-none_by s session (Some r) refusal is = refl
-
 end_none : (s : Seen) (session : ℕ) (refusal : Refusal) → (end_turn s session).reply ≡ Some (RefusedBy refusal) → (end_turn s session).next ≡ []
-end_none s session refusal is = ap (λ (o : Outcome). o.next) (end_turn_is s session) ∙ none_by s session (end_causes s session) refusal (sym (ap (λ (o : Outcome). o.reply) (end_turn_is s session)) ∙ is)
+end_none s session refusal = end_either (λ o. o.reply ≡ Some (RefusedBy refusal) → o.next ≡ []) s session (λ r is. refl) (λ may is. absurd (some_none refusal (sym is ∙ ends_reply s session (Scn (end_scn s.base.image)))))
 
 -- either way nothing is given, and no file is made
-given_by : (s : Seen) (session : ℕ) (c : Cause) → (unless s c (ending s session)).given ≡ s.given
-unfolding unless
-given_by s session None = ends_given s session (Scn (end_scn s.base.image))
-given_by s session (Some r) = refl
-
 end_given : (s : Seen) (session : ℕ) → (end_turn s session).given ≡ s.given
-end_given s session = ap (λ (o : Outcome). o.given) (end_turn_is s session) ∙ given_by s session (end_causes s session)
-
-made_by : (s : Seen) (session : ℕ) (c : Cause) → (unless s c (ending s session)).made ≡ None
-unfolding unless
-made_by s session None = ends_made s session (Scn (end_scn s.base.image))
-made_by s session (Some r) = refl
+end_given s session = end_either (λ o. o.given ≡ s.given) s session (λ r. refl) (λ may. ends_given s session (Scn (end_scn s.base.image)))
 
 end_made : (s : Seen) (session : ℕ) → (end_turn s session).made ≡ None
-end_made s session = ap (λ (o : Outcome). o.made) (end_turn_is s session) ∙ made_by s session (end_causes s session)
+end_made s session = end_either (λ o. o.made ≡ None) s session (λ r. refl) (λ may. ends_made s session (Scn (end_scn s.base.image)))
 
 -- In the stalled state the session that runs isn't refused.
 cause_none : (first second : Cause) → first ≡ None → second ≡ None → first_cause (first ∷ second ∷ []) ≡ None

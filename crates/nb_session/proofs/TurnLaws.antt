@@ -1,6 +1,6 @@
 -- One turn, by what it made of the database and by its line.
 use Rattle.std.proofs.Common.{◌≡◌, ℕ, ◌-◌, List, [], ◌∷◌, ◌++◌, Bool, false, refl, sym, ap, subst, ◌∙◌}
-use Rattle.std.specs.Prelude.{true, Result, Ok, Err, IsErr, IfOk, Option, Some, None, IsTrue, if◌then◌else◌}
+use Rattle.std.specs.Prelude.{true, Result, Ok, Err, IsErr, IsErrAnd, IfOk, IfErr, Option, Some, None, IsTrue, if◌then◌else◌}
 use Rattle.std.specs.List.{slice_index_or}
 use Rattle.std.proofs.lemmas.List.{append-nil}
 use Rattle.nb_host.specs.World.{World}
@@ -10,6 +10,7 @@ use Rattle.nb_host.specs.declared.refusals.Refusal.{Refusal}
 use Rattle.nb_model.specs.declared.reply.Reply.{Reply}
 use Rattle.nb_model.specs.declared.reply.Reply.TheVariants.{Refused as RefusedBy}
 use Rattle.nb_model.specs.declared.statement.Statement.{Statement}
+use Rattle.nb_change.specs.Counts.{CountsDevice}
 use Rattle.nb_model.specs.Built.{is_built}
 use Rattle.nb_model.specs.Gifts.{Foretells}
 use Rattle.nb_model.specs.Going.{IsMaking}
@@ -21,7 +22,9 @@ use Rattle.nb_model.specs.Run.{Now, Played, base_now, outcome, take_turn}
 use Rattle.nb_model.specs.Trail.{Trail}
 use Rattle.nb_model.specs.Turns.{first_turn, turn}
 use Rattle.nb_model.proofs.TodoLaws.{IsSingle, built_never_usage, status_plain}
+use Rattle.nb_base.specs.Takes.{IsNoRefusal}
 use Rattle.nb_state.specs.Open.{Held}
+use Rattle.nb_state.proofs.MakesLaws.{passed_on}
 use Rattle.nb_session.specs.declared.stop.Stop.{Stop}
 use Rattle.nb_session.specs.declared.stop.Stop.TheVariants.{Device as DeviceStop, Memory as MemoryStop}
 use Rattle.nb_session.specs.declared.task.Task.{Task}
@@ -150,3 +153,34 @@ module _ {T : Type 0} (reply : T → Option Reply) (refusal : Refusal) (old mid 
   turns_refused (Err fault) says is status behind =
       turns_unsaid reply (Err (Refused refusal)) (λ (x : Taken). x.refused) (λ (x : Taken). x.task) old mid new e0 e1 t now session u tail more files files_are makes place may mark tt (RefusedBy refusal) (λ said s. s) (Err fault) says ready
       (Err fault) refl
+
+-- which value would have come says nothing of a failure
+played_err : {S T : Type 0} (f : S → Bool) (g : T → Bool) (fault : Fault) → as_played f (Err fault) ≡ as_played g (Err fault)
+played_err f g (Refused refusal) = refl
+played_err f g Device = refl
+played_err f g Memory = refl
+
+counts_err : (S T : Type 0) (fault : Fault) (m n : ℕ) → CountsDevice {T = S} (Err fault) m n → CountsDevice {T = T} (Err fault) m n
+counts_err S T (Refused refusal) m n is = is
+counts_err S T Device m n is = is
+counts_err S T Memory m n is = is
+
+-- A failure is handed on.
+module _ (fault : Fault) (answer : Result Taken Fault) (handed : IsErr answer × IsErrAnd answer (λ e. e ≡ fault)) where
+  pub handed_turns : {T : Type 0} (refused : T → Bool) (task : T → Option Task) (old new : World) (a b : Held) (t : Trail) (now : Now) (session : ℕ) (u : Turn) (tail more : List Turn)
+      → Turns refused task (Err fault) old new a b t now session u tail more → Turns (λ taken. taken.refused) (λ taken. taken.task) answer old new a b t now session u tail more
+  handed_turns refused task old new a b t now session u tail more turns =
+      subst (λ (r : Result Taken Fault). Turns (λ taken. taken.refused) (λ taken. taken.task) r old new a b t now session u tail more) (sym (passed_on answer fault handed)) (record {
+        grows = turns.grows;
+        plays = λ told. subst (λ (r : Result Bool Stop). Plays r old new a b t now (take_turn session (u ∷ (tail ++ more)) now) (making (base_now now).frozen (u ∷ tail))) (played_err refused (λ (x : Taken). x.refused) fault) (turns.plays told);
+        behind = λ told. tt;
+      })
+
+  pub handed_none : (P : Taken → Type 0) → IfOk answer P
+  handed_none P = err_none answer P handed.0
+
+  pub handed_counts : (T : Type 0) (m n : ℕ) → CountsDevice {T = T} (Err fault) m n → CountsDevice answer m n
+  handed_counts T m n counts = subst (λ (r : Result Taken Fault). CountsDevice r m n) (sym (passed_on answer fault handed)) (counts_err T Taken fault m n counts)
+
+  pub handed_failure : IsNoRefusal fault → IfErr answer IsNoRefusal
+  handed_failure none = subst (λ (r : Result Taken Fault). IfErr r IsNoRefusal) (sym (passed_on answer fault handed)) none

@@ -1,5 +1,5 @@
 use Rattle.std.proofs.Common.{◌≡◌, [], refl, sym, ap, subst}
-use Rattle.std.specs.Prelude.{Ok, Err, None}
+use Rattle.std.specs.Prelude.{Ok, Err, None, Some}
 use Rattle.nb_host.specs.declared.faults.Fault.{Fault}
 use Rattle.nb_host.specs.declared.faults.Fault.TheVariants.{Refused, Device, Memory}
 use Rattle.nb_model.specs.declared.reply.Reply.TheVariants.{Refused as RefusedBy}
@@ -7,11 +7,11 @@ use Rattle.nb_model.specs.declared.statement.Statement.TheVariants.{CopyTo}
 use Rattle.nb_model.specs.Backups.{copy_turn}
 use Rattle.nb_model.specs.Outcomes.{Begins}
 use Rattle.nb_model.specs.Run.{base_now}
-use Rattle.nb_state.specs.Open.{Held, name_of}
+use Rattle.nb_state.specs.Open.{name_of}
 use Rattle.nb_copy.specs.FileCopies.{StartsCopy}
 use Rattle.nb_session.specs.declared.task.Taken.{Taken}
 use Rattle.nb_session.specs.Steps.{IsBehind}
-use Rattle.nb_session.proofs.CopyLaws.{knows_unused, begin_acts, begin_behind, begin_refused}
+use Rattle.nb_session.proofs.CopyLaws.{name_kept, knows_unused, begin_acts, begin_behind, begin_refused}
 use Rattle.nb_session.proofs.EventLaws.{marks_none}
 use Rattle.nb_session.proofs.MakesLaws.{begins_make}
 use Rattle.nb_session.proofs.TurnLaws.{seen_now, turns_failed, turns_quiet, turns_refused, status_told}
@@ -25,7 +25,7 @@ returns-in-Ok-clause-turn g c now t more tells ready makes here =
     let b = c.start.new.engine in
     let name = c.args.name.now in
     let copier = c.in-Ok.copier in
-    let named : name_of b ≡ name_of a = ap (λ (h : Held). name_of h) c.in-Ok.ensures.held in
+    let named : name_of b ≡ name_of a = name_kept (record a { running = Some c.args.session }) b c.in-Ok.ensures.held in
     let starts = c.in-Ok.ensures.turn (seen_now now) t tells ready.base ready.running ready.opened (knows_unused old a t now name ready makes.going c.requires.plain) in
     turns_quiet (λ copy. None) (Ok copier) (λ (taken : Taken). taken.refused) (λ (taken : Taken). taken.task) old mid mid a b t now c.args.session (Begins (CopyTo name)) [] more [] (begins_make (base_now now).frozen (CopyTo name)) makes here
     (begin_acts old mid a b t now c.args.session name ready named (Ok copier) starts) (λ acts. marks_none old mid a)
@@ -41,7 +41,7 @@ returns-in-Err-Refused-clause-turn g c now t more tells ready makes here =
     let b = c.start.new.engine in
     let name = c.args.name.now in
     let refusal = c.in-Err-Refused.refusal in
-    let named : name_of b ≡ name_of a = ap (λ (h : Held). name_of h) c.in-Err-Refused.ensures.stays in
+    let named : name_of b ≡ name_of a = name_kept a b c.in-Err-Refused.ensures.stays in
     let starts = subst (λ (f : Fault). StartsCopy (Err f) old mid a b t name (copy_turn (seen_now now) c.args.session name)) c.in-Err-Refused.field-0-is
     (c.in-Err-Refused.ensures.turn (seen_now now) t tells ready.base ready.running ready.opened (knows_unused old a t now name ready makes.going c.requires.plain)) in
     turns_refused (λ copy. None) refusal old mid new a b t now c.args.session (Begins (CopyTo name)) [] more [] (begins_make (base_now now).frozen (CopyTo name)) makes here
@@ -55,7 +55,7 @@ returns-in-Err-Device-clause-turn g c now t more tells ready makes here =
     let a = c.args.engine.now in
     let b = c.start.new.engine in
     let name = c.args.name.now in
-    let named : name_of b ≡ name_of a = ap (λ (h : Held). name_of h) c.in-Err-Device.ensures.stays in
+    let named : name_of b ≡ name_of a = name_kept a b c.in-Err-Device.ensures.stays in
     let starts = subst (λ (f : Fault). StartsCopy (Err f) old mid a b t name (copy_turn (seen_now now) c.args.session name)) c.in-Err-Device.field-0-is
     (c.in-Err-Device.ensures.turn (seen_now now) t tells ready.base ready.running ready.opened (knows_unused old a t now name ready makes.going c.requires.plain)) in
     turns_failed (λ copy. None) (Err Device) (λ (taken : Taken). taken.refused) (λ (taken : Taken). taken.task) old mid mid a b t now c.args.session (Begins (CopyTo name)) [] more [] (begins_make (base_now now).frozen (CopyTo name)) makes here
@@ -68,7 +68,7 @@ returns-in-Err-Memory-clause-turn g c now t more tells ready makes here =
     let a = c.args.engine.now in
     let b = c.start.new.engine in
     let name = c.args.name.now in
-    let named : name_of b ≡ name_of a = ap (λ (h : Held). name_of h) c.in-Err-Memory.ensures.stays in
+    let named : name_of b ≡ name_of a = name_kept a b c.in-Err-Memory.ensures.stays in
     let starts = subst (λ (f : Fault). StartsCopy (Err f) old mid a b t name (copy_turn (seen_now now) c.args.session name)) c.in-Err-Memory.field-0-is
     (c.in-Err-Memory.ensures.turn (seen_now now) t tells ready.base ready.running ready.opened (knows_unused old a t now name ready makes.going c.requires.plain)) in
     turns_failed (λ copy. None) (Err Memory) (λ (taken : Taken). taken.refused) (λ (taken : Taken). taken.task) old mid mid a b t now c.args.session (Begins (CopyTo name)) [] more [] (begins_make (base_now now).frozen (CopyTo name)) makes here

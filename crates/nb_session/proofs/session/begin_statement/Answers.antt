@@ -1,13 +1,36 @@
-use Rattle.std.proofs.Common.{◌≡◌, sym, subst}
-use Rattle.std.specs.Prelude.{IfOk, Bool}
+use Rattle.std.proofs.Common.{◌≡◌, ℕ, ◌-◌, List, [], ◌∷◌, sym, subst}
+use Rattle.std.specs.Prelude.{Result, Bool, None, Option}
+use Rattle.std.specs.List.{slice_index_or}
+use Rattle.nb_host.specs.World.{World}
+use Rattle.nb_host.specs.declared.faults.Fault.{Fault}
 use Rattle.nb_model.specs.declared.statement.Statement.{Statement}
-use Rattle.nb_model.specs.Outcomes.{Begins}
-use Rattle.nb_model.specs.Run.{outcome}
-use Rattle.nb_session.specs.declared.merges.Taken.{Taken}
-use Rattle.nb_session.specs.Askers.{MergeFits, merge_todo}
-use Rattle.nb_session.proofs.KeepLaws.{further_single}
-use Rattle.nb_session.proofs.StepLaws.{if_handed, none_handed, counts_handed, turns_handed, turns_left, single_next}
+use Rattle.nb_model.specs.Outcomes.{Turn, Begins}
+use Rattle.nb_model.specs.Run.{Now}
+use Rattle.nb_model.specs.Trail.{Trail}
+use Rattle.nb_state.specs.Open.{Held}
+use Rattle.nb_session.specs.declared.task.Taken.{Taken}
+use Rattle.nb_session.specs.declared.task.Task.{Task}
+use Rattle.nb_session.specs.Askers.{TaskFits}
+use Rattle.nb_session.specs.Steps.{Turns}
+use Rattle.nb_session.proofs.TurnLaws.{handed_turns, handed_none, handed_counts, handed_failure}
 use Rattle.nb_session.proofs.session.begin_statement.Goals as goal
+
+-- the first turn of a statement
+abbrev Begun : (answer : Result Taken Fault) (old new : World) (a b : Held) (t : Trail) (now : Now) (session : ℕ) (more : List Turn) → Statement → Type 0
+Begun answer old new a b t now session more statement =
+    slice_index_or now.todo (session - 1) [] ≡ Begins statement ∷ more → Turns (λ taken. taken.refused) (λ taken. taken.task) answer old new a b t now session (Begins statement) [] more
+
+pub returns-in-EndBackup-clause-turn : goal.returns-in-EndBackup-clause-turn
+returns-in-EndBackup-clause-turn g c now t more tells ready makes =
+    subst (Begun c.begin_merge.result (g.H.Host.world c.args.host.now) (g.H.Host.world c.begin_merge.new.host) c.args.engine.now c.begin_merge.new.engine t now c.args.session more) (sym c.in-EndBackup.is) (c.begin_merge.ensures.turn now t more tells ready makes)
+
+pub returns-in-Backup-clause-turn : goal.returns-in-Backup-clause-turn
+returns-in-Backup-clause-turn g c now t more tells ready makes =
+    subst (Begun c.begin_backup.result (g.H.Host.world c.args.host.now) (g.H.Host.world c.begin_backup.new.host) c.args.engine.now c.begin_backup.new.engine t now c.args.session more) (sym c.in-Backup.is) (c.begin_backup.ensures.turn now t more tells ready makes)
+
+pub returns-in-CopyTo-clause-turn : goal.returns-in-CopyTo-clause-turn
+returns-in-CopyTo-clause-turn g c now t more tells ready makes =
+    subst (Begun c.begin_copy.result (g.H.Host.world c.args.host.now) (g.H.Host.world c.begin_copy.new.host) c.args.engine.now c.begin_copy.new.engine t now c.args.session more) (sym c.in-CopyTo.is) (c.begin_copy.ensures.turn now t more tells ready makes)
 
 pub returns-in_err-refused-in_default : goal.returns-in_err-refused-in_default
 returns-in_err-refused-in_default g c =
@@ -15,27 +38,21 @@ returns-in_err-refused-in_default g c =
     let answer = c.from_residual.result in
     let handed = c.from_residual.ensures in
     record {
-      turn = λ now t tells ready sound.
-          turns_handed fault answer (g.H.Host.world c.args.host.now) (g.H.Host.world c.answer.new.host) c.args.engine.now c.answer.new.engine t now c.args.session (Begins c.args.statement.now) handed
-          (c.in_err-refused-in_default.ensures.turn now t tells ready sound);
-      next = λ now t tells ready. if_handed fault answer (λ (taken : Taken). (outcome c.args.session (Begins c.args.statement.now) now).next ≡ merge_todo taken.merge) handed;
-      merge = if_handed fault answer (λ (taken : Taken). MergeFits c.args.session taken.merge c.answer.new.engine) handed;
+      turn = λ now t more tells ready makes here.
+          handed_turns fault answer handed (λ (refused : Bool). refused) (λ (refused : Bool). None) (g.H.Host.world c.args.host.now) (g.H.Host.world c.answer.new.host) c.args.engine.now c.answer.new.engine t now c.args.session (Begins c.args.statement.now) [] more
+          (c.in_err-refused-in_default.ensures.turn now t more tells ready makes here);
+      fits = handed_none fault answer handed (λ (taken : Taken). TaskFits c.args.session taken.task c.answer.new.engine);
       others = c.answer.ensures.others c.args.session;
-      cause = counts_handed fault Bool answer _ _ handed c.in_err-refused-in_default.ensures.cause;
-      not_refused = none_handed fault answer handed c.in_err-refused-in_default.ensures.not_refused;
+      cause = handed_counts fault answer handed Bool _ _ c.in_err-refused-in_default.ensures.cause;
+      not_refused = handed_failure fault answer handed c.in_err-refused-in_default.ensures.not_refused;
     }
-
-pub returns-in-EndBackup-clause-next : goal.returns-in-EndBackup-clause-next
-returns-in-EndBackup-clause-next g c now t tells ready =
-    subst (λ (x : Statement). IfOk c.begin_merge.result (λ (taken : Taken). (outcome c.args.session (Begins x) now).next ≡ merge_todo taken.merge)) (sym c.in-EndBackup.is) (c.begin_merge.ensures.next now t tells ready)
 
 pub returns-in_ok-refused-in_default : goal.returns-in_ok-refused-in_default
 returns-in_ok-refused-in_default g c = record {
-  turn = λ now t tells ready sound.
-      turns_left c.in_ok-refused-in_default.refused (g.H.Host.world c.args.host.now) (g.H.Host.world c.answer.new.host) c.args.engine.now c.answer.new.engine t now c.args.session (Begins c.args.statement.now)
-      (c.in_ok-refused-in_default.ensures.turn now t tells ready sound);
-  next = λ now t tells ready. single_next c.args.session c.args.statement.now now (further_single c.args.statement.now c.requires.asked c.in_default.not-EndBackup);
-  merge = tt;
+  turn = λ now t more tells ready makes here.
+      let turns = c.in_ok-refused-in_default.ensures.turn now t more tells ready makes here in
+      record { grows = turns.grows; plays = turns.plays; behind = turns.behind };
+  fits = tt;
   others = c.answer.ensures.others c.args.session;
   cause = c.in_ok-refused-in_default.ensures.cause;
   not_refused = tt;

@@ -6,125 +6,123 @@ use Rattle.nb_model.specs.declared.statement.Statement.TheVariants.{Write, Read,
 use Rattle.nb_model.specs.Account.{Base}
 use Rattle.nb_model.specs.Pages.{write_turn, header_turn}
 use Rattle.nb_model.specs.Sound.{IsSoundImage}
+use Rattle.nb_model.specs.Turns.{first_turn}
 use Rattle.nb_engine.specs.Replies.{done, page_made, valued, scn_is}
 use Rattle.nb_session.specs.Replies.{some_said}
 use Rattle.nb_session.proofs.ActLaws.{some_by, does_acts, may_passed, may_then_memory, may_value, sync_acts, sync_failed, begin_acts}
-use Rattle.nb_session.proofs.KeepLaws.{write_keeps, read_keeps, new_keeps, free_keeps, forced_keeps, access_keeps, write_is, read_is, new_is, free_is, begin_is, forced_is, access_is, header_is, header_keeps, no_sync}
 use Rattle.nb_session.proofs.HeaderLaws.{header_does}
 use Rattle.nb_session.proofs.TurnLaws.{seen_now}
 use Rattle.nb_state.proofs.TurnLaws.{no_call}
 use Rattle.nb_session.proofs.statement.do_statement.Goals as goal
 
 pub returns-in_err-page_write-in-Write-clause-turn : goal.returns-in_err-page_write-in-Write-clause-turn
+unfolding first_turn
 returns-in_err-page_write-in-Write-clause-turn g c now t session tells ready sound =
     let s = seen_now now in
     may_passed (some_by done) some_said _ _ _ _ t now session _ [] _ c.from_residual.result c.from_residual.ensures
-    (does_acts done _ _ _ _ _ t now session c.args.statement.now (write_turn s c.in-Write.page c.as_slice.result.now)
-    (ap (λ text. write_turn s c.in-Write.page text) c.as_slice.ensures ∙ write_is s session c.args.statement.now c.in-Write.page c.in-Write.text c.in-Write.is)
-    (no_sync _ (Write c.in-Write.page c.in-Write.text) c.in-Write.is refl) (write_keeps s c.in-Write.page c.as_slice.result.now) ready
+    (does_acts done _ _ _ _ _ t now session c.args.statement.now _ c.in-Write.is refl refl c.requires.asked.is_built _ (ap (λ text. write_turn s c.in-Write.page text) c.as_slice.ensures) ready
     (c.in_err-page_write-in-Write.ensures.turn s t tells ready.base ready.opened))
 
 pub returns-in_ok-page_write-in-Write-clause-turn : goal.returns-in_ok-page_write-in-Write-clause-turn
+unfolding first_turn
 returns-in_ok-page_write-in-Write-clause-turn g c now t session tells ready sound =
     let s = seen_now now in
     may_value (some_by done) some_said _ _ _ _ t now session _ [] c.in_ok-page_write-in-Write.field-0 Done refl
-    (does_acts done _ _ _ _ _ t now session c.args.statement.now (write_turn s c.in-Write.page c.as_slice.result.now)
-    (ap (λ text. write_turn s c.in-Write.page text) c.as_slice.ensures ∙ write_is s session c.args.statement.now c.in-Write.page c.in-Write.text c.in-Write.is)
-    (no_sync _ (Write c.in-Write.page c.in-Write.text) c.in-Write.is refl) (write_keeps s c.in-Write.page c.as_slice.result.now) ready
+    (does_acts done _ _ _ _ _ t now session c.args.statement.now _ c.in-Write.is refl refl c.requires.asked.is_built _ (ap (λ text. write_turn s c.in-Write.page text) c.as_slice.ensures) ready
     (c.in_ok-page_write-in-Write.ensures.turn s t tells ready.base ready.opened))
 
 pub returns-in_err-text-in-Read-clause-turn : goal.returns-in_err-text-in-Read-clause-turn
+unfolding first_turn
 returns-in_err-text-in-Read-clause-turn g c now t session tells ready sound =
     let s = seen_now now in
     may_passed (some_by valued) some_said _ _ _ _ t now session _ [] _ c.from_residual-in_err-text-in-Read.result c.from_residual-in_err-text-in-Read.ensures
-    (does_acts valued _ _ _ _ _ t now session c.args.statement.now _ (read_is s session c.args.statement.now c.in-Read.page c.in-Read.is)
-    (no_sync _ (Read c.in-Read.page) c.in-Read.is refl) (read_keeps s c.in-Read.page) ready (c.in_err-text-in-Read.ensures.turn s t tells ready.base ready.opened))
+    (does_acts valued _ _ _ _ _ t now session c.args.statement.now _ c.in-Read.is refl refl c.requires.asked.is_built _ refl ready (c.in_err-text-in-Read.ensures.turn s t tells ready.base ready.opened))
 
 pub returns-in_err-new-in-Read-clause-turn : goal.returns-in_err-new-in-Read-clause-turn
+unfolding first_turn
 returns-in_err-new-in-Read-clause-turn g c now t session tells ready sound =
     let s = seen_now now in
     may_then_memory (some_by valued) some_said _ _ _ _ t now session _ [] _ _ c.from_residual-in_err-new-in-Read.result c.in_err-new-in-Read.ensures.only_memory c.from_residual-in_err-new-in-Read.ensures
-    (does_acts valued _ _ _ _ _ t now session c.args.statement.now _ (read_is s session c.args.statement.now c.in-Read.page c.in-Read.is)
-    (no_sync _ (Read c.in-Read.page) c.in-Read.is refl) (read_keeps s c.in-Read.page) ready (c.in_ok-text-in-Read.ensures.turn s t tells ready.base ready.opened))
+    (does_acts valued _ _ _ _ _ t now session c.args.statement.now _ c.in-Read.is refl refl c.requires.asked.is_built _ refl ready (c.in_ok-text-in-Read.ensures.turn s t tells ready.base ready.opened))
 
 pub returns-in_ok-new-in-Read-clause-turn : goal.returns-in_ok-new-in-Read-clause-turn
+unfolding first_turn
 returns-in_ok-new-in-Read-clause-turn g c now t session tells ready sound =
     let s = seen_now now in
     may_value (some_by valued) some_said _ _ _ _ t now session _ [] c.in_ok-text-in-Read.text (Value c.in_ok-new-in-Read.field-0)
     (ap (λ text. Some (Value text)) (sym (c.in_ok-new-in-Read.ensures.ok ∙ c.as_slice-in-Read.ensures.value)))
-    (does_acts valued _ _ _ _ _ t now session c.args.statement.now _ (read_is s session c.args.statement.now c.in-Read.page c.in-Read.is)
-    (no_sync _ (Read c.in-Read.page) c.in-Read.is refl) (read_keeps s c.in-Read.page) ready (c.in_ok-text-in-Read.ensures.turn s t tells ready.base ready.opened))
+    (does_acts valued _ _ _ _ _ t now session c.args.statement.now _ c.in-Read.is refl refl c.requires.asked.is_built _ refl ready (c.in_ok-text-in-Read.ensures.turn s t tells ready.base ready.opened))
 
 pub returns-in_err-page-in-PageNew-clause-turn : goal.returns-in_err-page-in-PageNew-clause-turn
+unfolding first_turn
 returns-in_err-page-in-PageNew-clause-turn g c now t session tells ready sound =
     let s = seen_now now in
     may_passed (some_by page_made) some_said _ _ _ _ t now session _ [] _ c.from_residual-in_err-page-in-PageNew.result c.from_residual-in_err-page-in-PageNew.ensures
-    (does_acts page_made _ _ _ _ _ t now session c.args.statement.now _ (new_is s session c.args.statement.now c.in-PageNew.is)
-    (no_sync _ PageNew c.in-PageNew.is refl) (new_keeps s) ready
+    (does_acts page_made _ _ _ _ _ t now session c.args.statement.now _ c.in-PageNew.is refl refl c.requires.asked.is_built _ refl ready
     (c.in_err-page-in-PageNew.ensures.turn s t tells ready.base ready.opened (subst (λ (b : Base). IsSoundImage b.image) ready.base sound)))
 
 pub returns-in_ok-page-in-PageNew-clause-turn : goal.returns-in_ok-page-in-PageNew-clause-turn
+unfolding first_turn
 returns-in_ok-page-in-PageNew-clause-turn g c now t session tells ready sound =
     let s = seen_now now in
     may_value (some_by page_made) some_said _ _ _ _ t now session _ [] c.in_ok-page-in-PageNew.page (PageMade c.in_ok-page-in-PageNew.page) refl
-    (does_acts page_made _ _ _ _ _ t now session c.args.statement.now _ (new_is s session c.args.statement.now c.in-PageNew.is)
-    (no_sync _ PageNew c.in-PageNew.is refl) (new_keeps s) ready
+    (does_acts page_made _ _ _ _ _ t now session c.args.statement.now _ c.in-PageNew.is refl refl c.requires.asked.is_built _ refl ready
     (c.in_ok-page-in-PageNew.ensures.turn s t tells ready.base ready.opened (subst (λ (b : Base). IsSoundImage b.image) ready.base sound)))
 
 pub returns-in_err-page_free-in-Free-clause-turn : goal.returns-in_err-page_free-in-Free-clause-turn
+unfolding first_turn
 returns-in_err-page_free-in-Free-clause-turn g c now t session tells ready sound =
     let s = seen_now now in
     may_passed (some_by done) some_said _ _ _ _ t now session _ [] _ c.from_residual-in_err-page_free-in-Free.result c.from_residual-in_err-page_free-in-Free.ensures
-    (does_acts done _ _ _ _ _ t now session c.args.statement.now _ (free_is s session c.args.statement.now c.in-Free.page c.in-Free.is)
-    (no_sync _ (Free c.in-Free.page) c.in-Free.is refl) (free_keeps s c.in-Free.page) ready (c.in_err-page_free-in-Free.ensures.turn s t tells ready.base ready.opened))
+    (does_acts done _ _ _ _ _ t now session c.args.statement.now _ c.in-Free.is refl refl c.requires.asked.is_built _ refl ready (c.in_err-page_free-in-Free.ensures.turn s t tells ready.base ready.opened))
 
 pub returns-in_ok-page_free-in-Free-clause-turn : goal.returns-in_ok-page_free-in-Free-clause-turn
+unfolding first_turn
 returns-in_ok-page_free-in-Free-clause-turn g c now t session tells ready sound =
     let s = seen_now now in
     may_value (some_by done) some_said _ _ _ _ t now session _ [] c.in_ok-page_free-in-Free.field-0 Done refl
-    (does_acts done _ _ _ _ _ t now session c.args.statement.now _ (free_is s session c.args.statement.now c.in-Free.page c.in-Free.is)
-    (no_sync _ (Free c.in-Free.page) c.in-Free.is refl) (free_keeps s c.in-Free.page) ready (c.in_ok-page_free-in-Free.ensures.turn s t tells ready.base ready.opened))
+    (does_acts done _ _ _ _ _ t now session c.args.statement.now _ c.in-Free.is refl refl c.requires.asked.is_built _ refl ready (c.in_ok-page_free-in-Free.ensures.turn s t tells ready.base ready.opened))
 
 pub returns-in_err-set_forced-in-Forced-clause-turn : goal.returns-in_err-set_forced-in-Forced-clause-turn
+unfolding first_turn
 returns-in_err-set_forced-in-Forced-clause-turn g c now t session tells ready sound =
     let s = seen_now now in
     may_passed (some_by done) some_said _ _ _ _ t now session _ [] _ c.from_residual-in_err-set_forced-in-Forced.result c.from_residual-in_err-set_forced-in-Forced.ensures
-    (does_acts done _ _ _ _ _ t now session c.args.statement.now _ (forced_is s session c.args.statement.now c.in-Forced.on c.in-Forced.is)
-    (no_sync _ (Forced c.in-Forced.on) c.in-Forced.is refl) (forced_keeps s c.in-Forced.on) ready (c.in_err-set_forced-in-Forced.ensures.turn s t tells ready.base ready.opened))
+    (does_acts done _ _ _ _ _ t now session c.args.statement.now _ c.in-Forced.is refl refl c.requires.asked.is_built _ refl ready (c.in_err-set_forced-in-Forced.ensures.turn s t tells ready.base ready.opened))
 
 pub returns-in_ok-set_forced-in-Forced-clause-turn : goal.returns-in_ok-set_forced-in-Forced-clause-turn
+unfolding first_turn
 returns-in_ok-set_forced-in-Forced-clause-turn g c now t session tells ready sound =
     let s = seen_now now in
     may_value (some_by done) some_said _ _ _ _ t now session _ [] c.in_ok-set_forced-in-Forced.field-0 Done refl
-    (does_acts done _ _ _ _ _ t now session c.args.statement.now _ (forced_is s session c.args.statement.now c.in-Forced.on c.in-Forced.is)
-    (no_sync _ (Forced c.in-Forced.on) c.in-Forced.is refl) (forced_keeps s c.in-Forced.on) ready (c.in_ok-set_forced-in-Forced.ensures.turn s t tells ready.base ready.opened))
+    (does_acts done _ _ _ _ _ t now session c.args.statement.now _ c.in-Forced.is refl refl c.requires.asked.is_built _ refl ready (c.in_ok-set_forced-in-Forced.ensures.turn s t tells ready.base ready.opened))
 
 pub returns-in_err-set_access-in-Access-clause-turn : goal.returns-in_err-set_access-in-Access-clause-turn
+unfolding first_turn
 returns-in_err-set_access-in-Access-clause-turn g c now t session tells ready sound =
     let s = seen_now now in
     may_passed (some_by done) some_said _ _ _ _ t now session _ [] _ c.from_residual-in_err-set_access-in-Access.result c.from_residual-in_err-set_access-in-Access.ensures
-    (does_acts done _ _ _ _ _ t now session c.args.statement.now _ (access_is s session c.args.statement.now c.in-Access.read_only c.in-Access.is)
-    (no_sync _ (Access c.in-Access.read_only) c.in-Access.is refl) (access_keeps s c.in-Access.read_only) ready (c.in_err-set_access-in-Access.ensures.turn s t tells ready.base ready.opened))
+    (does_acts done _ _ _ _ _ t now session c.args.statement.now _ c.in-Access.is refl refl c.requires.asked.is_built _ refl ready (c.in_err-set_access-in-Access.ensures.turn s t tells ready.base ready.opened))
 
 pub returns-in_ok-set_access-in-Access-clause-turn : goal.returns-in_ok-set_access-in-Access-clause-turn
+unfolding first_turn
 returns-in_ok-set_access-in-Access-clause-turn g c now t session tells ready sound =
     let s = seen_now now in
     may_value (some_by done) some_said _ _ _ _ t now session _ [] c.in_ok-set_access-in-Access.field-0 Done refl
-    (does_acts done _ _ _ _ _ t now session c.args.statement.now _ (access_is s session c.args.statement.now c.in-Access.read_only c.in-Access.is)
-    (no_sync _ (Access c.in-Access.read_only) c.in-Access.is refl) (access_keeps s c.in-Access.read_only) ready (c.in_ok-set_access-in-Access.ensures.turn s t tells ready.base ready.opened))
+    (does_acts done _ _ _ _ _ t now session c.args.statement.now _ c.in-Access.is refl refl c.requires.asked.is_built _ refl ready (c.in_ok-set_access-in-Access.ensures.turn s t tells ready.base ready.opened))
 
 pub returns-in_err-scn-in-BeginBackup-clause-turn : goal.returns-in_err-scn-in-BeginBackup-clause-turn
 returns-in_err-scn-in-BeginBackup-clause-turn g c now t session tells ready sound =
     let asked = c.in_err-scn-in-BeginBackup.ensures.asks tells in
     may_passed (some_by scn_is) some_said _ _ _ _ t now session _ [] _ c.from_residual-in_err-scn-in-BeginBackup.result c.from_residual-in_err-scn-in-BeginBackup.ensures
-    (begin_acts _ _ _ _ _ t now session c.args.statement.now (begin_is (seen_now now) session c.args.statement.now c.in-BeginBackup.is) (no_sync _ BeginBackup c.in-BeginBackup.is refl) ready asked.0 asked.1 asked.2
+    (begin_acts _ _ _ _ _ t now session c.args.statement.now c.in-BeginBackup.is ready asked.0 asked.1 asked.2
     (λ s base gave. c.in_err-scn-in-BeginBackup.ensures.turn s t tells base ready.opened gave))
 
 pub returns-in_ok-scn-in-BeginBackup-clause-turn : goal.returns-in_ok-scn-in-BeginBackup-clause-turn
 returns-in_ok-scn-in-BeginBackup-clause-turn g c now t session tells ready sound =
     let asked = c.in_ok-scn-in-BeginBackup.ensures.asks tells in
     may_value (some_by scn_is) some_said _ _ _ _ t now session _ [] c.in_ok-scn-in-BeginBackup.scn (Scn c.in_ok-scn-in-BeginBackup.scn) refl
-    (begin_acts _ _ _ _ _ t now session c.args.statement.now (begin_is (seen_now now) session c.args.statement.now c.in-BeginBackup.is) (no_sync _ BeginBackup c.in-BeginBackup.is refl) ready asked.0 asked.1 asked.2
+    (begin_acts _ _ _ _ _ t now session c.args.statement.now c.in-BeginBackup.is ready asked.0 asked.1 asked.2
     (λ s base gave. c.in_ok-scn-in-BeginBackup.ensures.turn s t tells base ready.opened gave))
 
 pub returns-in_ok-sync-in-Sync-clause-turn : goal.returns-in_ok-sync-in-Sync-clause-turn
@@ -139,9 +137,10 @@ returns-in_err-sync-in-Sync-clause-turn g c now t session tells ready sound =
     (sync_failed _ _ _ _ t now session c.args.statement.now c.in-Sync.is ready c.in_err-sync-in-Sync.ensures.same c.in_err-sync-in-Sync.ensures.quiet some_said)
 
 pub returns-in-ShowHeader-clause-turn : goal.returns-in-ShowHeader-clause-turn
+unfolding first_turn
 returns-in-ShowHeader-clause-turn g c now t session tells ready sound =
     let s = seen_now now in
     let w = g.H.Host.world c.args.host.now in
     let held = c.args.engine.now in
-    does_acts (λ r. r) (Ok c.header_shown.result) w w held held t now session c.args.statement.now (header_turn s) (header_is s session c.args.statement.now c.in-ShowHeader.is) (no_sync _ ShowHeader c.in-ShowHeader.is refl)
-    (header_keeps s) ready (header_does w held t s c.header_shown.result ready.base (no_call w (g.met.H.Host.timely _)) ready.opened (c.header_shown.ensures t.base ready.opened.files.agrees ready.opened.agrees))
+    does_acts (λ r. r) (Ok c.header_shown.result) w w held held t now session c.args.statement.now _ c.in-ShowHeader.is refl refl c.requires.asked.is_built (header_turn s) refl ready
+    (header_does w held t s c.header_shown.result ready.base (no_call w (g.met.H.Host.timely _)) ready.opened (c.header_shown.ensures t.base ready.opened.files.agrees ready.opened.agrees))
