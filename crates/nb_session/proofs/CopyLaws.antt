@@ -1,5 +1,5 @@
 -- The turns of a copy of the frozen file.
-use Rattle.std.proofs.Common.{◌≡◌, ◌≢◌, inl, inr, ℕ, zero, suc, ◌+◌, ◌-◌, ◌<◌, List, [], ◌∷◌, ◌++◌, length, replicate, refl, sym, ap, subst, ◌∙◌, arith}
+use Rattle.std.proofs.Common.{◌≡◌, ◌≢◌, inl, inr, ℕ, zero, suc, ◌+◌, ◌-◌, ◌<◌, ◌≤◌, List, [], ◌∷◌, ◌++◌, length, replicate, refl, sym, ap, subst, ◌∙◌, arith}
 use Rattle.std.specs.Prelude.{Result, Ok, Err, IfOk, Option, Some, None, Contains, true, false}
 use Rattle.std.specs.List.{slice_index_or}
 use Rattle.std.proofs.lemmas.List.{append-nil}
@@ -238,3 +238,109 @@ copies_make frozen (suc left) name = by left
 pub copy_said : (pages : ℕ) → Progress → Option Reply
 copy_said pages More = None
 copy_said pages Finished = Some (Pages pages)
+
+-- in that state
+pub stalled_now : (w : World) (held : Held) (t : Trail) (now : Now) (place : ℕ) → IsReady w held t now → Runs now place 1 → held.files.state ≡ 1
+stalled_now w held t now place ready runs = ready.opened.files.agrees.state ∙ ap (λ (b : Base). image_state b.image) ready.base ∙ runs.state
+
+module _ (old mid : World) (a b : Held) (t : Trail) (now : Now) (session : ℕ) (copy later : Copying) (pages : ℕ) (ready : IsReady old a t now) (apart : IsApart a copy.name) (reads : Leaves old copy.name (old.files copy.name)) where
+  abbrev last : Turn
+  last = ClosesCopy copy.name
+
+  abbrev whole : List ℕ
+  whole = joined t.base.frozen
+
+  abbrev files : List MadeFile
+  files = (copy.name, whole) ∷ []
+
+  frozen_is : t.base.frozen ≡ (base_now now).frozen
+  frozen_is = ap (λ (x : Base). x.frozen) ready.base
+
+  pub copy_files : (left : ℕ) → files ≡ making (base_now now).frozen (copy_first left last ∷ copy_rest left last)
+  copy_files left = ap (λ (f : Image). (copy.name, joined f) ∷ []) frozen_is ∙ copies_make (base_now now).frozen left copy.name
+
+  none_struck : (left : ℕ) → (outcome session (copy_first left last) now).strokes ≡ []
+  none_struck zero = ap (λ (o : Outcome). o.strokes) (close_is session copy.name now) ∙ close_strokes (seen_now now) copy.name
+  none_struck (suc left) = ap (λ (o : Outcome). o.strokes) (page_is session now)
+
+  not_sync : (left : ℕ) (o : Outcome) → (event_of session (copy_first left last) o).syncs ≡ false
+  not_sync zero o = refl
+  not_sync (suc left) o = refl
+
+  trail_same : (left : ℕ) → t ≡ after_steps t (steps_in (event_of session (copy_first left last) (outcome session (copy_first left last) now)))
+  trail_same left =
+      sym (ap (after_strokes t) (none_struck left)) ∙ trail_plain t (event_of session (copy_first left last) (outcome session (copy_first left last) now)) (not_sync left (outcome session (copy_first left last) now))
+
+  -- the file alone is touched
+  module _ (changes : Changes old mid (Only copy.name) (Remade old copy.name (IsUnfinishedOr whole))) (gave : GaveNothing old mid) where
+    -- it fails
+    pub copy_fails : (left : ℕ) → b ≡ a → MayAct (copy_said pages) (Err Device) old mid a b t now session (copy_first left last) files
+    copy_fails left same = record {
+      grows = grows_none old mid gave;
+      acts = λ told. record {
+        says = tt;
+        left = file_left old mid a t ready.opened copy.name whole apart reads (outcome session (copy_first left last) now).strokes changes;
+        opened = tt;
+        running = tt;
+        given = tt;
+        kept = tt;
+        name = ap (λ (h : Held). name_of h) same;
+      };
+    }
+
+    -- a page is copied
+    pub copy_more : (left : ℕ) → 1 ≤ left → b ≡ a → IsOpen mid b t → MayAct (copy_said pages) (Ok More) old mid a b t now session (copy_first left last) files
+    unfolding copy_said
+    copy_more zero some same opened = absurd (omega (arith, some))
+    copy_more (suc left) some same opened =
+        let o = page_is session now in
+        record {
+          grows = grows_none old mid gave;
+          acts = λ told. record {
+            says = ap (λ (x : Outcome). x.reply) o;
+            left = file_left old mid a t ready.opened copy.name whole apart reads (outcome session Copies now).strokes changes;
+            opened = subst (IsOpen mid b) (trail_same (suc left)) opened;
+            running = ap (λ (h : Held). h.running) same ∙ ready.running ∙ sym (ap (λ (x : Outcome). x.running) o);
+            given = given_nothing old mid now.given (outcome session Copies now).given gave (ap (λ (x : Outcome). x.given) o);
+            kept = kept_none mid (event_of session Copies (outcome session Copies now)) (ap (λ (x : Outcome). x.made) o);
+            name = ap (λ (h : Held). name_of h) same;
+          };
+        }
+
+    -- the file is whole, and no copy runs any more
+    pub copy_ends : (left : ℕ) → left ≡ 0 → b ≡ record a { running = None } → IsOpen mid a t → pages ≡ length t.base.frozen → IsKept mid copy.name whole → MayAct (copy_said pages) (Ok Finished) old mid a b t now session (copy_first left last) files
+    unfolding copy_said
+    copy_ends (suc left) none same opened all kept = absurd (omega (arith, none))
+    copy_ends zero none same opened all kept =
+        let o = close_is session copy.name now in
+        record {
+          grows = grows_none old mid gave;
+          acts = λ told. record {
+            says = ap (λ (x : Outcome). x.reply) o ∙ close_reply (seen_now now) copy.name ∙ ap (λ (n : ℕ). Some (Pages n)) (sym (all ∙ ap length frozen_is));
+            left = file_left old mid a t ready.opened copy.name whole apart reads (outcome session last now).strokes changes;
+            opened = subst (IsOpen mid b) (trail_same 0) (subst (λ (h : Held). IsOpen mid h t) (sym same) (open_running mid a t None opened));
+            running = ap (λ (h : Held). h.running) same ∙ sym (ap (λ (x : Outcome). x.running) o ∙ close_running (seen_now now) copy.name);
+            given = given_nothing old mid now.given (outcome session last now).given gave (ap (λ (x : Outcome). x.given) o ∙ close_given (seen_now now) copy.name);
+            kept = made_by mid (event_of session last (outcome session last now)) (copy.name, whole) (ap (λ (x : Outcome). x.made) o ∙ close_made (seen_now now) copy.name ∙ ap (λ (f : Image). Some (copy.name, joined f)) (sym frozen_is))
+                (kept_one mid copy.name whole kept);
+            name = ap (λ (h : Held). name_of h) same;
+          };
+        }
+
+  -- what is left behind it
+  pub more_behind : (left : ℕ) → 1 ≤ left → later.count - later.next ≡ left - 1 → later.name ≡ copy.name → b ≡ a → IsCopying mid later t.base.frozen → a.running ≡ Some session
+      → IsBehind mid b session (copy_first left last) (copy_rest left last) now (Some (Copy later))
+  more_behind zero some rest named same goes runs = absurd (omega (arith, some))
+  more_behind (suc left) some rest named same goes runs = record {
+    next = ap (λ (o : Outcome). o.next ++ copy_rest (suc left) last) (page_is session now) ∙ copy_turns left last
+        ∙ ap (λ (n : ℕ). copy_first n last ∷ copy_rest n last) (let e : left ≡ later.count - later.next = omega (arith, rest) in e)
+        ∙ ap (λ (n : List ℕ). copy_first (later.count - later.next) (ClosesCopy n) ∷ copy_rest (later.count - later.next) (ClosesCopy n)) (sym named);
+    goes = (
+      subst (IsCopying mid later) (ap (λ (x : Base). x.frozen) (ready.base ∙ sym (no_stroke (base_now now) (outcome session Copies now).strokes (none_struck (suc left))))) goes,
+      record { plain = ap is_delta named ∙ apart.plain; other = λ own. apart.other (sym named ∙ own ∙ ap (λ (h : Held). name_of h) same) },
+      ap (λ (h : Held). h.running) same ∙ runs);
+  }
+
+  pub end_behind : (w : World) (left : ℕ) → left ≡ 0 → IsBehind w b session (copy_first left last) (copy_rest left last) now None
+  end_behind w zero none = record { next = ap (λ (xs : List Turn). xs ++ []) (ap (λ (o : Outcome). o.next) (close_is session copy.name now) ∙ close_next (seen_now now) copy.name); goes = tt }
+  end_behind w (suc left) none = absurd (omega (arith, none))

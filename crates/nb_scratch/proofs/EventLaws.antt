@@ -1,0 +1,242 @@
+-- One turn and its line are one event.
+use Rattle.std.proofs.Common.{◌≡◌, ◌⊎◌, inl, inr, ℕ, zero, suc, ◌-◌, List, [], ◌∷◌, ◌++◌, length, take, Bool, false, refl, sym, ap, subst, ◌∙◌, arith}
+use Rattle.std.specs.Prelude.{Result, Ok, Err, IfOk, Option, Some, None, Contains, if◌then◌else◌}
+use Rattle.std.specs.List.{slice_index_or}
+use Rattle.std.proofs.lemmas.List.{append-nil, take_all}
+use Rattle.nb_fields.specs.Free.{is_free_file}
+use Rattle.nb_host.specs.Files.{File, Files, with_file}
+use Rattle.nb_host.specs.World.{World}
+use Rattle.nb_host.specs.Crash.{Leaves, LeavesAll, Untouched}
+use Rattle.nb_host.specs.Calls.{IsStill}
+use Rattle.nb_host.specs.Moments.{AtEachMoment}
+use Rattle.nb_host.specs.declared.faults.Fault.{Fault}
+use Rattle.nb_host.specs.declared.faults.Fault.TheVariants.{Refused, Device, Memory}
+use Rattle.nb_change.specs.Changes.{Other}
+use Rattle.nb_change.proofs.ChangesLaws.{left_with}
+use Rattle.nb_change.proofs.MomentLaws.{joined, weaker, left_before, untouched_joined, untouched_fewer}
+use Rattle.nb_change.proofs.NameLaws.{with_file-same}
+use Rattle.nb_change.proofs.ReachedLaws.{reached_by}
+use Rattle.nb_change.proofs.SettledLaws.{durable_is, durable_still}
+use Rattle.nb_model.specs.declared.reply.Reply.{Reply}
+use Rattle.nb_model.specs.Strokes.{Stroke}
+use Rattle.nb_model.specs.Lines.{line_text}
+use Rattle.nb_model.specs.Making.{MadeFile, making}
+use Rattle.nb_model.specs.Outcomes.{Turn, Outcome}
+use Rattle.nb_model.specs.Run.{Event, Now, Played, base_now, event_of, outcome, stands_then, take_turn, replies_of, files_made}
+use Rattle.nb_model.specs.Output.{output, status_of, status_after}
+use Rattle.nb_model.specs.Steps.{made, steps_in, steps_of, after_step, after_steps, acked_turns}
+use Rattle.nb_model.specs.Trail.{Trail, StandsIn, after_stroke}
+use Rattle.nb_model.proofs.OutputLaws.{output_one, status_one, output-quiet, output_no_event, status_no_event}
+use Rattle.nb_model.proofs.StepsLaws.{steps_one, strokes_within, strokes_front, acked_steps_none, acked_steps_most, turns_before}
+use Rattle.nb_base.specs.Takes.{after_strokes}
+use Rattle.nb_scratch.specs.Kept.{IsKept, IsUnfinishedOr}
+use Rattle.nb_state.specs.Open.{Held, IsOpen, name_of}
+use Rattle.nb_state.specs.Does.{WhereEnded}
+use Rattle.nb_state.proofs.TurnLaws.{still_open}
+use Rattle.nb_scratch.specs.declared.stop.Stop.{Stop}
+use Rattle.nb_scratch.specs.Acts.{TurnLeft, Touched, AreKept, Acts}
+use Rattle.nb_scratch.specs.Ready.{IsReady, IsApart}
+use Rattle.nb_scratch.specs.Replies.{HasEnded}
+use Rattle.nb_scratch.specs.Says.{FrontSaid, SaysLine}
+use Rattle.nb_scratch.specs.Stops.{AreWhole, StopLeft, PlayedOut, Plays}
+use Rattle.nb_scratch.proofs.GiftLaws.{given_nothing, given_joined}
+use Rattle.nb_scratch.proofs.ReadyLaws.{apart_files, ready_then}
+
+-- what holds where a call ended with a value or a refusal
+pub ended : {T P : Type 0} (answer : Result T Fault) → HasEnded answer → WhereEnded answer P → P
+ended (Ok value) has is = is
+ended (Err (Refused refusal)) has is = is
+ended (Err Device) has is = absurd has
+ended (Err Memory) has is = absurd has
+
+-- strokes are steps
+pub strokes_are_steps : (t : Trail) (ss : List Stroke) → after_strokes t ss ≡ after_steps t (made ss)
+unfolding after_steps after_step made
+strokes_are_steps t [] = refl
+strokes_are_steps t (s ∷ ss) = strokes_are_steps (after_stroke s t) ss
+
+take_self : (n : ℕ) (l : List ℕ) → take n l ≡ take (length (take n l)) l
+take_self zero l = refl
+take_self (suc n) [] = refl
+take_self (suc n) (x ∷ l) = ap (λ (k : List ℕ). x ∷ k) (take_self n l)
+
+-- an event without a reply
+status_quiet : (e : Event) → e.reply ≡ None → status_of (replies_of (e ∷ [])) ≡ 0
+unfolding replies_of
+status_quiet e none = ap (λ (r : Option Reply). status_of (elim r as (λ z. List (ℕ × Reply)) [ Some reply ↦ (e.session, reply) ∷ [] | None ↦ [] ])) none ∙ status_no_event
+
+-- no event made a file
+made_none : (file : MadeFile) → Contains (files_made []) file → ⊥
+unfolding files_made
+made_none file there = omega (arith, there.1)
+
+-- those of a front of one event are those of the event
+made_front : (e : Event) (k : ℕ) (file : MadeFile) → Contains (files_made (take k (e ∷ []))) file → Contains (files_made (e ∷ [])) file
+made_front e zero file there = absurd (made_none file there)
+made_front e (suc zero) file there = there
+made_front e (suc (suc k)) file there = there
+
+-- files stay as they are while something is said
+kept_still : (old new : World) (files : List MadeFile) → IsStill old new → AreKept old files → AreKept new files
+kept_still old new files still kept name bytes there =
+    let is : IsKept old name bytes = kept name bytes there in
+    record { durable = durable_still old new name (Some bytes) still is.durable; reads = ap (λ (f : Files). f name) still.files ∙ is.reads }
+
+-- The files that a turn makes are none of the database's, and what a stop then leaves of each is as it was, unfinished, or whole.
+pub record Marks (old mid : World) (held : Held) (files : List MadeFile) : Type 0 where
+  pub apart : (name bytes : List ℕ) → Contains files (name, bytes) → IsApart held name
+  pub left : (name bytes : List ℕ) (file : File) → Contains files (name, bytes) → Leaves mid name file → Leaves old name file ⊎ IsUnfinishedOr bytes file
+
+pub marks_none : (old mid : World) (held : Held) → Marks old mid held []
+marks_none old mid held = record { apart = λ name bytes there. absurd (omega (arith, there.1)); left = λ name bytes file there is. absurd (omega (arith, there.1)) }
+
+-- What a turn leaves of all files tells what it leaves of one.
+pub marks_made : {T : Type 0} (reply : T → Option Reply) (result : Result T Fault) (old mid : World) (e0 e1 : Held) (t : Trail) (now : Now) (session : ℕ) (u : Turn) (files : List MadeFile)
+    → ((name bytes : List ℕ) → Contains files (name, bytes) → IsApart e0 name) → ((m : List ℕ) → Leaves mid m (mid.files m)) → Acts reply result old mid e0 e1 t now session u files → Marks old mid e0 files
+marks_made reply result old mid e0 e1 t now session u files apart reads acts = record {
+  apart = apart;
+  left = λ name bytes file there is.
+      let all : LeavesAll mid (with_file mid.files name file) = left_with mid name mid.files file (λ m other. reads m) is in
+      subst (λ (f : File). Leaves old name f ⊎ IsUnfinishedOr bytes f) (with_file-same mid.files name file) ((acts.left.now (with_file mid.files name file) all).each name bytes there);
+}
+
+module _ (old mid new : World) (e0 e1 : Held) (t : Trail) (now : Now) (session : ℕ) (u : Turn) (tail more : List Turn) where
+  abbrev here : Outcome
+  here = outcome session u now
+
+  abbrev event : Event
+  event = event_of session u here
+
+  abbrev name : List ℕ
+  name = name_of e0
+
+  abbrev files : List MadeFile
+  files = making (base_now now).frozen (u ∷ tail)
+
+  abbrev pub played : Played
+  played = take_turn session (u ∷ (tail ++ more)) now
+
+  abbrev one : Played
+  one = (event ∷ [], stands_then session (tail ++ more) here now)
+
+  played_is : played ≡ one
+  unfolding take_turn
+  played_is = refl
+
+  abbrev Left : Files → List ℕ → Type 0
+  Left = StopLeft old name t (event ∷ []) files
+
+  given_then : one.1.given ≡ here.given
+  unfolding stands_then
+  given_then = refl
+
+  trail_is : after_steps t (steps_in event) ≡ after_steps t (steps_of (event ∷ []))
+  trail_is = ap (after_steps t) (sym (steps_one event))
+
+  as_played : (result : Result Bool Stop) (w : World) → Plays result old w e0 e1 t now one files → Plays result old w e0 e1 t now played files
+  as_played result w plays = subst (λ (p : Played). Plays result old w e0 e1 t now p files) (sym played_is) plays
+
+  module _ {T : Type 0} (result : Result T Fault) (reply : T → Option Reply) (acts : Acts reply result old mid e0 e1 t now session u files) (marks : Marks old mid e0 files) where
+    -- while its strokes are made
+    during : AtEachMoment old mid Left
+    during = weaker old mid _ _ acts.left.moments (λ fs said left.
+        let by = reached_by after_stroke (StandsIn name) t here.strokes fs left.has.database in
+        record {
+          out = record { part = []; is = left.output ∙ sym (append-nil old.said); front = refl };
+          count = by.count;
+          front = record { most = omega (arith, by.most, strokes_within event); acknowledged = omega (arith, acked_steps_none (event ∷ [])) };
+          database = subst (λ (w : Trail). StandsIn name w fs) (strokes_are_steps t (take by.count here.strokes) ∙ ap (after_steps t) (sym (strokes_front event by.count by.most))) by.is;
+          each = left.has.each;
+          whole = λ n bytes there. absurd (made_none (n, bytes) (subst (λ (k : ℕ). Contains (files_made (take k (event ∷ []))) (n, bytes)) (turns_before (event ∷ [])) there));
+          others = left.others;
+        })
+
+    -- what is said of the files, and of the name, however it ends
+    plays_with : (ending : Result Bool Stop) (w : World) → AtEachMoment old w Left → IsStill mid w → IfOk ending (λ refused. PlayedOut refused old w e1 t now one) → Plays ending old w e0 e1 t now played files
+    plays_with ending w stops still out = as_played ending w (record {
+      stops = stops;
+      left = λ n bytes file there is. marks.left n bytes file there (left_before mid w _ still.left n file tt is);
+      apart = λ n bytes there. apart_files e0 n (marks.apart n bytes there);
+      others = untouched_joined old mid w _ acts.left.others (untouched_fewer mid w _ _ still.left (λ m other. tt));
+      others_read = λ m other. ap (λ (f : Files). f m) still.files ∙ acts.left.others_read m other;
+      name = acts.name;
+      done = out;
+    })
+
+    still_here : IsStill mid mid
+    still_here = record { files = refl; left = record { back = λ m c is b. b; now = λ m c is n. n } }
+
+    -- the turn failed
+    pub event_failed : (e : Stop) → Plays (Err e) old mid e0 e1 t now played files
+    event_failed e = plays_with (Err e) mid during still_here tt
+
+    module _ (has : HasEnded result) (place : slice_index_or now.todo (session - 1) [] ≡ u ∷ (tail ++ more)) (ready : IsReady old e0 t now)
+        (used : (n bytes : List ℕ) → here.made ≡ Some (n, bytes) → is_free_file (Some bytes) ≡ false) where
+      opened_mid : IsOpen mid e1 (after_steps t (steps_in event))
+      opened_mid = ended result has acts.opened
+
+      kept_mid : AreKept mid (files_made (event ∷ []))
+      kept_mid = ended result has acts.kept
+
+      -- the database stands ready behind it
+      ready_at : (w : World) → IsStill mid w → IsReady w e1 (after_steps t (steps_of (event ∷ []))) one.1
+      ready_at w still =
+          subst (λ (x : Trail). IsReady w e1 x one.1) trail_is
+          (ready_then old w e0 e1 t now session u tail more ready place (still_open mid w e1 (after_steps t (steps_in event)) still opened_mid) acts.name (ended result has acts.running) (kept_still mid w (files_made (event ∷ [])) still kept_mid)
+          (λ m other. ap (λ (f : Files). f m) still.files ∙ acts.left.others_read m other) marks.apart used)
+
+      -- it has nothing to say
+      pub event_quiet : here.reply ≡ None → Plays (Ok false) old mid e0 e1 t now played files
+      event_quiet quiet = plays_with (Ok false) mid during still_here (record {
+        ready = ready_at mid still_here;
+        said = acts.left.said ∙ sym (append-nil old.said) ∙ ap (λ (l : List ℕ). old.said ++ l) (sym (output-quiet event [] quiet ∙ output_no_event));
+        status = status_quiet event quiet;
+        given = given_joined old mid mid now.given here.given one.1.given (ended result has acts.given) (given_nothing mid mid here.given one.1.given (record { guids = refl; times = refl }) given_then);
+        kept = kept_mid;
+      })
+
+      module _ (r : Reply) (is_said : here.reply ≡ Some r) {S E : Type 0} (told : Result S E) (says : SaysLine told mid new (line_text session r)) where
+        abbrev line : List ℕ
+        line = line_text session r
+
+        output_is : output (event ∷ []) ≡ line
+        output_is = output_one event r is_said
+
+        all_steps : after_steps t (steps_in event) ≡ after_steps t (take (length (steps_of (event ∷ []))) (steps_of (event ∷ [])))
+        all_steps = trail_is ∙ ap (after_steps t) (sym (take_all (length (steps_of (event ∷ []))) (steps_of (event ∷ [])) (omega arith)))
+
+        -- while its line is said
+        saying : (fs : Files) (said : List ℕ) → FrontSaid mid line fs said → Left fs said
+        saying fs said front =
+            let part : List ℕ = take front.count line in
+            record {
+              out = record {
+                part = part;
+                is = front.is ∙ ap (λ (l : List ℕ). l ++ part) acts.left.said;
+                front = take_self front.count line ∙ ap (take (length part)) (sym output_is);
+              };
+              count = length (steps_of (event ∷ []));
+              front = record { most = omega arith; acknowledged = acked_steps_most (event ∷ []) (length part) };
+              database = subst (λ (w : Trail). StandsIn name w fs) all_steps
+                  (subst (λ (n : List ℕ). StandsIn n (after_steps t (steps_in event)) fs) acts.name (opened_mid.files.left fs front.left));
+              each = λ n bytes there. marks.left n bytes (fs n) there (front.left n);
+              whole = λ n bytes there. durable_is mid n (Some bytes) (kept_mid n bytes (made_front event (acked_turns (event ∷ []) (length part)) (n, bytes) there)).durable (fs n) (front.left n);
+              others = λ m other. left_before old mid _ acts.left.others m (fs m) other (front.left m);
+            }
+
+        whole : AtEachMoment old new Left
+        whole = joined old mid new _ _ _ during says.moments (λ fs said is. is) saying
+
+        -- its line wasn't said whole
+        pub event_unsaid : (e : Stop) → Plays (Err e) old new e0 e1 t now played files
+        event_unsaid e = plays_with (Err e) new whole says.still tt
+
+        -- it was
+        pub event_said : (refused : Bool) → new.said ≡ mid.said ++ line → status_after r ≡ (if refused then 1 else 0) → Plays (Ok refused) old new e0 e1 t now played files
+        event_said refused said status = plays_with (Ok refused) new whole says.still (record {
+          ready = ready_at new says.still;
+          said = said ∙ ap (λ (l : List ℕ). l ++ line) acts.left.said ∙ ap (λ (l : List ℕ). old.said ++ l) (sym output_is);
+          status = status_one event r is_said ∙ status;
+          given = given_joined old mid new now.given here.given one.1.given (ended result has acts.given) (given_nothing mid new here.given one.1.given says.gave given_then);
+          kept = kept_still mid new (files_made (event ∷ [])) says.still kept_mid;
+        })

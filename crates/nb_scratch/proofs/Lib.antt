@@ -1,0 +1,5 @@
+pub mod AllLaws
+pub mod MakesLaws
+pub mod ReadyLaws
+pub mod GiftLaws
+pub mod EventLaws

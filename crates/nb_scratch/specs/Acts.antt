@@ -1,0 +1,73 @@
+-- What one turn makes of the database before its line is said.
+use Rattle.std.specs.Prelude.{◌≡◌, ◌⊎◌, ℕ, List, [], ◌∷◌, length, Option, Some, Result, Ok, Err, Contains}
+use Rattle.std.specs.List.{AllByRecursion}
+use Rattle.nb_host.specs.Files.{Files}
+use Rattle.nb_host.specs.World.{World}
+use Rattle.nb_host.specs.declared.faults.Fault.{Fault}
+use Rattle.nb_host.specs.declared.faults.Fault.TheVariants.{Refused, Device, Memory}
+use Rattle.nb_change.specs.Changes.{Names, Changes, Reached, Remade}
+use Rattle.nb_change.specs.Gave.{Gave}
+use Rattle.nb_model.specs.declared.reply.Reply.{Reply}
+use Rattle.nb_model.specs.declared.reply.Reply.TheVariants.{Refused as RefusedBy}
+use Rattle.nb_model.specs.Gifts.{Foretells, WasGiven}
+use Rattle.nb_model.specs.Making.{MadeFile}
+use Rattle.nb_model.specs.Outcomes.{Turn}
+use Rattle.nb_model.specs.Run.{Now, outcome, event_of, files_made}
+use Rattle.nb_model.specs.Steps.{steps_in, after_steps}
+use Rattle.nb_model.specs.Strokes.{Stroke}
+use Rattle.nb_model.specs.Trail.{Trail, StandsIn, after_stroke}
+use Rattle.nb_base.specs.Open.{OfFiles}
+use Rattle.nb_scratch.specs.Kept.{IsKept, IsUnfinishedOr}
+use Rattle.nb_state.specs.Open.{Held, IsOpen, name_of}
+use Rattle.nb_state.specs.Does.{WhereEnded}
+
+-- what is to be said, if anything; a failure says nothing of it
+abbrev pub Says : {T : Type 0} → (T → Option Reply) → Result T Fault → Option Reply → Type 0
+Says reply (Ok value) said = said ≡ reply value
+Says reply (Err (Refused refusal)) said = said ≡ Some (RefusedBy refusal)
+Says reply (Err Device) said = Unit {0}
+Says reply (Err Memory) said = Unit {0}
+
+-- each has 16 bytes
+abbrev pub AreSixteen : List (List ℕ) → Type 0
+AreSixteen ids = AllByRecursion (λ (id : List ℕ). length id ≡ 16) ids
+
+-- some GUIDs and times were given, each GUID of 16 bytes
+pub record Grows (old new : World) : Type 0 where
+  pub ids : List (List ℕ)
+  pub clock : List ℕ
+  pub gave : Gave old new ids clock
+  pub sixteen : AreSixteen ids
+
+-- the database's two files, and files that are made
+abbrev pub Touched : (name : List ℕ) → List MadeFile → Names
+Touched name made m = OfFiles name m ⊎ ((bytes : List ℕ) × Contains made (m, bytes))
+
+-- each of the files that are made is as it was, unfinished, or whole
+abbrev pub MadeLeft : (old : World) → List MadeFile → Files → Type 0
+MadeLeft old made files = (name bytes : List ℕ) → Contains made (name, bytes) → Remade old name (IsUnfinishedOr bytes) files
+
+-- each of them is whole and kept for good
+abbrev pub AreKept : World → List MadeFile → Type 0
+AreKept w made = (name bytes : List ℕ) → Contains made (name, bytes) → IsKept w name bytes
+
+-- What a stop leaves while a turn makes its strokes, and files: the database behind a front of the strokes, and the files.
+pub record TurnLeft (old : World) (name : List ℕ) (t : Trail) (strokes : List Stroke) (made : List MadeFile) (files : Files) : Type 0 where
+  pub database : Reached after_stroke (StandsIn name) t strokes files
+  pub each : MadeLeft old made files
+
+-- The strokes of a turn are made in order, and what it is to say is answered. Once it has ended with a value or a refusal the database is
+-- open behind its steps, and the file that the turn made whole is kept for good.
+pub record Acts {T : Type 0} (reply : T → Option Reply) (result : Result T Fault) (old new : World) (before after : Held) (t : Trail) (now : Now) (session : ℕ) (turn : Turn) (made : List MadeFile) : Type 0 where
+  pub says : Says reply result (outcome session turn now).reply
+  pub left : Changes old new (Touched (name_of before) made) (TurnLeft old (name_of before) t (outcome session turn now).strokes made)
+  pub opened : WhereEnded result (IsOpen new after (after_steps t (steps_in (event_of session turn (outcome session turn now)))))
+  pub running : WhereEnded result (after.running ≡ (outcome session turn now).running)
+  pub given : WhereEnded result (WasGiven old new now.given (outcome session turn now).given)
+  pub kept : WhereEnded result (AreKept new (files_made (event_of session turn (outcome session turn now) ∷ [])))
+  pub name : name_of after ≡ name_of before
+
+-- It does so where the outside gives what it may give.
+pub record MayAct {T : Type 0} (reply : T → Option Reply) (result : Result T Fault) (old new : World) (before after : Held) (t : Trail) (now : Now) (session : ℕ) (turn : Turn) (made : List MadeFile) : Type 0 where
+  pub grows : Grows old new
+  pub acts : Foretells now.given old new → Acts reply result old new before after t now session turn made

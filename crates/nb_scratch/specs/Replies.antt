@@ -1,0 +1,30 @@
+-- Replies as they are answered.
+use Rattle.std.specs.Prelude.{length, Option, Some, Result, Ok, Err, Bool, true, false}
+use Rattle.nb_host.specs.declared.faults.Fault.{Fault}
+use Rattle.nb_host.specs.declared.faults.Fault.TheVariants.{Refused, Device, Memory}
+use Rattle.nb_model.specs.declared.reply.Reply.{Reply}
+use Rattle.nb_model.specs.declared.reply.Reply.TheVariants.{Refused as RefusedBy, HeaderShown}
+use Rattle.nb_model.specs.Account.{Base}
+use Rattle.nb_model.specs.Image.{image_size, image_state, image_scn, image_guid, is_forced, is_read_only}
+use Rattle.nb_model.specs.Lines.{flag}
+use Rattle.nb_model.specs.Pages.{delta_count}
+
+-- it is said
+abbrev pub some_said : Reply → Option Reply
+some_said reply = Some reply
+
+-- it ended with a value or a refusal
+abbrev pub HasEnded : {T : Type 0} → Result T Fault → Type 0
+HasEnded (Ok value) = Unit
+HasEnded (Err (Refused refusal)) = Unit
+HasEnded (Err Device) = ⊥
+HasEnded (Err Memory) = ⊥
+
+-- what is shown of a header, and of the difference file beside it
+abbrev pub header_of : Base → Reply
+header_of b =
+    HeaderShown (image_size b.image) (length b.image) (image_state b.image) (image_scn b.image) (image_guid b.image) (is_forced b.image) (flag (is_read_only b.image)) (delta_count b)
+
+-- the reply is a refusal
+abbrev pub is_refusal : Reply → Bool
+is_refusal reply = elim reply [ RefusedBy refusal ↦ true | _ ↦ false ]

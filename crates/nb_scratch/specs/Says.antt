@@ -1,0 +1,21 @@
+-- A line is said.
+use Rattle.std.specs.Prelude.{◌≡◌, ℕ, List, ◌++◌, take, Result, OnOk}
+use Rattle.nb_host.specs.Files.{Files}
+use Rattle.nb_host.specs.World.{World}
+use Rattle.nb_host.specs.Crash.{LeavesAll}
+use Rattle.nb_host.specs.Calls.{IsStill}
+use Rattle.nb_host.specs.Moments.{AtEachMoment}
+use Rattle.nb_change.specs.Gave.{GaveNothing}
+
+-- A front of these bytes was said behind what had been said, and a stop leaves what it would have left before.
+pub record FrontSaid (old : World) (bytes : List ℕ) (files : Files) (said : List ℕ) : Type 0 where
+  pub count : ℕ
+  pub is : said ≡ old.said ++ take count bytes
+  pub left : LeavesAll old files
+
+-- Nothing changes but what was said: at each moment a front of the line, and all of it at Ok.
+pub record SaysLine {T E : Type 0} (result : Result T E) (old new : World) (line : List ℕ) : Type 0 where
+  pub still : IsStill old new
+  pub moments : AtEachMoment old new (FrontSaid old line)
+  pub said : OnOk result (new.said ≡ old.said ++ line)
+  pub gave : GaveNothing old new

@@ -1,0 +1,28 @@
+ghost use Rattle.std.specs.Prelude.{◌≡◌};
+ghost use Rattle.nb_scratch.specs.declared.stop.Stop.TheVariants.{Device, Memory};
+
+use nb_host::HostFault;
+use std::alloc::AllocError;
+
+/// Why a run ended at once.
+#[derive(Clone, Copy, Debug, PartialEq, Eq)]
+pub enum Stop {
+    Device,
+    Memory,
+}
+
+impl From<HostFault> for Stop {
+    ghost from_gives = { λ _ stop. stop ≡ Device };
+
+    fn from(_: HostFault) -> Self {
+        Stop::Device
+    }
+}
+
+impl From<AllocError> for Stop {
+    ghost from_gives = { λ _ stop. stop ≡ Memory };
+
+    fn from(_: AllocError) -> Self {
+        Stop::Memory
+    }
+}
