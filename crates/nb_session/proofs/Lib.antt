@@ -13,6 +13,7 @@ pub mod ActLaws
 pub mod WayLaws
 pub mod MergeLaws
 pub mod CopyLaws
+pub mod BackupLaws
 pub mod CalmLaws
 pub mod StepLaws
 pub mod SceneLaws
