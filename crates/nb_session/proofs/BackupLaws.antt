@@ -201,3 +201,190 @@ module _ (old new : World) (a b : Held) (t : Trail) (now : Now) (session level :
   pub start_refused : (refusal : Refusal) (guid : List ℕ) → StartsBackup (Err (Refused refusal)) old new a b t guid begins → (w : World) → IsBehind w b session (Begins (BackupTo level name)) [] now None
   start_refused refusal guid does w =
       record { next = append-nil this.next ∙ sym (ap (λ (o : Outcome). o.next) same) ∙ (has_not (seen_now now) session level name refusal does.says).next; goes = tt }
+
+-- A further turn of a backup.
+page_is : (session : ℕ) (now : Now) → outcome session Copies now ≡ passes (seen_now now)
+unfolding outcome turn
+page_is session now = refl
+
+close_is : (session : ℕ) (b : Backing) (now : Now) → outcome session (ClosesBackup b) now ≡ close_backup (seen_now now) b
+unfolding outcome turn
+close_is session b now = refl
+
+-- The parts of the last one.
+module _ (s : Seen) (b : Backing) where
+  close_reply : (close_backup s b).reply ≡ None
+  unfolding close_backup
+  close_reply = refl
+
+  close_next : (close_backup s b).next ≡ Ends (Level b.ask.level b.scn (count_in (kept_of b s.base.frozen) b.ask) b.guid) ∷ []
+  unfolding close_backup
+  close_next = refl
+
+  close_running : (close_backup s b).running ≡ s.running
+  unfolding close_backup
+  close_running = refl
+
+  close_made : (close_backup s b).made ≡ Some (b.name, file_of 102 (kept_of b s.base.frozen))
+  unfolding close_backup
+  close_made = refl
+
+  close_given : (close_backup s b).given ≡ without_time s.given
+  unfolding close_backup
+  close_given = refl
+
+-- A copier that goes on.
+module _ (old new : World) (a b : Held) (t : Trail) (now : Now) (session : ℕ) (copier later : Backed) (ready : IsReady old a t now) (is : IsBackingUp old copier t.base.frozen) (apart : IsApart a copier.backing.name) (goes : Goes a b) where
+  abbrev name : List ℕ
+  name = copier.backing.name
+
+  abbrev last : Turn
+  last = ClosesBackup copier.backing
+
+  abbrev whole : List ℕ
+  whole = whole_file copier.file t.base.frozen
+
+  abbrev files : List MadeFile
+  files = (name, whole) ∷ []
+
+  abbrev rest : ℕ
+  rest = file_count copier.file - file_next copier.file
+
+  frozen_is : t.base.frozen ≡ (base_now now).frozen
+  frozen_is = ap (λ (x : Base). x.frozen) ready.base
+
+  whole_is : whole ≡ file_of 102 (kept_of copier.backing (base_now now).frozen)
+  whole_is = is.whole ∙ ap (λ (f : Image). file_of 102 (kept_of copier.backing f)) frozen_is
+
+  pub backup_files : files ≡ making (base_now now).frozen (copy_first rest last ∷ copy_rest rest last)
+  backup_files = ap (λ (bytes : List ℕ). (name, bytes) ∷ []) whole_is ∙ backups_make (base_now now).frozen rest copier.backing
+
+  -- what a stop leaves of a close is what it leaves of this turn
+  module _ (reads : Leaves old name (old.files name)) where
+    close_left : (ss : List Stroke) → Changes old new (OfBackup name (name_of a)) (CloseLeft old name whole (name_of a) t ss) → Changes old new (Touched (name_of a) files) (TurnLeft old (name_of a) t ss files)
+    close_left ss changes =
+        weakened old new (OfBackup name (name_of a)) (Touched (name_of a) files) (CloseLeft old name whole (name_of a) t ss) (TurnLeft old (name_of a) t ss files) changes touches
+        (λ fs others has. elim has [
+          | inl before ↦ record { database = reached_first after_stroke (StandsIn (name_of a)) t ss fs before.1; each = each_one old new a t ready.opened name whole apart reads fs before.0 }
+          | inr behind ↦ record { database = behind.1; each = each_one old new a t ready.opened name whole apart reads fs (inr (inr behind.0)) }
+        ])
+      where
+        touches : (m : List ℕ) → OfBackup name (name_of a) m → Touched (name_of a) files m
+        touches m (inl same) = inr (whole, (0, omega arith, ap (λ (n : List ℕ). (n, whole)) (sym same)))
+        touches m (inr own) = inl own
+
+    -- the turn with the time that is foretold
+    abbrev Does : Result Progress Fault → Type 0
+    Does result = BackupTurn result old new a b copier later t (next_time now.given) (close_backup (seen_now now) copier.backing).strokes
+
+    turn_left : (result : Result Progress Fault) (left : ℕ) → left ≡ rest → Does result → Changes old new (Touched (name_of a) files) (TurnLeft old (name_of a) t (outcome session (copy_first left last) now).strokes files)
+    turn_left result zero none does =
+        close_left (outcome session last now).strokes (subst (λ (o : Outcome). Changes old new (OfBackup name (name_of a)) (CloseLeft old name whole (name_of a) t o.strokes)) (sym (close_is session copier.backing now)) does.left)
+    turn_left result (suc left) some does = file_left old new a t ready.opened name whole apart reads (outcome session Copies now).strokes (does.alone (omega (arith, some)))
+
+    -- it fails
+    failed : (fault : Fault) → IsNoRefusal fault → (u : Turn) → Changes old new (Touched (name_of a) files) (TurnLeft old (name_of a) t (outcome session u now).strokes files)
+        → Acts {T = Progress} (λ progress. None) (Err fault) old new a b t now session u files
+    failed (Refused refusal) none u left = absurd none
+    failed Device none u left = record { says = tt; left = left; opened = tt; running = tt; given = tt; kept = tt; name = goes.name }
+    failed Memory none u left = record { says = tt; left = left; opened = tt; running = tt; given = tt; kept = tt; name = goes.name }
+
+    -- a page is copied
+    copied : CopiesOn old new a b copier later t → Changes old new (Touched (name_of a) files) (TurnLeft old (name_of a) t (outcome session Copies now).strokes files)
+        → Acts (λ (progress : Progress). None) (Ok More) old new a b t now session Copies files
+    copied does left =
+        let o = page_is session now in
+        record {
+          says = ap (λ (x : Outcome). x.reply) o;
+          left = left;
+          opened = subst (IsOpen new b) (ap (λ (x : Outcome). after_strokes t x.strokes) (sym o) ∙ trail_plain t (event_of session Copies (outcome session Copies now)) refl) does.opened;
+          running = goes.running ∙ ready.running ∙ sym (ap (λ (x : Outcome). x.running) o);
+          given = given_nothing old new now.given (outcome session Copies now).given does.gave (ap (λ (x : Outcome). x.given) o);
+          kept = kept_none new (event_of session Copies (outcome session Copies now)) (ap (λ (x : Outcome). x.made) o);
+          name = goes.name;
+        }
+
+    -- the file is whole, and the row is written
+    closed : Foretells now.given old new → CloseDone old new a b copier later t (next_time now.given) (close_backup (seen_now now) copier.backing).strokes → new.guids ≡ old.guids
+        → Changes old new (Touched (name_of a) files) (TurnLeft old (name_of a) t (outcome session last now).strokes files) → Acts (λ (progress : Progress). None) (Ok Finished) old new a b t now session last files
+    closed told does guids left =
+        let o = close_is session copier.backing now in
+        record {
+          says = ap (λ (x : Outcome). x.reply) o ∙ close_reply (seen_now now) copier.backing;
+          left = left;
+          opened = subst (IsOpen new b) (ap (λ (x : Outcome). after_strokes t x.strokes) (sym o) ∙ trail_plain t (event_of session last (outcome session last now)) refl) does.opened;
+          running = goes.running ∙ ready.running ∙ sym (ap (λ (x : Outcome). x.running) o ∙ close_running (seen_now now) copier.backing);
+          given = subst (λ (g : Given). WasGiven old new now.given g) (sym (ap (λ (x : Outcome). x.given) o ∙ close_given (seen_now now) copier.backing)) (record {
+            ids = [];
+            clock = next_time now.given ∷ [];
+            guids = guids ∙ sym (append-nil old.guids);
+            guids_first = refl;
+            times = does.times;
+            times_first = first_given 0 old.times new.times now.given.times told.clock told.later_clock told.times told.times_first (next_time now.given) does.times;
+          });
+          kept = made_by new (event_of session last (outcome session last now)) (name, whole)
+              (ap (λ (x : Outcome). x.made) o ∙ close_made (seen_now now) copier.backing ∙ ap (λ (bytes : List ℕ). Some (name, bytes)) (sym whole_is)) (kept_one new name whole does.kept);
+          name = goes.name;
+        }
+
+    acts_by : Foretells now.given old new → (result : Result Progress Fault) (left : ℕ) → left ≡ rest → BackupCounts result copier later → Does result → Acts (λ progress. None) result old new a b t now session (copy_first left last) files
+    acts_by told (Ok More) zero none counts does = absurd (omega (arith, none, counts.0))
+    acts_by told (Ok More) (suc left) some counts does = copied does.answer (turn_left (Ok More) (suc left) some does)
+    acts_by told (Ok Finished) zero none counts does = closed told does.answer does.guids (turn_left (Ok Finished) zero none does)
+    acts_by told (Ok Finished) (suc left) some counts does = absurd (omega (arith, some, counts.0))
+    acts_by told (Err fault) left is counts does = failed fault does.sure (copy_first left last) (turn_left (Err fault) left is does)
+
+    -- where one time was given, or none
+    module _ (result : Result Progress Fault) (turns : (given : Given) → GaveTimeAtMost old new (next_time given) → BackupTurn result old new a b copier later t (next_time given) (close_backup (seen_with now given) copier.backing).strokes)
+        (time : ℕ) (asked : GaveTimeAtMost old new time) where
+      turn_once : BackupTurn result old new a b copier later t time (close_backup (seen_with now (record { guids = []; times = time ∷ []; holds = [] })) copier.backing).strokes
+      turn_once = turns (record { guids = []; times = time ∷ []; holds = [] }) asked
+
+      turn_grows : Grows old new
+      turn_grows = by asked
+        where
+          by : GaveTimeAtMost old new time → Grows old new
+          by (inl nothing) = grows_none old new (record { guids = turn_once.guids; times = nothing })
+          by (inr gave) = record { ids = []; clock = time ∷ []; gave = record { guids = turn_once.guids ∙ sym (append-nil old.guids); times = gave }; sixteen = tt }
+
+      pub turn_told : Foretells now.given old new → Does result
+      turn_told told = turns now.given (most_given 0 old.times new.times now.given.times told.clock told.later_clock told.times told.times_first time asked)
+
+      pub turn_acts : BackupCounts result copier later → MayAct (λ progress. None) result old new a b t now session (copy_first rest last) files
+      turn_acts counts = record { grows = turn_grows; acts = λ told. acts_by told result rest refl counts (turn_told told) }
+
+      -- it isn't refused
+      pub turn_sure : IfErr result IsNoRefusal
+      turn_sure = turn_once.sure
+
+  -- What is left behind it.
+  module _ (runs : a.running ≡ Some session) where
+    pub more_behind : later.backing ≡ copier.backing → BackupCounts (Ok More) copier later → IsBackingUp new later t.base.frozen → IsBehind new b session (copy_first rest last) (copy_rest rest last) now (Some (Backup later))
+    more_behind backed counts further = by rest refl
+      where
+        by : (left : ℕ) → left ≡ rest → IsBehind new b session (copy_first left last) (copy_rest left last) now (Some (Backup later))
+        by zero none = absurd (omega (arith, none, counts.0))
+        by (suc left) some =
+            let one : left ≡ file_count later.file - file_next later.file = omega (arith, some, counts.0, counts.1, counts.2) in
+            record {
+              next = ap (λ (o : Outcome). o.next ++ copy_rest (suc left) last) (page_is session now) ∙ copy_turns left last ∙ ap (λ (n : ℕ). copy_first n last ∷ copy_rest n last) one
+                  ∙ ap (λ (x : Backing). copy_first (file_count later.file - file_next later.file) (ClosesBackup x) ∷ copy_rest (file_count later.file - file_next later.file) (ClosesBackup x)) (sym backed);
+              goes = (
+                subst (IsBackingUp new later) (frozen_is ∙ ap (λ (x : Base). x.frozen) (sym (no_stroke (base_now now) (outcome session Copies now).strokes (ap (λ (o : Outcome). o.strokes) (page_is session now))))) further,
+                record { plain = ap (λ (x : Backing). is_delta x.name) backed ∙ apart.plain; other = λ own. apart.other (ap (λ (x : Backing). x.name) (sym backed) ∙ own ∙ goes.name) },
+                goes.running ∙ runs);
+            }
+
+    pub close_behind : (reply : Reply) → reply ≡ Level later.backing.ask.level later.backing.scn (file_written later.file) later.backing.guid → later.backing ≡ copier.backing → BackupCounts (Ok Finished) copier later
+        → file_written later.file ≡ count_in (kept_of copier.backing t.base.frozen) copier.backing.ask → IsBehind new b session (copy_first rest last) (copy_rest rest last) now (Some (End reply))
+    close_behind reply is_level backed counts written = by rest refl
+      where
+        by : (left : ℕ) → left ≡ rest → IsBehind new b session (copy_first left last) (copy_rest left last) now (Some (End reply))
+        by (suc left) some = absurd (omega (arith, some, counts.0))
+        by zero none = record {
+          next = ap (λ (xs : List Turn). xs ++ []) (ap (λ (o : Outcome). o.next) (close_is session copier.backing now) ∙ close_next (seen_now now) copier.backing)
+              ∙ ap (λ (n : ℕ). Ends (Level copier.backing.ask.level copier.backing.scn n copier.backing.guid) ∷ []) (sym (written ∙ ap (λ (f : Image). count_in (kept_of copier.backing f) copier.backing.ask) frozen_is))
+              ∙ ap (λ (x : Backing). Ends (Level x.ask.level x.scn (file_written later.file) x.guid) ∷ []) (sym backed)
+              ∙ ap (λ (r : Reply). Ends r ∷ []) (sym is_level);
+          goes = goes.running ∙ runs;
+        }
