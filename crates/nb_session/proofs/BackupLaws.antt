@@ -1,17 +1,15 @@
 -- The turns of a backup.
-use Rattle.std.proofs.Common.{◌≡◌, ◌≢◌, ◌⊎◌, inl, inr, ℕ, zero, suc, ◌+◌, ◌-◌, ◌<◌, ◌≤◌, List, [], ◌∷◌, ◌++◌, length, drop, replicate, refl, sym, ap, subst, ◌∙◌, arith}
-use Rattle.std.specs.Prelude.{Result, Ok, Err, IfErr, Option, Some, None, Contains, true, false}
+use Rattle.std.proofs.Common.{◌≡◌, ◌⊎◌, inl, inr, ℕ, zero, suc, ◌-◌, List, [], ◌∷◌, ◌++◌, length, drop, replicate, refl, sym, ap, subst, ◌∙◌, arith}
+use Rattle.std.specs.Prelude.{Result, Ok, Err, IfErr, Some, None, true, false}
 use Rattle.std.specs.List.{slice_index_or}
 use Rattle.std.proofs.lemmas.List.{append-nil, append_cancel_left}
-use Rattle.nb_host.specs.Files.{File, Files}
 use Rattle.nb_host.specs.Names.{is_delta}
 use Rattle.nb_host.specs.World.{World}
 use Rattle.nb_host.specs.Crash.{Leaves}
 use Rattle.nb_host.specs.declared.faults.Fault.{Fault}
 use Rattle.nb_host.specs.declared.faults.Fault.TheVariants.{Refused, Device, Memory}
 use Rattle.nb_host.specs.declared.refusals.Refusal.{Refusal}
-use Rattle.nb_page.specs.Quiet.{Quiet}
-use Rattle.nb_change.specs.Changes.{Changes, Reached}
+use Rattle.nb_change.specs.Changes.{Changes}
 use Rattle.nb_change.proofs.ChangesLaws.{weakened}
 use Rattle.nb_change.proofs.ReachedLaws.{reached_first}
 use Rattle.nb_model.specs.declared.reply.Reply.{Reply}
@@ -21,13 +19,12 @@ use Rattle.nb_model.specs.Account.{Base}
 use Rattle.nb_model.specs.Backups.{backup_turn, close_backup}
 use Rattle.nb_model.specs.Causes.{is_free_entry}
 use Rattle.nb_model.specs.Gifts.{Foretells, WasGiven}
-use Rattle.nb_model.specs.Going.{Runs, IsGoing}
-use Rattle.nb_model.specs.Image.{Image, image_state}
+use Rattle.nb_model.specs.Going.{IsGoing}
+use Rattle.nb_model.specs.Image.{Image}
 use Rattle.nb_model.specs.Levels.{file_of, count_in}
 use Rattle.nb_model.specs.Making.{MadeFile, kept_of, making}
 use Rattle.nb_model.specs.Outcomes.{Turn, Begins, Copies, ClosesBackup, Ends, Backing, Given, Seen, Outcome, DoesNothing, next_guid, next_time, without_guid, without_time, passes}
 use Rattle.nb_model.specs.Run.{Now, Event, base_now, outcome, event_of}
-use Rattle.nb_model.specs.Steps.{steps_in, after_steps}
 use Rattle.nb_model.specs.Strokes.{Stroke, base_after}
 use Rattle.nb_model.specs.Trail.{Trail, StandsIn, after_stroke}
 use Rattle.nb_model.specs.Turns.{first_turn, turn}
@@ -39,13 +36,12 @@ use Rattle.nb_state.specs.Turns.{GaveAtMost}
 use Rattle.nb_state.specs.declared.turns.Progress.{Progress}
 use Rattle.nb_state.specs.declared.turns.Progress.TheVariants.{More, Finished}
 use Rattle.nb_state.proofs.MakesLaws.{after_base, where_ended, gave_none}
-use Rattle.nb_copy.specs.Making.{IsUnfinishedOr}
 use Rattle.nb_copy.specs.FileCopying.{file_count, file_next, file_written, whole_file}
 use Rattle.nb_copy.specs.Starting.{Backed, IsBackingUp, IsStarted, StartsBackup, KnowsFree}
 use Rattle.nb_copy.specs.Closing.{OfBackup, GaveTimeAtMost, CloseLeft, CopiesOn, CloseDone, BackupTurn, BackupCounts}
 use Rattle.nb_session.specs.declared.task.Task.TheVariants.{Backup, End}
 use Rattle.nb_session.specs.Acts.{Says, Grows, Touched, TurnLeft, Acts, MayAct}
-use Rattle.nb_session.specs.Askers.{copy_first, copy_rest, task_todo}
+use Rattle.nb_session.specs.Askers.{copy_first, copy_rest}
 use Rattle.nb_session.specs.Ready.{IsReady, IsApart}
 use Rattle.nb_session.specs.Steps.{IsBehind}
 use Rattle.nb_session.proofs.ActLaws.{trail_plain, ended_map, strikes_left, kept_none, says_none}

@@ -1,14 +1,12 @@
-use Rattle.std.proofs.Common.{◌≡◌, ◌-◌, ◌<◌, ℕ, List, [], ◌∷◌, length, refl, sym, ap, subst, ◌∙◌}
-use Rattle.std.specs.Prelude.{Ok, Err, None, Some}
-use Rattle.std.specs.List.{slice_index_or}
+use Rattle.std.proofs.Common.{◌≡◌, ◌-◌, ◌<◌, ℕ, length, refl, sym, ap, subst}
+use Rattle.std.specs.Prelude.{Ok, Err, None}
 use Rattle.nb_host.specs.declared.faults.Fault.{Fault}
 use Rattle.nb_host.specs.declared.faults.Fault.TheVariants.{Refused, Device, Memory}
 use Rattle.nb_model.specs.declared.reply.Reply.TheVariants.{Level}
 use Rattle.nb_model.specs.Account.{Base}
 use Rattle.nb_model.specs.Backups.{close_backup}
 use Rattle.nb_model.specs.Going.{IsAt}
-use Rattle.nb_model.specs.Outcomes.{Given, ClosesBackup, Backing, next_time}
-use Rattle.nb_model.specs.Run.{base_now}
+use Rattle.nb_model.specs.Outcomes.{Given, ClosesBackup, next_time}
 use Rattle.nb_model.specs.Sound.{IsSoundImage}
 use Rattle.nb_state.specs.declared.turns.Progress.{Progress}
 use Rattle.nb_state.specs.declared.turns.Progress.TheVariants.{More, Finished}
