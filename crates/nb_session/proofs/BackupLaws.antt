@@ -188,9 +188,10 @@ module _ (old new : World) (a b : Held) (t : Trail) (now : Now) (session level :
             ∙ copy_turns (file_count copier.file - file_next copier.file) (ClosesBackup copier.backing);
         goes = (
           subst (IsBackingUp new copier)
-          (ap (λ (x : Base). x.frozen) (after_base t begins.strokes ∙ ap (λ (o : Outcome). base_after t.base o.strokes) same ∙ ap (λ (x : Base). base_after x this.strokes) ready.base)) is.goes,
+              (ap (λ (x : Base). x.frozen) (after_base t begins.strokes ∙ ap (λ (o : Outcome). base_after t.base o.strokes) same ∙ ap (λ (x : Base). base_after x this.strokes) ready.base)) is.goes,
           record { plain = ap is_delta named ∙ plain; other = λ own. not_own old a t now name ready facts.free (sym named ∙ own ∙ does.name) },
-          does.running ∙ facts.running);
+          does.running ∙ facts.running,
+        );
       }
 
   -- it was refused
@@ -368,7 +369,8 @@ module _ (old new : World) (a b : Held) (t : Trail) (now : Now) (session : ℕ) 
               goes = (
                 subst (IsBackingUp new later) (frozen_is ∙ ap (λ (x : Base). x.frozen) (sym (no_stroke (base_now now) (outcome session Copies now).strokes (ap (λ (o : Outcome). o.strokes) (page_is session now))))) further,
                 record { plain = ap (λ (x : Backing). is_delta x.name) backed ∙ apart.plain; other = λ own. apart.other (ap (λ (x : Backing). x.name) (sym backed) ∙ own ∙ goes.name) },
-                goes.running ∙ runs);
+                goes.running ∙ runs,
+              );
             }
 
     pub close_behind : (reply : Reply) → reply ≡ Level later.backing.ask.level later.backing.scn (file_written later.file) later.backing.guid → later.backing ≡ copier.backing → BackupCounts (Ok Finished) copier later

@@ -1,26 +1,23 @@
 -- The turns of a copy of the frozen file.
-use Rattle.std.proofs.Common.{◌≡◌, ◌≢◌, inl, inr, ℕ, zero, suc, ◌+◌, ◌-◌, ◌<◌, ◌≤◌, List, [], ◌∷◌, ◌++◌, length, replicate, refl, sym, ap, subst, ◌∙◌, arith}
-use Rattle.std.specs.Prelude.{Result, Ok, Err, IfOk, Option, Some, None, Contains, true, false}
+use Rattle.std.proofs.Common.{◌≡◌, inr, ℕ, zero, suc, ◌-◌, ◌≤◌, List, [], ◌∷◌, ◌++◌, length, replicate, refl, sym, ap, subst, ◌∙◌, arith}
+use Rattle.std.specs.Prelude.{Result, Ok, Err, Option, Some, None, Contains, true, false}
 use Rattle.std.specs.List.{slice_index_or}
 use Rattle.std.proofs.lemmas.List.{append-nil}
-use Rattle.nb_host.specs.Files.{File, Files}
+use Rattle.nb_host.specs.Files.{Files}
 use Rattle.nb_host.specs.Names.{is_delta}
 use Rattle.nb_host.specs.World.{World}
 use Rattle.nb_host.specs.Crash.{Leaves}
 use Rattle.nb_host.specs.declared.faults.Fault.{Fault}
-use Rattle.nb_host.specs.declared.faults.Fault.TheVariants.{Refused, Device, Memory}
-use Rattle.nb_host.specs.declared.faults.HostFault.{HostFault}
+use Rattle.nb_host.specs.declared.faults.Fault.TheVariants.{Refused, Device}
 use Rattle.nb_host.specs.declared.refusals.Refusal.{Refusal}
-use Rattle.nb_page.specs.Quiet.{Quiet}
-use Rattle.nb_page.specs.Free.{is_free_name}
-use Rattle.nb_change.specs.Changes.{Changes, Only, Remade, Reached}
+use Rattle.nb_change.specs.Changes.{Changes, Only, Remade}
 use Rattle.nb_change.specs.Gave.{GaveNothing}
 use Rattle.nb_change.proofs.ChangesLaws.{weakened}
 use Rattle.nb_change.proofs.ReachedLaws.{reached_first}
 use Rattle.nb_model.specs.declared.reply.Reply.{Reply}
 use Rattle.nb_model.specs.declared.reply.Reply.TheVariants.{Refused as RefusedBy, Pages}
 use Rattle.nb_model.specs.declared.statement.Statement.TheVariants.{CopyTo}
-use Rattle.nb_model.specs.Account.{Base, IsBase}
+use Rattle.nb_model.specs.Account.{Base}
 use Rattle.nb_model.specs.Backups.{copy_turn, close_copy}
 use Rattle.nb_model.specs.Causes.{is_free_entry}
 use Rattle.nb_model.specs.Going.{Runs, IsAt, IsGoing}
@@ -33,22 +30,19 @@ use Rattle.nb_model.specs.Strokes.{Stroke, base_after}
 use Rattle.nb_model.specs.Steps.{steps_in, after_steps}
 use Rattle.nb_model.specs.Trail.{Trail, StandsIn, after_stroke}
 use Rattle.nb_model.specs.Turns.{first_turn, turn}
-use Rattle.nb_model.proofs.TurnCases.{refused, copied, MayCopy, copy_either}
-use Rattle.nb_base.specs.Open.{OfFiles}
+use Rattle.nb_model.proofs.TurnCases.{copy_either}
 use Rattle.nb_base.specs.Takes.{after_strokes}
 use Rattle.nb_state.specs.Open.{Held, IsOpen, name_of}
-use Rattle.nb_state.specs.Does.{WhereEnded}
 use Rattle.nb_state.specs.declared.turns.Progress.{Progress}
 use Rattle.nb_state.specs.declared.turns.Progress.TheVariants.{More, Finished}
 use Rattle.nb_state.proofs.MakesLaws.{where_ended, none_yet, gave_none, open_quiet}
 use Rattle.nb_copy.specs.Making.{IsKept, IsUnfinishedOr}
 use Rattle.nb_copy.specs.Copying.{Copying, IsCopying}
-use Rattle.nb_copy.specs.FileCopies.{StartsCopy, IsCopyStarted, CopiesFile, KnowsUnused}
-use Rattle.nb_copy.specs.Turns.{CopyTurn, CopyCounts}
+use Rattle.nb_copy.specs.FileCopies.{StartsCopy, IsCopyStarted, KnowsUnused}
 use Rattle.nb_copy.proofs.ClosingLaws.{stands}
 use Rattle.nb_session.specs.declared.task.Task.TheVariants.{Copy}
-use Rattle.nb_session.specs.Acts.{Says, Touched, TurnLeft, AreKept, Acts, MayAct}
-use Rattle.nb_session.specs.Askers.{copy_first, copy_rest, task_todo}
+use Rattle.nb_session.specs.Acts.{Says, Touched, TurnLeft, AreKept, MayAct}
+use Rattle.nb_session.specs.Askers.{copy_first, copy_rest}
 use Rattle.nb_session.specs.Ready.{IsReady, IsApart}
 use Rattle.nb_session.specs.Steps.{IsBehind}
 use Rattle.nb_session.proofs.ActLaws.{trail_plain, ended_map, strikes_left, kept_none, says_none}

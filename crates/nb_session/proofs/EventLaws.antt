@@ -1,16 +1,15 @@
 -- One turn and its line are one event.
-use Rattle.std.proofs.Common.{◌≡◌, ◌⊎◌, inl, inr, ℕ, zero, suc, ◌-◌, List, [], ◌∷◌, ◌++◌, length, take, Bool, false, refl, sym, ap, subst, ◌∙◌, arith}
+use Rattle.std.proofs.Common.{◌≡◌, ◌⊎◌, ℕ, zero, suc, ◌-◌, List, [], ◌∷◌, ◌++◌, length, take, Bool, false, refl, sym, ap, subst, ◌∙◌, arith}
 use Rattle.std.specs.Prelude.{Result, Ok, Err, IfOk, Option, Some, None, Contains, if◌then◌else◌}
 use Rattle.std.specs.List.{slice_index_or}
 use Rattle.std.proofs.lemmas.List.{append-nil, take_all}
 use Rattle.nb_host.specs.Files.{File, Files, with_file}
 use Rattle.nb_host.specs.World.{World}
-use Rattle.nb_host.specs.Crash.{Leaves, LeavesAll, Untouched}
+use Rattle.nb_host.specs.Crash.{Leaves, LeavesAll}
 use Rattle.nb_host.specs.Calls.{IsStill}
 use Rattle.nb_host.specs.Moments.{AtEachMoment}
 use Rattle.nb_host.specs.declared.faults.Fault.{Fault}
 use Rattle.nb_host.specs.declared.faults.Fault.TheVariants.{Refused, Device, Memory}
-use Rattle.nb_change.specs.Changes.{Other}
 use Rattle.nb_change.proofs.ChangesLaws.{left_with}
 use Rattle.nb_change.proofs.MomentLaws.{joined, weaker, left_before, untouched_joined, untouched_fewer}
 use Rattle.nb_change.proofs.NameLaws.{with_file-same}
@@ -34,11 +33,11 @@ use Rattle.nb_state.specs.Open.{Held, IsOpen, name_of}
 use Rattle.nb_state.specs.Does.{WhereEnded}
 use Rattle.nb_state.proofs.TurnLaws.{still_open}
 use Rattle.nb_session.specs.declared.stop.Stop.{Stop}
-use Rattle.nb_session.specs.Acts.{TurnLeft, Touched, AreKept, Acts}
+use Rattle.nb_session.specs.Acts.{AreKept, Acts}
 use Rattle.nb_session.specs.Ready.{IsReady, IsApart}
 use Rattle.nb_session.specs.Replies.{HasEnded}
 use Rattle.nb_session.specs.Says.{FrontSaid, SaysLine}
-use Rattle.nb_session.specs.Stops.{AreWhole, StopLeft, PlayedOut, Plays}
+use Rattle.nb_session.specs.Stops.{StopLeft, PlayedOut, Plays}
 use Rattle.nb_session.proofs.GiftLaws.{given_nothing, given_joined}
 use Rattle.nb_session.proofs.ReadyLaws.{apart_files, ready_then}
 

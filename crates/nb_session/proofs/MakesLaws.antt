@@ -1,12 +1,12 @@
 -- Which turns make a file of which name.
-use Rattle.std.proofs.Common.{◌≡◌, ◌≢◌, inl, inr, ℕ, zero, suc, ◌-◌, ◌<◌, ◌≤◌, List, [], ◌∷◌, ◌++◌, length, replicate, get_or, set, refl, sym, ap, subst, ◌∙◌, arith, get_or-set_same}
+use Rattle.std.proofs.Common.{◌≡◌, ◌≢◌, inl, inr, ℕ, zero, suc, ◌-◌, ◌<◌, ◌≤◌, List, [], ◌∷◌, ◌++◌, length, replicate, get_or, set, refl, sym, ap, subst, arith, get_or-set_same}
 use Rattle.std.specs.Prelude.{Contains}
 use Rattle.std.specs.List.{AllByRecursion, slice_index_or}
 use Rattle.std.proofs.lemmas.List.Elements.{Contains-append_left, Contains-append_right, Contains-append_cases}
 use Rattle.nb_model.specs.declared.reply.Reply.{Reply}
 use Rattle.nb_model.specs.declared.statement.Statement.{Statement}
 use Rattle.nb_model.specs.Backups.{close_backup, close_copy}
-use Rattle.nb_model.specs.Going.{AreBeginnings, AreMerging, Runs, IsAt, waits, backs_up, copies, ends, merges, IsGoing}
+use Rattle.nb_model.specs.Going.{AreBeginnings, Runs, IsAt, waits, backs_up, copies, ends, merges, IsGoing}
 use Rattle.nb_model.specs.Image.{Image}
 use Rattle.nb_model.specs.Levels.{file_of, joined}
 use Rattle.nb_model.specs.Making.{MadeFile, kept_of, making, making_all, under_way, IsNoneOf}

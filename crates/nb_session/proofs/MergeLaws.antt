@@ -33,7 +33,6 @@ use Rattle.nb_state.proofs.MakesLaws.{after_base, where_ended}
 use Rattle.nb_engine.specs.Turns.{DoesEnd}
 use Rattle.nb_session.specs.Acts.{Says, Acts, MayAct}
 use Rattle.nb_session.specs.Askers.{IsMerging, merge_first, merge_rest, task_todo}
-use Rattle.nb_session.specs.declared.task.Merging.{Merging}
 use Rattle.nb_session.specs.declared.task.Task.TheVariants.{Merge}
 use Rattle.nb_session.specs.Ready.{IsReady}
 use Rattle.nb_session.specs.Steps.{IsBehind}

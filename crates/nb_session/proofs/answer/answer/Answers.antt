@@ -1,9 +1,8 @@
 use Rattle.std.proofs.Common.{◌≡◌, [], sym, subst}
 use Rattle.std.specs.Prelude.{if◌then◌else◌, Bool, None}
 use Rattle.nb_model.specs.Account.{Base}
-use Rattle.nb_model.specs.Outcomes.{Begins}
 use Rattle.nb_model.specs.Output.{status_after}
-use Rattle.nb_model.specs.Run.{Now, base_now}
+use Rattle.nb_model.specs.Run.{base_now}
 use Rattle.nb_model.specs.Sound.{IsSoundImage}
 use Rattle.nb_session.specs.Replies.{some_said}
 use Rattle.nb_session.proofs.EventLaws.{marks_none}

@@ -51,8 +51,8 @@ returns-in-Err-Refused-clause-turn g c now t more tells ready makes here =
     let sound = subst (λ (x : Base). IsSoundImage x.image) (sym ready.base) makes.going.sound in
     let asked = c.in-Err-Refused.ensures.asks t tells ready.opened in
     let starts = λ (given : Given) (most : GaveAtMost old mid (next_guid given)).
-        subst (λ (f : Fault). StartsBackup (Err f) old mid a b t (next_guid given) (backup_turn (seen_with now given) session level name)) c.in-Err-Refused.field-0-is
-        (c.in-Err-Refused.ensures.turn (seen_with now given) t tells ready.base ready.running ready.opened sound (knows_free old a t now name ready makes.going c.requires.plain) most) in
+    subst (λ (f : Fault). StartsBackup (Err f) old mid a b t (next_guid given) (backup_turn (seen_with now given) session level name)) c.in-Err-Refused.field-0-is
+    (c.in-Err-Refused.ensures.turn (seen_with now given) t tells ready.base ready.running ready.opened sound (knows_free old a t now name ready makes.going c.requires.plain) most) in
     turns_refused (λ copier. None) refusal old mid new a b t now session (Begins (BackupTo level name)) [] more [] (begins_make (base_now now).frozen (BackupTo level name)) makes here
     (start_acts old mid a b t now session level name ready (Err (Refused refusal)) starts asked.0 asked.2 asked.1) (λ acts. marks_none old mid a) ready c.say_refused.result (c.say_refused.ensures.line tells) c.say_refused.ensures.taken
     (λ is. status_told session (BackupTo level name) now (RefusedBy refusal) refl is)
@@ -70,8 +70,8 @@ returns-in-Err-Device-clause-turn g c now t more tells ready makes here =
     let sound = subst (λ (x : Base). IsSoundImage x.image) (sym ready.base) makes.going.sound in
     let asked = c.in-Err-Device.ensures.asks t tells ready.opened in
     let starts = λ (given : Given) (most : GaveAtMost old mid (next_guid given)).
-        subst (λ (f : Fault). StartsBackup (Err f) old mid a b t (next_guid given) (backup_turn (seen_with now given) session level name)) c.in-Err-Device.field-0-is
-        (c.in-Err-Device.ensures.turn (seen_with now given) t tells ready.base ready.running ready.opened sound (knows_free old a t now name ready makes.going c.requires.plain) most) in
+    subst (λ (f : Fault). StartsBackup (Err f) old mid a b t (next_guid given) (backup_turn (seen_with now given) session level name)) c.in-Err-Device.field-0-is
+    (c.in-Err-Device.ensures.turn (seen_with now given) t tells ready.base ready.running ready.opened sound (knows_free old a t now name ready makes.going c.requires.plain) most) in
     turns_failed (λ copier. None) (Err Device) (λ (taken : Taken). taken.refused) (λ (taken : Taken). taken.task) old mid mid a b t now session (Begins (BackupTo level name)) [] more [] (begins_make (base_now now).frozen (BackupTo level name)) makes here
     (start_acts old mid a b t now session level name ready (Err Device) starts asked.0 asked.2 asked.1) (λ acts. marks_none old mid a) (Err Device) refl
 
@@ -87,7 +87,7 @@ returns-in-Err-Memory-clause-turn g c now t more tells ready makes here =
     let sound = subst (λ (x : Base). IsSoundImage x.image) (sym ready.base) makes.going.sound in
     let asked = c.in-Err-Memory.ensures.asks t tells ready.opened in
     let starts = λ (given : Given) (most : GaveAtMost old mid (next_guid given)).
-        subst (λ (f : Fault). StartsBackup (Err f) old mid a b t (next_guid given) (backup_turn (seen_with now given) session level name)) c.in-Err-Memory.field-0-is
-        (c.in-Err-Memory.ensures.turn (seen_with now given) t tells ready.base ready.running ready.opened sound (knows_free old a t now name ready makes.going c.requires.plain) most) in
+    subst (λ (f : Fault). StartsBackup (Err f) old mid a b t (next_guid given) (backup_turn (seen_with now given) session level name)) c.in-Err-Memory.field-0-is
+    (c.in-Err-Memory.ensures.turn (seen_with now given) t tells ready.base ready.running ready.opened sound (knows_free old a t now name ready makes.going c.requires.plain) most) in
     turns_failed (λ copier. None) (Err Memory) (λ (taken : Taken). taken.refused) (λ (taken : Taken). taken.task) old mid mid a b t now session (Begins (BackupTo level name)) [] more [] (begins_make (base_now now).frozen (BackupTo level name)) makes here
     (start_acts old mid a b t now session level name ready (Err Memory) starts asked.0 asked.2 asked.1) (λ acts. marks_none old mid a) (Err Memory) refl

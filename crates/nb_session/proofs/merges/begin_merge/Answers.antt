@@ -1,4 +1,4 @@
-use Rattle.std.proofs.Common.{[], length, refl, sym, ap, subst, ◌∙◌}
+use Rattle.std.proofs.Common.{[], length, refl, sym, ap, subst}
 use Rattle.std.specs.Prelude.{Ok, Err, None}
 use Rattle.nb_host.specs.declared.faults.Fault.{Fault}
 use Rattle.nb_host.specs.declared.faults.Fault.TheVariants.{Refused, Device, Memory}
@@ -7,7 +7,6 @@ use Rattle.nb_model.specs.declared.statement.Statement.TheVariants.{EndBackup}
 use Rattle.nb_model.specs.Outcomes.{Begins}
 use Rattle.nb_model.specs.Pages.{end_turn, end_scn}
 use Rattle.nb_model.specs.Run.{base_now}
-use Rattle.nb_state.specs.Open.{Held}
 use Rattle.nb_engine.specs.Turns.{DoesEnd}
 use Rattle.nb_session.specs.declared.task.Taken.{Taken}
 use Rattle.nb_session.specs.Steps.{IsBehind}

@@ -1,8 +1,7 @@
-use Rattle.std.proofs.Common.{[], length, refl, sym, ap, subst, ◌∙◌}
+use Rattle.std.proofs.Common.{[], length, refl, sym, ap, subst}
 use Rattle.std.specs.Prelude.{Ok, Err, None}
 use Rattle.nb_host.specs.declared.faults.Fault.{Fault}
-use Rattle.nb_host.specs.declared.faults.Fault.TheVariants.{Refused, Device, Memory}
-use Rattle.nb_model.specs.declared.reply.Reply.TheVariants.{Refused as RefusedBy}
+use Rattle.nb_host.specs.declared.faults.Fault.TheVariants.{Device, Memory}
 use Rattle.nb_model.specs.Outcomes.{Ends}
 use Rattle.nb_model.specs.Pages.{end_turn, end_scn}
 use Rattle.nb_model.specs.Run.{base_now}

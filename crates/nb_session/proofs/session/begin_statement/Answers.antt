@@ -1,5 +1,5 @@
 use Rattle.std.proofs.Common.{◌≡◌, ℕ, ◌-◌, List, [], ◌∷◌, sym, subst}
-use Rattle.std.specs.Prelude.{Result, Bool, None, Option}
+use Rattle.std.specs.Prelude.{Result, Bool, None}
 use Rattle.std.specs.List.{slice_index_or}
 use Rattle.nb_host.specs.World.{World}
 use Rattle.nb_host.specs.declared.faults.Fault.{Fault}
@@ -9,7 +9,6 @@ use Rattle.nb_model.specs.Run.{Now}
 use Rattle.nb_model.specs.Trail.{Trail}
 use Rattle.nb_state.specs.Open.{Held}
 use Rattle.nb_session.specs.declared.task.Taken.{Taken}
-use Rattle.nb_session.specs.declared.task.Task.{Task}
 use Rattle.nb_session.specs.Askers.{TaskFits}
 use Rattle.nb_session.specs.Steps.{Turns}
 use Rattle.nb_session.proofs.TurnLaws.{handed_turns, handed_none, handed_counts, handed_failure}

@@ -2,7 +2,6 @@ use Rattle.std.proofs.Common.{[], refl, ap, sym, subst, ◌∙◌}
 use Rattle.std.specs.Prelude.{Ok, Some}
 use Rattle.nb_host.specs.declared.faults.Fault.TheVariants.{Device}
 use Rattle.nb_model.specs.declared.reply.Reply.TheVariants.{Done, PageMade, Value, Scn}
-use Rattle.nb_model.specs.declared.statement.Statement.TheVariants.{Write, Read, PageNew, Free, BeginBackup, Forced, Access, ShowHeader}
 use Rattle.nb_model.specs.Account.{Base}
 use Rattle.nb_model.specs.Pages.{write_turn, header_turn}
 use Rattle.nb_model.specs.Sound.{IsSoundImage}
