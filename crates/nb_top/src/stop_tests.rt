@@ -8,12 +8,13 @@ use std::alloc::Global;
 use std::test::Fail;
 
 /// A script, a second one that opens the database and reads it, and what that may say: each row has a number of replies of the first and
-/// the lines of the second, ended by a `|` each.
+/// the lines of the second, ended by a `|` each. So many picks are tried of what each stop leaves.
 #[derive(Clone, Copy)]
 struct Case {
     script: &'static str,
     look: &'static str,
     rows: &'static str,
+    picks: u64,
 }
 
 /// The row of these lines.
@@ -73,9 +74,9 @@ fn is_left_right(alloc: Global, host: &MemHost, case: Case, pick: u64) -> Result
     is_right(alloc, &mut left, case, replies_of(host))
 }
 
-/// The first of the picks 0 to 7 by which a stop now leaves something wrong.
+/// The first of the picks by which a stop now leaves something wrong.
 fn wrong_pick(alloc: Global, host: &MemHost, case: Case) -> Result<Option<u64>, Fail> {
-    for pick in 0..8 {
+    for pick in 0..case.picks {
         if !is_left_right(alloc, host, case, pick)? {
             return Ok(Some(pick));
         }
@@ -158,6 +159,7 @@ const BACKUP: Case = Case {
 6|1: ok pages 14 state 0|1: ok 'b'|1: ok ''|1: refused 10 NotAllocated 7|
 7|1: ok pages 14 state 0|1: ok 'b'|1: ok ''|1: refused 10 NotAllocated 7|
 ",
+    picks: 8,
 };
 
 #[test]
@@ -203,6 +205,7 @@ schedule 1 1 1 1 1 1 1 1 1 2
 7|1: ok pages 13 state 0|1: ok 'x'|1: ok 'y'|1: ok 'x'|1: ok 'x'|
 8|1: ok pages 13 state 0|1: ok 'x'|1: ok 'y'|1: ok 'x'|1: ok 'x'|
 ",
+    picks: 3,
 };
 
 const MERGE_LINES: &str = "1: ok pages 13
@@ -324,6 +327,7 @@ seed 8
 15|1: ok pages 15 state 0|1: ok 'x'|1: ok 'b'|1: refused 10 NotAllocated 9|1: ok 'e'|1: refused 10 NotAllocated 12|1: ok 'c'|
 16|1: ok pages 15 state 0|1: ok 'x'|1: ok 'b'|1: refused 10 NotAllocated 9|1: ok 'e'|1: refused 10 NotAllocated 12|1: ok 'c'|
 ",
+    picks: 2,
 };
 
 const SEEDED_LINES: &str = "1: ok pages 13
