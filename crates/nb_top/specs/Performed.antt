@@ -1,11 +1,12 @@
 -- What a run promises, from the words of the command line to its last reply.
 --
--- The words ask for the run of a script, for a restore, for a fixup, or for a refusal. Each tells the events of the run one by one: whose turn, which
--- strokes, which reply.
+-- The words ask for the run of a script, for a restore, for a fixup, or for a refusal. Each tells the events of the run one by one: whose
+-- turn, which strokes, which reply.
 -- Whatever stops the run, at each moment a front of its lines was said, and both files of its database can be opened and hold what may be
 -- left behind a front of its steps, with each acknowledged one among them. A file that a backup or a copy makes is as it was, unfinished or
--- whole, and whole once that is acknowledged. No other file changes. At its end all lines were said, all steps stand, and all files are whole. Where the files stood for an account with the records of its backups, and the GUIDs that the outside gives are new, they
--- stand for one at each moment, with the records of the backups that have begun by then.
+-- whole, and whole once that is acknowledged. No other file changes. At its end all lines were said, all steps stand, and all files are
+-- whole. Where the files stood for an account with the records of its backups, and the GUIDs that the outside gives are new, they stand for
+-- one at each moment, with the records of the backups that have begun by then.
 use Rattle.std.specs.Prelude.{◌≡◌, ◌≢◌, ◌⊎◌, ℕ, ◌<◌, List, [], ◌∷◌, ◌++◌, length, take, Bool, true, false, Option, None, Some, Result, Ok, Err, IfOk, if◌then◌else◌}
 use Rattle.std.specs.Global.{Vec}
 use Rattle.std.specs.List.{AllByRecursion}
@@ -78,7 +79,8 @@ pub record IsScriptRun (plan : Plan) (is_quiet : Bool) (before : Account) (given
 abbrev pub told_first : (is_quiet : Bool) → Event → Event
 told_first is_quiet e = if is_quiet then record e { reply = refusal_in e.reply } else e
 
--- What is asked for is done: the run of a script, the one turn of a restore or of a fixup, or one refusal. `left` is what it leaves of what may be given.
+-- What is asked for is done: the run of a script, the one turn of a restore or of a fixup, or one refusal. `left` is what it leaves of
+-- what may be given.
 abbrev pub IsPerformed : Files → Result Request Refusal → (before : Account) → Given → List Event → (last : Account) → (left : Given) → Type 0
 IsPerformed files (Err refusal) before given events last left = (events ≡ refused_job refusal) × (last ≡ before) × (left ≡ given)
 IsPerformed files (Ok (ToRun plan is_quiet)) before given events last left = IsScriptRun plan is_quiet before given events last left
@@ -198,8 +200,8 @@ HasKeptChain files kept (Ok (ToRestore db names)) = (links : List Link) → verd
 HasKeptChain files kept (Ok (ToFix db)) = (bytes : List ℕ) → IsFixable files db bytes → (r : Kept) × IsKeptAs kept (guid_of bytes) r
 
 -- The premise of what follows: the files stand for the account as the run begins, the GUIDs that its backups take are new, and the files
--- that it restores from, or the copy that it fixes, are those of backups whose records are kept. The GUIDs are those that were given in the call, and where it ended
--- early also those that may still come.
+-- that it restores from, or the copy that it fixes, are those of backups whose records are kept. The GUIDs are those that were given in the
+-- call, and where it ended early also those that may still come.
 pub record IsSure (old : World) (account : Account) (asked : Result Request Refusal) (events : List Event) : Type 0 where
   pub stands : StandsFor old account
   pub new : AreNew old account.kept (guids_in (strokes_of events))
