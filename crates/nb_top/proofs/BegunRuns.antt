@@ -28,8 +28,8 @@ use Rattle.nb_session.specs.Stops.{StopLeft}
 use Rattle.nb_top.specs.declared.status.Status.{Status}
 use Rattle.nb_top.specs.Performed.{RunLeft, RunsTo, Finished, HasSmallScn, IsEnded, IsPerformed, PlaysOpened, Target, begins_refused, first_event, seen_after, target_named, target_of, told_first, number_of}
 use Rattle.nb_top.specs.Requests.{ToRun}
-use Rattle.nb_session.proofs.EndLaws.{HasEnd, turns_end}
 use Rattle.nb_session.proofs.StopLaws.{AreApart}
+use Rattle.nb_top.proofs.FirstEnds.{first_ends}
 use Rattle.nb_top.proofs.FirstLaws.{First, turns}
 use Rattle.nb_top.proofs.MadeRuns.{made_behind}
 use Rattle.nb_top.proofs.QuietRuns.{given_from}
@@ -73,14 +73,14 @@ module _ (old : World) (account : Account) (given : Given) (plan : Plan) (is_qui
   -- it ended early, in the first statement
   pub first_fails : (new : World) (e : Stop) → HasSmallScn account (Some first.target) ⊎ Quiet old new → ((n : ℕ) → AtEachMoment old new (Left n)) → RunsTo (Err e) old new (Ok (ToRun plan is_quiet)) account given
   first_fails new e opened stops =
-      let end : HasEnd plan.schedule first.now 0 = turns_end plan askable first.now first.todo 0 in
+      let end = first_ends plan askable first.now first.todo in
       record {
-        events = events end.how_often;
-        last = (turns plan first.now end.how_often).1.account;
-        left = (turns plan first.now end.how_often).1.given;
-        performed = performed end.how_often end.finished;
-        opened = ⊎_elim (λ small. inl (opened_with end.how_often small)) inr opened;
-        stops = with_target end.how_often old new (stops end.how_often);
+        events = events end.0;
+        last = (turns plan first.now end.0).1.account;
+        left = (turns plan first.now end.0).1.given;
+        performed = performed end.0 end.1;
+        opened = ⊎_elim (λ small. inl (opened_with end.0 small)) inr opened;
+        stops = with_target end.0 old new (stops end.0);
         finished = tt;
       }
 

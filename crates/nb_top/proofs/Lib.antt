@@ -4,6 +4,7 @@ pub mod QuietRuns
 pub mod RefusedRuns
 pub mod LeftLaws
 pub mod FirstLaws
+pub mod FirstEnds
 pub mod OpenedSaid
 pub mod OpenLaws
 pub mod BegunRuns

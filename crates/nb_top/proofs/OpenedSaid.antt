@@ -102,7 +102,7 @@ module _ (old mid new : World) (held after : Held) (start : Base) (now : Now) (p
   -- the line wasn't said whole
   pub reply_unsaid : (e : Stop) → PlaysOpened (Err e) old mid held held start event now plan
   reply_unsaid e =
-      let end : HasEnd plan.schedule now 0 = turns_end plan askable now todo 0 in
+      let end : HasEnd plan.schedule now 0 = turns_end plan askable now making.going todo 0 in
       let more : Played = behind_it end.how_often in
       record {
         how_often = end.how_often;
