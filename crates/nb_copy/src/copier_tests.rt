@@ -201,15 +201,20 @@ fn stopped_at(alloc: Global, call: u64, whole: &[u8]) -> Result<bool, Fail> {
     Ok(answer.is_ok())
 }
 
-/// Stops a level 0 at each of its calls, and behind the last. It answers whether only the last was taken.
-fn stops_at_each_call(alloc: Global) -> Result<bool, Fail> {
+/// How many calls the host had before a level 0 and behind it, and its file.
+fn calls_of(alloc: Global) -> Result<(u64, u64, Vec<u8>), Fail> {
     let mut host = MemHost::new(alloc)?;
     let mut engine = new_base(alloc, &mut host)?;
     let before = host.calls();
     back_up(alloc, &mut host, &mut engine, 0, &backup()?)?;
-    let last = host.calls();
     let whole = Vec::from_slice(alloc, host.file(&backup()?).unwrap_or(b""))?;
-    for call in before + 1..last + 2 {
+    Ok((before, host.calls(), whole))
+}
+
+/// Stops a level 0 at each of its calls, and behind the last. It answers whether only the last was taken.
+fn stops_at_each_call(alloc: Global) -> Result<bool, Fail> {
+    let (before, last, whole) = calls_of(alloc)?;
+    for call in before.saturating_add(1)..last.saturating_add(2) {
         if stopped_at(alloc, call, &whole)? != (call > last) {
             return Ok(false);
         }

@@ -293,15 +293,20 @@ fn stopped_at(alloc: Global, call: u64, is_level: bool, whole: &[u8]) -> Result<
     Ok(answer.is_ok())
 }
 
-/// Stops the copy at each of its calls, and behind the last. It answers whether only the last copy was finished.
-fn stops_at_each_call(alloc: Global, is_level: bool) -> Result<bool, Fail> {
+/// How many calls the host had before a copy and behind it, and its file.
+fn calls_of(alloc: Global, is_level: bool) -> Result<(u64, u64, Vec<u8>), Fail> {
     let mut host = MemHost::new(alloc)?;
     let mut engine = stalled(alloc, &mut host, 4, 3)?;
     let before = host.calls();
     copy(alloc, &mut host, &mut engine, &backup()?, is_level)?;
-    let last = host.calls();
     let whole = Vec::from_slice(alloc, host.file(&backup()?).unwrap_or(b""))?;
-    for call in before + 1..last + 2 {
+    Ok((before, host.calls(), whole))
+}
+
+/// Stops the copy at each of its calls, and behind the last. It answers whether only the last copy was finished.
+fn stops_at_each_call(alloc: Global, is_level: bool) -> Result<bool, Fail> {
+    let (before, last, whole) = calls_of(alloc, is_level)?;
+    for call in before.saturating_add(1)..last.saturating_add(2) {
         if stopped_at(alloc, call, is_level, &whole)? != (call > last) {
             return Ok(false);
         }
