@@ -1,100 +1,122 @@
--- The turns of a backup, up to the end of the stalled state.
-use Rattle.std.proofs.Common.{◌≡◌, inl, inr, ⊎_elim, ℕ, zero, suc, ◌+◌, ◌-◌, ◌<◌, ◌≤◌, List, [], ◌∷◌, ◌++◌, length, drop, replicate, refl, sym, ap, subst, ◌∙◌, arith}
-use Rattle.std.specs.Prelude.{Result, Ok, Err, IfErr, Option, Some, None, Contains, true, false}
+-- The turns of a backup.
+use Rattle.std.proofs.Common.{◌≡◌, ◌⊎◌, inl, inr, ℕ, zero, suc, ◌-◌, List, [], ◌∷◌, ◌++◌, length, drop, replicate, refl, sym, ap, subst, ◌∙◌, arith}
+use Rattle.std.specs.Prelude.{Result, Ok, Err, IfErr, Some, None, true, false}
 use Rattle.std.specs.List.{slice_index_or}
 use Rattle.std.proofs.lemmas.List.{append-nil, append_cancel_left}
-use Rattle.nb_host.specs.Files.{File, Files}
 use Rattle.nb_host.specs.Names.{is_delta}
 use Rattle.nb_host.specs.World.{World}
 use Rattle.nb_host.specs.Crash.{Leaves}
 use Rattle.nb_host.specs.declared.faults.Fault.{Fault}
 use Rattle.nb_host.specs.declared.faults.Fault.TheVariants.{Refused, Device, Memory}
 use Rattle.nb_host.specs.declared.refusals.Refusal.{Refusal}
-use Rattle.nb_change.specs.Changes.{Changes, Only, Remade, Reached}
+use Rattle.nb_change.specs.Changes.{Changes}
 use Rattle.nb_change.proofs.ChangesLaws.{weakened}
 use Rattle.nb_change.proofs.ReachedLaws.{reached_first}
 use Rattle.nb_model.specs.declared.reply.Reply.{Reply}
 use Rattle.nb_model.specs.declared.reply.Reply.TheVariants.{Refused as RefusedBy, Level}
 use Rattle.nb_model.specs.declared.statement.Statement.TheVariants.{Backup as BackupTo}
 use Rattle.nb_model.specs.Account.{Base}
-use Rattle.nb_model.specs.Backups.{backup_turn, close_backup, kept_by}
+use Rattle.nb_model.specs.Backups.{backup_turn, close_backup}
 use Rattle.nb_model.specs.Causes.{is_free_entry}
 use Rattle.nb_model.specs.Gifts.{Foretells, WasGiven}
-use Rattle.nb_model.specs.Going.{Runs, IsAt, IsGoing}
-use Rattle.nb_model.specs.Image.{Image, image_state}
+use Rattle.nb_model.specs.Going.{IsGoing}
+use Rattle.nb_model.specs.Image.{Image}
 use Rattle.nb_model.specs.Levels.{file_of, count_in}
 use Rattle.nb_model.specs.Making.{MadeFile, kept_of, making}
-use Rattle.nb_model.specs.Outcomes.{Turn, Begins, Copies, ClosesBackup, Ends, Backing, Seen, Given, Outcome, next_guid, next_time, without_guid, without_time, passes}
-use Rattle.nb_model.specs.Run.{Now, base_now, outcome, event_of}
-use Rattle.nb_model.specs.Sound.{IsSoundImage}
-use Rattle.nb_model.specs.Steps.{steps_in, after_steps}
+use Rattle.nb_model.specs.Outcomes.{Turn, Begins, Copies, ClosesBackup, Ends, Backing, Given, Seen, Outcome, DoesNothing, next_guid, next_time, without_guid, without_time, passes}
+use Rattle.nb_model.specs.Run.{Now, Event, base_now, outcome, event_of}
 use Rattle.nb_model.specs.Strokes.{Stroke, base_after}
 use Rattle.nb_model.specs.Trail.{Trail, StandsIn, after_stroke}
 use Rattle.nb_model.specs.Turns.{first_turn, turn}
 use Rattle.nb_model.proofs.TurnCases.{backup_either}
-use Rattle.nb_base.specs.Open.{OfFiles}
 use Rattle.nb_base.specs.Takes.{Strikes, after_strokes, IsNoRefusal}
 use Rattle.nb_state.specs.Open.{Held, IsOpen, name_of}
-use Rattle.nb_state.specs.Does.{WhereEnded, Goes}
+use Rattle.nb_state.specs.Does.{Goes, WhereEnded}
 use Rattle.nb_state.specs.Turns.{GaveAtMost}
 use Rattle.nb_state.specs.declared.turns.Progress.{Progress}
 use Rattle.nb_state.specs.declared.turns.Progress.TheVariants.{More, Finished}
-use Rattle.nb_state.proofs.MakesLaws.{after_base, where_ended}
-use Rattle.nb_copy.specs.Making.{IsKept, IsUnfinishedOr}
+use Rattle.nb_state.proofs.MakesLaws.{after_base, where_ended, gave_none}
 use Rattle.nb_copy.specs.FileCopying.{file_count, file_next, file_written, whole_file}
 use Rattle.nb_copy.specs.Starting.{Backed, IsBackingUp, IsStarted, StartsBackup, KnowsFree}
 use Rattle.nb_copy.specs.Closing.{OfBackup, GaveTimeAtMost, CloseLeft, CopiesOn, CloseDone, BackupTurn, BackupCounts}
 use Rattle.nb_session.specs.declared.task.Task.TheVariants.{Backup, End}
 use Rattle.nb_session.specs.Acts.{Says, Grows, Touched, TurnLeft, Acts, MayAct}
-use Rattle.nb_session.specs.Askers.{copy_first, copy_rest, task_todo}
+use Rattle.nb_session.specs.Askers.{copy_first, copy_rest}
 use Rattle.nb_session.specs.Ready.{IsReady, IsApart}
 use Rattle.nb_session.specs.Steps.{IsBehind}
-use Rattle.nb_session.proofs.ActLaws.{trail_plain, ended_map, strikes_left, kept_none, says_none, next_is, at_most, grows_at_most}
-use Rattle.nb_session.proofs.CopyLaws.{kept_one, made_by, each_one, file_left, stalled_now}
+use Rattle.nb_session.proofs.ActLaws.{trail_plain, ended_map, strikes_left, kept_none, says_none}
+use Rattle.nb_session.proofs.CopyLaws.{file_left, each_one, kept_one, made_by, no_stroke}
 use Rattle.nb_session.proofs.GiftLaws.{given_nothing, grows_none}
 use Rattle.nb_session.proofs.MakesLaws.{none_runs}
 use Rattle.nb_session.proofs.ReadyLaws.{not_own}
 use Rattle.nb_session.proofs.TurnLaws.{seen_now, outcome_is}
-use Rattle.nb_session.proofs.WayLaws.{copy_turns, last_backup, BacksUp, backing_at}
+use Rattle.nb_session.proofs.WayLaws.{copy_turns}
+
+-- A value that was given, where the first of these were, is the next one of them.
+module _ {A : Type 0} (none : A) (old new given first later : List A) (is : new ≡ old ++ first) (all : given ≡ first ++ later) (x : A) where
+  first_given : new ≡ old ++ x ∷ [] → given ≡ x ∷ drop 1 given
+  first_given gave =
+      let whole : given ≡ x ∷ later = all ∙ ap (λ (l : List A). l ++ later) (append_cancel_left old first (x ∷ []) (sym is ∙ gave)) in
+      whole ∙ ap (λ (l : List A). x ∷ l) (sym (ap (drop 1) whole))
+
+  most_given : (new ≡ old) ⊎ (new ≡ old ++ x ∷ []) → (new ≡ old) ⊎ (new ≡ old ++ slice_index_or given 0 none ∷ [])
+  most_given (inl nothing) = inl nothing
+  most_given (inr gave) = inr (gave ∙ ap (λ (y : A). old ++ y ∷ []) (sym (ap (λ (l : List A). slice_index_or l 0 none) (first_given gave))))
+
+-- what a turn sees where this is given
+abbrev pub seen_with : Now → Given → Seen
+seen_with now given = record (seen_now now) { given = given }
+
+-- the file that these turns make
+pub backups_make : (frozen : Image) (left : ℕ) (b : Backing) → (b.name, file_of 102 (kept_of b frozen)) ∷ [] ≡ making frozen (copy_first left (ClosesBackup b) ∷ copy_rest left (ClosesBackup b))
+unfolding making
+backups_make frozen zero b = refl
+backups_make frozen (suc left) b = by left
+  where
+    by : (n : ℕ) → (b.name, file_of 102 (kept_of b frozen)) ∷ [] ≡ making frozen (replicate n Copies ++ ClosesBackup b ∷ [])
+    by zero = refl
+    by (suc n) = by n
+
+-- so the same turns make a file of the same name
+same_name : (m n : ℕ) (b c : Backing) → replicate m Copies ++ ClosesBackup b ∷ [] ≡ replicate n Copies ++ ClosesBackup c ∷ [] → b.name ≡ c.name
+same_name m n b c same =
+    ap (λ (fs : List MadeFile). (slice_index_or fs 0 ([], [])).0)
+    (backups_make [] m b ∙ ap (making []) (sym (copy_turns m (ClosesBackup b)) ∙ same ∙ copy_turns n (ClosesBackup c)) ∙ sym (backups_make [] n c))
 
 some_none : (r : Refusal) → Some (RefusedBy r) ≡ None → ⊥
 some_none r e = cc
 
--- The start of a backup, by its turn.
+-- A backup that begins: its name was free, its session runs, and a GUID is given.
+record HasBegun (s : Seen) (session : ℕ) (name : List ℕ) (o : Outcome) : Type 0 where
+  free : is_free_entry (s.entry name) ≡ true
+  running : o.running ≡ Some session
+  given : o.given ≡ without_guid s.given
+  named : (n : ℕ) (b : Backing) → o.next ≡ replicate n Copies ++ ClosesBackup b ∷ [] → b.name ≡ name
+
 module _ (s : Seen) (session level : ℕ) (name : List ℕ) where
-  begin_made : (backup_turn s session level name).made ≡ None
-  begin_made = backup_either (λ o. o.made ≡ None) s session level name (λ r. refl) (λ from is may. refl)
+  abbrev start : Outcome
+  start = backup_turn s session level name
 
-  begin_gives : (backup_turn s session level name).reply ≡ None → (backup_turn s session level name).given ≡ without_guid s.given
-  begin_gives = backup_either (λ o. o.reply ≡ None → o.given ≡ without_guid s.given) s session level name (λ r is. absurd (some_none r is)) (λ from is may none. refl)
+  start_made : start.made ≡ None
+  start_made = backup_either (λ o. o.made ≡ None) s session level name (λ r. refl) (λ from is may. refl)
 
-  begin_free : (backup_turn s session level name).reply ≡ None → is_free_entry (s.entry name) ≡ true
-  begin_free = backup_either (λ o. o.reply ≡ None → is_free_entry (s.entry name) ≡ true) s session level name (λ r is. absurd (some_none r is)) (λ from is may none. may.free)
+  has_begun : start.reply ≡ None → HasBegun s session name start
+  has_begun = backup_either (λ o. o.reply ≡ None → HasBegun s session name o) s session level name (λ r is. absurd (some_none r is))
+      (λ from is may quiet. record { free = may.free; running = refl; given = refl; named = λ n b same. sym (same_name _ n _ b same) })
 
-  begin_runs : (backup_turn s session level name).reply ≡ None → (backup_turn s session level name).running ≡ Some session
-  begin_runs = backup_either (λ o. o.reply ≡ None → o.running ≡ Some session) s session level name (λ r is. absurd (some_none r is)) (λ from is may none. refl)
+  has_not : (refusal : Refusal) → start.reply ≡ Some (RefusedBy refusal) → DoesNothing s start
+  has_not refusal = backup_either (λ o. o.reply ≡ Some (RefusedBy refusal) → DoesNothing s o) s session level name (λ r is. record { strokes = refl; next = refl; made = refl; running = refl; given = refl })
+      (λ from is may quiet. absurd (some_none refusal (sym quiet)))
 
-  begin_names : (backup_turn s session level name).reply ≡ None → (n : ℕ) (b : Backing) → (backup_turn s session level name).next ≡ replicate n Copies ++ ClosesBackup b ∷ [] → b.name ≡ name
-  begin_names = backup_either (λ o. o.reply ≡ None → (n : ℕ) (b : Backing) → o.next ≡ replicate n Copies ++ ClosesBackup b ∷ [] → b.name ≡ name) s session level name
-      (λ r is. absurd (some_none r is)) (λ from is may none n b todo. ap (λ (x : Backing). x.name) (sym (last_backup _ n _ b todo)))
-
-  begin_refuses : (refusal : Refusal) → (backup_turn s session level name).reply ≡ Some (RefusedBy refusal) → ((backup_turn s session level name).next ≡ []) × ((backup_turn s session level name).given ≡ s.given)
-  begin_refuses refusal = backup_either (λ o. o.reply ≡ Some (RefusedBy refusal) → (o.next ≡ []) × (o.given ≡ s.given)) s session level name
-      (λ r is. (refl, refl)) (λ from is may none. absurd (some_none refusal (sym none)))
-
-begin_is : (session level : ℕ) (name : List ℕ) (now : Now) → backup_turn (seen_now now) session level name ≡ outcome session (Begins (BackupTo level name)) now
+start_is : (session level : ℕ) (name : List ℕ) (now : Now) → backup_turn (seen_now now) session level name ≡ outcome session (Begins (BackupTo level name)) now
 unfolding first_turn
-begin_is session level name now = sym (outcome_is session (BackupTo level name) now)
+start_is session level name now = sym (outcome_is session (BackupTo level name) now)
 
 -- in the normal state the account knows of each name whether it is free
 pub knows_free : (w : World) (held : Held) (t : Trail) (now : Now) (name : List ℕ) → IsReady w held t now → IsGoing now → is_delta name ≡ false → KnowsFree 0 w.files (seen_now now) name
-knows_free w held t now name ready going plain normal = ready.known name plain (none_runs now going (λ place number some runs. omega (arith, normal, runs.state, some)) name)
+knows_free w held t now name ready going plain normal = ready.known name plain (none_runs now going (λ place number some runs. omega (arith, some, sym normal ∙ runs.state)) name)
 
--- it starts, whatever is seen and given
-abbrev pub Starts : (result : Result Backed Fault) (old new : World) (a b : Held) (t : Trail) (session level : ℕ) (name : List ℕ) → Type 0
-Starts result old new a b t session level name =
-    (s : Seen) → t.base ≡ s.base → a.running ≡ s.running → KnowsFree 0 old.files s name → GaveAtMost old new (next_guid s.given) → StartsBackup result old new a b t (next_guid s.given) (backup_turn s session level name)
-
+-- The start of a backup, by its turn.
 module _ (old new : World) (a b : Held) (t : Trail) (now : Now) (session level : ℕ) (name : List ℕ) (ready : IsReady old a t now) where
   abbrev begins : Outcome
   begins = backup_turn (seen_now now) session level name
@@ -102,66 +124,263 @@ module _ (old new : World) (a b : Held) (t : Trail) (now : Now) (session level :
   abbrev this : Outcome
   this = outcome session (Begins (BackupTo level name)) now
 
-  module _ (result : Result Backed Fault) (knows : KnowsFree 0 old.files (seen_now now) name) (guid : List ℕ) (sixteen : length guid ≡ 16) (asked : GaveAtMost old new guid)
-      (starts : Starts result old new a b t session level name) where
-    times_are : new.times ≡ old.times
-    times_are = (starts (record { base = base_now now; cache = now.cache; running = now.running; entry = now.account.entry; given = record { guids = guid ∷ []; times = []; holds = [] } }) ready.base ready.running knows asked).times
+  abbrev event : Event
+  event = event_of session (Begins (BackupTo level name)) this
 
-    given_are : (r : Result Backed Fault) → StartsBackup r old new a b t (next_guid now.given) begins → Foretells now.given old new → WhereEnded r (WasGiven old new now.given begins.given)
-    given_are (Ok backed) is told =
-        subst (λ (left : Given). WasGiven old new now.given left) (sym (begin_gives (seen_now now) session level name is.says)) (record {
+  same : begins ≡ this
+  same = start_is session level name now
+
+  -- where one GUID was given, or none
+  module _ (result : Result Backed Fault) (starts : (given : Given) → GaveAtMost old new (next_guid given) → StartsBackup result old new a b t (next_guid given) (backup_turn (seen_with now given) session level name))
+      (guid : List ℕ) (asked : GaveAtMost old new guid) where
+    start_grows : length guid ≡ 16 → Grows old new
+    start_grows sixteen = by asked
+      where
+        times : new.times ≡ old.times
+        times = (starts (record { guids = guid ∷ []; times = []; holds = [] }) asked).times
+
+        by : GaveAtMost old new guid → Grows old new
+        by (inl nothing) = grows_none old new (record { guids = nothing; times = times })
+        by (inr gave) = record { ids = guid ∷ []; clock = []; gave = record { guids = gave; times = times ∙ sym (append-nil old.times) }; sixteen = (sixteen, tt) }
+
+    pub starts_told : Foretells now.given old new → StartsBackup result old new a b t (next_guid now.given) begins
+    starts_told told = starts now.given (most_given (replicate 16 0) old.guids new.guids now.given.guids told.ids told.later_ids told.guids told.guids_first guid asked)
+
+    start_given : (r : Result Backed Fault) → StartsBackup r old new a b t (next_guid now.given) begins → Foretells now.given old new → WhereEnded r (WasGiven old new now.given begins.given)
+    start_given (Ok copier) does told =
+        subst (λ (left : Given). WasGiven old new now.given left) (sym (has_begun (seen_now now) session level name does.says).given) (record {
           ids = next_guid now.given ∷ [];
           clock = [];
-          guids = is.gave;
-          guids_first = next_is old new (next_guid now.given) now.given is.gave told;
-          times = is.times ∙ sym (append-nil old.times);
+          guids = does.gave;
+          guids_first = first_given (replicate 16 0) old.guids new.guids now.given.guids told.ids told.later_ids told.guids told.guids_first (next_guid now.given) does.gave;
+          times = does.times ∙ sym (append-nil old.times);
           times_first = refl;
         })
-    given_are (Err (Refused refusal)) is told =
-        given_nothing old new now.given begins.given (record { guids = is.refused.guids; times = is.refused.times }) (begin_refuses (seen_now now) session level name refusal is.says).1
-    given_are (Err Device) is told = tt
-    given_are (Err Memory) is told = tt
+    start_given (Err (Refused refusal)) does told = given_nothing old new now.given begins.given (gave_none old new does.refused) (has_not (seen_now now) session level name refusal does.says).given
+    start_given (Err Device) does told = tt
+    start_given (Err Memory) does told = tt
 
-    pub starting : Foretells now.given old new → StartsBackup result old new a b t (next_guid now.given) begins
-    starting told = starts (seen_now now) ready.base ready.running knows (at_most old new guid now.given asked told)
-
-    pub begin_acts : MayAct (λ copier. None) result old new a b t now session (Begins (BackupTo level name)) []
-    begin_acts = record {
-      grows = grows_at_most old new guid sixteen asked times_are;
+    pub start_acts : length guid ≡ 16 → MayAct (λ copier. None) result old new a b t now session (Begins (BackupTo level name)) []
+    start_acts sixteen = record {
+      grows = start_grows sixteen;
       acts = λ told.
-          let same = begin_is session level name now in
-          let is = starting told in
+          let does = starts_told told in
           record {
-            says = subst (λ (o : Outcome). Says (λ copier. None) result o.reply) same (says_none result begins.reply is.says);
-            left = strikes_left old new (name_of a) t _ (subst (λ (o : Outcome). Strikes old new (name_of a) t o.strokes) same is.left);
-            opened = ended_map result (subst (IsOpen new b) (trail_plain t (event_of session (Begins (BackupTo level name)) this) refl)) (subst (λ (o : Outcome). WhereEnded result (IsOpen new b (after_strokes t o.strokes))) same is.opened);
-            running = subst (λ (o : Outcome). WhereEnded result (b.running ≡ o.running)) same is.running;
-            given = subst (λ (o : Outcome). WhereEnded result (WasGiven old new now.given o.given)) same (given_are result is told);
-            kept = where_ended result _ (kept_none new (event_of session (Begins (BackupTo level name)) this) (sym (ap (λ (o : Outcome). o.made) same) ∙ begin_made (seen_now now) session level name));
-            name = is.name;
+            says = subst (λ (o : Outcome). Says (λ copier. None) result o.reply) same (says_none result begins.reply does.says);
+            left = strikes_left old new (name_of a) t _ (subst (λ (o : Outcome). Strikes old new (name_of a) t o.strokes) same does.left);
+            opened = ended_map result (subst (IsOpen new b) (trail_plain t event refl)) (subst (λ (o : Outcome). WhereEnded result (IsOpen new b (after_strokes t o.strokes))) same does.opened);
+            running = subst (λ (o : Outcome). WhereEnded result (b.running ≡ o.running)) same does.running;
+            given = subst (λ (o : Outcome). WhereEnded result (WasGiven old new now.given o.given)) same (start_given result does told);
+            kept = where_ended result _ (kept_none new event (sym (ap (λ (o : Outcome). o.made) same) ∙ start_made (seen_now now) session level name));
+            name = does.name;
           };
     }
 
   -- a backup was begun
-  pub begin_behind : (copier : Backed) → is_delta name ≡ false → StartsBackup (Ok copier) old new a b t (next_guid now.given) begins → IsBehind new b session (Begins (BackupTo level name)) [] now (Some (Backup copier))
-  begin_behind copier plain starts =
-      let is : IsStarted new b (after_strokes t begins.strokes) copier begins = starts.started in
-      let same = begin_is session level name now in
-      let left : ℕ = file_count copier.file - file_next copier.file in
-      let all : file_count copier.file ≡ left = omega (arith, is.first) in
-      let named : copier.backing.name ≡ name = begin_names (seen_now now) session level name starts.says (file_count copier.file) copier.backing is.turns in
+  pub start_behind : (copier : Backed) (guid : List ℕ) → is_delta name ≡ false → StartsBackup (Ok copier) old new a b t guid begins → IsBehind new b session (Begins (BackupTo level name)) [] now (Some (Backup copier))
+  start_behind copier guid plain does =
+      let is : IsStarted new b (after_strokes t begins.strokes) copier begins = does.started in
+      let facts : HasBegun (seen_now now) session name begins = has_begun (seen_now now) session level name does.says in
+      let named : copier.backing.name ≡ name = facts.named (file_count copier.file) copier.backing is.turns in
+      let all : file_count copier.file ≡ file_count copier.file - file_next copier.file = omega (arith, is.first) in
       record {
-        next = append-nil this.next ∙ sym (ap (λ (o : Outcome). o.next) same) ∙ is.turns ∙ ap (λ (n : ℕ). replicate n Copies ++ ClosesBackup copier.backing ∷ []) all ∙ copy_turns left (ClosesBackup copier.backing);
+        next = append-nil this.next ∙ sym (ap (λ (o : Outcome). o.next) same) ∙ is.turns ∙ ap (λ (n : ℕ). replicate n Copies ++ ClosesBackup copier.backing ∷ []) all
+            ∙ copy_turns (file_count copier.file - file_next copier.file) (ClosesBackup copier.backing);
         goes = (
-          subst (IsBackingUp new copier) (ap (λ (x : Base). x.frozen) (after_base t begins.strokes ∙ ap (λ (x : Base). base_after x begins.strokes) ready.base ∙ ap (λ (o : Outcome). base_after (base_now now) o.strokes) same)) is.goes,
-          record {
-            plain = ap is_delta named ∙ plain;
-            other = λ own. not_own old a t now name ready (begin_free (seen_now now) session level name starts.says) (sym named ∙ own ∙ starts.name);
-          },
-          starts.running ∙ begin_runs (seen_now now) session level name starts.says);
+          subst (IsBackingUp new copier)
+          (ap (λ (x : Base). x.frozen) (after_base t begins.strokes ∙ ap (λ (o : Outcome). base_after t.base o.strokes) same ∙ ap (λ (x : Base). base_after x this.strokes) ready.base)) is.goes,
+          record { plain = ap is_delta named ∙ plain; other = λ own. not_own old a t now name ready facts.free (sym named ∙ own ∙ does.name) },
+          does.running ∙ facts.running);
       }
 
   -- it was refused
-  pub begin_refused : (refusal : Refusal) → StartsBackup (Err (Refused refusal)) old new a b t (next_guid now.given) begins → (w : World) → IsBehind w b session (Begins (BackupTo level name)) [] now None
-  begin_refused refusal starts w =
-      record { next = append-nil this.next ∙ sym (ap (λ (o : Outcome). o.next) (begin_is session level name now)) ∙ (begin_refuses (seen_now now) session level name refusal starts.says).0; goes = tt }
+  pub start_refused : (refusal : Refusal) (guid : List ℕ) → StartsBackup (Err (Refused refusal)) old new a b t guid begins → (w : World) → IsBehind w b session (Begins (BackupTo level name)) [] now None
+  start_refused refusal guid does w =
+      record { next = append-nil this.next ∙ sym (ap (λ (o : Outcome). o.next) same) ∙ (has_not (seen_now now) session level name refusal does.says).next; goes = tt }
+
+-- A further turn of a backup.
+page_is : (session : ℕ) (now : Now) → outcome session Copies now ≡ passes (seen_now now)
+unfolding outcome turn
+page_is session now = refl
+
+close_is : (session : ℕ) (b : Backing) (now : Now) → outcome session (ClosesBackup b) now ≡ close_backup (seen_now now) b
+unfolding outcome turn
+close_is session b now = refl
+
+-- The parts of the last one.
+module _ (s : Seen) (b : Backing) where
+  close_reply : (close_backup s b).reply ≡ None
+  unfolding close_backup
+  close_reply = refl
+
+  close_next : (close_backup s b).next ≡ Ends (Level b.ask.level b.scn (count_in (kept_of b s.base.frozen) b.ask) b.guid) ∷ []
+  unfolding close_backup
+  close_next = refl
+
+  close_running : (close_backup s b).running ≡ s.running
+  unfolding close_backup
+  close_running = refl
+
+  close_made : (close_backup s b).made ≡ Some (b.name, file_of 102 (kept_of b s.base.frozen))
+  unfolding close_backup
+  close_made = refl
+
+  close_given : (close_backup s b).given ≡ without_time s.given
+  unfolding close_backup
+  close_given = refl
+
+-- A copier that goes on.
+module _ (old new : World) (a b : Held) (t : Trail) (now : Now) (session : ℕ) (copier later : Backed) (ready : IsReady old a t now) (is : IsBackingUp old copier t.base.frozen) (apart : IsApart a copier.backing.name) (goes : Goes a b) where
+  abbrev name : List ℕ
+  name = copier.backing.name
+
+  abbrev last : Turn
+  last = ClosesBackup copier.backing
+
+  abbrev whole : List ℕ
+  whole = whole_file copier.file t.base.frozen
+
+  abbrev files : List MadeFile
+  files = (name, whole) ∷ []
+
+  abbrev rest : ℕ
+  rest = file_count copier.file - file_next copier.file
+
+  frozen_is : t.base.frozen ≡ (base_now now).frozen
+  frozen_is = ap (λ (x : Base). x.frozen) ready.base
+
+  whole_is : whole ≡ file_of 102 (kept_of copier.backing (base_now now).frozen)
+  whole_is = is.whole ∙ ap (λ (f : Image). file_of 102 (kept_of copier.backing f)) frozen_is
+
+  pub backup_files : files ≡ making (base_now now).frozen (copy_first rest last ∷ copy_rest rest last)
+  backup_files = ap (λ (bytes : List ℕ). (name, bytes) ∷ []) whole_is ∙ backups_make (base_now now).frozen rest copier.backing
+
+  -- what a stop leaves of a close is what it leaves of this turn
+  module _ (reads : Leaves old name (old.files name)) where
+    close_left : (ss : List Stroke) → Changes old new (OfBackup name (name_of a)) (CloseLeft old name whole (name_of a) t ss) → Changes old new (Touched (name_of a) files) (TurnLeft old (name_of a) t ss files)
+    close_left ss changes =
+        weakened old new (OfBackup name (name_of a)) (Touched (name_of a) files) (CloseLeft old name whole (name_of a) t ss) (TurnLeft old (name_of a) t ss files) changes touches
+        (λ fs others has. elim has [
+          | inl before ↦ record { database = reached_first after_stroke (StandsIn (name_of a)) t ss fs before.1; each = each_one old new a t ready.opened name whole apart reads fs before.0 }
+          | inr behind ↦ record { database = behind.1; each = each_one old new a t ready.opened name whole apart reads fs (inr (inr behind.0)) }
+        ])
+      where
+        touches : (m : List ℕ) → OfBackup name (name_of a) m → Touched (name_of a) files m
+        touches m (inl same) = inr (whole, (0, omega arith, ap (λ (n : List ℕ). (n, whole)) (sym same)))
+        touches m (inr own) = inl own
+
+    -- the turn with the time that is foretold
+    abbrev Does : Result Progress Fault → Type 0
+    Does result = BackupTurn result old new a b copier later t (next_time now.given) (close_backup (seen_now now) copier.backing).strokes
+
+    turn_left : (result : Result Progress Fault) (left : ℕ) → left ≡ rest → Does result → Changes old new (Touched (name_of a) files) (TurnLeft old (name_of a) t (outcome session (copy_first left last) now).strokes files)
+    turn_left result zero none does =
+        close_left (outcome session last now).strokes (subst (λ (o : Outcome). Changes old new (OfBackup name (name_of a)) (CloseLeft old name whole (name_of a) t o.strokes)) (sym (close_is session copier.backing now)) does.left)
+    turn_left result (suc left) some does = file_left old new a t ready.opened name whole apart reads (outcome session Copies now).strokes (does.alone (omega (arith, some)))
+
+    -- it fails
+    failed : (fault : Fault) → IsNoRefusal fault → (u : Turn) → Changes old new (Touched (name_of a) files) (TurnLeft old (name_of a) t (outcome session u now).strokes files)
+        → Acts {T = Progress} (λ progress. None) (Err fault) old new a b t now session u files
+    failed (Refused refusal) none u left = absurd none
+    failed Device none u left = record { says = tt; left = left; opened = tt; running = tt; given = tt; kept = tt; name = goes.name }
+    failed Memory none u left = record { says = tt; left = left; opened = tt; running = tt; given = tt; kept = tt; name = goes.name }
+
+    -- a page is copied
+    copied : CopiesOn old new a b copier later t → Changes old new (Touched (name_of a) files) (TurnLeft old (name_of a) t (outcome session Copies now).strokes files)
+        → Acts (λ (progress : Progress). None) (Ok More) old new a b t now session Copies files
+    copied does left =
+        let o = page_is session now in
+        record {
+          says = ap (λ (x : Outcome). x.reply) o;
+          left = left;
+          opened = subst (IsOpen new b) (ap (λ (x : Outcome). after_strokes t x.strokes) (sym o) ∙ trail_plain t (event_of session Copies (outcome session Copies now)) refl) does.opened;
+          running = goes.running ∙ ready.running ∙ sym (ap (λ (x : Outcome). x.running) o);
+          given = given_nothing old new now.given (outcome session Copies now).given does.gave (ap (λ (x : Outcome). x.given) o);
+          kept = kept_none new (event_of session Copies (outcome session Copies now)) (ap (λ (x : Outcome). x.made) o);
+          name = goes.name;
+        }
+
+    -- the file is whole, and the row is written
+    closed : Foretells now.given old new → CloseDone old new a b copier later t (next_time now.given) (close_backup (seen_now now) copier.backing).strokes → new.guids ≡ old.guids
+        → Changes old new (Touched (name_of a) files) (TurnLeft old (name_of a) t (outcome session last now).strokes files) → Acts (λ (progress : Progress). None) (Ok Finished) old new a b t now session last files
+    closed told does guids left =
+        let o = close_is session copier.backing now in
+        record {
+          says = ap (λ (x : Outcome). x.reply) o ∙ close_reply (seen_now now) copier.backing;
+          left = left;
+          opened = subst (IsOpen new b) (ap (λ (x : Outcome). after_strokes t x.strokes) (sym o) ∙ trail_plain t (event_of session last (outcome session last now)) refl) does.opened;
+          running = goes.running ∙ ready.running ∙ sym (ap (λ (x : Outcome). x.running) o ∙ close_running (seen_now now) copier.backing);
+          given = subst (λ (g : Given). WasGiven old new now.given g) (sym (ap (λ (x : Outcome). x.given) o ∙ close_given (seen_now now) copier.backing)) (record {
+            ids = [];
+            clock = next_time now.given ∷ [];
+            guids = guids ∙ sym (append-nil old.guids);
+            guids_first = refl;
+            times = does.times;
+            times_first = first_given 0 old.times new.times now.given.times told.clock told.later_clock told.times told.times_first (next_time now.given) does.times;
+          });
+          kept = made_by new (event_of session last (outcome session last now)) (name, whole)
+              (ap (λ (x : Outcome). x.made) o ∙ close_made (seen_now now) copier.backing ∙ ap (λ (bytes : List ℕ). Some (name, bytes)) (sym whole_is)) (kept_one new name whole does.kept);
+          name = goes.name;
+        }
+
+    acts_by : Foretells now.given old new → (result : Result Progress Fault) (left : ℕ) → left ≡ rest → BackupCounts result copier later → Does result → Acts (λ progress. None) result old new a b t now session (copy_first left last) files
+    acts_by told (Ok More) zero none counts does = absurd (omega (arith, none, counts.0))
+    acts_by told (Ok More) (suc left) some counts does = copied does.answer (turn_left (Ok More) (suc left) some does)
+    acts_by told (Ok Finished) zero none counts does = closed told does.answer does.guids (turn_left (Ok Finished) zero none does)
+    acts_by told (Ok Finished) (suc left) some counts does = absurd (omega (arith, some, counts.0))
+    acts_by told (Err fault) left is counts does = failed fault does.sure (copy_first left last) (turn_left (Err fault) left is does)
+
+    -- where one time was given, or none
+    module _ (result : Result Progress Fault) (turns : (given : Given) → GaveTimeAtMost old new (next_time given) → BackupTurn result old new a b copier later t (next_time given) (close_backup (seen_with now given) copier.backing).strokes)
+        (time : ℕ) (asked : GaveTimeAtMost old new time) where
+      turn_once : BackupTurn result old new a b copier later t time (close_backup (seen_with now (record { guids = []; times = time ∷ []; holds = [] })) copier.backing).strokes
+      turn_once = turns (record { guids = []; times = time ∷ []; holds = [] }) asked
+
+      turn_grows : Grows old new
+      turn_grows = by asked
+        where
+          by : GaveTimeAtMost old new time → Grows old new
+          by (inl nothing) = grows_none old new (record { guids = turn_once.guids; times = nothing })
+          by (inr gave) = record { ids = []; clock = time ∷ []; gave = record { guids = turn_once.guids ∙ sym (append-nil old.guids); times = gave }; sixteen = tt }
+
+      pub turn_told : Foretells now.given old new → Does result
+      turn_told told = turns now.given (most_given 0 old.times new.times now.given.times told.clock told.later_clock told.times told.times_first time asked)
+
+      pub turn_acts : BackupCounts result copier later → MayAct (λ progress. None) result old new a b t now session (copy_first rest last) files
+      turn_acts counts = record { grows = turn_grows; acts = λ told. acts_by told result rest refl counts (turn_told told) }
+
+      -- it isn't refused
+      pub turn_sure : IfErr result IsNoRefusal
+      turn_sure = turn_once.sure
+
+  -- What is left behind it.
+  module _ (runs : a.running ≡ Some session) where
+    pub more_behind : later.backing ≡ copier.backing → BackupCounts (Ok More) copier later → IsBackingUp new later t.base.frozen → IsBehind new b session (copy_first rest last) (copy_rest rest last) now (Some (Backup later))
+    more_behind backed counts further = by rest refl
+      where
+        by : (left : ℕ) → left ≡ rest → IsBehind new b session (copy_first left last) (copy_rest left last) now (Some (Backup later))
+        by zero none = absurd (omega (arith, none, counts.0))
+        by (suc left) some =
+            let one : left ≡ file_count later.file - file_next later.file = omega (arith, some, counts.0, counts.1, counts.2) in
+            record {
+              next = ap (λ (o : Outcome). o.next ++ copy_rest (suc left) last) (page_is session now) ∙ copy_turns left last ∙ ap (λ (n : ℕ). copy_first n last ∷ copy_rest n last) one
+                  ∙ ap (λ (x : Backing). copy_first (file_count later.file - file_next later.file) (ClosesBackup x) ∷ copy_rest (file_count later.file - file_next later.file) (ClosesBackup x)) (sym backed);
+              goes = (
+                subst (IsBackingUp new later) (frozen_is ∙ ap (λ (x : Base). x.frozen) (sym (no_stroke (base_now now) (outcome session Copies now).strokes (ap (λ (o : Outcome). o.strokes) (page_is session now))))) further,
+                record { plain = ap (λ (x : Backing). is_delta x.name) backed ∙ apart.plain; other = λ own. apart.other (ap (λ (x : Backing). x.name) (sym backed) ∙ own ∙ goes.name) },
+                goes.running ∙ runs);
+            }
+
+    pub close_behind : (reply : Reply) → reply ≡ Level later.backing.ask.level later.backing.scn (file_written later.file) later.backing.guid → later.backing ≡ copier.backing → BackupCounts (Ok Finished) copier later
+        → file_written later.file ≡ count_in (kept_of copier.backing t.base.frozen) copier.backing.ask → IsBehind new b session (copy_first rest last) (copy_rest rest last) now (Some (End reply))
+    close_behind reply is_level backed counts written = by rest refl
+      where
+        by : (left : ℕ) → left ≡ rest → IsBehind new b session (copy_first left last) (copy_rest left last) now (Some (End reply))
+        by (suc left) some = absurd (omega (arith, some, counts.0))
+        by zero none = record {
+          next = ap (λ (xs : List Turn). xs ++ []) (ap (λ (o : Outcome). o.next) (close_is session copier.backing now) ∙ close_next (seen_now now) copier.backing)
+              ∙ ap (λ (n : ℕ). Ends (Level copier.backing.ask.level copier.backing.scn n copier.backing.guid) ∷ []) (sym (written ∙ ap (λ (f : Image). count_in (kept_of copier.backing f) copier.backing.ask) frozen_is))
+              ∙ ap (λ (x : Backing). Ends (Level x.ask.level x.scn (file_written later.file) x.guid) ∷ []) (sym backed)
+              ∙ ap (λ (r : Reply). Ends r ∷ []) (sym is_level);
+          goes = goes.running ∙ runs;
+        }
