@@ -1,5 +1,5 @@
 -- What the calls of the engine make of a turn.
-use Rattle.std.proofs.Common.{◌≡◌, inl, inr, ℕ, List, [], ◌∷◌, ◌++◌, length, drop, replicate, refl, sym, ap, subst, ◌∙◌, arith}
+use Rattle.std.proofs.Common.{◌≡◌, ◌⊎◌, inl, inr, ℕ, List, [], ◌∷◌, ◌++◌, length, drop, replicate, refl, sym, ap, subst, ◌∙◌, arith}
 use Rattle.std.specs.Prelude.{Result, Ok, Err, IsErr, IsErrAnd, Option, Some, None, Contains, true, false}
 use Rattle.std.specs.List.{slice_index_or}
 use Rattle.std.proofs.lemmas.List.{append-nil, append_cancel_left}
@@ -174,19 +174,16 @@ module _ (old new : World) (a b : Held) (t : Trail) (now : Now) (session : ℕ) 
     acts = λ told. record { says = tt; left = sync_left; opened = tt; running = tt; given = tt; kept = tt; name = ap (λ (h : Held). name_of h) same };
   }
 
--- a GUID that was given is the next one that is foretold
-pub next_is : (old new : World) (guid : List ℕ) (given : Given) → new.guids ≡ old.guids ++ guid ∷ [] → Foretells given old new → given.guids ≡ guid ∷ drop 1 given.guids
-next_is old new guid given gave told =
-    let ids : told.ids ≡ guid ∷ [] = append_cancel_left old.guids told.ids (guid ∷ []) (sym told.guids ∙ gave) in
-    let all : given.guids ≡ guid ∷ told.later_ids = told.guids_first ∙ ap (λ (l : List (List ℕ)). l ++ told.later_ids) ids in
-    all ∙ ap (λ (l : List (List ℕ)). guid ∷ l) (sym (ap (drop 1) all))
+-- A value that was given, where the first of these were, is the next one of them.
+module _ {A : Type 0} (none : A) (old new given first later : List A) (is : new ≡ old ++ first) (all : given ≡ first ++ later) (x : A) where
+  pub first_given : new ≡ old ++ x ∷ [] → given ≡ x ∷ drop 1 given
+  first_given gave =
+      let whole : given ≡ x ∷ later = all ∙ ap (λ (l : List A). l ++ later) (append_cancel_left old first (x ∷ []) (sym is ∙ gave)) in
+      whole ∙ ap (λ (l : List A). x ∷ l) (sym (ap (drop 1) whole))
 
-next_guid_is : (guid : List ℕ) (given : Given) → given.guids ≡ guid ∷ drop 1 given.guids → next_guid given ≡ guid
-next_guid_is guid given is = ap (λ (l : List (List ℕ)). slice_index_or l 0 (replicate 16 0)) is
-
-pub at_most : (old new : World) (guid : List ℕ) (given : Given) → GaveAtMost old new guid → Foretells given old new → GaveAtMost old new (next_guid given)
-at_most old new guid given (inl none) told = inl none
-at_most old new guid given (inr gave) told = inr (gave ∙ ap (λ (id : List ℕ). old.guids ++ id ∷ []) (sym (next_guid_is guid given (next_is old new guid given gave told))))
+  pub most_given : (new ≡ old) ⊎ (new ≡ old ++ x ∷ []) → (new ≡ old) ⊎ (new ≡ old ++ slice_index_or given 0 none ∷ [])
+  most_given (inl nothing) = inl nothing
+  most_given (inr gave) = inr (gave ∙ ap (λ (y : A). old ++ y ∷ []) (sym (ap (λ (l : List A). slice_index_or l 0 none) (first_given gave))))
 
 pub grows_at_most : (old new : World) (guid : List ℕ) → length guid ≡ 16 → GaveAtMost old new guid → new.times ≡ old.times → Grows old new
 grows_at_most old new guid sixteen (inl none) times = grows_none old new (record { guids = none; times = times })
@@ -211,7 +208,7 @@ module _ (result : Result ℕ Fault) (old new : World) (a b : Held) (t : Trail) 
         ids = next_guid now.given ∷ [];
         clock = [];
         guids = does.gave;
-        guids_first = next_is old new (next_guid now.given) now.given does.gave told;
+        guids_first = first_given (replicate 16 0) old.guids new.guids now.given.guids told.ids told.later_ids told.guids told.guids_first (next_guid now.given) does.gave;
         times = does.times ∙ sym (append-nil old.times);
         times_first = refl;
       })
@@ -224,7 +221,7 @@ module _ (result : Result ℕ Fault) (old new : World) (a b : Held) (t : Trail) 
   begin_acts = record {
     grows = grows_at_most old new guid sixteen asked begin_times;
     acts = λ told.
-        let does = begins (seen_now now) ready.base (at_most old new guid now.given asked told) in
+        let does = begins (seen_now now) ready.base (most_given (replicate 16 0) old.guids new.guids now.given.guids told.ids told.later_ids told.guids told.guids_first guid asked) in
         record {
           says = subst (λ (x : Outcome). Says (some_by scn_is) result x.reply) same (as_says scn_is result (begin_turn (seen_now now)).reply does.answer);
           left = strikes_left old new (name_of a) t _ (subst (λ (x : Outcome). Strikes old new (name_of a) t x.strokes) same does.left);

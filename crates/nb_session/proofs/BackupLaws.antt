@@ -1,5 +1,5 @@
 -- The turns of a backup.
-use Rattle.std.proofs.Common.{◌≡◌, ◌⊎◌, inl, inr, ℕ, zero, suc, ◌-◌, List, [], ◌∷◌, ◌++◌, length, drop, replicate, refl, sym, ap, subst, ◌∙◌, arith}
+use Rattle.std.proofs.Common.{◌≡◌, ◌⊎◌, inl, inr, ℕ, zero, suc, ◌-◌, ◌<◌, List, [], ◌∷◌, ◌++◌, length, drop, replicate, refl, sym, ap, subst, ◌∙◌, arith}
 use Rattle.std.specs.Prelude.{Result, Ok, Err, IfErr, Some, None, true, false}
 use Rattle.std.specs.List.{slice_index_or}
 use Rattle.std.proofs.lemmas.List.{append-nil, append_cancel_left}
@@ -19,16 +19,18 @@ use Rattle.nb_model.specs.Account.{Base}
 use Rattle.nb_model.specs.Backups.{backup_turn, close_backup}
 use Rattle.nb_model.specs.Causes.{is_free_entry}
 use Rattle.nb_model.specs.Gifts.{Foretells, WasGiven}
-use Rattle.nb_model.specs.Going.{IsGoing}
+use Rattle.nb_model.specs.Going.{IsAt, IsGoing}
 use Rattle.nb_model.specs.Image.{Image}
 use Rattle.nb_model.specs.Levels.{file_of, count_in}
 use Rattle.nb_model.specs.Making.{MadeFile, kept_of, making}
 use Rattle.nb_model.specs.Outcomes.{Turn, Begins, Copies, ClosesBackup, Ends, Backing, Given, Seen, Outcome, DoesNothing, next_guid, next_time, without_guid, without_time, passes}
 use Rattle.nb_model.specs.Run.{Now, Event, base_now, outcome, event_of}
+use Rattle.nb_model.specs.Sound.{IsSoundImage}
 use Rattle.nb_model.specs.Strokes.{Stroke, base_after}
 use Rattle.nb_model.specs.Trail.{Trail, StandsIn, after_stroke}
 use Rattle.nb_model.specs.Turns.{first_turn, turn}
 use Rattle.nb_model.proofs.TurnCases.{backup_either}
+use Rattle.nb_base.specs.Open.{OfFiles}
 use Rattle.nb_base.specs.Takes.{Strikes, after_strokes, IsNoRefusal}
 use Rattle.nb_state.specs.Open.{Held, IsOpen, name_of}
 use Rattle.nb_state.specs.Does.{Goes, WhereEnded}
@@ -44,24 +46,13 @@ use Rattle.nb_session.specs.Acts.{Says, Grows, Touched, TurnLeft, Acts, MayAct}
 use Rattle.nb_session.specs.Askers.{copy_first, copy_rest}
 use Rattle.nb_session.specs.Ready.{IsReady, IsApart}
 use Rattle.nb_session.specs.Steps.{IsBehind}
-use Rattle.nb_session.proofs.ActLaws.{trail_plain, ended_map, strikes_left, kept_none, says_none}
-use Rattle.nb_session.proofs.CopyLaws.{file_left, each_one, kept_one, made_by, no_stroke}
+use Rattle.nb_session.proofs.ActLaws.{trail_plain, ended_map, strikes_left, kept_none, says_none, first_given, most_given, grows_at_most}
+use Rattle.nb_session.proofs.CopyLaws.{file_left, each_one, kept_one, made_by, no_stroke, stalled_now}
 use Rattle.nb_session.proofs.GiftLaws.{given_nothing, grows_none}
 use Rattle.nb_session.proofs.MakesLaws.{none_runs}
-use Rattle.nb_session.proofs.ReadyLaws.{not_own}
+use Rattle.nb_session.proofs.ReadyLaws.{not_own, apart_files}
 use Rattle.nb_session.proofs.TurnLaws.{seen_now, outcome_is}
-use Rattle.nb_session.proofs.WayLaws.{copy_turns}
-
--- A value that was given, where the first of these were, is the next one of them.
-module _ {A : Type 0} (none : A) (old new given first later : List A) (is : new ≡ old ++ first) (all : given ≡ first ++ later) (x : A) where
-  first_given : new ≡ old ++ x ∷ [] → given ≡ x ∷ drop 1 given
-  first_given gave =
-      let whole : given ≡ x ∷ later = all ∙ ap (λ (l : List A). l ++ later) (append_cancel_left old first (x ∷ []) (sym is ∙ gave)) in
-      whole ∙ ap (λ (l : List A). x ∷ l) (sym (ap (drop 1) whole))
-
-  most_given : (new ≡ old) ⊎ (new ≡ old ++ x ∷ []) → (new ≡ old) ⊎ (new ≡ old ++ slice_index_or given 0 none ∷ [])
-  most_given (inl nothing) = inl nothing
-  most_given (inr gave) = inr (gave ∙ ap (λ (y : A). old ++ y ∷ []) (sym (ap (λ (l : List A). slice_index_or l 0 none) (first_given gave))))
+use Rattle.nb_session.proofs.WayLaws.{copy_turns, BacksUp, backing_at}
 
 -- what a turn sees where this is given
 abbrev pub seen_with : Now → Given → Seen
@@ -133,15 +124,8 @@ module _ (old new : World) (a b : Held) (t : Trail) (now : Now) (session level :
   -- where one GUID was given, or none
   module _ (result : Result Backed Fault) (starts : (given : Given) → GaveAtMost old new (next_guid given) → StartsBackup result old new a b t (next_guid given) (backup_turn (seen_with now given) session level name))
       (guid : List ℕ) (asked : GaveAtMost old new guid) where
-    start_grows : length guid ≡ 16 → Grows old new
-    start_grows sixteen = by asked
-      where
-        times : new.times ≡ old.times
-        times = (starts (record { guids = guid ∷ []; times = []; holds = [] }) asked).times
-
-        by : GaveAtMost old new guid → Grows old new
-        by (inl nothing) = grows_none old new (record { guids = nothing; times = times })
-        by (inr gave) = record { ids = guid ∷ []; clock = []; gave = record { guids = gave; times = times ∙ sym (append-nil old.times) }; sixteen = (sixteen, tt) }
+    times_are : new.times ≡ old.times
+    times_are = (starts (record { guids = guid ∷ []; times = []; holds = [] }) asked).times
 
     pub starts_told : Foretells now.given old new → StartsBackup result old new a b t (next_guid now.given) begins
     starts_told told = starts now.given (most_given (replicate 16 0) old.guids new.guids now.given.guids told.ids told.later_ids told.guids told.guids_first guid asked)
@@ -162,7 +146,7 @@ module _ (old new : World) (a b : Held) (t : Trail) (now : Now) (session level :
 
     pub start_acts : length guid ≡ 16 → MayAct (λ copier. None) result old new a b t now session (Begins (BackupTo level name)) []
     start_acts sixteen = record {
-      grows = start_grows sixteen;
+      grows = grows_at_most old new guid sixteen asked times_are;
       acts = λ told.
           let does = starts_told told in
           record {
@@ -384,3 +368,23 @@ module _ (old new : World) (a b : Held) (t : Trail) (now : Now) (session : ℕ) 
               ∙ ap (λ (r : Reply). Ends r ∷ []) (sym is_level);
           goes = goes.running ∙ runs;
         }
+
+-- What a further turn may rely on.
+pub record MayGoOn (held : Held) (t : Trail) (copier : Backed) : Type 0 where
+  pub stalled : held.files.state ≡ 1
+  pub sound : IsSoundImage t.base.image
+  pub below : copier.backing.page < length t.base.image
+  pub apart : OfFiles (name_of held) copier.backing.name → ⊥
+
+pub may_go_on : (w : World) (held : Held) (t : Trail) (now : Now) (session : ℕ) (copier : Backed) (more : List Turn) → IsReady w held t now → IsGoing now
+    → slice_index_or now.todo (session - 1) [] ≡ copy_first (file_count copier.file - file_next copier.file) (ClosesBackup copier.backing) ∷ (copy_rest (file_count copier.file - file_next copier.file) (ClosesBackup copier.backing) ++ more)
+    → IsApart held copier.backing.name → MayGoOn held t copier
+may_go_on w held t now session copier more ready going here apart =
+    let backs : BacksUp now (session - 1) copier.backing =
+    backing_at now (session - 1) (file_count copier.file - file_next copier.file) copier.backing more (subst (IsAt now (session - 1)) here (going.each (session - 1))) in
+    record {
+      stalled = stalled_now w held t now (session - 1) ready backs.runs;
+      sound = subst (λ (x : Base). IsSoundImage x.image) (sym ready.base) going.sound;
+      below = subst (λ (x : Base). copier.backing.page < length x.image) (sym ready.base) backs.room.below;
+      apart = apart_files held copier.backing.name apart;
+    }

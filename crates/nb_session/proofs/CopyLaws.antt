@@ -71,6 +71,10 @@ open_running w held t running is = record {
   most = is.most;
 }
 
+-- the session that ran runs no more
+pub stopped_is : (a b d : Held) (session : ℕ) → b ≡ a → a.running ≡ Some session → (b.running ≡ Some session → d ≡ record b { running = None }) → d ≡ record a { running = None }
+stopped_is a b d session same runs stops = stops (ap (λ (h : Held). h.running) same ∙ runs) ∙ ap (λ (h : Held). record h { running = None }) same
+
 -- no stroke
 pub no_stroke : (b : Base) (ss : List Stroke) → ss ≡ [] → base_after b ss ≡ b
 unfolding base_after

@@ -7,14 +7,12 @@ pub mod MakesLaws
 pub mod ReadyLaws
 pub mod EventLaws
 pub mod TurnLaws
-pub mod KeptLaws
 pub mod KeepLaws
 pub mod ActLaws
 pub mod WayLaws
 pub mod MergeLaws
 pub mod CopyLaws
 pub mod BackupLaws
-pub mod CalmLaws
 pub mod StepLaws
 pub mod SceneLaws
 pub mod AnyLaws

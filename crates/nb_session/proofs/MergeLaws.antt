@@ -120,7 +120,7 @@ unopposed : (s : Seen) (session : ℕ) → (unless s None (ending s session)).re
 unfolding unless
 unopposed s session = ends_reply s session (Scn (end_scn s.base.image))
 
-pub end_quiet : (s : Seen) (session : ℕ) → image_state s.base.image ≡ 1 → s.running ≡ Some session → (end_turn s session).reply ≡ None
+end_quiet : (s : Seen) (session : ℕ) → image_state s.base.image ≡ 1 → s.running ≡ Some session → (end_turn s session).reply ≡ None
 end_quiet s session stalled runs =
     ap (λ (o : Outcome). o.reply) (end_turn_is s session) ∙ ap (λ (c : Cause). (unless s c (ending s session)).reply) (none_against s session stalled runs) ∙ unopposed s session
 
@@ -307,9 +307,6 @@ module _ (old new : World) (a b : Held) (t : Trail) (now : Now) (session : ℕ) 
 
 -- how far the session is behind one turn
 module _ (session : ℕ) (reply : Reply) (a b : Held) where
-  pub more_left : (left : ℕ) → IsMerging session left a → GoesOn More a b → 1 ≤ left
-  more_left left merging goes = omega (arith, merging.rest, goes.0)
-
   pub more_behind : (w : World) (now : Now) (left : ℕ) → IsMerging session left a → GoesOn More a b
       → IsBehind w b session (merge_first left (Finishes reply)) (merge_rest left (Finishes reply)) now (Some (Merge (record { left = left - 1; reply = reply })))
   more_behind w now zero merging goes = absurd (omega (arith, merging.rest, goes.0))
@@ -320,13 +317,6 @@ module _ (session : ℕ) (reply : Reply) (a b : Held) where
             ∙ ap (λ (n : ℕ). task_todo (Some (Merge (record { left = n; reply = reply })))) one;
         goes = tt;
       }
-
-  pub more_merging : (left : ℕ) → IsMerging session left a → GoesOn More a b → IsMerging session (left - 1) b
-  more_merging left merging goes = record {
-    state = goes.2;
-    running = goes.3 ∙ merging.running;
-    rest = omega (arith, ap length goes.4, goes.1, merging.rest, goes.0);
-  }
 
   pub finished_behind : (w : World) (now : Now) (left : ℕ) → IsMerging session left a → GoesOn Finished a b
       → IsBehind w b session (merge_first left (Finishes reply)) (merge_rest left (Finishes reply)) now None

@@ -113,6 +113,11 @@ module _ {T S : Type 0} (reply : T → Option Reply) (result : Result T Fault) (
       behind = λ told. behind (before told);
     }
 
+-- what doesn't come
+pub turns_never : {S : Type 0} (refused : S → Bool) (task : S → Option Task) (answer : Result S Fault) (old new : World) (a b : Held) (t : Trail) (now : Now) (session : ℕ) (u : Turn) (tail more : List Turn) → ⊥
+    → Turns refused task answer old new a b t now session u tail more
+turns_never refused task answer old new a b t now session u tail more never = absurd never
+
 -- what a turn sees
 abbrev pub seen_now : Now → Seen
 seen_now now = record { base = base_now now; cache = now.cache; running = now.running; entry = now.account.entry; given = now.given }

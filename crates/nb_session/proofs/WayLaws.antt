@@ -132,12 +132,3 @@ module _ (now : Now) (place : ℕ) where
       absurd (cc)
   ending_at reply more (ends r rest todo all runs) = runs
   ending_at reply more (merges all runs) = absurd all
-
--- turns that end in the same close
-pub last_backup : (m n : ℕ) (b d : Backing) → replicate m Copies ++ ClosesBackup b ∷ [] ≡ replicate n Copies ++ ClosesBackup d ∷ [] → b ≡ d
-unfolding closing
-last_backup m n b d same =
-    let first : closing (replicate m Copies ++ ClosesBackup b ∷ []) ≡ Some (ClosesBackup b) = closing_behind m (ClosesBackup b ∷ []) in
-    let second : closing (replicate n Copies ++ ClosesBackup d ∷ []) ≡ Some (ClosesBackup d) = closing_behind n (ClosesBackup d ∷ []) in
-    let both : Some (ClosesBackup b) ≡ Some (ClosesBackup d) = sym first ∙ ap closing same ∙ second in
-    cc
