@@ -5,6 +5,8 @@
 //! shows from which hosts a run begins with all that is promised of it.
 #![tactic(auto)]
 
+#[cfg(test)]
+mod backup_tests;
 pub mod laws;
 #[cfg(test)]
 mod lock_tests;
@@ -18,6 +20,8 @@ mod restore_tests;
 mod restoring;
 mod script;
 mod status;
+#[cfg(test)]
+mod stop_tests;
 #[cfg(test)]
 mod tests;
 
