@@ -7,7 +7,7 @@ use std::alloc::Global;
 use std::test::Fail;
 
 /// Runs one script after another on a host, and tells the first whose lines aren't these.
-pub(crate) fn wrong_case(
+fn wrong_case(
     alloc: Global,
     host: &mut MemHost,
     cases: &[(&str, &str)],

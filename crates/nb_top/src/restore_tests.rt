@@ -25,7 +25,7 @@ fn level_0(alloc: Global) -> Result<Vec<u8>, Fail> {
     Ok(database(&host).ok_or("no file")?.to_vec(alloc)?)
 }
 
-fn run_words(alloc: Global, host: &mut MemHost, texts: &[&str]) -> Result<Status, Fail> {
+pub(crate) fn run_words(alloc: Global, host: &mut MemHost, texts: &[&str]) -> Result<Status, Fail> {
     let words = words_of(alloc, texts)?;
     Ok(run(alloc, &words, host))
 }

@@ -1,106 +1,127 @@
-// Backups that a stop or a failing call interrupts, in each of their turns.
+// Backups that a stop or a failing call interrupts, in each of their turns, and merges that other sessions don't see.
 use crate::Status;
-use crate::backup_tests::{difference, lines_of};
-use crate::tests::{FIRST_RUN, host_after, replies_of, run_text};
+use crate::backup_tests::{difference, with_part};
+use crate::restore_tests::run_words;
+use crate::tests::{FIRST_RUN, host_after, lines_of, replies_of, run_text, says};
 use nb_mem::MemHost;
 use std::alloc::Global;
 use std::test::Fail;
 
-/// What is seen of a database: its pages, its backup state, and what is read of it.
-type Sight = (u32, u32, &'static str);
-
-/// A script, a second one that opens the database and reads it, and what that sees behind each front of the strokes of the first. After so
-/// many replies a stop leaves one of those from the first to the last of `fronts`.
+/// A script, a second one that opens the database and reads it, and what that may say: each row has a number of replies of the first and
+/// the lines of the second, ended by a `|` each.
 #[derive(Clone, Copy)]
 struct Case {
     script: &'static str,
     look: &'static str,
-    sights: &'static [Sight],
-    fronts: &'static [(usize, usize)],
+    rows: &'static str,
 }
 
-const END: &str = "1: open 'a.db'\n1: alter database end backup\n";
-
-/// The lines in which the second script tells what it sees.
-fn lines_for(alloc: Global, sight: Sight) -> Result<String, Fail> {
-    let (pages, state, reads) = sight;
-    Ok(format!(in alloc; "1: ok pages {pages} state {state}\n{reads}")?)
-}
-
-/// Which sight the lines tell, of those that a stop may leave after so many replies.
-fn sight_in(
-    alloc: Global,
-    case: &Case,
-    replies: usize,
-    lines: &[u8],
-) -> Result<Option<Sight>, Fail> {
-    let Some((first, last)) = case.fronts.get(replies) else {
-        return Ok(None);
-    };
-    for sight in case.sights.iter().take(last + 1).skip(*first) {
-        if lines == lines_for(alloc, *sight)?.as_bytes() {
-            return Ok(Some(*sight));
-        }
+/// The row of these lines.
+fn row_of(alloc: Global, replies: usize, lines: &[u8]) -> Result<Vec<u8>, Fail> {
+    let mut row = format!(in alloc; "{replies}|")?.into_bytes();
+    for byte in lines {
+        row.push(if *byte == b'\n' { b'|' } else { *byte })?;
     }
-    Ok(None)
+    Ok(row)
 }
 
-/// Whether the backup ends from here, and then the database is in the normal state with the same pages.
-fn ends_well(alloc: Global, host: &mut MemHost, case: &Case, sight: Sight) -> Result<bool, Fail> {
-    let (pages, state, reads) = sight;
-    if state == 0 {
-        return Ok(true);
+/// Whether these lines may be said after so many replies.
+fn is_row(alloc: Global, rows: &str, replies: usize, lines: &[u8]) -> Result<bool, Fail> {
+    let row = row_of(alloc, replies, lines)?;
+    Ok(rows.lines().any(|line| line.as_bytes() == row.as_slice()))
+}
+
+/// Where the first line has the digit of the backup state, behind `1: ok pages 13 state `.
+const STATE: usize = 21;
+
+/// What `-N` says.
+fn unlocked(alloc: Global, host: &mut MemHost) -> Result<Vec<u8>, Fail> {
+    let said = host.output().len();
+    run_words(alloc, host, &["-N", "a.db"])?;
+    let lines = host.output().get(said..).ok_or("less was said")?;
+    Ok(lines.to_vec(alloc)?)
+}
+
+/// Whether `-N` ends a backup, and none where the state is normal.
+fn is_ended(alloc: Global, host: &mut MemHost, state: u8) -> Result<bool, Fail> {
+    let said = unlocked(alloc, host)?;
+    if state == b'0' {
+        return Ok(said.as_slice() == "1: refused 6 WrongState 0\n".as_bytes());
     }
-    let status = run_text(alloc, host, END)?;
+    Ok(said.as_slice() == "1: ok scn 3\n".as_bytes() && difference(host).is_none())
+}
+
+/// Whether the database from which these lines were read is in the normal state after `-N`, each page as it was.
+fn ends_well(alloc: Global, host: &mut MemHost, look: &str, lines: &[u8]) -> Result<bool, Fail> {
+    let state = lines.get(STATE).copied().ok_or("no state")?;
+    let ended = with_part(alloc, lines, STATE, b"0")?;
+    Ok(is_ended(alloc, host, state)? && lines_of(alloc, host, look)? == ended)
+}
+
+/// Whether what stands of the database is right after so many replies. Nothing need stand before the first.
+fn is_right(alloc: Global, host: &mut MemHost, case: Case, replies: usize) -> Result<bool, Fail> {
     let lines = lines_of(alloc, host, case.look)?;
-    Ok(
-        status == Status::Done
-            && lines.as_slice() == lines_for(alloc, (pages, 0, reads))?.as_bytes()
-            && difference(host).is_none(),
-    )
+    if lines.starts_with(b"1: refused") {
+        return Ok(replies == 0);
+    }
+    Ok(is_row(alloc, case.rows, replies, &lines)? && ends_well(alloc, host, case.look, &lines)?)
 }
 
-/// Whether what is left of the database is right after so many replies. Nothing need be there before the first.
-fn is_right(alloc: Global, host: &mut MemHost, case: &Case, replies: usize) -> Result<bool, Fail> {
-    let lines = lines_of(alloc, host, case.look)?;
-    match sight_in(alloc, case, replies, &lines)? {
-        Some(sight) => ends_well(alloc, host, case, sight),
-        None => Ok(replies == 0 && lines.starts_with(b"1: refused")),
-    }
+/// Whether a stop now leaves by this pick what is right.
+fn is_left_right(alloc: Global, host: &MemHost, case: Case, pick: u64) -> Result<bool, Fail> {
+    let mut left = host.left(pick)?;
+    is_right(alloc, &mut left, case, replies_of(host))
 }
 
 /// The first of the picks 0 to 7 by which a stop now leaves something wrong.
-fn wrong_pick(alloc: Global, host: &MemHost, case: &Case) -> Result<Option<u64>, Fail> {
-    for pick in 0..8u64 {
-        let mut left = host.left(pick)?;
-        if !is_right(alloc, &mut left, case, replies_of(host))? {
+fn wrong_pick(alloc: Global, host: &MemHost, case: Case) -> Result<Option<u64>, Fail> {
+    for pick in 0..8 {
+        if !is_left_right(alloc, host, case, pick)? {
             return Ok(Some(pick));
         }
     }
     Ok(None)
 }
 
-/// The first host call, and the pick, at which a stop leaves something wrong.
-fn wrong_stop(alloc: Global, case: &Case) -> Result<Option<(u64, u64)>, Fail> {
+/// The host after a run of the script that stops at this call.
+fn stopped_at(alloc: Global, script: &str, call: u64) -> Result<MemHost, Fail> {
+    let mut host = MemHost::fused(alloc, call)?;
+    run_text(alloc, &mut host, script)?;
+    Ok(host)
+}
+
+/// Whether the script may be stopped at this call.
+fn may_stop(alloc: Global, case: Case, call: u64) -> Result<bool, Fail> {
+    let host = stopped_at(alloc, case.script, call)?;
+    Ok(wrong_pick(alloc, &host, case)?.is_none())
+}
+
+/// The first host call at which a stop leaves something wrong.
+fn wrong_stop(alloc: Global, case: Case) -> Result<Option<u64>, Fail> {
     let whole = host_after(alloc, case.script)?;
-    for stop in 1..=whole.calls() {
-        let mut host = MemHost::fused(alloc, stop)?;
-        run_text(alloc, &mut host, case.script)?;
-        if let Some(pick) = wrong_pick(alloc, &host, case)? {
-            return Ok(Some((stop, pick)));
+    for call in 1..=whole.calls() {
+        if !may_stop(alloc, case, call)? {
+            return Ok(Some(call));
         }
     }
     Ok(None)
 }
 
+/// Whether this call may fail: what stands then is right, and so is what a stop leaves of it.
+fn may_fail(alloc: Global, case: Case, call: u64) -> Result<bool, Fail> {
+    let mut host = MemHost::failing(alloc, &[call])?;
+    let status = run_text(alloc, &mut host, case.script)?;
+    let replies = replies_of(&host);
+    Ok(status == Status::Device
+        && wrong_pick(alloc, &host, case)?.is_none()
+        && is_right(alloc, &mut host, case, replies)?)
+}
+
 /// The first host call that, where it fails, leaves something wrong.
-fn wrong_failure(alloc: Global, case: &Case) -> Result<Option<u64>, Fail> {
+fn wrong_failure(alloc: Global, case: Case) -> Result<Option<u64>, Fail> {
     let whole = host_after(alloc, case.script)?;
     for call in 1..=whole.calls() {
-        let mut host = MemHost::failing(alloc, &[call])?;
-        let status = run_text(alloc, &mut host, case.script)?;
-        let replies = replies_of(&host);
-        if status != Status::Device || !is_right(alloc, &mut host, case, replies)? {
+        if !may_fail(alloc, case, call)? {
             return Ok(Some(call));
         }
     }
@@ -118,189 +139,224 @@ const BACKUP: Case = Case {
 1: alter database end backup
 ",
     look: "1: open 'a.db'\n1: read 6\n1: read 13\n1: read 7\n",
-    sights: &[
-        (13, 0, "1: ok ''\n1: refused 9 PageRange 13 13\n1: ok ''\n"),
-        (13, 0, "1: ok 'a'\n1: refused 9 PageRange 13 13\n1: ok ''\n"),
-        (13, 1, "1: ok 'a'\n1: refused 9 PageRange 13 13\n1: ok ''\n"),
-        (13, 1, "1: ok 'b'\n1: refused 9 PageRange 13 13\n1: ok ''\n"),
-        (
-            14,
-            1,
-            "1: ok 'b'\n1: refused 10 NotAllocated 13\n1: ok ''\n",
-        ),
-        (14, 1, "1: ok 'b'\n1: ok ''\n1: ok ''\n"),
-        (14, 1, "1: ok 'b'\n1: ok ''\n1: refused 10 NotAllocated 7\n"),
-        (14, 2, "1: ok 'b'\n1: ok ''\n1: refused 10 NotAllocated 7\n"),
-        (14, 0, "1: ok 'b'\n1: ok ''\n1: refused 10 NotAllocated 7\n"),
-    ],
-    fronts: &[
-        (0, 0),
-        (0, 1),
-        (1, 2),
-        (2, 3),
-        (3, 5),
-        (5, 6),
-        (6, 8),
-        (8, 8),
-    ],
+    rows: "0|1: ok pages 13 state 0|1: ok ''|1: refused 9 PageRange 13 13|1: ok ''|
+1|1: ok pages 13 state 0|1: ok ''|1: refused 9 PageRange 13 13|1: ok ''|
+1|1: ok pages 13 state 0|1: ok 'a'|1: refused 9 PageRange 13 13|1: ok ''|
+2|1: ok pages 13 state 0|1: ok 'a'|1: refused 9 PageRange 13 13|1: ok ''|
+2|1: ok pages 13 state 1|1: ok 'a'|1: refused 9 PageRange 13 13|1: ok ''|
+3|1: ok pages 13 state 1|1: ok 'a'|1: refused 9 PageRange 13 13|1: ok ''|
+3|1: ok pages 13 state 1|1: ok 'b'|1: refused 9 PageRange 13 13|1: ok ''|
+4|1: ok pages 13 state 1|1: ok 'b'|1: refused 9 PageRange 13 13|1: ok ''|
+4|1: ok pages 14 state 1|1: ok 'b'|1: refused 10 NotAllocated 13|1: ok ''|
+4|1: ok pages 14 state 1|1: ok 'b'|1: ok ''|1: ok ''|
+5|1: ok pages 14 state 1|1: ok 'b'|1: ok ''|1: ok ''|
+5|1: ok pages 14 state 1|1: ok 'b'|1: ok ''|1: refused 10 NotAllocated 7|
+6|1: ok pages 14 state 1|1: ok 'b'|1: ok ''|1: refused 10 NotAllocated 7|
+6|1: ok pages 14 state 2|1: ok 'b'|1: ok ''|1: refused 10 NotAllocated 7|
+6|1: ok pages 14 state 0|1: ok 'b'|1: ok ''|1: refused 10 NotAllocated 7|
+7|1: ok pages 14 state 0|1: ok 'b'|1: ok ''|1: refused 10 NotAllocated 7|
+",
 };
 
 #[test]
 fn a_backup_stopped(rt: HostRuntime) -> Result<(), Fail> {
-    assert_eq!(rt; wrong_stop(rt.alloc(), &BACKUP)?, None);
+    assert_eq!(rt; wrong_stop(rt.alloc(), BACKUP)?, None);
     Ok(())
 }
 
 #[test]
 fn a_backup_failing(rt: HostRuntime) -> Result<(), Fail> {
-    assert_eq!(rt; wrong_failure(rt.alloc(), &BACKUP)?, None);
+    assert_eq!(rt; wrong_failure(rt.alloc(), BACKUP)?, None);
     Ok(())
 }
 
-/// A second session writes a page while the first merges it.
+/// A second session writes a page that the first has merged already.
 const MERGE: Case = Case {
     script: "1: create database 'a.db' page_size 1024 raw 8
-schedule 1 1 1 1 1 1 2
+schedule 1 1 1 1 1 1 1 1 1 2
 1: alter database begin backup
+1: write 5 'x'
 1: write 6 'x'
+1: write 7 'x'
 1: write 8 'x'
 1: alter database end backup
 2: write 6 'y'
 ",
-    look: "1: open 'a.db'\n1: read 6\n1: read 8\n",
-    sights: &[
-        (13, 0, "1: ok ''\n1: ok ''\n"),
-        (13, 1, "1: ok ''\n1: ok ''\n"),
-        (13, 1, "1: ok 'x'\n1: ok ''\n"),
-        (13, 1, "1: ok 'x'\n1: ok 'x'\n"),
-        (13, 2, "1: ok 'x'\n1: ok 'x'\n"),
-        (13, 2, "1: ok 'y'\n1: ok 'x'\n"),
-        (13, 0, "1: ok 'y'\n1: ok 'x'\n"),
-    ],
-    fronts: &[(0, 0), (0, 1), (1, 2), (2, 3), (3, 5), (5, 6), (6, 6)],
+    look: "1: open 'a.db'\n1: read 5\n1: read 6\n1: read 7\n1: read 8\n",
+    rows: "0|1: ok pages 13 state 0|1: ok ''|1: ok ''|1: ok ''|1: ok ''|
+1|1: ok pages 13 state 0|1: ok ''|1: ok ''|1: ok ''|1: ok ''|
+1|1: ok pages 13 state 1|1: ok ''|1: ok ''|1: ok ''|1: ok ''|
+2|1: ok pages 13 state 1|1: ok ''|1: ok ''|1: ok ''|1: ok ''|
+2|1: ok pages 13 state 1|1: ok 'x'|1: ok ''|1: ok ''|1: ok ''|
+3|1: ok pages 13 state 1|1: ok 'x'|1: ok ''|1: ok ''|1: ok ''|
+3|1: ok pages 13 state 1|1: ok 'x'|1: ok 'x'|1: ok ''|1: ok ''|
+4|1: ok pages 13 state 1|1: ok 'x'|1: ok 'x'|1: ok ''|1: ok ''|
+4|1: ok pages 13 state 1|1: ok 'x'|1: ok 'x'|1: ok 'x'|1: ok ''|
+5|1: ok pages 13 state 1|1: ok 'x'|1: ok 'x'|1: ok 'x'|1: ok ''|
+5|1: ok pages 13 state 1|1: ok 'x'|1: ok 'x'|1: ok 'x'|1: ok 'x'|
+6|1: ok pages 13 state 1|1: ok 'x'|1: ok 'x'|1: ok 'x'|1: ok 'x'|
+6|1: ok pages 13 state 2|1: ok 'x'|1: ok 'x'|1: ok 'x'|1: ok 'x'|
+6|1: ok pages 13 state 2|1: ok 'x'|1: ok 'y'|1: ok 'x'|1: ok 'x'|
+7|1: ok pages 13 state 2|1: ok 'x'|1: ok 'y'|1: ok 'x'|1: ok 'x'|
+7|1: ok pages 13 state 0|1: ok 'x'|1: ok 'y'|1: ok 'x'|1: ok 'x'|
+8|1: ok pages 13 state 0|1: ok 'x'|1: ok 'y'|1: ok 'x'|1: ok 'x'|
+",
 };
+
+const MERGE_LINES: &str = "1: ok pages 13
+1: ok scn 2
+1: ok
+1: ok
+1: ok
+1: ok
+2: ok
+1: ok scn 3
+";
+
+/// How many replies are said by a script that stops at this call.
+fn replies_before(alloc: Global, script: &str, call: u64) -> Result<usize, Fail> {
+    let host = stopped_at(alloc, script, call)?;
+    Ok(replies_of(&host))
+}
+
+/// The first call at which a stop lets so many replies be said.
+fn call_after(alloc: Global, script: &str, replies: usize) -> Result<u64, Fail> {
+    for call in 1..200 {
+        if replies_before(alloc, script, call)? == replies {
+            return Ok(call);
+        }
+    }
+    Err(Fail::from("fewer replies"))
+}
+
+/// The first of the picks 0 to 7 by which a stop now leaves a database of which the script says other lines.
+fn wrong_lines(
+    alloc: Global,
+    host: &MemHost,
+    look: &str,
+    lines: &str,
+) -> Result<Option<u64>, Fail> {
+    for pick in 0..8 {
+        let mut left = host.left(pick)?;
+        if !says(alloc, &mut left, look, lines)? {
+            return Ok(Some(pick));
+        }
+    }
+    Ok(None)
+}
+
+/// Session 2 is stopped once the slot of its page is kept for good, and before the page is written to the main file: that is the call
+/// before its reply. Its page is read from the difference file, in the merge state.
+fn wrong_in_the_merge(alloc: Global) -> Result<Option<u64>, Fail> {
+    let after = call_after(alloc, MERGE.script, 7)?;
+    let host = stopped_at(alloc, MERGE.script, after.saturating_sub(2))?;
+    wrong_lines(
+        alloc,
+        &host,
+        "1: open 'a.db'\n1: read 6\n",
+        "1: ok pages 13 state 2\n1: ok 'y'\n",
+    )
+}
 
 #[test]
 fn merge_with_a_second_session(rt: HostRuntime) -> Result<(), Fail> {
     let mut host = MemHost::new(rt.alloc())?;
-    assert_eq!(rt;
-        lines_of(rt.alloc(), &mut host, MERGE.script)?.as_slice(),
-        b"1: ok pages 13\n1: ok scn 2\n1: ok\n1: ok\n2: ok\n1: ok scn 3\n".as_slice()
-    );
-    assert_eq!(rt; wrong_stop(rt.alloc(), &MERGE)?, None);
+    assert!(rt; says(rt.alloc(), &mut host, MERGE.script, MERGE_LINES)?);
+    assert_eq!(rt; wrong_stop(rt.alloc(), MERGE)?, None);
+    assert_eq!(rt; wrong_in_the_merge(rt.alloc())?, None);
     Ok(())
 }
 
-/// Two other sessions write, make and free pages between the turns of a merge, as the seed orders them.
+/// Under seed 8, of the five entries of a merge the first two are merged one by one between other sessions' writes, new pages and frees, on
+/// pages that are merged already, that are to be merged, and others.
 const SEEDED: Case = Case {
     script: "1: create database 'a.db' page_size 1024 raw 8
 seed 8
 1: alter database begin backup
 1: write 5 'x'
 1: write 11 'x'
+1: write 12 'x'
 1: alter database end backup
 2: write 6 'b'
+2: read 5
 2: page new
 2: write 13 'c'
 3: read 6
 3: write 9 'd'
+3: page new
 3: free 9
+3: write 11 'e'
+3: free 12
 ",
-    look: "1: open 'a.db'\n1: read 5\n1: read 6\n1: read 9\n1: read 11\n1: read 13\n",
-    sights: &[
-        (
-            13,
-            0,
-            "1: ok ''\n1: ok ''\n1: ok ''\n1: ok ''\n1: refused 9 PageRange 13 13\n",
-        ),
-        (
-            13,
-            1,
-            "1: ok ''\n1: ok ''\n1: ok ''\n1: ok ''\n1: refused 9 PageRange 13 13\n",
-        ),
-        (
-            13,
-            1,
-            "1: ok 'x'\n1: ok ''\n1: ok ''\n1: ok ''\n1: refused 9 PageRange 13 13\n",
-        ),
-        (
-            13,
-            1,
-            "1: ok 'x'\n1: ok 'b'\n1: ok ''\n1: ok ''\n1: refused 9 PageRange 13 13\n",
-        ),
-        (
-            13,
-            1,
-            "1: ok 'x'\n1: ok 'b'\n1: ok ''\n1: ok 'x'\n1: refused 9 PageRange 13 13\n",
-        ),
-        (
-            14,
-            1,
-            "1: ok 'x'\n1: ok 'b'\n1: ok ''\n1: ok 'x'\n1: refused 10 NotAllocated 13\n",
-        ),
-        (
-            14,
-            1,
-            "1: ok 'x'\n1: ok 'b'\n1: ok ''\n1: ok 'x'\n1: ok ''\n",
-        ),
-        (
-            14,
-            2,
-            "1: ok 'x'\n1: ok 'b'\n1: ok ''\n1: ok 'x'\n1: ok ''\n",
-        ),
-        (
-            14,
-            2,
-            "1: ok 'x'\n1: ok 'b'\n1: ok 'd'\n1: ok 'x'\n1: ok ''\n",
-        ),
-        (
-            14,
-            2,
-            "1: ok 'x'\n1: ok 'b'\n1: ok 'd'\n1: ok 'x'\n1: ok 'c'\n",
-        ),
-        (
-            14,
-            2,
-            "1: ok 'x'\n1: ok 'b'\n1: refused 10 NotAllocated 9\n1: ok 'x'\n1: ok 'c'\n",
-        ),
-        (
-            14,
-            0,
-            "1: ok 'x'\n1: ok 'b'\n1: refused 10 NotAllocated 9\n1: ok 'x'\n1: ok 'c'\n",
-        ),
-    ],
-    fronts: &[
-        (0, 0),
-        (0, 1),
-        (1, 2),
-        (2, 3),
-        (3, 4),
-        (4, 4),
-        (4, 6),
-        (6, 8),
-        (8, 9),
-        (9, 10),
-        (10, 11),
-        (11, 11),
-    ],
+    look: "1: open 'a.db'\n1: read 5\n1: read 6\n1: read 9\n1: read 11\n1: read 12\n1: read 13\n",
+    rows: "0|1: ok pages 13 state 0|1: ok ''|1: ok ''|1: ok ''|1: ok ''|1: ok ''|1: refused 9 PageRange 13 13|
+1|1: ok pages 13 state 0|1: ok ''|1: ok ''|1: ok ''|1: ok ''|1: ok ''|1: refused 9 PageRange 13 13|
+1|1: ok pages 13 state 1|1: ok ''|1: ok ''|1: ok ''|1: ok ''|1: ok ''|1: refused 9 PageRange 13 13|
+2|1: ok pages 13 state 1|1: ok ''|1: ok ''|1: ok ''|1: ok ''|1: ok ''|1: refused 9 PageRange 13 13|
+2|1: ok pages 13 state 1|1: ok 'x'|1: ok ''|1: ok ''|1: ok ''|1: ok ''|1: refused 9 PageRange 13 13|
+3|1: ok pages 13 state 1|1: ok 'x'|1: ok ''|1: ok ''|1: ok ''|1: ok ''|1: refused 9 PageRange 13 13|
+3|1: ok pages 13 state 1|1: ok 'x'|1: ok 'b'|1: ok ''|1: ok ''|1: ok ''|1: refused 9 PageRange 13 13|
+4|1: ok pages 13 state 1|1: ok 'x'|1: ok 'b'|1: ok ''|1: ok ''|1: ok ''|1: refused 9 PageRange 13 13|
+4|1: ok pages 13 state 1|1: ok 'x'|1: ok 'b'|1: ok ''|1: ok 'x'|1: ok ''|1: refused 9 PageRange 13 13|
+5|1: ok pages 13 state 1|1: ok 'x'|1: ok 'b'|1: ok ''|1: ok 'x'|1: ok ''|1: refused 9 PageRange 13 13|
+6|1: ok pages 13 state 1|1: ok 'x'|1: ok 'b'|1: ok ''|1: ok 'x'|1: ok ''|1: refused 9 PageRange 13 13|
+7|1: ok pages 13 state 1|1: ok 'x'|1: ok 'b'|1: ok ''|1: ok 'x'|1: ok ''|1: refused 9 PageRange 13 13|
+7|1: ok pages 13 state 1|1: ok 'x'|1: ok 'b'|1: ok ''|1: ok 'x'|1: ok 'x'|1: refused 9 PageRange 13 13|
+8|1: ok pages 13 state 1|1: ok 'x'|1: ok 'b'|1: ok ''|1: ok 'x'|1: ok 'x'|1: refused 9 PageRange 13 13|
+8|1: ok pages 13 state 2|1: ok 'x'|1: ok 'b'|1: ok ''|1: ok 'x'|1: ok 'x'|1: refused 9 PageRange 13 13|
+8|1: ok pages 13 state 2|1: ok 'x'|1: ok 'b'|1: ok 'd'|1: ok 'x'|1: ok 'x'|1: refused 9 PageRange 13 13|
+9|1: ok pages 13 state 2|1: ok 'x'|1: ok 'b'|1: ok 'd'|1: ok 'x'|1: ok 'x'|1: refused 9 PageRange 13 13|
+9|1: ok pages 14 state 2|1: ok 'x'|1: ok 'b'|1: ok 'd'|1: ok 'x'|1: ok 'x'|1: refused 10 NotAllocated 13|
+9|1: ok pages 14 state 2|1: ok 'x'|1: ok 'b'|1: ok 'd'|1: ok 'x'|1: ok 'x'|1: ok ''|
+10|1: ok pages 14 state 2|1: ok 'x'|1: ok 'b'|1: ok 'd'|1: ok 'x'|1: ok 'x'|1: ok ''|
+10|1: ok pages 15 state 2|1: ok 'x'|1: ok 'b'|1: ok 'd'|1: ok 'x'|1: ok 'x'|1: ok ''|
+11|1: ok pages 15 state 2|1: ok 'x'|1: ok 'b'|1: ok 'd'|1: ok 'x'|1: ok 'x'|1: ok ''|
+11|1: ok pages 15 state 2|1: ok 'x'|1: ok 'b'|1: refused 10 NotAllocated 9|1: ok 'x'|1: ok 'x'|1: ok ''|
+12|1: ok pages 15 state 2|1: ok 'x'|1: ok 'b'|1: refused 10 NotAllocated 9|1: ok 'x'|1: ok 'x'|1: ok ''|
+12|1: ok pages 15 state 2|1: ok 'x'|1: ok 'b'|1: refused 10 NotAllocated 9|1: ok 'x'|1: ok 'x'|1: ok 'c'|
+13|1: ok pages 15 state 2|1: ok 'x'|1: ok 'b'|1: refused 10 NotAllocated 9|1: ok 'x'|1: ok 'x'|1: ok 'c'|
+13|1: ok pages 15 state 2|1: ok 'x'|1: ok 'b'|1: refused 10 NotAllocated 9|1: ok 'e'|1: ok 'x'|1: ok 'c'|
+14|1: ok pages 15 state 2|1: ok 'x'|1: ok 'b'|1: refused 10 NotAllocated 9|1: ok 'e'|1: ok 'x'|1: ok 'c'|
+14|1: ok pages 15 state 2|1: ok 'x'|1: ok 'b'|1: refused 10 NotAllocated 9|1: ok 'e'|1: refused 10 NotAllocated 12|1: ok 'c'|
+15|1: ok pages 15 state 2|1: ok 'x'|1: ok 'b'|1: refused 10 NotAllocated 9|1: ok 'e'|1: refused 10 NotAllocated 12|1: ok 'c'|
+15|1: ok pages 15 state 0|1: ok 'x'|1: ok 'b'|1: refused 10 NotAllocated 9|1: ok 'e'|1: refused 10 NotAllocated 12|1: ok 'c'|
+16|1: ok pages 15 state 0|1: ok 'x'|1: ok 'b'|1: refused 10 NotAllocated 9|1: ok 'e'|1: refused 10 NotAllocated 12|1: ok 'c'|
+",
 };
+
+const SEEDED_LINES: &str = "1: ok pages 13
+1: ok scn 2
+1: ok
+2: ok
+1: ok
+3: ok 'b'
+2: ok 'x'
+1: ok
+3: ok
+2: ok page 13
+3: ok page 14
+3: ok
+2: ok
+3: ok
+3: ok
+1: ok scn 3
+";
 
 #[test]
 fn sessions_stopped_under_a_seed(rt: HostRuntime) -> Result<(), Fail> {
     let mut host = MemHost::new(rt.alloc())?;
-    assert_eq!(rt;
-        lines_of(rt.alloc(), &mut host, SEEDED.script)?.as_slice(),
-        b"1: ok pages 13\n1: ok scn 2\n1: ok\n2: ok\n1: ok\n3: ok 'b'\n2: ok page 13\n3: ok\n2: ok\n3: ok\n1: ok scn 3\n".as_slice()
-    );
-    assert_eq!(rt; wrong_stop(rt.alloc(), &SEEDED)?, None);
+    assert!(rt; says(rt.alloc(), &mut host, SEEDED.script, SEEDED_LINES)?);
+    assert_eq!(rt; wrong_stop(rt.alloc(), SEEDED)?, None);
     Ok(())
 }
 
 /// A backup is begun, three pages are written, and it ends with its merge.
-const SESSION_1: &str =
-    "1: alter database begin backup\n1: write 5 'x'\n1: write 11 'x'\n1: write 12 'x'\n1: alter database end backup\n";
+const WITH_MERGE: &str =
+    "1: alter database begin backup\n1: write 5 'x'\n1: write 11 'x'\n1: write 12 'x'\n1: write 7 'x'\n1: alter database end backup\n";
 
-const WITHOUT_MERGE: &str = "1: write 5 'x'\n1: write 11 'x'\n1: write 12 'x'\n";
+/// The same turns without the backup.
+const WITHOUT_MERGE: &str =
+    "1: read 5\n1: write 5 'x'\n1: write 11 'x'\n1: write 12 'x'\n1: write 7 'x'\n1: read 5\n";
 
 /// What two other sessions ask meanwhile.
 const OTHERS: &str = "2: write 6 'b'
@@ -311,14 +367,16 @@ const OTHERS: &str = "2: write 6 'b'
 2: read 9
 2: page new
 2: write 8 'e'
+2: read 12
 3: read 6
 3: page new
 3: write 9 'd'
 3: read 7
 3: free 10
 3: read 8
-3: write 6 'f'
+3: write 11 'f'
 3: read 13
+3: free 5
 ";
 
 /// What is said to the sessions behind the first, under the order of turns of that seed.
@@ -337,11 +395,17 @@ fn said_to_others(alloc: Global, seed: u32, session_1: &str) -> Result<Vec<u8>, 
     Ok(said)
 }
 
+/// Whether under this seed the other sessions are told the same with the merge and without it.
+fn is_hidden(alloc: Global, seed: u32) -> Result<bool, Fail> {
+    let said = said_to_others(alloc, seed, WITH_MERGE)?;
+    let wanted = said_to_others(alloc, seed, WITHOUT_MERGE)?;
+    Ok(said.len() > 100 && said == wanted)
+}
+
 /// The first of twenty seeds under which a merge shows in what other sessions are told.
 fn seed_that_shows(alloc: Global) -> Result<Option<u32>, Fail> {
-    for seed in 0..20u32 {
-        let said = said_to_others(alloc, seed, SESSION_1)?;
-        if said.len() < 100 || said != said_to_others(alloc, seed, WITHOUT_MERGE)? {
+    for seed in 0..20 {
+        if !is_hidden(alloc, seed)? {
             return Ok(Some(seed));
         }
     }
@@ -354,28 +418,89 @@ fn a_merge_under_twenty_seeds(rt: HostRuntime) -> Result<(), Fail> {
     Ok(())
 }
 
-/// The end is stopped before the difference file is removed: the next begin empties it.
+/// A backup begins from the command line, and a script writes a page. The host may stop.
+fn write_locked(alloc: Global, host: &mut MemHost) -> Result<(), Fail> {
+    run_text(alloc, host, FIRST_RUN)?;
+    run_words(alloc, host, &["-L", "a.db"])?;
+    run_text(alloc, host, "1: open 'a.db'\n1: write 6 'new'\n")?;
+    Ok(())
+}
+
+/// The first of the picks 0 to 7 by which a stop so many calls before the end leaves a database of which the script says other lines.
+fn wrong_write(alloc: Global, calls: u64, lines: &str) -> Result<Option<u64>, Fail> {
+    let mut whole = MemHost::new(alloc)?;
+    write_locked(alloc, &mut whole)?;
+    let mut host = MemHost::fused(alloc, whole.calls().saturating_sub(calls))?;
+    write_locked(alloc, &mut host)?;
+    wrong_lines(
+        alloc,
+        &host,
+        "1: open 'a.db'\n1: read 6\n1: show header\n",
+        lines,
+    )
+}
+
+/// The last calls of the write are those of the slot, its sync, the write of the allocation page, its sync, and the reply. The host is
+/// stopped at the write of the allocation page, and at the reply.
+#[test]
+fn stalled_write_stopped(rt: HostRuntime) -> Result<(), Fail> {
+    assert_eq!(rt;
+        wrong_write(
+            rt.alloc(),
+            2,
+            "1: ok pages 13 state 1\n1: ok 'hello'\n1: ok size 1024 pages 13 state 1 scn 2 guid 00000000-0000-0000-0000-000000000001 forced 1 access 0 delta 1\n"
+        )?,
+        None
+    );
+    assert_eq!(rt;
+        wrong_write(
+            rt.alloc(),
+            0,
+            "1: ok pages 13 state 1\n1: ok 'new'\n1: ok size 1024 pages 13 state 1 scn 2 guid 00000000-0000-0000-0000-000000000001 forced 1 access 0 delta 2\n"
+        )?,
+        None
+    );
+    Ok(())
+}
+
+/// A backup is begun, a page is written, and it is ended from the command line. The host may stop.
+fn write_and_unlock(alloc: Global, host: &mut MemHost) -> Result<(), Fail> {
+    run_text(alloc, host, FIRST_RUN)?;
+    run_text(
+        alloc,
+        host,
+        "1: open 'a.db'\n1: alter database begin backup\n1: write 6 'new'\n",
+    )?;
+    run_words(alloc, host, &["-N", "a.db"])?;
+    Ok(())
+}
+
+/// What is left of a backup whose end is stopped before the difference file is removed, which is the call before its reply.
+fn left_unremoved(alloc: Global) -> Result<MemHost, Fail> {
+    let mut whole = MemHost::new(alloc)?;
+    write_and_unlock(alloc, &mut whole)?;
+    let mut host = MemHost::fused(alloc, whole.calls().saturating_sub(1))?;
+    write_and_unlock(alloc, &mut host)?;
+    Ok(host.left(0)?)
+}
+
+/// Whether the difference file has one page of zeros.
+fn is_blank(host: &MemHost) -> bool {
+    difference(host) == Some(&[0; 1024])
+}
+
 #[test]
 fn finish_stopped(rt: HostRuntime) -> Result<(), Fail> {
-    let alloc = rt.alloc();
-    let text = format!(in alloc;
-        "{FIRST_RUN}1: alter database begin backup\n1: write 6 'new'\n1: alter database end backup\n"
-    )?;
-    let whole = host_after(alloc, &text)?;
-    let mut host = MemHost::fused(alloc, whole.calls() - 1)?;
-    run_text(alloc, &mut host, &text)?;
-    let mut left = host.left(0)?;
+    let mut left = left_unremoved(rt.alloc())?;
     assert!(rt; difference(&left).is_some());
-    assert_eq!(rt;
-        lines_of(
-            alloc,
+    assert!(rt;
+        says(
+            rt.alloc(),
             &mut left,
-            "1: open 'a.db'\n1: alter database begin backup\n1: read 6\n1: show header\n"
+            "1: open 'a.db'\n1: alter database begin backup\n1: read 6\n1: show header\n",
+            "1: ok pages 13 state 0\n1: ok scn 4\n1: ok 'new'\n1: ok size 1024 pages 13 state 1 scn 4 guid 00000000-0000-0000-0000-000000000001 forced 1 access 0 delta 0\n",
         )?
-        .as_slice(),
-        b"1: ok pages 13 state 0\n1: ok scn 4\n1: ok 'new'\n1: ok size 1024 pages 13 state 1 scn 4 guid 00000000-0000-0000-0000-000000000001 forced 1 access 0 delta 0\n".as_slice()
     );
-    let delta = difference(&left).ok_or("no difference file")?;
-    assert!(rt; delta.len() == 1024 && delta.iter().all(|byte| *byte == 0));
+    assert!(rt; is_blank(&left));
     Ok(())
 }

@@ -29,6 +29,35 @@ pub(crate) fn run_text(alloc: Global, host: &mut MemHost, text: &str) -> Result<
     Ok(run(alloc, &words, host))
 }
 
+/// What a run of this text says on the host.
+pub(crate) fn lines_of(alloc: Global, host: &mut MemHost, text: &str) -> Result<Vec<u8>, Fail> {
+    let said = host.output().len();
+    run_text(alloc, host, text)?;
+    let lines = host.output().get(said..).ok_or("less was said")?;
+    Ok(lines.to_vec(alloc)?)
+}
+
+/// The status of a run to its end that says these lines.
+fn status_of(lines: &str) -> Status {
+    if lines.contains("refused") {
+        Status::Refused
+    } else {
+        Status::Done
+    }
+}
+
+/// Whether a run of this text says these lines, and ends so.
+pub(crate) fn says(
+    alloc: Global,
+    host: &mut MemHost,
+    text: &str,
+    lines: &str,
+) -> Result<bool, Fail> {
+    let said = host.output().len();
+    let status = run_text(alloc, host, text)?;
+    Ok(status == status_of(lines) && host.output().get(said..) == Some(lines.as_bytes()))
+}
+
 /// A host after a run of this text that nothing stopped.
 pub(crate) fn host_after(alloc: Global, text: &str) -> Result<MemHost, Fail> {
     let mut host = MemHost::new(alloc)?;
@@ -293,8 +322,23 @@ schedule 16 16
             Status::Refused,
             "16: ok pages 13\n16: ok\n16: refused 9 PageRange 99 13\n3: ok\n9: ok ''\n16: ok\n3: ok 'p'\n9: ok 'p'\n16: ok 'c'\n",
         ),
-        // The numbers of this seed are 15 16 2 2 10 4 9 5 12 7 4 4 1 1 .., and the next 15 is the 52nd.
-        (
+    ];
+    for (text, status, output) in cases {
+        let mut host = MemHost::new(rt.alloc())?;
+        assert_eq!(rt; run_text(rt.alloc(), &mut host, text)?, status);
+        assert_eq!(rt; host.output(), output.as_bytes());
+    }
+    Ok(())
+}
+
+/// The numbers of this seed are 15 16 2 2 10 4 9 5 12 7 4 4 1 1 .., and the next 15 is the 52nd.
+#[test]
+fn seed_seven(rt: HostRuntime) -> Result<(), Fail> {
+    let mut host = MemHost::new(rt.alloc())?;
+    assert!(rt;
+        says(
+            rt.alloc(),
+            &mut host,
             "1: create database 'a.db' page_size 1024 raw 8
 seed 7
 1: write 5 'one'
@@ -306,15 +350,9 @@ seed 7
 15: write 5 'fifteen'
 15: read 5
 ",
-            Status::Done,
             "1: ok pages 13\n15: ok\n2: ok\n2: ok 'two'\n4: ok\n4: ok 'four'\n1: ok\n1: ok 'one'\n15: ok 'one'\n",
-        ),
-    ];
-    for (text, status, output) in cases {
-        let mut host = MemHost::new(rt.alloc())?;
-        assert_eq!(rt; run_text(rt.alloc(), &mut host, text)?, status);
-        assert_eq!(rt; host.output(), output.as_bytes());
-    }
+        )?
+    );
     Ok(())
 }
 
@@ -419,12 +457,7 @@ fn faulty_scripts(rt: HostRuntime) -> Result<(), Fail> {
     ];
     let mut output = String::new(alloc);
     for (text, lines) in cases {
-        let wanted = if lines.contains("refused") {
-            Status::Refused
-        } else {
-            Status::Done
-        };
-        assert_eq!(rt; run_text(alloc, &mut host, text)?, wanted);
+        assert_eq!(rt; run_text(alloc, &mut host, text)?, status_of(lines));
         output.push_str(lines)?;
         assert_eq!(rt; host.output(), output.as_bytes());
     }
