@@ -112,9 +112,11 @@ fn may_fail(alloc: Global, case: Case, call: u64) -> Result<bool, Fail> {
     let mut host = MemHost::failing(alloc, &[call])?;
     let status = run_text(alloc, &mut host, case.script)?;
     let replies = replies_of(&host);
-    Ok(status == Status::Device
-        && wrong_pick(alloc, &host, case)?.is_none()
-        && is_right(alloc, &mut host, case, replies)?)
+    Ok(
+        status == Status::Device
+            && wrong_pick(alloc, &host, case)?.is_none()
+            && is_right(alloc, &mut host, case, replies)?,
+    )
 }
 
 /// The first host call that, where it fails, leaves something wrong.
