@@ -1,5 +1,5 @@
 // Backups that begin and end: what each statement says, and what stands in both files.
-use crate::tests::{CREATED, FIRST_RUN, database, host_after, run_text, says};
+use crate::tests::{CREATED, FIRST_RUN, database, host_after, run_text, says, with_part};
 use nb_host::Name;
 use nb_mem::MemHost;
 use std::alloc::Global;
@@ -11,23 +11,8 @@ pub(crate) fn difference(host: &MemHost) -> Option<&[u8]> {
     host.file(&name)
 }
 
-/// The same bytes but for a part.
-pub(crate) fn with_part(
-    alloc: Global,
-    bytes: &[u8],
-    at: usize,
-    part: &[u8],
-) -> Result<Vec<u8>, Fail> {
-    let front = bytes.get(..at).ok_or("no such place")?;
-    let rest = bytes.get(at..).ok_or("no such place")?;
-    let mut changed = front.to_vec(alloc)?;
-    changed.extend_from_slice(part)?;
-    changed.extend_from_slice(rest.get(part.len()..).ok_or("too long a part")?)?;
-    Ok(changed)
-}
-
 /// Whether the bytes have this part at this place.
-fn has_part(bytes: &[u8], at: usize, part: &[u8]) -> bool {
+pub(crate) fn has_part(bytes: &[u8], at: usize, part: &[u8]) -> bool {
     match bytes.get(at..) {
         Some(rest) => rest.starts_with(part),
         None => false,

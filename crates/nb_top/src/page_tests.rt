@@ -1,26 +1,12 @@
 // Databases that are opened again, and pages that are new or given back.
 use crate::Status;
-use crate::tests::{FIRST_RUN, database, host_after, replies_of, run_text};
+use crate::tests::{
+    FIRST_RUN, database, host_after, replies_of, run_text, says, with_part, wrong_case,
+};
 use nb_host::Name;
 use nb_mem::MemHost;
 use std::alloc::Global;
 use std::test::Fail;
-
-/// Runs one script after another on a host, and tells the first whose lines aren't these.
-fn wrong_case(
-    alloc: Global,
-    host: &mut MemHost,
-    cases: &[(&str, &str)],
-) -> Result<Option<usize>, Fail> {
-    for (number, (text, lines)) in cases.iter().enumerate() {
-        let said = host.output().len();
-        run_text(alloc, host, text)?;
-        if host.output().get(said..) != Some(lines.as_bytes()) {
-            return Ok(Some(number));
-        }
-    }
-    Ok(None)
-}
 
 #[test]
 fn open_again(rt: HostRuntime) -> Result<(), Fail> {
@@ -101,26 +87,24 @@ fn open_in_each_state(rt: HostRuntime) -> Result<(), Fail> {
     Ok(())
 }
 
+/// Whether a database whose header has this state isn't opened, with these lines, and stays as it is.
+fn is_not_opened(alloc: Global, state: &[u8], lines: &str) -> Result<bool, Fail> {
+    let mut host = host_after(alloc, FIRST_RUN)?;
+    let bytes = with_part(alloc, database(&host).ok_or("no file")?, 22, state)?;
+    host.put_file(&Name::read("a.db").ok_or("no name")?, &bytes)?;
+    Ok(
+        says(alloc, &mut host, "1: open 'a.db'\n", lines)?
+            && database(&host) == Some(bytes.as_slice()),
+    )
+}
+
 /// A database whose header says a state that its files don't have.
 #[test]
 fn not_opened(rt: HostRuntime) -> Result<(), Fail> {
-    let name = Name::read("a.db").ok_or("no name")?;
-    let cases = [
-        (1, "1: refused 3 NoFile a.db.delta\n"),
-        (2, "1: refused 3 NoFile a.db.delta\n"),
-        (3, "1: refused 8 Unfinished\n"),
-    ];
-    for (state, lines) in cases {
-        let mut host = host_after(rt.alloc(), FIRST_RUN)?;
-        let mut bytes = database(&host).ok_or("no file")?.to_vec(rt.alloc())?;
-        *bytes.get_mut(22).ok_or("no state")? = state;
-        host.put_file(&name, &bytes)?;
-        assert_eq!(rt;
-            wrong_case(rt.alloc(), &mut host, &[("1: open 'a.db'\n", lines)])?,
-            None
-        );
-        assert!(rt; database(&host) == Some(&bytes[..]));
-    }
+    let alloc = rt.alloc();
+    assert!(rt; is_not_opened(alloc, b"\x01", "1: refused 3 NoFile a.db.delta\n")?);
+    assert!(rt; is_not_opened(alloc, b"\x02", "1: refused 3 NoFile a.db.delta\n")?);
+    assert!(rt; is_not_opened(alloc, b"\x03", "1: refused 8 Unfinished\n")?);
     Ok(())
 }
 

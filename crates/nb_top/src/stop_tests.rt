@@ -1,8 +1,10 @@
 // Backups that a stop or a failing call interrupts, in each of their turns, and merges that other sessions don't see.
 use crate::Status;
-use crate::backup_tests::{difference, with_part};
+use crate::backup_tests::{difference, has_part};
 use crate::restore_tests::run_words;
-use crate::tests::{FIRST_RUN, host_after, lines_of, replies_of, run_text, says};
+use crate::tests::{
+    FIRST_RUN, database, host_after, lines_of, replies_of, run_text, says, with_part,
+};
 use nb_mem::MemHost;
 use std::alloc::Global;
 use std::test::Fail;
@@ -96,10 +98,10 @@ fn may_stop(alloc: Global, case: Case, call: u64) -> Result<bool, Fail> {
     Ok(wrong_pick(alloc, &host, case)?.is_none())
 }
 
-/// The first host call at which a stop leaves something wrong.
+/// The first host call at which a stop leaves something wrong. The last of them is the one behind the script.
 fn wrong_stop(alloc: Global, case: Case) -> Result<Option<u64>, Fail> {
     let whole = host_after(alloc, case.script)?;
-    for call in 1..=whole.calls() {
+    for call in 1..=whole.calls().saturating_add(1) {
         if !may_stop(alloc, case, call)? {
             return Ok(Some(call));
         }
@@ -247,17 +249,31 @@ fn wrong_lines(
     Ok(None)
 }
 
+/// Whether a file has these bytes.
+fn is_in(file: Option<&[u8]>, at: usize, part: &[u8]) -> bool {
+    match file {
+        Some(bytes) => has_part(bytes, at, part),
+        None => false,
+    }
+}
+
+/// Whether page 6 has session 2's text in the third slot of the difference file, and not in the main file.
+fn is_in_the_slot(host: &MemHost) -> bool {
+    is_in(difference(host), 3088, b"\x01\0y") && is_in(database(host), 6160, b"\x01\0x")
+}
+
 /// Session 2 is stopped once the slot of its page is kept for good, and before the page is written to the main file: that is the call
-/// before its reply. Its page is read from the difference file, in the merge state.
-fn wrong_in_the_merge(alloc: Global) -> Result<Option<u64>, Fail> {
+/// before its reply. Whatever is left is in the merge state, and has its text.
+fn may_stop_in_the_merge(alloc: Global) -> Result<bool, Fail> {
     let after = call_after(alloc, MERGE.script, 7)?;
     let host = stopped_at(alloc, MERGE.script, after.saturating_sub(2))?;
-    wrong_lines(
+    let wrong = wrong_lines(
         alloc,
         &host,
         "1: open 'a.db'\n1: read 6\n",
         "1: ok pages 13 state 2\n1: ok 'y'\n",
-    )
+    )?;
+    Ok(is_in_the_slot(&host) && wrong.is_none())
 }
 
 #[test]
@@ -265,7 +281,7 @@ fn merge_with_a_second_session(rt: HostRuntime) -> Result<(), Fail> {
     let mut host = MemHost::new(rt.alloc())?;
     assert!(rt; says(rt.alloc(), &mut host, MERGE.script, MERGE_LINES)?);
     assert_eq!(rt; wrong_stop(rt.alloc(), MERGE)?, None);
-    assert_eq!(rt; wrong_in_the_merge(rt.alloc())?, None);
+    assert!(rt; may_stop_in_the_merge(rt.alloc())?);
     Ok(())
 }
 
@@ -352,7 +368,7 @@ fn sessions_stopped_under_a_seed(rt: HostRuntime) -> Result<(), Fail> {
     Ok(())
 }
 
-/// A backup is begun, three pages are written, and it ends with its merge.
+/// A backup is begun, four pages are written, which makes five entries with the SCN page, and it ends with its merge.
 const WITH_MERGE: &str =
     "1: alter database begin backup\n1: write 5 'x'\n1: write 11 'x'\n1: write 12 'x'\n1: write 7 'x'\n1: alter database end backup\n";
 
@@ -428,39 +444,39 @@ fn write_locked(alloc: Global, host: &mut MemHost) -> Result<(), Fail> {
     Ok(())
 }
 
-/// The first of the picks 0 to 7 by which a stop so many calls before the end leaves a database of which the script says other lines.
-fn wrong_write(alloc: Global, calls: u64, lines: &str) -> Result<Option<u64>, Fail> {
+/// Whether a stop so many calls before the end is behind the write of the page's slot, and whatever is left is read so.
+fn may_stop_before(alloc: Global, calls: u64, lines: &str) -> Result<bool, Fail> {
     let mut whole = MemHost::new(alloc)?;
     write_locked(alloc, &mut whole)?;
     let mut host = MemHost::fused(alloc, whole.calls().saturating_sub(calls))?;
     write_locked(alloc, &mut host)?;
-    wrong_lines(
+    let wrong = wrong_lines(
         alloc,
         &host,
         "1: open 'a.db'\n1: read 6\n1: show header\n",
         lines,
-    )
+    )?;
+    let is_written = is_in(difference(&host), 2064, b"\x03\0new");
+    Ok(is_written && wrong.is_none())
 }
 
 /// The last calls of the write are those of the slot, its sync, the write of the allocation page, its sync, and the reply. The host is
 /// stopped at the write of the allocation page, and at the reply.
 #[test]
 fn stalled_write_stopped(rt: HostRuntime) -> Result<(), Fail> {
-    assert_eq!(rt;
-        wrong_write(
+    assert!(rt;
+        may_stop_before(
             rt.alloc(),
             2,
             "1: ok pages 13 state 1\n1: ok 'hello'\n1: ok size 1024 pages 13 state 1 scn 2 guid 00000000-0000-0000-0000-000000000001 forced 1 access 0 delta 1\n"
-        )?,
-        None
+        )?
     );
-    assert_eq!(rt;
-        wrong_write(
+    assert!(rt;
+        may_stop_before(
             rt.alloc(),
             0,
             "1: ok pages 13 state 1\n1: ok 'new'\n1: ok size 1024 pages 13 state 1 scn 2 guid 00000000-0000-0000-0000-000000000001 forced 1 access 0 delta 2\n"
-        )?,
-        None
+        )?
     );
     Ok(())
 }
@@ -477,32 +493,41 @@ fn write_and_unlock(alloc: Global, host: &mut MemHost) -> Result<(), Fail> {
     Ok(())
 }
 
-/// What is left of a backup whose end is stopped before the difference file is removed, which is the call before its reply.
-fn left_unremoved(alloc: Global) -> Result<MemHost, Fail> {
+/// The host after the end is stopped before the difference file is removed, which is the call before its reply.
+fn stopped_unremoved(alloc: Global) -> Result<MemHost, Fail> {
     let mut whole = MemHost::new(alloc)?;
     write_and_unlock(alloc, &mut whole)?;
     let mut host = MemHost::fused(alloc, whole.calls().saturating_sub(1))?;
     write_and_unlock(alloc, &mut host)?;
-    Ok(host.left(0)?)
+    Ok(host)
 }
 
-/// Whether the difference file has one page of zeros.
-fn is_blank(host: &MemHost) -> bool {
-    difference(host) == Some(&[0; 1024])
+/// Whether a stop now leaves by this pick a database in the normal state beside its old difference file, which the next begin empties.
+fn begins_anew(alloc: Global, host: &MemHost, pick: u64) -> Result<bool, Fail> {
+    let mut left = host.left(pick)?;
+    let is_beside = difference(&left).is_some();
+    let is_begun = says(
+        alloc,
+        &mut left,
+        "1: open 'a.db'\n1: alter database begin backup\n1: read 6\n1: show header\n",
+        "1: ok pages 13 state 0\n1: ok scn 4\n1: ok 'new'\n1: ok size 1024 pages 13 state 1 scn 4 guid 00000000-0000-0000-0000-000000000001 forced 1 access 0 delta 0\n",
+    )?;
+    Ok(is_beside && is_begun && difference(&left) == Some(&[0; 1024]))
+}
+
+/// The first of the picks 0 to 7 by which a stop of the end leaves anything else.
+fn wrong_finish(alloc: Global) -> Result<Option<u64>, Fail> {
+    let host = stopped_unremoved(alloc)?;
+    for pick in 0..8 {
+        if !begins_anew(alloc, &host, pick)? {
+            return Ok(Some(pick));
+        }
+    }
+    Ok(None)
 }
 
 #[test]
 fn finish_stopped(rt: HostRuntime) -> Result<(), Fail> {
-    let mut left = left_unremoved(rt.alloc())?;
-    assert!(rt; difference(&left).is_some());
-    assert!(rt;
-        says(
-            rt.alloc(),
-            &mut left,
-            "1: open 'a.db'\n1: alter database begin backup\n1: read 6\n1: show header\n",
-            "1: ok pages 13 state 0\n1: ok scn 4\n1: ok 'new'\n1: ok size 1024 pages 13 state 1 scn 4 guid 00000000-0000-0000-0000-000000000001 forced 1 access 0 delta 0\n",
-        )?
-    );
-    assert!(rt; is_blank(&left));
+    assert_eq!(rt; wrong_finish(rt.alloc())?, None);
     Ok(())
 }
