@@ -1,4 +1,5 @@
-"""What is read of a large database: opening reads as much as of a small one, and a new page reads each inventory page once.
+"""What is read of a large database: opening reads as much as of a small one, a new page reads each inventory page once, and a level 1 of a
+database that was not changed reads little more than its SCN pages.
 
 Counted by strace. Databases have pages of 1,024 bytes, of which an inventory page counts 7,936.
 """
@@ -12,6 +13,7 @@ import sys
 from common import PAGE_SIZE, Folder, program, report
 
 FEW, MANY = 8, 60_000
+MOST = MANY // 200
 BITS = 32 * ((PAGE_SIZE - 32) // 4)
 READ = re.compile(r"pread64\(\d+<[^>]*/x\.db>.*, (\d+), (\d+)\)")
 
@@ -45,6 +47,15 @@ def reads_of(path, raw):
         return opened, pages_read(folder, path, ["1: open 'x.db'", "1: page new"])
 
 
+def unchanged(path):
+    """How many pages a level 1 reads of a database with MANY raw pages, where nothing is written since level 0."""
+    with Folder() as folder:
+        folder.write_script("make", [create(MANY)])
+        folder.start([path, "run", "make"]).communicate()
+        folder.start([path, "-B", "0", "x.db", "x.0"]).communicate()
+        return pages_read(folder, path, ["1: open 'x.db'", "1: backup 1 to 'x.1'"]).total()
+
+
 def main():
     path = program()
     if not shutil.which("strace"):
@@ -53,12 +64,14 @@ def main():
     large, new = reads_of(path, MANY)
     inventories = [page for page in new if is_inventory(page)]
     twice = [page for page in inventories if new[page] > 1]
-    passed = small.total() == large.total() > 0 and len(inventories) > 1 and not twice
+    level = unchanged(path)
+    passed = small.total() == large.total() > 0 and len(inventories) > 1 and not twice and level < MOST
     report(
         "reads",
         passed,
         f"opening reads {small.total()} pages of a small database and {large.total()} of one with {MANY} raw pages; "
-        f"a new page there reads {new.total() - large.total()} pages, {len(inventories)} of them inventory pages, {len(twice)} of these twice",
+        f"a new page there reads {new.total() - large.total()} pages, {len(inventories)} of them inventory pages, {len(twice)} of these twice; "
+        f"a level 1 of it, not changed, reads {level}",
     )
 
 

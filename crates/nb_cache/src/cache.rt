@@ -60,6 +60,13 @@ impl Cache {
         })
     }
 
+    /// How many pages may be held.
+    pub fn capacity(&self) -> u32
+        ensures { result ≡ self.now.cap }
+    {
+        self.cap
+    }
+
     /// How many pages are held.
     pub fn held(&self) -> u32
         ensures { result ≡ length self.now.pages }

@@ -1,6 +1,7 @@
 //! The program: the words of the command line, real files, and the exit status.
 //!
-//! It rests on `nb_top`, whose `run` is the whole program, and on `nb_file` for the outside. It says nothing itself.
+//! It rests on `nb_top`, whose `run` is the whole program, and on `nb_file` for the outside. On the standard output it says nothing
+//! itself, and on the standard error which words there are, where those that it was given name no job.
 #![tactic(auto)]
 
 ghost use Rattle.std.specs.Prelude.{◌≡◌, ◌≢◌, ◌⊎◌, None, map, string_bytes, IsTrue, IfOk, IfErr};
@@ -22,6 +23,20 @@ use std::env;
 use std::io::{self, ErrorKind};
 use std::process::ExitCode;
 use std::rt::Env;
+
+/// What the words may be, for a reader.
+const USAGE: &str = "\
+Nehumiro 1.0: physical backup of a database
+usage: nehumiro run SCRIPT          runs the statements of a script
+       nehumiro stat DB             shows the header of a database, and its pages by kind
+       nehumiro -L DB               locks a database: its file stays as it is until -N
+       nehumiro -L -S DB            the same, and says how many pages it has
+       nehumiro -N DB               unlocks it, and merges back what was written meanwhile
+       nehumiro -B LEVEL DB FILE    backs it up into a new file: level 0 all of it, 1 to 9 what changed since the level below
+       nehumiro -B GUID DB FILE     backs up what changed since the backup of that GUID
+       nehumiro -R DB FILE..        restores a new database from a chain of backup files, that of level 0 first
+       nehumiro -F FILE             makes a copy of a locked database a database of its own
+";
 
 /// The words of the command line, without the program's own name.
 fn words(rt: &(impl Env + AllocGlobal)) -> io::Result<Vec<String>> {
@@ -58,6 +73,14 @@ fn status_of<H: Host>(alloc: Global, words: io::Result<Vec<String>>, host: &mut 
     }
 }
 
+/// Whether it is asked for that the standard error tells how far files are written.
+fn wants_progress(rt: &(impl Env + AllocGlobal)) -> bool {
+    match env::var(rt, "NEHUMIRO_PROGRESS") {
+        Ok(value) => value.as_str() == "1",
+        Err(_) => false,
+    }
+}
+
 /// The exit status of a run that ended so.
 fn exit_code(status: Status) -> ExitCode
     ensures { exit_status result ≡ number_of status }
@@ -69,5 +92,13 @@ fn main(rt: HostRuntime) -> ExitCode {
     let alloc = rt.alloc();
     let words = words(&rt);
     let mut host = FileHost::new(rt, alloc);
-    exit_code(status_of(alloc, words, &mut host))
+    if wants_progress(&rt) {
+        host.show_progress();
+    }
+    let status = status_of(alloc, words, &mut host);
+    if matches!(status, Status::Usage) {
+        // Nothing is left to do where the standard error fails.
+        let _ = eprint!(rt; "{USAGE}");
+    }
+    exit_code(status)
 }

@@ -124,6 +124,7 @@ module _ (old : World) (a : Held) (t : Trail) (is : IsOpen old a t) (name whole 
             (subst (λ (f : File). owner (name_of a) (old.files (name_of a)) f ≡ Ok t.base) (sym (file.others_read (delta_name (name_of a)) (λ e. apart (inr (sym e))))) is.files.shows);
         agrees = is.files.agrees;
       };
+      pages = is.pages;
       agrees = is.agrees;
       merged = λ two. absurd (omega (arith, two, stalled));
       most = λ two. absurd (omega (arith, two, stalled));

@@ -13,7 +13,7 @@ use Rattle.nb_base.specs.Open.{OfFiles}
 use Rattle.nb_base.specs.Takes.{Strikes, after_strokes}
 use Rattle.nb_level.specs.declared.head.LevelHead.{LevelHead}
 use Rattle.nb_model.specs.Account.{Ask, Base}
-use Rattle.nb_model.specs.Backups.{room_in, backup_turn}
+use Rattle.nb_model.specs.Backups.{room_in}
 use Rattle.nb_model.specs.Causes.{Cause, first_cause, when, read_only, not_state, not_free, no_scn, no_room, not_of_form, broken_at}
 use Rattle.nb_model.specs.Chains.{History, pages_of}
 use Rattle.nb_model.specs.Image.{Page, Image, first_page, image_scn, image_size}
@@ -31,7 +31,8 @@ use Rattle.nb_engine.specs.Tries.{Tries}
 use Rattle.nb_engine.specs.Turns.{starting_cause}
 use Rattle.nb_engine.proofs.CauseLaws.{first_none, first_next}
 use Rattle.nb_engine.proofs.DoesLaws.{unless_none, unless_some, tries_opened}
-use Rattle.nb_copy.specs.Starting.{Backed, StartsBackup, IsStarted, BeginsFor, earlier_cause, file_cause, ask_in, ask_by}
+use Rattle.nb_copy.specs.Starting.{Backed, StartsBackup, IsStarted, BeginsFor, earlier_cause, file_cause, ask_in, ask_by, turn_since}
+use Rattle.nb_copy.specs.declared.since.Since.{Since}
 use Rattle.nb_copy.specs.declared.file_copy.FileCopy.{FileCopy}
 use Rattle.nb_copy.specs.FileStarting.{IsNewFile, IsStartedFile}
 use Rattle.nb_copy.specs.FileCopying.{file_count}
@@ -47,7 +48,7 @@ starting_of p =
     first_cause (when (not (number_in 65 1 p == 0)) (Access 1) ∷ when (not (state_of p == 0)) (WrongState (state_of p)) ∷ when (nat_lt 4294967293 (scn_of p)) (ScnExhausted (scn_of p)) ∷ [])
 
 -- Behind the tests.
-module _ (old mid new : World) (a b d : Held) (t : Trail) (s : Seen) (session level : ℕ) (name : List ℕ) (runs : a.running ≡ s.running) (at : t.base ≡ s.base) (is : IsOpen old a t) (sound : IsSoundImage t.base.image) (none : early s session level name ≡ None) where
+module _ (old mid new : World) (a b d : Held) (t : Trail) (s : Seen) (session : ℕ) (since : Since) (name : List ℕ) (runs : a.running ≡ s.running) (at : t.base ≡ s.base) (is : IsOpen old a t) (sound : IsSoundImage t.base.image) (none : early s session since name ≡ None) where
   abbrev image : Image
   image = s.base.image
 
@@ -55,19 +56,19 @@ module _ (old mid new : World) (a b d : Held) (t : Trail) (s : Seen) (session le
   xs = (room_in image).draft.strokes
 
   abbrev ask : Ask
-  ask = ask_in level image
+  ask = ask_in since image
 
   abbrev guid : List ℕ
   guid = next_guid s.given
 
   abbrev outcome : Outcome
-  outcome = backup_turn s session level name
+  outcome = turn_since s session since name
 
   -- no room was made
   pub start_roomless : (T : Type 0) (fault : Fault) → Tries {T = T} (Err fault) old new a d t (room_cause image) xs → StartsBackup (Err fault) old new a d t guid outcome
   start_roomless T (RefusedFault r) tries =
       let nothing = unless_some (room_cause image) xs r tries.test in
-      subst (λ (x : Outcome). StartsBackup (Err (RefusedFault r)) old new a d t guid x) (sym (turn_late s session level name none r tries.test)) (record {
+      subst (λ (x : Outcome). StartsBackup (Err (RefusedFault r)) old new a d t guid x) (sym (turn_late s session since name none r tries.test)) (record {
         says = refl;
         left = subst (λ (ss : List Stroke). Strikes old new (name_of a) t ss) nothing tries.makes.left;
         opened = subst (λ (ss : List Stroke). IsOpen new d (after_strokes t ss)) nothing tries.makes.opened;
@@ -80,7 +81,7 @@ module _ (old mid new : World) (a b d : Held) (t : Trail) (s : Seen) (session le
       })
   start_roomless T Device tries = record {
     says = tt;
-    left = subst (λ (ss : List Stroke). Strikes old new (name_of a) t ss) (sym (turn_strokes s session level name none)) (struck_some old new (name_of a) t (room_cause image) xs (begin guid (Some ask) ∷ []) tries.makes.left);
+    left = subst (λ (ss : List Stroke). Strikes old new (name_of a) t ss) (sym (turn_strokes s session since name none)) (struck_some old new (name_of a) t (room_cause image) xs (begin guid (Some ask) ∷ []) tries.makes.left);
     opened = tt;
     running = tt;
     gave = tt;
@@ -91,7 +92,7 @@ module _ (old mid new : World) (a b d : Held) (t : Trail) (s : Seen) (session le
   }
   start_roomless T Memory tries = record {
     says = tt;
-    left = subst (λ (ss : List Stroke). Strikes old new (name_of a) t ss) (sym (turn_strokes s session level name none)) (struck_some old new (name_of a) t (room_cause image) xs (begin guid (Some ask) ∷ []) tries.makes.left);
+    left = subst (λ (ss : List Stroke). Strikes old new (name_of a) t ss) (sym (turn_strokes s session since name none)) (struck_some old new (name_of a) t (room_cause image) xs (begin guid (Some ask) ∷ []) tries.makes.left);
     opened = tt;
     running = tt;
     gave = tt;
@@ -131,7 +132,7 @@ module _ (old mid new : World) (a b d : Held) (t : Trail) (s : Seen) (session le
 
     starts_here : starting_cause image ≡ None
     starts_here =
-        let tests = no_first (file_cause s name) (earlier_cause level image ∷ []) none in
+        let tests = no_first (file_cause s name) (earlier_cause since image ∷ []) none in
         let first = no_first (read_only image) (not_state 0 image ∷ not_free name (s.entry name) ∷ []) tests.0 in
         let second = no_first (not_state 0 image) (not_free name (s.entry name) ∷ []) first.1 in
         first_next (read_only image) (not_state 0 image ∷ no_scn image ∷ []) first.0 ∙ first_next (not_state 0 image) (no_scn image ∷ []) second.0 ∙ first_next (no_scn image) [] may_go_on ∙ first_none
@@ -158,7 +159,7 @@ module _ (old mid new : World) (a b d : Held) (t : Trail) (s : Seen) (session le
           none_some : None ≡ Some r → ⊥
           none_some e = cc
       start_unbegun Device begins =
-          subst (λ (x : Outcome). StartsBackup (Err Device) old new a d t guid x) (sym (turn_started s session level name none tries.test)) (record {
+          subst (λ (x : Outcome). StartsBackup (Err Device) old new a d t guid x) (sym (turn_started s session since name none tries.test)) (record {
             says = tt;
             left = begun_left (Err Device) begins;
             opened = tt;
@@ -170,7 +171,7 @@ module _ (old mid new : World) (a b d : Held) (t : Trail) (s : Seen) (session le
             started = tt;
           })
       start_unbegun Memory begins =
-          subst (λ (x : Outcome). StartsBackup (Err Memory) old new a d t guid x) (sym (turn_started s session level name none tries.test)) (record {
+          subst (λ (x : Outcome). StartsBackup (Err Memory) old new a d t guid x) (sym (turn_started s session since name none tries.test)) (record {
             says = tt;
             left = begun_left (Err Memory) begins;
             opened = tt;
@@ -187,12 +188,12 @@ module _ (old mid new : World) (a b d : Held) (t : Trail) (s : Seen) (session le
         abbrev v : Trail
         v = after_strokes u (begin guid (Some ask) ∷ [])
 
-        all_strokes : after_strokes t (strokes s session level name) ≡ v
+        all_strokes : after_strokes t (strokes s session since name) ≡ v
         all_strokes = after_all-joined after_stroke t xs (begin guid (Some ask) ∷ [])
 
-        pub start_done : (copier : Backed) → IsStarted new d v copier (started s session level name) → StartsBackup (Ok copier) old new a d t guid outcome
+        pub start_done : (copier : Backed) → IsStarted new d v copier (started s session since name) → StartsBackup (Ok copier) old new a d t guid outcome
         start_done copier is_started =
-            subst (λ (x : Outcome). StartsBackup (Ok copier) old new a d t guid x) (sym (turn_started s session level name none tries.test)) (record {
+            subst (λ (x : Outcome). StartsBackup (Ok copier) old new a d t guid x) (sym (turn_started s session since name none tries.test)) (record {
               says = refl;
               left = begun_left (Ok begun) begins;
               opened = subst (λ (w : Trail). IsOpen new d w) (sym all_strokes) begins.opened;
@@ -201,7 +202,7 @@ module _ (old mid new : World) (a b d : Held) (t : Trail) (s : Seen) (session le
               times = begins.times ∙ tries.makes.gave.times;
               refused = tt;
               name = begins.name ∙ tries.makes.goes.name;
-              started = subst (λ (w : Trail). IsStarted new d w copier (started s session level name)) (sym all_strokes) is_started;
+              started = subst (λ (w : Trail). IsStarted new d w copier (started s session since name)) (sym all_strokes) is_started;
             })
 
         -- its copier
@@ -237,7 +238,7 @@ module _ (old mid new : World) (a b d : Held) (t : Trail) (s : Seen) (session le
               subst IsSoundImage (sym (begun_frozen u guid (Some ask) ∙ begun_image u guid (Some ask)))
               (control_sound 1 (image_scn u.base.image + 1) guid u.base.image u_header still_sound (may_begin u.base.image u_header guid sixteen (scn_room u.base.image starts_there)))
 
-          pub started_is : IsStarted new d v (record { backing = its; page_size = begun.page_size; file = g }) (started s session level name)
+          pub started_is : IsStarted new d v (record { backing = its; page_size = begun.page_size; file = g }) (started s session since name)
           started_is =
               let firsts = file_first name bare begun count f g is_new file in
               record {

@@ -102,7 +102,7 @@ module _ (image : Image) (h : HasHeader image) (is : IsSoundImage image) (linked
   y = (new_link image).0.image
 
   y_whole : IsWhole y
-  y_whole = whole 5 no_rows refl no_rows_short (length image + 4) image (header_whole image h is)
+  y_whole = whole 5 (told no_rows) refl (λ p. no_rows_short) (length image + 4) image (header_whole image h is)
 
   y_starts : Starts (first_page image) y
   y_starts =
@@ -113,7 +113,7 @@ module _ (image : Image) (h : HasHeader image) (is : IsSoundImage image) (linked
   y_size = ap image_size y_starts.is
 
   y_long : length image ≤ length y
-  y_long = new_long 5 no_rows refl no_rows_short (length image + 4) image
+  y_long = new_long 5 (told no_rows) refl (λ p. no_rows_short) (length image + 4) image
 
   abbrev payload : List ℕ
   payload = linked_payload y last (new_link image).1

@@ -1,22 +1,24 @@
 -- Why no backup may begin, test by test.
-use Rattle.std.proofs.Common.{◌≡◌, ◌≢◌, inl, inr, ◌≤◌, ℕ, zero, suc, List, [], ◌∷◌, replicate, refl, sym, ap, subst, ◌∙◌, arith}
-use Rattle.std.specs.Prelude.{Bool, true, false, Option, Some, None, is_none, not, nat_eq, nat_lt}
+use Rattle.std.proofs.Common.{◌≡◌, ◌≢◌, inl, inr, ◌+◌, ◌≤◌, ℕ, zero, suc, List, [], ◌∷◌, replicate, refl, sym, ap, subst, ◌∙◌, arith}
+use Rattle.std.specs.Prelude.{Bool, true, false, min, Option, Some, None, is_none, not, nat_eq, nat_lt}
 use Rattle.std.proofs.lemmas.Bool.{eq-eqb, ne_eqb, true≢false, lt-ltb}
 use Rattle.std.proofs.lemmas.Bool.Decides.{leb_tells}
+use Rattle.nb_host.specs.Names.{same_name}
 use Rattle.nb_host.specs.declared.refusals.Refusal.{Refusal}
 use Rattle.nb_host.specs.declared.refusals.Refusal.TheVariants.{Access, WrongState, FileExists, NoHistory}
 use Rattle.nb_model.specs.Account.{Ask}
 use Rattle.nb_model.specs.Image.{Image, image_scn, image_state, is_read_only}
-use Rattle.nb_model.specs.Backups.{ask_of}
+use Rattle.nb_model.specs.Backups.{ask_of, level_behind}
 use Rattle.nb_model.specs.Causes.{Cause, first_cause, when, read_only, no_scn, not_state, not_free, is_free_entry, broken_at}
-use Rattle.nb_model.specs.Chains.{History, Spot, pages_of, backup_spot, level_in}
+use Rattle.nb_model.specs.Chains.{History, Spot, pages_of, backup_spot, level_in, guid_in}
 use Rattle.nb_model.specs.Outcomes.{Seen}
 use Rattle.nb_model.proofs.PutSound.{no_first, not_when}
 use Rattle.nb_engine.specs.declared.rows.HistoryRow.{HistoryRow}
 use Rattle.nb_engine.specs.History.{row_at}
 use Rattle.nb_engine.proofs.CauseLaws.{first_none, first_next, first_here}
 use Rattle.nb_engine.proofs.FreeLaws.{closed_cause, open_cause}
-use Rattle.nb_copy.specs.Starting.{ask_in, earlier_row, earlier_cause, file_cause}
+use Rattle.nb_copy.specs.Starting.{ask_in, earlier_row, row_cause, earlier_cause, file_cause}
+use Rattle.nb_copy.specs.declared.since.Since.TheVariants.{Level}
 
 -- the tests of the database and of the file's name
 module _ (s : Seen) (name : List ℕ) where
@@ -44,58 +46,74 @@ module _ (s : Seen) (name : List ℕ) where
       allowed e = left ∙ first_next (not_free name (s.entry name)) [] (ap (λ (b : Bool). when (not b) (FileExists name)) e) ∙ first_none
 
 -- level 0 goes on from no backup
-pub none_asked : (level : ℕ) (image : Image) → level ≡ 0 → ◌≡◌ {A = Ask} (record { level = level; previous = replicate 16 0; previous_scn = 0 }) (ask_in level image)
+pub none_asked : (level : ℕ) (image : Image) → level ≡ 0 → ◌≡◌ {A = Ask} (record { level = level; previous = replicate 16 0; previous_scn = 0 }) (ask_in (Level level) image)
 unfolding ask_of
 none_asked zero image e = refl
 none_asked (suc level) image e = absurd (omega (arith, e))
 
--- the others go on from the latest one of the level below
-abbrev row_below : (below : ℕ) → Image → Option Spot
-row_below below image = backup_spot (λ slot. nat_eq (level_in slot) below) image
+-- the others go on from a row of the history
+module _ (image : Image) (row : Option Spot) (missing : Refusal) where
+  pub chain_broken : (r : Refusal) → broken_at (pages_of History image) ≡ Some r → row_cause image row missing ≡ Some r
+  chain_broken r broken = first_here (broken_at (pages_of History image)) (when (is_none row) missing ∷ []) r broken
 
-abbrev cause_below : (below : ℕ) → Image → Cause
-cause_below below image = first_cause (broken_at (pages_of History image) ∷ when (is_none (row_below below image)) (NoHistory below) ∷ [])
+  module _ (linked : broken_at (pages_of History image) ≡ None) where
+    found : (t : Bool) → is_none row ≡ t → row_cause image row missing ≡ first_cause (when t missing ∷ [])
+    found t is = first_next (broken_at (pages_of History image)) (when (is_none row) missing ∷ []) linked ∙ ap (λ (b : Bool). first_cause (when b missing ∷ [])) is
 
-cause_is : (level below : ℕ) (image : Image) → level ≡ suc below → earlier_cause level image ≡ cause_below below image
-cause_is level below image e = ap (λ (n : ℕ). earlier_cause n image) e
+    pub none_found : (o : Option HistoryRow) → o ≡ None → o ≡ row_at row → row_cause image row missing ≡ Some missing
+    none_found o none is = found true (by row (sym none ∙ is)) ∙ first_here (Some missing) [] missing refl
+      where
+        by : (x : Option Spot) → None ≡ row_at x → is_none x ≡ true
+        by None d = refl
+        by (Some spot) d = cc
 
-pub chain_broken : (level below : ℕ) (image : Image) → level ≡ suc below → (r : Refusal) → broken_at (pages_of History image) ≡ Some r → earlier_cause level image ≡ Some r
-chain_broken level below image e r broken = cause_is level below image e ∙ first_here (broken_at (pages_of History image)) (when (is_none (row_below below image)) (NoHistory below) ∷ []) r broken
-
-module _ (level below : ℕ) (image : Image) (e : level ≡ suc below) (linked : broken_at (pages_of History image) ≡ None) where
-  found : (t : Bool) → is_none (row_below below image) ≡ t → earlier_cause level image ≡ first_cause (when t (NoHistory below) ∷ [])
-  found t is =
-      cause_is level below image e ∙ first_next (broken_at (pages_of History image)) (when (is_none (row_below below image)) (NoHistory below) ∷ []) linked
-      ∙ ap (λ (b : Bool). first_cause (when b (NoHistory below) ∷ [])) is
-
-  pub none_found : (o : Option HistoryRow) → o ≡ None → o ≡ row_at (row_below below image) → earlier_cause level image ≡ Some (NoHistory below)
-  none_found o none is = found true (by (row_below below image) (sym none ∙ is)) ∙ first_here (Some (NoHistory below)) [] (NoHistory below) refl
-    where
-      by : (x : Option Spot) → None ≡ row_at x → is_none x ≡ true
-      by None d = refl
-      by (Some spot) d = cc
-
-  pub one_found : (o : Option HistoryRow) (row : HistoryRow) → o ≡ Some row → o ≡ row_at (row_below below image) → earlier_cause level image ≡ None
-  one_found o row some is = found false (by (row_below below image) (sym some ∙ is)) ∙ first_next None [] refl ∙ first_none
-    where
-      by : (x : Option Spot) → Some row ≡ row_at x → is_none x ≡ false
-      by None d = cc
-      by (Some spot) d = refl
+    pub one_found : (o : Option HistoryRow) (it : HistoryRow) → o ≡ Some it → o ≡ row_at row → row_cause image row missing ≡ None
+    one_found o it some is = found false (by row (sym some ∙ is)) ∙ first_next None [] refl ∙ first_none
+      where
+        by : (x : Option Spot) → Some it ≡ row_at x → is_none x ≡ false
+        by None d = cc
+        by (Some spot) d = refl
 
 -- what is asked of its copy
-pub row_asked : (level below : ℕ) (image : Image) (o : Option HistoryRow) (row : HistoryRow) → level ≡ suc below → o ≡ Some row → o ≡ row_at (row_below below image)
-    → ◌≡◌ {A = Ask} (record { level = level; previous = row.guid; previous_scn = row.scn }) (ask_in level image)
-unfolding ask_of
-row_asked level below image o row e some is =
-    by (row_below below image) (sym some ∙ is) ∙ subst (λ (n : ℕ). ask_of level (row_below below image) ≡ ask_of level (earlier_row n image)) (sym e) refl
-  where
-    the_row : Option HistoryRow → HistoryRow
-    the_row None = row
-    the_row (Some r) = r
+module _ (row : Option Spot) (o : Option HistoryRow) (it : HistoryRow) (some : o ≡ Some it) (is : o ≡ row_at row) where
+  abbrev the_row : Option HistoryRow → HistoryRow
+  the_row None = it
+  the_row (Some r) = r
 
-    by : (x : Option Spot) → Some row ≡ row_at x → ◌≡◌ {A = Ask} (record { level = level; previous = row.guid; previous_scn = row.scn }) (ask_of level x)
-    by None d = cc
-    by (Some spot) d = ap (λ (x : Option HistoryRow). record { level = level; previous = (the_row x).guid; previous_scn = (the_row x).scn }) d
+  pub row_asked : (level : ℕ) → ◌≡◌ {A = Ask} (record { level = level; previous = it.guid; previous_scn = it.scn }) (ask_of level row)
+  unfolding ask_of
+  row_asked level = by row (sym some ∙ is)
+    where
+      by : (x : Option Spot) → Some it ≡ row_at x → ◌≡◌ {A = Ask} (record { level = level; previous = it.guid; previous_scn = it.scn }) (ask_of level x)
+      by None d = cc
+      by (Some spot) d = ap (λ (x : Option HistoryRow). record { level = level; previous = (the_row x).guid; previous_scn = (the_row x).scn }) d
+
+  pub row_level : level_behind row ≡ min (it.level + 1) 9
+  unfolding level_behind
+  row_level = by row (sym some ∙ is)
+    where
+      by : (x : Option Spot) → Some it ≡ row_at x → level_behind x ≡ min (it.level + 1) 9
+      by None d = cc
+      by (Some spot) d = ap (λ (x : Option HistoryRow). min ((the_row x).level + 1) 9) (sym d)
+
+-- one level more, and 9 at most
+pub level_more : (n : ℕ) → min n 8 + 1 ≡ min (n + 1) 9
+level_more n = omega arith
+
+-- a level goes on from the latest one of the level below
+abbrev pub row_below : (below : ℕ) → Image → Option Spot
+row_below below image = backup_spot (λ row. nat_eq (level_in row) below) image
+
+module _ (level below : ℕ) (image : Image) (e : level ≡ suc below) where
+  pub level_cause : earlier_cause (Level level) image ≡ row_cause image (row_below below image) (NoHistory below)
+  level_cause = ap (λ (n : ℕ). earlier_cause (Level n) image) e
+
+  pub level_asked : ask_of level (row_below below image) ≡ ask_in (Level level) image
+  level_asked = subst (λ (n : ℕ). ask_of level (row_below below image) ≡ ask_of level (earlier_row (Level n) image)) (sym e) refl
+
+-- a backup since a GUID from the latest one of it
+abbrev pub row_of_guid : (guid : List ℕ) → Image → Option Spot
+row_of_guid guid image = backup_spot (λ row. same_name (guid_in row) guid) image
 
 -- the last of the causes
 last_cause : (c : Cause) → first_cause (c ∷ []) ≡ c

@@ -1,31 +1,34 @@
 -- The start of a backup: tests, room in the history, and the begin.
 use Rattle.std.proofs.Common.{◌≡◌, ◌⊎◌, ℕ, zero, suc, List, [], ◌∷◌, ◌++◌, length, replicate, refl, sym, ap, subst, ◌∙◌}
-use Rattle.std.specs.Prelude.{Some, None, is_none, Err}
+use Rattle.std.specs.Prelude.{Option, Some, None, is_none, Err}
 use Rattle.nb_host.specs.World.{World}
 use Rattle.nb_host.specs.declared.faults.Fault.{Fault}
 use Rattle.nb_host.specs.declared.faults.Fault.TheVariants.{Refused as RefusedFault, Device, Memory}
 use Rattle.nb_host.specs.declared.refusals.Refusal.{Refusal}
-use Rattle.nb_host.specs.declared.refusals.Refusal.TheVariants.{NoHistory}
+use Rattle.nb_host.specs.declared.refusals.Refusal.TheVariants.{NoHistory, NoGuid}
 use Rattle.nb_page.specs.Quiet.{Quiet}
 use Rattle.nb_change.specs.Gave.{GaveNothing}
 use Rattle.nb_base.specs.Takes.{Strikes}
 use Rattle.nb_level.specs.declared.head.LevelHead.{LevelHead}
 use Rattle.nb_model.specs.declared.reply.Reply.TheVariants.{Refused}
-use Rattle.nb_model.specs.Backups.{Room, room_in, starts, backup_turn}
+use Rattle.nb_model.specs.Account.{Ask}
+use Rattle.nb_model.specs.Backups.{room_in, starts, backup_turn, since_turn}
 use Rattle.nb_model.specs.Causes.{Cause, first_cause, when, read_only, not_state, not_free, no_scn, no_room, not_of_form, broken_at}
-use Rattle.nb_model.specs.Chains.{History, pages_of}
+use Rattle.nb_model.specs.Chains.{History, Spot, pages_of}
 use Rattle.nb_model.specs.Image.{Image, image_scn}
 use Rattle.nb_model.specs.Outcomes.{Outcome, Copies, ClosesBackup, Seen, next_guid, without_guid, says, unless}
 use Rattle.nb_model.specs.Strokes.{Stroke, begin}
 use Rattle.nb_model.specs.Trail.{Trail}
-use Rattle.nb_state.specs.Open.{Held, IsOpen}
+use Rattle.nb_state.specs.Open.{Held, IsOpen, but_pages}
 use Rattle.nb_state.specs.Does.{Tested, unless_by}
 use Rattle.nb_state.specs.Turns.{GaveAtMost}
-use Rattle.nb_state.proofs.MakesLaws.{open_still, none_yet}
+use Rattle.nb_state.proofs.MakesLaws.{none_yet}
 use Rattle.nb_state.proofs.TurnLaws.{struck_front}
 use Rattle.nb_engine.specs.Room.{room_cause}
 use Rattle.nb_engine.proofs.CauseLaws.{unless_refused, unless_allowed, first_here}
-use Rattle.nb_copy.specs.Starting.{StartsBackup, earlier_row, earlier_cause, file_cause, ask_in}
+use Rattle.nb_copy.specs.Starting.{StartsBackup, earlier_row, row_cause, earlier_cause, file_cause, ask_in, turn_since}
+use Rattle.nb_copy.specs.declared.since.Since.{Since}
+use Rattle.nb_copy.specs.declared.since.Since.TheVariants.{Level, Guid}
 use Rattle.nb_copy.proofs.StartCauses.{after_none}
 
 -- the tests in the order of the calls are those of the turn
@@ -52,42 +55,50 @@ none_early None None None None None (Some r) h = refl
 none_early None None None None None None (Some r) = refl
 none_early None None None None None None None = refl
 
-module _ (s : Seen) (session level : ℕ) (name : List ℕ) where
+-- the turn of one that begins
+abbrev started_by : Seen → (session : ℕ) → (name : List ℕ) → Ask → Outcome
+started_by s session name ask = record {
+  strokes = (room_in s.base.image).draft.strokes ++ begin (next_guid s.given) (Some ask) ∷ [];
+  reply = None;
+  next = replicate (length (room_in s.base.image).draft.image) Copies
+      ++ ClosesBackup (record { name = name; ask = ask; scn = image_scn s.base.image; guid = next_guid s.given; page = (room_in s.base.image).page; slot = (room_in s.base.image).slot }) ∷ [];
+  running = Some session;
+  made = None;
+  given = without_guid s.given;
+}
+
+module _ (s : Seen) (session : ℕ) (since : Since) (name : List ℕ) where
   abbrev image : Image
   image = s.base.image
 
-  abbrev room : Room
-  room = room_in image
-
   abbrev pub early : Cause
-  early = first_cause (file_cause s name ∷ earlier_cause level image ∷ [])
+  early = first_cause (file_cause s name ∷ earlier_cause since image ∷ [])
 
   abbrev pub start_cause : Cause
   start_cause = first_cause (early ∷ room_cause image ∷ [])
 
   abbrev pub strokes : List Stroke
-  strokes = room.draft.strokes ++ begin (next_guid s.given) (Some (ask_in level image)) ∷ []
+  strokes = (room_in image).draft.strokes ++ begin (next_guid s.given) (Some (ask_in since image)) ∷ []
 
   abbrev pub started : Outcome
-  started = record {
-    strokes = strokes;
-    reply = None;
-    next = replicate (length room.draft.image) Copies
-        ++ ClosesBackup (record { name = name; ask = ask_in level image; scn = image_scn image; guid = next_guid s.given; page = room.page; slot = room.slot }) ∷ [];
-    running = Some session;
-    made = None;
-    given = without_guid s.given;
-  }
+  started = started_by s session name (ask_in since image)
 
-turn_by : (s : Seen) (session level : ℕ) (name : List ℕ) → backup_turn s session level name ≡ unless s (start_cause s session level name) (started s session level name)
-unfolding backup_turn starts
-turn_by s session zero name =
-    ap (λ (c : Cause). unless s c (started s session zero name))
-    (sym (none_early (read_only s.base.image) (not_state 0 s.base.image) (not_free name (s.entry name)) (broken_at (pages_of History s.base.image)) (not_of_form (room_in s.base.image).draft) (no_room (room_in s.base.image).draft) (no_scn s.base.image)))
-turn_by s session (suc below) name =
-    ap (λ (c : Cause). unless s c (started s session (suc below) name))
-    (sym (at_once (read_only s.base.image) (not_state 0 s.base.image) (not_free name (s.entry name)) (broken_at (pages_of History s.base.image)) (when (is_none (earlier_row (suc below) s.base.image)) (NoHistory below)) (not_of_form (room_in s.base.image).draft)
+-- where a row is looked for
+row_turn : (s : Seen) (session : ℕ) (name : List ℕ) (ask : Ask) (row : Option Spot) (missing : Refusal)
+    → starts s session name ask (when (is_none row) missing) ≡ unless s (first_cause (first_cause (file_cause s name ∷ row_cause s.base.image row missing ∷ []) ∷ room_cause s.base.image ∷ [])) (started_by s session name ask)
+unfolding starts
+row_turn s session name ask row missing =
+    ap (λ (c : Cause). unless s c (started_by s session name ask))
+    (sym (at_once (read_only s.base.image) (not_state 0 s.base.image) (not_free name (s.entry name)) (broken_at (pages_of History s.base.image)) (when (is_none row) missing) (not_of_form (room_in s.base.image).draft)
     (no_room (room_in s.base.image).draft) (no_scn s.base.image)))
+
+turn_by : (s : Seen) (session : ℕ) (since : Since) (name : List ℕ) → turn_since s session since name ≡ unless s (start_cause s session since name) (started s session since name)
+unfolding backup_turn since_turn starts
+turn_by s session (Level zero) name =
+    ap (λ (c : Cause). unless s c (started s session (Level zero) name))
+    (sym (none_early (read_only s.base.image) (not_state 0 s.base.image) (not_free name (s.entry name)) (broken_at (pages_of History s.base.image)) (not_of_form (room_in s.base.image).draft) (no_room (room_in s.base.image).draft) (no_scn s.base.image)))
+turn_by s session (Level (suc below)) name = row_turn s session name (ask_in (Level (suc below)) s.base.image) (earlier_row (Level (suc below)) s.base.image) (NoHistory below)
+turn_by s session (Guid guid) name = row_turn s session name (ask_in (Guid guid) s.base.image) (earlier_row (Guid guid) s.base.image) (NoGuid guid)
 
 strokes_by : (s : Seen) (cause : Cause) (o : Outcome) → (unless s cause o).strokes ≡ unless_by cause o.strokes
 unfolding unless
@@ -99,44 +110,44 @@ struck_some old new n t None xs ys struck = struck_front old new n t xs ys struc
 struck_some old new n t (Some r) xs ys struck = struck
 
 -- The turn, by what the calls found.
-module _ (s : Seen) (session level : ℕ) (name : List ℕ) where
+module _ (s : Seen) (session : ℕ) (since : Since) (name : List ℕ) where
   abbrev turn : Outcome
-  turn = backup_turn s session level name
+  turn = turn_since s session since name
 
   -- it is refused before room is made
-  turn_early : (r : Refusal) → early s session level name ≡ Some r → turn ≡ says s (Refused r) []
+  turn_early : (r : Refusal) → early s session since name ≡ Some r → turn ≡ says s (Refused r) []
   turn_early r e =
-      turn_by s session level name
-      ∙ unless_refused s (start_cause s session level name) (started s session level name) r (first_here (early s session level name) (room_cause s.base.image ∷ []) r e)
+      turn_by s session since name
+      ∙ unless_refused s (start_cause s session since name) (started s session since name) r (first_here (early s session since name) (room_cause s.base.image ∷ []) r e)
 
-  module _ (none : early s session level name ≡ None) where
-    room_decides : start_cause s session level name ≡ room_cause s.base.image
-    room_decides = sym (after_none (early s session level name) (room_cause s.base.image) none)
+  module _ (none : early s session since name ≡ None) where
+    room_decides : start_cause s session since name ≡ room_cause s.base.image
+    room_decides = sym (after_none (early s session since name) (room_cause s.base.image) none)
 
     pub turn_late : (r : Refusal) → room_cause s.base.image ≡ Some r → turn ≡ says s (Refused r) []
-    turn_late r e = turn_by s session level name ∙ unless_refused s (start_cause s session level name) (started s session level name) r (room_decides ∙ e)
+    turn_late r e = turn_by s session since name ∙ unless_refused s (start_cause s session since name) (started s session since name) r (room_decides ∙ e)
 
-    pub turn_strokes : turn.strokes ≡ unless_by (room_cause s.base.image) (strokes s session level name)
+    pub turn_strokes : turn.strokes ≡ unless_by (room_cause s.base.image) (strokes s session since name)
     turn_strokes =
-        ap (λ (o : Outcome). o.strokes) (turn_by s session level name) ∙ strokes_by s (start_cause s session level name) (started s session level name)
-        ∙ ap (λ (c : Cause). unless_by c (strokes s session level name)) room_decides
+        ap (λ (o : Outcome). o.strokes) (turn_by s session since name) ∙ strokes_by s (start_cause s session since name) (started s session since name)
+        ∙ ap (λ (c : Cause). unless_by c (strokes s session since name)) room_decides
 
-    pub turn_started : room_cause s.base.image ≡ None → turn ≡ started s session level name
-    turn_started e = turn_by s session level name ∙ unless_allowed s (start_cause s session level name) (started s session level name) (room_decides ∙ e)
+    pub turn_started : room_cause s.base.image ≡ None → turn ≡ started s session since name
+    turn_started e = turn_by s session since name ∙ unless_allowed s (start_cause s session since name) (started s session since name) (room_decides ∙ e)
 
 -- The call that begins a backup.
-module _ (old mid : World) (a b : Held) (t : Trail) (s : Seen) (session level : ℕ) (name : List ℕ) (at : t.base ≡ s.base) (runs : a.running ≡ s.running) (is : IsOpen old a t) (same : b ≡ a) (quiet : Quiet old mid) where
+module _ (old mid : World) (a b : Held) (t : Trail) (s : Seen) (session : ℕ) (since : Since) (name : List ℕ) (at : t.base ≡ s.base) (runs : a.running ≡ s.running) (is : IsOpen old a t) (same : but_pages b ≡ but_pages a) (quiet : Quiet old mid) (still : IsOpen mid b t) where
   abbrev outcome : Outcome
-  outcome = backup_turn s session level name
+  outcome = turn_since s session since name
 
   -- it was refused, or failed, before room was made
-  pub start_refused : (r : Refusal) → early s session level name ≡ Some r → StartsBackup (Err (RefusedFault r)) old mid a b t (next_guid s.given) outcome
+  pub start_refused : (r : Refusal) → early s session since name ≡ Some r → StartsBackup (Err (RefusedFault r)) old mid a b t (next_guid s.given) outcome
   start_refused r e =
-      let o = turn_early s session level name r e in
+      let o = turn_early s session since name r e in
       subst (λ (x : Outcome). StartsBackup (Err (RefusedFault r)) old mid a b t (next_guid s.given) x) (sym o) (record {
         says = refl;
         left = none_yet old mid a t [] quiet is;
-        opened = open_still old mid a b t same quiet is;
+        opened = still;
         running = ap (λ (h : Held). h.running) same ∙ runs;
         gave = tt;
         times = quiet.times;
@@ -145,7 +156,7 @@ module _ (old mid : World) (a b : Held) (t : Trail) (s : Seen) (session level : 
         started = tt;
       })
 
-  pub start_failed : (fault : Fault) → Tested {T = LevelHead} (Err fault) (early s session level name) → StartsBackup (Err fault) old mid a b t (next_guid s.given) outcome
+  pub start_failed : (fault : Fault) → Tested {T = LevelHead} (Err fault) (early s session since name) → StartsBackup (Err fault) old mid a b t (next_guid s.given) outcome
   start_failed (RefusedFault r) e = start_refused r e
   start_failed Device e = record { says = tt; left = none_yet old mid a t outcome.strokes quiet is; opened = tt; running = tt; gave = tt; times = quiet.times; refused = tt; name = ap (λ (h : Held). h.files.name) same; started = tt }
   start_failed Memory e = record { says = tt; left = none_yet old mid a t outcome.strokes quiet is; opened = tt; running = tt; gave = tt; times = quiet.times; refused = tt; name = ap (λ (h : Held). h.files.name) same; started = tt }

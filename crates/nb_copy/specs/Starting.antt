@@ -1,17 +1,19 @@
 -- The start of a backup.
-use Rattle.std.specs.Prelude.{◌≡◌, ℕ, zero, suc, ◌<◌, List, [], ◌∷◌, ◌++◌, length, replicate, Option, Some, None, is_none, nat_eq, Result, OnOk, IfOk}
+use Rattle.std.specs.Prelude.{◌≡◌, ℕ, zero, suc, ◌<◌, ◌≤◌, List, [], ◌∷◌, ◌++◌, length, replicate, Option, Some, None, is_none, nat_eq, Result, OnOk, IfOk}
 use Rattle.nb_host.specs.Files.{Files}
 use Rattle.nb_host.specs.World.{World}
 use Rattle.nb_host.specs.declared.faults.Fault.{Fault}
-use Rattle.nb_host.specs.declared.refusals.Refusal.TheVariants.{NoHistory}
+use Rattle.nb_host.specs.Names.{same_name}
+use Rattle.nb_host.specs.declared.refusals.Refusal.{Refusal}
+use Rattle.nb_host.specs.declared.refusals.Refusal.TheVariants.{NoHistory, NoGuid}
 use Rattle.nb_page.specs.Free.{is_free_name}
 use Rattle.nb_page.specs.Quiet.{Quiet}
 use Rattle.nb_level.specs.declared.head.LevelHead.{LevelHead}
 use Rattle.nb_model.specs.Image.{Image, image_state, image_scn}
 use Rattle.nb_model.specs.Account.{Ask}
-use Rattle.nb_model.specs.Backups.{ask_of}
+use Rattle.nb_model.specs.Backups.{ask_of, level_behind, backup_turn, since_turn}
 use Rattle.nb_model.specs.Causes.{Cause, first_cause, when, read_only, not_state, not_free, is_free_entry, broken_at}
-use Rattle.nb_model.specs.Chains.{History, Spot, pages_of, backup_spot, level_in}
+use Rattle.nb_model.specs.Chains.{History, Spot, pages_of, backup_spot, level_in, guid_in}
 use Rattle.nb_model.specs.Levels.{file_of, count_in}
 use Rattle.nb_model.specs.Making.{kept_of}
 use Rattle.nb_model.specs.Strokes.{begin}
@@ -22,6 +24,8 @@ use Rattle.nb_state.specs.Open.{Held, IsOpen, name_of}
 use Rattle.nb_state.specs.Does.{Tested, WhereEnded, WhereRefused, unless_by}
 use Rattle.nb_engine.specs.Turns.{SaysNone, starting_cause}
 use Rattle.nb_copy.specs.declared.file_copy.FileCopy.{FileCopy}
+use Rattle.nb_copy.specs.declared.since.Since.{Since}
+use Rattle.nb_copy.specs.declared.since.Since.TheVariants.{Level, Guid}
 use Rattle.nb_copy.specs.FileCopying.{file_name, file_count, file_next, whole_file, whole_count, IsFileCopying}
 
 -- What a contract sees of a copier: what its close needs, the size of each page, and the file that it makes.
@@ -57,19 +61,44 @@ pub record StartsBackup (result : Result Backed Fault) (old new : World) (before
   pub name : name_of after ≡ name_of before
   pub started : IfOk result (λ copier. IsStarted new after (after_strokes t turn.strokes) copier turn)
 
--- the row of the history that a backup of that level goes on from
-abbrev pub earlier_row : (level : ℕ) → Image → Option Spot
-earlier_row zero image = None
-earlier_row (suc below) image = backup_spot (λ row. nat_eq (level_in row) below) image
+-- the row of the history that a backup goes on from
+abbrev pub earlier_row : Since → Image → Option Spot
+earlier_row (Level zero) image = None
+earlier_row (Level (suc below)) image = backup_spot (λ row. nat_eq (level_in row) below) image
+earlier_row (Guid guid) image = backup_spot (λ row. same_name (guid_in row) guid) image
+
+-- its level, where it goes on from that row
+abbrev pub level_of : Since → Option Spot → ℕ
+level_of (Level level) row = level
+level_of (Guid guid) row = level_behind row
 
 -- what is asked of its copy
-abbrev pub ask_in : (level : ℕ) → Image → Ask
-ask_in level image = ask_of level (earlier_row level image)
+abbrev pub ask_in : Since → Image → Ask
+ask_in since image = ask_of (level_of since (earlier_row since image)) (earlier_row since image)
 
--- why there is none to go on from
-abbrev pub earlier_cause : (level : ℕ) → Image → Cause
-earlier_cause zero image = None
-earlier_cause (suc below) image = first_cause (broken_at (pages_of History image) ∷ when (is_none (earlier_row (suc below) image)) (NoHistory below) ∷ [])
+-- why there is none to go on from: the history breaks the form, or has no such row
+abbrev pub row_cause : Image → Option Spot → (missing : Refusal) → Cause
+row_cause image row missing = first_cause (broken_at (pages_of History image) ∷ when (is_none row) missing ∷ [])
+
+abbrev pub earlier_cause : Since → Image → Cause
+earlier_cause (Level zero) image = None
+earlier_cause (Level (suc below)) image = row_cause image (earlier_row (Level (suc below)) image) (NoHistory below)
+earlier_cause (Guid guid) image = row_cause image (earlier_row (Guid guid) image) (NoGuid guid)
+
+-- a level that is asked for is 9 at most
+abbrev pub IsNineAtMost : Since → Type 0
+IsNineAtMost (Level level) = level ≤ 9
+IsNineAtMost (Guid guid) = Unit {0}
+
+-- and is that of the backup
+abbrev pub IsItsLevel : Since → (level : ℕ) → Type 0
+IsItsLevel (Level asked) level = level ≡ asked
+IsItsLevel (Guid guid) level = level ≤ 9
+
+-- the first turn of the statement that asks for it
+abbrev pub turn_since : Seen → (session : ℕ) → Since → (name : List ℕ) → Outcome
+turn_since s session (Level level) name = backup_turn s session level name
+turn_since s session (Guid guid) name = since_turn s session guid name
 
 -- in the state of that number the account knows whether the name is free
 abbrev pub KnowsFree : (state : ℕ) → Files → Seen → (name : List ℕ) → Type 0

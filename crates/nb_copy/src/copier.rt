@@ -3,20 +3,21 @@ ghost use Rattle.nb_fields.specs.Places.{is_page_size};
 ghost use Rattle.nb_change.specs.Counts.{CountsDevice};
 ghost use Rattle.nb_page.specs.Quiet.{Quiet};
 ghost use Rattle.nb_model.specs.Account.{Ask};
-ghost use Rattle.nb_model.specs.Backups.{backup_turn, close_backup};
+ghost use Rattle.nb_model.specs.Backups.{backup_turn, since_turn, close_backup};
 ghost use Rattle.nb_model.specs.Causes.{first_cause};
 ghost use Rattle.nb_model.specs.Outcomes.{Seen, next_guid, next_time};
 ghost use Rattle.nb_model.specs.Sound.{IsSoundImage};
 ghost use Rattle.nb_model.specs.Trail.{Trail};
 ghost use Rattle.nb_base.specs.Open.{OfFiles};
-ghost use Rattle.nb_state.specs.Open.{IsOpen};
+ghost use Rattle.nb_state.specs.Open.{IsOpen, but_pages};
 ghost use Rattle.nb_state.specs.Does.{Goes, Tested};
 ghost use Rattle.nb_state.specs.Turns.{GaveAtMost};
 ghost use Rattle.nb_copy.specs.FileCopying.{file_count, file_next, file_written};
-ghost use Rattle.nb_copy.specs.Starting.{StartsBackup, BeginsFor, IsBackingUp, KnowsFree, ask_by, ask_in, earlier_cause, file_cause};
+ghost use Rattle.nb_copy.specs.Starting.{StartsBackup, BeginsFor, IsBackingUp, KnowsFree, IsNineAtMost, IsItsLevel, ask_by, ask_in, earlier_cause, file_cause, turn_since};
 ghost use Rattle.nb_copy.specs.Closing.{BackupTurn, BackupCounts, Closes, GaveTimeAtMost, ReadsTwo};
 
 use crate::file_copy::FileCopy;
+use crate::since::Since;
 use nb_engine::{Engine, HistoryRow, Room};
 use nb_host::{Fault, Host, Name, Refusal};
 use nb_level::LevelHead;
@@ -76,66 +77,31 @@ fn check_file<H: Host>(host: &mut H, engine: &Engine, name: &Name) -> Result<(),
     Ok(())
 }
 
-/// The head of a backup of that level, without its GUID and SCN: those of the backup that it goes on from are the latest ones of the level
-/// below. The refusals are `NotDatabase` of the history and `NoHistory`, in this order; level 0 has none.
-fn find_earlier<H: Host>(host: &mut H, engine: &mut Engine, level: u8) -> Result<LevelHead, Fault>
-    ensures test { (t : Trail) → IsTrue H.tells → IsOpen (H.world host.old) engine.old t → Tested result (earlier_cause level t.base.image) }
-    ensures head { (t : Trail) → IsTrue H.tells → IsOpen (H.world host.old) engine.old t → IfOk result (λ head. ask_by head ≡ ask_in level t.base.image) }
-    ensures level { IfOk result (λ head. head.level ≡ level) }
-    ensures previous { IfOk result (λ head. length head.previous ≡ 16) }
-    ensures size { IfOk result (λ head. head.page_size ≡ engine.old.files.page_size) }
-    ensures sized { IfOk result (λ head. IsTrue (is_page_size head.page_size)) }
-    ensures same { engine.new ≡ engine.old }
-    ensures quiet { Quiet (H.world host.old) (H.world host.new) }
-    ensures cause { CountsDevice result (H.faults host.old) (H.faults host.new) }
-{
-    let mut head = LevelHead {
-        level: u16::from(level),
-        guid: [0; 16],
-        previous: [0; 16],
-        page_size: engine.page_size(),
-        scn: 0,
-        previous_scn: 0,
-    };
-    if level == 0 {
-        return Ok(head);
-    }
-    let below = level - 1;
-    let row = match engine.history_last(host, below)? {
-        Some(row) => row,
-        None => {
-            return Err(Fault::Refused(Refusal::NoHistory {
-                level: u32::from(below),
-            }));
-        }
-    };
-    let previous = row.guid;
-    head.previous = previous;
-    head.previous_scn = row.scn;
-    Ok(head)
-}
-
 /// Tests all that is tested before memory is taken, and answers the head of the backup without its GUID and SCN.
 fn check_start<H: Host>(
     host: &mut H,
     engine: &mut Engine,
-    level: u8,
+    since: &Since,
     name: &Name,
 ) -> Result<LevelHead, Fault>
+    requires { IsNineAtMost since.now }
     ensures test { (s : Seen) (t : Trail) → IsTrue H.tells → t.base ≡ s.base → IsOpen (H.world host.old) engine.old t → KnowsFree 0 (H.world host.old).files s name.now
-        → Tested result (first_cause (file_cause s name.now ∷ earlier_cause level t.base.image ∷ [])) }
+        → Tested result (first_cause (file_cause s name.now ∷ earlier_cause since.now t.base.image ∷ [])) }
     ensures normal { OnOk result (engine.old.files.state ≡ 0) }
-    ensures head { (t : Trail) → IsTrue H.tells → IsOpen (H.world host.old) engine.old t → IfOk result (λ head. ask_by head ≡ ask_in level t.base.image) }
-    ensures level { IfOk result (λ head. head.level ≡ level) }
+    ensures head { (t : Trail) → IsTrue H.tells → IsOpen (H.world host.old) engine.old t → IfOk result (λ head. ask_by head ≡ ask_in since.now t.base.image) }
+    ensures its_level { IfOk result (λ head. IsItsLevel since.now head.level) }
+    ensures level { IfOk result (λ head. head.level ≤ 9) }
     ensures previous { IfOk result (λ head. length head.previous ≡ 16) }
     ensures size { IfOk result (λ head. head.page_size ≡ engine.old.files.page_size) }
     ensures sized { IfOk result (λ head. IsTrue (is_page_size head.page_size)) }
-    ensures same { engine.new ≡ engine.old }
+    ensures open { (t : Trail) → IsTrue H.tells → IsOpen (H.world host.old) engine.old t → IsOpen (H.world host.new) engine.new t }
+    ensures same { but_pages engine.new ≡ but_pages engine.old }
+    ensures stays { engine.old.files.state ≡ 2 → engine.new ≡ engine.old }
     ensures quiet { Quiet (H.world host.old) (H.world host.new) }
     ensures cause { CountsDevice result (H.faults host.old) (H.faults host.new) }
 {
     check_file(host, engine, name)?;
-    find_earlier(host, engine, level)
+    since.find(host, engine)
 }
 
 /// The backup with that head begins for a session, whose copy runs then. It answers the head with the GUID and the SCN.
@@ -161,6 +127,41 @@ fn begin<H: Host>(
         guid: engine.store().guid(),
         scn,
         ..*head
+    })
+}
+
+/// Begins a backup that goes on from an earlier one into a file of that name, for a session, whose copy runs then. Room for the row is made
+/// in the history before it begins. All is tested before the first write, and the memory is taken before it.
+fn start_from<H: Host>(
+    alloc: Global,
+    host: &mut H,
+    engine: &mut Engine,
+    session: u32,
+    since: Since,
+    name: &Name,
+) -> Result<Copier, Fault>
+    requires level { IsNineAtMost since }
+    ensures turn { (s : Seen) (t : Trail) → IsTrue H.tells → t.base ≡ s.base → engine.old.running ≡ s.running → IsOpen (H.world host.old) engine.old t → IsSoundImage t.base.image
+        → KnowsFree 0 (H.world host.old).files s name.now → GaveAtMost (H.world host.old) (H.world host.new) (next_guid s.given)
+        → StartsBackup result (H.world host.old) (H.world host.new) engine.old engine.new t (next_guid s.given) (turn_since s session since name.now) }
+    ensures asks { (t : Trail) → IsTrue H.tells → IsOpen (H.world host.old) engine.old t → (guid : List ℕ) × (length guid ≡ 16) × GaveAtMost (H.world host.old) (H.world host.new) guid }
+    ensures stays { engine.old.files.state ≡ 2 → engine.new ≡ engine.old }
+    ensures its_level { IfOk result (λ copier. IsItsLevel since copier.backing.ask.level) }
+    ensures size { IfOk result (λ copier. copier.page_size ≡ engine.old.files.page_size) }
+    ensures page_size { engine.new.files.page_size ≡ engine.old.files.page_size }
+    ensures running { OnOk result (engine.new.running ≡ Some session) }
+    ensures cause { CountsDevice result (H.faults host.old) (H.faults host.new) }
+{
+    let head = check_start(host, engine, &since, name)?;
+    let mut file = FileCopy::new(alloc, name, &head)?;
+    let room = engine.history_room(host)?;
+    let head = begin(host, engine, session, &head)?;
+    file.start(&head, engine.count());
+    Ok(Copier {
+        name: name.copied(),
+        head,
+        room,
+        file,
     })
 }
 
@@ -192,17 +193,30 @@ impl Copier {
         ensures running { OnOk result (engine.new.running ≡ Some session) }
         ensures cause { CountsDevice result (H.faults host.old) (H.faults host.new) }
     {
-        let head = check_start(host, engine, level, name)?;
-        let mut file = FileCopy::new(alloc, name, &head)?;
-        let room = engine.history_room(host)?;
-        let head = begin(host, engine, session, &head)?;
-        file.start(&head, engine.count());
-        Ok(Copier {
-            name: name.copied(),
-            head,
-            room,
-            file,
-        })
+        start_from(alloc, host, engine, session, Since::Level(level), name)
+    }
+
+    /// Begins a backup since the latest one of that GUID in the history. Its level is one more than that one's, and 9 at most. All else is
+    /// as `start` does it; `NoGuid`, where no row of the history has the GUID, stands in the place of `NoHistory`.
+    pub fn start_since<H: Host>(
+        alloc: Global,
+        host: &mut H,
+        engine: &mut Engine,
+        session: u32,
+        guid: &[u8; 16],
+        name: &Name,
+    ) -> Result<Copier, Fault>
+        ensures turn { (s : Seen) (t : Trail) → IsTrue H.tells → t.base ≡ s.base → engine.old.running ≡ s.running → IsOpen (H.world host.old) engine.old t → IsSoundImage t.base.image
+            → KnowsFree 0 (H.world host.old).files s name.now → GaveAtMost (H.world host.old) (H.world host.new) (next_guid s.given)
+            → StartsBackup result (H.world host.old) (H.world host.new) engine.old engine.new t (next_guid s.given) (since_turn s session guid.now name.now) }
+        ensures asks { (t : Trail) → IsTrue H.tells → IsOpen (H.world host.old) engine.old t → (guid : List ℕ) × (length guid ≡ 16) × GaveAtMost (H.world host.old) (H.world host.new) guid }
+        ensures stays { engine.old.files.state ≡ 2 → engine.new ≡ engine.old }
+        ensures size { IfOk result (λ copier. copier.page_size ≡ engine.old.files.page_size) }
+        ensures page_size { engine.new.files.page_size ≡ engine.old.files.page_size }
+        ensures running { OnOk result (engine.new.running ≡ Some session) }
+        ensures cause { CountsDevice result (H.faults host.old) (H.faults host.new) }
+    {
+        start_from(alloc, host, engine, session, Since::Guid(*guid), name)
     }
 
     /// How many pages of the frozen image are left to deal with.

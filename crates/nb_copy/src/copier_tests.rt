@@ -19,7 +19,7 @@ fn full() -> Result<Name, Fail> {
 /// A new database of 13 pages of 1,024 bytes.
 fn new_base(alloc: Global, host: &mut MemHost) -> Result<Engine, Fail> {
     let name = database()?;
-    Ok(Engine::create(alloc, host, &name, 1024, 8)?)
+    Ok(Engine::create(alloc, host, &name, 1024, 8, 4)?)
 }
 
 /// A backup up to its end, and how many of its turns answered `More`.

@@ -16,6 +16,7 @@ mod level_copy;
 mod level_file;
 mod page_copy;
 mod run;
+mod since;
 
 pub use copier::Copier;
 pub use file_copier::FileCopier;

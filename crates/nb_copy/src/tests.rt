@@ -29,7 +29,7 @@ pub(crate) fn backup() -> Result<Name, Fail> {
 /// On that host a new database with so many raw pages of 1,024 bytes, whose first backup has ended.
 fn create(alloc: Global, host: &mut MemHost, raw: u32) -> Result<Engine, Fail> {
     let name = database()?;
-    let mut engine = Engine::create(alloc, host, &name, 1024, raw.min(300))?;
+    let mut engine = Engine::create(alloc, host, &name, 1024, raw.min(300), 4)?;
     engine.begin(host)?;
     engine.end(host, 1)?;
     engine.merge_turn(host)?;

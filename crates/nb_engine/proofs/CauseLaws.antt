@@ -31,6 +31,12 @@ pub first_here : (c : Cause) (cs : List Cause) (r : Refusal) → c ≡ Some r �
 unfolding first_cause
 first_here c cs r e = ap (λ (x : Cause). first_cause (x ∷ cs)) e
 
+-- of one cause alone
+pub one_cause : (c : Cause) → first_cause (c ∷ []) ≡ c
+unfolding first_cause
+one_cause None = refl
+one_cause (Some r) = refl
+
 -- and of a list of causes with others behind it
 pub first_front : (causes rest : List Cause) (r : Refusal) → first_cause causes ≡ Some r → first_cause (causes ++ rest) ≡ Some r
 unfolding first_cause

@@ -15,7 +15,7 @@ use Rattle.nb_model.specs.Trail.{Trail}
 use Rattle.nb_model.specs.Causes.{Cause}
 use Rattle.nb_model.specs.Outcomes.{Seen, Outcome, says, unless}
 use Rattle.nb_base.specs.Takes.{after_strokes, IsNoRefusal}
-use Rattle.nb_state.specs.Open.{Held, IsOpen}
+use Rattle.nb_state.specs.Open.{Held, IsOpen, but_pages}
 use Rattle.nb_state.specs.Does.{Tested, Answers, WhereRefused, unless_by, Makes, Does}
 use Rattle.nb_state.proofs.MakesLaws.{passed_on, never_refused, makes_none, makes_not, makes_then, makes_front, makes_after}
 use Rattle.nb_engine.specs.Tries.{Tries}
@@ -66,24 +66,24 @@ refused_more (Err Device) P Q more is = tt
 refused_more (Err Memory) P Q more is = tt
 
 -- a test ended the call before any stroke
-pub tries_failed : (T : Type 0) (fault : Fault) (old new : World) (a b : Held) (t : Trail) (cause : Cause) (xs : List Stroke) → Tested {T = T} (Err fault) cause → b ≡ a → Quiet old new → IsOpen old a t
+pub tries_failed : (T : Type 0) (fault : Fault) (old new : World) (a b : Held) (t : Trail) (cause : Cause) (xs : List Stroke) → Tested {T = T} (Err fault) cause → but_pages b ≡ but_pages a → Quiet old new → IsOpen old a t → IsOpen new b t
     → Tries {T = T} (Err fault) old new a b t cause xs
-tries_failed T (RefusedFault r) old new a b t cause xs tested same quiet is = record {
+tries_failed T (RefusedFault r) old new a b t cause xs tested same quiet is opened = record {
   test = tested;
-  makes = subst (λ (ss : List Stroke). Makes {T = T} (Err (RefusedFault r)) old new a b t ss) (sym (unless_some cause xs r tested)) (makes_none (Err (RefusedFault r)) old new a b t same quiet is);
+  makes = subst (λ (ss : List Stroke). Makes {T = T} (Err (RefusedFault r)) old new a b t ss) (sym (unless_some cause xs r tested)) (makes_none (Err (RefusedFault r)) old new a b t same quiet is opened);
   refused = quiet;
 }
-tries_failed T Device old new a b t cause xs tested same quiet is = record { test = tt; makes = makes_not T Device old new a b t (unless_by cause xs) tt same quiet is; refused = tt }
-tries_failed T Memory old new a b t cause xs tested same quiet is = record { test = tt; makes = makes_not T Memory old new a b t (unless_by cause xs) tt same quiet is; refused = tt }
+tries_failed T Device old new a b t cause xs tested same quiet is opened = record { test = tt; makes = makes_not T Device old new a b t (unless_by cause xs) tt same quiet is; refused = tt }
+tries_failed T Memory old new a b t cause xs tested same quiet is opened = record { test = tt; makes = makes_not T Memory old new a b t (unless_by cause xs) tt same quiet is; refused = tt }
 
 -- the same where `?` passes the fault on
 pub tries_passed : {T : Type 0} (result : Result T Fault) (fault : Fault) (P : Result T Fault → Type 0) → IsErr result × IsErrAnd result (λ f. f ≡ fault) → P (Err fault) → P result
 tries_passed result fault P passed is = subst P (sym (passed_on result fault passed)) is
 
 pub tries_early : (S T : Type 0) (result : Result T Fault) (fault : Fault) (old new : World) (a b : Held) (t : Trail) (found cause : Cause) (xs : List Stroke) → IsErr result × IsErrAnd result (λ f. f ≡ fault)
-    → ((r : Refusal) → found ≡ Some r → cause ≡ Some r) → Tested {T = S} (Err fault) found → b ≡ a → Quiet old new → IsOpen old a t → Tries result old new a b t cause xs
-tries_early S T result fault old new a b t found cause xs passed are tested same quiet is =
-    tries_passed result fault (λ r. Tries r old new a b t cause xs) passed (tries_failed T fault old new a b t cause xs (tested_as S T fault found cause are tested) same quiet is)
+    → ((r : Refusal) → found ≡ Some r → cause ≡ Some r) → Tested {T = S} (Err fault) found → but_pages b ≡ but_pages a → Quiet old new → IsOpen old a t → IsOpen new b t → Tries result old new a b t cause xs
+tries_early S T result fault old new a b t found cause xs passed are tested same quiet is opened =
+    tries_passed result fault (λ r. Tries r old new a b t cause xs) passed (tries_failed T fault old new a b t cause xs (tested_as S T fault found cause are tested) same quiet is opened)
 
 -- no cause applies, and the strokes are made
 pub tries_made : {T : Type 0} (result : Result T Fault) (old new : World) (a b : Held) (t : Trail) (cause : Cause) (xs : List Stroke) → cause ≡ None → IfErr result IsNoRefusal → Makes result old new a b t xs
@@ -127,7 +127,7 @@ tries_front S T fault old new a b t cause xs ys first = by fault first
     by Memory first = record { test = tt; makes = failed Memory cause tt first.makes; refused = tt }
 
 -- calls that change nothing before it
-pub tries_after : {T : Type 0} (result : Result T Fault) (old mid new : World) (a b c : Held) (t : Trail) (cause : Cause) (xs : List Stroke) → b ≡ a → Quiet old mid → IsOpen old a t → Tries result mid new b c t cause xs
+pub tries_after : {T : Type 0} (result : Result T Fault) (old mid new : World) (a b c : Held) (t : Trail) (cause : Cause) (xs : List Stroke) → but_pages b ≡ but_pages a → Quiet old mid → IsOpen old a t → Tries result mid new b c t cause xs
     → Tries result old new a c t cause xs
 tries_after result old mid new a b c t cause xs same quiet is tries = record {
   test = tries.test;
@@ -169,27 +169,27 @@ tries_does reply result old new a b t s turn cause said xs same e is tries =
     }))
 
 -- calls that change nothing do a turn that says this and has no stroke
-pub valued_does : {T : Type 0} (reply : T → Reply) (value : T) (old new : World) (a b : Held) (t : Trail) (s : Seen) (turn : Seen → Outcome) → t.base ≡ s.base → b ≡ a → Quiet old new → IsOpen old a t
+pub valued_does : {T : Type 0} (reply : T → Reply) (value : T) (old new : World) (a b : Held) (t : Trail) (s : Seen) (turn : Seen → Outcome) → t.base ≡ s.base → but_pages b ≡ but_pages a → Quiet old new → IsOpen old a t → IsOpen new b t
     → turn (seeing s t.base) ≡ says (seeing s t.base) (reply value) [] → Does reply (Ok value) old new a b t (turn s)
-valued_does reply value old new a b t s turn same still quiet is e =
+valued_does reply value old new a b t s turn same still quiet is opened e =
     subst (λ (x : Base). Does reply (Ok value) old new a b t (turn (seeing s x))) same
-    (subst (λ (o : Outcome). Does reply (Ok value) old new a b t o) (sym e) (record { answer = refl; makes = makes_none (Ok value) old new a b t still quiet is; refused = tt }))
+    (subst (λ (o : Outcome). Does reply (Ok value) old new a b t o) (sym e) (record { answer = refl; makes = makes_none (Ok value) old new a b t still quiet is opened; refused = tt }))
 
 -- or one that is refused
-pub refused_does : {T : Type 0} (reply : T → Reply) (r : Refusal) (old new : World) (a b : Held) (t : Trail) (s : Seen) (turn : Seen → Outcome) → t.base ≡ s.base → b ≡ a → Quiet old new → IsOpen old a t
+pub refused_does : {T : Type 0} (reply : T → Reply) (r : Refusal) (old new : World) (a b : Held) (t : Trail) (s : Seen) (turn : Seen → Outcome) → t.base ≡ s.base → but_pages b ≡ but_pages a → Quiet old new → IsOpen old a t → IsOpen new b t
     → turn (seeing s t.base) ≡ says (seeing s t.base) (Refused r) [] → Does reply (Err (RefusedFault r)) old new a b t (turn s)
-refused_does reply r old new a b t s turn same still quiet is e =
+refused_does reply r old new a b t s turn same still quiet is opened e =
     subst (λ (x : Base). Does reply (Err (RefusedFault r)) old new a b t (turn (seeing s x))) same
-    (subst (λ (o : Outcome). Does reply (Err (RefusedFault r)) old new a b t o) (sym e) (record { answer = refl; makes = makes_none (Err (RefusedFault r)) old new a b t still quiet is; refused = quiet }))
+    (subst (λ (o : Outcome). Does reply (Err (RefusedFault r)) old new a b t o) (sym e) (record { answer = refl; makes = makes_none (Err (RefusedFault r)) old new a b t still quiet is opened; refused = quiet }))
 
 -- A test ended the call, and `?` passed its fault on. The turn is refused where the test has a cause.
 pub tested_does : (S T : Type 0) (reply : T → Reply) (result : Result T Fault) (fault : Fault) (old new : World) (a b : Held) (t : Trail) (s : Seen) (turn : Seen → Outcome) (found : Cause)
-    → IsErr result × IsErrAnd result (λ f. f ≡ fault) → t.base ≡ s.base → b ≡ a → Quiet old new → IsOpen old a t → Tested {T = S} (Err fault) found
+    → IsErr result × IsErrAnd result (λ f. f ≡ fault) → t.base ≡ s.base → but_pages b ≡ but_pages a → Quiet old new → IsOpen old a t → IsOpen new b t → Tested {T = S} (Err fault) found
     → ((r : Refusal) → found ≡ Some r → turn (seeing s t.base) ≡ says (seeing s t.base) (Refused r) []) → Does reply result old new a b t (turn s)
-tested_does S T reply result fault old new a b t s turn found passed same still quiet is tested refused =
+tested_does S T reply result fault old new a b t s turn found passed same still quiet is opened tested refused =
     subst (λ (x : Result T Fault). Does reply x old new a b t (turn s)) (sym (passed_on result fault passed)) (by fault tested)
   where
     by : (f : Fault) → Tested {T = S} (Err f) found → Does reply (Err f) old new a b t (turn s)
-    by (RefusedFault r) tested = refused_does reply r old new a b t s turn same still quiet is (refused r tested)
+    by (RefusedFault r) tested = refused_does reply r old new a b t s turn same still quiet is opened (refused r tested)
     by Device tested = record { answer = tt; makes = makes_not T Device old new a b t (turn s).strokes tt still quiet is; refused = tt }
     by Memory tested = record { answer = tt; makes = makes_not T Memory old new a b t (turn s).strokes tt still quiet is; refused = tt }

@@ -51,7 +51,7 @@ further x y least round =
     ]
 
 -- and has the same room, but for page p
-room_on : (x y : Image) (p q : ℕ) → p ≤ length x → Round x y p → is_system_place (image_size x) p ≡ true → IsRoom x q → IsRoom y q
+pub room_on : (x y : Image) (p q : ℕ) → p ≤ length x → Round x y p → is_system_place (image_size x) p ≡ true → IsRoom x q → IsRoom y q
 room_on x y p q there round system room =
     let other : q ≢ p = λ e. true≢false (sym system ∙ ap (is_system_place (image_size x)) (sym e) ∙ room.plain) in
     let long = round.long in
@@ -62,7 +62,7 @@ room_on x y p q there round system room =
       free = λ low. let before : q < length x = omega (arith, other) in round.others q room.least before other ∙ room.free before;
     }
 
-room_back : (x y : Image) (p q : ℕ) → Round x y p → is_system_place (image_size x) p ≡ true → IsRoom y q → IsRoom x q
+pub room_back : (x y : Image) (p q : ℕ) → Round x y p → is_system_place (image_size x) p ≡ true → IsRoom y q → IsRoom x q
 room_back x y p q round system room =
     let plain : is_system_place (image_size x) q ≡ false = ap (λ (s : ℕ). is_system_place s q) (sym round.size) ∙ room.plain in
     let other : q ≢ p = λ e. true≢false (sym system ∙ ap (is_system_place (image_size x)) (sym e) ∙ plain) in
@@ -234,16 +234,22 @@ module _ (kind : ℕ) (payload : ℕ → List ℕ) where
       by_full again false e = by_place again (rounds.found image h kind payload (suc left) e).at.most (is_system_place (image_size image) (lowest_free image)) refl
 
   -- A new page is refused for want of room exactly where there is none.
+  pub whole_page : (image : Image) → IsWhole image → (q : ℕ) → IsRoom image q → (new_page kind payload (drafted image)).0.full ≡ false
+  whole_page image h q room =
+      let near = near_room image q h.fields h.sound.least room in
+      let low : 5 ≤ lowest_free image = (lowest_finds image).low in
+      let close = near.1.1 in
+      room_left (length image + 4) image h near.0 near.1.0 (omega (arith, close, low))
+
+  pub whole_none : (image : Image) → IsWhole image → HasNoRoom image → (new_page kind payload (drafted image)).0.full ≡ true
+  whole_none image h none = no_room_left (length image + 4) image h none
+
   module _ (image : Image) (header : HasHeader image) (sound : IsSoundImage image) where
     h : IsWhole image
     h = record { fields = header_fields image header; sound = sound }
 
     pub has_page : (q : ℕ) → IsRoom image q → (new_page kind payload (drafted image)).0.full ≡ false
-    has_page q room =
-        let near = near_room image q h.fields sound.least room in
-        let low : 5 ≤ lowest_free image = (lowest_finds image).low in
-        let close = near.1.1 in
-        room_left (length image + 4) image h near.0 near.1.0 (omega (arith, close, low))
+    has_page q room = whole_page image h q room
 
     pub has_none : HasNoRoom image → (new_page kind payload (drafted image)).0.full ≡ true
-    has_none none = no_room_left (length image + 4) image h none
+    has_none none = whole_none image h none

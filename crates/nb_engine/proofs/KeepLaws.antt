@@ -150,12 +150,12 @@ module _ (image : Image) where
       payload = linked_payload y last (new_link image).1
 
       y_whole : IsWhole y
-      y_whole = whole 5 no_rows refl no_rows_short (length image + 4) image (well image is)
+      y_whole = whole 5 (told no_rows) refl (λ p. no_rows_short) (length image + 4) image (well image is)
 
       at : IsPlace y last
       at =
           let there = (last_data image linked).low in
-          let long = new_long 5 no_rows refl no_rows_short (length image + 4) image in
+          let long = new_long 5 (told no_rows) refl (λ p. no_rows_short) (length image + 4) image in
           let most = y_whole.sound.most in
           record { behind = omega (arith, some); there = omega (arith, there, long); most = omega (arith, there, long, most) }
 

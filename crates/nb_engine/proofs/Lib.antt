@@ -25,3 +25,6 @@ pub mod RowLaws
 pub mod GrowLaws
 pub mod RoomLaws
 pub mod KeepLaws
+pub mod DataLaws
+pub mod ContentLaws
+pub mod SecondLaws

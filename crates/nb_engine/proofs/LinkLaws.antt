@@ -14,13 +14,13 @@ use Rattle.nb_model.specs.Account.{Base}
 use Rattle.nb_model.specs.Strokes.{Stroke, page, base_after}
 use Rattle.nb_model.specs.Forms.{Draft, drafted, old_page, put, raised, written, wrote, scn_page_of, has_entry}
 use Rattle.nb_model.specs.Chains.{Slot, put_slot}
-use Rattle.nb_model.specs.Causes.{Cause, first_cause, when}
+use Rattle.nb_model.specs.Causes.{when}
 use Rattle.nb_model.proofs.ReadLaws.{le_no}
 use Rattle.nb_model.proofs.SoundLaws.{scn_page_there, scn_place_some}
 use Rattle.nb_engine.specs.Put.{entry_cause, raise_strokes}
 use Rattle.nb_engine.specs.Make.{page_strokes}
 use Rattle.nb_engine.specs.Room.{link_cause}
-use Rattle.nb_engine.proofs.CauseLaws.{first_next, first_here}
+use Rattle.nb_engine.proofs.CauseLaws.{first_next, first_here, one_cause}
 use Rattle.nb_engine.proofs.TestLaws.{applies, rests, le_yes}
 use Rattle.nb_engine.proofs.PutLaws.{Keeps, put_stroke-after, draft_raised, not_raised, raised_not, scn_page-without}
 use Rattle.nb_engine.proofs.MakeLaws.{RaisesAlone, raise_alone, old_below}
@@ -88,11 +88,6 @@ unfolding put_slot
 slot_strokes b p slot bytes size low none = any_strokes b p size none 5 (drop 16 (with_part (32 + 256 * slot) bytes (page_at b.image p))) low
 
 -- why a page isn't linked
-one_cause : (c : Cause) → first_cause (c ∷ []) ≡ c
-unfolding first_cause
-one_cause None = refl
-one_cause (Some r) = refl
-
 pub link_low : (image : Image) (p : ℕ) → p < length image → entry_cause image p ≡ link_cause image p
 link_low image p low = sym (first_next (when (nat_le (length image) p) (NotDatabase p)) (entry_cause image p ∷ []) (rests _ _ (le_no (length image) p low)) ∙ one_cause (entry_cause image p))
 

@@ -32,15 +32,16 @@ use Rattle.nb_model.proofs.FitLaws.{IsWhole}
 use Rattle.nb_model.proofs.RoundLaws as rounds
 use Rattle.nb_base.specs.Open.{Fits}
 use Rattle.nb_base.specs.Takes.{after_strokes, IsNoRefusal}
-use Rattle.nb_state.specs.Open.{Held, IsOpen}
-use Rattle.nb_state.specs.Does.{Makes}
+use Rattle.nb_state.specs.Open.{Held, IsOpen, but_pages}
+use Rattle.nb_state.specs.Does.{Makes, unless_by}
+use Rattle.nb_state.proofs.MakesLaws.{makes_not}
 use Rattle.nb_engine.specs.Tries.{Tries}
 use Rattle.nb_engine.specs.Put.{entry_cause, must_raise, raise_strokes}
 use Rattle.nb_engine.specs.Mark.{mark_cause, mark_stroke, mark_strokes}
 use Rattle.nb_engine.specs.Find.{IsMap}
 use Rattle.nb_engine.specs.Make.{IsWell, page_strokes, system_strokes, system_cause}
 use Rattle.nb_engine.proofs.CauseLaws.{first_none, first_next}
-use Rattle.nb_engine.proofs.DoesLaws.{tries_opened, tries_passed, tries_failed, tries_then}
+use Rattle.nb_engine.proofs.DoesLaws.{tries_opened, tries_passed, tries_then}
 use Rattle.nb_engine.proofs.PutLaws.{stroke_long, is_kind-parts, none_of, may_raise, raised_once, raised_not, no_entry_cause, entry_cause-is, draft_raised}
 use Rattle.nb_engine.proofs.MarkLaws.{there, marked-is, mark_cause-is, entries_some}
 use Rattle.nb_engine.proofs.PageLaws.{fits, makes_one, seen_after}
@@ -76,9 +77,9 @@ map_apart : (x : Image) (p q : ℕ) → IsTrue (is_page_size (image_size x)) →
 map_apart x p q size at e = places_apart (image_size x) q size at (ap (is_scn_place (image_size x)) e ∙ scn_page_there (image_size x) (p / entries_in (image_size x)) size)
 
 -- a read failed before any stroke, and `?` passed it on
-pub tries_fault : {T : Type 0} (result : Result T Fault) (old new : World) (a b : Held) (t : Trail) (cause : Cause) (xs : List Stroke) → IsErr result × IsErrAnd result (λ f. f ≡ Device) → b ≡ a → Quiet old new → IsOpen old a t
+pub tries_fault : {T : Type 0} (result : Result T Fault) (old new : World) (a b : Held) (t : Trail) (cause : Cause) (xs : List Stroke) → IsErr result × IsErrAnd result (λ f. f ≡ Device) → but_pages b ≡ but_pages a → Quiet old new → IsOpen old a t
     → Tries result old new a b t cause xs
-tries_fault {T} result old new a b t cause xs passed same quiet is = tries_passed result Device (λ r. Tries r old new a b t cause xs) passed (tries_failed T Device old new a b t cause xs tt same quiet is)
+tries_fault {T} result old new a b t cause xs passed same quiet is = tries_passed result Device (λ r. Tries r old new a b t cause xs) passed (record { test = tt; makes = makes_not T Device old new a b t (unless_by cause xs) tt same quiet is; refused = tt })
 
 -- cause and strokes by other names
 pub tries_named : {T : Type 0} (result : Result T Fault) (old new : World) (a b : Held) (t : Trail) (cause other : Cause) (xs ys : List Stroke) → cause ≡ other → xs ≡ ys → Tries result old new a b t cause xs

@@ -110,48 +110,48 @@ abbrev pub told : List ℕ → ℕ → List ℕ
 told payload = λ p. payload
 
 -- What is left to make of a new page, whose search comes to that place next.
-pub record Rest (kind : ℕ) (payload : List ℕ) (image : Image) (place : ℕ) (strokes : List Stroke) (number : ℕ) : Type 0 where
+pub record Rest (kind : ℕ) (payload : ℕ → List ℕ) (image : Image) (place : ℕ) (strokes : List Stroke) (number : ℕ) : Type 0 where
   pub left : ℕ
   pub is_well : IsWell image
   pub at : lowest_free image ≡ place
-  pub room : (new_within left kind (told payload) (drafted image)).0.full ≡ false
-  pub strokes_are : (new_within left kind (told payload) (drafted image)).0.strokes ≡ strokes
-  pub number_is : (new_within left kind (told payload) (drafted image)).1 ≡ number
+  pub room : (new_within left kind payload (drafted image)).0.full ≡ false
+  pub strokes_are : (new_within left kind payload (drafted image)).0.strokes ≡ strokes
+  pub number_is : (new_within left kind payload (drafted image)).1 ≡ number
 
 not_full : (t : Bool) (r : Refusal) → when t r ≡ None → t ≡ false
 not_full false r e = refl
 not_full true r e = cc
 
-pub all_left : (kind : ℕ) (payload : List ℕ) (image : Image) (place : ℕ) → IsWell image → place ≡ lowest_free image → no_room (new_of kind payload image).0 ≡ None → Rest kind payload image place (new_of kind payload image).0.strokes (new_of kind payload image).1
+pub all_left : (kind : ℕ) (payload : ℕ → List ℕ) (image : Image) (place : ℕ) → IsWell image → place ≡ lowest_free image → no_room (new_of kind payload image).0 ≡ None → Rest kind payload image place (new_of kind payload image).0.strokes (new_of kind payload image).1
 all_left kind payload image place is at room = record { left = length image + 4; is_well = is; at = sym at; room = not_full (new_of kind payload image).0.full (Full 1048576) room; strokes_are = refl; number_is = refl }
 
 -- a round at a system place
-pub record Onward (kind : ℕ) (payload : List ℕ) (image : Image) (place : ℕ) (strokes : List Stroke) (number : ℕ) : Type 0 where
+pub record Onward (kind : ℕ) (payload : ℕ → List ℕ) (image : Image) (place : ℕ) (strokes : List Stroke) (number : ℕ) : Type 0 where
   pub rest_strokes : List Stroke
   pub strokes_are : strokes ≡ (round image place).strokes ++ rest_strokes
   pub rest : Rest kind payload (round image place).image (behind image place) rest_strokes number
   pub below : behind image place < 1048576
 
-pub onward : (kind : ℕ) (payload : List ℕ) (image : Image) (place : ℕ) (strokes : List Stroke) (number : ℕ) → Rest kind payload image place strokes number → is_system_place (image_size image) place ≡ true → Onward kind payload image place strokes number
+pub onward : (kind : ℕ) (payload : ℕ → List ℕ) (image : Image) (place : ℕ) (strokes : List Stroke) (number : ℕ) → Rest kind payload image place strokes number → is_system_place (image_size image) place ≡ true → Onward kind payload image place strokes number
 onward kind payload image place strokes number rest system = subst (λ (n : ℕ). Onward kind payload image n strokes number) rest.at (at_lowest (subst (λ (n : ℕ). is_system_place (image_size image) n ≡ true) (sym rest.at) system))
   where
     at_lowest : is_system_place (image_size image) (lowest_free image) ≡ true → Onward kind payload image (lowest_free image) strokes number
     at_lowest there =
         let p : ℕ = lowest_free image in
         let h : IsWhole image = well image rest.is_well in
-        let here : IsFound image rest.left p = found image h kind (told payload) rest.left rest.room in
+        let here : IsFound image rest.left p = found image h kind payload rest.left rest.room in
         let after : Image = (round image p).image in
         let two : 2 ≤ p = (let five = here.five in omega (arith, five)) in
         let well_after : IsWhole after = rounds.round_well image h p here.at there two in
-        let more : new_within rest.left kind (told payload) (drafted image) ≡ joined_new (round image p) (new_within here.left kind (told payload) (drafted after)) =
-        ap (λ (n : ℕ). new_within n kind (told payload) (drafted image)) here.tries_is ∙ new_more image h kind (told payload) here.left here.at.most there in
-        let room : (new_within here.left kind (told payload) (drafted after)).0.full ≡ false =
-        (or_parts (new_within here.left kind (told payload) (drafted after)).0.full (round image p).full (sym (ap (λ (x : Draft × ℕ). x.0.full) more) ∙ rest.room)).0 in
+        let more : new_within rest.left kind payload (drafted image) ≡ joined_new (round image p) (new_within here.left kind payload (drafted after)) =
+        ap (λ (n : ℕ). new_within n kind payload (drafted image)) here.tries_is ∙ new_more image h kind payload here.left here.at.most there in
+        let room : (new_within here.left kind payload (drafted after)).0.full ≡ false =
+        (or_parts (new_within here.left kind payload (drafted after)).0.full (round image p).full (sym (ap (λ (x : Draft × ℕ). x.0.full) more) ∙ rest.room)).0 in
         let low : p < length after = subst (λ (x : Image). p < length x) (sym (rounds.round_image image h p here.at there two)) (rounds.take_long (system_page p (drafted image)).image (rounds.system_well image h p here.at there) p two (rounds.system_low image h p here.at there)) in
-        let next : lowest_free after ≡ behind image p = lowest_behind after p here.five low (λ q five le. new_next image h kind (told payload) there here.at.most q five le) in
-        let next_found : IsFound after here.left (lowest_free after) = found after well_after kind (told payload) here.left room in
+        let next : lowest_free after ≡ behind image p = lowest_behind after p here.five low (λ q five le. new_next image h kind payload there here.at.most q five le) in
+        let next_found : IsFound after here.left (lowest_free after) = found after well_after kind payload here.left room in
         record {
-          rest_strokes = (new_within here.left kind (told payload) (drafted after)).0.strokes;
+          rest_strokes = (new_within here.left kind payload (drafted after)).0.strokes;
           strokes_are = sym rest.strokes_are ∙ ap (λ (x : Draft × ℕ). x.0.strokes) more;
           rest = record {
             left = here.left;
@@ -165,47 +165,47 @@ onward kind payload image place strokes number rest system = subst (λ (n : ℕ)
         }
 
 -- the last round
-pub record AtLast (kind : ℕ) (payload : List ℕ) (image : Image) (place : ℕ) (strokes : List Stroke) (number : ℕ) : Type 0 where
-  pub strokes_are : strokes ≡ (take_page place (put place kind payload (drafted image))).strokes
+pub record AtLast (kind : ℕ) (payload : ℕ → List ℕ) (image : Image) (place : ℕ) (strokes : List Stroke) (number : ℕ) : Type 0 where
+  pub strokes_are : strokes ≡ (take_page place (put place kind (payload place) (drafted image))).strokes
   pub number_is : place ≡ number
 
-pub at_last : (kind : ℕ) (payload : List ℕ) (image : Image) (place : ℕ) (strokes : List Stroke) (number : ℕ) → Rest kind payload image place strokes number → is_system_place (image_size image) place ≡ false → AtLast kind payload image place strokes number
+pub at_last : (kind : ℕ) (payload : ℕ → List ℕ) (image : Image) (place : ℕ) (strokes : List Stroke) (number : ℕ) → Rest kind payload image place strokes number → is_system_place (image_size image) place ≡ false → AtLast kind payload image place strokes number
 at_last kind payload image place strokes number rest plain = subst (λ (n : ℕ). AtLast kind payload image n strokes number) rest.at (at_lowest (subst (λ (n : ℕ). is_system_place (image_size image) n ≡ false) (sym rest.at) plain))
   where
     at_lowest : is_system_place (image_size image) (lowest_free image) ≡ false → AtLast kind payload image (lowest_free image) strokes number
     at_lowest there =
         let p : ℕ = lowest_free image in
         let h : IsWhole image = well image rest.is_well in
-        let here : IsFound image rest.left p = found image h kind (told payload) rest.left rest.room in
-        let last : new_within rest.left kind (told payload) (drafted image) ≡ (take_page p (put p kind payload (drafted image)), p) =
-        ap (λ (n : ℕ). new_within n kind (told payload) (drafted image)) here.tries_is ∙ new_last image h kind (told payload) here.left here.at.most there in
+        let here : IsFound image rest.left p = found image h kind payload rest.left rest.room in
+        let last : new_within rest.left kind payload (drafted image) ≡ (take_page p (put p kind (payload p) (drafted image)), p) =
+        ap (λ (n : ℕ). new_within n kind payload (drafted image)) here.tries_is ∙ new_last image h kind payload here.left here.at.most there in
         record { strokes_are = sym rest.strokes_are ∙ ap (λ (x : Draft × ℕ). x.0.strokes) last; number_is = sym (ap (λ (x : Draft × ℕ). x.1) last) ∙ rest.number_is }
 
 -- What is left of these strokes behind those that are done.
-pub record RestOf (kind : ℕ) (payload : List ℕ) (image : Image) (place : ℕ) (done strokes : List Stroke) (number : ℕ) : Type 0 where
+pub record RestOf (kind : ℕ) (payload : ℕ → List ℕ) (image : Image) (place : ℕ) (done strokes : List Stroke) (number : ℕ) : Type 0 where
   pub rest_strokes : List Stroke
   pub strokes_are : strokes ≡ done ++ rest_strokes
   pub rest : Rest kind payload image place rest_strokes number
 
 -- What was made of a new page so far, and where P holds, what is left.
-pub record SoFar (kind : ℕ) (payload : List ℕ) (P : Type 0) (old now : World) (a b : Held) (t : Trail) (place : ℕ) (strokes : List Stroke) (number : ℕ) (map : Page) : Type 0 where
+pub record SoFar (kind : ℕ) (payload : ℕ → List ℕ) (P : Type 0) (old now : World) (a b : Held) (t : Trail) (place : ℕ) (strokes : List Stroke) (number : ℕ) (map : Page) : Type 0 where
   pub done : List Stroke
   pub makes : Makes {T = Unit {0}} (Ok tt) old now a b t done
   pub low : place ≤ length (after_strokes t done).base.image
   pub holds : HoldsMap (after_strokes t done).base.image place map
   pub rest : P → RestOf kind payload (after_strokes t done).base.image place done strokes number
 
-pub so_far_begun : (kind : ℕ) (payload : List ℕ) (w : World) (a : Held) (t : Trail) (place : ℕ) (map : Page) → Quiet w w → IsOpen w a t → place ≡ lowest_free t.base.image → place ≤ length t.base.image → HoldsMap t.base.image place map
+pub so_far_begun : (kind : ℕ) (payload : ℕ → List ℕ) (w : World) (a : Held) (t : Trail) (place : ℕ) (map : Page) → Quiet w w → IsOpen w a t → place ≡ lowest_free t.base.image → place ≤ length t.base.image → HoldsMap t.base.image place map
     → SoFar kind payload (IsWell t.base.image × (no_room (new_of kind payload t.base.image).0 ≡ None)) w w a a t place (new_of kind payload t.base.image).0.strokes (new_of kind payload t.base.image).1 map
 so_far_begun kind payload w a t place map quiet is at low holds = record {
   done = [];
-  makes = makes_none (Ok tt) w w a a t refl quiet is;
+  makes = makes_none (Ok tt) w w a a t refl quiet is is;
   low = low;
   holds = holds;
   rest = λ p. record { rest_strokes = (new_of kind payload t.base.image).0.strokes; strokes_are = refl; rest = all_left kind payload t.base.image place p.0 at p.1 };
 }
 
-module _ (kind : ℕ) (payload : List ℕ) (P : Type 0) (old mid new : World) (a b c : Held) (t : Trail) (place : ℕ) (strokes : List Stroke) (number : ℕ) (map : Page) (so : SoFar kind payload P old mid a b t place strokes number map) where
+module _ (kind : ℕ) (payload : ℕ → List ℕ) (P : Type 0) (old mid new : World) (a b c : Held) (t : Trail) (place : ℕ) (strokes : List Stroke) (number : ℕ) (map : Page) (so : SoFar kind payload P old mid a b t place strokes number map) where
   abbrev u : Trail
   u = after_strokes t so.done
 
@@ -275,9 +275,9 @@ module _ (kind : ℕ) (payload : List ℕ) (P : Type 0) (old mid new : World) (a
     last_number p = (last p).number_is
 
     -- the new page itself
-    pub last_round : {T : Type 0} (V : T → Image → Type 0) (result : Result T Fault) → MakesWhere (IsWell x) V result mid new b c u (take_page place (put place kind payload (drafted x))).strokes
+    pub last_round : {T : Type 0} (V : T → Image → Type 0) (result : Result T Fault) → MakesWhere (IsWell x) V result mid new b c u (take_page place (put place kind (payload place) (drafted x))).strokes
         → MakesWhere P V result old new a c t strokes
     last_round V result second =
-        where_then {S = Unit {0}} tt P (Unit {0}) (IsWell x) (λ value y. Unit {0}) V result old mid new a b c t so.done (take_page place (put place kind payload (drafted x))).strokes strokes
+        where_then {S = Unit {0}} tt P (Unit {0}) (IsWell x) (λ value y. Unit {0}) V result old mid new a b c t so.done (take_page place (put place kind (payload place) (drafted x))).strokes strokes
         (record { some = record { made = so.done; makes = so.makes }; ends = tt; these = λ q. record { sure = tt; makes = so.makes; same = refl } }) (λ p. tt) (λ p same. (so.rest p).rest.is_well)
         (λ p same. sym ((so.rest p).strokes_are ∙ ap (λ (ss : List Stroke). so.done ++ ss) (last p).strokes_are)) second

@@ -21,7 +21,7 @@ use Rattle.nb_engine.proofs.PutLaws.{is_kind-parts}
 use Rattle.nb_engine.proofs.MakeLaws.{from_well, entry_none, page_long, put_strokes_are}
 
 -- a page that is written or added is below the length then
-put_length : (image : Image) → IsWhole image → (p kind : ℕ) (payload : List ℕ) → IsPlace image p → length (put p kind payload (drafted image)).image ≡ max (length image) (p + 1)
+pub put_length : (image : Image) → IsWhole image → (p kind : ℕ) (payload : List ℕ) → IsPlace image p → length (put p kind payload (drafted image)).image ≡ max (length image) (p + 1)
 put_length image h p kind payload at =
     let b : Base = base_of image in
     let of : IsOf b (put p kind payload (drafted image)) = put_keeps (IsOf b) (drafts_are b) p kind payload (drafted image) (drafted_is b) in
@@ -88,7 +88,7 @@ module _ (image : Image) (h : IsWhole image) (p : ℕ) (two : 2 ≤ p) (low : p 
   i_place : IsPlace image i
   i_place = record { behind = inventory_place_some (image_size image) (p / bits_in (image_size image)) h.fields.size; there = omega (arith, i_low); most = let most = h.sound.most in omega (arith, i_low, most) }
 
-  take_length : length (take_page p (drafted image)).image ≡ length image
+  pub take_length : length (take_page p (drafted image)).image ≡ length image
   take_length = ap (λ (d : Draft). length d.image) (rounds.take_is image h p two low) ∙ rounds.put_long image h i i_place 2 (drop 16 row) i_low
 
   take_size : image_size (take_page p (drafted image)).image ≡ image_size image
@@ -115,3 +115,32 @@ round_leaves image h p at place five =
       here = rounds.round_here image h p at place two;
       others = λ q from inside other. ap (λ (y : Image). is_free_page y q) after ∙ rounds.take_other made well_made p two low q other ∙ system.bits q from inside;
     }
+
+-- A page that is no system page, made and taken, leaves the same.
+module _ (image : Image) (h : IsWhole image) (p kind : ℕ) (payload : List ℕ) (at : IsPlace image p) (plain : is_system_place (image_size image) p ≡ false) (some : (kind == 0) ≡ false) (short : length payload ≤ 1008) (five : 5 ≤ p) where
+  abbrev made : Image
+  made = (put p kind payload (drafted image)).image
+
+  two : 2 ≤ p
+  two = omega (arith, five)
+
+  made_well : IsWhole made
+  made_well = rounds.plain_well image h p kind payload at plain some short
+
+  made_low : p < length made
+  made_low = rounds.plain_low image h p kind payload at plain some short
+
+  made_bits : (q : ℕ) → is_free_page made q ≡ is_free_page image q
+  made_bits q =
+      rounds.bit_by image made q (rounds.put_size image h p at kind payload)
+      (rounds.put_inventory image h p at kind payload (q / bits_in (image_size image)) (λ e. (rounds.no_place image h p plain).0 (q / bits_in (image_size image)) (sym e)))
+
+  pub plain_leaves : Round image (take_page p (put p kind payload (drafted image))).image p
+  plain_leaves =
+      let after = rounds.last_image image h p kind payload at plain some short two in
+      record {
+        size = rounds.last_size image h p kind payload at plain some short two;
+        long = ap length after ∙ take_length made made_well p two made_low ∙ put_length image h p kind payload at;
+        here = ap (λ (y : Image). is_free_page y p) after ∙ rounds.take_here made made_well p two made_low;
+        others = λ q from inside other. ap (λ (y : Image). is_free_page y q) after ∙ rounds.take_other made made_well p two made_low q other ∙ made_bits q;
+      }

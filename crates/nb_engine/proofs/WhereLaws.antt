@@ -13,7 +13,7 @@ use Rattle.nb_model.specs.Strokes.{Stroke}
 use Rattle.nb_model.specs.Trail.{Trail, after_stroke}
 use Rattle.nb_model.specs.Causes.{Cause}
 use Rattle.nb_base.specs.Takes.{after_strokes, IsNoRefusal}
-use Rattle.nb_state.specs.Open.{Held}
+use Rattle.nb_state.specs.Open.{Held, IsOpen, but_pages}
 use Rattle.nb_state.specs.Does.{Tested, WhereEnded, unless_by, Makes}
 use Rattle.nb_state.proofs.MakesLaws.{makes_then, makes_front, makes_before}
 use Rattle.nb_engine.specs.Tries.{Tries}
@@ -114,12 +114,12 @@ where_then v P first_holds then_holds Q V result old mid new a b c t xs ys strok
 
 -- calls that change nothing follow
 pub where_quiet : {S T : Type 0} (v : S) (P R : Type 0) (Q : S → Image → Type 0) (V : T → Image → Type 0) (result : Result T Fault) (old mid new : World) (a b c : Held) (t : Trail) (strokes : List Stroke)
-    → (first : MakesWhere P Q (Ok v) old mid a b t strokes) → c ≡ b → Quiet mid new → (R → P) → (R → first.some.made ≡ strokes → IfErr result IsNoRefusal)
+    → (first : MakesWhere P Q (Ok v) old mid a b t strokes) → but_pages c ≡ but_pages b → Quiet mid new → ((u : Trail) → IsOpen mid b u → IsOpen new c u) → (R → P) → (R → first.some.made ≡ strokes → IfErr result IsNoRefusal)
     → IfOk result (λ value. V value (after_strokes t first.some.made).base.image) → MakesWhere R V result old new a c t strokes
-where_quiet v P R Q V result old mid new a b c t strokes first still quiet to sure ends = record {
-  some = record { made = first.some.made; makes = makes_before v result old mid new a b c t first.some.made first.some.makes still quiet };
+where_quiet v P R Q V result old mid new a b c t strokes first still quiet opens to sure ends = record {
+  some = record { made = first.some.made; makes = makes_before v result old mid new a b c t first.some.made first.some.makes still quiet opens };
   ends = ends;
   these = λ r.
       let these = first.these (to r) in
-      record { sure = sure r these.same; makes = makes_before v result old mid new a b c t strokes these.makes still quiet; same = on_ok result these.same };
+      record { sure = sure r these.same; makes = makes_before v result old mid new a b c t strokes these.makes still quiet opens; same = on_ok result these.same };
 }

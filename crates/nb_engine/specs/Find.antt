@@ -37,6 +37,16 @@ pub record IsNextPlace (image : Image) (p : ℕ) : Type 0 where
   pub free : p < length image → is_free_page image p ≡ true
   pub before : (q : ℕ) → IsRoom image q → p ≤ q
 
+-- the lowest page from one on at which a new page may be made
+pub record IsFirstRoom (image : Image) (from p : ℕ) : Type 0 where
+  pub not_before : from ≤ p
+  pub room : IsRoom image p
+  pub before : (q : ℕ) → from ≤ q → IsRoom image q → p ≤ q
+
+-- there is none from that page on
+abbrev pub HasNoneFrom : Image → (from : ℕ) → Type 0
+HasNoneFrom image from = (p : ℕ) → from ≤ p → IsRoom image p → ⊥
+
 -- the inventory page of page p is of its kind, and is that map
 pub record IsMap (image : Image) (p : ℕ) (map : Page) : Type 0 where
   pub kind : not_kind image 2 (inventory_of image p) ≡ None
@@ -79,3 +89,10 @@ RefusesFull (Ok value) image = Unit
 RefusesFull (Err (Refused refusal)) image = (refusal ≡ Full 1048576) × HasNoRoom image
 RefusesFull (Err Device) image = Unit
 RefusesFull (Err Memory) image = Unit
+
+-- the same from one page on
+abbrev pub RefusesFrom : {T : Type 0} → Result T Fault → Image → (from : ℕ) → Type 0
+RefusesFrom (Ok value) image from = Unit
+RefusesFrom (Err (Refused refusal)) image from = (refusal ≡ Full 1048576) × HasNoneFrom image from
+RefusesFrom (Err Device) image from = Unit
+RefusesFrom (Err Memory) image from = Unit

@@ -7,3 +7,4 @@ pub mod Find
 pub mod Make
 pub mod History
 pub mod Room
+pub mod Data

@@ -1,5 +1,6 @@
 -- What making a new page does of an open database.
-use Rattle.std.specs.Prelude.{◌≡◌, ◌<◌, ◌≤◌, ℕ, ◌+◌, ◌-◌, List, [], ◌∷◌, ◌++◌, length, true, false, None, Result, OnOk, IfOk, IfErr, IsTrue}
+use Rattle.std.specs.Prelude.{◌≡◌, ◌<◌, ◌≤◌, ℕ, ◌+◌, ◌-◌, List, [], ◌∷◌, ◌++◌, length, Bool, true, false, None, Result, OnOk, IfOk, IfErr, IsTrue}
+use Rattle.nb_fields.specs.Bytes.{bytes_of, with_part}
 use Rattle.nb_fields.specs.Places.{is_page_size}
 use Rattle.nb_fields.specs.Page.{stamped}
 use Rattle.nb_fields.specs.Payloads.{text_payload}
@@ -34,13 +35,17 @@ system_strokes image p = elim (is_kind image (system_kind image p) p) [ true ↦
 abbrev pub system_cause : Image → (p : ℕ) → Cause
 system_cause image p = elim (is_kind image (system_kind image p) p) [ true ↦ None | false ↦ entry_cause image p ]
 
--- a new page of that kind with that payload, whatever its number, and the number
-abbrev pub new_of : (kind : ℕ) (payload : List ℕ) → Image → Draft × ℕ
-new_of kind payload image = new_page kind (λ p. payload) (drafted image)
+-- what page p has behind its head: these bytes, of which, where it owns itself, four are its number
+abbrev pub content : (own : Bool) (bytes : List ℕ) → (p : ℕ) → List ℕ
+content own bytes p = elim own [ true ↦ with_part 4 (bytes_of 4 p) bytes | false ↦ bytes ]
+
+-- a new page of that kind with what it has by its number, and the number
+abbrev pub new_of : (kind : ℕ) (payload : ℕ → List ℕ) → Image → Draft × ℕ
+new_of kind payload image = new_page kind payload (drafted image)
 
 -- a raw page with the empty text
 abbrev pub new_raw : Image → Draft × ℕ
-new_raw image = new_of 8 (text_payload []) image
+new_raw image = new_of 8 (λ p. text_payload []) image
 
 -- a round of the search for it at a system place: the system page is there, and is taken
 abbrev pub round : Image → (place : ℕ) → Draft

@@ -31,7 +31,7 @@ no_rows = data_payload 0 1 []
 
 -- the new page of the history, and its number
 abbrev pub new_link : Image → Draft × ℕ
-new_link image = new_of 5 no_rows image
+new_link image = new_of 5 (λ p. no_rows) image
 
 -- what stands behind the head of page p when that is linked to the next
 abbrev pub linked_payload : Image → (p next : ℕ) → List ℕ

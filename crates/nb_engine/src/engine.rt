@@ -1,4 +1,4 @@
-ghost use Rattle.std.specs.Prelude.{◌≡◌, ◌+◌, ◌<◌, ◌≤◌, IsTrue, IfOk, OnOk, length};
+ghost use Rattle.std.specs.Prelude.{◌≡◌, ◌+◌, ◌<◌, ◌≤◌, IsTrue, IsSome, IsOk, IfOk, OnOk, length};
 ghost use Rattle.nb_fields.specs.Places.{is_page_size};
 ghost use Rattle.nb_fields.specs.Fresh.{fresh};
 ghost use Rattle.nb_host.specs.Causes.{CountsFault};
@@ -7,8 +7,9 @@ ghost use Rattle.nb_page.specs.Quiet.{Quiet};
 ghost use Rattle.nb_model.specs.Image.{page_at};
 ghost use Rattle.nb_model.specs.Lines.{flag};
 ghost use Rattle.nb_model.specs.Trail.{Trail, settled};
-ghost use Rattle.nb_state.specs.Open.{IsOpen};
-ghost use Rattle.nb_state.specs.Beginnings.{Attaches, Creates};
+ghost use Rattle.nb_state.specs.Open.{IsOpen, but_pages};
+ghost use Rattle.nb_cache.specs.Held.{slot_of};
+ghost use Rattle.nb_state.specs.Beginnings.{Attaches, Creates, HoldsNone};
 
 use crate::pages::{InventoryPage, ScnPage};
 use nb_host::{Fault, Host, HostFault, Name};
@@ -42,25 +43,29 @@ impl Model for Engine {
 
 impl Engine {
     /// Makes a new database with `raw` raw pages, and opens it. The refusal is `FileExists`, where the name is not free; then nothing
-    /// has changed. The memory for three of its pages is taken first.
+    /// has changed. The memory for three of its pages, and for so many in memory, is taken first.
     pub fn create<H: Host>(
         alloc: Global,
         host: &mut H,
         name: &Name,
         page_size: u32,
         raw: u32,
+        cache_pages: u32,
     ) -> Result<Engine, Fault>
         requires size { IsTrue (is_page_size page_size) }
         requires raw { raw ≤ 65535 }
         requires name { length name.now ≤ 94 }
+        requires some { 0 < cache_pages }
+        requires few { cache_pages ≤ 4096 }
         ensures creates { IsTrue H.tells → Creates result (H.world host.old) (H.world host.new) name.now (fresh page_size raw) }
         ensures scn { IfOk result (λ engine. engine.scn < 4294967296) }
+        ensures blank { IfOk result (HoldsNone cache_pages) }
         ensures cause { CountsDevice result (H.faults host.old) (H.faults host.new) }
     {
         let page = vec![in alloc; 0; page_size as usize]?;
         let scn_page = ScnPage::new(alloc, page_size)?;
         let map = InventoryPage::new(alloc, page_size)?;
-        let store = Store::create(alloc, host, name, page_size, raw)?;
+        let store = Store::create(alloc, host, name, page_size, raw, cache_pages)?;
         Ok(Engine {
             store,
             page,
@@ -69,18 +74,26 @@ impl Engine {
         })
     }
 
-    /// Opens a database, and takes the memory for three of its pages. It changes nothing: what it opens is kept for good before it
+    /// Opens a database, and takes the memory for three of its pages and for so many in memory. It changes nothing: what it opens is kept for good before it
     /// answers.
     ///
     /// The refusals are those of `Store::attach`: `NoFile`, `NotDatabase`, `Unfinished` and `BadDelta`.
-    pub fn attach<H: Host>(alloc: Global, host: &mut H, name: &Name) -> Result<Engine, Fault>
+    pub fn attach<H: Host>(
+        alloc: Global,
+        host: &mut H,
+        name: &Name,
+        cache_pages: u32,
+    ) -> Result<Engine, Fault>
         requires name { length name.now ≤ 94 }
+        requires some { 0 < cache_pages }
+        requires few { cache_pages ≤ 4096 }
         ensures attaches { IsTrue H.tells → Attaches result (H.world host.old) (H.world host.new) name.now }
         ensures scn { IfOk result (λ engine. engine.scn < 4294967296) }
+        ensures blank { IfOk result (HoldsNone cache_pages) }
         ensures quiet { Quiet (H.world host.old) (H.world host.new) }
         ensures cause { CountsDevice result (H.faults host.old) (H.faults host.new) }
     {
-        let store = Store::attach(alloc, host, name)?;
+        let store = Store::attach(alloc, host, name, cache_pages)?;
         let page_size = store.page_size();
         let page = vec![in alloc; 0; page_size as usize]?;
         let scn_page = ScnPage::new(alloc, page_size)?;
@@ -138,6 +151,20 @@ impl Engine {
         u32::from(self.store.is_read_only())
     }
 
+    /// How many pages may be in memory.
+    pub fn capacity(&self) -> u32
+        ensures { result ≡ self.now.cap }
+    {
+        self.store.capacity()
+    }
+
+    /// How many pages are in memory.
+    pub fn held(&self) -> u32
+        ensures { result ≡ length self.now.pages }
+    {
+        self.store.held()
+    }
+
     /// Says whose copy or merge runs.
     pub fn set_running(&mut self, by: Option<u32>)
         ensures { self.new ≡ record self.old { running = by } }
@@ -145,7 +172,8 @@ impl Engine {
         self.store.set_running(by);
     }
 
-    /// Fills in page `number`. Page 0 may take two reads; every other page takes one.
+    /// Fills in page `number`, from memory or from the files. Of the host a page in memory asks nothing, page 0 at most two reads, and
+    /// every other page at most one.
     pub fn read<H: Host>(
         &mut self,
         host: &mut H,
@@ -154,7 +182,9 @@ impl Engine {
     ) -> Result<(), HostFault>
         requires size { length into.old ≡ self.old.files.page_size }
         ensures page { (t : Trail) → IsTrue H.tells → IsOpen (H.world host.old) self.old t → number < length t.base.image → OnOk result (into.new ≡ page_at t.base.image number) }
-        ensures same { self.new ≡ self.old }
+        ensures open { (t : Trail) → IsTrue H.tells → IsOpen (H.world host.old) self.old t → IsOpen (H.world host.new) self.new t }
+        ensures same { but_pages self.new ≡ but_pages self.old }
+        ensures in_memory { IsSome (slot_of self.old.pages number) → IsOk result × (host.new ≡ host.old) }
         ensures quiet { Quiet (H.world host.old) (H.world host.new) }
         ensures once { IsTrue H.tells → 0 < number → (H.world host.new).reads ≤ (H.world host.old).reads + 1 }
         ensures twice { IsTrue H.tells → (H.world host.new).reads ≤ (H.world host.old).reads + 2 }

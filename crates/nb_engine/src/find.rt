@@ -8,10 +8,11 @@ ghost use Rattle.nb_model.specs.Causes.{not_kind, no_room};
 ghost use Rattle.nb_model.specs.Forms.{inventory_of, free_from, lowest_free};
 ghost use Rattle.nb_model.specs.Sound.{IsSoundImage, HasHeader};
 ghost use Rattle.nb_model.specs.Trail.{Trail};
-ghost use Rattle.nb_state.specs.Open.{IsOpen};
+ghost use Rattle.nb_state.specs.Open.{IsOpen, but_pages};
 ghost use Rattle.nb_state.specs.Does.{Tested};
 ghost use Rattle.nb_engine.specs.Put.{Reads};
-ghost use Rattle.nb_engine.specs.Find.{AreTaken, IsFreeNear, IsNextPlace, IsMap, EndsAt, HoldsMap, RefusesFull, IsWayReady, not_there, no_entry_page, not_ready};
+ghost use Rattle.nb_engine.specs.Data.{second_data};
+ghost use Rattle.nb_engine.specs.Find.{AreTaken, IsFreeNear, IsNextPlace, IsFirstRoom, IsMap, EndsAt, HoldsMap, RefusesFull, RefusesFrom, IsWayReady, not_there, no_entry_page, not_ready};
 ghost use Rattle.nb_engine.specs.Make.{new_of};
 
 use crate::pages::{InventoryPage, ScnPage};
@@ -74,7 +75,8 @@ fn free_near<H: Host>(
     ensures not_before { IfOk result (λ found. IfSome found (λ page. from ≤ page)) }
     ensures below { IfOk result (λ found. IfSome found (λ page. page < store.old.files.count)) }
     ensures room { length map.new ≡ length map.old }
-    ensures same { store.new ≡ store.old }
+    ensures open { (t : Trail) → IsTrue H.tells → IsOpen (H.world host.old) store.old t → IsOpen (H.world host.new) store.new t }
+    ensures same { but_pages store.new ≡ but_pages store.old }
     ensures quiet { Quiet (H.world host.old) (H.world host.new) }
     ensures once { IsTrue H.tells → (H.world host.new).reads ≤ (H.world host.old).reads + 1 }
     ensures cause { CountsDevice result (H.faults host.old) (H.faults host.new) }
@@ -109,7 +111,8 @@ pub(crate) fn next_free<H: Host>(
     ensures not_before { IfOk result (λ page. from ≤ page) }
     ensures most { IfOk result (λ page. page ≤ 1048576) }
     ensures room { length map.new ≡ length map.old }
-    ensures same { store.new ≡ store.old }
+    ensures open { (t : Trail) → IsTrue H.tells → IsOpen (H.world host.old) store.old t → IsOpen (H.world host.new) store.new t }
+    ensures same { but_pages store.new ≡ but_pages store.old }
     ensures quiet { Quiet (H.world host.old) (H.world host.new) }
     ensures once { IsTrue H.tells → (H.world host.new).reads ≤ (H.world host.old).reads + (store.old.files.count / bits_in store.old.files.page_size + 1 - from / bits_in store.old.files.page_size) }
     ensures cause { CountsDevice result (H.faults host.old) (H.faults host.new) }
@@ -138,7 +141,8 @@ pub(crate) fn check_entry<H: Host>(
     requires number { number < 1048576 }
     ensures test { (t : Trail) → IsTrue H.tells → IsOpen (H.world host.old) store.old t → Tested result (no_entry_page t.base.image number) }
     ensures room { length scn_page.new ≡ length scn_page.old }
-    ensures same { store.new ≡ store.old }
+    ensures open { (t : Trail) → IsTrue H.tells → IsOpen (H.world host.old) store.old t → IsOpen (H.world host.new) store.new t }
+    ensures same { but_pages store.new ≡ but_pages store.old }
     ensures quiet { Quiet (H.world host.old) (H.world host.new) }
     ensures cause { CountsDevice result (H.faults host.old) (H.faults host.new) }
 {
@@ -168,7 +172,8 @@ pub(crate) fn hold_map<H: Host>(
     ensures test { (t : Trail) → IsTrue H.tells → IsOpen (H.world host.old) store.old t → EndsAt t.base.image from number map.old → Tested result (not_there t.base.image 2 (inventory_of t.base.image number)) }
     ensures map { (t : Trail) → IsTrue H.tells → IsOpen (H.world host.old) store.old t → EndsAt t.base.image from number map.old → OnOk result (HoldsMap t.base.image number map.new) }
     ensures room { length map.new ≡ length map.old }
-    ensures same { store.new ≡ store.old }
+    ensures open { (t : Trail) → IsTrue H.tells → IsOpen (H.world host.old) store.old t → IsOpen (H.world host.new) store.new t }
+    ensures same { but_pages store.new ≡ but_pages store.old }
     ensures quiet { Quiet (H.world host.old) (H.world host.new) }
     ensures cause { CountsDevice result (H.faults host.old) (H.faults host.new) }
 {
@@ -203,7 +208,8 @@ fn check_place<H: Host>(
     ensures map { (t : Trail) → IsTrue H.tells → IsOpen (H.world host.old) store.old t → EndsAt t.base.image from place map.old → OnOk result (HoldsMap t.base.image place map.new) }
     ensures map_room { length map.new ≡ length map.old }
     ensures scn_room { length scn_page.new ≡ length scn_page.old }
-    ensures same { store.new ≡ store.old }
+    ensures open { (t : Trail) → IsTrue H.tells → IsOpen (H.world host.old) store.old t → IsOpen (H.world host.new) store.new t }
+    ensures same { but_pages store.new ≡ but_pages store.old }
     ensures quiet { Quiet (H.world host.old) (H.world host.new) }
     ensures cause { CountsDevice result (H.faults host.old) (H.faults host.new) }
 {
@@ -233,7 +239,8 @@ fn check_places<H: Host>(
     ensures below { OnOk result (first < 1048576) }
     ensures map_room { length map.new ≡ length map.old }
     ensures scn_room { length scn_page.new ≡ length scn_page.old }
-    ensures same { store.new ≡ store.old }
+    ensures open { (t : Trail) → IsTrue H.tells → IsOpen (H.world host.old) store.old t → IsOpen (H.world host.new) store.new t }
+    ensures same { but_pages store.new ≡ but_pages store.old }
     ensures quiet { Quiet (H.world host.old) (H.world host.new) }
     ensures cause { CountsDevice result (H.faults host.old) (H.faults host.new) }
 {
@@ -264,7 +271,7 @@ pub(crate) fn check_new<H: Host>(
 ) -> Result<u32, Fault>
     requires map_room { length map.old ≡ store.old.files.page_size }
     requires scn_room { length scn_page.old ≡ store.old.files.page_size }
-    ensures test { (t : Trail) (kind : ℕ) (payload : List ℕ) → IsTrue H.tells → IsOpen (H.world host.old) store.old t → HasHeader t.base.image → IsSoundImage t.base.image
+    ensures test { (t : Trail) (kind : ℕ) (payload : ℕ → List ℕ) → IsTrue H.tells → IsOpen (H.world host.old) store.old t → HasHeader t.base.image → IsSoundImage t.base.image
         → Tested result (no_room (new_of kind payload t.base.image).0) }
     ensures tested { (t : Trail) → IsTrue H.tells → IsOpen (H.world host.old) store.old t → OnOk result (IsWayReady t.base.image 5) }
     ensures value { (t : Trail) → IsTrue H.tells → IsOpen (H.world host.old) store.old t → IfOk result (λ page. page ≡ lowest_free t.base.image) }
@@ -273,11 +280,84 @@ pub(crate) fn check_new<H: Host>(
     ensures most { IfOk result (λ page. page < 1048576) }
     ensures map_room { length map.new ≡ length map.old }
     ensures scn_room { length scn_page.new ≡ length scn_page.old }
-    ensures same { store.new ≡ store.old }
+    ensures open { (t : Trail) → IsTrue H.tells → IsOpen (H.world host.old) store.old t → IsOpen (H.world host.new) store.new t }
+    ensures same { but_pages store.new ≡ but_pages store.old }
     ensures quiet { Quiet (H.world host.old) (H.world host.new) }
     ensures cause { CountsDevice result (H.faults host.old) (H.faults host.new) }
 {
     let page = next_free(store, host, FIRST_TO_GIVE, map)?;
     check_places(store, host, page, map, scn_page)?;
     Ok(page)
+}
+
+/// The lowest page from `from` on at which a new page may be made: no system page stands there, and it is free or past the end. It has read
+/// and tested all that a new page there changes, also of the system pages before it, which are made on the way.
+///
+/// The refusals are `NotDatabase` of a page that isn't of its kind, and `Full`, where there is no such page.
+fn next_room<H: Host>(
+    store: &mut Store,
+    host: &mut H,
+    from: u32,
+    map: &mut InventoryPage,
+    scn_page: &mut ScnPage,
+) -> Result<u32, Fault>
+    requires map_room { length map.old ≡ store.old.files.page_size }
+    requires scn_room { length scn_page.old ≡ store.old.files.page_size }
+    requires least { 5 ≤ from }
+    requires most { from ≤ 1048576 }
+    ensures found { (t : Trail) → IsTrue H.tells → IsOpen (H.world host.old) store.old t → IfOk result (IsFirstRoom t.base.image from) }
+    ensures full { (t : Trail) → IsTrue H.tells → IsOpen (H.world host.old) store.old t → IsSoundImage t.base.image → RefusesFrom result t.base.image from }
+    ensures below { IfOk result (λ page. page < 1048576) }
+    ensures not_before { IfOk result (λ page. from ≤ page) }
+    ensures map_room { length map.new ≡ length map.old }
+    ensures scn_room { length scn_page.new ≡ length scn_page.old }
+    ensures open { (t : Trail) → IsTrue H.tells → IsOpen (H.world host.old) store.old t → IsOpen (H.world host.new) store.new t }
+    ensures same { but_pages store.new ≡ but_pages store.old }
+    ensures quiet { Quiet (H.world host.old) (H.world host.new) }
+    ensures cause { CountsDevice result (H.faults host.old) (H.faults host.new) }
+{
+    let page_size = store.page_size();
+    let mut start = from;
+    let mut place = next_free(store, host, start, map)?;
+    while place < MOST_PAGES {
+        check_place(store, host, start, place, map, scn_page)?;
+        if !is_system_place(page_size, place) {
+            return Ok(place);
+        }
+        start = place + 1;
+        place = next_free(store, host, start, map)?;
+    }
+    Err(Fault::Refused(Refusal::Full { count: MOST_PAGES }))
+}
+
+/// Tests that `pages` new pages, one or two, may be made one right behind the other, and all that they change.
+///
+/// The refusals are `NotDatabase` of a page that isn't of its kind, and `Full`, where fewer pages are left.
+pub(crate) fn check_rooms<H: Host>(
+    store: &mut Store,
+    host: &mut H,
+    pages: u32,
+    map: &mut InventoryPage,
+    scn_page: &mut ScnPage,
+) -> Result<(), Fault>
+    requires size { IsTrue (is_page_size store.old.files.page_size) }
+    requires map_room { length map.old ≡ store.old.files.page_size }
+    requires scn_room { length scn_page.old ≡ store.old.files.page_size }
+    requires few { pages ≤ 2 }
+    ensures one { (t : Trail) (first : ℕ → List ℕ) → IsTrue H.tells → IsOpen (H.world host.old) store.old t → IsSoundImage t.base.image → pages ≡ 1 → Tested result (no_room (new_of 5 first t.base.image).0) }
+    ensures two { (t : Trail) (first second : ℕ → List ℕ) → IsTrue H.tells → IsOpen (H.world host.old) store.old t → IsSoundImage t.base.image → pages ≡ 2 → ((p : ℕ) → length (first p) ≤ 1008)
+        → Tested result (no_room (second_data first second t.base.image).0) }
+    ensures map_room { length map.new ≡ length map.old }
+    ensures scn_room { length scn_page.new ≡ length scn_page.old }
+    ensures open { (t : Trail) → IsTrue H.tells → IsOpen (H.world host.old) store.old t → IsOpen (H.world host.new) store.new t }
+    ensures same { but_pages store.new ≡ but_pages store.old }
+    ensures quiet { Quiet (H.world host.old) (H.world host.new) }
+    ensures cause { CountsDevice result (H.faults host.old) (H.faults host.new) }
+{
+    let first = next_room(store, host, FIRST_TO_GIVE, map, scn_page)?;
+    if pages < 2 {
+        return Ok(());
+    }
+    next_room(store, host, first + 1, map, scn_page)?;
+    Ok(())
 }

@@ -9,7 +9,7 @@ ghost use Rattle.nb_model.specs.Chains.{History, pages_of, found_pages, backup_s
 ghost use Rattle.nb_model.specs.Forms.{drafted};
 ghost use Rattle.nb_model.specs.Sound.{IsSoundImage};
 ghost use Rattle.nb_model.specs.Trail.{Trail};
-ghost use Rattle.nb_state.specs.Open.{IsOpen};
+ghost use Rattle.nb_state.specs.Open.{IsOpen, but_pages};
 ghost use Rattle.nb_base.specs.Takes.{IsNoRefusal};
 ghost use Rattle.nb_state.specs.Does.{Tested, Goes};
 ghost use Rattle.nb_engine.specs.History.{row_at, IsPlaced};
@@ -35,7 +35,8 @@ impl Engine {
     ) -> Result<Option<HistoryRow>, Fault>
         ensures test { (t : Trail) → IsTrue H.tells → IsOpen (H.world host.old) self.old t → Tested result (broken_at (pages_of History t.base.image)) }
         ensures row { (t : Trail) → IsTrue H.tells → IsOpen (H.world host.old) self.old t → IfOk result (λ row. row ≡ row_at (backup_spot (λ slot. nat_eq (level_in slot) level) t.base.image)) }
-        ensures same { self.new ≡ self.old }
+        ensures open { (t : Trail) → IsTrue H.tells → IsOpen (H.world host.old) self.old t → IsOpen (H.world host.new) self.new t }
+        ensures same { but_pages self.new ≡ but_pages self.old }
         ensures quiet { Quiet (H.world host.old) (H.world host.new) }
         ensures once { (t : Trail) → IsTrue H.tells → IsOpen (H.world host.old) self.old t → OnOk result ((H.world host.new).reads ≤ (H.world host.old).reads + length (found_pages History t.base.image)) }
         ensures most { IsTrue H.tells → (H.world host.new).reads ≤ (H.world host.old).reads + self.old.files.count }
@@ -55,7 +56,8 @@ impl Engine {
     ) -> Result<Option<HistoryRow>, Fault>
         ensures test { (t : Trail) → IsTrue H.tells → IsOpen (H.world host.old) self.old t → Tested result (broken_at (pages_of History t.base.image)) }
         ensures row { (t : Trail) → IsTrue H.tells → IsOpen (H.world host.old) self.old t → IfOk result (λ row. row ≡ row_at (backup_spot (λ slot. same_name (guid_in slot) guid.now) t.base.image)) }
-        ensures same { self.new ≡ self.old }
+        ensures open { (t : Trail) → IsTrue H.tells → IsOpen (H.world host.old) self.old t → IsOpen (H.world host.new) self.new t }
+        ensures same { but_pages self.new ≡ but_pages self.old }
         ensures quiet { Quiet (H.world host.old) (H.world host.new) }
         ensures once { (t : Trail) → IsTrue H.tells → IsOpen (H.world host.old) self.old t → OnOk result ((H.world host.new).reads ≤ (H.world host.old).reads + length (found_pages History t.base.image)) }
         ensures most { IsTrue H.tells → (H.world host.new).reads ≤ (H.world host.old).reads + self.old.files.count }

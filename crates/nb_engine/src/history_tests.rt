@@ -15,8 +15,8 @@ fn base_name() -> Result<Name, Fail>
 }
 
 /// A new database of 13 pages of 1,024 bytes: a page has three slots.
-fn new_base(alloc: Global, host: &mut MemHost) -> Result<Engine, Fail> {
-    Ok(Engine::create(alloc, host, &base_name()?, 1024, 8)?)
+pub(crate) fn new_base(alloc: Global, host: &mut MemHost) -> Result<Engine, Fail> {
+    Ok(Engine::create(alloc, host, &base_name()?, 1024, 8, 4)?)
 }
 
 /// A backup of that level, whose GUID repeats the byte.
@@ -85,8 +85,10 @@ fn a_full_page_gets_another(rt: HostRuntime) -> Result<(), Fail> {
     let mut engine = new_base(rt.alloc(), &mut host)?;
     let third = add_all(&mut engine, &mut host, &[(0, 1), (1, 2), (2, 3)])?;
     let fourth = add_all(&mut engine, &mut host, &[(0, 4)])?;
+    // Opened anew it has none of its pages in memory.
+    let mut opened = Engine::attach(rt.alloc(), &mut host, &base_name()?, 4)?;
     let before = host.read_count();
-    let last = seen(engine.history_last(&mut host, 0)?);
+    let last = seen(opened.history_last(&mut host, 0)?);
     let reads = host.read_count().saturating_sub(before);
     assert_eq!(rt;
         (third, fourth, last, reads),
@@ -101,17 +103,22 @@ fn a_full_page_gets_another(rt: HostRuntime) -> Result<(), Fail> {
 }
 
 /// A new database in whose file one byte is another.
-fn base_with(alloc: Global, host: &mut MemHost, at: usize, byte: u8) -> Result<Engine, Fail> {
+pub(crate) fn base_with(
+    alloc: Global,
+    host: &mut MemHost,
+    at: usize,
+    byte: u8,
+) -> Result<Engine, Fail> {
     new_base(alloc, host)?;
     let name = base_name()?;
     let mut bytes = host.file(&name).ok_or("no file")?.to_vec(alloc)?;
     *bytes.get_mut(at).ok_or("no such byte")? = byte;
     host.put_file(&name, &bytes)?;
-    Ok(Engine::attach(alloc, host, &name)?)
+    Ok(Engine::attach(alloc, host, &name, 4)?)
 }
 
 /// The page that a call names as none of a database.
-fn page_in<T: Drop>(answer: Result<T, Fault>) -> Option<u32> {
+pub(crate) fn page_in<T: Drop>(answer: Result<T, Fault>) -> Option<u32> {
     match answer {
         Err(Fault::Refused(Refusal::NotDatabase { page })) => Some(page),
         _ => None,

@@ -6,14 +6,19 @@
 //! in order, in every backup state; at each moment a stop leaves what may be left of what was seen behind a front of them, and once
 //! the call has answered a value or a refusal the database is open behind all of them. A new page does so where the inventories agree
 //! with the pages; of any other database it says that it makes some strokes. The history of the backups is read page by page; a row
-//! takes two calls, one that keeps a slot for it and one that writes it, so that a backup that has begun finds its slot.
+//! takes two calls, one that keeps a slot for it and one that writes it, so that a backup that has begun finds its slot. Data pages, of
+//! which tables are made, are read, made, written and given back one by one, as the short forms of their turns say; what several such
+//! calls will need can be tested before the first.
 #![tactic(auto)]
 
 mod backup;
+mod data;
+mod data_new;
 mod engine;
 mod find;
 mod flags;
 mod free;
+mod grow;
 mod history;
 mod make;
 mod mark;
@@ -30,6 +35,8 @@ pub use engine::Engine;
 pub use rows::HistoryRow;
 pub use walk::Room;
 
+#[cfg(test)]
+mod data_tests;
 #[cfg(test)]
 mod history_tests;
 #[cfg(test)]

@@ -10,18 +10,19 @@ ghost use Rattle.nb_model.specs.Image.{Image, image_size, image_scn};
 ghost use Rattle.nb_model.specs.Trail.{Trail};
 ghost use Rattle.nb_model.specs.Forms.{drafted, old_page, put, is_kind, system_kind, system_payload, take_page, lowest_free};
 ghost use Rattle.nb_model.specs.Causes.{no_room};
-ghost use Rattle.nb_state.specs.Open.{IsOpen};
+ghost use Rattle.nb_state.specs.Open.{IsOpen, but_pages};
 ghost use Rattle.nb_state.specs.Does.{Goes};
 ghost use Rattle.nb_engine.specs.Tries.{Tries};
 ghost use Rattle.nb_engine.specs.Put.{entry_cause};
 ghost use Rattle.nb_engine.specs.Find.{HoldsMap};
-ghost use Rattle.nb_engine.specs.Make.{IsWell, IsOnward, MakesWhere, page_strokes, system_strokes, system_cause, new_of, round, behind};
+ghost use Rattle.nb_engine.specs.Make.{IsWell, IsOnward, MakesWhere, page_strokes, system_strokes, system_cause, content, new_of, round, behind};
 
 use crate::find::{MOST_PAGES, hold_map, is_system_place, next_free};
 use crate::mark::{mark, put_map};
 use crate::pages::{InventoryPage, ScnPage};
 use crate::put::raise_entry;
 use nb_fields::PageKind;
+use nb_fields::layouts::data;
 use nb_host::{Fault, Host, HostFault, Refusal};
 use nb_page::{read_head, stamp};
 use nb_state::Store;
@@ -67,7 +68,8 @@ fn take_old<H: Host>(
 ) -> Result<(), HostFault>
     requires room { length into.old ≡ store.old.files.page_size }
     ensures page { (t : Trail) → IsTrue H.tells → IsOpen (H.world host.old) store.old t → OnOk result (into.new ≡ old_page number t.base.image) }
-    ensures same { store.new ≡ store.old }
+    ensures open { (t : Trail) → IsTrue H.tells → IsOpen (H.world host.old) store.old t → IsOpen (H.world host.new) store.new t }
+    ensures same { but_pages store.new ≡ but_pages store.old }
     ensures quiet { Quiet (H.world host.old) (H.world host.new) }
     ensures cause { CountsFault result (H.faults host.old) (H.faults host.new) }
 {
@@ -91,7 +93,8 @@ fn has_page<H: Host>(
     requires room { length into.old ≡ store.old.files.page_size }
     ensures value { (t : Trail) → IsTrue H.tells → IsOpen (H.world host.old) store.old t → IfOk result (λ has. has ≡ is_kind t.base.image (code_of kind) number) }
     ensures page { (t : Trail) → IsTrue H.tells → IsOpen (H.world host.old) store.old t → OnOk result (into.new ≡ old_page number t.base.image) }
-    ensures same { store.new ≡ store.old }
+    ensures open { (t : Trail) → IsTrue H.tells → IsOpen (H.world host.old) store.old t → IsOpen (H.world host.new) store.new t }
+    ensures same { but_pages store.new ≡ but_pages store.old }
     ensures quiet { Quiet (H.world host.old) (H.world host.new) }
     ensures cause { CountsFault result (H.faults host.old) (H.faults host.new) }
 {
@@ -166,6 +169,20 @@ fn put_payload(page: &mut [u8], payload: &[u8])
     page[end..].fill(0);
 }
 
+/// Makes these bytes what stands behind the head of page `number`, and zeros behind them. Where it owns itself, its number is its owner.
+fn put_content(page: &mut [u8], payload: &[u8], own: bool, number: u32)
+    requires size { IsTrue (is_page_size (length page.old)) }
+    requires short { length payload.now ≤ 1008 }
+    requires owner { own ≡ true → 8 ≤ length payload.now }
+    ensures { page.new ≡ with_payload page.old (content own payload.now number) }
+{
+    put_payload(page, payload);
+    if !own {
+        return;
+    }
+    data::Owner::put(page, u64::from(number));
+}
+
 /// Makes page `number` one of that kind with that payload. The refusal is `NotDatabase` of its SCN page.
 fn make_page<H: Host>(
     store: &mut Store,
@@ -173,6 +190,7 @@ fn make_page<H: Host>(
     number: u32,
     kind: PageKind,
     payload: &[u8],
+    own: bool,
     page: &mut [u8],
     scn_page: &mut ScnPage,
 ) -> Result<(), Fault>
@@ -182,14 +200,15 @@ fn make_page<H: Host>(
     requires low { 0 < number }
     requires high { number < 1048576 }
     requires short { length payload.now ≤ 1008 }
+    requires owner { own ≡ true → 8 ≤ length payload.now }
     ensures tries { (t : Trail) → IsTrue H.tells → IsOpen (H.world host.old) store.old t → number ≤ length t.base.image
-        → Tries result (H.world host.old) (H.world host.new) store.old store.new t (entry_cause t.base.image number) (page_strokes t.base.image number (code_of kind) payload.now) }
+        → Tries result (H.world host.old) (H.world host.new) store.old store.new t (entry_cause t.base.image number) (page_strokes t.base.image number (code_of kind) (content own payload.now number)) }
     ensures goes { Goes store.old store.new }
     ensures scn_room { length scn_page.new ≡ length scn_page.old }
     ensures cause { CountsDevice result (H.faults host.old) (H.faults host.new) }
 {
     take_old(store, host, number, page)?;
-    put_payload(page, payload);
+    put_content(page, payload, own, number);
     put_page(store, host, number, kind, page, scn_page)?;
     Ok(())
 }
@@ -230,6 +249,7 @@ fn take_new<H: Host>(
     number: u32,
     kind: PageKind,
     payload: &[u8],
+    own: bool,
     page: &mut [u8],
     map: &mut InventoryPage,
     scn_page: &mut ScnPage,
@@ -241,14 +261,15 @@ fn take_new<H: Host>(
     requires low { 5 ≤ number }
     requires high { number < 1048576 }
     requires short { length payload.now ≤ 1008 }
+    requires owner { own ≡ true → 8 ≤ length payload.now }
     ensures makes { (t : Trail) → IsTrue H.tells → IsOpen (H.world host.old) store.old t → number ≤ length t.base.image → is_system_place (image_size t.base.image) number ≡ false → HoldsMap t.base.image number map.old
-        → MakesWhere (IsWell t.base.image) (λ value image. number < length image) result (H.world host.old) (H.world host.new) store.old store.new t (take_page number (put number (code_of kind) payload.now (drafted t.base.image))).strokes }
+        → MakesWhere (IsWell t.base.image) (λ value image. number < length image) result (H.world host.old) (H.world host.new) store.old store.new t (take_page number (put number (code_of kind) (content own payload.now number) (drafted t.base.image))).strokes }
     ensures goes { Goes store.old store.new }
     ensures map_room { length map.new ≡ length map.old }
     ensures scn_room { length scn_page.new ≡ length scn_page.old }
     ensures cause { CountsDevice result (H.faults host.old) (H.faults host.new) }
 {
-    make_page(store, host, number, kind, payload, page, scn_page)?;
+    make_page(store, host, number, kind, payload, own, page, scn_page)?;
     put_map(store, host, number, false, map, scn_page)?;
     Ok(())
 }
@@ -289,8 +310,8 @@ fn pass_place<H: Host>(
     Ok(next)
 }
 
-/// Makes a new page of that kind with that payload and answers its number. The search for its place comes to `first` at first, and the
-/// system places on its way get their pages and are taken. Where no system page stands at `first`, its inventory page is in `map`,
+/// Makes a new page of that kind with that payload and answers its number, which is also its owner in the payload where it owns itself. The
+/// search for its place comes to `first` at first, and the system places on its way get their pages and are taken. Where no system page stands at `first`, its inventory page is in `map`,
 /// and isn't read again.
 pub(crate) fn make_new<H: Host>(
     store: &mut Store,
@@ -298,6 +319,7 @@ pub(crate) fn make_new<H: Host>(
     first: u32,
     kind: PageKind,
     payload: &[u8],
+    own: bool,
     page: &mut [u8],
     map: &mut InventoryPage,
     scn_page: &mut ScnPage,
@@ -309,10 +331,11 @@ pub(crate) fn make_new<H: Host>(
     requires low { 5 ≤ first }
     requires high { first < 1048576 }
     requires short { length payload.now ≤ 1008 }
+    requires owner { own ≡ true → 8 ≤ length payload.now }
     ensures makes { (t : Trail) → IsTrue H.tells → IsOpen (H.world host.old) store.old t → first ≡ lowest_free t.base.image → first ≤ length t.base.image → HoldsMap t.base.image first map.old
-        → MakesWhere (IsWell t.base.image × (no_room (new_of (code_of kind) payload.now t.base.image).0 ≡ None)) (λ number image. number < length image) result (H.world host.old) (H.world host.new) store.old store.new t (new_of (code_of kind) payload.now t.base.image).0.strokes }
+        → MakesWhere (IsWell t.base.image × (no_room (new_of (code_of kind) (content own payload.now) t.base.image).0 ≡ None)) (λ number image. number < length image) result (H.world host.old) (H.world host.new) store.old store.new t (new_of (code_of kind) (content own payload.now) t.base.image).0.strokes }
     ensures value { (t : Trail) → IsTrue H.tells → IsOpen (H.world host.old) store.old t → first ≡ lowest_free t.base.image → first ≤ length t.base.image → HoldsMap t.base.image first map.old
-        → IsWell t.base.image → no_room (new_of (code_of kind) payload.now t.base.image).0 ≡ None → IfOk result (λ number. number ≡ (new_of (code_of kind) payload.now t.base.image).1) }
+        → IsWell t.base.image → no_room (new_of (code_of kind) (content own payload.now) t.base.image).0 ≡ None → IfOk result (λ number. number ≡ (new_of (code_of kind) (content own payload.now) t.base.image).1) }
     ensures least { IfOk result (λ number. 5 ≤ number) }
     ensures most { IfOk result (λ number. number < 1048576) }
     ensures goes { Goes store.old store.new }
@@ -325,6 +348,6 @@ pub(crate) fn make_new<H: Host>(
     while is_system_place(page_size, place) {
         place = pass_place(store, host, place, page, map, scn_page)?;
     }
-    take_new(store, host, place, kind, payload, page, map, scn_page)?;
+    take_new(store, host, place, kind, payload, own, page, map, scn_page)?;
     Ok(place)
 }

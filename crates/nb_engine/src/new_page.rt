@@ -58,6 +58,7 @@ impl Engine {
             first,
             PageKind::Raw,
             &EMPTY_TEXT,
+            false,
             &mut self.page,
             &mut self.map,
             &mut self.scn_page,

@@ -11,7 +11,7 @@ ghost use Rattle.nb_scn.specs.Entries.{entries};
 ghost use Rattle.nb_model.specs.Causes.{not_kind};
 ghost use Rattle.nb_model.specs.Forms.{with_bit};
 ghost use Rattle.nb_model.specs.Trail.{Trail};
-ghost use Rattle.nb_state.specs.Open.{IsOpen};
+ghost use Rattle.nb_state.specs.Open.{IsOpen, but_pages};
 ghost use Rattle.nb_engine.specs.Put.{Reads};
 ghost use Rattle.nb_engine.specs.Mark.{bit_for};
 
@@ -66,7 +66,8 @@ impl ScnPage {
         requires room { length self.old ≡ store.old.files.page_size }
         ensures reads { (t : Trail) → IsTrue H.tells → IsOpen (H.world host.old) store.old t → Reads result t.base.image (not_kind t.base.image 10 place) place self.new }
         ensures room { length self.new ≡ length self.old }
-        ensures same { store.new ≡ store.old }
+        ensures open { (t : Trail) → IsTrue H.tells → IsOpen (H.world host.old) store.old t → IsOpen (H.world host.new) store.new t }
+        ensures same { but_pages store.new ≡ but_pages store.old }
         ensures quiet { Quiet (H.world host.old) (H.world host.new) }
         ensures once { IsTrue H.tells → 0 < place → (H.world host.new).reads ≤ (H.world host.old).reads + 1 }
         ensures cause { CountsDevice result (H.faults host.old) (H.faults host.new) }
@@ -143,7 +144,8 @@ impl InventoryPage {
         requires room { length self.old ≡ store.old.files.page_size }
         ensures reads { (t : Trail) → IsTrue H.tells → IsOpen (H.world host.old) store.old t → Reads result t.base.image (not_kind t.base.image 2 place) place self.new }
         ensures room { length self.new ≡ length self.old }
-        ensures same { store.new ≡ store.old }
+        ensures open { (t : Trail) → IsTrue H.tells → IsOpen (H.world host.old) store.old t → IsOpen (H.world host.new) store.new t }
+        ensures same { but_pages store.new ≡ but_pages store.old }
         ensures quiet { Quiet (H.world host.old) (H.world host.new) }
         ensures once { IsTrue H.tells → 0 < place → (H.world host.new).reads ≤ (H.world host.old).reads + 1 }
         ensures cause { CountsDevice result (H.faults host.old) (H.faults host.new) }

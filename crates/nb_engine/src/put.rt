@@ -8,7 +8,7 @@ ghost use Rattle.nb_model.specs.Image.{page_at};
 ghost use Rattle.nb_model.specs.Forms.{scn_page_of};
 ghost use Rattle.nb_model.specs.Trail.{Trail};
 ghost use Rattle.nb_base.specs.Takes.{IsNoRefusal};
-ghost use Rattle.nb_state.specs.Open.{IsOpen};
+ghost use Rattle.nb_state.specs.Open.{IsOpen, but_pages};
 ghost use Rattle.nb_state.specs.Does.{Goes, Makes};
 ghost use Rattle.nb_engine.specs.Tries.{Tries};
 ghost use Rattle.nb_engine.specs.Put.{TellsRaise, entry_cause, must_raise, raise_stroke, raise_strokes, raw_stroke};
@@ -22,7 +22,7 @@ use nb_state::Store;
 /// Whether the SCN entry of page `number` is below the current SCN. Its SCN page is then in `scn_page`.
 ///
 /// The refusal is `NotDatabase` of the SCN page, where the page has an entry.
-fn must_raise<H: Host>(
+pub(crate) fn must_raise<H: Host>(
     store: &mut Store,
     host: &mut H,
     number: u32,
@@ -32,7 +32,8 @@ fn must_raise<H: Host>(
     requires number { number < 1048576 }
     ensures tells { (t : Trail) → IsTrue H.tells → IsOpen (H.world host.old) store.old t → TellsRaise result t.base.image number scn_page.new }
     ensures room { length scn_page.new ≡ length scn_page.old }
-    ensures same { store.new ≡ store.old }
+    ensures open { (t : Trail) → IsTrue H.tells → IsOpen (H.world host.old) store.old t → IsOpen (H.world host.new) store.new t }
+    ensures same { but_pages store.new ≡ but_pages store.old }
     ensures quiet { Quiet (H.world host.old) (H.world host.new) }
     ensures cause { CountsDevice result (H.faults host.old) (H.faults host.new) }
 {

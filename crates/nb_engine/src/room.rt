@@ -10,16 +10,16 @@ ghost use Rattle.nb_model.specs.Chains.{History, last_of, put_slot, backup_slot,
 ghost use Rattle.nb_model.specs.Forms.{drafted, inventory_of, scn_page_of, is_free_page};
 ghost use Rattle.nb_model.specs.Sound.{IsSoundImage};
 ghost use Rattle.nb_model.specs.Trail.{Trail};
-ghost use Rattle.nb_state.specs.Open.{IsOpen};
+ghost use Rattle.nb_state.specs.Open.{IsOpen, but_pages};
 ghost use Rattle.nb_state.specs.Does.{Tested, Goes};
 ghost use Rattle.nb_engine.specs.History.{IsPlaced};
-ghost use Rattle.nb_engine.specs.Make.{MakesSome, page_strokes};
+ghost use Rattle.nb_engine.specs.Make.{MakesSome};
 ghost use Rattle.nb_engine.specs.Put.{entry_cause};
-ghost use Rattle.nb_engine.specs.Room.{taken_draft, linked_payload, link_cause, grow_cause};
+ghost use Rattle.nb_engine.specs.Room.{taken_draft, grow_cause};
 ghost use Rattle.nb_engine.specs.Tries.{Tries};
 
-use crate::find::{check_entry, check_new};
-use crate::make::{make_new, put_page};
+use crate::grow::{check_growth, grow_from};
+use crate::make::put_page;
 use crate::pages::{InventoryPage, ScnPage};
 use crate::rows::{HistoryRow, put_slot};
 use crate::walk::Room;
@@ -57,7 +57,8 @@ fn is_free<H: Host>(
     ensures test { (t : Trail) → IsTrue H.tells → IsOpen (H.world host.old) store.old t → Tested result (not_kind t.base.image 2 (inventory_of t.base.image number)) }
     ensures value { (t : Trail) → IsTrue H.tells → IsOpen (H.world host.old) store.old t → IfOk result (λ free. free ≡ is_free_page t.base.image number) }
     ensures room { length map.new ≡ length map.old }
-    ensures same { store.new ≡ store.old }
+    ensures open { (t : Trail) → IsTrue H.tells → IsOpen (H.world host.old) store.old t → IsOpen (H.world host.new) store.new t }
+    ensures same { but_pages store.new ≡ but_pages store.old }
     ensures quiet { Quiet (H.world host.old) (H.world host.new) }
     ensures cause { CountsDevice result (H.faults host.old) (H.faults host.new) }
 {
@@ -81,7 +82,8 @@ fn check_scn_page<H: Host>(
     requires number { number < 1048576 }
     ensures test { (t : Trail) → IsTrue H.tells → IsOpen (H.world host.old) store.old t → Tested result (not_kind t.base.image 10 (scn_page_of t.base.image number)) }
     ensures room { length scn_page.new ≡ length scn_page.old }
-    ensures same { store.new ≡ store.old }
+    ensures open { (t : Trail) → IsTrue H.tells → IsOpen (H.world host.old) store.old t → IsOpen (H.world host.new) store.new t }
+    ensures same { but_pages store.new ≡ but_pages store.old }
     ensures quiet { Quiet (H.world host.old) (H.world host.new) }
     ensures cause { CountsDevice result (H.faults host.old) (H.faults host.new) }
 {
@@ -111,7 +113,8 @@ pub(crate) fn check_room<H: Host>(
         → Tested result (first_cause (not_of_form (taken_draft t.base.image number) ∷ no_scn t.base.image ∷ [])) }
     ensures map_room { length map.new ≡ length map.old }
     ensures scn_room { length scn_page.new ≡ length scn_page.old }
-    ensures same { store.new ≡ store.old }
+    ensures open { (t : Trail) → IsTrue H.tells → IsOpen (H.world host.old) store.old t → IsOpen (H.world host.new) store.new t }
+    ensures same { but_pages store.new ≡ but_pages store.old }
     ensures quiet { Quiet (H.world host.old) (H.world host.new) }
     ensures cause { CountsDevice result (H.faults host.old) (H.faults host.new) }
 {
@@ -122,35 +125,6 @@ pub(crate) fn check_room<H: Host>(
         return Err(Fault::Refused(Refusal::NotDatabase { page: number }));
     }
     check_scn(scn)?;
-    Ok(())
-}
-
-/// Links page `last`, a data page, to page `next`. The refusals are `NotDatabase` of the page, where it is past the end, and of its SCN page.
-fn link<H: Host>(
-    store: &mut Store,
-    host: &mut H,
-    last: u32,
-    next: u32,
-    page: &mut [u8],
-    scn_page: &mut ScnPage,
-) -> Result<(), Fault>
-    requires size { IsTrue (is_page_size (length page.old)) }
-    requires room { length page.old ≡ store.old.files.page_size }
-    requires scn_room { length scn_page.old ≡ store.old.files.page_size }
-    requires low { 0 < last }
-    requires high { last < 1048576 }
-    ensures tries { (t : Trail) → IsTrue H.tells → IsOpen (H.world host.old) store.old t
-        → Tries result (H.world host.old) (H.world host.new) store.old store.new t (link_cause t.base.image last) (page_strokes t.base.image last 5 (linked_payload t.base.image last next)) }
-    ensures goes { Goes store.old store.new }
-    ensures scn_room { length scn_page.new ≡ length scn_page.old }
-    ensures cause { CountsDevice result (H.faults host.old) (H.faults host.new) }
-{
-    if last >= store.count() {
-        return Err(Fault::Refused(Refusal::NotDatabase { page: last }));
-    }
-    store.read(host, last, page)?;
-    data::Next::put(page, u64::from(next));
-    put_page(store, host, last, PageKind::Data, page, scn_page)?;
     Ok(())
 }
 
@@ -185,20 +159,9 @@ pub(crate) fn grow<H: Host>(
     ensures cause { CountsDevice result (H.faults host.old) (H.faults host.new) }
 {
     let scn = store.scn();
-    check_entry(store, host, last, scn_page)?;
-    let first = check_new(store, host, map, scn_page)?;
+    let first = check_growth(store, host, last, map, scn_page)?;
     check_scn(scn)?;
-    let number = make_new(
-        store,
-        host,
-        first,
-        PageKind::Data,
-        &NO_ROWS,
-        page,
-        map,
-        scn_page,
-    )?;
-    link(store, host, last, number, page, scn_page)?;
+    let number = grow_from(store, host, first, last, &NO_ROWS, page, map, scn_page)?;
     Ok(number)
 }
 

@@ -18,14 +18,14 @@ fn name_of() -> Result<Name, Fail>
 /// A host with a new database of 13 pages of 1,024 bytes, of which page 6 has a text.
 fn host_with(alloc: Global, text: &[u8]) -> Result<MemHost, Fail> {
     let mut host = MemHost::new(alloc)?;
-    let mut engine = Engine::create(alloc, &mut host, &name_of()?, 1024, 8)?;
+    let mut engine = Engine::create(alloc, &mut host, &name_of()?, 1024, 8, 4)?;
     engine.page_write(&mut host, 6, text)?;
     Ok(host)
 }
 
 /// The database of that host, opened again.
 fn open(alloc: Global, host: &mut MemHost) -> Result<Engine, Fail> {
-    Ok(Engine::attach(alloc, host, &name_of()?)?)
+    Ok(Engine::attach(alloc, host, &name_of()?, 4)?)
 }
 
 #[test]
@@ -34,6 +34,27 @@ fn a_page_is_read_again(rt: HostRuntime) -> Result<(), Fail> {
     let mut engine = open(rt.alloc(), &mut host)?;
     let text = engine.page_read(&mut host, 6)?;
     assert_eq!(rt; text.as_slice(), b"hello".as_slice());
+    Ok(())
+}
+
+/// How often the host is asked as page 6 is read.
+fn reads_of(host: &mut MemHost, engine: &mut Engine) -> Result<u64, Fault> {
+    let before = host.read_count();
+    engine.page_read(host, 6)?;
+    Ok(host.read_count().saturating_sub(before))
+}
+
+#[test]
+fn a_second_read_asks_nothing(rt: HostRuntime) -> Result<(), Fail> {
+    let mut host = host_with(rt.alloc(), b"")?;
+    let mut engine = Engine::attach(rt.alloc(), &mut host, &name_of()?, 2)?;
+    // The page and its inventory page.
+    let first = reads_of(&mut host, &mut engine)?;
+    let second = reads_of(&mut host, &mut engine)?;
+    assert_eq!(rt;
+        (first, second, engine.held(), engine.capacity()),
+        (2, 0, 2, 2)
+    );
     Ok(())
 }
 
@@ -67,13 +88,13 @@ fn a_page_is_given_back(rt: HostRuntime) -> Result<(), Fail> {
 fn a_new_page_reads_its_inventory_once(rt: HostRuntime) -> Result<(), Fail> {
     let mut host = MemHost::new(rt.alloc())?;
     // Page 248 is an SCN inventory page, so the last of them is page 305.
-    let mut engine = Engine::create(rt.alloc(), &mut host, &name_of()?, 1024, 300)?;
+    let mut engine = Engine::create(rt.alloc(), &mut host, &name_of()?, 1024, 300, 4)?;
     let before = host.read_count();
     let number = engine.page_new(&mut host)?;
-    // The inventory page once. The SCN page of the new page and that of the inventory page are tested first, and read again to be raised.
+    // The inventory page, the SCN page of the new page and that of the inventory page, each once.
     assert_eq!(rt;
         (number, host.read_count().saturating_sub(before)),
-        (306, 5)
+        (306, 3)
     );
     Ok(())
 }

@@ -8,7 +8,7 @@ ghost use Rattle.nb_model.specs.Image.{page_at};
 ghost use Rattle.nb_model.specs.Causes.{broken_at};
 ghost use Rattle.nb_model.specs.Chains.{History, Spot, is_slot, slots_in, spots_on, next_in, pages_of, found_pages, spots, last_of};
 ghost use Rattle.nb_model.specs.Trail.{Trail};
-ghost use Rattle.nb_state.specs.Open.{IsOpen};
+ghost use Rattle.nb_state.specs.Open.{IsOpen, but_pages};
 ghost use Rattle.nb_state.specs.Does.{Tested};
 ghost use Rattle.nb_engine.specs.History.{gathered, not_linked, IsPlaced};
 
@@ -110,7 +110,8 @@ fn take_link<H: Host>(
         → OnOk result (walked.new ≡ gathered wanted.now (ss ++ spots_on number 0 (slots_in (page_at t.base.image number)))) }
     ensures placed { IfSome walked.old.room (IsPlaced store.old.files.page_size) → OnOk result (IfSome walked.new.room (IsPlaced store.old.files.page_size)) }
     ensures below { OnOk result (number < 1048576) }
-    ensures same { store.new ≡ store.old }
+    ensures open { (t : Trail) → IsTrue H.tells → IsOpen (H.world host.old) store.old t → IsOpen (H.world host.new) store.new t }
+    ensures same { but_pages store.new ≡ but_pages store.old }
     ensures quiet { Quiet (H.world host.old) (H.world host.new) }
     ensures once { IsTrue H.tells → (H.world host.new).reads ≤ (H.world host.old).reads + 1 }
     ensures cause { CountsDevice result (H.faults host.old) (H.faults host.new) }
@@ -143,7 +144,8 @@ pub(crate) fn walk<H: Host>(
     ensures placed { IfOk result (λ (walked, last). IfSome walked.room (IsPlaced store.old.files.page_size)) }
     ensures low { IfOk result (λ (walked, last). 0 < last) }
     ensures high { IfOk result (λ (walked, last). last < 1048576) }
-    ensures same { store.new ≡ store.old }
+    ensures open { (t : Trail) → IsTrue H.tells → IsOpen (H.world host.old) store.old t → IsOpen (H.world host.new) store.new t }
+    ensures same { but_pages store.new ≡ but_pages store.old }
     ensures quiet { Quiet (H.world host.old) (H.world host.new) }
     ensures once { (t : Trail) → IsTrue H.tells → IsOpen (H.world host.old) store.old t → OnOk result ((H.world host.new).reads ≤ (H.world host.old).reads + length (found_pages History t.base.image)) }
     ensures most { IsTrue H.tells → (H.world host.new).reads ≤ (H.world host.old).reads + store.old.files.count }

@@ -8,7 +8,7 @@ ghost use Rattle.nb_model.specs.Image.{Image, is_read_only};
 ghost use Rattle.nb_model.specs.Trail.{Trail};
 ghost use Rattle.nb_model.specs.Outcomes.{Seen};
 ghost use Rattle.nb_model.specs.Pages.{write_turn, read_turn};
-ghost use Rattle.nb_state.specs.Open.{IsOpen};
+ghost use Rattle.nb_state.specs.Open.{IsOpen, but_pages};
 ghost use Rattle.nb_state.specs.Does.{Tested, Goes, Does};
 ghost use Rattle.nb_engine.specs.Replies.{done, valued};
 
@@ -76,7 +76,9 @@ impl Engine {
     ) -> Result<ArrayVec<u8, 200>, Fault>
         ensures turn { (s : Seen) (t : Trail) → IsTrue H.tells → t.base ≡ s.base → IsOpen (H.world host.old) self.old t
             → Does valued result (H.world host.old) (H.world host.new) self.old self.new t (read_turn s number) }
-        ensures same { self.new ≡ self.old }
+        ensures open { (t : Trail) → IsTrue H.tells → IsOpen (H.world host.old) self.old t → IsOpen (H.world host.new) self.new t }
+        ensures goes { Goes self.old self.new }
+        ensures same { but_pages self.new ≡ but_pages self.old }
         ensures quiet { Quiet (H.world host.old) (H.world host.new) }
         ensures cause { CountsDevice result (H.faults host.old) (H.faults host.new) }
         ensures takes_none { IfErr result (λ fault. fault ≢ Memory) }

@@ -10,7 +10,7 @@ use crate::ahead::Ahead;
 use crate::disk::Disk;
 use crate::folder::sync_folder;
 use crate::state::State;
-use crate::waiting::{MOST_GATHERED, Waiting};
+use crate::waiting::{PART, Waiting};
 use nb_host::Name;
 use std::alloc::Global;
 use std::io::{self, ErrorKind};
@@ -115,10 +115,10 @@ impl<F: Disk + Drop> Held<F> {
         ensures same { (self.new.name ≡ self.old.name) × (self.new.can_write ≡ self.old.can_write) × (self.new.state.is_kept ≡ self.old.state.is_kept) }
     {
         self.state.check()?;
-        if !waiting.takes(at, bytes.len()) {
+        if !waiting.takes(at) {
             self.flush(waiting)?;
         }
-        if bytes.len() < MOST_GATHERED && waiting.add(&self.name, at, bytes).is_ok() {
+        if bytes.len() < PART && waiting.add(&self.name, at, bytes).is_ok() {
             return Ok(());
         }
         self.flush(waiting)?;

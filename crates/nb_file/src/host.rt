@@ -6,6 +6,7 @@ ghost use Rattle.nb_file.specs.Nothing.{silence, silence_timely, untold};
 use crate::disk::Disk;
 use crate::failure::Failure;
 use crate::guid::draw;
+use crate::progress::Progress;
 use crate::table::Table;
 use nb_host::{Host, HostFault, Name};
 use std::alloc::Global;
@@ -24,6 +25,7 @@ where
     rt: R,
     files: Table<R>,
     faults: u64,
+    progress: Progress,
 }
 
 impl<R: Files + Drop> Model for FileHost<R>
@@ -47,6 +49,27 @@ where
             rt,
             files: Table::new(alloc),
             faults: 0,
+            progress: Progress::none(),
+        }
+    }
+
+    /// From now on it is said on the standard error, at most once a second, which file is written and how long it is.
+    pub fn show_progress(&mut self)
+        ensures { self.new ≡ self.old }
+    {
+        self.progress.start(&self.rt);
+    }
+
+    /// Says how long the file is that is written, where that is due.
+    fn note_progress(&mut self, name: &Name)
+        ensures { self.new ≡ self.old }
+    {
+        if !self.progress.is_due(&self.rt) {
+            return;
+        }
+        if let Some(len) = self.files.known_length(name) {
+            // Nothing is left to do where the standard error fails.
+            let _ = eprintln!(self.rt; "nehumiro: {name}: {} MiB", len / 1_048_576);
         }
     }
 
@@ -134,6 +157,7 @@ where
         let outcome = self
             .files
             .write(&self.rt, name, place_of(index, page), page);
+        self.note_progress(name);
         self.answer(outcome)
     }
 
@@ -144,6 +168,7 @@ where
 
     fn append(&mut self, name: &Name, bytes: &[u8]) -> Result<(), HostFault> {
         let outcome = self.files.append(&self.rt, name, bytes);
+        self.note_progress(name);
         self.answer(outcome)
     }
 

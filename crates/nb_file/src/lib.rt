@@ -7,7 +7,8 @@
 //! Inside, from below: `disk` is an open file as the system gives it, or anything that tells what it holds; `state` what is
 //! known of it; `waiting` what waits to be written, and `ahead` what was read ahead; `held` one file of all these, whose
 //! bytes are proved as far as its disk does what it says; `table` the open files, and the order of their writes; `host` the
-//! trait's calls, the count of faults, and what is said of each. `docs/GATE.md` lists what only tests can see.
+//! trait's calls, the count of faults, and what is said of each; `progress` when it is said how far a file is written.
+//! `docs/GATE.md` lists what only tests can see.
 #![tactic(auto)]
 
 mod ahead;
@@ -17,6 +18,7 @@ mod folder;
 mod guid;
 mod held;
 mod host;
+mod progress;
 mod state;
 mod table;
 mod waiting;

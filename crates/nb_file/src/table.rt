@@ -238,6 +238,14 @@ where
         Ok(self.files.remove(i))
     }
 
+    /// The length in bytes of a file that is open, with what waits for it. Nothing is asked of the system.
+    pub fn known_length(&self, name: &Name) -> Option<u64> {
+        match self.index_of(name) {
+            Some(i) => self.files[i].length(&self.waiting).ok(),
+            None => None,
+        }
+    }
+
     /// The file's length in bytes, if there is one.
     pub fn size(&mut self, rt: &R, name: &Name) -> Result<Option<u64>, Failure> {
         self.flush()?;

@@ -7,8 +7,9 @@ ghost use Rattle.nb_file.specs.Gathered.{IsNext, IsFreeFor, is_owner};
 use nb_host::Name;
 use std::alloc::{AllocError, Global};
 
-/// How many bytes are written together at most.
-pub const MOST_GATHERED: usize = 262_144;
+/// How long the parts of a file are, in bytes, that are written together. They begin at multiples of it, and the system takes a
+/// write of a whole part with less work than one that lies across two.
+pub const PART: usize = 262_144;
 
 /// Bytes of one file that wait to be written at one place.
 #[derive(Drop)]
@@ -53,17 +54,14 @@ impl Waiting {
         self.at.checked_add(self.bytes.len() as u64)
     }
 
-    /// Whether bytes at that place follow what waits, and there is room for them.
-    pub fn takes(&self, at: u64, count: usize) -> bool
+    /// Whether bytes at that place follow what waits, in the same part of the file.
+    pub fn takes(&self, at: u64) -> bool
         ensures { result ≡ true → IsNext self.now.name self.now.at (length self.now.bytes.items) at }
     {
         if self.is_empty() {
             return true;
         }
-        if self.bytes.len() > MOST_GATHERED || count > MOST_GATHERED - self.bytes.len() {
-            return false;
-        }
-        self.end() == Some(at)
+        at / PART as u64 == self.at / PART as u64 && self.end() == Some(at)
     }
 
     /// Lets them wait, behind what waits already. Where memory runs out nothing changes.

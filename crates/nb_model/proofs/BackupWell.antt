@@ -1,12 +1,12 @@
 -- The start and the close of a backup keep what was seen well: the row that the close writes names the record that the begin has kept.
-use Rattle.std.proofs.Common.{◌≡◌, ℕ, suc, ◌+◌, ◌*◌, ◌<◌, ◌≤◌, List, [], ◌∷◌, ◌++◌, length, take, drop, refl, sym, ap, subst, ◌∙◌, arith, append_assoc}
-use Rattle.std.specs.Prelude.{Bool, true, false, ◌&&◌, ◌==◌, Option, Some, None, Contains}
+use Rattle.std.proofs.Common.{◌≡◌, ℕ, ◌+◌, ◌*◌, ◌<◌, ◌≤◌, List, [], ◌∷◌, ◌++◌, length, take, drop, refl, sym, ap, subst, ◌∙◌, arith, append_assoc}
+use Rattle.std.specs.Prelude.{Bool, true, false, ◌&&◌, Option, Some, None, Contains}
 use Rattle.std.specs.List.{AllByRecursion}
 use Rattle.std.proofs.lemmas.Bool.{and_parts}
 use Rattle.std.proofs.lemmas.List.{take_at}
 use Rattle.std.proofs.lemmas.List.Elements.{Contains-append_right}
 use Rattle.nb_fields.specs.Bytes.{bytes_of, number_in, padded, with_part}
-use Rattle.nb_fields.specs.Page.{kind_of, stamped}
+use Rattle.nb_fields.specs.Page.{stamped}
 use Rattle.nb_fields.proofs.NumberLemmas.{number_of-bytes_of}
 use Rattle.nb_model.specs.Account.{Ask, Kept, Base, Entry}
 use Rattle.nb_model.specs.Backups.{room_in, ask_of}
@@ -27,7 +27,7 @@ use Rattle.nb_model.proofs.ControlSound.{control_rest, control_long, control_goe
 use Rattle.nb_model.proofs.ControlWell.{goes_on_now}
 use Rattle.nb_model.proofs.EarlierLaws.{last_one}
 use Rattle.nb_model.proofs.FitLaws.{Fits, Stays, fitting_stays}
-use Rattle.nb_model.proofs.HeldLaws.{IsHeld, held_by}
+use Rattle.nb_model.proofs.HeldLaws.{IsHeld, IsOfHistory, held_by}
 use Rattle.nb_model.proofs.HeldRoom.{HoldsRows, HasChainRows, room_held}
 use Rattle.nb_model.proofs.PastLaws.{all_rows, no_history, no_rows_pass, kept_more, remembered_with}
 use Rattle.nb_model.proofs.PutSound.{header_whole}
@@ -116,7 +116,7 @@ made_both [] ys = refl
 made_both (x ∷ xs) ys = ap (λ (ss : List Step). makes x ∷ ss) (made_both xs ys)
 
 -- the rows of a page that is held, where more is known of them
-holds_on : (P R : Slot → Type 0) (q : ℕ) (old new : Image) → ((row : Slot) → P row → R row) → ((bytes : Page) → kind_of bytes ≡ 5 → IsHeld q bytes old → IsHeld q bytes new) → HoldsRows P q old → HoldsRows R q new
+holds_on : (P R : Slot → Type 0) (q : ℕ) (old new : Image) → ((row : Slot) → P row → R row) → ((bytes : Page) → IsOfHistory bytes → IsHeld q bytes old → IsHeld q bytes new) → HoldsRows P q old → HoldsRows R q new
 holds_on P R q old new goes held h = record {
   bytes = h.bytes;
   held = held h.bytes h.of_history h.held;
@@ -128,7 +128,7 @@ remembered_on : (kept more : List Kept) (P R : Kept → Type 0) → ((r : Kept) 
 remembered_on kept more P R goes row h = record { backup = h.backup; kept_as = kept_more kept more (guid_in row) h.backup h.kept_as; scn = h.scn; level = h.level; passes = goes h.backup h.passes }
 
 -- So it is still behind steps that keep no record, while the page is held.
-pub recorded_on : (kept : List Kept) (t : Trail) (ss : List Step) → KeepsAlong kept t ss → (b : Backing) → ((bytes : Page) → kind_of bytes ≡ 5 → IsHeld b.page bytes t.base.image → IsHeld b.page bytes (after_steps t ss).base.image)
+pub recorded_on : (kept : List Kept) (t : Trail) (ss : List Step) → KeepsAlong kept t ss → (b : Backing) → ((bytes : Page) → IsOfHistory bytes → IsHeld b.page bytes t.base.image → IsHeld b.page bytes (after_steps t ss).base.image)
     → IsRecorded kept t b → IsRecorded (kept_along kept t ss) (after_steps t ss) b
 recorded_on kept t ss keeps b held h = subst (λ (rs : List Kept). IsRecorded rs (after_steps t ss) b) (sym keeps.none) (record {
   there = subst (λ (x : Image). Contains kept (kept_of b x)) (sym keeps.frozen) h.there;
@@ -171,24 +171,25 @@ module _ (kept : List Kept) (t : Trail) (w : IsWellTrail kept t) where
         control_goes_on 1 (image_scn u.base.image + 1) guid u.base.image (record { header = later.base.well.header; scn = later.base.well.scn }) later.base.well.sound
         (may_begin u.base.image (record { header = later.base.well.header; scn = later.base.well.scn }) guid sixteen scn) r (all u.base.image (last_there u.earlier u.base.image))
 
-    its_parent : (level : ℕ) (from : Option Spot) → broken_at (pages_of History t.base.image) ≡ None → IsFrom t.base.image level from → HasParent kept (record_of u guid (Some (ask_of level from)))
+    its_parent : (asked : Ask) → broken_at (pages_of History t.base.image) ≡ None → IsFrom t.base.image asked → HasParent kept (record_of u guid (Some asked))
     unfolding ask_of
-    its_parent level None unbroken whole ask is some = absurd (some (ap (λ (a : Ask). a.previous) (sym (same_ask ask is))))
+    its_parent asked unbroken (whole none) ask is some = absurd (some (ap (λ (a : Ask). a.previous) (sym (same_ask ask is) ∙ none)))
       where
-        same_ask : (a : Ask) → Some (ask_of 0 None) ≡ Some a → ask_of 0 None ≡ a
+        same_ask : (a : Ask) → Some asked ≡ Some a → asked ≡ a
         same_ask a e = cc
-    its_parent level (Some row) unbroken (since below _ found) ask is some =
-        let remembered : IsRemembered kept (AllGoOn t) row.bytes = its_row (λ slot. level_in slot == below) row unbroken found in
+    its_parent asked unbroken (since level test row found goes_by) ask is some =
+        let remembered : IsRemembered kept (AllGoOn t) row.bytes = its_row test row unbroken found in
         let all : AllGoOn u remembered.backup = on remembered.backup remembered.passes in
-        subst (GoesOnFrom kept (record_of u guid (Some (ask_of (suc below) (Some row))))) (same_ask ask is) (record {
+        subst (GoesOnFrom kept (record_of u guid (Some asked))) (same_ask ask is)
+        (subst (λ (a : Ask). GoesOnFrom kept (record_of u guid (Some a)) a) (sym goes_by) (record {
           parent = remembered.backup;
           kept_as = remembered.kept_as;
           scn = remembered.scn;
           earlier = (all u.base.image (last_there u.earlier u.base.image)).earlier;
-          follows = (goes_on_then (Some (ask_of (suc below) (Some row))) remembered.backup all).follows;
-        })
+          follows = (goes_on_then (Some (ask_of level (Some row))) remembered.backup all).follows;
+        }))
       where
-        same_ask : (a : Ask) → Some (ask_of (suc below) (Some row)) ≡ Some a → ask_of (suc below) (Some row) ≡ a
+        same_ask : (a : Ask) → Some asked ≡ Some a → asked ≡ a
         same_ask a e = cc
 
 -- What is well along the strokes of an outcome, and recorded behind them.
@@ -247,10 +248,7 @@ module _ (kept : List Kept) (t : Trail) (w : IsWellTrail kept t) (cache : ℕ) (
   abbrev s : Seen
   s = record { base = t.base; cache = cache; running = running; entry = entry; given = given }
 
-  module _ (session : ℕ) (name : List ℕ) (level : ℕ) (from : Option Spot) (may : MayStart s name) (is_from : IsFrom t.base.image level from) (sixteen : length (next_guid given) ≡ 16) where
-    abbrev ask : Ask
-    ask = ask_of level from
-
+  module _ (session : ℕ) (name : List ℕ) (ask : Ask) (may : MayStart s name) (is_from : IsFrom t.base.image ask) (sixteen : length (next_guid given) ≡ 16) where
     abbrev backing : Backing
     backing = record { name = name; ask = ask; scn = image_scn t.base.image; guid = next_guid given; page = (room_in t.base.image).page; slot = (room_in t.base.image).slot }
 
@@ -291,7 +289,7 @@ module _ (kept : List Kept) (t : Trail) (w : IsWellTrail kept t) (cache : ℕ) (
         (room_held (IsRemembered kept (AllGoOn t)) t.base header w.base.well.sound may.unbroken (chain_rows kept (AllGoOn t) t.base.image (its_past kept t w)) may.formed may.left))
 
     begins : WellAlong kept u (made (begin (next_guid given) (Some ask) ∷ []))
-    begins = begin_along kept u (next_guid given) (Some ask) later normal sixteen small (its_parent kept t w u room.go_on later normal small (next_guid given) sixteen level from may.unbroken is_from)
+    begins = begin_along kept u (next_guid given) (Some ask) later normal sixteen small (its_parent kept t w u room.go_on later normal small (next_guid given) sixteen ask may.unbroken is_from)
 
     recorded_then : IsRecorded (kept_along kept u (made (begin (next_guid given) (Some ask) ∷ []))) (after_steps u (made (begin (next_guid given) (Some ask) ∷ []))) backing
     recorded_then =

@@ -20,7 +20,7 @@ or_grouped : (a b c : Bool) → (a || (b || c)) ≡ ((a || b) || c)
 or_grouped true b c = refl
 or_grouped false b c = refl
 
-joined_grouped : (d e g : Draft) → joined (joined d e) g ≡ joined d (joined e g)
+pub joined_grouped : (d e g : Draft) → joined (joined d e) g ≡ joined d (joined e g)
 joined_grouped d e g =
     ap (λ (ss : List Stroke). record { image = g.image; strokes = ss; broken = g.broken ++ (e.broken ++ d.broken); full = g.full || (e.full || d.full) }) (append_assoc d.strokes e.strokes g.strokes)
     ∙ ap (λ (ps : List ℕ). record { image = g.image; strokes = d.strokes ++ (e.strokes ++ g.strokes); broken = ps; full = g.full || (e.full || d.full) }) (sym (append_assoc g.broken e.broken d.broken))

@@ -1,11 +1,13 @@
 -- What one write of the short forms keeps, every form keeps.
 use Rattle.std.proofs.Common.{◌≡◌, ℕ, zero, suc, ◌+◌, List, [], ◌∷◌, refl, ap, ◌∙◌}
-use Rattle.std.specs.Prelude.{Bool, true, false, ◌==◌, nat_lt}
+use Rattle.std.specs.Prelude.{Bool, Option, Some, None, true, false, ◌==◌, nat_lt}
 use Rattle.nb_fields.specs.Places.{is_system_place}
 use Rattle.nb_model.specs.Image.{Page, Image, image_size, image_scn, with_page}
 use Rattle.nb_model.specs.Account.{Base}
+use Rattle.nb_model.specs.Chains.{Chain, Slot, Spot, spots_of, free_spot, put_slot, last_of, grown, place_slot}
+use Rattle.nb_model.specs.Tables.{all_given}
 use Rattle.nb_model.specs.Strokes.{page, base_after, on_base, merged_page}
-use Rattle.nb_model.specs.Forms.{Draft, drafted, wrote, written, needs, is_kind, has_entry, scn_entry, entry_written, entry_raised, raised, put, set_bit, lowest_free, needs_inventories, searched, system_kind, system_page, no_page, new_within}
+use Rattle.nb_model.specs.Forms.{Draft, drafted, wrote, written, needs, is_kind, has_entry, scn_entry, entry_written, entry_raised, raised, put, set_bit, give_page, lowest_free, needs_inventories, searched, system_kind, system_page, no_page, new_within}
 use Rattle.nb_model.proofs.StrokeLaws.{base_after-append}
 
 -- What is kept by each write, and says nothing of what was read.
@@ -32,7 +34,7 @@ module _ (P : Draft → Type 0) (kept : IsKept P) where
   unfolding entry_raised entry_written
   entry_keeps p d h = either P (nat_lt (scn_entry d.image p) (image_scn d.image)) _ _ (kept.writes _ 10 _ d h) h
 
-  raised_keeps : (p : ℕ) (d : Draft) → P d → P (raised p d)
+  pub raised_keeps : (p : ℕ) (d : Draft) → P d → P (raised p d)
   unfolding raised
   raised_keeps p d h = either P (has_entry d.image p) _ _ (entry_keeps p _ (needs_keeps 10 _ d h)) h
 
@@ -67,6 +69,29 @@ module _ (P : Draft → Type 0) (kept : IsKept P) where
       (either_page P (is_system_place (image_size d.image) p) _ _
       (new_keeps tries kind payload _ (set_bit_keeps 0 p _ (system_keeps p _ read)))
       (set_bit_keeps 0 p _ (put_keeps p kind (payload p) _ read)))
+
+-- so do those on chains of data pages
+module _ (P : Draft → Type 0) (kept : IsKept P) where
+  pub slot_keeps : (p slot : ℕ) (bytes : Slot) (d : Draft) → P d → P (put_slot p slot bytes d)
+  unfolding put_slot
+  slot_keeps p slot bytes d h = put_keeps P kept p 5 _ d h
+
+  pub grown_keeps : (chain : Chain) (pages : List ℕ) (bytes : Slot) (d : Draft) → P d → P (grown chain pages bytes d).0
+  unfolding grown
+  grown_keeps chain pages bytes d h = put_keeps P kept (last_of pages) 5 _ _ (new_keeps P kept _ 5 _ d h)
+
+  pub place_keeps : (chain : Chain) (pages : List ℕ) (bytes : Slot) (d : Draft) → P d → P (place_slot chain pages bytes d)
+  unfolding place_slot
+  place_keeps chain pages bytes d h = by (free_spot (spots_of d.image pages))
+    where
+      by : (o : Option Spot) → P (elim o as (λ z. Draft) [ Some s ↦ put_slot s.page s.slot bytes d | None ↦ (grown chain pages bytes d).0 ])
+      by (Some s) = slot_keeps s.page s.slot bytes d h
+      by None = grown_keeps chain pages bytes d h
+
+  pub given_keeps : (ps : List ℕ) (d : Draft) → P d → P (all_given ps d)
+  unfolding all_given
+  given_keeps [] d h = h
+  given_keeps (p ∷ ps) d h = given_keeps ps (give_page p d) (set_bit_keeps P kept 1 p d h)
 
 -- The draft's image is that of the database after its strokes.
 pub record IsOf (b : Base) (d : Draft) : Type 0 where

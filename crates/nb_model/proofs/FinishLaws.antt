@@ -7,8 +7,9 @@ use Rattle.std.proofs.lemmas.List.Sums.{sum_by-set}
 use Rattle.std.proofs.lemmas.Bool.Decides.{leb_tells, eqb_tells}
 use Rattle.nb_model.specs.declared.reply.Reply.{Reply}
 use Rattle.nb_model.specs.declared.statement.Statement.{Statement}
-use Rattle.nb_model.specs.declared.statement.Statement.TheVariants.{BeginBackup, EndBackup, Backup, CopyTo}
-use Rattle.nb_model.specs.Backups.{room_in, backup_turn, copy_turn, close_backup, close_copy}
+use Rattle.nb_model.specs.declared.statement.Statement.TheVariants.{BeginBackup, EndBackup, Backup, BackupSince, CopyTo}
+use Rattle.nb_model.specs.Account.{Ask}
+use Rattle.nb_model.specs.Backups.{room_in, backup_turn, since_turn, copy_turn, close_backup, close_copy}
 use Rattle.nb_model.specs.Built.{is_built}
 use Rattle.nb_model.specs.Outcomes.{Turn, Begins, Copies, ClosesBackup, ClosesCopy, Ends, Merges, Finishes, Seen, Outcome}
 use Rattle.nb_model.specs.Pages.{begin_turn, end_turn, ends_by}
@@ -16,7 +17,7 @@ use Rattle.nb_model.specs.Turns.{first_turn, turn}
 use Rattle.nb_model.specs.Run.{Now, Played, outcome, stands_then, take_turn, one_turn, play, rounds, all_sessions, AreFinished}
 use Rattle.nb_model.specs.Well.{is_on_pages}
 use Rattle.nb_model.proofs.RunLaws.{play-append, nothing_taken}
-use Rattle.nb_model.proofs.TurnCases.{built_cases, begin_either, end_either, backup_either, copy_either, pages_once}
+use Rattle.nb_model.proofs.TurnCases.{started, built_cases, begin_either, end_either, backup_either, since_either, copy_either, pages_once}
 
 -- a turn of a statement that can be asked today
 abbrev pub IsPlainTurn : Turn → Type 0
@@ -72,7 +73,7 @@ merging_left t s session reply some = leaves_many t Merges (Finishes reply) (len
 
 first_leaves : (statement : Statement) → is_built statement ≡ true → (s : Seen) (session : ℕ) → Leaves (Begins statement) (first_turn s session statement).next
 unfolding first_turn
-first_leaves statement built s session = built_cases (λ x. Leaves (Begins x) (first_turn s session x).next) pages begins ends backs copies statement built
+first_leaves statement built s session = built_cases (λ x. Leaves (Begins x) (first_turn s session x).next) pages begins ends backs sinces copies statement built
   where
     pages : (x : Statement) → is_built x ≡ true → is_on_pages x ≡ true → Leaves (Begins x) (first_turn s session x).next
     pages x is on = subst (Leaves (Begins x)) (sym (pages_once x is on s session).next) (none_left x)
@@ -83,9 +84,14 @@ first_leaves statement built s session = built_cases (λ x. Leaves (Begins x) (f
     ends : Leaves (Begins EndBackup) (end_turn s session).next
     ends = end_either (λ o. Leaves (Begins EndBackup) o.next) s session (λ r. none_left EndBackup) (λ may. merging_left (Begins EndBackup) s session _ (omega arith))
 
+    started_left : (x : Statement) (name : List ℕ) (ask : Ask) → Leaves (Begins x) (started s session name ask).next
+    started_left x name ask = leaves_many (Begins x) Copies _ (length (room_in s.base.image).draft.image) tt refl tt (omega arith)
+
     backs : (level : ℕ) (name : List ℕ) → Leaves (Begins (Backup level name)) (backup_turn s session level name).next
-    backs level name = backup_either (λ o. Leaves (Begins (Backup level name)) o.next) s session level name (λ r. none_left (Backup level name))
-        (λ from is may. leaves_many (Begins (Backup level name)) Copies _ (length (room_in s.base.image).draft.image) tt refl tt (omega arith))
+    backs level name = backup_either (λ o. Leaves (Begins (Backup level name)) o.next) s session level name (λ r. none_left (Backup level name)) (λ ask is may. started_left (Backup level name) name ask)
+
+    sinces : (guid name : List ℕ) → Leaves (Begins (BackupSince guid name)) (since_turn s session guid name).next
+    sinces guid name = since_either (λ o. Leaves (Begins (BackupSince guid name)) o.next) s session guid name (λ r. none_left (BackupSince guid name)) (λ ask is may. started_left (BackupSince guid name) name ask)
 
     copies : (name : List ℕ) → Leaves (Begins (CopyTo name)) (copy_turn s session name).next
     copies name = copy_either (λ o. Leaves (Begins (CopyTo name)) o.next) s session name (λ r. none_left (CopyTo name))

@@ -133,7 +133,7 @@ stays_still b = record { size = refl; longer = omega arith; state = refl; scn = 
 stays_both : (a b c : Base) → Stays a b → Stays b c → Stays a c
 stays_both a b c x y = record { size = y.size ∙ x.size; longer = omega (arith, x.longer, y.longer); state = y.state ∙ x.state; scn = y.scn ∙ x.scn; frozen = y.frozen ∙ x.frozen }
 
-stays_one : (K : Page → Type 0) (s : Stroke) (b : Base) → IsFitting K b.image s → IsWhole b.image → Stays b (on_base s b)
+pub stays_one : (K : Page → Type 0) (s : Stroke) (b : Base) → IsFitting K b.image s → IsWhole b.image → Stays b (on_base s b)
 unfolding on_base
 stays_one K (page p bytes) b fits h = record {
   size = size_stays b.image p (merged_page p bytes b.image) h.fields h.sound fits.0;

@@ -75,7 +75,7 @@ kind_data Data e = refl
 kind_data Raw e = absurd (omega arith)
 kind_data ScnInventory e = absurd (omega arith)
 
-fresh_rest : (size raw p : ℕ) → code_of (fresh_kind size p) ≡ 5 → drop 32 (fresh_page size raw p) ≡ replicate (size - 16 - 16) 0
+pub fresh_rest : (size raw p : ℕ) → code_of (fresh_kind size p) ≡ 5 → drop 32 (fresh_page size raw p) ≡ replicate (size - 16 - 16) 0
 unfolding fresh_page fresh_payload
 fresh_rest size raw p e =
     ap (λ (kind : PageKind). drop 32 (page_of size (code_of kind) 1 1 p (fresh_payload size raw p kind))) (kind_data (fresh_kind size p) e) ∙ data_rest size p (if p == 4 then 1 else 0)
@@ -85,17 +85,17 @@ unfolding is_history_page
 history_kind page is = eqb-true (kind_of page) 5 (and_parts (kind_of page == 5) _ is).0
 
 module _ (size raw : ℕ) (is : IsTrue (is_page_size size)) (few : raw ≤ 65535) where
-  size_is : image_size (fresh size raw) ≡ size
+  pub size_is : image_size (fresh size raw) ≡ size
   size_is = fresh_size size raw is
 
-  fresh_at : (p : ℕ) → p < length (fresh size raw) → page_at (fresh size raw) p ≡ fresh_page size raw p
+  pub fresh_at : (p : ℕ) → p < length (fresh size raw) → page_at (fresh size raw) p ≡ fresh_page size raw p
   fresh_at p low = fresh_page_at size raw p (omega (arith, fresh_length size raw))
 
   fresh_guid : image_guid (fresh size raw) ≡ replicate 16 0
   fresh_guid = ap guid_of (fresh_first size raw) ∙ header_guid size raw
 
   -- what each page shows
-  shows : (p : ℕ) → p < length (fresh size raw) → ShowsFresh size raw p (page_at (fresh size raw) p)
+  pub shows : (p : ℕ) → p < length (fresh size raw) → ShowsFresh size raw p (page_at (fresh size raw) p)
   shows p low = subst (ShowsFresh size raw p) (sym (fresh_at p low)) (fresh_shows size raw p is few (omega (arith, fresh_length size raw)))
 
   of_size : IsOfSize (image_size (fresh size raw)) (fresh size raw)

@@ -27,12 +27,13 @@ use Rattle.nb_model.specs.Well.{is_on_pages}
 use Rattle.nb_model.proofs.FinishLaws.{IsPlainTurn, ArePlain}
 use Rattle.nb_model.proofs.FitLaws.{AreFitting, Stays, fitting_stays}
 use Rattle.nb_model.proofs.OpeningLaws.{after_others}
-use Rattle.nb_model.proofs.PagesFit.{HasNoRows, pages_fit}
+use Rattle.nb_model.proofs.NoRows.{HasNoRows}
+use Rattle.nb_model.proofs.PagesFit.{pages_fit}
 use Rattle.nb_model.proofs.PutSound.{header_whole}
 use Rattle.nb_model.proofs.RoomLaws.{AnyPage, room_with}
 use Rattle.nb_model.proofs.RunLaws.{turn_stands}
 use Rattle.nb_model.proofs.SoundTurns.{StaysSound, fitting_keeps, begin_keeps, ends_keep, finish_keeps, IsStarted, start_keeps, HasPlace, close_fits, seen_now}
-use Rattle.nb_model.proofs.TurnCases.{MayBegin, MayEnd, MayStart, MayCopy, refused, started, copied, IsOnce, refused_once, built_cases, begin_either, end_either, its_own, backup_either, copy_either, pages_once}
+use Rattle.nb_model.proofs.TurnCases.{MayBegin, MayEnd, MayStart, MayCopy, refused, started, copied, IsOnce, refused_once, built_cases, begin_either, end_either, its_own, backup_either, since_either, copy_either, pages_once}
 use Rattle.nb_model.proofs.TurnCases as cases
 use Rattle.nb_model.proofs.UnseenLaws.{free_unseen}
 
@@ -160,9 +161,9 @@ module _ (session : ℕ) (now : Now) (going : IsGoing now) where
   refused_step : (rest : List Turn) → AreBeginnings rest → (r : Refusal) → IsStep now session (refused s r) rest
   refused_step rest all r = once_step rest (refused s r) AnyPage tt (refused_once s r) all
 
-  pages_step : (rest : List Turn) (statement : Statement) → is_built statement ≡ true → is_on_pages statement ≡ true → AreBeginnings rest → IsStep now session (first_turn s session statement) rest
-  pages_step rest statement is on all =
-      once_step rest (first_turn s session statement) HasNoRows (pages_fit statement on s session going.header going.sound) (pages_once statement is on s session) all
+  pages_step : (rest : List Turn) (statement : Statement) → is_built statement ≡ true → is_on_pages statement ≡ true → IsNamed (Begins statement) → AreBeginnings rest → IsStep now session (first_turn s session statement) rest
+  pages_step rest statement is on named all =
+      once_step rest (first_turn s session statement) HasNoRows (pages_fit statement on named s session going.header going.sound) (pages_once statement is on s session) all
 
   -- no copy and no merge is under way in the normal state
   none_runs : image_state b.image ≡ 0 → (other number : ℕ) → 1 ≤ number → Runs now other number → ⊥
@@ -231,14 +232,15 @@ module _ (session : ℕ) (now : Now) (going : IsGoing now) where
       none_some : (by : ℕ) → None ≡ Some by → ⊥
       none_some by e = cc
 
-  pub first_step : (rest : List Turn) → AreBeginnings rest → (statement : Statement) → is_built statement ≡ true → IsStep now session (first_turn s session statement) rest
+  pub first_step : (rest : List Turn) → AreBeginnings rest → (statement : Statement) → is_built statement ≡ true → IsNamed (Begins statement) → IsStep now session (first_turn s session statement) rest
   unfolding first_turn
-  first_step rest all = built_cases (λ x. IsStep now session (first_turn s session x) rest)
-      (λ x is on. pages_step rest x is on all)
-      (begin_either Step s (refused_step rest all) (begun_step rest all))
-      (end_either Step s session (refused_step rest all) (λ may. ended_step rest all _ may.other (alone may)))
-      (λ level name. backup_either Step s session level name (refused_step rest all) (λ from is may. started_step rest all name _ may))
-      (λ name. copy_either Step s session name (refused_step rest all) (copied_step rest all name))
+  first_step rest all = built_cases (λ x. IsNamed (Begins x) → IsStep now session (first_turn s session x) rest)
+      (λ x is on named. pages_step rest x is on named all)
+      (λ named. begin_either Step s (refused_step rest all) (begun_step rest all))
+      (λ named. end_either Step s session (refused_step rest all) (λ may. ended_step rest all _ may.other (alone may)))
+      (λ level name named. backup_either Step s session level name (refused_step rest all) (λ ask is. started_step rest all name ask))
+      (λ guid name named. since_either Step s session guid name (refused_step rest all) (λ ask is. started_step rest all name ask))
+      (λ name named. copy_either Step s session name (refused_step rest all) (copied_step rest all name))
     where
       Step : Outcome → Type 0
       Step o = IsStep now session o rest
@@ -315,10 +317,10 @@ module _ (session : ℕ) (now : Now) (going : IsGoing now) where
       let behind : tail ≡ rest = cc in
       subst (λ (x : Turn). Steps x rest) head (subst (Steps v) behind step)
 
-  beginning_step : (u : Turn) (rest : List Turn) → AreBeginnings (u ∷ rest) → Steps u rest
+  beginning_step : (u : Turn) (rest : List Turn) → AreBeginnings (u ∷ rest) → AllByRecursion IsNamed (u ∷ rest) → Steps u rest
   unfolding outcome turn
-  beginning_step (Begins statement) rest all = first_step session now going rest all.1 statement all.0
-  beginning_step other rest all = absurd all.0
+  beginning_step (Begins statement) rest all named = first_step session now going rest all.1 statement all.0 named.0
+  beginning_step other rest all named = absurd all.0
 
   copying_step : (rest : List Turn) → Runs now (session - 1) 1 → IsAt (stands_then session rest (passes (seen_now now)) now) (session - 1) rest → Steps Copies rest
   unfolding outcome turn
@@ -357,7 +359,7 @@ module _ (session : ℕ) (now : Now) (going : IsGoing now) where
 
   pub turn_step : (u : Turn) (rest : List Turn) → IsAt now (session - 1) (u ∷ rest) → AllByRecursion IsNamed (u ∷ rest) → Steps u rest
   unfolding outcome turn
-  turn_step u rest (waits all) named = beginning_step u rest all
+  turn_step u rest (waits all) named = beginning_step u rest all named
   turn_step u rest (backs_up left backing tail e all runs room free) named = backup_step left backing u rest tail e named all runs room free
   turn_step u rest (copies left name tail e all runs free) named = copy_step left name u rest tail e all runs free
   turn_step u rest (ending reply tail e all runs) named =
@@ -483,13 +485,17 @@ module _ (session : ℕ) (s : Seen) (sixteen : length (next_guid s.given) ≡ 16
   unfolding ends_by
   merging_named reply = many IsNamed (length s.base.diverted) Merges (Finishes reply ∷ []) tt (tt, tt)
 
+  started_named : (name : List ℕ) (ask : Ask) → is_name name ≡ true → Names (started s session name ask)
+  started_named name ask named = many IsNamed (length (room_in s.base.image).draft.image) Copies _ tt ((named, sixteen), tt)
+
   first_named : (statement : Statement) → is_built statement ≡ true → IsNamed (Begins statement) → Names (first_turn s session statement)
   unfolding first_turn
   first_named = built_cases (λ x. IsNamed (Begins x) → Names (first_turn s session x))
       (λ x is on named. subst (AllByRecursion IsNamed) (sym (pages_once x is on s session).next) tt)
       (λ named. begin_either Names s (λ r. tt) (λ may. tt))
       (λ named. end_either Names s session (λ r. tt) (λ may. merging_named _))
-      (λ level name named. backup_either Names s session level name (λ r. tt) (λ from is may. many IsNamed (length (room_in s.base.image).draft.image) Copies _ tt ((named, sixteen), tt)))
+      (λ level name named. backup_either Names s session level name (λ r. tt) (λ ask is may. started_named name ask named))
+      (λ guid name named. since_either Names s session guid name (λ r. tt) (λ ask is may. started_named name ask named))
       (λ name named. copy_either Names s session name (λ r. tt) (λ may. many IsNamed (length s.base.frozen) Copies (ClosesCopy name ∷ []) tt (named, tt)))
 
   next_named : (u : Turn) → IsPlainTurn u → IsNamed u → Names (turn s session u)
@@ -558,22 +564,22 @@ pub made_by : (session : ℕ) (u : Turn) (o : Outcome) → o.made ≡ None → f
 unfolding files_made
 made_by session u o none = ap (λ (made : Option (List ℕ × List ℕ)). elim made as (λ z. List (List ℕ × List ℕ)) [ Some file ↦ file ∷ [] | None ↦ [] ]) none
 
-module _ (session : ℕ) (now : Now) (going : IsGoing now) (place number : ℕ) (some : 1 ≤ number) (runs : Runs now place number) (off : session - 1 ≢ place) where
+module _ (session : ℕ) (now : Now) (named : AreNamed now) (going : IsGoing now) (place number : ℕ) (some : 1 ≤ number) (runs : Runs now place number) (off : session - 1 ≢ place) where
   alone : (m : ℕ) → Runs now (session - 1) m → ⊥
   alone m its = off (one_runs now (session - 1) place m number its runs)
 
   -- so the session that has the turn waits
-  waiting_step : (u : Turn) (rest : List Turn) → IsAt now (session - 1) (u ∷ rest) → IsStep now session (outcome session u now) rest
-  waiting_step u rest (waits all) = beginning_step session now going u rest all
-  waiting_step u rest (backs_up left backing tail e all its room free) = absurd (alone 1 its)
-  waiting_step u rest (copies left name tail e all its free) = absurd (alone 1 its)
-  waiting_step u rest (ending reply tail e all its) = absurd (alone 1 its)
-  waiting_step u rest (merges turns its) = absurd (alone 2 its)
+  waiting_step : (u : Turn) (rest : List Turn) → IsAt now (session - 1) (u ∷ rest) → AllByRecursion IsNamed (u ∷ rest) → IsStep now session (outcome session u now) rest
+  waiting_step u rest (waits all) its_name = beginning_step session now going u rest all its_name
+  waiting_step u rest (backs_up left backing tail e all its room free) its_name = absurd (alone 1 its)
+  waiting_step u rest (copies left name tail e all its free) its_name = absurd (alone 1 its)
+  waiting_step u rest (ending reply tail e all its) its_name = absurd (alone 1 its)
+  waiting_step u rest (merges turns its) its_name = absurd (alone 2 its)
 
   pub others_stay : IsUndisturbed now place (one_turn session now)
   others_stay = one_cases (IsUndisturbed now place) session now (record { running = refl; state = refl; frozen = refl; todo = refl; made = none_made; free = λ name free. free }) (λ u rest is.
       let o : Outcome = outcome session u now in
-      let step : IsStep now session o rest = waiting_step u rest (subst (IsAt now (session - 1)) is (going.each (session - 1))) in
+      let step : IsStep now session o rest = waiting_step u rest (subst (IsAt now (session - 1)) is (going.each (session - 1))) (subst (AllByRecursion IsNamed) is (named (session - 1))) in
       let stay : OthersStay now o = step.others place number (λ e. off (sym e)) some runs in
       let base : base_now (stands_then session rest o now) ≡ base_after (base_now now) o.strokes = then_base session rest o now in
       record {

@@ -1,36 +1,23 @@
--- A page of the history that is taken stays as it is, whatever statements on pages do.
-use Rattle.std.proofs.Common.{◌≡◌, ◌≢◌, ◌⊎◌, inl, inr, ℕ, zero, suc, ◌+◌, ◌-◌, ◌/◌, ◌%◌, ◌<◌, ◌≤◌, List, [], length, drop, refl, sym, ap, subst, ◌∙◌, arith}
-use Rattle.std.specs.Prelude.{Bool, true, false, ◌==◌, Some, None}
+-- A page that is taken, and no system page, stays as it is where other pages are written, made and given back.
+use Rattle.std.proofs.Common.{◌≡◌, ◌≢◌, ◌⊎◌, inl, inr, ℕ, zero, suc, ◌+◌, ◌-◌, ◌/◌, ◌%◌, ◌<◌, ◌≤◌, List, length, drop, refl, sym, ap, subst, ◌∙◌, arith}
+use Rattle.std.specs.Prelude.{Bool, true, false, ◌==◌}
 use Rattle.std.proofs.lemmas.Bool.{true≢false, or_parts}
 use Rattle.std.proofs.lemmas.Bool.Decides.{eqb_tells}
 use Rattle.nb_fields.specs.Page.{kind_of}
-use Rattle.nb_fields.specs.Payloads.{bit_of, text_payload}
+use Rattle.nb_fields.specs.Payloads.{bit_of}
 use Rattle.nb_fields.specs.Places.{bits_in, entries_in, inventory_place, is_inventory_place, is_system_place}
 use Rattle.nb_fields.proofs.PlaceLemmas.{bits-least}
 use Rattle.nb_fields.proofs.SizeLemmas.{SizeFacts, size_facts}
-use Rattle.nb_model.specs.declared.statement.Statement.{Statement}
-use Rattle.nb_model.specs.declared.statement.Statement.TheVariants.{CreateDb, OpenDb, PageNew, Write, Read, Free, Forced, Access, Sync, ShowHeader, ShowPages, ShowImage, ShowCache}
-use Rattle.nb_model.specs.Account.{Base}
-use Rattle.nb_model.specs.Backups.{pages_turn}
-use Rattle.nb_model.specs.Causes.{Cause, not_raw}
-use Rattle.nb_model.specs.Forms.{Draft, drafted, old_page, is_kind, put, set_bit, with_bit, take_page, give_page, is_free_page, inventory_of, bit_number, free_from, lowest_free, system_page, system_kind, system_payload, new_within, new_page}
+use Rattle.nb_model.specs.Chains.{owner_in}
+use Rattle.nb_model.specs.Forms.{Draft, drafted, old_page, is_kind, put, set_bit, with_bit, take_page, is_free_page, inventory_of, bit_number, free_from, lowest_free, system_page, system_kind, system_payload, new_within}
 use Rattle.nb_model.specs.Image.{Page, Image, page_at, image_size, image_scn, with_page}
-use Rattle.nb_model.specs.Outcomes.{Seen, Outcome, unless, changes}
-use Rattle.nb_model.specs.Pages.{new_turn, write_turn, read_turn, free_turn, forced_turn, access_turn, header_turn, image_turn, cache_turn, byte_strokes}
-use Rattle.nb_model.specs.Sound.{IsSoundImage, HasHeader}
-use Rattle.nb_model.specs.Strokes.{Stroke, on_base, base_after}
-use Rattle.nb_model.specs.Turns.{first_turn}
-use Rattle.nb_model.specs.Well.{is_on_pages}
 use Rattle.nb_model.proofs.BitLaws.{bit_else, bit_behind, one_bit, with_bit_length}
 use Rattle.nb_model.proofs.DraftJoin.{joined_new}
-use Rattle.nb_model.proofs.FitLaws.{IsWhole, Fits, form_page}
-use Rattle.nb_model.proofs.BitSound.{give_fits}
-use Rattle.nb_model.proofs.HeadSound.{byte_fits}
-use Rattle.nb_model.proofs.PagesFit.{short_text}
-use Rattle.nb_model.proofs.NewSound.{inventory_before, new_raw_fits, empty_text}
-use Rattle.nb_model.proofs.PutSound.{IsPlace, IsPlain, no_first, not_when, raw_facts, raw_plain, header_whole, text_fits}
+use Rattle.nb_model.proofs.FitLaws.{IsWhole, form_page}
+use Rattle.nb_model.proofs.NewSound.{inventory_before}
+use Rattle.nb_model.proofs.PutSound.{IsPlace}
 use Rattle.nb_model.proofs.RoomLaws.{old_there}
-use Rattle.nb_model.proofs.RoundLaws.{AnyPage, any_kinds, IsFound, round, no_place, bit_by, kind_found, needs_found, put_longer, put_size, put_here, put_other, put_inventory, take_here, system_well, system_low, round_image, round_well, plain_well, plain_low, last_image, last_same, found, new_more, new_last}
+use Rattle.nb_model.proofs.RoundLaws.{IsFound, round, no_place, bit_by, kind_found, needs_found, put_longer, put_size, put_here, put_other, put_inventory, take_here, system_well, system_low, round_image, round_well, plain_well, plain_low, last_image, last_same, found, new_more, new_last}
 use Rattle.nb_model.proofs.SoundLaws.{FitsAt, all_at, inventory_there, inventory_place_some, size_stays, written_other, with_page_length}
 
 -- The page holds these bytes, is no system page, and is taken.
@@ -40,6 +27,11 @@ pub record IsHeld (q : ℕ) (bytes : Page) (image : Image) : Type 0 where
   pub below : q < length image
   pub plain : is_system_place (image_size image) q ≡ false
   pub taken : is_free_page image q ≡ false
+
+-- a data page of the history
+pub record IsOfHistory (bytes : Page) : Type 0 where
+  pub of_kind : kind_of bytes ≡ 5
+  pub owner : owner_in bytes ≡ 1
 
 -- So it does in another image that has that page and its bit.
 pub held_by : (q : ℕ) (bytes : Page) (old new : Image) → image_size new ≡ image_size old → length old ≤ length new → page_at new q ≡ page_at old q → is_free_page new q ≡ is_free_page old q → IsHeld q bytes old → IsHeld q bytes new
@@ -56,7 +48,7 @@ bit_by_bit : (image after : Image) (q : ℕ) → image_size after ≡ image_size
 unfolding is_free_page
 bit_by_bit image after q size same = ap (λ (s : ℕ). bit_of (page_at after (inventory_place s (q / bits_in s))) (q % bits_in s) == 1) size ∙ ap (λ (n : ℕ). n == 1) same
 
-set_bit_is : (bit p : ℕ) (image : Image) → is_kind image 2 (inventory_of image p) ≡ true
+pub set_bit_is : (bit p : ℕ) (image : Image) → is_kind image 2 (inventory_of image p) ≡ true
     → set_bit bit p (drafted image) ≡ put (inventory_of image p) 2 (drop 16 (with_bit (bit_number image p) bit (page_at image (inventory_of image p)))) (drafted image)
 unfolding set_bit
 set_bit_is bit p image is = ap (put (inventory_of image p) 2 (drop 16 (with_bit (bit_number image p) bit (page_at image (inventory_of image p))))) (needs_found image 2 (inventory_of image p) is)
@@ -128,7 +120,7 @@ module _ (q : ℕ) (bytes : Page) where
           ∙ bit_else (bit_number image p) (bit_number image q) bit (page_at image i) small (omega (arith, facts.at_least, i_long, below)) (λ e. other (one_bit (image_size image) p q h.fields.size at e))
 
   -- a system page that wasn't there
-  held_system : (image : Image) (h : IsWhole image) (p : ℕ) (at : IsPlace image p) (place : is_system_place (image_size image) p ≡ true) → IsHeld q bytes image → IsHeld q bytes (system_page p (drafted image)).image
+  pub held_system : (image : Image) (h : IsWhole image) (p : ℕ) (at : IsPlace image p) (place : is_system_place (image_size image) p ≡ true) → IsHeld q bytes image → IsHeld q bytes (system_page p (drafted image)).image
   unfolding system_page
   held_system image h p at place held = by (is_kind image (system_kind image p) p) refl
     where
@@ -147,7 +139,7 @@ module _ (q : ℕ) (bytes : Page) where
               ap (λ (t : Bool). is_kind image (elim t as (λ z. ℕ) [ true ↦ 2 | false ↦ 10 ]) p) inventory ∙ kind_found image 2 p low (h.sound.sound.system.inventories p low inventory)
 
   -- A round of the search for a new page, and its end.
-  held_round : (image : Image) (h : IsWhole image) (p : ℕ) (at : IsPlace image p) (place : is_system_place (image_size image) p ≡ true) → 2 ≤ p → IsHeld q bytes image → IsHeld q bytes (round p image).image
+  pub held_round : (image : Image) (h : IsWhole image) (p : ℕ) (at : IsPlace image p) (place : is_system_place (image_size image) p ≡ true) → 2 ≤ p → IsHeld q bytes image → IsHeld q bytes (round p image).image
   held_round image h p at place two held =
       subst (IsHeld q bytes) (sym (round_image image h p at place two))
       (held_bit (system_page p (drafted image)).image (system_well image h p at place) 0 p (omega arith) two (system_low image h p at place)
@@ -173,17 +165,19 @@ free_found (suc left) p image = by (free_found left (p + 1) image) (is_free_page
     by (inr end) false is = inr (omega (arith, end))
 
 -- so no page that is held is found
-lowest_other : (q : ℕ) (bytes : Page) (image : Image) → IsWhole image → IsHeld q bytes image → q ≢ lowest_free image
+pub lowest_other : (q : ℕ) (bytes : Page) (image : Image) → IsWhole image → IsHeld q bytes image → q ≢ lowest_free image
 unfolding lowest_free
 lowest_other q bytes image h held e = elim (free_found (length image - 5) 5 image) [
   | inl free ↦ true≢false (sym free ∙ ap (is_free_page image) (sym e) ∙ held.taken)
   | inr end ↦ absurd (let low = held.below in let least = h.sound.least in omega (arith, e, end, low, least))
 ]
 
--- A new page is taken, holds its payload, and keeps each page that is held.
+-- A new page is taken, holds its payload, is none that is held, and keeps each of those.
 pub record IsMade (image : Image) (kind : ℕ) (payload : ℕ → List ℕ) (made : Draft × ℕ) : Type 0 where
   pub taken : is_free_page made.0.image made.1 ≡ false
   pub of : (x : Image) × (page_at made.0.image made.1 ≡ form_page made.1 kind (payload made.1) x)
+  pub of_whole : IsWhole of.0
+  pub other : (q : ℕ) (bytes : Page) → IsHeld q bytes image → q ≢ made.1
   pub keeps : (q : ℕ) (bytes : Page) → IsHeld q bytes image → IsHeld q bytes made.0.image
 
 pub new_is_made : (tries kind : ℕ) (payload : ℕ → List ℕ) (image : Image) → IsWhole image → (kind == 0) ≡ false → ((p : ℕ) → length (payload p) ≤ 1008)
@@ -214,89 +208,12 @@ new_is_made (suc tries) kind payload image h some room left = by (λ x well full
         let e : new ≡ joined_new (round p image) more = new_more image h kind payload tries f.at.most place in
         let full : more.0.full ≡ false = (or_parts more.0.full (round p image).full (ap (λ (x : Draft × ℕ). x.0.full) (sym e) ∙ left)).0 in
         let one : IsMade (round p image).image kind payload more = rest (round p image).image (round_well image h p f.at place two) full in
-        subst (IsMade image kind payload) (sym e) (record { taken = one.taken; of = one.of; keeps = λ q bytes held. one.keeps q bytes (held_round q bytes image h p f.at place two held) })
+        subst (IsMade image kind payload) (sym e) (record { taken = one.taken; of = one.of; of_whole = one.of_whole; other = λ q bytes held. one.other q bytes (held_round q bytes image h p f.at place two held); keeps = λ q bytes held. one.keeps q bytes (held_round q bytes image h p f.at place two held) })
     by rest false place = subst (IsMade image kind payload) (sym (new_last image h kind payload tries f.at.most place)) (record {
       taken = ap (λ (x : Image). is_free_page x p) (last_image image h p kind (payload p) f.at place some (room p) two)
           ∙ take_here (put p kind (payload p) (drafted image)).image (plain_well image h p kind (payload p) f.at place some (room p)) p two (plain_low image h p kind (payload p) f.at place some (room p));
       of = (image, last_same image h p kind (payload p) f.at place some (room p) two p place ∙ put_here image h p f.at kind (payload p));
+      of_whole = h;
+      other = λ q bytes held. lowest_other q bytes image h held;
       keeps = λ q bytes held. held_last q bytes image h p kind (payload p) f.at place some (room p) two (lowest_other q bytes image h held) held;
     })
-
--- Each statement on pages keeps a page of the history that is held.
-module _ (q : ℕ) (bytes : Page) (of_history : kind_of bytes ≡ 5) where
-  abbrev HoldsBehind : Base → List Stroke → Type 0
-  HoldsBehind b ss = IsHeld q bytes (base_after b ss).image
-
-  abbrev KeepsHeld : Statement → Type 0
-  KeepsHeld statement = (s : Seen) (session : ℕ) → HasHeader s.base.image → IsSoundImage s.base.image → IsHeld q bytes s.base.image → HoldsBehind s.base (first_turn s session statement).strokes
-
-  none_behind : (b : Base) → IsHeld q bytes b.image → HoldsBehind b []
-  unfolding base_after
-  none_behind b held = held
-
-  -- a turn that may be refused
-  guarded : (s : Seen) (c : Cause) (o : Outcome) → IsHeld q bytes s.base.image → (c ≡ None → HoldsBehind s.base o.strokes) → HoldsBehind s.base (unless s c o).strokes
-  unfolding unless
-  guarded s None o held behind = behind refl
-  guarded s (Some r) o held behind = none_behind s.base held
-
-  -- a raw page isn't the one that is held
-  raw_other : (image : Image) (p : ℕ) → not_raw image p ≡ None → IsHeld q bytes image → q ≢ p
-  raw_other image p none held e = absurd (omega (arith, (raw_facts image p none).1, of_history, ap kind_of (sym held.is ∙ ap (page_at image) e)))
-
-  write_holds : (p : ℕ) (text : List ℕ) → KeepsHeld (Write p text)
-  unfolding first_turn write_turn changes
-  write_holds p text s session h is held = guarded s _ _ held (λ none.
-      let raw = no_first _ _ none in
-      let long = no_first _ _ (no_first _ _ raw.1).1 in
-      let fits : Fits AnyPage s.base (put p 8 (text_payload text) (drafted s.base.image)) = text_fits AnyPage (λ page e. tt) (λ page e. tt) s.base p text h is raw.0 (short_text text long.0) in
-      let plain : IsPlain s.base.image p = raw_plain s.base.image p h is raw.0 in
-      subst (IsHeld q bytes) (sym fits.is.is)
-      (held_put q bytes s.base.image (header_whole s.base.image h is) p 8 (text_payload text) plain.place (raw_other s.base.image p raw.0 held)
-      (λ e. absurd (true≢false (sym (inventory_there (image_size s.base.image) (q / bits_in (image_size s.base.image)) (header_whole s.base.image h is).fields.size) ∙ ap (is_inventory_place (image_size s.base.image)) e ∙ plain.no_inventory))) held))
-
-  free_holds : (p : ℕ) → KeepsHeld (Free p)
-  unfolding first_turn free_turn changes
-  free_holds p s session h is held = guarded s _ _ held (λ none.
-      let raw = no_first _ _ none in
-      let fits : Fits AnyPage s.base (give_page p (drafted s.base.image)) = give_fits AnyPage (λ page e. tt) (λ page e. tt) s.base p h is raw.0 in
-      let plain : IsPlain s.base.image p = raw_plain s.base.image p h is raw.0 in
-      let whole : IsWhole s.base.image = header_whole s.base.image h is in
-      let first : p ≢ 1 = λ e. true≢false (sym (inventory_there (image_size s.base.image) 0 whole.fields.size) ∙ ap (is_inventory_place (image_size s.base.image)) (sym e) ∙ plain.no_inventory) in
-      subst (IsHeld q bytes) (sym fits.is.is)
-      (held_bit q bytes s.base.image whole 1 p (omega arith) (let some = plain.place.behind in omega (arith, some, first)) (raw_facts s.base.image p raw.0).0 (raw_other s.base.image p raw.0 held) held))
-
-  new_holds : KeepsHeld PageNew
-  unfolding first_turn new_turn changes
-  new_holds s session h is held = guarded s _ _ held (λ none.
-      let made : Draft × ℕ = new_page 8 (λ p. text_payload []) (drafted s.base.image) in
-      let room = no_first _ _ (no_first _ _ (no_first _ _ none).1).1 in
-      let full : made.0.full ≡ false = not_when made.0.full _ room.0 in
-      let fits : Fits AnyPage s.base made.0 = new_raw_fits AnyPage any_kinds (λ page e. tt) s.base h is in
-      subst (IsHeld q bytes) (sym fits.is.is)
-      ((new_is_made (length s.base.image + 4) 8 (λ p. text_payload []) s.base.image (header_whole s.base.image h is) refl empty_text full).keeps q bytes held))
-
-  byte_holds : (at value : ℕ) (b : Base) → HasHeader b.image → IsSoundImage b.image → at < 1024 → IsHeld q bytes b.image → HoldsBehind b (byte_strokes at value b.image)
-  unfolding byte_strokes base_after on_base
-  byte_holds at value b h is low held =
-      let whole : IsWhole b.image = header_whole b.image h is in
-      let fits = byte_fits AnyPage (λ page e. tt) b at value h is low in
-      held_write q bytes b.image 0 _ whole fits.0.0 (λ e. absurd (let some = held.behind in omega (arith, some, e)))
-      (λ e. absurd (let some = inventory_place_some (image_size b.image) (q / bits_in (image_size b.image)) whole.fields.size in omega (arith, some, e))) held
-
-  pub statement_holds : (statement : Statement) → is_on_pages statement ≡ true → KeepsHeld statement
-  unfolding first_turn read_turn forced_turn access_turn header_turn pages_turn image_turn cache_turn
-  statement_holds (CreateDb name size raw cache) on s session h is held = none_behind s.base held
-  statement_holds (OpenDb name cache) on s session h is held = none_behind s.base held
-  statement_holds PageNew on s session h is held = new_holds s session h is held
-  statement_holds (Write p text) on s session h is held = write_holds p text s session h is held
-  statement_holds (Read p) on s session h is held = guarded s _ _ held (λ none. none_behind s.base held)
-  statement_holds (Free p) on s session h is held = free_holds p s session h is held
-  statement_holds (Forced forced) on s session h is held = guarded s _ _ held (λ none. byte_holds 64 _ s.base h is (omega arith) held)
-  statement_holds (Access closed) on s session h is held = guarded s _ _ held (λ none. byte_holds 65 _ s.base h is (omega arith) held)
-  statement_holds Sync on s session h is held = none_behind s.base held
-  statement_holds ShowHeader on s session h is held = none_behind s.base held
-  statement_holds ShowPages on s session h is held = guarded s _ _ held (λ none. none_behind s.base held)
-  statement_holds ShowImage on s session h is held = none_behind s.base held
-  statement_holds ShowCache on s session h is held = none_behind s.base held
-  statement_holds other on s session h is held = absurd (true≢false (sym on))

@@ -1,36 +1,36 @@
 -- Where room is made for a row of the history, its page is held, and each row on it is one that stood on a page of the history.
-use Rattle.std.proofs.Common.{◌≡◌, inl, inr, ℕ, ◌+◌, ◌/◌, ◌<◌, List, [], ◌∷◌, length, drop, refl, sym, ap, subst, ◌∙◌, arith}
+use Rattle.std.proofs.Common.{◌≡◌, inl, inr, ℕ, ◌+◌, ◌/◌, ◌<◌, ◌≤◌, List, [], ◌∷◌, length, drop, refl, sym, ap, subst, ◌∙◌, arith}
 use Rattle.std.specs.Prelude.{Bool, true, false, Option, Some, None}
 use Rattle.std.specs.List.{AllByRecursion}
 use Rattle.std.proofs.lemmas.Bool.{true≢false}
 use Rattle.std.proofs.lemmas.Bool.Decides.{eqb_tells}
 use Rattle.nb_fields.specs.Bytes.{bytes_of, with_part}
-use Rattle.nb_fields.specs.Page.{kind_of, stamped}
+use Rattle.nb_fields.specs.Page.{stamped}
 use Rattle.nb_fields.specs.Payloads.{data_payload}
 use Rattle.nb_fields.specs.Places.{bits_in, is_inventory_place, is_system_place}
 use Rattle.nb_fields.proofs.SizeLemmas.{SizeFacts, size_facts}
 use Rattle.nb_model.specs.Account.{Base}
 use Rattle.nb_model.specs.Backups.{Room, needs_taken, room_in}
 use Rattle.nb_model.specs.Causes.{broken_at, not_of_form, lowest_broken}
-use Rattle.nb_model.specs.Chains.{History, Slot, Spot, is_used, slots_in, spots, pages_of, found_pages, free_spot, is_in_chain, last_of, grown}
+use Rattle.nb_model.specs.Chains.{History, Slot, Spot, owner_in, is_used, slots_in, spots, pages_of, found_pages, free_spot, is_in_chain, last_of, grown}
 use Rattle.nb_model.specs.Forms.{Draft, drafted, old_page, put, needs, is_free_page, inventory_of, scn_page_of, new_page}
 use Rattle.nb_model.specs.Image.{Page, Image, page_at, image_size, image_scn}
 use Rattle.nb_model.specs.Sound.{HasHeader, IsSoundImage}
 use Rattle.nb_model.proofs.DraftJoin.{join_put}
 use Rattle.nb_model.proofs.FitLaws.{IsWhole, form_page}
-use Rattle.nb_model.proofs.HeldLaws.{IsHeld, IsMade, held_put, new_is_made}
+use Rattle.nb_model.proofs.HeldLaws.{IsHeld, IsOfHistory, IsMade, held_put, new_is_made}
 use Rattle.nb_model.proofs.NewSound.{stamped_kind}
 use Rattle.nb_model.proofs.PutSound.{IsPlain, needs_image, header_whole}
-use Rattle.nb_model.proofs.RoomLaws.{AnyPage, any_history, in_chain, chain_plain, free_is_spot, IsSpotOf, made_fits, link_plain, old_there, data_short, put_full, no_system}
+use Rattle.nb_model.proofs.RoomLaws.{AnyPage, any_history, in_chain, chain_owner, chain_plain, free_is_spot, IsSpotOf, made_fits, link_plain, old_there, data_short, put_full, no_system}
 use Rattle.nb_model.proofs.RoundLaws.{IsNew, new_is_new, no_place, bit_by, put_here, put_size, put_longer, put_inventory}
-use Rattle.nb_model.proofs.SlotLaws.{linked_slots, new_slots}
+use Rattle.nb_model.proofs.SlotLaws.{linked_slots, linked_owner, new_slots, new_owner}
 use Rattle.nb_model.proofs.SoundLaws.{all_at, inventory_there}
 
 -- A page is held, and what P says holds of each row that it uses.
 pub record HoldsRows (P : Slot → Type 0) (q : ℕ) (image : Image) : Type 0 where
   pub bytes : Page
   pub held : IsHeld q bytes image
-  pub of_history : kind_of bytes ≡ 5
+  pub of_history : IsOfHistory bytes
   pub rows : AllByRecursion (λ row. is_used row ≡ true → P row) (slots_in bytes)
 
 -- P holds of each row on a page of the chain of the history
@@ -55,7 +55,7 @@ needs_is_taken p d none = by (is_free_page d.image p) refl none
     by false is h = is
 
 -- A page that is held is written itself.
-held_here : (image : Image) → IsWhole image → (p : ℕ) (old : Page) (kind : ℕ) (payload : List ℕ) → IsPlain image p → IsHeld p old image → IsHeld p (form_page p kind payload image) (put p kind payload (drafted image)).image
+pub held_here : (image : Image) → IsWhole image → (p : ℕ) (old : Page) (kind : ℕ) (payload : List ℕ) → IsPlain image p → IsHeld p old image → IsHeld p (form_page p kind payload image) (put p kind payload (drafted image)).image
 held_here image h p old kind payload plain held =
     let size : image_size (put p kind payload (drafted image)).image ≡ image_size image = put_size image h p plain.place kind payload in
     record {
@@ -76,7 +76,7 @@ module _ (P : Slot → Type 0) (b : Base) (h : HasHeader b.image) (is : IsSoundI
       record {
         bytes = page_at b.image s.page;
         held = record { is = refl; behind = plain.place.behind; below = facts.0; plain = no_system (image_size b.image) s.page plain.no_inventory plain.no_scn_page; taken = taken };
-        of_history = facts.1;
+        of_history = record { of_kind = facts.1; owner = chain_owner History b.image s.page spot.page };
         rows = rows s.page spot.page;
       }
 
@@ -95,14 +95,14 @@ module _ (P : Slot → Type 0) (b : Base) (h : HasHeader b.image) (is : IsSoundI
     | inl w ↦ record {
       bytes = form_page last 5 link made.0.image;
       held = subst (λ (n : ℕ). IsHeld n (form_page last 5 link made.0.image) linked) (sym w.1) (held_here made.0.image whole last page 5 link plain (subst (λ (n : ℕ). IsHeld n page made.0.image) w.1 held));
-      of_history = stamped_kind (old_page last made.0.image) 5 link (image_scn made.0.image) last;
+      of_history = record { of_kind = stamped_kind (old_page last made.0.image) 5 link (image_scn made.0.image) last; owner = linked_owner_same w.1 };
       rows = subst (AllByRecursion (λ row. is_used row ≡ true → P row)) (sym (linked_same w.1)) unused;
     }
     | inr w ↦ record {
       bytes = page;
       held = held_put made.1 page made.0.image whole last 5 link plain.place w.1
           (λ e. absurd (true≢false (sym (inventory_there (image_size made.0.image) (made.1 / bits_in (image_size made.0.image)) whole.fields.size) ∙ ap (is_inventory_place (image_size made.0.image)) e ∙ plain.no_inventory))) held;
-      of_history = of_kind;
+      of_history = record { of_kind = new.of_kind; owner = owner };
       rows = unused;
     }
   ])
@@ -128,19 +128,28 @@ module _ (P : Slot → Type 0) (b : Base) (h : HasHeader b.image) (is : IsSoundI
       held : IsHeld made.1 page made.0.image
       held = record { is = refl; behind = new.behind; below = new.below; plain = ap (λ (s : ℕ). is_system_place s made.1) new.size ∙ new.plain; taken = taken.taken }
 
-      of_kind : kind_of page ≡ 5
-      of_kind = new.of_kind
+      owner : owner_in page ≡ 1
+      owner = ap owner_in taken.of.1 ∙ new_owner (old_page made.1 taken.of.0) 0 1 [] (image_scn taken.of.0) made.1 (omega arith)
 
       unused : AllByRecursion (λ row. is_used row ≡ true → P row) (slots_in page)
       unused = subst (λ (x : Page). AllByRecursion (λ row. is_used row ≡ true → P row) (slots_in x)) (sym taken.of.1) (new_slots P (old_page made.1 taken.of.0) (image_scn taken.of.0) made.1)
 
-      linked_same : made.1 ≡ last → slots_in (form_page last 5 link made.0.image) ≡ slots_in page
-      linked_same e =
+      last_long : made.1 ≡ last → 1024 ≤ length (page_at made.0.image last)
+      last_long e =
           let low : last < length made.0.image = omega (arith, new.below, e) in
           let size : SizeFacts (image_size made.0.image) = size_facts (image_size made.0.image) whole.fields.size in
           let long : length (page_at made.0.image last) ≡ image_size made.0.image = all_at (λ x. length x ≡ image_size made.0.image) made.0.image whole.sound.sizes last low in
-          ap (λ (old : Page). slots_in (stamped old 5 link (image_scn made.0.image) last)) (old_there made.0.image last low)
-          ∙ linked_slots (page_at made.0.image last) made.1 (image_scn made.0.image) last (omega (arith, long, size.at_least)) ∙ ap (λ (n : ℕ). slots_in (page_at made.0.image n)) (sym e)
+          omega (arith, long, size.at_least)
+
+      linked_owner_same : made.1 ≡ last → owner_in (form_page last 5 link made.0.image) ≡ 1
+      linked_owner_same e =
+          ap (λ (old : Page). owner_in (stamped old 5 link (image_scn made.0.image) last)) (old_there made.0.image last (omega (arith, new.below, e)))
+          ∙ linked_owner (page_at made.0.image last) made.1 (image_scn made.0.image) last (last_long e) ∙ ap (λ (n : ℕ). owner_in (page_at made.0.image n)) (sym e) ∙ owner
+
+      linked_same : made.1 ≡ last → slots_in (form_page last 5 link made.0.image) ≡ slots_in page
+      linked_same e =
+          ap (λ (old : Page). slots_in (stamped old 5 link (image_scn made.0.image) last)) (old_there made.0.image last (omega (arith, new.below, e)))
+          ∙ linked_slots (page_at made.0.image last) made.1 (image_scn made.0.image) last (last_long e) ∙ ap (λ (n : ℕ). slots_in (page_at made.0.image n)) (sym e)
 
   -- a slot that is free is read, and its page has to be taken
   abbrev read : Spot → Draft

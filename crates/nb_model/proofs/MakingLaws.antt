@@ -37,7 +37,7 @@ use Rattle.nb_model.proofs.RunLaws.{entry_same}
 use Rattle.nb_model.proofs.SoundLaws.{header_kind}
 use Rattle.nb_model.proofs.SoundTurns.{seen_now}
 use Rattle.nb_model.proofs.StandsLaws.{names_tell, entry_other}
-use Rattle.nb_model.proofs.TurnCases.{started, copied, built_cases, begin_either, end_either, backup_either, copy_either, pages_once}
+use Rattle.nb_model.proofs.TurnCases.{started, copied, built_cases, begin_either, end_either, backup_either, since_either, copy_either, pages_once}
 
 -- one element
 one_held : (f g : MadeFile) → Contains (f ∷ []) g → f ≡ g
@@ -216,7 +216,8 @@ first_makes statement built s session = built_cases (λ x. (first_turn s session
     (λ x is on. (pages_once x is on s session).made)
     (begin_either None_made s (λ r. refl) (λ may. refl))
     (end_either None_made s session (λ r. refl) (λ may. refl))
-    (λ level name. backup_either None_made s session level name (λ r. refl) (λ from is may. refl))
+    (λ level name. backup_either None_made s session level name (λ r. refl) (λ ask is may. refl))
+    (λ guid name. since_either None_made s session guid name (λ r. refl) (λ ask is may. refl))
     (λ name. copy_either None_made s session name (λ r. refl) (λ may. refl))
     statement built
   where
@@ -366,8 +367,8 @@ unfolding outcome turn
 copying_next session now = refl
 
 -- What is under way was made, or is under way still.
-pub under_among : (session : ℕ) (now : Now) → IsGoing now → AreAmong (under_way now) (files_made (one_turn session now).0 ++ under_way (one_turn session now).1)
-under_among session now going f held = by (under_place (base_now now).frozen now.todo f held)
+pub under_among : (session : ℕ) (now : Now) → AreNamed now → IsGoing now → AreAmong (under_way now) (files_made (one_turn session now).0 ++ under_way (one_turn session now).1)
+under_among session now named going f held = by (under_place (base_now now).frozen now.todo f held)
   where
     frozen : Image
     frozen = (base_now now).frozen
@@ -378,7 +379,7 @@ under_among session now going f held = by (under_place (base_now now).frozen now
       | inr w ↦
           let q : Played = one_turn session now in
           let t : IsToMake now place (get_or now.todo place []) f = to_make now place (get_or now.todo place []) f (going.each place) there in
-          let still : IsUndisturbed now place q = others_stay session now going place 1 (omega arith) t.runs (λ e. w.1 (sym e)) in
+          let still : IsUndisturbed now place q = others_stay session now named going place 1 (omega arith) t.runs (λ e. w.1 (sym e)) in
           Contains-append_right (files_made q.0) (under_way q.1) f (under_at (base_now q.1).frozen q.1.todo place f
           (subst (λ (x : Image). Contains (making x (get_or q.1.todo place [])) f) (sym still.frozen) (subst (λ (ts : List Turn). Contains (making frozen ts) f) (sym still.todo) there)))
     ]
@@ -474,7 +475,7 @@ under_play (x ∷ xs) now named going f held =
     held_as (files_made q.0 ++ later) _ f (sym (parts x xs now)) (⊎_elim
     (λ made. Contains-append_left (files_made q.0) later f made)
     (λ under. Contains-append_right (files_made q.0) later f (under_play xs q.1 (named_turn x now named going) (going_turn x now named going) f under))
-    (Contains-append_cases (files_made q.0) (under_way q.1) f (under_among x now going f held)))
+    (Contains-append_cases (files_made q.0) (under_way q.1) f (under_among x now named going f held)))
 
 -- The name of a file that was made isn't free,
 pub made_used : (session : ℕ) (now : Now) → IsMaking now → (f : MadeFile) → Contains (files_made (one_turn session now).0) f → is_free_entry ((one_turn session now).1.account.entry f.0) ≡ false

@@ -274,7 +274,7 @@ module _ (K : Page → Type 0) (kinds : HoldsOfKinds K) (b : Base) where
           (kind_there p 10 _ d at before (λ low. held.sound.sound.system.scn_pages p low scn) (scn_page_made p d scn at before))
 
   -- a new page with a payload that fits into each page size
-  pub new_fits : (tries kind : ℕ) (payload : ℕ → List ℕ) (d : Draft) → (kind == 0) ≡ false → ((p : ℕ) → length (payload p) ≤ 1008) → ((x : Image) (p : ℕ) → IsWhole x → K (form_page p kind (payload p) x))
+  pub new_fits : (tries kind : ℕ) (payload : ℕ → List ℕ) (d : Draft) → (kind == 0) ≡ false → ((p : ℕ) → length (payload p) ≤ 1008) → ((x : Image) (p : ℕ) → IsWhole x → 5 ≤ p → p < 1048576 → K (form_page p kind (payload p) x))
       → Fits K b d → Fits K b (new_within tries kind payload d).0
   unfolding new_within
   new_fits zero kind payload d some room holds before = fits_full K b d before
@@ -313,7 +313,7 @@ module _ (K : Page → Type 0) (kinds : HoldsOfKinds K) (b : Base) where
           let size : SizeFacts (image_size read.image) = size_facts (image_size read.image) read_fits.whole.fields.size in
           taken_fits p (put p kind (payload p) read) (omega (arith, between.0)) (put_there read.image p kind (payload p) _ at
           (plain_here K kinds.scn_pages b p kind (payload p) read read_fits (record { place = at; no_inventory = plain.0; no_scn_page = plain.1 }) some (omega (arith, size.at_least, room p))
-          (holds read.image p read_fits.whole)))
+          (holds read.image p read_fits.whole between.0 at.most)))
 
       by_end : ((e : Draft) → Fits K b e → Fits K b (new_within tries kind payload e).0) → (t : Bool) → (p == 1048576) ≡ t
           → Fits K b (elim t as (λ z. Draft × ℕ) [
@@ -331,4 +331,4 @@ empty_text p = omega arith
 pub new_raw_fits : (K : Page → Type 0) → HoldsOfKinds K → ((bytes : Page) → kind_of bytes ≡ 8 → K bytes) → (b : Base) → HasHeader b.image → IsSoundImage b.image
     → Fits K b (new_page 8 (λ p. text_payload []) (drafted b.image)).0
 new_raw_fits K kinds raw_pages b h is =
-    new_fits K kinds b (length b.image + 4) 8 (λ p. text_payload []) (drafted b.image) refl empty_text (λ x p whole. raw_pages _ (stamped_kind (old_page p x) 8 (text_payload []) (image_scn x) p)) (fits_first K b (header_whole b.image h is))
+    new_fits K kinds b (length b.image + 4) 8 (λ p. text_payload []) (drafted b.image) refl empty_text (λ x p whole five most. raw_pages _ (stamped_kind (old_page p x) 8 (text_payload []) (image_scn x) p)) (fits_first K b (header_whole b.image h is))

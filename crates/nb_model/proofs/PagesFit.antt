@@ -1,33 +1,24 @@
 -- Each stroke of a statement on pages fits at its point, in whatever state, and writes no rows of the history.
-use Rattle.std.proofs.Common.{◌≡◌, ◌≢◌, inl, inr, ℕ, ◌≤◌, List, length, refl, sym, ◌∙◌, arith}
-use Rattle.std.specs.Prelude.{Bool, true, false, nat_lt, Some, None}
+use Rattle.std.proofs.Common.{◌≡◌, ℕ, List, refl, sym, arith}
+use Rattle.std.specs.Prelude.{Bool, true, Some, None}
 use Rattle.std.proofs.lemmas.Bool.{true≢false}
-use Rattle.std.proofs.lemmas.Bool.Decides.{leb_tells}
-use Rattle.nb_fields.specs.Page.{kind_of}
 use Rattle.nb_model.specs.declared.statement.Statement.{Statement}
-use Rattle.nb_model.specs.declared.statement.Statement.TheVariants.{CreateDb, OpenDb, PageNew, Write, Read, Free, Forced, Access, Sync, ShowHeader, ShowPages, ShowImage, ShowCache}
-use Rattle.nb_model.specs.Image.{Page}
-use Rattle.nb_model.specs.Causes.{Cause, too_long}
-use Rattle.nb_model.specs.Outcomes.{Seen, Outcome, unless, changes}
+use Rattle.nb_model.specs.declared.statement.Statement.TheVariants.{CreateDb, OpenDb, PageNew, Write, Read, Free, CreateTable, DropTable, Insert, Update, Delete, Get, Scan, Forced, Access, Sync, ShowHeader, ShowPages, ShowImage, ShowCache}
+use Rattle.nb_model.specs.Causes.{Cause}
+use Rattle.nb_model.specs.Going.{IsNamed}
+use Rattle.nb_model.specs.Outcomes.{Begins, Seen, Outcome, unless, changes}
 use Rattle.nb_model.specs.Pages.{new_turn, write_turn, read_turn, free_turn, forced_turn, access_turn, header_turn, image_turn, cache_turn}
 use Rattle.nb_model.specs.Backups.{pages_turn}
 use Rattle.nb_model.specs.Turns.{first_turn}
 use Rattle.nb_model.specs.Sound.{IsSoundImage, HasHeader}
-use Rattle.nb_model.specs.Stands.{is_history_page}
 use Rattle.nb_model.specs.Well.{is_on_pages}
 use Rattle.nb_model.proofs.FitLaws.{AreFitting}
-use Rattle.nb_model.proofs.PutSound.{no_first, not_when, text_fits}
-use Rattle.nb_model.proofs.PastLaws.{no_history}
+use Rattle.nb_model.proofs.PutSound.{no_first, short_text, text_fits}
+use Rattle.nb_model.proofs.NoRows.{HasNoRows, no_rows}
 use Rattle.nb_model.proofs.HeadSound.{byte_fits}
 use Rattle.nb_model.proofs.BitSound.{give_fits}
 use Rattle.nb_model.proofs.NewSound.{new_raw_fits}
-
--- a page that has no rows of the history
-abbrev pub HasNoRows : Page → Type 0
-HasNoRows bytes = is_history_page bytes ≡ false
-
-no_rows : (kind : ℕ) → kind ≢ 5 → (bytes : Page) → kind_of bytes ≡ kind → HasNoRows bytes
-no_rows kind other bytes e = no_history bytes (λ five. other (sym e ∙ five))
+use Rattle.nb_model.proofs.TableTurns.{create_keeps, drop_keeps, insert_keeps, update_keeps, delete_keeps, get_keeps, scan_keeps}
 
 -- each stroke of its first turn fits
 abbrev pub IsFittingStatement : Statement → Type 0
@@ -38,12 +29,6 @@ guarded_fits : (s : Seen) (c : Cause) (o : Outcome) → (c ≡ None → AreFitti
 unfolding unless
 guarded_fits s None o fits = fits refl
 guarded_fits s (Some r) o fits = tt
-
-pub short_text : (text : List ℕ) → too_long text ≡ None → length text ≤ 200
-short_text text none = elim (leb_tells 201 (length text)) [
-  | inl w ↦ absurd (true≢false (sym w.0 ∙ not_when (nat_lt 200 (length text)) _ none))
-  | inr w ↦ omega (arith, w.1)
-]
 
 write_fits : (p : ℕ) (text : List ℕ) → IsFittingStatement (Write p text)
 unfolding first_turn write_turn changes
@@ -73,19 +58,26 @@ access_fits : (closed : Bool) → IsFittingStatement (Access closed)
 unfolding first_turn access_turn
 access_fits closed s session h is = guarded_fits s _ _ (λ none. byte_fits HasNoRows (no_rows 1 (omega arith)) s.base 65 _ h is (omega arith))
 
-pub pages_fit : (statement : Statement) → is_on_pages statement ≡ true → IsFittingStatement statement
+pub pages_fit : (statement : Statement) → is_on_pages statement ≡ true → IsNamed (Begins statement) → IsFittingStatement statement
 unfolding first_turn header_turn pages_turn image_turn cache_turn
-pages_fit (CreateDb name size raw cache) h = λ s session header is. tt
-pages_fit (OpenDb name cache) h = λ s session header is. tt
-pages_fit PageNew h = new_fits
-pages_fit (Write p text) h = write_fits p text
-pages_fit (Read p) h = read_fits p
-pages_fit (Free p) h = free_fits p
-pages_fit (Forced on) h = forced_fits on
-pages_fit (Access closed) h = access_fits closed
-pages_fit Sync h = λ s session header is. tt
-pages_fit ShowHeader h = λ s session header is. tt
-pages_fit ShowPages h = λ s session header is. guarded_fits s _ _ (λ none. tt)
-pages_fit ShowImage h = λ s session header is. tt
-pages_fit ShowCache h = λ s session header is. tt
-pages_fit other h = absurd (true≢false (sym h))
+pages_fit (CreateDb name size raw cache) h named = λ s session header is. tt
+pages_fit (OpenDb name cache) h named = λ s session header is. tt
+pages_fit PageNew h named = new_fits
+pages_fit (Write p text) h named = write_fits p text
+pages_fit (Read p) h named = read_fits p
+pages_fit (Free p) h named = free_fits p
+pages_fit (Forced on) h named = forced_fits on
+pages_fit (Access closed) h named = access_fits closed
+pages_fit Sync h named = λ s session header is. tt
+pages_fit ShowHeader h named = λ s session header is. tt
+pages_fit ShowPages h named = λ s session header is. guarded_fits s _ _ (λ none. tt)
+pages_fit ShowImage h named = λ s session header is. tt
+pages_fit ShowCache h named = λ s session header is. tt
+pages_fit (CreateTable table) h named = λ s session header is. (create_keeps s header is table named).fits
+pages_fit (DropTable table) h named = λ s session header is. (drop_keeps s header is table).fits
+pages_fit (Insert table key text) h named = λ s session header is. (insert_keeps s header is table key text).fits
+pages_fit (Update table key text) h named = λ s session header is. (update_keeps s header is table key text).fits
+pages_fit (Delete table key) h named = λ s session header is. (delete_keeps s header is table key).fits
+pages_fit (Get table key) h named = λ s session header is. (get_keeps s header is table key).fits
+pages_fit (Scan table) h named = λ s session header is. (scan_keeps s header is table).fits
+pages_fit other h named = absurd (true≢false (sym h))

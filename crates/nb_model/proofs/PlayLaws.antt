@@ -6,6 +6,7 @@ use Rattle.std.proofs.lemmas.Bool.Decides.{leb_tells}
 use Rattle.std.proofs.lemmas.List.{append-nil, take-append-le, take_all}
 use Rattle.std.proofs.Math.ListN.{get_or-map}
 use Rattle.std.proofs.Math.Seq.{take-append-add}
+use Rattle.nb_model.specs.Going.{IsNamed}
 use Rattle.nb_model.specs.declared.statement.Statement.{Statement}
 use Rattle.nb_model.specs.Account.{Base, Kept}
 use Rattle.nb_model.specs.Strokes.{Stroke, base_after, records_after}
@@ -53,7 +54,7 @@ abbrev pub AreOnPages : Now → Type 0
 AreOnPages now = (i : ℕ) → AllByRecursion IsTurnOnPages (get_or now.todo i [])
 
 turn_paged : (t : Turn) → IsTurnOnPages t → IsPagedTurn t
-turn_paged (Begins statement) h = pages_paged statement h
+turn_paged (Begins statement) h = pages_paged statement h.0
 turn_paged Copies h = absurd h
 turn_paged (ClosesBackup backing) h = absurd h
 turn_paged (ClosesCopy name) h = absurd h
@@ -78,7 +79,7 @@ one_on_pages session now on i =
 -- what one turn does keeps the database well
 outcome_stays : (kept : List Kept) (session : ℕ) (t : Turn) (now : Now) → IsTurnOnPages t → IsWellBase kept (base_now now) → StaysWell kept (base_now now) (outcome session t now).strokes
 unfolding outcome turn
-outcome_stays kept session (Begins statement) now h w = pages_keep kept statement h _ session w
+outcome_stays kept session (Begins statement) now h w = pages_keep kept statement h.0 h.1 _ session w
 outcome_stays kept session Copies now h w = absurd h
 outcome_stays kept session (ClosesBackup backing) now h w = absurd h
 outcome_stays kept session (ClosesCopy name) now h w = absurd h
@@ -121,10 +122,10 @@ play_well kept order now on w =
     }
 
 -- So it is at the start of a run of such statements,
-begun_on_pages : (statements : List Statement) → AllByRecursion (λ s. is_on_pages s ≡ true) statements → AllByRecursion IsTurnOnPages (map Begins statements)
+begun_on_pages : (statements : List Statement) → AllByRecursion (λ s. (is_on_pages s ≡ true) × IsNamed (Begins s)) statements → AllByRecursion IsTurnOnPages (map Begins statements)
 begun_on_pages [] h = tt
 begun_on_pages (s ∷ ss) h = (h.0, begun_on_pages ss h.1)
 
-pub first_on_pages : (now : Now) (sessions : List (List Statement)) → now.todo ≡ begun sessions → ((i : ℕ) → AllByRecursion (λ s. is_on_pages s ≡ true) (slice_index_or sessions i [])) → AreOnPages now
+pub first_on_pages : (now : Now) (sessions : List (List Statement)) → now.todo ≡ begun sessions → ((i : ℕ) → AllByRecursion (λ s. (is_on_pages s ≡ true) × IsNamed (Begins s)) (slice_index_or sessions i [])) → AreOnPages now
 first_on_pages now sessions is on i =
     subst (AllByRecursion IsTurnOnPages) (sym (ap (λ (todo : List (List Turn)). get_or todo i []) is ∙ get_or-map (map Begins) sessions i [])) (begun_on_pages (get_or sessions i []) (on i))

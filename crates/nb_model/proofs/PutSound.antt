@@ -17,7 +17,7 @@ use Rattle.nb_host.specs.declared.refusals.Refusal.{Refusal}
 use Rattle.nb_model.specs.Image.{Page, Image, page_at, first_page, image_size, image_scn, with_page}
 use Rattle.nb_model.specs.Account.{Base}
 use Rattle.nb_model.specs.Forms.{Draft, drafted, old_page, needs, is_kind, inventory_of, scn_page_of, entry_number, scn_entry, has_entry, entry_written, entry_raised, raised, put}
-use Rattle.nb_model.specs.Causes.{Cause, first_cause, when, not_raw}
+use Rattle.nb_model.specs.Causes.{Cause, first_cause, when, not_raw, too_long}
 use Rattle.nb_model.specs.Sound.{IsSoundImage, HasHeader}
 use Rattle.nb_model.proofs.DraftLaws.{either}
 use Rattle.nb_model.proofs.FitLaws.{IsWhole, Fits, fits_first, fits_needs, form_page, written_image, fits_more}
@@ -391,6 +391,13 @@ text_room text short = omega arith
 
 pub header_whole : (image : Image) → HasHeader image → IsSoundImage image → IsWhole image
 header_whole image h is = record { fields = header_fields image h; sound = is }
+
+-- a text that isn't too long
+pub short_text : (text : List ℕ) → too_long text ≡ None → length text ≤ 200
+short_text text none = elim (leb_tells 201 (length text)) [
+  | inl w ↦ absurd (true≢false (sym w.0 ∙ not_when (nat_lt 200 (length text)) _ none))
+  | inr w ↦ omega (arith, w.1)
+]
 
 -- a text is put into a raw page
 pub text_fits : (K : Page → Type 0) → ((bytes : Page) → kind_of bytes ≡ 10 → K bytes) → ((bytes : Page) → kind_of bytes ≡ 8 → K bytes)

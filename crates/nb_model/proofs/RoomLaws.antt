@@ -16,7 +16,7 @@ use Rattle.nb_fields.proofs.SizeLemmas.{SizeFacts, size_facts}
 use Rattle.nb_model.specs.Account.{Ask, Base}
 use Rattle.nb_model.specs.Backups.{Room, needs_taken, room_in}
 use Rattle.nb_model.specs.Causes.{broken_at}
-use Rattle.nb_model.specs.Chains.{Chain, History, Slot, Spot, slots_from, slots_in, spots_on, spots_of, spots, is_in_chain, next_in, linked, walk, pages_of, found_pages, first_such, free_spot, put_slot, last_of, grown, backup_slot}
+use Rattle.nb_model.specs.Chains.{Chain, History, Slot, Spot, first_of, owner_of, owner_in, slots_from, slots_in, spots_on, spots_of, spots, is_in_chain, next_in, linked, walk, pages_of, found_pages, first_such, free_spot, put_slot, last_of, grown, backup_slot}
 use Rattle.nb_model.specs.Forms.{Draft, drafted, old_page, needs, put, written, wrote, inventory_of, scn_page_of, is_free_page, new_page}
 use Rattle.nb_model.specs.Going.{HasRoom}
 use Rattle.nb_model.specs.Image.{Page, Image, page_at, image_size, image_scn}
@@ -54,6 +54,13 @@ unfolding is_in_chain
 in_chain chain image p is =
     let parts = and_parts (nat_lt p (length image)) _ is in
     (ltb-true p (length image) parts.0, eqb-true (kind_of (page_at image p)) 5 (and_parts (kind_of (page_at image p) == 5) _ parts.1).0)
+
+-- and has its owner
+pub chain_owner : (chain : Chain) (image : Image) (p : ℕ) → is_in_chain chain image p ≡ true → owner_in (page_at image p) ≡ owner_of chain
+unfolding is_in_chain
+chain_owner chain image p is =
+    let rest = (and_parts (kind_of (page_at image p) == 5) _ (and_parts (nat_lt p (length image)) _ is).1).1 in
+    eqb-true (owner_in (page_at image p)) (owner_of chain) (and_parts (owner_in (page_at image p) == owner_of chain) _ rest).0
 
 -- such a page is no system page
 pub chain_plain : (chain : Chain) (image : Image) (p : ℕ) → HasHeader image → IsSoundImage image → is_in_chain chain image p ≡ true → IsPlain image p
@@ -117,6 +124,22 @@ pages_found chain image none = by (pages_of chain image) refl none
     by (Ok ps) is none = walk_finds _ chain image _ ps is
     by (Err p) is none = cc
 
+-- the first page is one of them
+pub first_found : (chain : Chain) (image : Image) → broken_at (pages_of chain image) ≡ None → is_in_chain chain image (first_of chain) ≡ true
+unfolding pages_of walk
+first_found chain image none = by (length image) none
+  where
+    some_none : (p : ℕ) → broken_at (Err p) ≡ None → ⊥
+    some_none p e = cc
+
+    here : (t : Bool) (r : Result (List ℕ) ℕ) → broken_at (elim t as (λ z. Result (List ℕ) ℕ) [ false ↦ Err (first_of chain) | true ↦ r ]) ≡ None → t ≡ true
+    here true r e = refl
+    here false r e = absurd (some_none (first_of chain) e)
+
+    by : (left : ℕ) → broken_at (walk left chain image (first_of chain)) ≡ None → is_in_chain chain image (first_of chain) ≡ true
+    by zero e = absurd (some_none (first_of chain) e)
+    by (suc left) e = here (is_in_chain chain image (first_of chain)) _ e
+
 pub last_of_all : (P : ℕ → Type 0) (ps : List ℕ) → 1 ≤ length ps → AllByRecursion P ps → P (last_of ps)
 last_of_all P [] some all = absurd (omega (arith, some))
 last_of_all P (p ∷ []) some all = all.0
@@ -127,7 +150,7 @@ pub record IsSpotOf (chain : Chain) (image : Image) (s : Spot) : Type 0 where
   pub page : is_in_chain chain image s.page ≡ true
   pub within : s.slot < (length (page_at image s.page) - 32) / 256
 
-spots_append : (P : Spot → Type 0) (xs ys : List Spot) → AllByRecursion P xs → AllByRecursion P ys → AllByRecursion P (xs ++ ys)
+pub spots_append : (P : Spot → Type 0) (xs ys : List Spot) → AllByRecursion P xs → AllByRecursion P ys → AllByRecursion P (xs ++ ys)
 spots_append P [] ys a b = b
 spots_append P (x ∷ xs) ys a b = (a.0, spots_append P xs ys a.1 b)
 
@@ -150,7 +173,7 @@ module _ (chain : Chain) (image : Image) where
       spots_append (IsSpotOf chain image) (spots_on p 0 (slots_from most 32 (page_at image p))) (spots_of image ps)
       (page_spots p most 0 (slots_from most 32 (page_at image p)) all.0 refl (omega (arith, slots_length most 32 (page_at image p)))) (all_spots ps all.1)
 
-first_passes : (test : Spot → Bool) (P : Spot → Type 0) (xs : List Spot) (x : Spot) → first_such test xs ≡ Some x → AllByRecursion P xs → P x
+pub first_passes : (test : Spot → Bool) (P : Spot → Type 0) (xs : List Spot) (x : Spot) → first_such test xs ≡ Some x → AllByRecursion P xs → P x
 unfolding first_such
 first_passes test P [] x e all = cc
 first_passes test P (y ∷ ys) x e all = by (λ f. first_passes test P ys x f all.1) (test y) e
@@ -249,8 +272,8 @@ module _ (b : Base) (h : HasHeader b.image) (is : IsSoundImage b.image) (unbroke
     pub made_fits : Fits K b made.0
     made_fits = new_fits K holds.kinds b (length b.image + 4) 5 (λ p. data_payload 0 1 []) (drafted b.image) refl data_short added (fits_first K b whole)
       where
-        added : (x : Image) (p : ℕ) → IsWhole x → K (form_page p 5 (data_payload 0 1 []) x)
-        added x p w =
+        added : (x : Image) (p : ℕ) → IsWhole x → 5 ≤ p → p < 1048576 → K (form_page p 5 (data_payload 0 1 []) x)
+        added x p w five most =
             let size : SizeFacts (image_size x) = size_facts (image_size x) w.fields.size in
             holds.added (old_page p x) (image_scn x) p (omega (arith, size.at_least, old_length x p 5 (data_payload 0 1 []) w.fields w.sound refl (omega (arith, size.at_least, data_short p))))
 

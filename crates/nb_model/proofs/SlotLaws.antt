@@ -1,18 +1,18 @@
 -- The slots of a data page that is written: they are those of the old page, but for the one that is written; and a new page uses none.
-use Rattle.std.proofs.Common.{◌≡◌, ◌⊎◌, inl, inr, ℕ, zero, suc, ◌+◌, ◌-◌, ◌*◌, ◌/◌, ◌≤◌, List, [], ◌∷◌, ◌++◌, length, take, drop, replicate, refl, sym, ap, subst, ◌∙◌, arith, length-drop, length-append}
+use Rattle.std.proofs.Common.{◌≡◌, ◌≢◌, ◌⊎◌, inl, inr, ℕ, zero, suc, ◌+◌, ◌-◌, ◌*◌, ◌/◌, ◌≤◌, List, [], ◌∷◌, ◌++◌, length, take, drop, replicate, refl, sym, ap, subst, ◌∙◌, ◌<◌, arith, append_assoc, length-drop, length-append}
 use Rattle.std.specs.Prelude.{true, ◌&&◌, ◌==◌}
 use Rattle.std.specs.List.{AllByRecursion, list_all}
 use Rattle.std.proofs.lemmas.Bool.{true≢false, and_parts, and_from, eqb-true, eq-eqb}
 use Rattle.std.proofs.lemmas.Bool.Decides.{eqb_tells, leb_tells}
-use Rattle.std.proofs.lemmas.List.{drop_at, drop-drop}
+use Rattle.std.proofs.lemmas.List.{take_at, drop_at, drop-drop}
 use Rattle.nb_fields.specs.Bytes.{bytes_of, number_of, number_in, part, with_part, padded, is_zeros}
 use Rattle.nb_fields.specs.Page.{stamped, kind_of}
 use Rattle.nb_fields.specs.Payloads.{data_payload}
-use Rattle.nb_fields.proofs.NumberLemmas.{length-bytes_of}
+use Rattle.nb_fields.proofs.NumberLemmas.{length-bytes_of, number_of-bytes_of}
 use Rattle.nb_fields.proofs.PageLemmas.{padded_whole, drop-page_of, length-page_of}
-use Rattle.nb_fields.proofs.PartLemmas.{drop-with_part, part-with_part, part-with_part_other, length-with_part}
+use Rattle.nb_fields.proofs.PartLemmas.{drop-with_part, part-with_part, part-with_part_other, number_in-with_part, number_in-with_part_other, length-with_part}
 use Rattle.nb_model.specs.Image.{Page}
-use Rattle.nb_model.specs.Chains.{History, Slot, is_used, is_slot, owner_in, slots_from, slots_in}
+use Rattle.nb_model.specs.Chains.{History, Slot, is_used, is_slot, next_in, owner_in, slots_from, slots_in}
 use Rattle.nb_model.specs.Stands.{is_history_page}
 use Rattle.nb_model.proofs.ImageLaws.{zeros-are}
 
@@ -38,7 +38,7 @@ unfolding stamped
 stamped_behind old whole kind scn number long =
     drop-page_of (length old) kind _ scn number (drop 16 whole) ∙ padded_whole (length old - 16) (drop 16 whole) (length-drop 16 whole ∙ ap (λ (n : ℕ). n - 16) long)
 
-stamped_long : (old payload : Page) (kind scn number : ℕ) → 16 + length payload ≤ length old → length (stamped old kind payload scn number) ≡ length old
+pub stamped_long : (old payload : Page) (kind scn number : ℕ) → 16 + length payload ≤ length old → length (stamped old kind payload scn number) ≡ length old
 unfolding stamped
 stamped_long old payload kind scn number room = length-page_of (length old) kind _ scn number payload room
 
@@ -70,17 +70,94 @@ module _ (old : Page) (next scn number : ℕ) (long : 1024 ≤ length old) where
       (ap (λ (xs : List ℕ). number_of (take 4 xs) == 1 && list_all (is_slot History) (slots_in old)) (sym behind_next)
       ∙ ap (λ (ss : List Slot). owner_in linked_page == 1 && list_all (is_slot History) ss) (sym linked_slots) ∙ rest)
 
+-- A page that is stamped has the owner that its payload says.
+pub owner_behind : (old whole : Page) (scn number : ℕ) → length whole ≡ length old → owner_in (stamped old 5 (drop 16 whole) scn number) ≡ owner_in whole
+unfolding number_in
+owner_behind old whole scn number long =
+    ap (λ (xs : List ℕ). number_of (take 4 xs)) (drop_same 16 (stamped old 5 (drop 16 whole) scn number) whole (stamped_behind old whole 5 scn number long) 20 (omega arith))
+
+-- so where the next page is named
+pub linked_owner : (old : Page) (next scn number : ℕ) → 1024 ≤ length old → owner_in (stamped old 5 (drop 16 (with_part 16 (bytes_of 4 next) old)) scn number) ≡ owner_in old
+unfolding number_in
+linked_owner old next scn number long = ap (λ (xs : List ℕ). number_of (take 4 xs)) (behind_next old next scn number long)
+
+-- and the next page is that one
+pub linked_next : (old : Page) (next scn number : ℕ) → 1024 ≤ length old → next < 4294967296 → next_in (stamped old 5 (drop 16 (with_part 16 (bytes_of 4 next) old)) scn number) ≡ next
+unfolding number_in
+linked_next old next scn number long small =
+    ap (λ (xs : List ℕ). number_of (take 4 xs)) (stamped_behind old (with_part 16 (bytes_of 4 next) old) 5 scn number (whole_long old next scn number long))
+    ∙ number_in-with_part 16 4 next old (omega (arith, small)) (omega (arith, long))
+
+-- of a new page
+pub new_owner : (old : Page) (next owner : ℕ) (slots : List ℕ) (scn number : ℕ) → owner < 4294967296 → owner_in (stamped old 5 (data_payload next owner slots) scn number) ≡ owner
+unfolding stamped number_in data_payload padded
+new_owner old next owner slots scn number small =
+    let payload : List ℕ = data_payload next owner slots in
+    let page : Page = stamped old 5 payload scn number in
+    let rest : List ℕ = (replicate 8 0 ++ slots) ++ replicate (length old - 16 - length payload) 0 in
+    let four : length (bytes_of 4 next) ≡ 4 = length-bytes_of 4 next in
+    let behind : drop 20 page ≡ bytes_of 4 owner ++ rest =
+    sym (drop-drop 4 16 page) ∙ ap (drop 4) (drop-page_of (length old) 5 _ scn number payload)
+    ∙ ap (drop 4) (append_assoc (bytes_of 4 next) (bytes_of 4 owner ++ (replicate 8 0 ++ slots)) (replicate (length old - 16 - length payload) 0))
+    ∙ drop_at (bytes_of 4 next) ((bytes_of 4 owner ++ (replicate 8 0 ++ slots)) ++ replicate (length old - 16 - length payload) 0) 4 four
+    ∙ append_assoc (bytes_of 4 owner) (replicate 8 0 ++ slots) (replicate (length old - 16 - length payload) 0) in
+    ap (λ (xs : List ℕ). number_of (take 4 xs)) behind ∙ ap number_of (take_at (bytes_of 4 owner) rest 4 (length-bytes_of 4 owner)) ∙ number_of-bytes_of 4 owner (omega (arith, small))
+
+-- and where a slot is written
+pub written_owner : (slot : ℕ) (row : Slot) (page : Page) (scn number : ℕ) → length row ≡ 256 → 32 + 256 * slot + 256 ≤ length page
+    → owner_in (stamped page 5 (drop 16 (with_part (32 + 256 * slot) row page)) scn number) ≡ owner_in page
+written_owner slot row page scn number long room =
+    owner_behind page (with_part (32 + 256 * slot) row page) scn number (length-with_part (32 + 256 * slot) row page (omega (arith, long, room)))
+    ∙ number_in-with_part_other (32 + 256 * slot) 256 20 4 row page long room (inr (omega arith))
+
+-- the next page stays where a slot is written
+pub written_next : (slot : ℕ) (row : Slot) (page : Page) (scn number : ℕ) → length row ≡ 256 → 32 + 256 * slot + 256 ≤ length page
+    → next_in (stamped page 5 (drop 16 (with_part (32 + 256 * slot) row page)) scn number) ≡ next_in page
+unfolding number_in
+written_next slot row page scn number long room =
+    ap (λ (xs : List ℕ). number_of (take 4 xs)) (stamped_behind page (with_part (32 + 256 * slot) row page) 5 scn number (length-with_part (32 + 256 * slot) row page (omega (arith, long, room))))
+    ∙ number_in-with_part_other (32 + 256 * slot) 256 16 4 row page long room (inr (omega arith))
+
+-- One slot of a page is written.
+pub record IsSlotWritten (slot : ℕ) (row : Slot) (old new : Page) : Type 0 where
+  pub long : length new ≡ length old
+  pub here : part (32 + 256 * slot) 256 new ≡ row
+  pub others : (j : ℕ) → j ≢ slot → part (32 + 256 * j) 256 new ≡ part (32 + 256 * j) 256 old
+
+pub slot_is_written : (slot : ℕ) (row : Slot) (page : Page) (scn number : ℕ) → length row ≡ 256 → 32 + 256 * slot + 256 ≤ length page
+    → IsSlotWritten slot row page (stamped page 5 (drop 16 (with_part (32 + 256 * slot) row page)) scn number)
+slot_is_written slot row page scn number long room = record {
+  long = stamped_long page (drop 16 whole) 5 scn number (omega (arith, room, length-drop 16 whole, whole_long));
+  here = ap (take 256) (behind (32 + 256 * slot) (omega arith)) ∙ part-with_part (32 + 256 * slot) 256 row page long (omega (arith, room));
+  others = λ j other. ap (take 256) (behind (32 + 256 * j) (omega arith)) ∙ part-with_part_other (32 + 256 * slot) 256 (32 + 256 * j) 256 row page long room (apart j other);
+}
+  where
+    whole : Page
+    whole = with_part (32 + 256 * slot) row page
+
+    whole_long : length whole ≡ length page
+    whole_long = length-with_part (32 + 256 * slot) row page (omega (arith, long, room))
+
+    behind : (at : ℕ) → 16 ≤ at → drop at (stamped page 5 (drop 16 whole) scn number) ≡ drop at whole
+    behind at some = drop_same 16 (stamped page 5 (drop 16 whole) scn number) whole (stamped_behind page whole 5 scn number whole_long) at some
+
+    apart : (j : ℕ) → j ≢ slot → (32 + 256 * slot + 256 ≤ 32 + 256 * j) ⊎ (32 + 256 * j + 256 ≤ 32 + 256 * slot)
+    apart j other = elim (leb_tells (suc slot) j) [
+      | inl w ↦ inl (omega (arith, w.1))
+      | inr w ↦ inr (omega (arith, w.1, other))
+    ]
+
 -- zeros use no slot
 zeros_unused : (slot : Slot) → is_zeros slot ≡ true → is_used slot ≡ true → ⊥
 zeros_unused [] zeros used = true≢false (sym used)
 zeros_unused (b ∷ bs) zeros used = absurd (omega (arith, eqb-true b 0 (and_parts (b == 0) (is_zeros bs) zeros).0, eqb-true b 1 used))
 
-front_zeros : (n : ℕ) (bytes : List ℕ) → is_zeros bytes ≡ true → is_zeros (take n bytes) ≡ true
+pub front_zeros : (n : ℕ) (bytes : List ℕ) → is_zeros bytes ≡ true → is_zeros (take n bytes) ≡ true
 front_zeros zero bytes zeros = refl
 front_zeros (suc n) [] zeros = refl
 front_zeros (suc n) (b ∷ bs) zeros = let parts = and_parts (b == 0) (is_zeros bs) zeros in and_from (b == 0) (is_zeros (take n bs)) parts.0 (front_zeros n bs parts.1)
 
-rest_zeros : (n : ℕ) (bytes : List ℕ) → is_zeros bytes ≡ true → is_zeros (drop n bytes) ≡ true
+pub rest_zeros : (n : ℕ) (bytes : List ℕ) → is_zeros bytes ≡ true → is_zeros (drop n bytes) ≡ true
 rest_zeros zero bytes zeros = zeros
 rest_zeros (suc n) [] zeros = refl
 rest_zeros (suc n) (b ∷ bs) zeros = rest_zeros n bs (and_parts (b == 0) (is_zeros bs) zeros).1

@@ -1,6 +1,7 @@
 -- A turn keeps an image sound: what it writes on pages, and the control strokes of a backup. It takes one GUID at most.
 use Rattle.std.proofs.Common.{◌≡◌, ◌⊎◌, inl, inr, ℕ, ◌+◌, ◌<◌, ◌≤◌, List, [], ◌∷◌, ◌++◌, length, refl, sym, ap, subst, ◌∙◌, arith}
 use Rattle.std.specs.Prelude.{Bool, Option, Some, None, true, false, Contains, ◌==◌}
+use Rattle.std.specs.List.{AllByRecursion}
 use Rattle.std.proofs.lemmas.Bool.{eqb-true}
 use Rattle.nb_host.specs.declared.refusals.Refusal.{Refusal}
 use Rattle.nb_model.specs.declared.reply.Reply.{Reply}
@@ -9,7 +10,7 @@ use Rattle.nb_model.specs.Account.{Ask, Base}
 use Rattle.nb_model.specs.Backups.{room_in, close_backup, close_copy}
 use Rattle.nb_model.specs.Built.{is_built}
 use Rattle.nb_model.specs.Chains.{backup_slot}
-use Rattle.nb_model.specs.Going.{HasRoom}
+use Rattle.nb_model.specs.Going.{HasRoom, IsNamed}
 use Rattle.nb_model.specs.Image.{Page, Image, image_size, image_state, image_scn, image_guid}
 use Rattle.nb_model.specs.NewGuids.{guids_in}
 use Rattle.nb_model.specs.Outcomes.{Turn, Begins, Copies, ClosesBackup, ClosesCopy, Ends, Merges, Finishes, Backing, Seen, Outcome, Given, next_guid, next_time, without_guid}
@@ -23,13 +24,16 @@ use Rattle.nb_model.proofs.ControlMay.{may_begin, may_end, may_finish}
 use Rattle.nb_model.proofs.ControlSound.{MayControl, control_sound, control_long, new_size, new_scn, new_state, new_header}
 use Rattle.nb_model.proofs.FinishLaws.{IsPlainTurn}
 use Rattle.nb_model.proofs.FitLaws.{IsWhole, AreFitting, Stays, whole_after, all_keep, fitting_stays}
-use Rattle.nb_model.proofs.PagesFit.{HasNoRows, pages_fit}
+use Rattle.nb_model.proofs.NoRows.{HasNoRows}
+use Rattle.nb_model.proofs.PagesFit.{pages_fit}
 use Rattle.nb_model.proofs.PutSound.{header_whole}
+use Rattle.nb_model.proofs.WellLaws.{pages_paged}
+use Rattle.nb_model.proofs.NormalLaws.{IsPage}
 use Rattle.nb_model.proofs.RoomLaws.{AnyPage, any_history, room_fits, room_there, room_begun, backup_length, slot_fits}
 use Rattle.nb_model.proofs.SoundLaws.{header_stays, fields_stay}
 use Rattle.nb_model.proofs.GuidLaws.{AreSixteen, guids_append}
 use Rattle.nb_model.proofs.StrokeLaws.{base_after-append}
-use Rattle.nb_model.proofs.TurnCases.{MayStart, started, built_cases, begin_either, end_either, backup_either, copy_either}
+use Rattle.nb_model.proofs.TurnCases.{MayStart, started, built_cases, begin_either, end_either, backup_either, since_either, copy_either}
 
 -- What strokes leave of a sound image: a sound one of the same page size, and no shorter.
 pub record StaysSound (old new : Base) : Type 0 where
@@ -147,6 +151,12 @@ abbrev pub TakesGuid : (given : Given) → Outcome → Type 0
 TakesGuid given o = (guids_in o.strokes ≡ []) ⊎ ((guids_in o.strokes ≡ next_guid given ∷ []) × (o.given ≡ without_guid given))
 
 -- pages that are written take none
+page_guids : (ss : List Stroke) → AllByRecursion IsPage ss → guids_in ss ≡ []
+unfolding guids_in
+page_guids [] all = refl
+page_guids (page p bytes ∷ ss) all = page_guids ss all.1
+page_guids (other ∷ ss) all = absurd all.0
+
 no_guid : (K : Page → Type 0) (ss : List Stroke) (b : Base) → AreFitting K b ss → guids_in ss ≡ []
 unfolding guids_in
 no_guid K [] b fits = refl
@@ -166,8 +176,8 @@ ends_guids s session reply = by (image_state s.base.image == 1)
     by false = refl
 
 module _ (s : Seen) (session : ℕ) (header : HasHeader s.base.image) (sound : IsSoundImage s.base.image) where
-  pages_are : (statement : Statement) → is_on_pages statement ≡ true → AreFitting HasNoRows s.base (first_turn s session statement).strokes
-  pages_are statement on = pages_fit statement on s session header sound
+  pages_are : (statement : Statement) → is_on_pages statement ≡ true → IsNamed (Begins statement) → AreFitting HasNoRows s.base (first_turn s session statement).strokes
+  pages_are statement on named = pages_fit statement on named s session header sound
 
   started_guids : (name : List ℕ) (ask : Ask) → MayStart s name → guids_in (started s session name ask).strokes ≡ next_guid s.given ∷ []
   started_guids name ask may =
@@ -183,20 +193,22 @@ module _ (s : Seen) (session : ℕ) (header : HasHeader s.base.image) (sound : I
   first_guids : (statement : Statement) → is_built statement ≡ true → TakesGuid s.given (first_turn s session statement)
   unfolding first_turn
   first_guids = built_cases (λ x. TakesGuid s.given (first_turn s session x))
-      (λ x is on. inl (no_guid HasNoRows (first_turn s session x).strokes s.base (pages_are x on)))
+      (λ x is on. inl (page_guids (first_turn s session x).strokes (pages_paged x on s session).pages))
       (begin_either (TakesGuid s.given) s (λ r. inl none_taken) (λ may. inr (one_guid (next_guid s.given) None, refl)))
       (end_either (TakesGuid s.given) s session (λ r. inl none_taken) (λ may. inl (ends_guids s session _)))
-      (λ level name. backup_either (TakesGuid s.given) s session level name (λ r. inl none_taken) (λ from is may. inr (started_guids name _ may, refl)))
+      (λ level name. backup_either (TakesGuid s.given) s session level name (λ r. inl none_taken) (λ ask is may. inr (started_guids name ask may, refl)))
+      (λ guid name. since_either (TakesGuid s.given) s session guid name (λ r. inl none_taken) (λ ask is may. inr (started_guids name ask may, refl)))
       (λ name. copy_either (TakesGuid s.given) s session name (λ r. inl none_taken) (λ may. inl none_taken))
 
-  first_keeps : (statement : Statement) → is_built statement ≡ true → AreSixteen (first_turn s session statement).strokes → KeepsSound s.base (first_turn s session statement).strokes
+  first_keeps : (statement : Statement) → is_built statement ≡ true → IsNamed (Begins statement) → AreSixteen (first_turn s session statement).strokes → KeepsSound s.base (first_turn s session statement).strokes
   unfolding first_turn
-  first_keeps = built_cases (λ x. AreSixteen (first_turn s session x).strokes → KeepsSound s.base (first_turn s session x).strokes)
-      (λ x is on sixteen. fitting_keeps HasNoRows (first_turn s session x).strokes s.base (pages_are x on) header sound)
-      (begin_either Keeps s refused (λ may sixteen. (begin_keeps s.base (next_guid s.given) None header sound may.scn (first_sixteen _ (one_guid (next_guid s.given) None) sixteen)).0))
-      (end_either Keeps s session refused (λ may sixteen. ends_by_keeps s session _ header sound))
-      (λ level name. backup_either Keeps s session level name refused (λ from is may sixteen. (start_keeps s session name _ header sound may (first_sixteen _ (started_guids name _ may) sixteen)).keeps))
-      (λ name. copy_either Keeps s session name refused (λ may sixteen. none_keeps s.base header sound))
+  first_keeps = built_cases (λ x. IsNamed (Begins x) → AreSixteen (first_turn s session x).strokes → KeepsSound s.base (first_turn s session x).strokes)
+      (λ x is on named sixteen. fitting_keeps HasNoRows (first_turn s session x).strokes s.base (pages_are x on named) header sound)
+      (λ named. begin_either Keeps s refused (λ may sixteen. (begin_keeps s.base (next_guid s.given) None header sound may.scn (first_sixteen _ (one_guid (next_guid s.given) None) sixteen)).0))
+      (λ named. end_either Keeps s session refused (λ may sixteen. ends_by_keeps s session _ header sound))
+      (λ level name named. backup_either Keeps s session level name refused (λ ask is. begins name ask))
+      (λ guid name named. since_either Keeps s session guid name refused (λ ask is. begins name ask))
+      (λ name named. copy_either Keeps s session name refused (λ may sixteen. none_keeps s.base header sound))
     where
       Keeps : Outcome → Type 0
       Keeps o = AreSixteen o.strokes → KeepsSound s.base o.strokes
@@ -207,13 +219,16 @@ module _ (s : Seen) (session : ℕ) (header : HasHeader s.base.image) (sound : I
       first_sixteen : (ss : List Stroke) → guids_in ss ≡ next_guid s.given ∷ [] → AreSixteen ss → length (next_guid s.given) ≡ 16
       first_sixteen ss is sixteen = sixteen (next_guid s.given) (subst (λ (l : List (List ℕ)). Contains l (next_guid s.given)) (sym is) (0, omega arith, refl))
 
+      begins : (name : List ℕ) (ask : Ask) → MayStart s name → Keeps (started s session name ask)
+      begins name ask may sixteen = (start_keeps s session name ask header sound may (first_sixteen _ (started_guids name ask may) sixteen)).keeps
+
 -- what a turn sees
 abbrev pub seen_now : Now → Seen
 seen_now now = record { base = base_now now; cache = now.cache; running = now.running; entry = now.account.entry; given = now.given }
 
--- The close of a backup has a place for its row.
+-- A statement is named, and the close of a backup has a place for its row.
 abbrev pub HasItsPlace : Image → Turn → Type 0
-HasItsPlace image (Begins statement) = Unit {0}
+HasItsPlace image (Begins statement) = IsNamed (Begins statement)
 HasItsPlace image Copies = Unit {0}
 HasItsPlace image (ClosesBackup backing) = HasPlace image backing
 HasItsPlace image (ClosesCopy name) = Unit {0}
@@ -225,7 +240,7 @@ HasItsPlace image (Finishes reply) = Unit {0}
 pub turn_sound : (u : Turn) → IsPlainTurn u → (session : ℕ) (now : Now) → HasHeader (base_now now).image → IsSoundImage (base_now now).image → HasItsPlace (base_now now).image u → AreSixteen (outcome session u now).strokes
     → StaysSound (base_now now) (base_after (base_now now) (outcome session u now).strokes)
 unfolding outcome turn close_copy
-turn_sound (Begins statement) plain session now header sound place sixteen = first_keeps (seen_now now) session header sound statement plain sixteen
+turn_sound (Begins statement) plain session now header sound place sixteen = first_keeps (seen_now now) session header sound statement plain place sixteen
 turn_sound Copies plain session now header sound place sixteen = none_keeps (base_now now) header sound
 turn_sound (ClosesBackup backing) plain session now header sound place sixteen =
     fitting_keeps AnyPage (close_backup (seen_now now) backing).strokes (base_now now) (close_fits (seen_now now) backing header sound place) header sound

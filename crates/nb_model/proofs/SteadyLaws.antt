@@ -2,10 +2,11 @@
 use Rattle.std.proofs.Common.{◌≡◌, ℕ, zero, suc, ◌+◌, ◌≤◌, List, [], ◌∷◌, ◌++◌, length, take, refl, sym, ap, subst, ◌∙◌, arith, append_assoc}
 use Rattle.std.specs.Prelude.{Bool, Option, true, false}
 use Rattle.std.proofs.lemmas.List.{append-nil}
+use Rattle.nb_model.specs.Going.{IsNamed}
 use Rattle.nb_model.specs.declared.statement.Statement.{Statement}
 use Rattle.nb_model.specs.Account.{Ask, Kept, Base}
 use Rattle.nb_model.specs.Image.{Page, image_state, image_scn}
-use Rattle.nb_model.specs.Outcomes.{Seen}
+use Rattle.nb_model.specs.Outcomes.{Begins, Seen}
 use Rattle.nb_model.specs.Sound.{HasHeader, IsSoundImage}
 use Rattle.nb_model.specs.Stands.{IsBegun, HasRows}
 use Rattle.nb_model.specs.Steps.{Step, makes, settles, after_step, after_steps, made, strokes_in}
@@ -18,7 +19,8 @@ use Rattle.nb_model.proofs.ControlMay.{may_begin}
 use Rattle.nb_model.proofs.ControlSound.{MayControl, new_state, new_scn, new_guid, new_header, control_old}
 use Rattle.nb_model.proofs.ControlWell.{begin_well, ends_well, finish_well}
 use Rattle.nb_model.proofs.FitLaws.{AreFitting}
-use Rattle.nb_model.proofs.PagesFit.{HasNoRows, pages_fit}
+use Rattle.nb_model.proofs.NoRows.{HasNoRows}
+use Rattle.nb_model.proofs.PagesFit.{pages_fit}
 use Rattle.nb_model.proofs.PastLaws.{rows_with, no_rows_pass}
 use Rattle.nb_model.proofs.RecordLaws.{HasParent}
 use Rattle.nb_model.proofs.TrailLaws.{trail_base}
@@ -133,12 +135,12 @@ no_rows_fit kept (page p bytes ∷ ss) b fits = ((fits.0.0, no_rows_pass kept (�
 no_rows_fit kept (other ∷ ss) b fits = absurd fits.0
 
 -- statements on pages
-pub pages_along : (kept : List Kept) (statement : Statement) → is_on_pages statement ≡ true → (s : Seen) (session : ℕ) (t : Trail) → s.base ≡ t.base → IsWellTrail kept t → KeepsAlong kept t (made (first_turn s session statement).strokes)
-pages_along kept statement on s session t is w =
+pub pages_along : (kept : List Kept) (statement : Statement) → is_on_pages statement ≡ true → IsNamed (Begins statement) → (s : Seen) (session : ℕ) (t : Trail) → s.base ≡ t.base → IsWellTrail kept t → KeepsAlong kept t (made (first_turn s session statement).strokes)
+pages_along kept statement on named s session t is w =
     let header : HasHeader s.base.image = subst (λ (b : Base). HasHeader b.image) (sym is) (record { header = w.base.well.header; scn = w.base.well.scn }) in
     let sound : IsSoundImage s.base.image = subst (λ (b : Base). IsSoundImage b.image) (sym is) w.base.well.sound in
     let ss : List Stroke = (first_turn s session statement).strokes in
-    rows_along kept (λ r. ⊥) ss t (no_rows_fit kept ss t.base (subst (λ (b : Base). AreFitting HasNoRows b ss) is (pages_fit statement on s session header sound))) (λ r none. absurd none) w
+    rows_along kept (λ r. ⊥) ss t (no_rows_fit kept ss t.base (subst (λ (b : Base). AreFitting HasNoRows b ss) is (pages_fit statement on named s session header sound))) (λ r none. absurd none) w
 
 -- a backup begins, and goes on from the one that it asks for
 pub begin_along : (kept : List Kept) (t : Trail) (guid : List ℕ) (ask : Option Ask) → IsWellTrail kept t → image_state t.base.image ≡ 0 → length guid ≡ 16 → image_scn t.base.image ≤ 4294967293 → HasParent kept (record_of t guid ask)

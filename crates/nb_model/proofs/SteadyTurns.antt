@@ -8,10 +8,9 @@ use Rattle.nb_host.specs.declared.refusals.Refusal.{Refusal}
 use Rattle.nb_model.specs.declared.reply.Reply.{Reply}
 use Rattle.nb_model.specs.declared.statement.Statement.{Statement}
 use Rattle.nb_model.specs.Account.{Ask, Kept, Base}
-use Rattle.nb_model.specs.Backups.{ask_of, room_in, close_backup, close_copy}
+use Rattle.nb_model.specs.Backups.{room_in, close_backup, close_copy}
 use Rattle.nb_model.specs.Built.{is_built}
 use Rattle.nb_model.specs.Causes.{runs_other}
-use Rattle.nb_model.specs.Chains.{Spot}
 use Rattle.nb_model.specs.Going.{AreBeginnings, AreMerging, IsNamed, AreNamed, HasRoom, Runs, IsAt, waits, backs_up, copies, ends as ending, merges, IsGoing}
 use Rattle.nb_model.specs.Image.{image_state, image_scn}
 use Rattle.nb_model.specs.Outcomes.{Turn, Begins, Copies, ClosesBackup, ClosesCopy, Ends, Merges, Finishes, Backing, Seen, Outcome, next_guid, next_time}
@@ -25,12 +24,13 @@ use Rattle.nb_model.specs.Well.{is_on_pages}
 use Rattle.nb_model.specs.WellTrail.{IsWellTrail}
 use Rattle.nb_model.proofs.BackupWell.{IsRecorded, StartsWell, made_base, recorded_on, recorded_settled, start_well, close_well}
 use Rattle.nb_model.proofs.GoingLaws.{next_sixteen, one_runs, name_short, then_base, own_todo, other_todo, one_cases, going_turn, named_turn}
-use Rattle.nb_model.proofs.HeldLaws.{IsHeld, statement_holds}
+use Rattle.nb_model.proofs.HeldLaws.{IsHeld}
+use Rattle.nb_model.proofs.HeldTurns.{statement_holds}
 use Rattle.nb_model.proofs.OutputLaws.{strokes_one}
 use Rattle.nb_model.proofs.SoundTurns.{HasPlace}
 use Rattle.nb_model.proofs.SteadyLaws.{WellAlong, KeepsAlong, kept_along, pages_along, begin_along, ends_along, finish_along, settling_along, along_append, along_last, kept_append}
 use Rattle.nb_model.proofs.StepsLaws.{steps_one, steps_append, steps_seen, after_steps_append}
-use Rattle.nb_model.proofs.TurnCases.{MayBegin, MayEnd, MayStart, MayCopy, IsFrom, refused, started, copied, built_cases, begin_either, end_either, its_own, backup_either, copy_either, pages_once}
+use Rattle.nb_model.proofs.TurnCases.{MayBegin, MayEnd, MayStart, MayCopy, IsFrom, refused, started, copied, built_cases, begin_either, end_either, its_own, backup_either, since_either, copy_either, pages_once}
 use Rattle.nb_model.proofs.TurnCases as cases
 
 -- the backup that a turn closes is recorded
@@ -120,17 +120,17 @@ module _ (kept : List Kept) (t : Trail) (now : Now) (session : ℕ) (base : t.ba
     refused_turn : (r : Refusal) → Does (refused s r)
     refused_turn r = no_stroke rest (waits_then t kept)
 
-    pages_turn : (statement : Statement) → is_built statement ≡ true → is_on_pages statement ≡ true → Does (first_turn s session statement)
-    pages_turn statement is on =
+    pages_turn : (statement : Statement) → is_built statement ≡ true → is_on_pages statement ≡ true → IsNamed (Begins statement) → Does (first_turn s session statement)
+    pages_turn statement is on named =
         let strokes : List Stroke = (first_turn s session statement).strokes in
-        let keeps : KeepsAlong kept t (made strokes) = pages_along kept statement on s session t refl w in
+        let keeps : KeepsAlong kept t (made strokes) = pages_along kept statement on named s session t refl w in
         record {
           along = keeps.along;
           own = subst (λ (ts : List Turn). AreRecorded (kept_along kept t (made strokes)) (after_steps t (made strokes)) (ts ++ rest)) (sym (pages_once statement is on s session).next)
               (waits_then (after_steps t (made strokes)) (kept_along kept t (made strokes)));
           others = λ place b off runs. recorded_on kept t (made strokes) keeps b (λ bytes of_history held.
               subst (λ (x : Base). IsHeld b.page bytes x.image) (sym (made_base t strokes))
-              (statement_holds b.page bytes of_history statement on s session (record { header = w.base.well.header; scn = w.base.well.scn }) w.base.well.sound held));
+              (statement_holds b.page bytes of_history statement on named s session (record { header = w.base.well.header; scn = w.base.well.scn }) w.base.well.sound held));
         }
 
     begun_turn : MayBegin t.base.image → Does (cases.begun s)
@@ -155,12 +155,12 @@ module _ (kept : List Kept) (t : Trail) (now : Now) (session : ℕ) (base : t.ba
         by true is = with_strokes (ends ∷ []) (ends_along kept t w (eqb-true (image_state t.base.image) 1 is))
         by false is = no_stroke turns (merging_recorded kept t turns (merge_turns (length t.base.diverted) reply rest all))
 
-    started_turn : (name : List ℕ) (level : ℕ) (from : Option Spot) → IsFrom t.base.image level from → MayStart s name → Does (started s session name (ask_of level from))
-    started_turn name level from is may =
-        let o : Outcome = started s session name (ask_of level from) in
-        let b : Backing = record { name = name; ask = ask_of level from; scn = image_scn t.base.image; guid = next_guid now.given; page = (room_in t.base.image).page; slot = (room_in t.base.image).slot } in
+    started_turn : (name : List ℕ) (ask : Ask) → IsFrom t.base.image ask → MayStart s name → Does (started s session name ask)
+    started_turn name ask is may =
+        let o : Outcome = started s session name ask in
+        let b : Backing = record { name = name; ask = ask; scn = image_scn t.base.image; guid = next_guid now.given; page = (room_in t.base.image).page; slot = (room_in t.base.image).slot } in
         let count : ℕ = length (room_in t.base.image).draft.image in
-        let starts : StartsWell kept t o.strokes b = start_well kept t w now.cache now.running now.account.entry now.given session name level from may is sixteen in
+        let starts : StartsWell kept t o.strokes b = start_well kept t w now.cache now.running now.account.entry now.given session name ask may is sixteen in
         alone_turn o.strokes (o.next ++ rest) starts.along
         (subst (AreRecorded (kept_along kept t (made o.strokes)) (after_steps t (made o.strokes))) (sym (append_assoc (replicate count Copies) (ClosesBackup b ∷ []) rest))
         (copies_recorded (kept_along kept t (made o.strokes)) (after_steps t (made o.strokes)) count (ClosesBackup b ∷ rest) (starts.recorded, waits_then (after_steps t (made o.strokes)) (kept_along kept t (made o.strokes)))))
@@ -175,10 +175,10 @@ module _ (kept : List Kept) (t : Trail) (now : Now) (session : ℕ) (base : t.ba
     alone_by : MayEnd s session → (place : ℕ) → place ≢ session - 1 → Runs now place 1 → ⊥
     alone_by may place off runs = off (sym runs.its ∙ ap (λ (x : ℕ). x - 1) (its_own runs.by session (sym (ap (λ (r : Option ℕ). runs_other r session) runs.running) ∙ may.alone)))
 
-    statement_turn : (statement : Statement) → is_built statement ≡ true → Does (first_turn s session statement)
+    statement_turn : (statement : Statement) → is_built statement ≡ true → IsNamed (Begins statement) → Does (first_turn s session statement)
     unfolding first_turn
-    statement_turn = built_cases (λ x. Does (first_turn s session x)) pages_turn (begin_either Does s refused_turn begun_turn) (end_either Does s session refused_turn (λ may. ended_turn _ may.other (alone_by may)))
-        (λ level name. backup_either Does s session level name refused_turn (λ from is may. started_turn name level from is may)) (λ name. copy_either Does s session name refused_turn (copied_turn name))
+    statement_turn = built_cases (λ x. IsNamed (Begins x) → Does (first_turn s session x)) pages_turn (λ named. begin_either Does s refused_turn begun_turn) (λ named. end_either Does s session refused_turn (λ may. ended_turn _ may.other (alone_by may)))
+        (λ level name named. backup_either Does s session level name refused_turn (started_turn name)) (λ guid name named. since_either Does s session guid name refused_turn (started_turn name)) (λ name named. copy_either Does s session name refused_turn (copied_turn name))
 
   -- the further turns of a backup, a copy or a merge of this session
   module _ (number : ℕ) (runs : Runs now (session - 1) number) where
@@ -204,10 +204,10 @@ module _ (kept : List Kept) (t : Trail) (now : Now) (session : ℕ) (base : t.ba
       let behind : tail ≡ rest = cc in
       subst (λ (x : Turn). Turns x rest) head (subst (Turns v) behind does)
 
-  beginning_turn : (u : Turn) (rest : List Turn) → AreBeginnings (u ∷ rest) → Turns u rest
+  beginning_turn : (u : Turn) (rest : List Turn) → AreBeginnings (u ∷ rest) → AllByRecursion IsNamed (u ∷ rest) → Turns u rest
   unfolding turn
-  beginning_turn (Begins statement) rest all = statement_turn rest all.1 statement all.0
-  beginning_turn other rest all = absurd all.0
+  beginning_turn (Begins statement) rest all named = statement_turn rest all.1 statement all.0 named.0
+  beginning_turn other rest all named = absurd all.0
 
   copying_turn : (rest : List Turn) → AreRecorded kept t rest → Turns Copies rest
   unfolding turn
@@ -242,7 +242,7 @@ module _ (kept : List Kept) (t : Trail) (now : Now) (session : ℕ) (base : t.ba
   ending_turn reply tail all runs = ended_turn tail all reply (λ none. absurd (omega (arith, none, same_state, runs.state))) (only_one 1 runs)
 
   turn_is : (u : Turn) (rest : List Turn) → IsAt now (session - 1) (u ∷ rest) → AllByRecursion IsNamed (u ∷ rest) → AreRecorded kept t (u ∷ rest) → Turns u rest
-  turn_is u rest (waits all) named recorded = beginning_turn u rest all
+  turn_is u rest (waits all) named recorded = beginning_turn u rest all named
   turn_is u rest (backs_up left b tail e all runs room free) named recorded = backup_turn_is left b u rest tail e named recorded all runs room
   turn_is u rest (copies left name tail e all runs free) named recorded = copy_turn_is left name u rest tail e recorded
   turn_is u rest (ending reply tail e all runs) named recorded = turn_as u (Ends reply) rest tail e (ending_turn reply tail all runs)

@@ -1,6 +1,7 @@
 -- A statement that is done today keeps a database well.
 use Rattle.std.proofs.Common.{◌≡◌, ℕ, List, ◌∷◌, true, sym, subst}
 use Rattle.std.proofs.lemmas.List.{append-nil}
+use Rattle.nb_model.specs.Going.{IsNamed}
 use Rattle.nb_model.specs.declared.statement.Statement.{Statement}
 use Rattle.nb_model.specs.Account.{Kept}
 use Rattle.nb_model.specs.Outcomes.{Turn, Begins}
@@ -12,10 +13,10 @@ use Rattle.nb_model.proofs.OpeningLaws.{KeepsRest, stands_kept}
 use Rattle.nb_model.proofs.WellLaws.{pages_keep, pages_paged}
 use Rattle.nb_model.proofs.PlayLaws.{well_after}
 
-module _ (session : ℕ) (statement : Statement) (rest : List Turn) (now : Now) (on : is_on_pages statement ≡ true) where
+module _ (session : ℕ) (statement : Statement) (rest : List Turn) (now : Now) (on : is_on_pages statement ≡ true) (named : IsNamed (Begins statement)) where
   taken_stays : IsWellBase now.account.kept (base_now now) → StaysWell now.account.kept (base_now now) (strokes_of (take_turn session (Begins statement ∷ rest) now).0)
   unfolding take_turn strokes_of outcome turn
-  taken_stays well = subst (StaysWell now.account.kept (base_now now)) (sym (append-nil (outcome session (Begins statement) now).strokes)) (pages_keep now.account.kept statement on _ session well)
+  taken_stays well = subst (StaysWell now.account.kept (base_now now)) (sym (append-nil (outcome session (Begins statement) now).strokes)) (pages_keep now.account.kept statement on named _ session well)
 
   taken_kept : KeepsRest now (take_turn session (Begins statement ∷ rest) now).1
   unfolding take_turn outcome turn

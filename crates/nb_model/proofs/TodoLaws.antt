@@ -12,7 +12,7 @@ use Rattle.nb_host.specs.declared.refusals.Refusal.TheVariants.{Usage, NotDataba
 use Rattle.nb_model.specs.declared.reply.Reply.{Reply}
 use Rattle.nb_model.specs.declared.reply.Reply.TheVariants.{Done, Refused}
 use Rattle.nb_model.specs.declared.statement.Statement.{Statement}
-use Rattle.nb_model.specs.declared.statement.Statement.TheVariants.{CreateDb, OpenDb, PageNew, Write, Read, Free, BeginBackup, EndBackup, Backup, CopyTo, CreateTable, DropTable, Insert, Update, Delete, Get, Scan, Forced, Access as SetAccess, Sync, ShowHeader, ShowPages, ShowImage, ShowCache}
+use Rattle.nb_model.specs.declared.statement.Statement.TheVariants.{CreateDb, OpenDb, PageNew, Write, Read, Free, BeginBackup, EndBackup, Backup, BackupSince, CopyTo, CreateTable, DropTable, Insert, Update, Delete, Get, Scan, Forced, Access as SetAccess, Sync, ShowHeader, ShowPages, ShowImage, ShowCache}
 use Rattle.nb_model.specs.Account.{Ask}
 use Rattle.nb_model.specs.Image.{Image}
 use Rattle.nb_model.specs.Forms.{Draft}
@@ -22,7 +22,7 @@ use Rattle.nb_model.specs.Chains.{Chain, History, Slot, Spot, pages_of}
 use Rattle.nb_model.specs.Outcomes.{Turn, Begins, Copies, ClosesBackup, ClosesCopy, Ends, Merges, Finishes, Seen, Outcome, unless, changes}
 use Rattle.nb_model.specs.Pages.{new_turn, write_turn, read_turn, free_turn, begin_turn, end_turn, ends_by, forced_turn, access_turn, header_turn, image_turn, cache_turn}
 use Rattle.nb_model.specs.Tables.{with_spot, in_table, in_row, create_turn, drop_turn, insert_turn, update_turn, delete_turn, get_turn, scan_turn}
-use Rattle.nb_model.specs.Backups.{room_in, starts, backup_turn, copy_turn, pages_turn}
+use Rattle.nb_model.specs.Backups.{room_in, starts, backup_turn, since_turn, copy_turn, all_needed, pages_turn}
 use Rattle.nb_model.specs.Turns.{first_turn, turn}
 use Rattle.nb_model.specs.Run.{Now, Played, outcome, stands_then, take_turn, one_turn, play, rounds, all_sessions, AreFinished, begun}
 use Rattle.nb_model.specs.Output.{status_after}
@@ -520,6 +520,14 @@ unfolding first_turn backup_turn
 backup_never_usage s session zero name = start_never_usage s session name _ None none_other
 backup_never_usage s session (suc below) name = start_never_usage s session name _ _ (other_when _ _ (λ e. cc))
 
+pub since_never_usage : (s : Seen) (session : ℕ) (guid name : List ℕ) → (first_turn s session (BackupSince guid name)).reply ≢ Some (Refused Usage)
+unfolding first_turn since_turn
+since_never_usage s session guid name = start_never_usage s session name _ _ (other_when _ _ (λ e. cc))
+
+pub pages_never_usage : (s : Seen) (session : ℕ) → (first_turn s session ShowPages).reply ≢ Some (Refused Usage)
+unfolding first_turn pages_turn
+pages_never_usage s session = guarded_other s _ _ (other_broken (all_needed s.base.image).broken) (λ e. cc)
+
 other_runs_any : (running : Option ℕ) → IsOther (runs_any running)
 other_runs_any None = none_other
 other_runs_any (Some other) = λ e. cc
@@ -528,8 +536,52 @@ pub copy_never_usage : (s : Seen) (session : ℕ) (name : List ℕ) → (first_t
 unfolding first_turn copy_turn
 copy_never_usage s session name = guarded_other s _ _ (other_first _ (other_when _ _ (λ e. cc), (other_runs_any s.running, (other_when _ _ (λ e. cc), tt)))) (λ e. cc)
 
+spot_other : (s : Seen) (o : Option Spot) (r : Refusal) (go : Spot → Outcome) → IsOther (Some r) → ((spot : Spot) → NoUsage (go spot)) → NoUsage (with_spot s o r go)
+unfolding with_spot
+spot_other s None r go c h = refused_other r c
+spot_other s (Some spot) r go c h = h spot
+
+table_other : (s : Seen) (before : Cause) (table : List ℕ) (behind : Cause) (go : Spot → Chain → Outcome) → IsOther before → IsOther behind → ((spot : Spot) (chain : Chain) → NoUsage (go spot chain)) → NoUsage (in_table s before table behind go)
+unfolding in_table
+table_other s before table behind go a b h =
+    guarded_other s _ _ (other_first _ (a, (other_pages _, tt))) (spot_other s _ _ _ (λ e. cc) (λ spot. guarded_other s _ _ (other_first _ (b, (other_pages _, tt))) (h spot _)))
+
+row_other : (s : Seen) (chain : Chain) (key : ℕ) (bytes : Slot) → NoUsage (in_row s chain key bytes)
+unfolding in_row
+row_other s chain key bytes = spot_other s _ _ _ (λ e. cc) (λ row. changed_other s _ _ Done tt (λ e. cc))
+
+-- nor is one on tables,
+pub create_never_usage : (s : Seen) (session : ℕ) (table : List ℕ) → (first_turn s session (CreateTable table)).reply ≢ Some (Refused Usage)
+unfolding first_turn create_turn
+create_never_usage s session table = changed_other s _ _ Done (other_read_only s.base.image, (other_pages _, (other_when _ _ (λ e. cc), (other_when _ _ (λ e. cc), tt)))) (λ e. cc)
+
+pub drop_never_usage : (s : Seen) (session : ℕ) (table : List ℕ) → (first_turn s session (DropTable table)).reply ≢ Some (Refused Usage)
+unfolding first_turn drop_turn
+drop_never_usage s session table = table_other s _ table _ _ (other_read_only s.base.image) none_other (λ spot chain. changed_other s _ _ Done tt (λ e. cc))
+
+pub insert_never_usage : (s : Seen) (session : ℕ) (table : List ℕ) (key : ℕ) (text : List ℕ) → (first_turn s session (Insert table key text)).reply ≢ Some (Refused Usage)
+unfolding first_turn insert_turn
+insert_never_usage s session table key text =
+    table_other s _ table _ _ (other_read_only s.base.image) (other_when _ _ (λ e. cc)) (λ spot chain. changed_other s _ _ Done (other_when _ _ (λ e. cc), tt) (λ e. cc))
+
+pub update_never_usage : (s : Seen) (session : ℕ) (table : List ℕ) (key : ℕ) (text : List ℕ) → (first_turn s session (Update table key text)).reply ≢ Some (Refused Usage)
+unfolding first_turn update_turn
+update_never_usage s session table key text = table_other s _ table _ _ (other_read_only s.base.image) (other_when _ _ (λ e. cc)) (λ spot chain. row_other s chain key _)
+
+pub delete_never_usage : (s : Seen) (session : ℕ) (table : List ℕ) (key : ℕ) → (first_turn s session (Delete table key)).reply ≢ Some (Refused Usage)
+unfolding first_turn delete_turn
+delete_never_usage s session table key = table_other s _ table _ _ (other_read_only s.base.image) none_other (λ spot chain. row_other s chain key _)
+
+pub get_never_usage : (s : Seen) (session : ℕ) (table : List ℕ) (key : ℕ) → (first_turn s session (Get table key)).reply ≢ Some (Refused Usage)
+unfolding first_turn get_turn
+get_never_usage s session table key = table_other s _ table _ _ none_other none_other (λ spot chain. spot_other s _ _ _ (λ e. cc) (λ row e. cc))
+
+pub scan_never_usage : (s : Seen) (session : ℕ) (table : List ℕ) → (first_turn s session (Scan table)).reply ≢ Some (Refused Usage)
+unfolding first_turn scan_turn
+scan_never_usage s session table = table_other s _ table _ _ none_other none_other (λ spot chain e. cc)
+
 pub built_never_usage : (statement : Statement) → IsTrue (is_built statement) → (s : Seen) (session : ℕ) → (first_turn s session statement).reply ≢ Some (Refused Usage)
-unfolding first_turn header_turn
+unfolding first_turn header_turn image_turn
 built_never_usage (CreateDb name size raw cache) h = λ s session e. cc
 built_never_usage (OpenDb name cache) h = λ s session e. cc
 built_never_usage PageNew h = λ s session. new_never_usage s session
@@ -539,11 +591,21 @@ built_never_usage (Read p) h = λ s session. read_never_usage s session p
 built_never_usage BeginBackup h = λ s session. begin_never_usage s session
 built_never_usage EndBackup h = λ s session. end_never_usage s session
 built_never_usage (Backup level name) h = λ s session. backup_never_usage s session level name
+built_never_usage (BackupSince guid name) h = λ s session. since_never_usage s session guid name
 built_never_usage (CopyTo name) h = λ s session. copy_never_usage s session name
 built_never_usage (Forced on) h = λ s session. forced_never_usage s session on
 built_never_usage (SetAccess closed) h = λ s session. access_never_usage s session closed
 built_never_usage Sync h = λ s session e. cc
 built_never_usage ShowHeader h = λ s session e. cc
+built_never_usage ShowPages h = λ s session. pages_never_usage s session
+built_never_usage ShowImage h = λ s session e. cc
+built_never_usage (CreateTable table) h = λ s session. create_never_usage s session table
+built_never_usage (DropTable table) h = λ s session. drop_never_usage s session table
+built_never_usage (Insert table key text) h = λ s session. insert_never_usage s session table key text
+built_never_usage (Update table key text) h = λ s session. update_never_usage s session table key text
+built_never_usage (Delete table key) h = λ s session. delete_never_usage s session table key
+built_never_usage (Get table key) h = λ s session. get_never_usage s session table key
+built_never_usage (Scan table) h = λ s session. scan_never_usage s session table
 built_never_usage other h = absurd (true≢false (sym h))
 
 -- the reply is a refusal

@@ -4,21 +4,23 @@ use Rattle.std.specs.Prelude.{Bool, true, false, not, ◌==◌, nat_lt, Option, 
 use Rattle.std.proofs.lemmas.Bool.{true≢false, eqb-true, lt-ltb}
 use Rattle.std.proofs.lemmas.Bool.Decides.{leb_tells}
 use Rattle.nb_host.specs.declared.refusals.Refusal.{Refusal}
-use Rattle.nb_host.specs.declared.refusals.Refusal.TheVariants.{WrongState, NoHistory}
+use Rattle.nb_host.specs.declared.refusals.Refusal.TheVariants.{WrongState, NoHistory, NoGuid}
 use Rattle.nb_model.specs.declared.reply.Reply.{Reply}
 use Rattle.nb_model.specs.declared.reply.Reply.TheVariants.{Scn, Refused}
 use Rattle.nb_model.specs.declared.statement.Statement.{Statement}
-use Rattle.nb_model.specs.declared.statement.Statement.TheVariants.{CreateDb, OpenDb, PageNew, Write, Read, Free, BeginBackup, EndBackup, Backup, CopyTo, Forced, Access as SetAccess, Sync, ShowHeader}
+use Rattle.nb_model.specs.declared.statement.Statement.TheVariants.{CreateDb, OpenDb, PageNew, Write, Read, Free, BeginBackup, EndBackup, Backup, BackupSince, CopyTo, CreateTable, DropTable, Insert, Update, Delete, Get, Scan, Forced, Access as SetAccess, Sync, ShowHeader, ShowPages, ShowImage}
 use Rattle.nb_model.specs.Account.{Ask}
-use Rattle.nb_model.specs.Backups.{room_in, ask_of, starts, backup_turn, copy_turn}
+use Rattle.nb_host.specs.Names.{same_name}
+use Rattle.nb_model.specs.Backups.{room_in, ask_of, level_behind, starts, backup_turn, since_turn, copy_turn, pages_turn}
 use Rattle.nb_model.specs.Built.{is_built}
 use Rattle.nb_model.specs.Causes.{Cause, first_cause, when, read_only, not_state, no_scn, not_free, is_free_entry, runs_other, runs_any, broken_at, not_of_form, no_room}
-use Rattle.nb_model.specs.Chains.{History, Spot, pages_of, backup_spot, level_in}
+use Rattle.nb_model.specs.Chains.{Chain, History, Slot, Spot, pages_of, backup_spot, level_in, guid_in}
 use Rattle.nb_model.specs.Forms.{Draft}
 use Rattle.nb_model.specs.Image.{Image, image_state, image_scn, is_read_only}
 use Rattle.nb_model.specs.Outcomes.{Copies, ClosesBackup, ClosesCopy, Seen, Outcome, next_guid, without_guid, says, unless, changes}
-use Rattle.nb_model.specs.Pages.{new_turn, write_turn, read_turn, free_turn, begin_turn, end_turn, ends_by, end_scn, forced_turn, access_turn, header_turn}
+use Rattle.nb_model.specs.Pages.{new_turn, write_turn, read_turn, free_turn, begin_turn, end_turn, ends_by, end_scn, forced_turn, access_turn, header_turn, image_turn}
 use Rattle.nb_model.specs.Strokes.{begin}
+use Rattle.nb_model.specs.Tables.{with_spot, in_table, in_row, create_turn, drop_turn, insert_turn, update_turn, delete_turn, get_turn, scan_turn}
 use Rattle.nb_model.specs.Turns.{first_turn}
 use Rattle.nb_model.specs.Well.{is_on_pages}
 use Rattle.nb_model.proofs.PutSound.{no_first, not_when}
@@ -26,24 +28,27 @@ use Rattle.nb_model.proofs.PutSound.{no_first, not_when}
 false_true : false ≡ true → ⊥
 false_true h = cc
 
--- The statements that can be asked: those on pages, and four that begin and end backups.
+-- The statements that can be asked: those on pages, and five that begin and end backups and copies.
 pub built_cases : (P : Statement → Type 0) → ((statement : Statement) → is_built statement ≡ true → is_on_pages statement ≡ true → P statement) → P BeginBackup → P EndBackup
-    → ((level : ℕ) (name : List ℕ) → P (Backup level name)) → ((name : List ℕ) → P (CopyTo name)) → (statement : Statement) → is_built statement ≡ true → P statement
-built_cases P pages begins ends backs copies (CreateDb name size raw cache) built = pages (CreateDb name size raw cache) built refl
-built_cases P pages begins ends backs copies (OpenDb name cache) built = pages (OpenDb name cache) built refl
-built_cases P pages begins ends backs copies PageNew built = pages PageNew built refl
-built_cases P pages begins ends backs copies (Write p text) built = pages (Write p text) built refl
-built_cases P pages begins ends backs copies (Read p) built = pages (Read p) built refl
-built_cases P pages begins ends backs copies (Free p) built = pages (Free p) built refl
-built_cases P pages begins ends backs copies BeginBackup built = begins
-built_cases P pages begins ends backs copies EndBackup built = ends
-built_cases P pages begins ends backs copies (Backup level name) built = backs level name
-built_cases P pages begins ends backs copies (CopyTo name) built = copies name
-built_cases P pages begins ends backs copies (Forced on) built = pages (Forced on) built refl
-built_cases P pages begins ends backs copies (SetAccess closed) built = pages (SetAccess closed) built refl
-built_cases P pages begins ends backs copies Sync built = pages Sync built refl
-built_cases P pages begins ends backs copies ShowHeader built = pages ShowHeader built refl
-built_cases P pages begins ends backs copies other built = absurd (false_true built)
+    → ((level : ℕ) (name : List ℕ) → P (Backup level name)) → ((guid name : List ℕ) → P (BackupSince guid name)) → ((name : List ℕ) → P (CopyTo name)) → (statement : Statement) → is_built statement ≡ true → P statement
+built_cases P pages begins ends backs sinces copies (CreateDb name size raw cache) built = pages (CreateDb name size raw cache) built refl
+built_cases P pages begins ends backs sinces copies (OpenDb name cache) built = pages (OpenDb name cache) built refl
+built_cases P pages begins ends backs sinces copies PageNew built = pages PageNew built refl
+built_cases P pages begins ends backs sinces copies (Write p text) built = pages (Write p text) built refl
+built_cases P pages begins ends backs sinces copies (Read p) built = pages (Read p) built refl
+built_cases P pages begins ends backs sinces copies (Free p) built = pages (Free p) built refl
+built_cases P pages begins ends backs sinces copies BeginBackup built = begins
+built_cases P pages begins ends backs sinces copies EndBackup built = ends
+built_cases P pages begins ends backs sinces copies (Backup level name) built = backs level name
+built_cases P pages begins ends backs sinces copies (BackupSince guid name) built = sinces guid name
+built_cases P pages begins ends backs sinces copies (CopyTo name) built = copies name
+built_cases P pages begins ends backs sinces copies (Forced on) built = pages (Forced on) built refl
+built_cases P pages begins ends backs sinces copies (SetAccess closed) built = pages (SetAccess closed) built refl
+built_cases P pages begins ends backs sinces copies Sync built = pages Sync built refl
+built_cases P pages begins ends backs sinces copies ShowHeader built = pages ShowHeader built refl
+built_cases P pages begins ends backs sinces copies ShowPages built = pages ShowPages built refl
+built_cases P pages begins ends backs sinces copies ShowImage built = pages ShowImage built refl
+built_cases P pages begins ends backs sinces copies other built = absurd (false_true built)
 
 -- it is refused
 abbrev pub refused : Seen → Refusal → Outcome
@@ -55,7 +60,7 @@ unless_either P s None o denied done = done refl
 unless_either P s (Some r) o denied done = denied r
 
 -- tests that don't apply
-no_cause : first_cause [] ≡ None
+pub no_cause : first_cause [] ≡ None
 unfolding first_cause
 no_cause = refl
 
@@ -182,27 +187,33 @@ unfolding starts
 starts_either P s session name ask missing denied done =
     unless_either P s (start_cause s name missing) (started s session name ask) denied (λ none. let facts = start_facts s name missing none in done facts.0 facts.1)
 
--- from which row a backup of that level goes on: none for level 0, and for others one that is there
-pub data IsFrom (image : Image) : (level : ℕ) → Option Spot → Type 0 where
-  whole : IsFrom image 0 None
-  since : (below : ℕ) (row : Spot) → backup_spot (λ slot. level_in slot == below) image ≡ Some row → IsFrom image (suc below) (Some row)
+-- from which backup one goes on: from none, or from that of a row of the history that is there
+pub data IsFrom (image : Image) (ask : Ask) : Type 0 where
+  whole : ask ≡ ask_of 0 None → IsFrom image ask
+  since : (level : ℕ) (test : Slot → Bool) (row : Spot) → backup_spot test image ≡ Some row → ask ≡ ask_of level (Some row) → IsFrom image ask
 
-pub backup_either : (P : Outcome → Type 0) (s : Seen) (session level : ℕ) (name : List ℕ) → ((r : Refusal) → P (refused s r))
-    → ((from : Option Spot) → IsFrom s.base.image level from → MayStart s name → P (started s session name (ask_of level from))) → P (backup_turn s session level name)
-unfolding backup_turn
-backup_either P s session zero name denied done = starts_either P s session name (ask_of 0 None) None denied (λ may none. done None whole may)
-backup_either P s session (suc below) name denied done =
-    let from : Option Spot = backup_spot (λ slot. level_in slot == below) s.base.image in
-    starts_either P s session name (ask_of (suc below) from) (when (is_none from) (NoHistory below)) denied (λ may found. by from refl found may)
+-- a backup since the last row that passes a test, where its level goes by the row
+since_row : (P : Outcome → Type 0) (s : Seen) (session : ℕ) (name : List ℕ) (test : Slot → Bool) (level : Option Spot → ℕ) (missing : Refusal) → ((r : Refusal) → P (refused s r))
+    → ((ask : Ask) → IsFrom s.base.image ask → MayStart s name → P (started s session name ask))
+    → P (starts s session name (ask_of (level (backup_spot test s.base.image)) (backup_spot test s.base.image)) (when (is_none (backup_spot test s.base.image)) missing))
+since_row P s session name test level missing denied done =
+    let from : Option Spot = backup_spot test s.base.image in
+    starts_either P s session name (ask_of (level from) from) (when (is_none from) missing) denied (λ may found. by from refl found may)
   where
-    by : (from : Option Spot) → backup_spot (λ slot. level_in slot == below) s.base.image ≡ from → when (is_none from) (NoHistory below) ≡ None → MayStart s name → P (started s session name (ask_of (suc below) from))
-    by (Some row) is found may = done (Some row) (since below row is) may
+    by : (from : Option Spot) → backup_spot test s.base.image ≡ from → when (is_none from) missing ≡ None → MayStart s name → P (started s session name (ask_of (level from) from))
+    by (Some row) is found may = done (ask_of (level (Some row)) (Some row)) (since (level (Some row)) test row is refl) may
     by None is found may = absurd (true≢false (not_when true _ found))
 
-pub ask_level : (level : ℕ) (from : Option Spot) → (ask_of level from).level ≡ level
-unfolding ask_of
-ask_level level None = refl
-ask_level level (Some row) = refl
+pub backup_either : (P : Outcome → Type 0) (s : Seen) (session level : ℕ) (name : List ℕ) → ((r : Refusal) → P (refused s r))
+    → ((ask : Ask) → IsFrom s.base.image ask → MayStart s name → P (started s session name ask)) → P (backup_turn s session level name)
+unfolding backup_turn
+backup_either P s session zero name denied done = starts_either P s session name (ask_of 0 None) None denied (λ may none. done (ask_of 0 None) (whole refl) may)
+backup_either P s session (suc below) name denied done = since_row P s session name (λ slot. level_in slot == below) (λ from. suc below) (NoHistory below) denied done
+
+pub since_either : (P : Outcome → Type 0) (s : Seen) (session : ℕ) (guid name : List ℕ) → ((r : Refusal) → P (refused s r))
+    → ((ask : Ask) → IsFrom s.base.image ask → MayStart s name → P (started s session name ask)) → P (since_turn s session guid name)
+unfolding since_turn
+since_either P s session guid name denied done = since_row P s session name (λ slot. same_name (guid_in slot) guid) level_behind (NoGuid guid) denied done
 
 -- `copy`
 pub record MayCopy (s : Seen) (name : List ℕ) : Type 0 where
@@ -252,8 +263,25 @@ changes_once : (s : Seen) (cs : List Cause) (d : Draft) (reply : Reply) → IsOn
 unfolding changes
 changes_once s cs d reply = unless_once s _ _ (record { next = refl; running = refl; made = refl; given = refl })
 
+-- so does one on tables
+spot_once : (s : Seen) (o : Option Spot) (r : Refusal) (go : Spot → Outcome) → ((spot : Spot) → IsOnce s (go spot)) → IsOnce s (with_spot s o r go)
+unfolding with_spot
+spot_once s None r go h = refused_once s r
+spot_once s (Some spot) r go h = h spot
+
+table_once : (s : Seen) (before : Cause) (table : List ℕ) (behind : Cause) (go : Spot → Chain → Outcome) → ((spot : Spot) (chain : Chain) → IsOnce s (go spot chain)) → IsOnce s (in_table s before table behind go)
+unfolding in_table
+table_once s before table behind go h = unless_once s _ _ (spot_once s _ _ _ (λ spot. unless_once s _ _ (h spot _)))
+
+row_once : (s : Seen) (chain : Chain) (key : ℕ) (bytes : Slot) → IsOnce s (in_row s chain key bytes)
+unfolding in_row
+row_once s chain key bytes = spot_once s _ _ _ (λ row. changes_once s _ _ _)
+
+says_once : (s : Seen) (reply : Reply) → IsOnce s (says s reply [])
+says_once s reply = record { next = refl; running = refl; made = refl; given = refl }
+
 pub pages_once : (statement : Statement) → is_built statement ≡ true → is_on_pages statement ≡ true → (s : Seen) (session : ℕ) → IsOnce s (first_turn s session statement)
-unfolding first_turn new_turn write_turn read_turn free_turn forced_turn access_turn header_turn
+unfolding first_turn new_turn write_turn read_turn free_turn forced_turn access_turn header_turn pages_turn image_turn create_turn drop_turn insert_turn update_turn delete_turn get_turn scan_turn
 pages_once (CreateDb name size raw cache) is on s session = record { next = refl; running = refl; made = refl; given = refl }
 pages_once (OpenDb name cache) is on s session = record { next = refl; running = refl; made = refl; given = refl }
 pages_once PageNew is on s session = changes_once s _ _ _
@@ -264,8 +292,18 @@ pages_once (Forced forced) is on s session = unless_once s _ _ (record { next = 
 pages_once (SetAccess closed) is on s session = unless_once s _ _ (record { next = refl; running = refl; made = refl; given = refl })
 pages_once Sync is on s session = record { next = refl; running = refl; made = refl; given = refl }
 pages_once ShowHeader is on s session = record { next = refl; running = refl; made = refl; given = refl }
+pages_once ShowPages is on s session = unless_once s _ _ (record { next = refl; running = refl; made = refl; given = refl })
+pages_once ShowImage is on s session = record { next = refl; running = refl; made = refl; given = refl }
 pages_once BeginBackup is on s session = absurd (false_true on)
 pages_once EndBackup is on s session = absurd (false_true on)
 pages_once (Backup level name) is on s session = absurd (false_true on)
+pages_once (BackupSince guid name) is on s session = absurd (false_true on)
 pages_once (CopyTo name) is on s session = absurd (false_true on)
+pages_once (CreateTable table) is on s session = changes_once s _ _ _
+pages_once (DropTable table) is on s session = table_once s _ table _ _ (λ spot chain. changes_once s _ _ _)
+pages_once (Insert table key text) is on s session = table_once s _ table _ _ (λ spot chain. changes_once s _ _ _)
+pages_once (Update table key text) is on s session = table_once s _ table _ _ (λ spot chain. row_once s chain key _)
+pages_once (Delete table key) is on s session = table_once s _ table _ _ (λ spot chain. row_once s chain key _)
+pages_once (Get table key) is on s session = table_once s _ table _ _ (λ spot chain. spot_once s _ _ _ (λ row. says_once s _))
+pages_once (Scan table) is on s session = table_once s _ table _ _ (λ spot chain. says_once s _)
 pages_once other is on s session = absurd (false_true is)

@@ -6,11 +6,12 @@ use Rattle.std.proofs.lemmas.Bool.{true≢false}
 use Rattle.nb_fields.specs.Fresh.{fresh}
 use Rattle.nb_fields.specs.Places.{is_page_size}
 use Rattle.nb_model.specs.declared.statement.Statement.{Statement}
-use Rattle.nb_model.specs.declared.statement.Statement.TheVariants.{CreateDb, OpenDb, PageNew, Write, Read, Free, Forced, Access, Sync, ShowHeader, ShowPages, ShowImage, ShowCache}
+use Rattle.nb_model.specs.declared.statement.Statement.TheVariants.{CreateDb, OpenDb, PageNew, Write, Read, Free, CreateTable, DropTable, Insert, Update, Delete, Get, Scan, Forced, Access, Sync, ShowHeader, ShowPages, ShowImage, ShowCache}
 use Rattle.nb_model.specs.Image.{Page, Image, with_page}
 use Rattle.nb_model.specs.Account.{Base, base_of, Kept}
 use Rattle.nb_model.specs.Strokes.{Stroke}
-use Rattle.nb_model.specs.Outcomes.{Seen, Outcome}
+use Rattle.nb_model.specs.Going.{IsNamed}
+use Rattle.nb_model.specs.Outcomes.{Begins, Seen, Outcome}
 use Rattle.nb_model.specs.Pages.{image_turn, cache_turn}
 use Rattle.nb_model.specs.Backups.{pages_turn}
 use Rattle.nb_model.specs.Turns.{first_turn}
@@ -23,8 +24,10 @@ use Rattle.nb_model.proofs.FreshSound.{fresh_sound, fresh_past}
 use Rattle.nb_model.proofs.SoundLaws.{HasFields, FitsAt, header_stays, state_stays, fields_stay, page_sound}
 use Rattle.nb_model.proofs.PutSound.{header_whole}
 use Rattle.nb_model.proofs.PastLaws.{page_past}
-use Rattle.nb_model.proofs.PagesFit.{HasNoRows, pages_fit}
+use Rattle.nb_model.proofs.NoRows.{HasNoRows}
+use Rattle.nb_model.proofs.PagesFit.{pages_fit}
 use Rattle.nb_model.proofs.NormalLaws.{IsNormal, normal_front}
+use Rattle.nb_model.proofs.TablePaged.{create_paged, drop_paged, insert_paged, update_paged, delete_paged, get_paged, scan_paged}
 use Rattle.nb_model.proofs.OpeningLaws.{WritesPages, IsPaged, guarded_paged, write_paged, read_paged, new_paged, free_paged, forced_paged, access_paged, sync_paged, header_paged}
 
 -- a new database is well
@@ -70,8 +73,8 @@ pub none_stays : (kept : List Kept) (b : Base) → IsWellBase kept b → StaysWe
 none_stays kept b w = fitting_stays kept b [] w tt
 
 -- After each front of the strokes of a statement on pages the database is well,
-pub pages_keep : (kept : List Kept) (statement : Statement) → is_on_pages statement ≡ true → (s : Seen) (session : ℕ) → IsWellBase kept s.base → StaysWell kept s.base (first_turn s session statement).strokes
-pages_keep kept statement h s session w = fitting_stays kept s.base _ w (pages_fit statement h s session (well_header kept s.base.image w.well) w.well.sound)
+pub pages_keep : (kept : List Kept) (statement : Statement) → is_on_pages statement ≡ true → IsNamed (Begins statement) → (s : Seen) (session : ℕ) → IsWellBase kept s.base → StaysWell kept s.base (first_turn s session statement).strokes
+pages_keep kept statement h named s session w = fitting_stays kept s.base _ w (pages_fit statement h named s session (well_header kept s.base.image w.well) w.well.sound)
 
 -- and it writes pages alone.
 pub pages_paged : (statement : Statement) → is_on_pages statement ≡ true → IsPaged statement
@@ -89,6 +92,13 @@ pages_paged ShowHeader h = header_paged
 pages_paged ShowPages h = λ s session. guarded_paged s _ _ (record { made = refl; pages = tt; next = refl })
 pages_paged ShowImage h = λ s session. record { made = refl; pages = tt; next = refl }
 pages_paged ShowCache h = λ s session. record { made = refl; pages = tt; next = refl }
+pages_paged (CreateTable table) h = λ s session. create_paged s table
+pages_paged (DropTable table) h = λ s session. drop_paged s table
+pages_paged (Insert table key text) h = λ s session. insert_paged s table key text
+pages_paged (Update table key text) h = λ s session. update_paged s table key text
+pages_paged (Delete table key) h = λ s session. delete_paged s table key
+pages_paged (Get table key) h = λ s session. get_paged s table key
+pages_paged (Scan table) h = λ s session. scan_paged s table
 pages_paged other h = absurd (true≢false (sym h))
 
 -- A turn that keeps the database well, makes no file, and leaves nothing to do.
@@ -97,7 +107,7 @@ pub record TurnsWell (kept : List Kept) (b : Base) (o : Outcome) : Type 0 where
   pub made : o.made ≡ None
   pub next : o.next ≡ []
 
-pub turn_well : (kept : List Kept) (s : Seen) (session : ℕ) (statement : Statement) → is_on_pages statement ≡ true → IsWellBase kept s.base → TurnsWell kept s.base (first_turn s session statement)
-turn_well kept s session statement on w =
+pub turn_well : (kept : List Kept) (s : Seen) (session : ℕ) (statement : Statement) → is_on_pages statement ≡ true → IsNamed (Begins statement) → IsWellBase kept s.base → TurnsWell kept s.base (first_turn s session statement)
+turn_well kept s session statement on named w =
     let paged : WritesPages (first_turn s session statement) = pages_paged statement on s session in
-    record { stays = pages_keep kept statement on s session w; made = paged.made; next = paged.next }
+    record { stays = pages_keep kept statement on named s session w; made = paged.made; next = paged.next }

@@ -4,11 +4,12 @@ use Rattle.std.specs.Prelude.{IsTrue, true, Contains}
 use Rattle.nb_fields.specs.Fresh.{fresh}
 use Rattle.nb_fields.specs.Places.{is_page_size}
 use Rattle.nb_fields.specs.Header.{is_header}
+use Rattle.nb_model.specs.Going.{IsNamed}
 use Rattle.nb_model.specs.declared.statement.Statement.{Statement}
 use Rattle.nb_model.specs.Image.{Page, Image, first_page, image_state, image_scn, image_guid, with_page}
 use Rattle.nb_model.specs.Account.{Kept, Base, base_of}
 use Rattle.nb_model.specs.Strokes.{Stroke, page, merged_page, on_base}
-use Rattle.nb_model.specs.Outcomes.{Seen}
+use Rattle.nb_model.specs.Outcomes.{Begins, Seen}
 use Rattle.nb_model.specs.Turns.{first_turn}
 use Rattle.nb_model.specs.Sound.{IsSoundImage, HasHeader}
 use Rattle.nb_model.specs.Stands.{IsKeptAs, GoesOn, HasRows, NamesPast}
@@ -20,7 +21,8 @@ use Rattle.nb_model.proofs.FitLaws.{IsWhole, IsFitting, AreFitting}
 use Rattle.nb_model.proofs.SoundLaws.{FitsAt, header_stays, fields_stay, state_stays, guid_stays, page_sound}
 use Rattle.nb_model.proofs.PutSound.{header_whole}
 use Rattle.nb_model.proofs.PastLaws.{goes_on_still, rows_with, past_with, past_written, no_rows_pass}
-use Rattle.nb_model.proofs.PagesFit.{HasNoRows, pages_fit}
+use Rattle.nb_model.proofs.NoRows.{HasNoRows}
+use Rattle.nb_model.proofs.PagesFit.{pages_fit}
 use Rattle.nb_model.proofs.WellLaws.{fresh_well_base}
 use Rattle.nb_model.proofs.NormalLaws.{IsQuiet, quiet, told_whole}
 use Rattle.nb_model.proofs.TrailLaws.{last_there, trail_base}
@@ -181,12 +183,12 @@ fitting_well kept (s ∷ ss) t fits w (suc k) =
     fitting_well kept ss (after_stroke s t) (subst (λ (b : Base). AreFitting HasNoRows b ss) (sym (trail_base s t)) fits.1) (one_well kept s t fits.0 w) k
 
 -- So do statements on pages,
-pub pages_keep_trail : (kept : List Kept) (statement : Statement) → is_on_pages statement ≡ true → (s : Seen) (session : ℕ) (t : Trail) → s.base ≡ t.base → IsWellTrail kept t
+pub pages_keep_trail : (kept : List Kept) (statement : Statement) → is_on_pages statement ≡ true → IsNamed (Begins statement) → (s : Seen) (session : ℕ) (t : Trail) → s.base ≡ t.base → IsWellTrail kept t
     → (k : ℕ) → IsWellTrail kept (after_strokes (take k (first_turn s session statement).strokes) t)
-pages_keep_trail kept statement on s session t is w =
+pages_keep_trail kept statement on named s session t is w =
     let header : HasHeader s.base.image = subst (λ (b : Base). HasHeader b.image) (sym is) (record { header = w.base.well.header; scn = w.base.well.scn }) in
     let sound : IsSoundImage s.base.image = subst (λ (b : Base). IsSoundImage b.image) (sym is) w.base.well.sound in
-    fitting_well kept (first_turn s session statement).strokes t (subst (λ (b : Base). AreFitting HasNoRows b (first_turn s session statement).strokes) is (pages_fit statement on s session header sound)) w
+    fitting_well kept (first_turn s session statement).strokes t (subst (λ (b : Base). AreFitting HasNoRows b (first_turn s session statement).strokes) is (pages_fit statement on named s session header sound)) w
 
 -- and where all is kept for good the trail is well too.
 pub settling_well : (kept : List Kept) (t : Trail) → IsWellTrail kept t → IsWellTrail kept (settled t.base)

@@ -14,7 +14,7 @@ is_built (Free page) = true
 is_built BeginBackup = true
 is_built EndBackup = true
 is_built (Backup level name) = true
-is_built (BackupSince guid name) = false
+is_built (BackupSince guid name) = true
 is_built (CopyTo name) = true
 is_built (CreateTable table) = false
 is_built (DropTable table) = false
@@ -27,8 +27,8 @@ is_built (Forced on) = true
 is_built (Access read_only) = true
 is_built Sync = true
 is_built ShowHeader = true
-is_built ShowPages = false
-is_built ShowImage = false
+is_built ShowPages = true
+is_built ShowImage = true
 is_built ShowCache = false
 
 -- a line that gives the order of turns, `schedule ..` or `seed ..`

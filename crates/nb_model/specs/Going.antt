@@ -5,9 +5,10 @@ use Rattle.nb_fields.specs.Places.{is_inventory_place, is_scn_place}
 use Rattle.nb_fields.specs.Header.{is_header}
 use Rattle.nb_host.specs.Names.{is_name}
 use Rattle.nb_model.specs.declared.reply.Reply.{Reply}
-use Rattle.nb_model.specs.declared.statement.Statement.TheVariants.{Backup, BackupSince, CopyTo}
+use Rattle.nb_model.specs.declared.statement.Statement.TheVariants.{Backup, BackupSince, CopyTo, CreateTable}
 use Rattle.nb_model.specs.Built.{is_built}
 use Rattle.nb_model.specs.Image.{Image, first_page, image_size, image_state}
+use Rattle.nb_model.specs.TableNames.{is_table_name}
 use Rattle.nb_model.specs.Causes.{is_free_entry}
 use Rattle.nb_model.specs.Outcomes.{Turn, Begins, Copies, ClosesBackup, ClosesCopy, Ends, Merges, Finishes, Backing}
 use Rattle.nb_model.specs.Run.{Now, base_now}
@@ -37,11 +38,12 @@ AreMerging (Ends reply ∷ ts) = ⊥
 AreMerging (Merges ∷ ts) = AreMerging ts
 AreMerging (Finishes reply ∷ ts) = AreBeginnings ts
 
--- The file that a turn will make has a name, and the GUID of a backup under way has 16 bytes.
+-- The file that a turn will make has a name, and so has a table, and the GUID of a backup under way has 16 bytes.
 abbrev pub IsNamed : Turn → Type 0
 IsNamed (Begins (Backup level name)) = is_name name ≡ true
 IsNamed (Begins (BackupSince guid name)) = is_name name ≡ true
 IsNamed (Begins (CopyTo name)) = is_name name ≡ true
+IsNamed (Begins (CreateTable table)) = is_table_name table ≡ true
 IsNamed (Begins other) = Unit {0}
 IsNamed Copies = Unit {0}
 IsNamed (ClosesBackup backing) = (is_name backing.name ≡ true) × (length backing.guid ≡ 16)

@@ -10,6 +10,7 @@ pub mod Outcomes
 pub mod Pages
 pub mod Chains
 pub mod Rows
+pub mod RowChanges
 pub mod Tables
 pub mod Levels
 pub mod Backups

@@ -1,5 +1,5 @@
 -- The rows of a table, as a finite map from keys to texts.
-use Rattle.std.specs.Prelude.{◌≡◌, ◌≢◌, ℕ, List, [], ◌∷◌, ◌++◌, Some, None, Ok, true, false, nat_lt, nat_eq, Option}
+use Rattle.std.specs.Prelude.{◌≡◌, ◌≢◌, ℕ, ◌<◌, List, [], ◌∷◌, ◌++◌, Some, None, Ok, true, false, nat_lt, nat_eq, Option}
 use Rattle.std.specs.List.{AllByRecursion}
 use Rattle.nb_model.specs.Image.{Image}
 use Rattle.nb_model.specs.Forms.{is_free_page}
@@ -8,6 +8,11 @@ use Rattle.nb_model.specs.Chains.{Chain, Catalogue, History, RowsFrom, Spot, spo
 -- a finite map: key and text of each row, keys rising
 abbrev pub RowMap : Type 0
 RowMap = List (ℕ × List ℕ)
+
+-- each key is above the one before it
+abbrev pub IsRising : RowMap → Type 0
+IsRising [] = Unit {0}
+IsRising (r ∷ rs) = AllByRecursion (λ (s : ℕ × List ℕ). r.0 < s.0) rs × IsRising rs
 
 -- the map with that text under the key
 unfoldable pub with_row : (key : ℕ) (text : List ℕ) → RowMap → RowMap

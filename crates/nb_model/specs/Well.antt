@@ -7,6 +7,7 @@ use Rattle.nb_model.specs.Image.{Image, first_page, image_state, image_scn, imag
 use Rattle.nb_model.specs.Account.{Kept, Base, base_of}
 use Rattle.nb_model.specs.Strokes.{Stroke, base_after, records_after}
 use Rattle.nb_model.specs.Outcomes.{Turn, Begins, Copies, ClosesBackup, ClosesCopy, Ends, Merges, Finishes}
+use Rattle.nb_model.specs.Going.{IsNamed}
 use Rattle.nb_model.specs.Sound.{IsSoundImage}
 use Rattle.nb_model.specs.Stands.{IsKeptAs, IsRaised, HasOldEntries, NamesItsPast}
 
@@ -52,8 +53,8 @@ pub record StaysWell (kept : List Kept) (b : Base) (strokes : List Stroke) : Typ
   pub well : (k : ℕ) → IsWellBase kept (base_after b (take k strokes))
   pub records : (k : ℕ) → records_after b (take k strokes) ≡ []
 
--- A statement on raw pages or on a byte of the header, or one that shows what stands, or waits for it to be durable. Behind the first
--- statement of a run, creating and opening do nothing.
+-- A statement on raw pages, on tables or on a byte of the header, or one that shows what stands, or waits for it to be durable. Behind
+-- the first statement of a run, creating and opening do nothing.
 abbrev pub is_on_pages : Statement → Bool
 is_on_pages (CreateDb name page_size raw cache) = true
 is_on_pages (OpenDb name cache) = true
@@ -66,13 +67,13 @@ is_on_pages EndBackup = false
 is_on_pages (Backup level name) = false
 is_on_pages (BackupSince guid name) = false
 is_on_pages (CopyTo name) = false
-is_on_pages (CreateTable table) = false
-is_on_pages (DropTable table) = false
-is_on_pages (Insert table key text) = false
-is_on_pages (Update table key text) = false
-is_on_pages (Delete table key) = false
-is_on_pages (Get table key) = false
-is_on_pages (Scan table) = false
+is_on_pages (CreateTable table) = true
+is_on_pages (DropTable table) = true
+is_on_pages (Insert table key text) = true
+is_on_pages (Update table key text) = true
+is_on_pages (Delete table key) = true
+is_on_pages (Get table key) = true
+is_on_pages (Scan table) = true
 is_on_pages (Forced on) = true
 is_on_pages (Access read_only) = true
 is_on_pages Sync = true
@@ -81,9 +82,9 @@ is_on_pages ShowPages = true
 is_on_pages ShowImage = true
 is_on_pages ShowCache = true
 
--- a turn that begins such a statement
+-- a turn that begins such a statement, with names of the form
 abbrev pub IsTurnOnPages : Turn → Type 0
-IsTurnOnPages (Begins statement) = is_on_pages statement ≡ true
+IsTurnOnPages (Begins statement) = (is_on_pages statement ≡ true) × IsNamed (Begins statement)
 IsTurnOnPages Copies = ⊥
 IsTurnOnPages (ClosesBackup backing) = ⊥
 IsTurnOnPages (ClosesCopy name) = ⊥

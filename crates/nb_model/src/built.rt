@@ -17,11 +17,14 @@ pub fn is_built(statement: &Statement) -> bool
         | Statement::BeginBackup
         | Statement::EndBackup
         | Statement::Backup { .. }
+        | Statement::BackupSince { .. }
         | Statement::CopyTo { .. }
         | Statement::Forced { .. }
         | Statement::Access { .. }
         | Statement::Sync
-        | Statement::ShowHeader => true,
+        | Statement::ShowHeader
+        | Statement::ShowPages
+        | Statement::ShowImage => true,
         _ => false,
     }
 }

@@ -4,12 +4,12 @@ ghost use Rattle.nb_model.specs.Account.{Account, Ask, Base, IsBase, Kept, Plain
 ghost use Rattle.nb_model.specs.Earlier.{IsEarlier, IsSoundTrail, LowersNone};
 ghost use Rattle.nb_model.specs.Follows.{Follows, IsMixed};
 ghost use Rattle.nb_model.specs.Forms.{drafted, give_page, new_page, put, take_page};
-ghost use Rattle.nb_model.specs.Going.{AreBeginnings, AreNamed, IsGoing};
+ghost use Rattle.nb_model.specs.Going.{AreBeginnings, AreNamed, IsGoing, IsNamed};
 ghost use Rattle.nb_model.specs.Image.{Image, Numbered, Page, first_page, image_guid, image_scn, image_size, image_state, is_forced, is_read_only, overwritten, page_at, with_page, written_at};
 ghost use Rattle.nb_model.specs.Levels.{Head, IsLevel, read_level, taken};
 ghost use Rattle.nb_model.specs.Line.{AreZeroPages, HoldLine, HoldsFirst, IsLine, first_file, last_in, next_files};
 ghost use Rattle.nb_model.specs.Making.{IsNoBackup, IsOfKept, MadeFile};
-ghost use Rattle.nb_model.specs.Outcomes.{DoesNothing, Seen};
+ghost use Rattle.nb_model.specs.Outcomes.{Begins, DoesNothing, Seen};
 ghost use Rattle.nb_model.specs.Output.{acked};
 ghost use Rattle.nb_model.specs.Owner.{delta_name, entry_for, entry_in, owned, owner, slot_page};
 ghost use Rattle.nb_model.specs.Pagewise.{AgreesWith, IsPagewise};
@@ -221,9 +221,9 @@ pub fn well_trails_begin()
         → IsWellTrail account.kept (settled b) }
 {}
 
-/// A trail stays well at each point of a statement on pages, in whatever state, and where all is kept for good.
+/// A trail stays well at each point of a statement on pages or on tables, in whatever state, and where all is kept for good.
 pub fn well_trails_stay_well()
-    ensures pages { (kept : List Kept) (statement : Statement) (s : Seen) (session : ℕ) (t : Trail) (k : ℕ) → is_on_pages statement ≡ true → s.base ≡ t.base → IsWellTrail kept t
+    ensures pages { (kept : List Kept) (statement : Statement) (s : Seen) (session : ℕ) (t : Trail) (k : ℕ) → is_on_pages statement ≡ true → IsNamed (Begins statement) → s.base ≡ t.base → IsWellTrail kept t
         → IsWellTrail kept (after_strokes (take k (first_turn s session statement).strokes) t) }
     ensures settled { (kept : List Kept) (t : Trail) → IsWellTrail kept t → IsWellTrail kept (settled t.base) }
 {}

@@ -5,8 +5,8 @@
 //! and why it is refused), `Turns` over `Pages`, `Tables` and `Backups` (what one turn of a session does), `Run` and `Output` (a
 //! script, what it says and what is acknowledged), `Owner`, `Main`, `Sound` and `Stands` (what files mean), `Levels`, `Restoring`,
 //! `InPlace` and `Follows` (level files and lineage), `Waiting` and `Pagewise` (forced writes off), `Trail` and `WellTrail` (what a
-//! stop may leave), `Words` and `Jobs`. A layer above cites them in its contracts. `laws` shows that they mean what they say, and
-//! `worked` computes examples.
+//! stop may leave), `Words` and `Jobs`. A layer above cites them in its contracts. `laws` and `table_laws` show that they mean what they
+//! say, and `worked` computes examples.
 #![tactic(auto)]
 
 mod built;
@@ -15,6 +15,7 @@ pub mod laws;
 mod reply;
 mod rows;
 mod statement;
+pub mod table_laws;
 mod table_name;
 mod text;
 pub mod worked;

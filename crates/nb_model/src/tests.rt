@@ -50,6 +50,7 @@ fn names_of_tables(rt: HostRuntime) {
     assert!(rt; is_built(&Statement::Read { page: 0 }));
     assert!(rt; is_built(&Statement::Free { page: 5 }));
     assert!(rt; is_built(&Statement::EndBackup));
-    assert!(rt; !is_built(&Statement::ShowPages));
+    assert!(rt; is_built(&Statement::ShowPages));
+    assert!(rt; !is_built(&Statement::ShowCache));
     assert!(rt; are_schedules_built());
 }

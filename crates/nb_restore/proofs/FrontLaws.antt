@@ -4,21 +4,21 @@ use Rattle.std.specs.Prelude.{Bool, IsTrue, Some, Result, OnOk}
 use Rattle.std.proofs.lemmas.List.{take-append-le, take-take, length-take-le, length-replicate}
 use Rattle.nb_host.specs.Files.{File, Files, bytes_of, padded, put_at, with_file, with_page}
 use Rattle.nb_host.specs.World.{World}
-use Rattle.nb_host.specs.Crash.{PageLeft}
-use Rattle.nb_host.specs.Calls.{IsStill, WritesPage}
+use Rattle.nb_host.specs.Crash.{AppendLeft, PageLeft}
+use Rattle.nb_host.specs.Calls.{AppendsBytes, IsStill, WritesPage}
 use Rattle.nb_host.specs.Moments.{IsTimely, Passes}
 use Rattle.nb_change.specs.Changes.{Changes, Only, Moved}
 use Rattle.nb_change.proofs.NameLaws.{with_file-same}
 use Rattle.nb_change.proofs.ResultLaws.{whole_on_ok, on_ok_then}
-use Rattle.nb_change.proofs.CallLaws.{page_alone}
+use Rattle.nb_change.proofs.CallLaws.{bytes_alone, page_alone}
 use Rattle.nb_change.proofs.MovedLaws.{moved_begun, moved_still, moved_joined}
 use Rattle.nb_restore.specs.Copied.{BeginsWith, KeepsFront}
 
--- zeros behind, and a page behind
-front_grown : (front : List ℕ) (n : ℕ) (b : File) → BeginsWith front b → BeginsWith front (Some (bytes_of b ++ replicate n 0))
-front_grown front n b begins = record {
-  long = omega (arith, length-append (bytes_of b) (replicate n 0), begins.long);
-  is = take-append-le 64 (bytes_of b) (replicate n 0) begins.long ∙ begins.is;
+-- bytes behind, and a page behind
+front_grown : (front more : List ℕ) (b : File) → BeginsWith front b → BeginsWith front (Some (bytes_of b ++ more))
+front_grown front more b begins = record {
+  long = omega (arith, length-append (bytes_of b) more, begins.long);
+  is = take-append-le 64 (bytes_of b) more begins.long ∙ begins.is;
 }
 
 front_put : (front : List ℕ) (at : ℕ) (page : List ℕ) (b : File) → 64 ≤ at → BeginsWith front b → BeginsWith front (with_page b at page)
@@ -40,7 +40,11 @@ keeps_none b front begins = begins
 pub keeps_page : (at : ℕ) (page : List ℕ) (b c : File) → 64 ≤ at → PageLeft at page b c → KeepsFront b c
 keeps_page at page b c far (inl same) front begins = subst (λ (f : File). BeginsWith front f) (sym same) begins
 keeps_page at page b c far (inr (inl put)) front begins = subst (λ (f : File). BeginsWith front f) (sym put) (front_put front at page b far begins)
-keeps_page at page b c far (inr (inr (k, fits, grown))) front begins = subst (λ (f : File). BeginsWith front f) (sym grown) (front_grown front (k * length page) b begins)
+keeps_page at page b c far (inr (inr (k, fits, grown))) front begins = subst (λ (f : File). BeginsWith front f) (sym grown) (front_grown front (replicate (k * length page) 0) b begins)
+
+pub keeps_bytes : (len : ℕ) (bytes : List ℕ) (b c : File) → AppendLeft len bytes b c → KeepsFront b c
+keeps_bytes len bytes b c (inl same) front begins = subst (λ (f : File). BeginsWith front f) (sym same) begins
+keeps_bytes len bytes b c (inr (torn, from, there, grown)) front begins = subst (λ (f : File). BeginsWith front f) (sym grown) (front_grown front torn b begins)
 
 -- page n lies behind the header
 pub far_behind : (n size : ℕ) → 1 ≤ n → 1024 ≤ size → 64 ≤ n * size
@@ -69,15 +73,21 @@ module _ (name : List ℕ) where
   front_page tells result old new n page told some wide timely writes silent time =
       page_alone tells result old new name (n * length page) page KeepsFront told timely writes silent time (λ b c was next. keeps_page (n * length page) page b c (far_behind n (length page) some wide) next)
 
+  -- bytes are appended, also where that fails
+  pub front_bytes : {T E : Type 0} (tells : Bool) (result : Result T E) (old new : World) (bytes : List ℕ) → IsTrue tells → IsTimely old → AppendsBytes tells result old new name bytes → new.said ≡ old.said → Passes old new
+      → Changes old new (Only name) (Moved old name KeepsFront)
+  front_bytes tells result old new bytes told timely appends silent time =
+      bytes_alone tells result old new name bytes KeepsFront told timely appends silent time (λ b c was next. keeps_bytes (length (bytes_of (old.files name))) bytes b c next)
+
   -- one run of calls after another
   pub front_joined : (old mid new : World) → Changes old mid (Only name) (Moved old name KeepsFront) → Changes mid new (Only name) (Moved mid name KeepsFront) → Changes old new (Only name) (Moved old name KeepsFront)
   front_joined old mid new first second =
       moved_joined old mid new name KeepsFront KeepsFront KeepsFront first second (λ b c was by. by) (λ b c d was left one two front begins. two front (one front begins))
 
-  -- and then a call that changes no file, or a page behind page 0
+  -- and then a call that changes no file, or appends bytes
   pub front_then_still : (old mid new : World) → Changes old mid (Only name) (Moved old name KeepsFront) → IsTimely mid → IsStill mid new → new.said ≡ mid.said → Passes mid new → Changes old new (Only name) (Moved old name KeepsFront)
   front_then_still old mid new so_far timely still silent time = front_joined old mid new so_far (front_still mid new timely still silent time)
 
-  pub front_then_page : {T E : Type 0} (tells : Bool) (result : Result T E) (old mid new : World) (n : ℕ) (page : List ℕ) → IsTrue tells → 1 ≤ n → 1024 ≤ length page → Changes old mid (Only name) (Moved old name KeepsFront) → IsTimely mid
-      → WritesPage tells result mid new name (n * length page) page → new.said ≡ mid.said → Passes mid new → Changes old new (Only name) (Moved old name KeepsFront)
-  front_then_page tells result old mid new n page told some wide so_far timely writes silent time = front_joined old mid new so_far (front_page tells result mid new n page told some wide timely writes silent time)
+  pub front_then_bytes : {T E : Type 0} (tells : Bool) (result : Result T E) (old mid new : World) (bytes : List ℕ) → IsTrue tells → Changes old mid (Only name) (Moved old name KeepsFront) → IsTimely mid → AppendsBytes tells result mid new name bytes
+      → new.said ≡ mid.said → Passes mid new → Changes old new (Only name) (Moved old name KeepsFront)
+  front_then_bytes tells result old mid new bytes told so_far timely appends silent time = front_joined old mid new so_far (front_bytes tells result mid new bytes told timely appends silent time)

@@ -3,6 +3,7 @@ pub mod CopiedLaws
 pub mod FrontLaws
 pub mod LevelLaws
 pub mod PageLaws
+pub mod PieceLaws
 pub mod TargetLaws
 pub mod HeadLaws
 pub mod FinishLaws

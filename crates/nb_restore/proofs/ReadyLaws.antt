@@ -1,38 +1,31 @@
 -- What a plan gives: the target holds level 0, and then all that is written over it.
-use Rattle.std.proofs.Common.{◌≡◌, ◌≢◌, ℕ, ◌≤◌, List, [], ◌∷◌, length, drop, refl, sym, ap, subst, ◌∙◌, arith}
+use Rattle.std.proofs.Common.{◌≡◌, ◌≢◌, ℕ, ◌*◌, ◌≤◌, List, [], ◌∷◌, ◌++◌, length, drop, sym, ap, subst, ◌∙◌, arith}
 use Rattle.std.specs.Prelude.{Some, Ok}
-use Rattle.std.proofs.lemmas.List.{append-nil}
 use Rattle.nb_host.specs.Files.{File, Files, bytes_of}
-use Rattle.nb_model.specs.Image.{Page, Image, first_page, overwritten}
-use Rattle.nb_model.specs.Levels.{numbered_from}
+use Rattle.nb_model.specs.Image.{Page, first_page}
+use Rattle.nb_model.specs.Levels.{joined}
 use Rattle.nb_model.specs.Restoring.{Link}
 use Rattle.nb_level.specs.Reading.{Reading, still_to_come}
-use Rattle.nb_chain.proofs.ImageLaws.{writes_all}
-use Rattle.nb_restore.specs.Copied.{Holds, Overwrites}
+use Rattle.nb_model.specs.Sound.{IsOfSize}
+use Rattle.nb_model.proofs.ImageLaws.{drop-joined}
+use Rattle.nb_restore.specs.Copied.{Holds}
 use Rattle.nb_restore.specs.Sources.{IsLevel0, AreReady}
 use Rattle.nb_restore.proofs.HeadLaws.{HasHead, AllHeaded}
 
--- The target with one page alone, and page 0 held.
-begun_holds : (size : ℕ) (page first : Page) → length page ≡ size → length first ≡ size → Holds size page first (first ∷ []) (Some page)
-begun_holds size page first long wide = record {
-  reads = ap Some (sym (append-nil page));
-  long = long;
-  sizes = (wide, tt);
-  some = omega arith;
-  most = omega arith;
-  page_0 = refl;
-}
-
--- page 0 and those behind it are all pages
-level_0-is : (size : ℕ) (ps : List Page) → 1 ≤ length ps → overwritten size (numbered_from 1 (drop 1 ps)) (first_page ps ∷ []) ≡ ps
-level_0-is size [] some = absurd (omega arith)
-level_0-is size (p ∷ ps) some = writes_all size 1 (p ∷ []) ps refl
-
--- with the pages of level 0 the target holds level 0
-pub level_0_holds : (size : ℕ) (page first : Page) (ps : List Page) (after : File) → length page ≡ size → length first ≡ size → 1 ≤ length ps → first ≡ first_page ps → Overwrites size (numbered_from 1 (drop 1 ps)) (Some page) after first first
+-- with all of level 0 behind its start the target holds level 0, but for its page 0
+pub level_0_holds : (size : ℕ) (page first : Page) (ps : List Page) (after : File) → length page ≡ size → IsOfSize size ps → 1 ≤ length ps → length ps ≤ 1048576 → first ≡ first_page ps → after ≡ Some (page ++ drop size (joined ps))
     → Holds size page first ps after
-level_0_holds size page first ps after long wide some is over =
-    subst (λ (x : Image). Holds size page first x after) (ap (λ (p : Page). overwritten size (numbered_from 1 (drop 1 ps)) (p ∷ [])) is ∙ level_0-is size ps some) (over page (first ∷ []) (begun_holds size page first long wide))
+level_0_holds size page first ps after long sizes some most is copied =
+    let one : 1 * size ≡ size = omega arith in
+    let behind : drop size (joined ps) ≡ joined (drop 1 ps) = ap (λ k. drop k (joined ps)) (sym one) ∙ drop-joined size 1 ps sizes some in
+    record {
+      reads = copied ∙ ap (λ (xs : List ℕ). Some (page ++ xs)) behind;
+      long = long;
+      sizes = sizes;
+      some = some;
+      most = most;
+      page_0 = is;
+    }
 
 -- and has its page 0
 pub level_0_head : (files : Files) (target name : List ℕ) (size count : ℕ) (ps : List Page) → IsLevel0 files target name size count ps → HasHead size 5 ps

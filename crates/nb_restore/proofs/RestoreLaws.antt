@@ -23,10 +23,25 @@ use Rattle.nb_model.specs.Trail.{ShowsIn}
 use Rattle.nb_model.proofs.MainLaws.{owner_main}
 use Rattle.nb_restore.specs.declared.plan.Plan.{Plan}
 use Rattle.nb_restore.specs.Copied.{IsDone}
-use Rattle.nb_restore.specs.Plan.{IsPrepared}
+use Rattle.nb_restore.specs.Plan.{IsPrepared, PlanSays}
 use Rattle.nb_restore.specs.Restore.{base_from, RestoreLeft, RestoreAnswers, Restores}
 use Rattle.nb_restore.specs.Target.{IsFreeOr, IsPlan, KeepsImage, restored}
 use Rattle.nb_restore.proofs.AnswerLaws.{err_ok}
+
+-- no plan was made, so nothing is done
+pub not_prepared : (old mid : World) (target : List ℕ) (names : List (List ℕ)) (fault : Fault) → Quiet old mid → PlanSays old.files target names (Err fault) → Restores (Err fault) old mid target names
+not_prepared old mid target names fault quiet says = record {
+  answer = answers fault says;
+  left = rested old mid (Only target) (RestoreLeft old target names) quiet.still quiet.said quiet.moments (λ files left. inl (left target));
+  gave = record { guids = quiet.guids; times = quiet.times };
+  taken = λ taken. quiet;
+  broken = λ refusal broken. quiet;
+}
+  where
+    answers : (f : Fault) → PlanSays old.files target names (Err f) → RestoreAnswers (Err f) old mid target names
+    answers (Refused refusal) refused = (quiet, refused)
+    answers Device failed = tt
+    answers Memory wants = quiet
 
 module _ (old mid new : World) (target : List ℕ) (names : List (List ℕ)) (plan : Plan) (quiet : Quiet old mid) (prepared : IsPrepared old.files target names plan) where
   abbrev image : Image

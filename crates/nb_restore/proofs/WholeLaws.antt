@@ -1,19 +1,19 @@
 -- The target from its making to its page 0 in the normal state.
-use Rattle.std.proofs.Common.{◌≡◌, inl, ℕ, ◌*◌, ◌≤◌, List, length, drop, sym, subst, ◌∙◌, arith}
+use Rattle.std.proofs.Common.{◌≡◌, inl, ℕ, ◌*◌, ◌≤◌, List, ◌++◌, length, drop, sym, subst, ◌∙◌, arith}
 use Rattle.std.specs.Prelude.{IsTrue, Some}
 use Rattle.nb_fields.specs.Places.{is_page_size}
 use Rattle.nb_fields.proofs.SizeLemmas.{size_facts}
-use Rattle.nb_host.specs.Files.{File, with_page}
+use Rattle.nb_host.specs.Files.{with_page}
 use Rattle.nb_host.specs.World.{World}
 use Rattle.nb_host.specs.Crash.{Leaves, PageLeft}
 use Rattle.nb_change.specs.Changes.{Changes, Only, Moved, Remade}
 use Rattle.nb_change.proofs.MovedLaws.{remade_weaker}
 use Rattle.nb_model.specs.Image.{Page, Image, trimmed}
-use Rattle.nb_model.specs.Levels.{joined, numbered_from}
+use Rattle.nb_model.specs.Levels.{joined}
 use Rattle.nb_model.specs.Restoring.{Link, all_over}
 use Rattle.nb_model.specs.Strokes.{fixed}
 use Rattle.nb_level.specs.Reading.{Reading}
-use Rattle.nb_restore.specs.Copied.{Holds, KeepsFront, Overwrites, OverwritesAll}
+use Rattle.nb_restore.specs.Copied.{Holds, KeepsFront, OverwritesAll}
 use Rattle.nb_restore.specs.Sources.{AreReady}
 use Rattle.nb_restore.specs.Target.{IsFree, IsFreeOr, IsKept, IsPlan, IsUnfinishedPage, KeepsImage, restored}
 use Rattle.nb_restore.proofs.FinishLaws.{normal_page, written_whole, last_left}
@@ -57,12 +57,12 @@ module _ (old mid : World) (target level_0 : List ℕ) (size count : ℕ) (reade
 
   -- the pages of level 0 and of the level files were written
   pub all_written : (copied new : World) (wide : ℕ) (last : Page) → wide ≡ size → Changes mid copied (Only target) (Moved mid target KeepsFront) → Changes copied new (Only target) (Moved copied target KeepsFront)
-      → ((f : Page) → Overwrites size (numbered_from 1 (drop 1 pages)) (mid.files target) (copied.files target) f f) → OverwritesAll wide links (copied.files target) (new.files target) first last
+      → copied.files target ≡ Some (page ++ drop size (joined pages)) → OverwritesAll wide links (copied.files target) (new.files target) first last
       → IsWritten old new target size page last (all_over links pages)
-  all_written copied new wide last same first_part second_part over_0 over =
+  all_written copied new wide last same first_part second_part level_0_is over =
       let some : 1 ≤ length pages = omega (arith, begun.plan.whole.least, begun.plan.whole.long) in
       let held : Holds size page first pages (copied.files target) =
-      level_0_holds size page first pages (copied.files target) begun.long begun.wide some begun.plan.page_0 (subst (λ (f : File). Overwrites size (numbered_from 1 (drop 1 pages)) f (copied.files target) first first) begun.kept.reads (over_0 first)) in
+      level_0_holds size page first pages (copied.files target) begun.long begun.plan.whole.sizes some (omega (arith, begun.plan.whole.long, begun.plan.whole.most)) begun.plan.page_0 level_0_is in
       record {
         size_is = begun.size_is;
         stands = begun.plan.stands;

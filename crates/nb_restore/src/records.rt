@@ -1,12 +1,12 @@
-ghost use Rattle.std.specs.Prelude.{◌≡◌, ◌≢◌, ◌*◌, ◌≤◌, ◌<◌, ℕ, IsTrue, List, Ok, OnOk, Some, [], ◌∷◌, length, drop};
+ghost use Rattle.std.specs.Prelude.{◌≡◌, ◌≢◌, ◌+◌, ◌^◌, ◌++◌, ◌≤◌, ◌<◌, ℕ, IsTrue, List, Ok, OnOk, Some, [], ◌∷◌, length, take, drop};
 ghost use Rattle.nb_fields.specs.Places.{is_page_size};
 ghost use Rattle.nb_host.specs.Causes.{CountsFault};
-ghost use Rattle.nb_host.specs.Files.{bytes_of};
+ghost use Rattle.nb_host.specs.Files.{bytes_of, with_bytes};
 ghost use Rattle.nb_change.specs.Changes.{Changes, Only, Moved};
 ghost use Rattle.nb_change.specs.Counts.{CountsDevice};
 ghost use Rattle.nb_change.specs.Gave.{GaveNothing};
 ghost use Rattle.nb_model.specs.Image.{Page, Numbered};
-ghost use Rattle.nb_model.specs.Levels.{joined, numbered_from};
+ghost use Rattle.nb_model.specs.Levels.{joined};
 ghost use Rattle.nb_model.specs.Restoring.{Link};
 ghost use Rattle.nb_model.specs.Sound.{IsOfSize};
 ghost use Rattle.nb_level.specs.Reading.{still_to_come};
@@ -39,30 +39,69 @@ fn put_page<H: Host>(
     host.write_page(target, number, page)
 }
 
-/// Copies the pages of level 0 from page 1 on, each as it stands there.
+/// How long the piece of level 0 is that begins at that byte: it ends at a multiple of the longest piece, or where level 0 ends.
+fn piece_at(at: u64, end: u64, longest: usize) -> usize
+    requires some { 0 < longest }
+    requires below { at < end }
+    ensures some { 0 < result }
+    ensures room { result ≤ longest }
+    ensures inside { at + result ≤ end }
+{
+    let longest = longest as u64 - at % longest as u64;
+    longest.min(end - at) as usize
+}
+
+/// Copies a piece of level 0, from that byte on, to the end of the target.
+fn copy_piece<H: Host>(
+    host: &mut H,
+    target: &Name,
+    file: &Name,
+    at: u64,
+    piece: &mut [u8],
+) -> Result<(), Fault>
+    requires { at < 2 ^ 62 }
+    ensures left { IsTrue H.tells → Changes (H.world host.old) (H.world host.new) (Only target.now) (Moved (H.world host.old) target.now KeepsFront) }
+    ensures bytes { IsTrue H.tells → (bytes : List ℕ) → (H.world host.old).files file.now ≡ Some bytes → at + length piece.old ≤ length bytes
+        → IsDone result ((H.world host.new).files target.now ≡ with_bytes ((H.world host.old).files target.now) (take (length piece.old) (drop at bytes))) }
+    ensures gave { GaveNothing (H.world host.old) (H.world host.new) }
+    ensures cause { CountsDevice result (H.faults host.old) (H.faults host.new) }
+{
+    let got = host.read_at(file, at, piece)?;
+    if got < piece.len() {
+        return Err(Fault::Refused(Refusal::BadLevel {
+            name: file.copied(),
+            at: at + got as u64,
+        }));
+    }
+    host.append(target, piece)?;
+    Ok(())
+}
+
+/// Copies level 0 from page 1 on, as it stands there, behind the page that the target has. It goes by pieces, not by pages: the
+/// system takes large ones with less work.
 pub(crate) fn copy_pages<H: Host>(
     host: &mut H,
     target: &Name,
     file: &Name,
+    page_size: u32,
     pages: u32,
-    page: &mut [u8],
+    piece: &mut [u8],
 ) -> Result<(), Fault>
-    requires size { IsTrue (is_page_size (length page.old)) }
+    requires size { IsTrue (is_page_size page_size) }
     requires most { pages ≤ 1048576 }
+    requires piece { 0 < length piece.old }
     ensures left { IsTrue H.tells → Changes (H.world host.old) (H.world host.new) (Only target.now) (Moved (H.world host.old) target.now KeepsFront) }
-    ensures pages { IsTrue H.tells → (ps : List Page) → file.now ≢ target.now → (H.world host.old).files file.now ≡ Some (joined ps) → IsOfSize (length page.old) ps → length ps ≡ pages
-        → IsDone result ((first : Page) → Overwrites (length page.old) (numbered_from 1 (drop 1 ps)) ((H.world host.old).files target.now) ((H.world host.new).files target.now) first first) }
+    ensures pages { IsTrue H.tells → (ps : List Page) (start : Page) → file.now ≢ target.now → (H.world host.old).files file.now ≡ Some (joined ps) → IsOfSize page_size ps → length ps ≡ pages
+        → (H.world host.old).files target.now ≡ Some start → IsDone result ((H.world host.new).files target.now ≡ Some (start ++ drop page_size (joined ps))) }
     ensures gave { GaveNothing (H.world host.old) (H.world host.new) }
     ensures cause { CountsDevice result (H.faults host.old) (H.faults host.new) }
 {
-    for number in 1..pages {
-        if !host.read_page(file, number, page)? {
-            return Err(Fault::Refused(Refusal::BadLevel {
-                name: file.copied(),
-                at: u64::from(number) * page.len() as u64,
-            }));
-        }
-        host.write_page(target, number, page)?;
+    let end = u64::from(pages) * u64::from(page_size);
+    let mut at = u64::from(page_size);
+    while at < end {
+        let count = piece_at(at, end, piece.len());
+        copy_piece(host, target, file, at, &mut piece[..count])?;
+        at += count as u64;
     }
     Ok(())
 }

@@ -7,6 +7,9 @@ use crate::target::write_target;
 use nb_host::{Fault, Host, Name};
 use std::alloc::Global;
 
+/// How long the pieces are in which level 0 is copied, in bytes.
+const PIECE: usize = 262_144;
+
 /// Restores a chain of 1 to 10 backup files into a new database, and answers how many pages that has.
 ///
 /// The database is the image of the chain in the normal state: the pages of level 0, with the pages of each further level
@@ -29,6 +32,7 @@ pub fn restore<H: Host>(
     ensures restores { IsTrue H.tells → Restores result (H.world host.old) (H.world host.new) target.now files.now }
     ensures cause { CountsDevice result (H.faults host.old) (H.faults host.new) }
 {
+    let mut piece = vec![in alloc; 0; PIECE]?;
     let Plan {
         count,
         pages,
@@ -37,7 +41,7 @@ pub fn restore<H: Host>(
         readers,
     } = prepare(alloc, host, target, files)?;
     write_target(
-        host, target, &files[0], pages, readers, &mut first, &mut page,
+        host, target, &files[0], pages, readers, &mut first, &mut page, &mut piece,
     )?;
     Ok(count)
 }

@@ -1,4 +1,4 @@
-ghost use Rattle.std.specs.Prelude.{◌≡◌, ◌*◌, ◌≤◌, IsTrue, List, OnOk, Some, [], length};
+ghost use Rattle.std.specs.Prelude.{◌≡◌, ◌*◌, ◌<◌, ◌≤◌, IsTrue, List, OnOk, Some, [], length};
 ghost use Rattle.nb_fields.specs.Places.{is_page_size};
 ghost use Rattle.nb_host.specs.Causes.{CountsFault};
 ghost use Rattle.nb_host.specs.Crash.{PageLeft};
@@ -53,9 +53,11 @@ pub(crate) fn write_target<H: Host>(
     readers: Vec<LevelReader>,
     first: &mut [u8],
     page: &mut [u8],
+    piece: &mut [u8],
 ) -> Result<(), Fault>
     requires size { IsTrue (is_page_size (length page.old)) }
     requires most { pages ≤ 1048576 }
+    requires piece { 0 < length piece.old }
     requires readers { AreOfPages (length page.old) readers.items }
     requires first { length first.old ≡ length page.old }
     ensures left { IsTrue H.tells → (ps : List Page) (links : List Link) → IsPlan (H.world host.old).files target.now file.now (length page.old) pages readers.items first.old page.old ps links
@@ -66,7 +68,7 @@ pub(crate) fn write_target<H: Host>(
     ensures cause { CountsDevice result (H.faults host.old) (H.faults host.new) }
 {
     begin(host, target, page)?;
-    copy_pages(host, target, file, pages, page)?;
+    copy_pages(host, target, file, page.len() as u32, pages, piece)?;
     write_levels(host, target, readers, first, page)?;
     header::State::put(first, 0);
     finish(host, target, first)?;

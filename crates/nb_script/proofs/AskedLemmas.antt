@@ -15,8 +15,8 @@ use Rattle.nb_script.specs.Statements.{built, statement_at, spelled_at, session_
 use Rattle.nb_script.specs.FirstLine.{first_at, first_spelled, database_at}
 use Rattle.nb_script.specs.Scripts.{Plan, Numbered, started, statements_of, with_statement, or_bad, with_lines, order_in, with_order, of_lines, script_of, IsAnswer}
 use Rattle.nb_script.specs.Lines.{lines_of, left}
-use Rattle.nb_script.specs.Fits.{Fits, FitsFirst, FitsOrder, IsSession}
-use Rattle.nb_script.specs.Asked.{opens, IsFirst, IsFurther, IsAskable, statement_count}
+use Rattle.nb_script.specs.Fits.{Fits, FitsAsked, FitsFirst, FitsOrder, IsSession}
+use Rattle.nb_script.specs.Asked.{opens, IsFirst, IsFurther, IsFurtherLine, IsAskable, IsSpelled, statement_count}
 use Rattle.nb_script.specs.Order.{order_at}
 use Rattle.nb_script.proofs.FitLaws.{If, nothing, just, tested, follows, any, within_fits, command_fits, database_fits, order_fits}
 
@@ -97,9 +97,9 @@ built_is : (P Q : Statement → Type 0) (o : Option (ℕ × Statement)) → If (
 built_is P Q None has next = nothing
 built_is P Q (Some line) has next = tested (Some line) (is_built line.1) (λ can. let is = has.holds line refl in just line (is.0, is.1, next line.1 is.2 can))
 
-further_line : (line : Bytes) → If (IsLine IsFurther) (statement_at line)
+further_line : (line : Bytes) → If (IsLine IsFurtherLine) (statement_at line)
 unfolding statement_at
-further_line line = built_is Fits IsFurther (spelled_at line) (spelled_fits line) (λ s fits can. record { is_built = can; opens_none = opens_none s fits; fits = fits })
+further_line line = built_is Fits IsFurtherLine (spelled_at line) (spelled_fits line) (λ s fits can. record { is_built = can; opens_none = opens_none s fits; fits = fits })
 
 first_line : (line : Bytes) → If (IsLine IsFirst) (first_at line)
 unfolding first_at
@@ -107,18 +107,18 @@ first_line line = built_is FitsFirst IsFirst (first_spelled line) (first_spelled
 
 -- each list of statements asks only further ones
 abbrev pub AllFurther : List (List Statement) → Type 0
-AllFurther lists = AllByRecursion (AllByRecursion IsFurther) lists
+AllFurther lists = AllByRecursion (AllByRecursion IsFurtherLine) lists
 
-further_at : (lists : List (List Statement)) (i : ℕ) → AllFurther lists → AllByRecursion IsFurther (get_or lists i [])
+further_at : (lists : List (List Statement)) (i : ℕ) → AllFurther lists → AllByRecursion IsFurtherLine (get_or lists i [])
 further_at [] i all = tt
 further_at (l ∷ lists) zero all = all.0
 further_at (l ∷ lists) (suc i) all = further_at lists i all.1
 
-further_push : (statements : List Statement) (s : Statement) → AllByRecursion IsFurther statements → IsFurther s → AllByRecursion IsFurther (statements ++ s ∷ [])
+further_push : (statements : List Statement) (s : Statement) → AllByRecursion IsFurtherLine statements → IsFurtherLine s → AllByRecursion IsFurtherLine (statements ++ s ∷ [])
 further_push [] s all is = (is, tt)
 further_push (k ∷ statements) s all is = (all.0, further_push statements s all.1 is)
 
-further_set : (lists : List (List Statement)) (i : ℕ) (statements : List Statement) → AllFurther lists → AllByRecursion IsFurther statements → AllFurther (set lists i statements)
+further_set : (lists : List (List Statement)) (i : ℕ) (statements : List Statement) → AllFurther lists → AllByRecursion IsFurtherLine statements → AllFurther (set lists i statements)
 further_set [] i statements all is = tt
 further_set (l ∷ lists) zero statements all is = (is, all.1)
 further_set (l ∷ lists) (suc i) statements all is = (all.0, further_set lists i statements all.1 is)
@@ -160,7 +160,7 @@ record Holds (taken : ℕ) (plan : Plan) : Type 0 where
   pub few : taken ≤ 10000
   pub further : AllFurther plan.sessions
 
-holds_more : (taken : ℕ) (plan : Plan) (line : ℕ × Statement) → taken < 10000 → Holds taken plan → IsLine IsFurther line → Holds (taken + 1) (with_statement plan line)
+holds_more : (taken : ℕ) (plan : Plan) (line : ℕ × Statement) → taken < 10000 → Holds taken plan → IsLine IsFurtherLine line → Holds (taken + 1) (with_statement plan line)
 holds_more taken plan line room holds is = record {
   asker = holds.asker;
   first = holds.first;
@@ -176,14 +176,14 @@ holds_first first order is fits = record { asker = (is.0, is.1); first = is.2; o
 
 -- where an answer is a script, it holds
 abbrev IfRead : Result Plan Refusal → Type 0
-IfRead (Ok plan) = IsAskable plan
+IfRead (Ok plan) = IsSpelled plan
 IfRead (Err refusal) = Unit {0}
 
 or_bad_holds : (P : ℕ × Statement → Type 0) (line : Numbered) (o : Option (ℕ × Statement)) (next : ℕ × Statement → Result Plan Refusal) → If P o → ((read : ℕ × Statement) → P read → IfRead (next read)) → IfRead (or_bad line o next)
 or_bad_holds P line None next is all = tt
 or_bad_holds P line (Some read) next is all = all read (is.holds read refl)
 
-askable : (taken : ℕ) (plan : Plan) → Holds taken plan → IsAskable plan
+askable : (taken : ℕ) (plan : Plan) → Holds taken plan → IsSpelled plan
 askable taken plan holds = record {
   asker = holds.asker;
   first = holds.first;
@@ -197,11 +197,11 @@ lines_hold : (taken : ℕ) (plan : Plan) (lines : List Numbered) → Holds taken
 unfolding with_lines
 lines_hold taken plan [] holds = askable taken plan holds
 lines_hold taken plan (line ∷ lines) holds =
-    or_bad_holds (λ read. IsLine IsFurther read × (taken < 10000)) line (if nat_lt taken 10000 then statement_at line.1 else None) (λ read. with_lines (taken + 1) (with_statement plan read) lines)
+    or_bad_holds (λ read. IsLine IsFurtherLine read × (taken < 10000)) line (if nat_lt taken 10000 then statement_at line.1 else None) (λ read. with_lines (taken + 1) (with_statement plan read) lines)
     (tested (statement_at line.1) (nat_lt taken 10000) (λ room. with_room (statement_at line.1) (further_line line.1) (ltb-true taken 10000 room)))
     (λ read is. lines_hold (taken + 1) (with_statement plan read) lines (holds_more taken plan read is.1 holds is.0))
   where
-    with_room : (o : Option (ℕ × Statement)) → If (IsLine IsFurther) o → taken < 10000 → If (λ (read : ℕ × Statement). IsLine IsFurther read × (taken < 10000)) o
+    with_room : (o : Option (ℕ × Statement)) → If (IsLine IsFurtherLine) o → taken < 10000 → If (λ (read : ℕ × Statement). IsLine IsFurtherLine read × (taken < 10000)) o
     with_room o is room = record { holds = λ read same. (is.holds read same, room) }
 
 of_lines_hold : (count : ℕ) (lines : List Numbered) → IfRead (of_lines count lines)
@@ -219,11 +219,27 @@ script_holds bytes = by_test (nat_lt 1048576 (length bytes))
     by_test true = tt
     by_test false = of_lines_hold (length (lines_of bytes)) (left 0 bytes)
 
--- a script that bytes spell is askable
-spelled_is_askable : (bytes : Bytes) (plan : Plan) → script_of bytes ≡ Ok plan → IsAskable plan
-spelled_is_askable bytes plan is = subst IfRead is (script_holds bytes)
+-- what a line can ask can be asked
+line_asks : (s : Statement) → Fits s → FitsAsked s
+line_asks (BackupSince guid name) fits = absurd fits
+line_asks other fits = fits
 
--- and so is a script that was answered
+line_further : (s : Statement) → IsFurtherLine s → IsFurther s
+line_further s is = record { is_built = is.is_built; opens_none = is.opens_none; fits = line_asks s is.fits }
+
+lines_further : (statements : List Statement) → AllByRecursion IsFurtherLine statements → AllByRecursion IsFurther statements
+lines_further [] all = tt
+lines_further (s ∷ statements) all = (line_further s all.0, lines_further statements all.1)
+
+pub spelled_askable : (plan : Plan) → IsSpelled plan → IsAskable plan
+spelled_askable plan is = record { asker = is.asker; first = is.first; order = is.order; sixteen = is.sixteen; few = is.few; further = λ session. lines_further (statements_of plan session) (is.further session) }
+
+-- a script that was answered is spelled by its lines
+pub answer_is_spelled : (bytes : Bytes) (answer : Result Plan Fault) → IsAnswer answer (script_of bytes) → IfOk answer IsSpelled
+answer_is_spelled bytes (Ok plan) is = subst IfRead is (script_holds bytes)
+answer_is_spelled bytes (Err fault) is = tt
+
+-- so it can be asked
 pub answer_is_askable : (bytes : Bytes) (answer : Result Plan Fault) → IsAnswer answer (script_of bytes) → IfOk answer IsAskable
-answer_is_askable bytes (Ok plan) is = spelled_is_askable bytes plan is
+answer_is_askable bytes (Ok plan) is = spelled_askable plan (answer_is_spelled bytes (Ok plan) is)
 answer_is_askable bytes (Err fault) is = tt

@@ -17,7 +17,7 @@ use Rattle.nb_script.specs.Lines.{lines_of, onto_first, numbered, is_skipped, le
 use Rattle.nb_script.specs.Scripts.{Plan, Numbered, with_statement, with_lines, order_in, script_of}
 use Rattle.nb_script.specs.Spelling.{line_text, spaced_sessions, schedule_text, statements_text, sessions_text, script_text}
 use Rattle.nb_script.specs.Fits.{IsSession, FitsOrder}
-use Rattle.nb_script.specs.Asked.{IsFirst, IsFurther, IsAskable, statement_count}
+use Rattle.nb_script.specs.Asked.{IsFirst, IsFurtherLine, IsSpelled, statement_count}
 use Rattle.nb_script.proofs.WordLaws.{digits_of, some_digit, within_again}
 use Rattle.nb_script.proofs.StatementLaws.{statement_again}
 use Rattle.nb_script.proofs.FirstLaws.{first_again}
@@ -79,7 +79,7 @@ module _ (session : ℕ) (s : Statement) (small : session ≤ 16) where
   line_orders_none = digit_orders_none (decimal session) _ (some_digit session (omega arith)) (digits_of session (omega arith))
 
 -- the line of a statement is read as it
-further_read : (session : ℕ) (s : Statement) → IsSession session → IsFurther s → statement_at (line_text session s) ≡ Some (session, s)
+further_read : (session : ℕ) (s : Statement) → IsSession session → IsFurtherLine s → statement_at (line_text session s) ≡ Some (session, s)
 further_read session s range is = statement_again session s range.0 range.1 is.fits ∙ cond-true (is_built s) _ _ is.is_built
 
 first_read : (session : ℕ) (s : Statement) → IsSession session → IsFirst s → first_at (line_text session s) ≡ Some (session, s)
@@ -95,7 +95,7 @@ abbrev session_lines : ℕ → List (List Statement) → List Bytes
 session_lines session [] = []
 session_lines session (statements ∷ others) = statement_lines session statements ++ session_lines (session + 1) others
 
-statements_split : (session : ℕ) (statements : List Statement) (rest : Bytes) → session ≤ 16 → AllByRecursion IsFurther statements
+statements_split : (session : ℕ) (statements : List Statement) (rest : Bytes) → session ≤ 16 → AllByRecursion IsFurtherLine statements
     → lines_of (statements_text session statements ++ rest) ≡ statement_lines session statements ++ lines_of rest
 unfolding statements_text lines_of
 statements_split session [] rest small all = refl
@@ -128,7 +128,7 @@ module _ (asks : ℕ) (first : Statement) (order : List ℕ) where
       ∙ set_at front statements back (statements ++ s ∷ []) (length front) refl)
 
   -- the lines of a session are read
-  session_read : (taken before : ℕ) (front : List (List Statement)) (known statements : List Statement) (back : List (List Statement)) (rest : List Bytes) → length front < 16 → taken + length statements ≤ 10000 → AllByRecursion IsFurther statements
+  session_read : (taken before : ℕ) (front : List (List Statement)) (known statements : List Statement) (back : List (List Statement)) (rest : List Bytes) → length front < 16 → taken + length statements ≤ 10000 → AllByRecursion IsFurtherLine statements
       → with_lines taken (plan_of (front ++ known ∷ back)) (numbered before (statement_lines (length front + 1) statements ++ rest)) ≡ with_lines (taken + length statements) (plan_of (front ++ (known ++ statements) ∷ back)) (numbered (before + length statements) rest)
   session_read taken before front known [] back rest place few all =
       let none : taken + 0 ≡ taken = omega arith in
@@ -226,17 +226,17 @@ orders (session ∷ others) lists is places all =
           ∙ one_ordered (2, line) (numbered 2 (session_lines 1 lists)) order (order_again session others is);
     }
 
-all_further : (lists : List (List Statement)) → ((i : ℕ) → AllByRecursion IsFurther (get_or lists i [])) → AllFurther lists
+all_further : (lists : List (List Statement)) → ((i : ℕ) → AllByRecursion IsFurtherLine (get_or lists i [])) → AllFurther lists
 all_further [] each = tt
 all_further (statements ∷ lists) each = (each 0, all_further lists (λ i. each (suc i)))
 
 -- the text of a script that can be asked is read as that script
-pub read_again : (plan : Plan) → IsAskable plan → length (script_text plan) ≤ 1048576 → script_of (script_text plan) ≡ Ok plan
+pub read_again : (plan : Plan) → IsSpelled plan → length (script_text plan) ≤ 1048576 → script_of (script_text plan) ≡ Ok plan
 unfolding script_text
 read_again plan is short =
     let text : Bytes = schedule_text plan.schedule ++ sessions_text 1 plan.sessions in
     let line : Bytes = line_text plan.first_session plan.first in
-    let all : AllFurther plan.sessions = all_further plan.sessions (λ i. let place : i + 1 - 1 ≡ i = omega arith in subst (λ k. AllByRecursion IsFurther (get_or plan.sessions k [])) place (is.further (i + 1))) in
+    let all : AllFurther plan.sessions = all_further plan.sessions (λ i. let place : i + 1 - 1 ≡ i = omega arith in subst (λ k. AllByRecursion IsFurtherLine (get_or plan.sessions k [])) place (is.further (i + 1))) in
     let orders = orders plan.schedule plan.sessions is.order (omega (arith, is.sixteen)) all in
     let split : left 0 (script_text plan) ≡ (1, line) ∷ numbered 1 (lines_of text) =
     ap (numbered 0) (line_first line text (first_line_unbroken plan.first_session plan.first is.asker.1 is.first.fits)) ∙ kept 0 line (lines_of text) (line_kept plan.first_session plan.first is.asker.1) in
@@ -246,5 +246,5 @@ read_again plan is short =
     ∙ sessions_read plan.first_session plan.first plan.schedule 1 orders.before [] plan.sessions (omega (arith, is.sixteen)) (omega (arith, is.few)) all
 
 -- and so is a text that was printed of it
-pub printed_again : (plan : Plan) (text : Bytes) → text ≡ script_text plan → IsAskable plan → length text ≤ 1048576 → script_of text ≡ Ok plan
+pub printed_again : (plan : Plan) (text : Bytes) → text ≡ script_text plan → IsSpelled plan → length text ≤ 1048576 → script_of text ≡ Ok plan
 printed_again plan text written is short = ap script_of written ∙ read_again plan is (rw (← written) short)

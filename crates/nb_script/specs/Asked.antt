@@ -4,7 +4,7 @@ use Rattle.std.specs.List.{AllByRecursion}
 use Rattle.nb_model.specs.Built.{is_built}
 use Rattle.nb_model.specs.declared.statement.Statement.{Statement}
 use Rattle.nb_model.specs.declared.statement.Statement.TheVariants.{CreateDb, OpenDb}
-use Rattle.nb_script.specs.Fits.{Fits, FitsFirst, FitsOrder, IsSession}
+use Rattle.nb_script.specs.Fits.{Fits, FitsAsked, FitsFirst, FitsOrder, IsSession}
 use Rattle.nb_script.specs.Scripts.{Plan, statements_of}
 
 -- the statement names the database of the script
@@ -21,6 +21,12 @@ pub record IsFirst (statement : Statement) : Type 0 where
 pub record IsFurther (statement : Statement) : Type 0 where
   pub is_built : IsTrue (is_built statement)
   pub opens_none : IsTrue (not (opens statement))
+  pub fits : FitsAsked statement
+
+-- so by a line
+pub record IsFurtherLine (statement : Statement) : Type 0 where
+  pub is_built : IsTrue (is_built statement)
+  pub opens_none : IsTrue (not (opens statement))
   pub fits : Fits statement
 
 -- how many statements these sessions have
@@ -28,11 +34,19 @@ abbrev pub statement_count : List (List Statement) → ℕ
 statement_count [] = 0
 statement_count (statements ∷ others) = length statements + statement_count others
 
--- a script of such statements, 10,000 at most with the first
-pub record IsAskable (script : Plan) : Type 0 where
+-- a script whose further statements are such, 10,000 at most with the first
+pub record IsScriptOf (IsSuch : Statement → Type 0) (script : Plan) : Type 0 where
   pub asker : IsSession script.first_session
   pub first : IsFirst script.first
   pub order : FitsOrder script.schedule
   pub sixteen : length script.sessions ≡ 16
   pub few : statement_count script.sessions < 10000
-  pub further : (session : ℕ) → AllByRecursion IsFurther (statements_of script session)
+  pub further : (session : ℕ) → AllByRecursion IsSuch (statements_of script session)
+
+-- a script that can be asked today
+abbrev pub IsAskable : Plan → Type 0
+IsAskable script = IsScriptOf IsFurther script
+
+-- so by its lines
+abbrev pub IsSpelled : Plan → Type 0
+IsSpelled script = IsScriptOf IsFurtherLine script

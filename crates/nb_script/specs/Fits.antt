@@ -54,6 +54,11 @@ Fits ShowPages = Unit {0}
 Fits ShowImage = Unit {0}
 Fits ShowCache = Unit {0}
 
+-- the values of a further statement that can be asked: by a line, or by words of the command line alone
+abbrev pub FitsAsked : Statement → Type 0
+FitsAsked (BackupSince guid name) = IsFile name
+FitsAsked other = Fits other
+
 -- the values of a statement that a first line can spell
 abbrev pub FitsFirst : Statement → Type 0
 FitsFirst (CreateDb name page_size raw cache) = IsBase name × (is_page_size page_size ≡ true) × (raw ≤ 65535) × (1 ≤ cache) × (cache ≤ 4096)

@@ -2,7 +2,7 @@ ghost use Rattle.std.specs.Prelude.{◌≡◌, ℕ, ◌++◌, ◌≤◌, [], ◌
 ghost use Rattle.std.specs.Fmt.{decimal};
 ghost use Rattle.nb_host.specs.declared.faults.Fault.TheVariants.{Memory};
 ghost use Rattle.nb_model.specs.declared.statement.Statement.TheVariants.{CreateDb, OpenDb, Write, Backup, CopyTo};
-ghost use Rattle.nb_script.specs.Asked.{IsAskable};
+ghost use Rattle.nb_script.specs.Asked.{IsSpelled};
 ghost use Rattle.nb_script.specs.Scripts.{script_of};
 ghost use Rattle.nb_script.specs.Spelling.{quoted, cache_text, sizes_text, row_text_of, command_text, line_text, spaced_sessions, schedule_text, statements_text, sessions_text, script_text};
 
@@ -249,10 +249,10 @@ fn put_script(out: &mut Vec<u8>, script: &Script) -> Result<(), AllocError>
 /// session 1, of session 2, and so on. Each line is ended by a line feed.
 ///
 /// `parse` reads the text of a script that it gave as that script, where the text has at most
-/// 1,048,576 bytes.
+/// 1,048,576 bytes. A backup since a GUID has no line: the words of the command line alone ask for it.
 pub fn print(alloc: Global, script: &Script) -> Result<Vec<u8>, Fault>
     ensures text { IfOk result (λ text. text.items ≡ script_text script.now) }
-    ensures again { IfOk result (λ text. IsAskable script.now → length text.items ≤ 1048576 → script_of text.items ≡ Ok script.now) }
+    ensures again { IfOk result (λ text. IsSpelled script.now → length text.items ≤ 1048576 → script_of text.items ≡ Ok script.now) }
     ensures only_memory { IfErr result (λ fault. fault ≡ Memory) }
 {
     let mut out = Vec::new(alloc);

@@ -1,7 +1,7 @@
 ghost use Rattle.std.specs.Prelude.{◌≡◌, ℕ, ◌≤◌, ◌<◌, nat_lt, IfOk, IfErr, IfSome, None, if◌then◌else◌};
 ghost use Rattle.nb_host.specs.declared.faults.Fault.TheVariants.{Memory, Refused};
 ghost use Rattle.nb_host.specs.declared.refusals.Refusal.TheVariants.{BadScript};
-ghost use Rattle.nb_script.specs.Asked.{IsAskable};
+ghost use Rattle.nb_script.specs.Asked.{IsAskable, IsSpelled};
 ghost use Rattle.nb_script.specs.Statements.{statement_at};
 ghost use Rattle.nb_script.specs.Lines.{left};
 ghost use Rattle.nb_script.specs.Scripts.{IsAnswer, script_of, order_in, with_lines};
@@ -80,6 +80,7 @@ fn add_lines(alloc: Global, mut script: Script, mut lines: Lines<'_>) -> Result<
 #[tactic(auto, unfolding(crate::specs::Scripts::script_of, crate::specs::Scripts::of_lines, crate::specs::Scripts::with_order))]
 pub fn parse(alloc: Global, bytes: &[u8]) -> Result<Script, Fault>
     ensures exact { IsAnswer result (script_of bytes.now) }
+    ensures spelled { IfOk result IsSpelled }
     ensures askable { IfOk result IsAskable }
 {
     if bytes.len() > MOST_BYTES {

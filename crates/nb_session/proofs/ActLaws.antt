@@ -1,7 +1,8 @@
 -- What the calls of the engine make of a turn.
-use Rattle.std.proofs.Common.{◌≡◌, inl, inr, ℕ, List, [], ◌∷◌, ◌++◌, length, drop, replicate, refl, sym, ap, subst, ◌∙◌, arith}
+use Rattle.std.proofs.Common.{◌≡◌, ◌⊎◌, inl, inr, ℕ, List, [], ◌∷◌, ◌++◌, length, drop, replicate, refl, sym, ap, subst, ◌∙◌, arith}
 use Rattle.std.specs.Prelude.{Result, Ok, Err, IsErr, IsErrAnd, Option, Some, None, Contains, true, false}
 use Rattle.std.specs.List.{slice_index_or}
+use Rattle.std.proofs.lemmas.Bool.{true≢false}
 use Rattle.std.proofs.lemmas.List.{append-nil, append_cancel_left}
 use Rattle.nb_host.specs.World.{World}
 use Rattle.nb_host.specs.declared.faults.Fault.{Fault}
@@ -30,14 +31,15 @@ use Rattle.nb_model.proofs.StepsLaws.{steps_plain, after_settling}
 use Rattle.nb_base.specs.Open.{OfFiles}
 use Rattle.nb_base.specs.Takes.{Strikes, after_strokes}
 use Rattle.nb_state.specs.Open.{Held, IsOpen, name_of}
-use Rattle.nb_state.specs.Does.{WhereEnded, Answers, Does}
+use Rattle.nb_state.specs.Does.{WhereEnded, WhereRefused, Answers, Does}
 use Rattle.nb_state.specs.Turns.{GaveAtMost}
 use Rattle.nb_state.proofs.MakesLaws.{where_ended, none_yet}
 use Rattle.nb_engine.specs.Replies.{scn_is}
 use Rattle.nb_engine.specs.Turns.{SaysNone, DoesBegin}
 use Rattle.nb_session.specs.Acts.{Says, Grows, Touched, TurnLeft, AreKept, Acts, MayAct}
 use Rattle.nb_session.specs.Ready.{IsReady}
-use Rattle.nb_session.proofs.EventLaws.{strokes_are_steps}
+use Rattle.nb_session.specs.Replies.{only_tells, has_only_told, only_told}
+use Rattle.nb_session.proofs.EventLaws.{strokes_are_steps, told_reply, unsaid}
 use Rattle.nb_session.proofs.GiftLaws.{given_nothing, grows_none}
 use Rattle.nb_session.proofs.KeepLaws.{begin_gives, begin_refused, begin_running, begin_made}
 use Rattle.nb_session.proofs.TurnLaws.{seen_now, outcome_is}
@@ -82,9 +84,9 @@ ended_map (Err Memory) f is = tt
 -- The answer of one call, said of another.
 module _ {T S : Type 0} (reply : T → Option Reply) (other : S → Option Reply) (old new : World) (a b : Held) (t : Trail) (now : Now) (session : ℕ) (turn : Turn) (files : List MadeFile) where
   by_fault : (fault : Fault) → Acts reply (Err fault) old new a b t now session turn files → Acts other (Err fault) old new a b t now session turn files
-  by_fault (Refused refusal) acts = record { says = acts.says; left = acts.left; opened = acts.opened; running = acts.running; given = acts.given; kept = acts.kept; name = acts.name }
-  by_fault Device acts = record { says = acts.says; left = acts.left; opened = acts.opened; running = acts.running; given = acts.given; kept = acts.kept; name = acts.name }
-  by_fault Memory acts = record { says = acts.says; left = acts.left; opened = acts.opened; running = acts.running; given = acts.given; kept = acts.kept; name = acts.name }
+  by_fault (Refused refusal) acts = record { says = acts.says; left = acts.left; opened = acts.opened; running = acts.running; given = acts.given; kept = acts.kept; unchanged = acts.unchanged; name = acts.name }
+  by_fault Device acts = record { says = acts.says; left = acts.left; opened = acts.opened; running = acts.running; given = acts.given; kept = acts.kept; unchanged = acts.unchanged; name = acts.name }
+  by_fault Memory acts = record { says = acts.says; left = acts.left; opened = acts.opened; running = acts.running; given = acts.given; kept = acts.kept; unchanged = acts.unchanged; name = acts.name }
 
   -- it is passed on at the exit of a `?`
   pub may_passed : (fault : Fault) (result : Result S Fault) → IsErr result × IsErrAnd result (λ e. e ≡ fault) → MayAct reply (Err fault) old new a b t now session turn files → MayAct other result old new a b t now session turn files
@@ -98,24 +100,47 @@ module _ {T S : Type 0} (reply : T → Option Reply) (other : S → Option Reply
   may_then_memory value fault (Err e) memory is may =
       subst (λ (f : Fault). MayAct other (Err f) old new a b t now session turn files) (sym (is.1 ∙ memory)) (record {
         grows = may.grows;
-        acts = λ told. let acts = may.acts told in record { says = tt; left = acts.left; opened = tt; running = tt; given = tt; kept = tt; name = acts.name };
+        acts = λ told. let acts = may.acts told in record { says = tt; left = acts.left; opened = tt; running = tt; given = tt; kept = tt; unchanged = tt; name = acts.name };
       })
 
   -- the same value, said otherwise
   pub may_value : (value : T) (said : S) → reply value ≡ other said → MayAct reply (Ok value) old new a b t now session turn files → MayAct other (Ok said) old new a b t now session turn files
   may_value value said same may = record {
     grows = may.grows;
-    acts = λ told. let acts = may.acts told in record { says = acts.says ∙ same; left = acts.left; opened = acts.opened; running = acts.running; given = acts.given; kept = acts.kept; name = acts.name };
+    acts = λ told. let acts = may.acts told in record { says = acts.says ∙ same; left = acts.left; opened = acts.opened; running = acts.running; given = acts.given; kept = acts.kept; unchanged = acts.unchanged; name = acts.name };
   }
 
 -- the trail behind a turn that waits for nothing
 pub trail_plain : (t : Trail) (e : Event) → e.syncs ≡ false → after_strokes t e.strokes ≡ after_steps t (steps_in e)
 trail_plain t e plain = strokes_are_steps t e.strokes ∙ ap (after_steps t) (sym (steps_plain e plain))
 
+-- What only tells something changes no file: a refusal, and what was read.
+tells_unchanged : {T : Type 0} (reply : T → Reply) (result : Result T Fault) (old new : World) (e : Event) → Says (some_by reply) result e.reply → WhereRefused result (Quiet old new) → ((value : T) → only_tells (reply value) ≡ true → new.files ≡ old.files)
+    → WhereEnded result (only_told e ≡ true → new.files ≡ old.files)
+tells_unchanged reply (Ok value) old new e said quiet telling = λ told. telling value (ap has_only_told (sym said) ∙ told_reply e told)
+tells_unchanged reply (Err (Refused refusal)) old new e said quiet telling = λ told. quiet.still.files
+tells_unchanged reply (Err Device) old new e said quiet telling = tt
+tells_unchanged reply (Err Memory) old new e said quiet telling = tt
+
+-- a refusal changes nothing, and what is held stays
+pub and_quiet : {T : Type 0} (P Q : Type 0) (result : Result T Fault) → WhereRefused result (P × Q) → WhereRefused result Q
+and_quiet P Q (Ok value) is = tt
+and_quiet P Q (Err (Refused refusal)) is = is.1
+and_quiet P Q (Err Device) is = tt
+and_quiet P Q (Err Memory) is = tt
+
+-- A turn that answers a value has nothing to say yet, and a refusal changes nothing.
+pub unsaid_unchanged : {T : Type 0} (result : Result T Fault) (old new : World) (e : Event) → Says (λ value. None) result e.reply → WhereRefused result (Quiet old new) → WhereEnded result (only_told e ≡ true → new.files ≡ old.files)
+unsaid_unchanged (Ok value) old new e said quiet = λ told. absurd (unsaid e said told)
+unsaid_unchanged (Err (Refused refusal)) old new e said quiet = λ told. quiet.still.files
+unsaid_unchanged (Err Device) old new e said quiet = tt
+unsaid_unchanged (Err Memory) old new e said quiet = tt
+
 -- A statement on pages, by what the engine does of its turn.
 pub does_acts : {T : Type 0} (reply : T → Reply) (result : Result T Fault) (old new : World) (a b : Held) (t : Trail) (now : Now) (session : ℕ) (statement it : Statement) → statement ≡ it → is_sync (Begins it) ≡ false → is_on_pages it ≡ true
-    → is_built statement ≡ true → (o : Outcome) → o ≡ first_turn (seen_now now) session it → IsReady old a t now → Does reply result old new a b t o → MayAct (some_by reply) result old new a b t now session (Begins statement) []
-does_acts reply result old new a b t now session statement it is plain on built o turn_is ready does =
+    → is_built statement ≡ true → (o : Outcome) → o ≡ first_turn (seen_now now) session it → IsReady old a t now → ((value : T) → only_tells (reply value) ≡ true → new.files ≡ old.files) → Does reply result old new a b t o
+    → MayAct (some_by reply) result old new a b t now session (Begins statement) []
+does_acts reply result old new a b t now session statement it is plain on built o turn_is ready telling does =
     let this : Outcome = outcome session (Begins statement) now in
     let first : this ≡ first_turn (seen_now now) session statement = outcome_is session statement now in
     let same : o ≡ this = turn_is ∙ ap (first_turn (seen_now now) session) (sym is) ∙ sym first in
@@ -131,6 +156,7 @@ does_acts reply result old new a b t now session statement it is plain on built 
         running = where_ended result _ (does.makes.goes.running ∙ ready.running ∙ sym (ap (λ (x : Outcome). x.running) first ∙ once.running));
         given = where_ended result _ (given_nothing old new now.given this.given does.makes.gave (ap (λ (x : Outcome). x.given) first ∙ once.given));
         kept = where_ended result _ (kept_none new event (ap (λ (x : Outcome). x.made) first ∙ once.made));
+        unchanged = tells_unchanged reply result old new event (subst (λ (x : Outcome). Says (some_by reply) result x.reply) same (as_says reply result o.reply does.answer)) does.refused telling;
         name = does.makes.goes.name;
       };
     }
@@ -164,6 +190,7 @@ module _ (old new : World) (a b : Held) (t : Trail) (now : Now) (session : ℕ) 
       running = ap (λ (h : Held). h.running) same ∙ ready.running ∙ sym (ap (λ (x : Outcome). x.running) sync_turn);
       given = given_nothing old new now.given (outcome session (Begins statement) now).given sync_gave (ap (λ (x : Outcome). x.given) sync_turn);
       kept = kept_none new (event_of session (Begins statement) (outcome session (Begins statement) now)) (ap (λ (x : Outcome). x.made) sync_turn);
+      unchanged = λ told. quiet.still.files;
       name = ap (λ (h : Held). name_of h) same;
     };
   }
@@ -171,22 +198,19 @@ module _ (old new : World) (a b : Held) (t : Trail) (now : Now) (session : ℕ) 
   pub sync_failed : {T : Type 0} (reply : T → Option Reply) → MayAct reply (Err Device) old new a b t now session (Begins statement) []
   sync_failed reply = record {
     grows = grows_none old new sync_gave;
-    acts = λ told. record { says = tt; left = sync_left; opened = tt; running = tt; given = tt; kept = tt; name = ap (λ (h : Held). name_of h) same };
+    acts = λ told. record { says = tt; left = sync_left; opened = tt; running = tt; given = tt; kept = tt; unchanged = tt; name = ap (λ (h : Held). name_of h) same };
   }
 
--- a GUID that was given is the next one that is foretold
-pub next_is : (old new : World) (guid : List ℕ) (given : Given) → new.guids ≡ old.guids ++ guid ∷ [] → Foretells given old new → given.guids ≡ guid ∷ drop 1 given.guids
-next_is old new guid given gave told =
-    let ids : told.ids ≡ guid ∷ [] = append_cancel_left old.guids told.ids (guid ∷ []) (sym told.guids ∙ gave) in
-    let all : given.guids ≡ guid ∷ told.later_ids = told.guids_first ∙ ap (λ (l : List (List ℕ)). l ++ told.later_ids) ids in
-    all ∙ ap (λ (l : List (List ℕ)). guid ∷ l) (sym (ap (drop 1) all))
+-- A value that was given, where the first of these were, is the next one of them.
+module _ {A : Type 0} (none : A) (old new given first later : List A) (is : new ≡ old ++ first) (all : given ≡ first ++ later) (x : A) where
+  pub first_given : new ≡ old ++ x ∷ [] → given ≡ x ∷ drop 1 given
+  first_given gave =
+      let whole : given ≡ x ∷ later = all ∙ ap (λ (l : List A). l ++ later) (append_cancel_left old first (x ∷ []) (sym is ∙ gave)) in
+      whole ∙ ap (λ (l : List A). x ∷ l) (sym (ap (drop 1) whole))
 
-next_guid_is : (guid : List ℕ) (given : Given) → given.guids ≡ guid ∷ drop 1 given.guids → next_guid given ≡ guid
-next_guid_is guid given is = ap (λ (l : List (List ℕ)). slice_index_or l 0 (replicate 16 0)) is
-
-pub at_most : (old new : World) (guid : List ℕ) (given : Given) → GaveAtMost old new guid → Foretells given old new → GaveAtMost old new (next_guid given)
-at_most old new guid given (inl none) told = inl none
-at_most old new guid given (inr gave) told = inr (gave ∙ ap (λ (id : List ℕ). old.guids ++ id ∷ []) (sym (next_guid_is guid given (next_is old new guid given gave told))))
+  pub most_given : (new ≡ old) ⊎ (new ≡ old ++ x ∷ []) → (new ≡ old) ⊎ (new ≡ old ++ slice_index_or given 0 none ∷ [])
+  most_given (inl nothing) = inl nothing
+  most_given (inr gave) = inr (gave ∙ ap (λ (y : A). old ++ y ∷ []) (sym (ap (λ (l : List A). slice_index_or l 0 none) (first_given gave))))
 
 pub grows_at_most : (old new : World) (guid : List ℕ) → length guid ≡ 16 → GaveAtMost old new guid → new.times ≡ old.times → Grows old new
 grows_at_most old new guid sixteen (inl none) times = grows_none old new (record { guids = none; times = times })
@@ -211,7 +235,7 @@ module _ (result : Result ℕ Fault) (old new : World) (a b : Held) (t : Trail) 
         ids = next_guid now.given ∷ [];
         clock = [];
         guids = does.gave;
-        guids_first = next_is old new (next_guid now.given) now.given does.gave told;
+        guids_first = first_given (replicate 16 0) old.guids new.guids now.given.guids told.ids told.later_ids told.guids told.guids_first (next_guid now.given) does.gave;
         times = does.times ∙ sym (append-nil old.times);
         times_first = refl;
       })
@@ -224,7 +248,7 @@ module _ (result : Result ℕ Fault) (old new : World) (a b : Held) (t : Trail) 
   begin_acts = record {
     grows = grows_at_most old new guid sixteen asked begin_times;
     acts = λ told.
-        let does = begins (seen_now now) ready.base (at_most old new guid now.given asked told) in
+        let does = begins (seen_now now) ready.base (most_given (replicate 16 0) old.guids new.guids now.given.guids told.ids told.later_ids told.guids told.guids_first guid asked) in
         record {
           says = subst (λ (x : Outcome). Says (some_by scn_is) result x.reply) same (as_says scn_is result (begin_turn (seen_now now)).reply does.answer);
           left = strikes_left old new (name_of a) t _ (subst (λ (x : Outcome). Strikes old new (name_of a) t x.strokes) same does.left);
@@ -233,6 +257,8 @@ module _ (result : Result ℕ Fault) (old new : World) (a b : Held) (t : Trail) 
           running = where_ended result _ (does.running ∙ ready.running ∙ sym (sym (ap (λ (x : Outcome). x.running) same) ∙ begin_running (seen_now now)));
           given = subst (λ (x : Outcome). WhereEnded result (WasGiven old new now.given x.given)) same (begin_given result does told);
           kept = where_ended result _ (kept_none new (event_of session (Begins statement) this) (sym (ap (λ (x : Outcome). x.made) same) ∙ begin_made (seen_now now)));
+          unchanged = tells_unchanged scn_is result old new (event_of session (Begins statement) this) (subst (λ (x : Outcome). Says (some_by scn_is) result x.reply) same (as_says scn_is result (begin_turn (seen_now now)).reply does.answer)) (and_quiet (b ≡ a) (Quiet old new) result does.refused)
+              (λ value tells. absurd (true≢false (sym tells)));
           name = does.name;
         };
   }

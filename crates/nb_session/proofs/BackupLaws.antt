@@ -1,8 +1,8 @@
 -- The turns of a backup.
-use Rattle.std.proofs.Common.{◌≡◌, ◌⊎◌, inl, inr, ℕ, zero, suc, ◌-◌, List, [], ◌∷◌, ◌++◌, length, drop, replicate, refl, sym, ap, subst, ◌∙◌, arith}
+use Rattle.std.proofs.Common.{◌≡◌, inl, inr, ℕ, zero, suc, ◌-◌, ◌<◌, List, [], ◌∷◌, ◌++◌, length, replicate, refl, sym, ap, subst, ◌∙◌, arith}
 use Rattle.std.specs.Prelude.{Result, Ok, Err, IfErr, Some, None, true, false}
 use Rattle.std.specs.List.{slice_index_or}
-use Rattle.std.proofs.lemmas.List.{append-nil, append_cancel_left}
+use Rattle.std.proofs.lemmas.List.{append-nil}
 use Rattle.nb_host.specs.Names.{is_delta}
 use Rattle.nb_host.specs.World.{World}
 use Rattle.nb_host.specs.Crash.{Leaves}
@@ -14,21 +14,24 @@ use Rattle.nb_change.proofs.ChangesLaws.{weakened}
 use Rattle.nb_change.proofs.ReachedLaws.{reached_first}
 use Rattle.nb_model.specs.declared.reply.Reply.{Reply}
 use Rattle.nb_model.specs.declared.reply.Reply.TheVariants.{Refused as RefusedBy, Level}
-use Rattle.nb_model.specs.declared.statement.Statement.TheVariants.{Backup as BackupTo}
-use Rattle.nb_model.specs.Account.{Base}
-use Rattle.nb_model.specs.Backups.{backup_turn, close_backup}
+use Rattle.nb_model.specs.declared.statement.Statement.{Statement}
+use Rattle.nb_model.specs.declared.statement.Statement.TheVariants.{Backup as BackupTo, BackupSince}
+use Rattle.nb_model.specs.Account.{Ask, Base}
+use Rattle.nb_model.specs.Backups.{close_backup}
 use Rattle.nb_model.specs.Causes.{is_free_entry}
 use Rattle.nb_model.specs.Gifts.{Foretells, WasGiven}
-use Rattle.nb_model.specs.Going.{IsGoing}
+use Rattle.nb_model.specs.Going.{IsAt, IsGoing}
 use Rattle.nb_model.specs.Image.{Image}
 use Rattle.nb_model.specs.Levels.{file_of, count_in}
 use Rattle.nb_model.specs.Making.{MadeFile, kept_of, making}
 use Rattle.nb_model.specs.Outcomes.{Turn, Begins, Copies, ClosesBackup, Ends, Backing, Given, Seen, Outcome, DoesNothing, next_guid, next_time, without_guid, without_time, passes}
-use Rattle.nb_model.specs.Run.{Now, Event, base_now, outcome, event_of}
+use Rattle.nb_model.specs.Run.{Now, Event, base_now, outcome, is_sync, event_of}
+use Rattle.nb_model.specs.Sound.{IsSoundImage}
 use Rattle.nb_model.specs.Strokes.{Stroke, base_after}
 use Rattle.nb_model.specs.Trail.{Trail, StandsIn, after_stroke}
 use Rattle.nb_model.specs.Turns.{first_turn, turn}
-use Rattle.nb_model.proofs.TurnCases.{backup_either}
+use Rattle.nb_model.proofs.TurnCases.{MayStart, refused, started, IsFrom, backup_either, since_either}
+use Rattle.nb_base.specs.Open.{OfFiles}
 use Rattle.nb_base.specs.Takes.{Strikes, after_strokes, IsNoRefusal}
 use Rattle.nb_state.specs.Open.{Held, IsOpen, name_of}
 use Rattle.nb_state.specs.Does.{Goes, WhereEnded}
@@ -41,27 +44,19 @@ use Rattle.nb_copy.specs.Starting.{Backed, IsBackingUp, IsStarted, StartsBackup,
 use Rattle.nb_copy.specs.Closing.{OfBackup, GaveTimeAtMost, CloseLeft, CopiesOn, CloseDone, BackupTurn, BackupCounts}
 use Rattle.nb_session.specs.declared.task.Task.TheVariants.{Backup, End}
 use Rattle.nb_session.specs.Acts.{Says, Grows, Touched, TurnLeft, Acts, MayAct}
-use Rattle.nb_session.specs.Askers.{copy_first, copy_rest}
+use Rattle.nb_script.specs.Fits.{FitsAsked}
+use Rattle.nb_session.specs.Askers.{IsBackup, file_asked, copy_first, copy_rest}
 use Rattle.nb_session.specs.Ready.{IsReady, IsApart}
 use Rattle.nb_session.specs.Steps.{IsBehind}
-use Rattle.nb_session.proofs.ActLaws.{trail_plain, ended_map, strikes_left, kept_none, says_none}
-use Rattle.nb_session.proofs.CopyLaws.{file_left, each_one, kept_one, made_by, no_stroke}
+use Rattle.nb_session.proofs.ActLaws.{trail_plain, ended_map, strikes_left, kept_none, says_none, unsaid_unchanged, first_given, most_given, grows_at_most}
+use Rattle.nb_session.proofs.EventLaws.{unsaid}
+use Rattle.nb_session.proofs.CopyLaws.{file_left, each_one, kept_one, made_by, no_stroke, stalled_now}
 use Rattle.nb_session.proofs.GiftLaws.{given_nothing, grows_none}
 use Rattle.nb_session.proofs.MakesLaws.{none_runs}
-use Rattle.nb_session.proofs.ReadyLaws.{not_own}
+use Rattle.nb_session.proofs.NameLaws.{given_plain}
+use Rattle.nb_session.proofs.ReadyLaws.{not_own, apart_files}
 use Rattle.nb_session.proofs.TurnLaws.{seen_now, outcome_is}
-use Rattle.nb_session.proofs.WayLaws.{copy_turns}
-
--- A value that was given, where the first of these were, is the next one of them.
-module _ {A : Type 0} (none : A) (old new given first later : List A) (is : new ≡ old ++ first) (all : given ≡ first ++ later) (x : A) where
-  first_given : new ≡ old ++ x ∷ [] → given ≡ x ∷ drop 1 given
-  first_given gave =
-      let whole : given ≡ x ∷ later = all ∙ ap (λ (l : List A). l ++ later) (append_cancel_left old first (x ∷ []) (sym is ∙ gave)) in
-      whole ∙ ap (λ (l : List A). x ∷ l) (sym (ap (drop 1) whole))
-
-  most_given : (new ≡ old) ⊎ (new ≡ old ++ x ∷ []) → (new ≡ old) ⊎ (new ≡ old ++ slice_index_or given 0 none ∷ [])
-  most_given (inl nothing) = inl nothing
-  most_given (inr gave) = inr (gave ∙ ap (λ (y : A). old ++ y ∷ []) (sym (ap (λ (l : List A). slice_index_or l 0 none) (first_given gave))))
+use Rattle.nb_session.proofs.WayLaws.{copy_turns, BacksUp, backing_at}
 
 -- what a turn sees where this is given
 abbrev pub seen_with : Now → Given → Seen
@@ -93,62 +88,71 @@ record HasBegun (s : Seen) (session : ℕ) (name : List ℕ) (o : Outcome) : Typ
   given : o.given ≡ without_guid s.given
   named : (n : ℕ) (b : Backing) → o.next ≡ replicate n Copies ++ ClosesBackup b ∷ [] → b.name ≡ name
 
-module _ (s : Seen) (session level : ℕ) (name : List ℕ) where
+-- The first turn of a statement that asks for one.
+asked_either : (P : Outcome → Type 0) (s : Seen) (session : ℕ) (x : Statement) → IsBackup x → ((r : Refusal) → P (refused s r))
+    → ((ask : Ask) → IsFrom s.base.image ask → MayStart s (file_asked x) → P (started s session (file_asked x) ask)) → P (first_turn s session x)
+unfolding first_turn
+asked_either P s session (BackupTo level name) is denied done = backup_either P s session level name denied done
+asked_either P s session (BackupSince guid name) is denied done = since_either P s session guid name denied done
+asked_either P s session other is denied done = absurd is
+
+-- it is no `sync`
+asked_plain : (x : Statement) → IsBackup x → is_sync (Begins x) ≡ false
+asked_plain (BackupTo level name) is = refl
+asked_plain (BackupSince guid name) is = refl
+asked_plain other is = absurd is
+
+-- and its file is no difference file
+pub file_plain : (x : Statement) → IsBackup x → FitsAsked x → is_delta (file_asked x) ≡ false
+file_plain (BackupTo level name) is fits = given_plain name fits.1
+file_plain (BackupSince guid name) is fits = given_plain name fits
+file_plain other is fits = absurd is
+
+module _ (s : Seen) (session : ℕ) (x : Statement) (asks : IsBackup x) where
   abbrev start : Outcome
-  start = backup_turn s session level name
+  start = first_turn s session x
 
   start_made : start.made ≡ None
-  start_made = backup_either (λ o. o.made ≡ None) s session level name (λ r. refl) (λ from is may. refl)
+  start_made = asked_either (λ o. o.made ≡ None) s session x asks (λ r. refl) (λ ask from may. refl)
 
-  has_begun : start.reply ≡ None → HasBegun s session name start
-  has_begun = backup_either (λ o. o.reply ≡ None → HasBegun s session name o) s session level name (λ r is. absurd (some_none r is))
-      (λ from is may quiet. record { free = may.free; running = refl; given = refl; named = λ n b same. sym (same_name _ n _ b same) })
+  has_begun : start.reply ≡ None → HasBegun s session (file_asked x) start
+  has_begun = asked_either (λ o. o.reply ≡ None → HasBegun s session (file_asked x) o) s session x asks (λ r is. absurd (some_none r is))
+      (λ ask from may quiet. record { free = may.free; running = refl; given = refl; named = λ n b same. sym (same_name _ n _ b same) })
 
   has_not : (refusal : Refusal) → start.reply ≡ Some (RefusedBy refusal) → DoesNothing s start
-  has_not refusal = backup_either (λ o. o.reply ≡ Some (RefusedBy refusal) → DoesNothing s o) s session level name (λ r is. record { strokes = refl; next = refl; made = refl; running = refl; given = refl })
-      (λ from is may quiet. absurd (some_none refusal (sym quiet)))
-
-start_is : (session level : ℕ) (name : List ℕ) (now : Now) → backup_turn (seen_now now) session level name ≡ outcome session (Begins (BackupTo level name)) now
-unfolding first_turn
-start_is session level name now = sym (outcome_is session (BackupTo level name) now)
+  has_not refusal = asked_either (λ o. o.reply ≡ Some (RefusedBy refusal) → DoesNothing s o) s session x asks (λ r is. record { strokes = refl; next = refl; made = refl; running = refl; given = refl })
+      (λ ask from may quiet. absurd (some_none refusal (sym quiet)))
 
 -- in the normal state the account knows of each name whether it is free
 pub knows_free : (w : World) (held : Held) (t : Trail) (now : Now) (name : List ℕ) → IsReady w held t now → IsGoing now → is_delta name ≡ false → KnowsFree 0 w.files (seen_now now) name
 knows_free w held t now name ready going plain normal = ready.known name plain (none_runs now going (λ place number some runs. omega (arith, some, sym normal ∙ runs.state)) name)
 
 -- The start of a backup, by its turn.
-module _ (old new : World) (a b : Held) (t : Trail) (now : Now) (session level : ℕ) (name : List ℕ) (ready : IsReady old a t now) where
+module _ (old new : World) (a b : Held) (t : Trail) (now : Now) (session : ℕ) (x : Statement) (asks : IsBackup x) (ready : IsReady old a t now) where
   abbrev begins : Outcome
-  begins = backup_turn (seen_now now) session level name
+  begins = first_turn (seen_now now) session x
 
   abbrev this : Outcome
-  this = outcome session (Begins (BackupTo level name)) now
+  this = outcome session (Begins x) now
 
   abbrev event : Event
-  event = event_of session (Begins (BackupTo level name)) this
+  event = event_of session (Begins x) this
 
   same : begins ≡ this
-  same = start_is session level name now
+  same = sym (outcome_is session x now)
 
   -- where one GUID was given, or none
-  module _ (result : Result Backed Fault) (starts : (given : Given) → GaveAtMost old new (next_guid given) → StartsBackup result old new a b t (next_guid given) (backup_turn (seen_with now given) session level name))
+  module _ (result : Result Backed Fault) (starts : (given : Given) → GaveAtMost old new (next_guid given) → StartsBackup result old new a b t (next_guid given) (first_turn (seen_with now given) session x))
       (guid : List ℕ) (asked : GaveAtMost old new guid) where
-    start_grows : length guid ≡ 16 → Grows old new
-    start_grows sixteen = by asked
-      where
-        times : new.times ≡ old.times
-        times = (starts (record { guids = guid ∷ []; times = []; holds = [] }) asked).times
-
-        by : GaveAtMost old new guid → Grows old new
-        by (inl nothing) = grows_none old new (record { guids = nothing; times = times })
-        by (inr gave) = record { ids = guid ∷ []; clock = []; gave = record { guids = gave; times = times ∙ sym (append-nil old.times) }; sixteen = (sixteen, tt) }
+    times_are : new.times ≡ old.times
+    times_are = (starts (record { guids = guid ∷ []; times = []; holds = [] }) asked).times
 
     pub starts_told : Foretells now.given old new → StartsBackup result old new a b t (next_guid now.given) begins
     starts_told told = starts now.given (most_given (replicate 16 0) old.guids new.guids now.given.guids told.ids told.later_ids told.guids told.guids_first guid asked)
 
     start_given : (r : Result Backed Fault) → StartsBackup r old new a b t (next_guid now.given) begins → Foretells now.given old new → WhereEnded r (WasGiven old new now.given begins.given)
     start_given (Ok copier) does told =
-        subst (λ (left : Given). WasGiven old new now.given left) (sym (has_begun (seen_now now) session level name does.says).given) (record {
+        subst (λ (left : Given). WasGiven old new now.given left) (sym (has_begun (seen_now now) session x asks does.says).given) (record {
           ids = next_guid now.given ∷ [];
           clock = [];
           guids = does.gave;
@@ -156,32 +160,33 @@ module _ (old new : World) (a b : Held) (t : Trail) (now : Now) (session level :
           times = does.times ∙ sym (append-nil old.times);
           times_first = refl;
         })
-    start_given (Err (Refused refusal)) does told = given_nothing old new now.given begins.given (gave_none old new does.refused) (has_not (seen_now now) session level name refusal does.says).given
+    start_given (Err (Refused refusal)) does told = given_nothing old new now.given begins.given (gave_none old new does.refused) (has_not (seen_now now) session x asks refusal does.says).given
     start_given (Err Device) does told = tt
     start_given (Err Memory) does told = tt
 
-    pub start_acts : length guid ≡ 16 → MayAct (λ copier. None) result old new a b t now session (Begins (BackupTo level name)) []
+    pub start_acts : length guid ≡ 16 → MayAct (λ copier. None) result old new a b t now session (Begins x) []
     start_acts sixteen = record {
-      grows = start_grows sixteen;
+      grows = grows_at_most old new guid sixteen asked times_are;
       acts = λ told.
           let does = starts_told told in
           record {
             says = subst (λ (o : Outcome). Says (λ copier. None) result o.reply) same (says_none result begins.reply does.says);
             left = strikes_left old new (name_of a) t _ (subst (λ (o : Outcome). Strikes old new (name_of a) t o.strokes) same does.left);
-            opened = ended_map result (subst (IsOpen new b) (trail_plain t event refl)) (subst (λ (o : Outcome). WhereEnded result (IsOpen new b (after_strokes t o.strokes))) same does.opened);
+            opened = ended_map result (subst (IsOpen new b) (trail_plain t event (asked_plain x asks))) (subst (λ (o : Outcome). WhereEnded result (IsOpen new b (after_strokes t o.strokes))) same does.opened);
             running = subst (λ (o : Outcome). WhereEnded result (b.running ≡ o.running)) same does.running;
             given = subst (λ (o : Outcome). WhereEnded result (WasGiven old new now.given o.given)) same (start_given result does told);
-            kept = where_ended result _ (kept_none new event (sym (ap (λ (o : Outcome). o.made) same) ∙ start_made (seen_now now) session level name));
+            kept = where_ended result _ (kept_none new event (sym (ap (λ (o : Outcome). o.made) same) ∙ start_made (seen_now now) session x asks));
+            unchanged = unsaid_unchanged result old new event (subst (λ (o : Outcome). Says (λ copier. None) result o.reply) same (says_none result begins.reply does.says)) does.refused;
             name = does.name;
           };
     }
 
   -- a backup was begun
-  pub start_behind : (copier : Backed) (guid : List ℕ) → is_delta name ≡ false → StartsBackup (Ok copier) old new a b t guid begins → IsBehind new b session (Begins (BackupTo level name)) [] now (Some (Backup copier))
+  pub start_behind : (copier : Backed) (guid : List ℕ) → is_delta (file_asked x) ≡ false → StartsBackup (Ok copier) old new a b t guid begins → IsBehind new b session (Begins x) [] now (Some (Backup copier))
   start_behind copier guid plain does =
       let is : IsStarted new b (after_strokes t begins.strokes) copier begins = does.started in
-      let facts : HasBegun (seen_now now) session name begins = has_begun (seen_now now) session level name does.says in
-      let named : copier.backing.name ≡ name = facts.named (file_count copier.file) copier.backing is.turns in
+      let facts : HasBegun (seen_now now) session (file_asked x) begins = has_begun (seen_now now) session x asks does.says in
+      let named : copier.backing.name ≡ file_asked x = facts.named (file_count copier.file) copier.backing is.turns in
       let all : file_count copier.file ≡ file_count copier.file - file_next copier.file = omega (arith, is.first) in
       record {
         next = append-nil this.next ∙ sym (ap (λ (o : Outcome). o.next) same) ∙ is.turns ∙ ap (λ (n : ℕ). replicate n Copies ++ ClosesBackup copier.backing ∷ []) all
@@ -189,15 +194,15 @@ module _ (old new : World) (a b : Held) (t : Trail) (now : Now) (session level :
         goes = (
           subst (IsBackingUp new copier)
               (ap (λ (x : Base). x.frozen) (after_base t begins.strokes ∙ ap (λ (o : Outcome). base_after t.base o.strokes) same ∙ ap (λ (x : Base). base_after x this.strokes) ready.base)) is.goes,
-          record { plain = ap is_delta named ∙ plain; other = λ own. not_own old a t now name ready facts.free (sym named ∙ own ∙ does.name) },
+          record { plain = ap is_delta named ∙ plain; other = λ own. not_own old a t now (file_asked x) ready facts.free (sym named ∙ own ∙ does.name) },
           does.running ∙ facts.running,
         );
       }
 
   -- it was refused
-  pub start_refused : (refusal : Refusal) (guid : List ℕ) → StartsBackup (Err (Refused refusal)) old new a b t guid begins → (w : World) → IsBehind w b session (Begins (BackupTo level name)) [] now None
+  pub start_refused : (refusal : Refusal) (guid : List ℕ) → StartsBackup (Err (Refused refusal)) old new a b t guid begins → (w : World) → IsBehind w b session (Begins x) [] now None
   start_refused refusal guid does w =
-      record { next = append-nil this.next ∙ sym (ap (λ (o : Outcome). o.next) same) ∙ (has_not (seen_now now) session level name refusal does.says).next; goes = tt }
+      record { next = append-nil this.next ∙ sym (ap (λ (o : Outcome). o.next) same) ∙ (has_not (seen_now now) session x asks refusal does.says).next; goes = tt }
 
 -- A further turn of a backup.
 page_is : (session : ℕ) (now : Now) → outcome session Copies now ≡ passes (seen_now now)
@@ -283,8 +288,8 @@ module _ (old new : World) (a b : Held) (t : Trail) (now : Now) (session : ℕ) 
     failed : (fault : Fault) → IsNoRefusal fault → (u : Turn) → Changes old new (Touched (name_of a) files) (TurnLeft old (name_of a) t (outcome session u now).strokes files)
         → Acts {T = Progress} (λ progress. None) (Err fault) old new a b t now session u files
     failed (Refused refusal) none u left = absurd none
-    failed Device none u left = record { says = tt; left = left; opened = tt; running = tt; given = tt; kept = tt; name = goes.name }
-    failed Memory none u left = record { says = tt; left = left; opened = tt; running = tt; given = tt; kept = tt; name = goes.name }
+    failed Device none u left = record { says = tt; left = left; opened = tt; running = tt; given = tt; kept = tt; unchanged = tt; name = goes.name }
+    failed Memory none u left = record { says = tt; left = left; opened = tt; running = tt; given = tt; kept = tt; unchanged = tt; name = goes.name }
 
     -- a page is copied
     copied : CopiesOn old new a b copier later t → Changes old new (Touched (name_of a) files) (TurnLeft old (name_of a) t (outcome session Copies now).strokes files)
@@ -298,6 +303,7 @@ module _ (old new : World) (a b : Held) (t : Trail) (now : Now) (session : ℕ) 
           running = goes.running ∙ ready.running ∙ sym (ap (λ (x : Outcome). x.running) o);
           given = given_nothing old new now.given (outcome session Copies now).given does.gave (ap (λ (x : Outcome). x.given) o);
           kept = kept_none new (event_of session Copies (outcome session Copies now)) (ap (λ (x : Outcome). x.made) o);
+          unchanged = λ told. absurd (unsaid (event_of session Copies (outcome session Copies now)) (ap (λ (x : Outcome). x.reply) o) told);
           name = goes.name;
         }
 
@@ -321,6 +327,7 @@ module _ (old new : World) (a b : Held) (t : Trail) (now : Now) (session : ℕ) 
           });
           kept = made_by new (event_of session last (outcome session last now)) (name, whole)
               (ap (λ (x : Outcome). x.made) o ∙ close_made (seen_now now) copier.backing ∙ ap (λ (bytes : List ℕ). Some (name, bytes)) (sym whole_is)) (kept_one new name whole does.kept);
+          unchanged = λ told. absurd (unsaid (event_of session last (outcome session last now)) (ap (λ (x : Outcome). x.reply) o ∙ close_reply (seen_now now) copier.backing) told);
           name = goes.name;
         }
 
@@ -386,3 +393,23 @@ module _ (old new : World) (a b : Held) (t : Trail) (now : Now) (session : ℕ) 
               ∙ ap (λ (r : Reply). Ends r ∷ []) (sym is_level);
           goes = goes.running ∙ runs;
         }
+
+-- What a further turn may rely on.
+pub record MayGoOn (held : Held) (t : Trail) (copier : Backed) : Type 0 where
+  pub stalled : held.files.state ≡ 1
+  pub sound : IsSoundImage t.base.image
+  pub below : copier.backing.page < length t.base.image
+  pub apart : OfFiles (name_of held) copier.backing.name → ⊥
+
+pub may_go_on : (w : World) (held : Held) (t : Trail) (now : Now) (session : ℕ) (copier : Backed) (more : List Turn) → IsReady w held t now → IsGoing now
+    → slice_index_or now.todo (session - 1) [] ≡ copy_first (file_count copier.file - file_next copier.file) (ClosesBackup copier.backing) ∷ (copy_rest (file_count copier.file - file_next copier.file) (ClosesBackup copier.backing) ++ more)
+    → IsApart held copier.backing.name → MayGoOn held t copier
+may_go_on w held t now session copier more ready going here apart =
+    let backs : BacksUp now (session - 1) copier.backing =
+    backing_at now (session - 1) (file_count copier.file - file_next copier.file) copier.backing more (subst (IsAt now (session - 1)) here (going.each (session - 1))) in
+    record {
+      stalled = stalled_now w held t now (session - 1) ready backs.runs;
+      sound = subst (λ (x : Base). IsSoundImage x.image) (sym ready.base) going.sound;
+      below = subst (λ (x : Base). copier.backing.page < length x.image) (sym ready.base) backs.room.below;
+      apart = apart_files held copier.backing.name apart;
+    }

@@ -1,5 +1,5 @@
 -- The turns of a copy of the frozen file.
-use Rattle.std.proofs.Common.{◌≡◌, inr, ℕ, zero, suc, ◌-◌, ◌≤◌, List, [], ◌∷◌, ◌++◌, length, replicate, refl, sym, ap, subst, ◌∙◌, arith}
+use Rattle.std.proofs.Common.{◌≡◌, inr, ℕ, zero, suc, ◌-◌, ◌≤◌, List, [], ◌∷◌, ◌++◌, length, replicate, refl, sym, ap, subst, ◌∙◌, arith, true≢false}
 use Rattle.std.specs.Prelude.{Result, Ok, Err, Option, Some, None, Contains, true, false}
 use Rattle.std.specs.List.{slice_index_or}
 use Rattle.std.proofs.lemmas.List.{append-nil}
@@ -45,7 +45,9 @@ use Rattle.nb_session.specs.Acts.{Says, Touched, TurnLeft, AreKept, MayAct}
 use Rattle.nb_session.specs.Askers.{copy_first, copy_rest}
 use Rattle.nb_session.specs.Ready.{IsReady, IsApart}
 use Rattle.nb_session.specs.Steps.{IsBehind}
+use Rattle.nb_session.specs.Replies.{has_only_told}
 use Rattle.nb_session.proofs.ActLaws.{trail_plain, ended_map, strikes_left, kept_none, says_none}
+use Rattle.nb_session.proofs.EventLaws.{unsaid, told_reply}
 use Rattle.nb_session.proofs.GiftLaws.{given_nothing, grows_none}
 use Rattle.nb_session.proofs.MakesLaws.{none_runs}
 use Rattle.nb_session.proofs.ReadyLaws.{apart_files, not_own}
@@ -60,10 +62,15 @@ name_kept a b same = ap (λ (h : Held). name_of h) same
 pub open_running : (w : World) (held : Held) (t : Trail) (running : Option ℕ) → IsOpen w held t → IsOpen w (record held { running = running }) t
 open_running w held t running is = record {
   files = is.files;
+  pages = is.pages;
   agrees = record { scn = is.agrees.scn; four = is.agrees.four; guid = is.agrees.guid; forced = is.agrees.forced; read_only = is.agrees.read_only };
   merged = is.merged;
   most = is.most;
 }
+
+-- the session that ran runs no more
+pub stopped_is : (a b d : Held) (session : ℕ) → b ≡ a → a.running ≡ Some session → (b.running ≡ Some session → d ≡ record b { running = None }) → d ≡ record a { running = None }
+stopped_is a b d session same runs stops = stops (ap (λ (h : Held). h.running) same ∙ runs) ∙ ap (λ (h : Held). record h { running = None }) same
 
 -- no stroke
 pub no_stroke : (b : Base) (ss : List Stroke) → ss ≡ [] → base_after b ss ≡ b
@@ -160,6 +167,7 @@ module _ (old new : World) (a b : Held) (t : Trail) (now : Now) (session : ℕ) 
           running = ended_map result (λ held. ap (λ (h : Held). h.running) held ∙ ap (λ (o : Outcome). o.running) same) starts.held;
           given = where_ended result _ (given_nothing old new now.given this.given (gave_none old new starts.quiet) (sym (ap (λ (o : Outcome). o.given) same) ∙ begin_given (seen_now now) session name));
           kept = where_ended result _ (kept_none new event (sym (ap (λ (o : Outcome). o.made) same) ∙ begin_made (seen_now now) session name));
+          unchanged = where_ended result _ (λ told. starts.quiet.still.files);
           name = named;
         };
       }
@@ -288,6 +296,7 @@ module _ (old mid : World) (a b : Held) (t : Trail) (now : Now) (session : ℕ) 
         running = tt;
         given = tt;
         kept = tt;
+        unchanged = tt;
         name = ap (λ (h : Held). name_of h) same;
       };
     }
@@ -307,6 +316,7 @@ module _ (old mid : World) (a b : Held) (t : Trail) (now : Now) (session : ℕ) 
             running = ap (λ (h : Held). h.running) same ∙ ready.running ∙ sym (ap (λ (x : Outcome). x.running) o);
             given = given_nothing old mid now.given (outcome session Copies now).given gave (ap (λ (x : Outcome). x.given) o);
             kept = kept_none mid (event_of session Copies (outcome session Copies now)) (ap (λ (x : Outcome). x.made) o);
+            unchanged = λ told. absurd (unsaid (event_of session Copies (outcome session Copies now)) (ap (λ (x : Outcome). x.reply) o) told);
             name = ap (λ (h : Held). name_of h) same;
           };
         }
@@ -327,6 +337,7 @@ module _ (old mid : World) (a b : Held) (t : Trail) (now : Now) (session : ℕ) 
             given = given_nothing old mid now.given (outcome session last now).given gave (ap (λ (x : Outcome). x.given) o ∙ close_given (seen_now now) copy.name);
             kept = made_by mid (event_of session last (outcome session last now)) (copy.name, whole) (ap (λ (x : Outcome). x.made) o ∙ close_made (seen_now now) copy.name ∙ ap (λ (f : Image). Some (copy.name, joined f)) (sym frozen_is))
                 (kept_one mid copy.name whole kept);
+            unchanged = λ told. absurd (true≢false (sym (ap has_only_told (sym (ap (λ (x : Outcome). x.reply) o ∙ close_reply (seen_now now) copy.name)) ∙ told_reply (event_of session last (outcome session last now)) told)));
             name = ap (λ (h : Held). name_of h) same;
           };
         }

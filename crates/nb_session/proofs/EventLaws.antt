@@ -1,7 +1,9 @@
 -- One turn and its line are one event.
 use Rattle.std.proofs.Common.{◌≡◌, ◌⊎◌, ℕ, zero, suc, ◌-◌, List, [], ◌∷◌, ◌++◌, length, take, Bool, false, refl, sym, ap, subst, ◌∙◌, arith}
-use Rattle.std.specs.Prelude.{Result, Ok, Err, IfOk, Option, Some, None, Contains, if◌then◌else◌}
-use Rattle.std.specs.List.{slice_index_or}
+use Rattle.std.specs.Prelude.{true, Result, Ok, Err, IfOk, Option, Some, None, Contains, if◌then◌else◌}
+use Rattle.std.specs.List.{list_all, slice_index_or}
+use Rattle.std.proofs.Math.Bool.{and-true}
+use Rattle.std.proofs.lemmas.Bool.{true≢false}
 use Rattle.std.proofs.lemmas.List.{append-nil, take_all}
 use Rattle.nb_host.specs.Files.{File, Files, with_file}
 use Rattle.nb_host.specs.World.{World}
@@ -35,7 +37,7 @@ use Rattle.nb_state.proofs.TurnLaws.{still_open}
 use Rattle.nb_session.specs.declared.stop.Stop.{Stop}
 use Rattle.nb_session.specs.Acts.{AreKept, Acts}
 use Rattle.nb_session.specs.Ready.{IsReady, IsApart}
-use Rattle.nb_session.specs.Replies.{HasEnded}
+use Rattle.nb_session.specs.Replies.{HasEnded, has_only_told, only_told}
 use Rattle.nb_session.specs.Says.{FrontSaid, SaysLine}
 use Rattle.nb_session.specs.Stops.{StopLeft, PlayedOut, Plays}
 use Rattle.nb_session.proofs.GiftLaws.{given_nothing, given_joined}
@@ -63,6 +65,26 @@ take_self (suc n) (x ∷ l) = ap (λ (k : List ℕ). x ∷ k) (take_self n l)
 status_quiet : (e : Event) → e.reply ≡ None → status_of (replies_of (e ∷ [])) ≡ 0
 unfolding replies_of
 status_quiet e none = ap (λ (r : Option Reply). status_of (elim r as (λ z. List (ℕ × Reply)) [ Some reply ↦ (e.session, reply) ∷ [] | None ↦ [] ])) none ∙ status_no_event
+
+-- an event that says nothing doesn't only tell something
+pub unsaid : (e : Event) → e.reply ≡ None → only_told e ≡ true → ⊥
+unsaid e none told = by e.strokes (ap (λ (r : Option Reply). elim e.strokes as (λ z. Bool) [ [] ↦ has_only_told r | s ∷ ss ↦ false ]) (sym none) ∙ told)
+  where
+    by : (ss : List Stroke) → elim ss as (λ z. Bool) [ [] ↦ has_only_told None | s ∷ ss ↦ false ] ≡ true → ⊥
+    by [] e = true≢false (sym e)
+    by (s ∷ ss) e = true≢false (sym e)
+
+-- what an event that only tells something says
+pub told_reply : (e : Event) → only_told e ≡ true → has_only_told e.reply ≡ true
+told_reply e = by e.strokes
+  where
+    by : (ss : List Stroke) → elim ss as (λ z. Bool) [ [] ↦ has_only_told e.reply | s ∷ ss ↦ false ] ≡ true → has_only_told e.reply ≡ true
+    by [] told = told
+    by (s ∷ ss) told = absurd (true≢false (sym told))
+
+-- one event is all of them
+one_told : (e : Event) → list_all only_told (e ∷ []) ≡ true → only_told e ≡ true
+one_told e all = sym (and-true (only_told e)) ∙ all
 
 -- no event made a file
 made_none : (file : MadeFile) → Contains (files_made []) file → ⊥
@@ -99,12 +121,13 @@ marks_made reply result old mid e0 e1 t now session u files apart reads acts = r
       subst (λ (f : File). Leaves old name f ⊎ IsUnfinishedOr bytes f) (with_file-same mid.files name file) ((acts.left.now (with_file mid.files name file) all).each name bytes there);
 }
 
-module _ (old mid new : World) (e0 e1 : Held) (t : Trail) (now : Now) (session : ℕ) (u : Turn) (tail more : List Turn) where
+-- The event as it is told: `told` is what is said of it.
+module _ (old mid new : World) (e0 e1 : Held) (t : Trail) (now : Now) (session : ℕ) (u : Turn) (tail more : List Turn) (told : Option Reply) where
   abbrev here : Outcome
   here = outcome session u now
 
   abbrev event : Event
-  event = event_of session u here
+  event = record (event_of session u here) { reply = told }
 
   abbrev name : List ℕ
   name = name_of e0
@@ -112,15 +135,8 @@ module _ (old mid new : World) (e0 e1 : Held) (t : Trail) (now : Now) (session :
   abbrev files : List MadeFile
   files = making (base_now now).frozen (u ∷ tail)
 
-  abbrev pub played : Played
-  played = take_turn session (u ∷ (tail ++ more)) now
-
-  abbrev one : Played
+  abbrev pub one : Played
   one = (event ∷ [], stands_then session (tail ++ more) here now)
-
-  played_is : played ≡ one
-  unfolding take_turn
-  played_is = refl
 
   abbrev Left : Files → List ℕ → Type 0
   Left = StopLeft old name t (event ∷ []) files
@@ -131,9 +147,6 @@ module _ (old mid new : World) (e0 e1 : Held) (t : Trail) (now : Now) (session :
 
   trail_is : after_steps t (steps_in event) ≡ after_steps t (steps_of (event ∷ []))
   trail_is = ap (after_steps t) (sym (steps_one event))
-
-  as_played : (result : Result Bool Stop) (w : World) → Plays result old w e0 e1 t now one files → Plays result old w e0 e1 t now played files
-  as_played result w plays = subst (λ (p : Played). Plays result old w e0 e1 t now p files) (sym played_is) plays
 
   module _ {T : Type 0} (result : Result T Fault) (reply : T → Option Reply) (acts : Acts reply result old mid e0 e1 t now session u files) (marks : Marks old mid e0 files) where
     -- while its strokes are made
@@ -151,8 +164,8 @@ module _ (old mid new : World) (e0 e1 : Held) (t : Trail) (now : Now) (session :
         })
 
     -- what is said of the files, and of the name, however it ends
-    plays_with : (ending : Result Bool Stop) (w : World) → AtEachMoment old w Left → IsStill mid w → IfOk ending (λ refused. PlayedOut refused old w e1 t now one) → Plays ending old w e0 e1 t now played files
-    plays_with ending w stops still out = as_played ending w (record {
+    plays_with : (ending : Result Bool Stop) (w : World) → AtEachMoment old w Left → IsStill mid w → IfOk ending (λ refused. PlayedOut refused old w e1 t now one) → Plays ending old w e0 e1 t now one files
+    plays_with ending w stops still out = record {
       stops = stops;
       left = λ n bytes file there is. marks.left n bytes file there (left_before mid w _ still.left n file tt is);
       apart = λ n bytes there. apart_files e0 n (marks.apart n bytes there);
@@ -160,40 +173,45 @@ module _ (old mid new : World) (e0 e1 : Held) (t : Trail) (now : Now) (session :
       others_read = λ m other. ap (λ (f : Files). f m) still.files ∙ acts.left.others_read m other;
       name = acts.name;
       done = out;
-    })
+    }
 
     still_here : IsStill mid mid
     still_here = record { files = refl; left = record { back = λ m c is b. b; now = λ m c is n. n } }
 
     -- the turn failed
-    pub event_failed : (e : Stop) → Plays (Err e) old mid e0 e1 t now played files
-    event_failed e = plays_with (Err e) mid during still_here tt
+    pub told_failed : (e : Stop) → Plays (Err e) old mid e0 e1 t now one files
+    told_failed e = plays_with (Err e) mid during still_here tt
 
     module _ (has : HasEnded result) (place : slice_index_or now.todo (session - 1) [] ≡ u ∷ (tail ++ more)) (ready : IsReady old e0 t now) (makes : IsMaking now) where
       opened_mid : IsOpen mid e1 (after_steps t (steps_in event))
       opened_mid = ended result has acts.opened
 
+      kept_turn : AreKept mid (files_made (event_of session u here ∷ []))
+      kept_turn = ended result has acts.kept
+
       kept_mid : AreKept mid (files_made (event ∷ []))
-      kept_mid = ended result has acts.kept
+      unfolding files_made
+      kept_mid = kept_turn
 
       -- the database stands ready behind it
       ready_at : (w : World) → IsStill mid w → IsReady w e1 (after_steps t (steps_of (event ∷ []))) one.1
       ready_at w still =
           subst (λ (x : Trail). IsReady w e1 x one.1) trail_is
-          (ready_then old w e0 e1 t now session u tail more ready place (still_open mid w e1 (after_steps t (steps_in event)) still opened_mid) acts.name (ended result has acts.running) (kept_still mid w (files_made (event ∷ [])) still kept_mid)
+          (ready_then old w e0 e1 t now session u tail more ready place (still_open mid w e1 (after_steps t (steps_in event)) still opened_mid) acts.name (ended result has acts.running) (kept_still mid w (files_made (event_of session u here ∷ [])) still kept_turn)
           (λ m other. ap (λ (f : Files). f m) still.files ∙ acts.left.others_read m other) marks.apart makes)
 
       -- it has nothing to say
-      pub event_quiet : here.reply ≡ None → Plays (Ok false) old mid e0 e1 t now played files
-      event_quiet quiet = plays_with (Ok false) mid during still_here (record {
+      pub told_quiet : told ≡ None → Plays (Ok false) old mid e0 e1 t now one files
+      told_quiet quiet = plays_with (Ok false) mid during still_here (record {
         ready = ready_at mid still_here;
         said = acts.left.said ∙ sym (append-nil old.said) ∙ ap (λ (l : List ℕ). old.said ++ l) (sym (output-quiet event [] quiet ∙ output_no_event));
         status = status_quiet event quiet;
         given = given_joined old mid mid now.given here.given one.1.given (ended result has acts.given) (given_nothing mid mid here.given one.1.given (record { guids = refl; times = refl }) given_then);
         kept = kept_mid;
+        unchanged = λ all. absurd (unsaid event quiet (one_told event all));
       })
 
-      module _ (r : Reply) (is_said : here.reply ≡ Some r) {S E : Type 0} (told : Result S E) (says : SaysLine told mid new (line_text session r)) where
+      module _ (r : Reply) (is_said : told ≡ Some r) {S E : Type 0} (line_said : Result S E) (says : SaysLine line_said mid new (line_text session r)) where
         abbrev line : List ℕ
         line = line_text session r
 
@@ -226,15 +244,51 @@ module _ (old mid new : World) (e0 e1 : Held) (t : Trail) (now : Now) (session :
         whole = joined old mid new _ _ _ during says.moments (λ fs said is. is) saying
 
         -- its line wasn't said whole
-        pub event_unsaid : (e : Stop) → Plays (Err e) old new e0 e1 t now played files
-        event_unsaid e = plays_with (Err e) new whole says.still tt
+        pub told_unsaid : (e : Stop) → Plays (Err e) old new e0 e1 t now one files
+        told_unsaid e = plays_with (Err e) new whole says.still tt
 
         -- it was
-        pub event_said : (refused : Bool) → new.said ≡ mid.said ++ line → status_after r ≡ (if refused then 1 else 0) → Plays (Ok refused) old new e0 e1 t now played files
-        event_said refused said status = plays_with (Ok refused) new whole says.still (record {
+        pub told_said : (refused : Bool) → new.said ≡ mid.said ++ line → status_after r ≡ (if refused then 1 else 0) → (only_told event ≡ true → only_told (event_of session u here) ≡ true)
+            → Plays (Ok refused) old new e0 e1 t now one files
+        told_said refused said status only = plays_with (Ok refused) new whole says.still (record {
           ready = ready_at new says.still;
           said = said ∙ ap (λ (l : List ℕ). l ++ line) acts.left.said ∙ ap (λ (l : List ℕ). old.said ++ l) (sym output_is);
           status = status_one event r is_said ∙ status;
           given = given_joined old mid new now.given here.given one.1.given (ended result has acts.given) (given_nothing mid new here.given one.1.given says.gave given_then);
           kept = kept_still mid new (files_made (event ∷ [])) says.still kept_mid;
+          unchanged = λ all. says.still.files ∙ ended result has acts.unchanged (only (one_told event all));
         })
+
+-- The event as the turn has it.
+module _ (old mid new : World) (e0 e1 : Held) (t : Trail) (now : Now) (session : ℕ) (u : Turn) (tail more : List Turn) where
+  abbrev turn_done : Outcome
+  turn_done = outcome session u now
+
+  abbrev turn_files : List MadeFile
+  turn_files = making (base_now now).frozen (u ∷ tail)
+
+  abbrev pub played : Played
+  played = take_turn session (u ∷ (tail ++ more)) now
+
+  as_played : (result : Result Bool Stop) (w : World) → Plays result old w e0 e1 t now (one old mid new e0 e1 t now session u tail more turn_done.reply) turn_files → Plays result old w e0 e1 t now played turn_files
+  unfolding take_turn
+  as_played result w plays = plays
+
+  module _ {T : Type 0} (result : Result T Fault) (reply : T → Option Reply) (acts : Acts reply result old mid e0 e1 t now session u turn_files) (marks : Marks old mid e0 turn_files) where
+    -- the turn failed
+    pub event_failed : (e : Stop) → Plays (Err e) old mid e0 e1 t now played turn_files
+    event_failed e = as_played (Err e) mid (told_failed old mid new e0 e1 t now session u tail more turn_done.reply result reply acts marks e)
+
+    module _ (has : HasEnded result) (place : slice_index_or now.todo (session - 1) [] ≡ u ∷ (tail ++ more)) (ready : IsReady old e0 t now) (makes : IsMaking now) where
+      -- it has nothing to say
+      pub event_quiet : turn_done.reply ≡ None → Plays (Ok false) old mid e0 e1 t now played turn_files
+      event_quiet quiet = as_played (Ok false) mid (told_quiet old mid new e0 e1 t now session u tail more turn_done.reply result reply acts marks has place ready makes quiet)
+
+      module _ (r : Reply) (is_said : turn_done.reply ≡ Some r) {S E : Type 0} (line_said : Result S E) (says : SaysLine line_said mid new (line_text session r)) where
+        -- its line wasn't said whole
+        pub event_unsaid : (e : Stop) → Plays (Err e) old new e0 e1 t now played turn_files
+        event_unsaid e = as_played (Err e) new (told_unsaid old mid new e0 e1 t now session u tail more turn_done.reply result reply acts marks has place ready makes r is_said line_said says e)
+
+        -- it was
+        pub event_said : (refused : Bool) → new.said ≡ mid.said ++ line_text session r → status_after r ≡ (if refused then 1 else 0) → Plays (Ok refused) old new e0 e1 t now played turn_files
+        event_said refused said status = as_played (Ok refused) new (told_said old mid new e0 e1 t now session u tail more turn_done.reply result reply acts marks has place ready makes r is_said line_said says refused said status (λ told. told))

@@ -4,7 +4,7 @@ use Rattle.std.specs.Prelude.{Bool, Ok, Option, Some, None}
 use Rattle.nb_host.specs.World.{World}
 use Rattle.nb_host.specs.Crash.{Untouched}
 use Rattle.nb_change.specs.Changes.{Names, Other}
-use Rattle.nb_model.specs.Going.{Runs, IsGoing}
+use Rattle.nb_model.specs.Going.{Runs, IsMaking}
 use Rattle.nb_model.specs.Image.{Image}
 use Rattle.nb_model.specs.Making.{MadeFile, making_by}
 use Rattle.nb_model.specs.Outcomes.{Begins, ClosesBackup, ClosesCopy}
@@ -67,7 +67,7 @@ apart_other held name apart (inl (inr delta)) = no_main (name_of held) name apar
 apart_other held name apart (inr made) = omega (arith, made.1.1)
 
 -- A turn of another session.
-module _ (session : ℕ) (asker : Asker) (off : session - 1 ≢ asker.number - 1) (refused : Bool) (old new : World) (before after : Held) (t : Trail) (now : Now) (ready : IsReady old before t now) (going : IsGoing now) (has : HasTodo asker now)
+module _ (session : ℕ) (asker : Asker) (off : session - 1 ≢ asker.number - 1) (refused : Bool) (old new : World) (before after : Held) (t : Trail) (now : Now) (ready : IsReady old before t now) (makes : IsMaking now) (has : HasTodo asker now)
     (plays : Plays (Ok refused) old new before after t now (one_turn session now) (making_by session now)) where
   abbrev then : Now
   then = (one_turn session now).1
@@ -78,20 +78,20 @@ module _ (session : ℕ) (asker : Asker) (off : session - 1 ≢ asker.number - 1
   -- it keeps all that rests on a session that runs
   module _ (runs : Runs now (asker.number - 1) 1) where
     still : IsUndisturbed now (asker.number - 1) (one_turn session now)
-    still = others_stay session now going (asker.number - 1) 1 (omega arith) runs off
+    still = others_stay session now makes.named makes.going (asker.number - 1) 1 (omega arith) runs off
 
     runs_on : before.running ≡ Some asker.number → after.running ≡ Some asker.number
     runs_on is = plays.done.ready.running ∙ still.running ∙ sym ready.running ∙ is
 
     untouched : Untouched old new (Other (Touched (name_of before) []))
-    untouched = subst (λ (files : List MadeFile). Untouched old new (Other (Touched (name_of before) files))) (none_making session now going (asker.number - 1) runs off) plays.others
+    untouched = subst (λ (files : List MadeFile). Untouched old new (Other (Touched (name_of before) files))) (none_making session now makes.going (asker.number - 1) runs off) plays.others
 
     read_on : (m : List ℕ) → Other (Touched (name_of before) []) m → new.files m ≡ old.files m
-    read_on = subst (λ (files : List MadeFile). (m : List ℕ) → Other (Touched (name_of before) files) m → new.files m ≡ old.files m) (none_making session now going (asker.number - 1) runs off) plays.others_read
+    read_on = subst (λ (files : List MadeFile). (m : List ℕ) → Other (Touched (name_of before) files) m → new.files m ≡ old.files m) (none_making session now makes.going (asker.number - 1) runs off) plays.others_read
 
   -- who copies, or is to end the stalled state, runs
   runs_by : (task : Task) → asker.task ≡ Some task → IsCopyTurn (task_first task) → Runs now (asker.number - 1) 1
-  runs_by task is copies = copy_runs now (asker.number - 1) _ (task_first task) (task_rest task ++ map Begins asker.statements) (going.each (asker.number - 1))
+  runs_by task is copies = copy_runs now (asker.number - 1) _ (task_first task) (task_rest task ++ map Begins asker.statements) (makes.going.each (asker.number - 1))
       (has ∙ ap (λ (x : Option Task). task_todo x ++ map Begins asker.statements) is) copies
 
   pub goes_on : (task : Option Task) → asker.task ≡ task → TaskGoes asker.number old before (base_now now).frozen task → TaskGoes asker.number new after (base_now then).frozen task

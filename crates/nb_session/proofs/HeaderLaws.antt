@@ -30,7 +30,7 @@ pub header_does : (w : World) (held : Held) (t : Trail) (s : Seen) (reply : Repl
 unfolding header_turn
 header_does w held t s reply base quiet is shown = record {
   answer = ap Some (sym (shown ∙ ap header_of base));
-  makes = makes_none (Ok reply) w w held held t refl quiet is;
+  makes = makes_none (Ok reply) w w held held t refl quiet is is;
   refused = tt;
 }
 

@@ -15,7 +15,7 @@ use Rattle.nb_session.specs.Askers.{IsOneTurn}
 -- such a statement leaves nothing to do
 pub further_single : (statement : Statement) → IsFurther statement → IsOneTurn statement → IsSingle statement
 further_single statement is =
-    built_cases (λ x. IsOneTurn x → IsSingle x) (λ x built on once s session. (pages_once x built on s session).next) (λ once. begin_single) (λ once. absurd once) (λ level name once. absurd once) (λ name once. absurd once)
+    built_cases (λ x. IsOneTurn x → IsSingle x) (λ x built on once s session. (pages_once x built on s session).next) (λ once. begin_single) (λ once. absurd once) (λ level name once. absurd once) (λ guid name once. absurd once) (λ name once. absurd once)
     statement is.is_built
 
 -- What is given for the begin of a backup: a GUID, unless it is refused.

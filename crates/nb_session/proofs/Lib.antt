@@ -8,7 +8,7 @@ pub mod MakesLaws
 pub mod ReadyLaws
 pub mod EventLaws
 pub mod TurnLaws
-pub mod KeptLaws
+pub mod SizedLaws
 pub mod KeepLaws
 pub mod ActLaws
 pub mod WayLaws

@@ -1,5 +1,5 @@
 -- The turns of the end of a backup.
-use Rattle.std.proofs.Common.{◌≡◌, inl, inr, ℕ, zero, suc, ◌+◌, ◌-◌, ◌<◌, ◌≤◌, List, [], ◌∷◌, ◌++◌, length, replicate, refl, sym, ap, subst, ◌∙◌, arith}
+use Rattle.std.proofs.Common.{◌≡◌, inl, inr, ℕ, zero, suc, ◌+◌, ◌-◌, ◌<◌, List, [], ◌∷◌, ◌++◌, length, replicate, refl, sym, ap, subst, ◌∙◌, arith, true≢false}
 use Rattle.std.specs.Prelude.{Result, Ok, Err, IfErr, Option, Some, None, Bool, true, false, not, ◌==◌}
 use Rattle.std.specs.List.{slice_index_or}
 use Rattle.std.proofs.lemmas.Bool.Decides.{eqb_tells}
@@ -9,6 +9,7 @@ use Rattle.nb_host.specs.declared.faults.Fault.{Fault}
 use Rattle.nb_host.specs.declared.faults.Fault.TheVariants.{Refused, Device, Memory}
 use Rattle.nb_host.specs.declared.refusals.Refusal.{Refusal}
 use Rattle.nb_host.specs.declared.refusals.Refusal.TheVariants.{WrongState, BackupRunning}
+use Rattle.nb_page.specs.Quiet.{Quiet}
 use Rattle.nb_model.specs.declared.reply.Reply.{Reply}
 use Rattle.nb_model.specs.declared.reply.Reply.TheVariants.{Refused as RefusedBy, Scn}
 use Rattle.nb_model.specs.declared.statement.Statement.TheVariants.{EndBackup}
@@ -36,7 +37,9 @@ use Rattle.nb_session.specs.Askers.{IsMerging, merge_first, merge_rest, task_tod
 use Rattle.nb_session.specs.declared.task.Task.TheVariants.{Merge}
 use Rattle.nb_session.specs.Ready.{IsReady}
 use Rattle.nb_session.specs.Steps.{IsBehind}
-use Rattle.nb_session.proofs.ActLaws.{trail_plain, ended_map, strikes_left, kept_none, says_none}
+use Rattle.nb_session.specs.Replies.{only_told}
+use Rattle.nb_session.proofs.ActLaws.{trail_plain, ended_map, strikes_left, kept_none, says_none, and_quiet, unsaid_unchanged}
+use Rattle.nb_session.proofs.EventLaws.{unsaid}
 use Rattle.nb_session.proofs.GiftLaws.{given_nothing, grows_none}
 use Rattle.nb_session.proofs.TurnLaws.{seen_now, outcome_is}
 use Rattle.nb_session.proofs.WayLaws.{merge_turns, ending_at}
@@ -119,7 +122,7 @@ unopposed : (s : Seen) (session : ℕ) → (unless s None (ending s session)).re
 unfolding unless
 unopposed s session = ends_reply s session (Scn (end_scn s.base.image))
 
-pub end_quiet : (s : Seen) (session : ℕ) → image_state s.base.image ≡ 1 → s.running ≡ Some session → (end_turn s session).reply ≡ None
+end_quiet : (s : Seen) (session : ℕ) → image_state s.base.image ≡ 1 → s.running ≡ Some session → (end_turn s session).reply ≡ None
 end_quiet s session stalled runs =
     ap (λ (o : Outcome). o.reply) (end_turn_is s session) ∙ ap (λ (c : Cause). (unless s c (ending s session)).reply) (none_against s session stalled runs) ∙ unopposed s session
 
@@ -156,6 +159,7 @@ module _ (old new : World) (a b : Held) (t : Trail) (now : Now) (session : ℕ) 
           running = subst (λ (x : Outcome). WhereEnded result (b.running ≡ x.running)) same does.running;
           given = where_ended result _ (given_nothing old new now.given (outcome session (Begins EndBackup) now).given does.gave (sym (ap (λ (x : Outcome). x.given) same) ∙ end_given (seen_now now) session));
           kept = where_ended result _ (kept_none new (event_of session (Begins EndBackup) (outcome session (Begins EndBackup) now)) (sym (ap (λ (x : Outcome). x.made) same) ∙ end_made (seen_now now) session));
+          unchanged = unsaid_unchanged result old new (event_of session (Begins EndBackup) (outcome session (Begins EndBackup) now)) (subst (λ (x : Outcome). Says (λ scn. None) result x.reply) same (says_none result turn_of.reply does.says)) (and_quiet (b ≡ a) (Quiet old new) result does.refused);
           name = does.name;
         };
       }
@@ -228,6 +232,7 @@ module _ (old new : World) (a b : Held) (t : Trail) (now : Now) (session : ℕ) 
         running = subst (λ (r : Option ℕ). WhereEnded result (b.running ≡ r)) running_is does.running;
         given = where_ended result _ (given_nothing old new now.given this.given does.gave (ap (λ (x : Outcome). x.given) (ends_is session reply now) ∙ ends_given (seen_now now) session reply));
         kept = where_ended result _ (kept_none new (event_of session (Ends reply) this) (ap (λ (x : Outcome). x.made) (ends_is session reply now) ∙ ends_made (seen_now now) session reply));
+        unchanged = unsaid_unchanged result old new (event_of session (Ends reply) this) (subst (Says (λ scn. None) result) reply_is (says_none result turn_of.reply does.says)) (and_quiet (b ≡ a) (Quiet old new) result does.refused);
         name = does.name;
       };
     }
@@ -263,8 +268,8 @@ module _ (old new : World) (a b : Held) (t : Trail) (now : Now) (session : ℕ) 
   -- it fails
   failed : (u : Turn) (ss : List Stroke) (fault : Fault) → IsNoRefusal fault → (outcome session u now).strokes ≡ ss → Strikes old new (name_of a) t ss → name_of b ≡ name_of a → Acts (merge_said reply) (Err fault) old new a b t now session u []
   failed u ss (Refused refusal) none is struck name = absurd none
-  failed u ss Device none is struck name = record { says = tt; left = strikes_left old new (name_of a) t _ (subst (Strikes old new (name_of a) t) (sym is) struck); opened = tt; running = tt; given = tt; kept = tt; name = name }
-  failed u ss Memory none is struck name = record { says = tt; left = strikes_left old new (name_of a) t _ (subst (Strikes old new (name_of a) t) (sym is) struck); opened = tt; running = tt; given = tt; kept = tt; name = name }
+  failed u ss Device none is struck name = record { says = tt; left = strikes_left old new (name_of a) t _ (subst (Strikes old new (name_of a) t) (sym is) struck); opened = tt; running = tt; given = tt; kept = tt; unchanged = tt; name = name }
+  failed u ss Memory none is struck name = record { says = tt; left = strikes_left old new (name_of a) t _ (subst (Strikes old new (name_of a) t) (sym is) struck); opened = tt; running = tt; given = tt; kept = tt; unchanged = tt; name = name }
 
   finishes : (result : Result Progress Fault) → IfErr result IsNoRefusal → IsMerging session 0 a → Merges result old new a b t → Acts (merge_said reply) result old new a b t now session (Finishes reply) []
   finishes (Ok More) none merging merges = absurd (omega (arith, diverted 0 merging, merges.on.0))
@@ -277,6 +282,7 @@ module _ (old new : World) (a b : Held) (t : Trail) (now : Now) (session : ℕ) 
         running = merges.on.1 ∙ sym (ap (λ (x : Outcome). x.running) o);
         given = given_nothing old new now.given (outcome session (Finishes reply) now).given merges.gave (ap (λ (x : Outcome). x.given) o);
         kept = kept_none new (event_of session (Finishes reply) (outcome session (Finishes reply) now)) (ap (λ (x : Outcome). x.made) o);
+        unchanged = λ told. absurd (true≢false (sym (ap (λ (x : Outcome). only_told (event_of session (Finishes reply) x)) (sym o) ∙ told)));
         name = merges.name;
       }
   finishes (Err fault) none merging merges = failed (Finishes reply) (finish ∷ []) fault none (ap (λ (x : Outcome). x.strokes) (finish_is session reply now)) merges.left merges.name
@@ -294,6 +300,7 @@ module _ (old new : World) (a b : Held) (t : Trail) (now : Now) (session : ℕ) 
         running = merges.on.2 ∙ ready.running ∙ sym (ap (λ (x : Outcome). x.running) o);
         given = given_nothing old new now.given (outcome session MergesOne now).given merges.gave (ap (λ (x : Outcome). x.given) o);
         kept = kept_none new (event_of session MergesOne (outcome session MergesOne now)) (ap (λ (x : Outcome). x.made) o);
+        unchanged = λ told. absurd (unsaid (event_of session MergesOne (outcome session MergesOne now)) (ap (λ (x : Outcome). x.reply) o) told);
         name = merges.name;
       }
   merges_one (Ok Finished) none left merging merges = absurd (omega (arith, diverted (suc left) merging, merges.on.0))
@@ -306,9 +313,6 @@ module _ (old new : World) (a b : Held) (t : Trail) (now : Now) (session : ℕ) 
 
 -- how far the session is behind one turn
 module _ (session : ℕ) (reply : Reply) (a b : Held) where
-  pub more_left : (left : ℕ) → IsMerging session left a → GoesOn More a b → 1 ≤ left
-  more_left left merging goes = omega (arith, merging.rest, goes.0)
-
   pub more_behind : (w : World) (now : Now) (left : ℕ) → IsMerging session left a → GoesOn More a b
       → IsBehind w b session (merge_first left (Finishes reply)) (merge_rest left (Finishes reply)) now (Some (Merge (record { left = left - 1; reply = reply })))
   more_behind w now zero merging goes = absurd (omega (arith, merging.rest, goes.0))
@@ -319,13 +323,6 @@ module _ (session : ℕ) (reply : Reply) (a b : Held) where
             ∙ ap (λ (n : ℕ). task_todo (Some (Merge (record { left = n; reply = reply })))) one;
         goes = tt;
       }
-
-  pub more_merging : (left : ℕ) → IsMerging session left a → GoesOn More a b → IsMerging session (left - 1) b
-  more_merging left merging goes = record {
-    state = goes.2;
-    running = goes.3 ∙ merging.running;
-    rest = omega (arith, ap length goes.4, goes.1, merging.rest, goes.0);
-  }
 
   pub finished_behind : (w : World) (now : Now) (left : ℕ) → IsMerging session left a → GoesOn Finished a b
       → IsBehind w b session (merge_first left (Finishes reply)) (merge_rest left (Finishes reply)) now None

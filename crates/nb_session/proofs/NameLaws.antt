@@ -22,9 +22,9 @@ use Rattle.nb_model.specs.Turns.{first_turn, turn}
 use Rattle.nb_model.proofs.FinishLaws.{IsPlainTurn}
 use Rattle.nb_model.proofs.GoingLaws.{one_cases, own_todo, other_todo, going_plain, going_turn, named_turn}
 use Rattle.nb_model.proofs.MakingLaws.{made_append, made_among}
-use Rattle.nb_model.proofs.TurnCases.{built_cases, begin_either, end_either, backup_either, copy_either, pages_once}
+use Rattle.nb_model.proofs.TurnCases.{built_cases, begin_either, end_either, backup_either, since_either, copy_either, pages_once}
 use Rattle.nb_script.specs.Asked.{IsFurther, IsAskable}
-use Rattle.nb_script.specs.Fits.{Fits, IsFile}
+use Rattle.nb_script.specs.Fits.{FitsAsked, IsFile}
 use Rattle.nb_script.specs.Scripts.{Plan}
 use Rattle.nb_session.proofs.AllLaws.{all_append}
 
@@ -67,7 +67,8 @@ module _ (P : List ℕ → Type 0) where
         (λ x is on named. subst Named (sym (pages_once x is on s session).next) tt)
         (λ named. begin_either Leaves s (λ r. tt) (λ may. tt))
         (λ named. end_either Leaves s session (λ r. tt) (λ may. merging_names _))
-        (λ level name named. backup_either Leaves s session level name (λ r. tt) (λ from is may. many (length (room_in s.base.image).draft.image) Copies _ tt named))
+        (λ level name named. backup_either Leaves s session level name (λ r. tt) (λ ask is may. many (length (room_in s.base.image).draft.image) Copies _ tt named))
+        (λ guid name named. since_either Leaves s session guid name (λ r. tt) (λ ask is may. many (length (room_in s.base.image).draft.image) Copies _ tt named))
         (λ name named. copy_either Leaves s session name (λ r. tt) (λ may. many (length s.base.frozen) Copies (ClosesCopy name) tt named))
 
     next_names : (u : Turn) → IsPlainTurn u → HasName P u → Leaves (turn s session u)
@@ -117,16 +118,16 @@ module _ (P : List ℕ → Type 0) where
       ]
 
 -- a name that a user may give is that of no difference file
-given_plain : (name : List ℕ) → IsFile name → is_delta name ≡ false
+pub given_plain : (name : List ℕ) → IsFile name → is_delta name ≡ false
 given_plain name is = by (is_delta name) (and_parts _ (not (is_delta name)) is).1
   where
     by : (delta : Bool) → not delta ≡ true → delta ≡ false
     by false h = refl
     by true h = sym h
 
-asked_plain : (statement : Statement) → Fits statement → HasName (λ name. is_delta name ≡ false) (Begins statement)
+asked_plain : (statement : Statement) → FitsAsked statement → HasName (λ name. is_delta name ≡ false) (Begins statement)
 asked_plain (Backup level name) fits = given_plain name fits.1
-asked_plain (BackupSince guid name) fits = absurd fits
+asked_plain (BackupSince guid name) fits = given_plain name fits
 asked_plain (CopyTo name) fits = given_plain name fits
 asked_plain other fits = tt
 

@@ -94,7 +94,7 @@ module _ (now : Now) (making : IsMaking now) (front : List ℕ) (session : ℕ) 
     next_once = once_fewer (made ++ making_by session so_far.1) (files_made so_far.0 ++ under_way so_far.1) all_among (names_once front now making)
 
     pub next_among : AreAmong (made ++ making_by session so_far.1) (files_made (so_far.0 ++ next.0) ++ under_way next.1)
-    next_among file there = made_ahead so_far.0 next.0 (under_way so_far.1) (under_way next.1) (under_among session so_far.1 far_making.going) file (all_among file there)
+    next_among file there = made_ahead so_far.0 next.0 (under_way so_far.1) (under_way next.1) (under_among session so_far.1 far_making.named far_making.going) file (all_among file there)
 
     pub next_has : AreAmong (files_made so_far.0) made → AreAmong (files_made (so_far.0 ++ next.0)) (made ++ making_by session so_far.1)
     next_has has = made_both so_far.0 next.0 (made ++ making_by session so_far.1) (λ file there. among_left made (making_by session so_far.1) file (has file there))

@@ -1,7 +1,10 @@
 -- Turns behind turns.
 use Rattle.std.proofs.Common.{◌≡◌, inl, inr, ℕ, zero, suc, List, [], ◌++◌, take, Bool, false, refl, sym, ap, subst, ◌∙◌, arith, append_assoc, max}
-use Rattle.std.specs.Prelude.{Contains, Result, Ok, Err, IfOk, ◌||◌, if◌then◌else◌}
+use Rattle.std.specs.Prelude.{Contains, Result, Ok, Err, IfOk, true, ◌&&◌, ◌||◌, if◌then◌else◌}
+use Rattle.std.specs.List.{list_all}
+use Rattle.std.proofs.lemmas.Bool.{true≢false}
 use Rattle.std.proofs.lemmas.List.{append-nil}
+use Rattle.std.proofs.lemmas.List.Folds.{list_all-append}
 use Rattle.std.proofs.lemmas.List.Elements.{Contains-append_cases}
 use Rattle.nb_host.specs.Files.{File}
 use Rattle.nb_host.specs.World.{World}
@@ -23,6 +26,7 @@ use Rattle.nb_state.specs.Open.{Held, name_of}
 use Rattle.nb_session.specs.declared.stop.Stop.{Stop}
 use Rattle.nb_session.specs.Acts.{Touched, AreKept}
 use Rattle.nb_session.specs.Ready.{IsReady}
+use Rattle.nb_session.specs.Replies.{only_told}
 use Rattle.nb_session.specs.Stops.{StopLeft, PlayedOut, Plays}
 use Rattle.nb_session.proofs.GiftLaws.{given_nothing, given_joined}
 use Rattle.nb_session.proofs.MadeLaws.{among_left, among_right}
@@ -100,6 +104,10 @@ module _ (result : Result Bool Stop) (old new : World) (before after : Held) (t 
   pub plays_wider : (few many : List MadeFile) → AreAmong few many → NamesOnce many → AreApart (name_of before) many → Plays result old new before after t now p few → Plays result old new before after t now p many
   plays_wider few many among once apart plays = plays_by many (leads_wider old new (name_of before) t p.0 few many among once apart (leads_of few plays)) plays.name plays.done
 
+pub both_true : (a b : Bool) → (a && b) ≡ true → (a ≡ true) × (b ≡ true)
+both_true true b all = (refl, all)
+both_true false b all = absurd (true≢false (sym all))
+
 -- no turn yet
 after_none : (t : Trail) → after_steps t (steps_of []) ≡ t
 after_none t = ap (after_steps t) steps_none ∙ after_no_step t
@@ -137,6 +145,7 @@ plays_none old held t now timely ready = record {
     status = status_no_event;
     given = given_nothing old old now.given now.given (record { guids = refl; times = refl }) refl;
     kept = λ n bytes there. absurd (no_made 0 n bytes there);
+    unchanged = λ all. refl;
   };
 }
 
@@ -181,6 +190,7 @@ module _ (old mid new : World) (e0 e1 e2 : Held) (t : Trail) (now : Now) (p q : 
         ∙ ap (λ (x : ℕ). max (if a then 1 else 0) x) second.done.status ∙ status_or a b;
     given = given_joined old mid new now.given p.1.given q.1.given first.done.given second.done.given;
     kept = kept_then a (Ok b) first second second.done.kept;
+    unchanged = λ all. let both = both_true (list_all only_told p.0) (list_all only_told q.0) (sym (list_all-append only_told p.0 q.0) ∙ all) in second.done.unchanged both.1 ∙ first.done.unchanged both.0;
   })
 
   -- the second ends early

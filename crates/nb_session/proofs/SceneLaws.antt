@@ -218,7 +218,7 @@ module _ {H : Type 0} (tells : Bool) (told : IsTrue tells) (world : H → World)
       goes_then = each_then (λ a. TaskGoes a.number (world s'.host) s'.shared (base_now (one_turn session p.1).1).frozen a.task)
           (subst (λ (k : ℕ). TaskGoes k (world s'.host) s'.shared (base_now (one_turn session p.1).1).frozen moved.task) (sym same)
           (subst (λ (k : ℕ). TaskGoes asker.number (world s'.host) s'.shared (base_now (one_turn k p.1).1).frozen moved.task) mine (next_is.goes (told_then (Ok tt) made given sixteen foretold))))
-          (λ n a at off. goes_on session a off made.refused (world s.host) (world s'.host) s.shared s'.shared (trail_after t p) p.1 far.plays.done.ready (making_play front (from given) (making_giving now given sixteen making)).going
+          (λ n a at off. goes_on session a off made.refused (world s.host) (world s'.host) s.shared s'.shared (trail_after t p) p.1 far.plays.done.ready (making_play front (from given) (making_giving now given sixteen making))
           (far.todo n a at) (turn_plays (Ok tt) made given sixteen foretold) a.task refl (far.goes n a at))
 
       turn_far : IsSoFar (front ++ session ∷ []) s' given

@@ -39,7 +39,7 @@ use Rattle.nb_session.proofs.EventLaws.{Marks, event_failed, event_quiet, event_
 use Rattle.nb_session.proofs.GiftLaws.{foretold_still, grows_joined, grows_none}
 
 -- a result that is a failure
-plays_err : {T : Type 0} (refused : T → Bool) (result : Result T Fault) (old new : World) (before after : Held) (t : Trail) (now : Now) (p : Played) (files : List MadeFile) → IsErr result
+pub plays_err : {T : Type 0} (refused : T → Bool) (result : Result T Fault) (old new : World) (before after : Held) (t : Trail) (now : Now) (p : Played) (files : List MadeFile) → IsErr result
     → ((e : Stop) → Plays (Err e) old new before after t now p files) → Plays (as_played refused result) old new before after t now p files
 plays_err refused (Ok value) old new before after t now p files is plays = absurd (cc (is))
 plays_err refused (Err (Refused refusal)) old new before after t now p files is plays = plays MemoryStop
@@ -112,6 +112,11 @@ module _ {T S : Type 0} (reply : T → Option Reply) (result : Result T Fault) (
           event_said old mid new e0 e1 t now session u tail more result reply acts (marks (before told)) has place ready makes r reply_is told_line says (refused value) said (status reply_is);
       behind = λ told. behind (before told);
     }
+
+-- what doesn't come
+pub turns_never : {S : Type 0} (refused : S → Bool) (task : S → Option Task) (answer : Result S Fault) (old new : World) (a b : Held) (t : Trail) (now : Now) (session : ℕ) (u : Turn) (tail more : List Turn) → ⊥
+    → Turns refused task answer old new a b t now session u tail more
+turns_never refused task answer old new a b t now session u tail more never = absurd never
 
 -- what a turn sees
 abbrev pub seen_now : Now → Seen

@@ -1,5 +1,5 @@
 -- What a session has to do next, and what the database is like then.
-use Rattle.std.proofs.Common.{◌≡◌, ℕ, zero, suc, List, [], ◌∷◌, ◌++◌, replicate, refl, sym, ap, subst, ◌∙◌}
+use Rattle.std.proofs.Common.{◌≡◌, ℕ, zero, suc, List, [], ◌∷◌, ◌++◌, replicate, refl, ap, subst, ◌∙◌}
 use Rattle.std.specs.Prelude.{Option, Some, None, true}
 use Rattle.nb_model.specs.declared.reply.Reply.{Reply}
 use Rattle.nb_model.specs.Causes.{is_free_entry}
@@ -132,12 +132,3 @@ module _ (now : Now) (place : ℕ) where
       absurd (cc)
   ending_at reply more (ends r rest todo all runs) = runs
   ending_at reply more (merges all runs) = absurd all
-
--- turns that end in the same close
-pub last_backup : (m n : ℕ) (b d : Backing) → replicate m Copies ++ ClosesBackup b ∷ [] ≡ replicate n Copies ++ ClosesBackup d ∷ [] → b ≡ d
-unfolding closing
-last_backup m n b d same =
-    let first : closing (replicate m Copies ++ ClosesBackup b ∷ []) ≡ Some (ClosesBackup b) = closing_behind m (ClosesBackup b ∷ []) in
-    let second : closing (replicate n Copies ++ ClosesBackup d ∷ []) ≡ Some (ClosesBackup d) = closing_behind n (ClosesBackup d ∷ []) in
-    let both : Some (ClosesBackup b) ≡ Some (ClosesBackup d) = sym first ∙ ap closing same ∙ second in
-    cc

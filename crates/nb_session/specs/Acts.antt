@@ -1,5 +1,5 @@
 -- What one turn makes of the database before its line is said.
-use Rattle.std.specs.Prelude.{◌≡◌, ◌⊎◌, ℕ, List, [], ◌∷◌, length, Option, Some, Result, Ok, Err, Contains}
+use Rattle.std.specs.Prelude.{◌≡◌, ◌⊎◌, ℕ, List, [], ◌∷◌, length, Option, Some, Result, Ok, Err, Contains, true}
 use Rattle.std.specs.List.{AllByRecursion}
 use Rattle.nb_host.specs.Files.{Files}
 use Rattle.nb_host.specs.World.{World}
@@ -20,6 +20,7 @@ use Rattle.nb_base.specs.Open.{OfFiles}
 use Rattle.nb_copy.specs.Making.{IsKept, IsUnfinishedOr}
 use Rattle.nb_state.specs.Open.{Held, IsOpen, name_of}
 use Rattle.nb_state.specs.Does.{WhereEnded}
+use Rattle.nb_session.specs.Replies.{only_told}
 
 -- what is to be said, if anything; a failure says nothing of it
 abbrev pub Says : {T : Type 0} → (T → Option Reply) → Result T Fault → Option Reply → Type 0
@@ -57,7 +58,7 @@ pub record TurnLeft (old : World) (name : List ℕ) (t : Trail) (strokes : List 
   pub each : MadeLeft old made files
 
 -- The strokes of a turn are made in order, and what it is to say is answered. Once it has ended with a value or a refusal the database is
--- open behind its steps, and the file that the turn made whole is kept for good.
+-- open behind its steps, the file that the turn made whole is kept for good, and where it only tells something no file has changed.
 pub record Acts {T : Type 0} (reply : T → Option Reply) (result : Result T Fault) (old new : World) (before after : Held) (t : Trail) (now : Now) (session : ℕ) (turn : Turn) (made : List MadeFile) : Type 0 where
   pub says : Says reply result (outcome session turn now).reply
   pub left : Changes old new (Touched (name_of before) made) (TurnLeft old (name_of before) t (outcome session turn now).strokes made)
@@ -65,6 +66,7 @@ pub record Acts {T : Type 0} (reply : T → Option Reply) (result : Result T Fau
   pub running : WhereEnded result (after.running ≡ (outcome session turn now).running)
   pub given : WhereEnded result (WasGiven old new now.given (outcome session turn now).given)
   pub kept : WhereEnded result (AreKept new (files_made (event_of session turn (outcome session turn now) ∷ [])))
+  pub unchanged : WhereEnded result (only_told (event_of session turn (outcome session turn now)) ≡ true → new.files ≡ old.files)
   pub name : name_of after ≡ name_of before
 
 -- It does so where the outside gives what it may give.

@@ -3,7 +3,7 @@ use Rattle.std.proofs.Common.{sym, ◌∙◌}
 use Rattle.std.specs.Prelude.{◌≡◌, ◌≢◌, ℕ, zero, suc, ◌+◌, ◌-◌, Bool, false, List, [], ◌∷◌, ◌++◌, length, map, replicate, Option, Some, None}
 use Rattle.std.specs.List.{AllByRecursion, list_any, slice_index_or}
 use Rattle.nb_model.specs.declared.statement.Statement.{Statement}
-use Rattle.nb_model.specs.declared.statement.Statement.TheVariants.{EndBackup, Backup as BackupTo, CopyTo}
+use Rattle.nb_model.specs.declared.statement.Statement.TheVariants.{EndBackup, Backup as BackupTo, BackupSince, CopyTo}
 use Rattle.nb_model.specs.Outcomes.{Turn, Begins, Copies, ClosesBackup, ClosesCopy, Ends, Merges, Finishes}
 use Rattle.nb_model.specs.Run.{Now, all_sessions}
 use Rattle.nb_copy.specs.FileCopying.{file_count, file_next}
@@ -18,8 +18,21 @@ use Rattle.nb_session.specs.declared.task.Task.TheVariants.{Backup, Copy, End, M
 abbrev pub IsOneTurn : Statement → Type 0
 IsOneTurn EndBackup = ⊥
 IsOneTurn (BackupTo level name) = ⊥
+IsOneTurn (BackupSince guid name) = ⊥
 IsOneTurn (CopyTo name) = ⊥
 IsOneTurn other = Unit {0}
+
+-- the statement asks for a backup
+abbrev pub IsBackup : Statement → Type 0
+IsBackup (BackupTo level name) = Unit {0}
+IsBackup (BackupSince guid name) = Unit {0}
+IsBackup other = ⊥
+
+-- and for it into a file of that name
+abbrev pub file_asked : Statement → List ℕ
+file_asked (BackupTo level name) = name
+file_asked (BackupSince guid name) = name
+file_asked other = []
 
 -- What a contract sees of a session.
 pub record Asker : Type 0 where

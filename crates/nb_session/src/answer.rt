@@ -38,7 +38,8 @@ pub fn say<H: Host>(alloc: Global, host: &mut H, session: u32, reply: &Reply) ->
     Ok(())
 }
 
-fn is_refusal(reply: &Reply) -> bool
+/// Whether the reply is a refusal.
+pub(crate) fn is_refusal(reply: &Reply) -> bool
     ensures { result ≡ is_refusal reply.now }
 {
     match reply {

@@ -1,15 +1,21 @@
 // Backups and copies of the frozen file, which take a turn for each page.
-ghost use Rattle.std.specs.Prelude.{◌≡◌, ◌≢◌, ◌<◌, ◌≤◌, ℕ, ◌-◌, List, [], ◌∷◌, ◌++◌, None, Some, false, IsTrue, IfOk, IfErr};
+ghost use Rattle.std.specs.Prelude.{◌≡◌, ◌≢◌, ◌<◌, length, ℕ, ◌-◌, List, [], ◌∷◌, ◌++◌, None, Some, false, IsTrue, IfOk, IfErr};
 ghost use Rattle.std.specs.List.{slice_index_or};
 ghost use Rattle.nb_host.specs.Names.{is_delta};
 ghost use Rattle.nb_change.specs.Counts.{CountsDevice};
-ghost use Rattle.nb_model.specs.declared.statement.Statement.TheVariants.{Backup as BackupTo, CopyTo};
+ghost use Rattle.nb_model.specs.declared.statement.Statement.TheVariants.{CopyTo};
 ghost use Rattle.nb_model.specs.Going.{IsMaking};
-ghost use Rattle.nb_model.specs.Outcomes.{Begins, Turn};
+ghost use Rattle.nb_model.specs.Outcomes.{Begins, Seen, Turn, next_guid};
 ghost use Rattle.nb_model.specs.Run.{Now};
+ghost use Rattle.nb_model.specs.Sound.{IsSoundImage};
 ghost use Rattle.nb_model.specs.Trail.{Trail};
+ghost use Rattle.nb_model.specs.Turns.{first_turn};
 ghost use Rattle.nb_base.specs.Takes.{IsNoRefusal};
-ghost use Rattle.nb_session.specs.Askers.{KeepsOthers, TaskFits, task_first, task_rest, task_left};
+ghost use Rattle.nb_script.specs.Asked.{IsFurther};
+ghost use Rattle.nb_state.specs.Open.{IsOpen};
+ghost use Rattle.nb_state.specs.Turns.{GaveAtMost};
+ghost use Rattle.nb_copy.specs.Starting.{KnowsFree, StartsBackup};
+ghost use Rattle.nb_session.specs.Askers.{IsBackup, file_asked, KeepsOthers, TaskFits, task_first, task_rest, task_left};
 ghost use Rattle.nb_session.specs.declared.task.Task.TheVariants.{Backup, Copy};
 ghost use Rattle.nb_session.specs.Ready.{IsReady, TaskGoes};
 ghost use Rattle.nb_session.specs.Steps.{Turns};
@@ -20,7 +26,7 @@ use crate::task::{Taken, Task};
 use nb_copy::{Copier, FileCopier};
 use nb_engine::Engine;
 use nb_host::{Fault, Host, Name};
-use nb_model::Reply;
+use nb_model::{Reply, Statement};
 use nb_state::Progress;
 use std::alloc::Global;
 
@@ -45,26 +51,55 @@ fn stop_running(engine: &mut Engine, session: u32)
     }
 }
 
-/// The first turn of `backup L to`. Where it is refused the refusal is said, and it is done.
+/// Begins the backup that a statement asks for.
+fn start<H: Host>(
+    alloc: Global,
+    host: &mut H,
+    engine: &mut Engine,
+    session: u32,
+    statement: &Statement,
+) -> Result<Copier, Fault>
+    requires asked { IsFurther statement.now }
+    requires backup { IsBackup statement.now }
+    ensures turn { (s : Seen) (t : Trail) → IsTrue H.tells → t.base ≡ s.base → engine.old.running ≡ s.running → IsOpen (H.world host.old) engine.old t → IsSoundImage t.base.image
+        → KnowsFree 0 (H.world host.old).files s (file_asked statement.now) → GaveAtMost (H.world host.old) (H.world host.new) (next_guid s.given)
+        → StartsBackup result (H.world host.old) (H.world host.new) engine.old engine.new t (next_guid s.given) (first_turn s session statement.now) }
+    ensures asks { (t : Trail) → IsTrue H.tells → IsOpen (H.world host.old) engine.old t → (guid : List ℕ) × (length guid ≡ 16) × GaveAtMost (H.world host.old) (H.world host.new) guid }
+    ensures stays { engine.old.files.state ≡ 2 → engine.new ≡ engine.old }
+    ensures size { IfOk result (λ copier. copier.page_size ≡ engine.old.files.page_size) }
+    ensures page_size { engine.new.files.page_size ≡ engine.old.files.page_size }
+    ensures cause { CountsDevice result (H.faults host.old) (H.faults host.new) }
+{
+    match statement {
+        Statement::Backup { level, name } => {
+            Copier::start(alloc, host, engine, session, *level, name)
+        }
+        Statement::BackupSince { guid, name } => {
+            Copier::start_since(alloc, host, engine, session, guid, name)
+        }
+        _ => unreachable!(),
+    }
+}
+
+/// The first turn of a backup. Where it is refused the refusal is said, and it is done.
 pub fn begin_backup<H: Host>(
     alloc: Global,
     host: &mut H,
     engine: &mut Engine,
     session: u32,
-    level: u8,
-    name: &Name,
+    statement: &Statement,
 ) -> Result<Taken, Fault>
-    requires level { level ≤ 9 }
-    requires plain { is_delta name.now ≡ false }
+    requires asked { IsFurther statement.now }
+    requires backup { IsBackup statement.now }
     ensures turn { (now : Now) (t : Trail) (more : List Turn) → IsTrue H.tells → IsReady (H.world host.old) engine.old t now → IsMaking now
-        → slice_index_or now.todo (session - 1) [] ≡ Begins (BackupTo level name.now) ∷ more
-        → Turns (λ taken. taken.refused) (λ taken. taken.task) result (H.world host.old) (H.world host.new) engine.old engine.new t now session (Begins (BackupTo level name.now)) [] more }
+        → slice_index_or now.todo (session - 1) [] ≡ Begins statement.now ∷ more
+        → Turns (λ taken. taken.refused) (λ taken. taken.task) result (H.world host.old) (H.world host.new) engine.old engine.new t now session (Begins statement.now) [] more }
     ensures fits { IfOk result (λ taken. TaskFits session taken.task engine.new) }
     ensures others { KeepsOthers session engine.old engine.new }
     ensures cause { CountsDevice result (H.faults host.old) (H.faults host.new) }
     ensures not_refused { IfErr result IsNoRefusal }
 {
-    match Copier::start(alloc, host, engine, session, level, name) {
+    match start(alloc, host, engine, session, statement) {
         Ok(copier) => Ok(under_way(Task::Backup(copier))),
         Err(Fault::Refused(refusal)) => say_refused(alloc, host, session, refusal),
         Err(Fault::Device) => Err(Fault::Device),

@@ -64,8 +64,8 @@ fn begin_statement<H: Host>(
 {
     match statement {
         Statement::EndBackup => begin_merge(alloc, host, engine, session),
-        Statement::Backup { level, name } => {
-            begin_backup(alloc, host, engine, session, *level, name)
+        Statement::Backup { .. } | Statement::BackupSince { .. } => {
+            begin_backup(alloc, host, engine, session, statement)
         }
         Statement::CopyTo { name } => begin_copy(alloc, host, engine, session, name),
         _ => {

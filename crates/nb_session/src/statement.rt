@@ -10,6 +10,7 @@ ghost use Rattle.nb_model.specs.Run.{Now};
 ghost use Rattle.nb_model.specs.Sound.{IsSoundImage};
 ghost use Rattle.nb_model.specs.Trail.{Trail};
 ghost use Rattle.nb_base.specs.Takes.{IsNoRefusal};
+ghost use Rattle.nb_shown.specs.Replies.{pages_shown};
 ghost use Rattle.nb_script.specs.Asked.{IsFurther};
 ghost use Rattle.nb_session.specs.Acts.{Says, MayAct};
 ghost use Rattle.nb_session.specs.Askers.{IsOneTurn, KeepsOthers};
@@ -19,6 +20,7 @@ ghost use Rattle.nb_session.specs.Replies.{some_said, HasEnded, header_of};
 use nb_engine::Engine;
 use nb_host::{Fault, Host};
 use nb_model::{Reply, Statement, Text};
+use nb_shown::{PageCounts, count_pages, image_digest};
 use std::alloc::Global;
 
 /// What the header of the open database says, and how many pages its difference file holds.
@@ -37,6 +39,21 @@ fn header_shown(engine: &Engine) -> Reply
         forced: engine.forced(),
         access: engine.access(),
         delta,
+    }
+}
+
+/// The counts of pages as they are shown.
+fn pages_shown(counts: &PageCounts) -> Reply
+    ensures { result ≡ pages_shown counts.now }
+{
+    Reply::PagesShown {
+        header: counts.header,
+        inventory: counts.inventory,
+        scn: counts.scn,
+        data_pages: counts.data_pages,
+        raw: counts.raw,
+        other: counts.other,
+        free: counts.free,
     }
 }
 
@@ -90,6 +107,17 @@ pub fn do_statement<H: Host>(
             Ok(Reply::Done)
         }
         Statement::ShowHeader => Ok(header_shown(engine)),
+        Statement::ShowPages => {
+            let counts = count_pages(host, engine)?;
+            Ok(pages_shown(&counts))
+        }
+        Statement::ShowImage => {
+            let sha256 = image_digest(host, engine)?;
+            Ok(Reply::ImageShown {
+                pages: engine.count(),
+                sha256,
+            })
+        }
         _ => unreachable!(),
     }
 }

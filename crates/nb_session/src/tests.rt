@@ -20,7 +20,7 @@ fn name_of() -> Result<Name, Fail>
 fn played(alloc: Global, text: &[u8]) -> Result<(bool, Vec<u8>), Fail> {
     let script = parse(alloc, text)?;
     let mut host = MemHost::new(alloc)?;
-    let mut engine = Engine::create(alloc, &mut host, &name_of()?, 1024, 8)?;
+    let mut engine = Engine::create(alloc, &mut host, &name_of()?, 1024, 8, 4)?;
     let refused = take_turns(alloc, &mut host, &mut engine, &script)?;
     Ok((refused, host.output().to_vec(alloc)?))
 }

@@ -15,9 +15,10 @@ use Rattle.nb_model.proofs.HeaderLaws.{header-long, same-number}
 use Rattle.nb_model.proofs.MainLaws.{some_page}
 use Rattle.nb_model.proofs.StrokeLaws.{with_page_same, with_page_other}
 use Rattle.nb_model.proofs.TrailLaws.{trail_base}
-use Rattle.nb_base.specs.Open.{IsOpen as AreOpen, AreMerged, Fits}
+use Rattle.nb_base.specs.Open.{AreMerged, Fits}
 use Rattle.nb_base.proofs.ControlLaws.{with_control-first}
 use Rattle.nb_base.proofs.LeftLaws.{merged_fits, stroke-image, later_front}
+use Rattle.nb_owner.specs.Open.{IsOpen as PairOpen}
 use Rattle.nb_state.specs.Open.{Held, AgreesWith, IsOpen}
 use Rattle.nb_state.specs.Does.{Goes}
 
@@ -62,13 +63,13 @@ module _ (t : Trail) (p : ℕ) (bytes : Page) (fits : Fits p bytes t.base.image)
   guid_stays : image_guid later ≡ image_guid t.base.image
   guid_stays = sym (part-take 64 32 16 (first_page later) (omega arith)) ∙ ap (part 32 16) (later_front t p bytes fits) ∙ part-take 64 32 16 (first_page t.base.image) (omega arith)
 
-  module _ (held : Held) (files : Rattle.nb_base.specs.Open.Held) where
+  module _ (held : Held) (pair : Rattle.nb_owner.specs.Open.Held) where
     -- what is held, with the flags of the page that was written
     abbrev flagged : Held
-    flagged = record held { files = files; forced = not (number_in 64 1 bytes == 0); read_only = not (number_in 65 1 bytes == 0) }
+    flagged = record held { files = pair.files; pages = pair.pages; cap = pair.cap; forced = not (number_in 64 1 bytes == 0); read_only = not (number_in 65 1 bytes == 0) }
 
     abbrev same : Held
-    same = record held { files = files }
+    same = record held { files = pair.files; pages = pair.pages; cap = pair.cap }
 
     agrees_first : p ≡ 0 → AgreesWith held t.base → AgreesWith flagged (after_stroke (page p bytes) t).base
     agrees_first e agrees = record {
@@ -89,30 +90,30 @@ module _ (t : Trail) (p : ℕ) (bytes : Page) (fits : Fits p bytes t.base.image)
     }
 
     -- the database is open behind it
-    pub open_written : (old new : World) (after : Held) → (p ≡ 0 → after ≡ flagged) → (0 < p → after ≡ same) → IsOpen old held t → files.state ≡ held.files.state → (held.files.state ≡ 2 → files.entries ≡ held.files.entries)
-        → AreOpen new files (after_stroke (page p bytes) t) → (held.files.state ≡ 2 → AreMerged new files held.merged) → IsOpen new after (after_stroke (page p bytes) t)
+    pub open_written : (old new : World) (after : Held) → (p ≡ 0 → after ≡ flagged) → (0 < p → after ≡ same) → IsOpen old held t → pair.files.state ≡ held.files.state → (held.files.state ≡ 2 → pair.files.entries ≡ held.files.entries)
+        → PairOpen new pair (after_stroke (page p bytes) t) → (held.files.state ≡ 2 → AreMerged new pair.files held.merged) → IsOpen new after (after_stroke (page p bytes) t)
     open_written old new after first other is state entries opened merged = elim (eqb_tells p 0) [
-      | inl w ↦ subst (λ (h : Held). IsOpen new h (after_stroke (page p bytes) t)) (sym (first w.1)) (record { files = opened; agrees = agrees_first w.1 is.agrees; merged = λ s. merged (sym state ∙ s); most = most })
+      | inl w ↦ subst (λ (h : Held). IsOpen new h (after_stroke (page p bytes) t)) (sym (first w.1)) (record { files = opened.files; pages = opened.pages; agrees = agrees_first w.1 is.agrees; merged = λ s. merged (sym state ∙ s); most = most })
       | inr w ↦
           let some : 0 < p = above p w.1 in
-          subst (λ (h : Held). IsOpen new h (after_stroke (page p bytes) t)) (sym (other some)) (record { files = opened; agrees = agrees_other some is.agrees; merged = λ s. merged (sym state ∙ s); most = most })
+          subst (λ (h : Held). IsOpen new h (after_stroke (page p bytes) t)) (sym (other some)) (record { files = opened.files; pages = opened.pages; agrees = agrees_other some is.agrees; merged = λ s. merged (sym state ∙ s); most = most })
     ]
       where
-        most : files.state ≡ 2 → held.merged ≤ length files.entries
+        most : pair.files.state ≡ 2 → held.merged ≤ length pair.files.entries
         most s = subst (λ (es : List ℕ). held.merged ≤ length es) (sym (entries (sym state ∙ s))) (is.most (sym state ∙ s))
 
         above : (n : ℕ) → (n ≡ 0 → ⊥) → 0 < n
         above zero ne = absurd (ne refl)
         above (suc n) ne = omega arith
 
--- The two files alone are others.
-pub goes_files : (held : Held) (files : Rattle.nb_base.specs.Open.Held) → files.name ≡ held.files.name → files.page_size ≡ held.files.page_size → files.state ≡ held.files.state → (held.files.state ≡ 2 → files.entries ≡ held.files.entries)
-    → Goes held (record held { files = files })
-goes_files held files name size state entries = record { name = name; page_size = size; state = state; entries = entries; running = refl; merged = refl }
+-- The two files and the pages in memory alone are others.
+pub goes_files : (held : Held) (pair : Rattle.nb_owner.specs.Open.Held) → pair.files.name ≡ held.files.name → pair.files.page_size ≡ held.files.page_size → pair.files.state ≡ held.files.state
+    → (held.files.state ≡ 2 → pair.files.entries ≡ held.files.entries) → Goes held (record held { files = pair.files; pages = pair.pages; cap = pair.cap })
+goes_files held pair name size state entries = record { name = name; page_size = size; state = state; entries = entries; running = refl; merged = refl }
 
 -- and the flags
-pub goes_written : (p : ℕ) (bytes : Page) (held after : Held) (files : Rattle.nb_base.specs.Open.Held)
-    → (p ≡ 0 → after ≡ record held { files = files; forced = not (number_in 64 1 bytes == 0); read_only = not (number_in 65 1 bytes == 0) }) → (0 < p → after ≡ record held { files = files }) → Goes held (record held { files = files })
+pub goes_written : (p : ℕ) (bytes : Page) (held after : Held) (pair : Rattle.nb_owner.specs.Open.Held)
+    → (p ≡ 0 → after ≡ record held { files = pair.files; pages = pair.pages; cap = pair.cap; forced = not (number_in 64 1 bytes == 0); read_only = not (number_in 65 1 bytes == 0) }) → (0 < p → after ≡ record held { files = pair.files; pages = pair.pages; cap = pair.cap }) → Goes held (record held { files = pair.files; pages = pair.pages; cap = pair.cap })
     → Goes held after
-goes_written zero bytes held after files first other goes = subst (λ (h : Held). Goes held h) (sym (first refl)) (record { name = goes.name; page_size = goes.page_size; state = goes.state; entries = goes.entries; running = refl; merged = refl })
-goes_written (suc p) bytes held after files first other goes = subst (λ (h : Held). Goes held h) (sym (other (omega arith))) goes
+goes_written zero bytes held after pair first other goes = subst (λ (h : Held). Goes held h) (sym (first refl)) (record { name = goes.name; page_size = goes.page_size; state = goes.state; entries = goes.entries; running = refl; merged = refl })
+goes_written (suc p) bytes held after pair first other goes = subst (λ (h : Held). Goes held h) (sym (other (omega arith))) goes

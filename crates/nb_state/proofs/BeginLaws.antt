@@ -1,5 +1,5 @@
 -- A database is created or opened, as it is held.
-use Rattle.std.proofs.Common.{◌≡◌, ℕ, ◌<◌, List, length, replicate, refl, sym, ap, ◌∙◌, arith}
+use Rattle.std.proofs.Common.{◌≡◌, ℕ, ◌<◌, List, [], length, subst, replicate, refl, sym, ap, ◌∙◌, arith}
 use Rattle.std.specs.Prelude.{true, false, None, Ok}
 use Rattle.nb_fields.specs.Bytes.{bytes_of, padded}
 use Rattle.nb_fields.specs.Header.{guid_of}
@@ -11,17 +11,23 @@ use Rattle.nb_model.specs.Trail.{Trail, settled}
 use Rattle.nb_model.proofs.FreshImageLaws.{fresh_first, fresh_state, fresh_scn, fresh_forced, fresh_open}
 use Rattle.nb_model.proofs.MainLaws.{some_page}
 use Rattle.nb_base.specs.Beginnings.{Creates as CreatesFiles, IsAttached as AreAttached}
+use Rattle.nb_model.specs.Image.{Image}
+use Rattle.nb_owner.specs.Open.{Pages, AreOf, IsOpen as PairOpen}
 use Rattle.nb_state.specs.Open.{Held, IsOpen}
 use Rattle.nb_state.specs.Beginnings.{IsAttached, Creates}
+
+-- where no page is in memory, each is of the image
+of_none : (image : Image) (pages : Pages) → pages ≡ [] → AreOf image pages
+of_none image pages none = subst (λ (ps : Pages). AreOf image ps) (sym none) tt
 
 -- a new database has no backup
 no_guid : (size raw : ℕ) → guid_of (fresh_page size raw 0) ≡ replicate 16 0
 unfolding fresh_page fresh_kind fresh_payload page_of head_of padded header_payload control_block bytes_of
 no_guid size raw = refl
 
-pub created : (files : Rattle.nb_base.specs.Open.Held) (old new : World) (name : List ℕ) (size raw : ℕ) → CreatesFiles (Ok files) old new name (fresh size raw)
-    → Creates (Ok (record { files = files; scn = 1; guid = replicate 16 0; forced = true; read_only = false; running = None; merged = 0 })) old new name (fresh size raw)
-created files old new name size raw is =
+pub created : (pair : Rattle.nb_owner.specs.Open.Held) (old new : World) (name : List ℕ) (size raw : ℕ) → CreatesFiles (Ok pair.files) old new name (fresh size raw) → pair.pages ≡ []
+    → Creates (Ok (record { files = pair.files; scn = 1; guid = replicate 16 0; forced = true; read_only = false; running = None; merged = 0; pages = pair.pages; cap = pair.cap })) old new name (fresh size raw)
+created pair old new name size raw is none =
     let open_ = is.answer.2 in
     let normal = open_.agrees.state ∙ fresh_state size raw in
     record {
@@ -31,6 +37,7 @@ created files old new name size raw is =
         nothing_runs = refl;
         opened = record {
           files = open_;
+          pages = of_none (fresh size raw) pair.pages none;
           agrees = record {
             scn = sym (fresh_scn size raw);
             four = omega arith;
@@ -47,12 +54,12 @@ created files old new name size raw is =
       taken = is.taken;
     }
 
-pub attached : (held : Held) (files : Rattle.nb_base.specs.Open.Held) (old mid new : World) (name : List ℕ) → AreAttached files old mid name → held.files ≡ files → held.running ≡ None
-    → ((t : Trail) → Rattle.nb_base.specs.Open.IsOpen mid files t → 0 < length t.base.image → IsOpen new held t) → IsAttached held old new name
-attached held files old mid new name is same none opens = record {
+pub attached : (held : Held) (pair : Rattle.nb_owner.specs.Open.Held) (old mid new : World) (name : List ℕ) → AreAttached pair.files old mid name → pair.pages ≡ [] → held.files ≡ pair.files → held.running ≡ None
+    → ((t : Trail) → PairOpen mid pair t → 0 < length t.base.image → IsOpen new held t) → IsAttached held old new name
+attached held pair old mid new name is blank same none opens = record {
   base = is.base;
   stands = is.stands;
   named = ap (λ (f : Rattle.nb_base.specs.Open.Held). f.name) same ∙ is.named;
   nothing_runs = none;
-  opened = opens (settled is.base) is.opened (some_page is.base.image is.opened.agrees.header);
+  opened = opens (settled is.base) (record { files = is.opened; pages = of_none is.base.image pair.pages blank }) (some_page is.base.image is.opened.agrees.header);
 }

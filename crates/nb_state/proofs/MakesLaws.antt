@@ -17,7 +17,7 @@ use Rattle.nb_model.specs.Strokes.{Stroke, on_base, base_after}
 use Rattle.nb_model.specs.Trail.{Trail, StandsIn, ShowsIn, settles_at, after_stroke, settled, images_of}
 use Rattle.nb_base.specs.Open.{OfFiles, IsMerged}
 use Rattle.nb_base.specs.Takes.{Strikes, after_strokes, IsNoRefusal}
-use Rattle.nb_state.specs.Open.{Held, IsOpen, name_of}
+use Rattle.nb_state.specs.Open.{Held, IsOpen, but_pages, name_of}
 use Rattle.nb_state.specs.Does.{WhereEnded, WhereRefused, Goes, Makes}
 
 -- a database stays open
@@ -28,6 +28,7 @@ open_quiet old new held t quiet is = record {
     shows = subst (λ (f : Files). ShowsIn held.files.name t.base f) (sym quiet.still.files) is.files.shows;
     agrees = is.files.agrees;
   };
+  pages = is.pages;
   agrees = is.agrees;
   merged = λ state j low inside. subst (λ (f : Files). IsMerged held.files f j) (sym quiet.still.files) (is.merged state j low inside);
   most = is.most;
@@ -86,7 +87,7 @@ goes_on a b c first second = record {
   merged = second.merged ∙ first.merged;
 }
 
-pub goes_nowhere : (a b : Held) → b ≡ a → Goes a b
+pub goes_nowhere : (a b : Held) → but_pages b ≡ but_pages a → Goes a b
 goes_nowhere a b same = record {
   name = ap (λ (h : Held). name_of h) same;
   page_size = ap (λ (h : Held). h.files.page_size) same;
@@ -105,16 +106,16 @@ pub gave_none : (old new : World) → Quiet old new → GaveNothing old new
 gave_none old new quiet = record { guids = quiet.guids; times = quiet.times }
 
 -- they make no stroke, whatever they answer
-pub makes_none : {T : Type 0} (result : Result T Fault) (old new : World) (a b : Held) (t : Trail) → b ≡ a → Quiet old new → IsOpen old a t → Makes result old new a b t []
-makes_none result old new a b t same quiet is = record {
+pub makes_none : {T : Type 0} (result : Result T Fault) (old new : World) (a b : Held) (t : Trail) → but_pages b ≡ but_pages a → Quiet old new → IsOpen old a t → IsOpen new b t → Makes result old new a b t []
+makes_none result old new a b t same quiet is still = record {
   left = none_yet old new a t [] quiet is;
-  opened = where_ended result _ (open_still old new a b t same quiet is);
+  opened = where_ended result _ still;
   goes = goes_nowhere a b same;
   gave = gave_none old new quiet;
 }
 
 -- and where they fail they fail any strokes
-pub makes_not : (T : Type 0) (fault : Fault) (old new : World) (a b : Held) (t : Trail) (xs : List Stroke) → IsNoRefusal fault → b ≡ a → Quiet old new → IsOpen old a t → Makes {T = T} (Err fault) old new a b t xs
+pub makes_not : (T : Type 0) (fault : Fault) (old new : World) (a b : Held) (t : Trail) (xs : List Stroke) → IsNoRefusal fault → but_pages b ≡ but_pages a → Quiet old new → IsOpen old a t → Makes {T = T} (Err fault) old new a b t xs
 makes_not T fault old new a b t xs fails same quiet is = record {
   left = none_yet old new a t xs quiet is;
   opened = never_ended T fault _ fails;
@@ -144,17 +145,23 @@ makes_front S T fault old new a b t xs ys fails first = record {
 }
 
 -- calls that change nothing before it
-pub makes_after : {T : Type 0} (result : Result T Fault) (old mid new : World) (a b c : Held) (t : Trail) (xs : List Stroke) → b ≡ a → Quiet old mid → IsOpen old a t → Makes result mid new b c t xs
+pub makes_after : {T : Type 0} (result : Result T Fault) (old mid new : World) (a b c : Held) (t : Trail) (xs : List Stroke) → but_pages b ≡ but_pages a → Quiet old mid → IsOpen old a t → Makes result mid new b c t xs
     → Makes result old new a c t xs
-makes_after result old mid new a b c t xs same quiet is makes = makes_then {S = Unit {0}} tt result old mid new a b c t [] xs (makes_none (Ok tt) old mid a b t same quiet is) makes
+makes_after result old mid new a b c t xs same quiet is makes = record {
+  left = strokes_composed after_stroke (StandsIn (name_of a)) (OfFiles (name_of a)) old mid new t [] xs (none_yet old mid a t [] quiet is)
+      (subst (λ (n : List ℕ). Strikes mid new n t xs) (ap (λ (h : Held). name_of h) same) makes.left);
+  opened = makes.opened;
+  goes = goes_on a b c (goes_nowhere a b same) makes.goes;
+  gave = nothing_joined old mid new (gave_none old mid quiet) makes.gave;
+}
 
 -- and behind it
-pub makes_before : {S T : Type 0} (value : S) (result : Result T Fault) (old mid new : World) (a b c : Held) (t : Trail) (xs : List Stroke) → Makes (Ok value) old mid a b t xs → c ≡ b → Quiet mid new
-    → Makes result old new a c t xs
-makes_before value result old mid new a b c t xs makes same quiet =
+pub makes_before : {S T : Type 0} (value : S) (result : Result T Fault) (old mid new : World) (a b c : Held) (t : Trail) (xs : List Stroke) → Makes (Ok value) old mid a b t xs
+    → but_pages c ≡ but_pages b → Quiet mid new → ((u : Trail) → IsOpen mid b u → IsOpen new c u) → Makes result old new a c t xs
+makes_before value result old mid new a b c t xs makes same quiet opens =
     subst (λ (ss : List Stroke). Makes result old new a c t ss) (append-nil xs)
-    (makes_then value result old mid new a b c t xs [] makes (makes_none result mid new b c (after_strokes t xs) same quiet makes.opened))
+    (makes_then value result old mid new a b c t xs [] makes (makes_none result mid new b c (after_strokes t xs) same quiet makes.opened (opens (after_strokes t xs) makes.opened)))
 
 -- whose copy or merge runs is no matter of what is open
 pub open_running : (w : World) (held : Held) (t : Trail) (by : Option ℕ) → IsOpen w held t → IsOpen w (record held { running = by }) t
-open_running w held t by is = record { files = is.files; agrees = record { scn = is.agrees.scn; four = is.agrees.four; guid = is.agrees.guid; forced = is.agrees.forced; read_only = is.agrees.read_only }; merged = is.merged; most = is.most }
+open_running w held t by is = record { files = is.files; pages = is.pages; agrees = record { scn = is.agrees.scn; four = is.agrees.four; guid = is.agrees.guid; forced = is.agrees.forced; read_only = is.agrees.read_only }; merged = is.merged; most = is.most }

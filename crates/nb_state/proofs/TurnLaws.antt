@@ -30,6 +30,7 @@ use Rattle.nb_base.proofs.StrokeLaws.{waits}
 use Rattle.nb_page.specs.Quiet.{Quiet}
 use Rattle.nb_change.specs.Gave.{GaveNothing}
 use Rattle.nb_base.specs.Takes.{after_strokes}
+use Rattle.nb_owner.specs.Open.{IsOpen as PairOpen}
 use Rattle.nb_state.specs.Open.{Held, IsOpen, name_of}
 use Rattle.nb_state.specs.Does.{Tested, unless_by}
 use Rattle.nb_state.specs.Turns.{begin_cause, end_cause, Begins, Ends, Merges}
@@ -49,6 +50,7 @@ still_files old new held t still is = record {
 pub still_open : (old new : World) (held : Held) (t : Trail) → IsStill old new → IsOpen old held t → IsOpen new held t
 still_open old new held t still is = record {
   files = still_files old new held.files t still is.files;
+  pages = is.pages;
   agrees = is.agrees;
   merged = λ two j low inside. subst (λ (f : Files). IsMerged held.files f j) (sym still.files) (is.merged two j low inside);
   most = is.most;
@@ -95,32 +97,33 @@ finished_image : (b : Base) → (on_base finish b).image ≡ with_control 0 (ima
 unfolding on_base
 finished_image b = refl
 
-module _ (old new : World) (held : Held) (t : Trail) (is : IsOpen old held t) (files : Rattle.nb_base.specs.Open.Held) where
+module _ (old new : World) (held : Held) (t : Trail) (is : IsOpen old held t) (pair : Rattle.nb_owner.specs.Open.Held) where
   header : is_header (first_page t.base.image) ≡ true
   header = is.files.agrees.header
 
   -- a backup has begun
-  module _ (guid : List ℕ) (ask : Option Ask) (sixteen : length guid ≡ 16) (low : held.scn < 4294967294) (opened : AreOpen new files (after_stroke (begin guid ask) t)) where
+  module _ (guid : List ℕ) (ask : Option Ask) (sixteen : length guid ≡ 16) (low : held.scn < 4294967294) (opened : PairOpen new pair (after_stroke (begin guid ask) t)) where
     abbrev begun : Base
     begun = (after_stroke (begin guid ask) t).base
 
     begun_is : begun.image ≡ with_control 1 (image_scn t.base.image + 1) guid t.base.image
     begun_is = ap (λ (b : Base). b.image) (trail_base (begin guid ask) t) ∙ begun_image t.base guid ask
 
-    stalled : files.state ≡ 1
-    stalled = opened.agrees.state ∙ state_control t.base begun 1 (image_scn t.base.image + 1) guid header sixteen (omega arith) begun_is
+    stalled : pair.files.state ≡ 1
+    stalled = opened.files.agrees.state ∙ state_control t.base begun 1 (image_scn t.base.image + 1) guid header sixteen (omega arith) begun_is
 
-    pub open_begun : IsOpen new (record held { files = files; scn = held.scn + 1; guid = guid }) (after_stroke (begin guid ask) t)
+    pub open_begun : IsOpen new (record held { files = pair.files; pages = pair.pages; cap = pair.cap; scn = held.scn + 1; guid = guid }) (after_stroke (begin guid ask) t)
     open_begun = record {
-      files = opened;
-      agrees = agrees_control held (record held { files = files; scn = held.scn + 1; guid = guid }) t.base begun 1 (image_scn t.base.image + 1) guid is.agrees header sixteen (omega (arith, low, is.agrees.scn)) begun_is
+      files = opened.files;
+      pages = opened.pages;
+      agrees = agrees_control held (record held { files = pair.files; pages = pair.pages; cap = pair.cap; scn = held.scn + 1; guid = guid }) t.base begun 1 (image_scn t.base.image + 1) guid is.agrees header sixteen (omega (arith, low, is.agrees.scn)) begun_is
           (ap (λ (n : ℕ). n + 1) is.agrees.scn) refl refl refl;
       merged = λ two. absurd (omega (arith, two, stalled));
       most = λ two. absurd (omega (arith, two, stalled));
     }
 
   -- the stalled state has ended
-  module _ (session : ℕ) (sixteen : length held.guid ≡ 16) (stalled : held.files.state ≡ 1) (opened : AreOpen new files (after_stroke ends t)) where
+  module _ (session : ℕ) (sixteen : length held.guid ≡ 16) (stalled : held.files.state ≡ 1) (opened : PairOpen new pair (after_stroke ends t)) where
     abbrev ended : Base
     ended = (after_stroke ends t).base
 
@@ -128,10 +131,11 @@ module _ (old new : World) (held : Held) (t : Trail) (is : IsOpen old held t) (f
     pub end_room : held.scn < 4294967295
     end_room = omega (arith, is.agrees.scn, header-room (first_page t.base.image) header (sym is.files.agrees.state ∙ stalled))
 
-    pub open_ended : (scn : ℕ) → scn ≡ held.scn + 1 → IsOpen new (record held { files = files; scn = scn; running = Some session; merged = 0 }) (after_stroke ends t)
+    pub open_ended : (scn : ℕ) → scn ≡ held.scn + 1 → IsOpen new (record held { files = pair.files; pages = pair.pages; cap = pair.cap; scn = scn; running = Some session; merged = 0 }) (after_stroke ends t)
     open_ended scn next = record {
-      files = opened;
-      agrees = agrees_control held (record held { files = files; scn = scn; running = Some session; merged = 0 }) t.base ended 2 (image_scn t.base.image + 1) (image_guid t.base.image) is.agrees header
+      files = opened.files;
+      pages = opened.pages;
+      agrees = agrees_control held (record held { files = pair.files; pages = pair.pages; cap = pair.cap; scn = scn; running = Some session; merged = 0 }) t.base ended 2 (image_scn t.base.image + 1) (image_guid t.base.image) is.agrees header
           (ap length (sym is.agrees.guid) ∙ sixteen) (omega (arith, end_room, is.agrees.scn)) (ap (λ (b : Base). b.image) (trail_base ends t) ∙ ended_image t.base)
           (next ∙ ap (λ (n : ℕ). n + 1) is.agrees.scn) is.agrees.guid refl refl;
       merged = λ two j none inside. absurd (omega (arith, none));
@@ -139,7 +143,7 @@ module _ (old new : World) (held : Held) (t : Trail) (is : IsOpen old held t) (f
     }
 
   -- the merge is finished
-  module _ (sixteen : length held.guid ≡ 16) (low : held.scn < 4294967296) (opened : AreOpen new files (after_stroke finish t)) where
+  module _ (sixteen : length held.guid ≡ 16) (low : held.scn < 4294967296) (opened : PairOpen new pair (after_stroke finish t)) where
     abbrev finished : Base
     finished = (after_stroke finish t).base
 
@@ -149,22 +153,24 @@ module _ (old new : World) (held : Held) (t : Trail) (is : IsOpen old held t) (f
     sixteen_there : length (image_guid t.base.image) ≡ 16
     sixteen_there = ap length (sym is.agrees.guid) ∙ sixteen
 
-    normal : files.state ≡ 0
-    normal = opened.agrees.state ∙ state_control t.base finished 0 (image_scn t.base.image) (image_guid t.base.image) header sixteen_there (omega arith) finished_is
+    normal : pair.files.state ≡ 0
+    normal = opened.files.agrees.state ∙ state_control t.base finished 0 (image_scn t.base.image) (image_guid t.base.image) header sixteen_there (omega arith) finished_is
 
-    pub open_finished : IsOpen new (record held { files = files; running = None }) (after_stroke finish t)
+    pub open_finished : IsOpen new (record held { files = pair.files; pages = pair.pages; cap = pair.cap; running = None }) (after_stroke finish t)
     open_finished = record {
-      files = opened;
-      agrees = agrees_control held (record held { files = files; running = None }) t.base finished 0 (image_scn t.base.image) (image_guid t.base.image) is.agrees header sixteen_there (omega (arith, low, is.agrees.scn)) finished_is is.agrees.scn
+      files = opened.files;
+      pages = opened.pages;
+      agrees = agrees_control held (record held { files = pair.files; pages = pair.pages; cap = pair.cap; running = None }) t.base finished 0 (image_scn t.base.image) (image_guid t.base.image) is.agrees header sixteen_there (omega (arith, low, is.agrees.scn)) finished_is is.agrees.scn
           is.agrees.guid refl refl;
       merged = λ two. absurd (omega (arith, two, normal));
       most = λ two. absurd (omega (arith, two, normal));
     }
 
   -- one entry more is merged
-  pub open_more : AreOpen new files t → files.entries ≡ held.files.entries → held.merged < length held.files.entries → AreMerged new files (held.merged + 1) → IsOpen new (record held { files = files; merged = held.merged + 1 }) t
+  pub open_more : PairOpen new pair t → pair.files.entries ≡ held.files.entries → held.merged < length held.files.entries → AreMerged new pair.files (held.merged + 1) → IsOpen new (record held { files = pair.files; pages = pair.pages; cap = pair.cap; merged = held.merged + 1 }) t
   open_more opened entries inside merged = record {
-    files = opened;
+    files = opened.files;
+    pages = opened.pages;
     agrees = record { scn = is.agrees.scn; four = is.agrees.four; guid = is.agrees.guid; forced = is.agrees.forced; read_only = is.agrees.read_only };
     merged = λ two. merged;
     most = λ two. omega (arith, inside, ap length entries);
@@ -174,6 +180,7 @@ module _ (old new : World) (held : Held) (t : Trail) (is : IsOpen old held t) (f
 pub open_again : (w : World) (held : Held) (t : Trail) (session : ℕ) → IsOpen w held t → IsOpen w (record held { running = Some session; merged = 0 }) t
 open_again w held t session is = record {
   files = is.files;
+  pages = is.pages;
   agrees = record { scn = is.agrees.scn; four = is.agrees.four; guid = is.agrees.guid; forced = is.agrees.forced; read_only = is.agrees.read_only };
   merged = λ two j none inside. absurd (omega (arith, none));
   most = λ two. omega arith;
@@ -189,10 +196,11 @@ pub all_merged : (w : World) (held : Held) (t : Trail) → IsOpen w held t → h
 all_merged w held t is merges all j low inside = is.merged merges j (omega (arith, low, all)) inside
 
 -- both files are kept for good
-pub open_settled : (old new : World) (held : Held) (files : Rattle.nb_base.specs.Open.Held) (t : Trail) → IsOpen old held t → files ≡ held.files → AreOpen new files (settled t.base)
-    → ((k : ℕ) → AreMerged old held.files k → AreMerged new files k) → IsOpen new (record held { files = files }) (settled t.base)
-open_settled old new held files t is same opened merged = record {
-  files = opened;
+pub open_settled : (old new : World) (held : Held) (pair : Rattle.nb_owner.specs.Open.Held) (t : Trail) → IsOpen old held t → pair.files ≡ held.files → PairOpen new pair (settled t.base)
+    → ((k : ℕ) → AreMerged old held.files k → AreMerged new pair.files k) → IsOpen new (record held { files = pair.files; pages = pair.pages; cap = pair.cap }) (settled t.base)
+open_settled old new held pair t is same opened merged = record {
+  files = opened.files;
+  pages = opened.pages;
   agrees = record { scn = is.agrees.scn; four = is.agrees.four; guid = is.agrees.guid; forced = is.agrees.forced; read_only = is.agrees.read_only };
   merged = λ two. merged held.merged (is.merged (sym (ap (λ (f : Rattle.nb_base.specs.Open.Held). f.state) same) ∙ two));
   most = λ two. subst (λ (f : Rattle.nb_base.specs.Open.Held). held.merged ≤ length f.entries) (sym same) (is.most (sym (ap (λ (f : Rattle.nb_base.specs.Open.Held). f.state) same) ∙ two));

@@ -1,5 +1,5 @@
 -- A database is created or opened.
-use Rattle.std.specs.Prelude.{◌≡◌, ℕ, true, false, List, None, Result, Ok, Err}
+use Rattle.std.specs.Prelude.{◌≡◌, ℕ, true, false, List, [], None, Result, Ok, Err}
 use Rattle.nb_host.specs.World.{World}
 use Rattle.nb_host.specs.declared.faults.Fault.{Fault}
 use Rattle.nb_host.specs.declared.faults.Fault.TheVariants.{Refused, Device, Memory}
@@ -29,6 +29,11 @@ Attaches (Ok held) old new name = IsAttached held old new name
 Attaches (Err (Refused refusal)) old new name = owner name (old.files name) (old.files (delta_name name)) ≡ Err refusal
 Attaches (Err Device) old new name = Unit {0}
 Attaches (Err Memory) old new name = Unit {0}
+
+-- no page is in memory yet, and so many may be
+pub record HoldsNone (pages : ℕ) (held : Held) : Type 0 where
+  pub none : held.pages ≡ []
+  pub cap : held.cap ≡ pages
 
 -- the new database
 pub record IsCreated (held : Held) (old new : World) (name : List ℕ) (image : Image) : Type 0 where

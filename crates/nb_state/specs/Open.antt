@@ -1,10 +1,11 @@
 -- A database that is open.
-use Rattle.std.specs.Prelude.{◌≡◌, ◌<◌, ◌≤◌, ℕ, List, length, Option, Bool}
+use Rattle.std.specs.Prelude.{◌≡◌, ◌<◌, ◌≤◌, ℕ, List, [], length, Option, Bool}
 use Rattle.nb_host.specs.World.{World}
 use Rattle.nb_model.specs.Account.{Base}
 use Rattle.nb_model.specs.Image.{image_scn, image_guid, is_forced, is_read_only}
 use Rattle.nb_model.specs.Trail.{Trail}
 use Rattle.nb_base.specs.Open.{IsOpen as AreOpen, AreMerged}
+use Rattle.nb_owner.specs.Open.{Pages, AreOf}
 
 -- What a contract sees of an open database.
 pub record Held : Type 0 where
@@ -21,10 +22,17 @@ pub record Held : Type 0 where
   pub running : Option ℕ
   -- how many entries were merged since `end`
   pub merged : ℕ
+  -- the pages in memory, the most recently used first, and how many there may be
+  pub pages : Pages
+  pub cap : ℕ
 
 -- its name
 abbrev pub name_of : Held → List ℕ
 name_of held = held.files.name
+
+-- all but which pages are in memory
+abbrev pub but_pages : Held → Held
+but_pages held = record held { pages = [] }
 
 -- its header says what is held of it
 pub record AgreesWith (held : Held) (b : Base) : Type 0 where
@@ -35,9 +43,11 @@ pub record AgreesWith (held : Held) (b : Base) : Type 0 where
   pub forced : held.forced ≡ is_forced b.image
   pub read_only : held.read_only ≡ is_read_only b.image
 
--- The database is open: this was seen of it since its last settled point. Its entries that were merged are equal in both files.
+-- The database is open: this was seen of it since its last settled point. Each page in memory is as it was seen last. Its entries that
+-- were merged are equal in both files.
 pub record IsOpen (w : World) (held : Held) (t : Trail) : Type 0 where
   pub files : AreOpen w held.files t
+  pub pages : AreOf t.base.image held.pages
   pub agrees : AgreesWith held t.base
   pub merged : held.files.state ≡ 2 → AreMerged w held.files held.merged
   pub most : held.files.state ≡ 2 → held.merged ≤ length held.files.entries

@@ -6,36 +6,36 @@ ghost use Rattle.nb_change.specs.Counts.{CountsDevice};
 ghost use Rattle.nb_host.specs.Causes.{CountsFault};
 ghost use Rattle.nb_page.specs.Quiet.{Quiet};
 ghost use Rattle.nb_model.specs.Trail.{Trail};
-ghost use Rattle.nb_base.specs.Open.{IsOpen as AreOpen};
+ghost use Rattle.nb_owner.specs.Open.{IsOpen as AreOpen};
 ghost use Rattle.nb_state.specs.Open.{IsOpen};
-ghost use Rattle.nb_state.specs.Beginnings.{Attaches, Creates};
+ghost use Rattle.nb_state.specs.Beginnings.{Attaches, Creates, HoldsNone};
 
 use crate::Store;
 use crate::front::front_of;
-use nb_base::TwoFiles;
 use nb_host::{Fault, Host, HostFault, Name};
+use nb_owner::Pair;
 use std::alloc::Global;
 
 /// The SCN of a database on which no backup has begun.
 const FIRST_SCN: u32 = 1;
 
-/// What is held of two files that are open, by their page 0.
-fn open<H: Host>(host: &mut H, files: TwoFiles, page: &mut [u8]) -> Result<Store, HostFault>
-    requires size { length page.old ≡ files.page_size }
-    requires one_of { IsTrue (is_page_size files.page_size) }
-    ensures opens { (t : Trail) → IsTrue H.tells → AreOpen (H.world host.old) files t → 0 < length t.base.image → IfOk result (λ store. IsOpen (H.world host.new) store t) }
-    ensures files { IfOk result (λ store. store.files ≡ files) }
+/// What is held of a database that is open, by its page 0.
+fn open<H: Host>(host: &mut H, pair: Pair, page: &mut [u8]) -> Result<Store, HostFault>
+    requires size { length page.old ≡ pair.files.page_size }
+    requires one_of { IsTrue (is_page_size pair.files.page_size) }
+    ensures opens { (t : Trail) → IsTrue H.tells → AreOpen (H.world host.old) pair t → 0 < length t.base.image → IfOk result (λ store. IsOpen (H.world host.new) store t) }
+    ensures pair { IfOk result (λ store. (store.files ≡ pair.files) × (store.pages ≡ pair.pages) × (store.cap ≡ pair.cap)) }
     ensures begins { IfOk result (λ store. (store.running ≡ None) × (store.merged ≡ 0)) }
     ensures scn { IfOk result (λ store. store.scn < 4294967296) }
     ensures quiet { Quiet (H.world host.old) (H.world host.new) }
     ensures cause { CountsFault result (H.faults host.old) (H.faults host.new) }
 {
-    let mut files = files;
-    files.read(host, 0, page)?;
+    let mut pair = pair;
+    pair.read_first(host, page)?;
     let front = front_of(page);
     let guid = front.guid;
     Ok(Store {
-        files,
+        pair,
         scn: front.scn,
         guid,
         forced: front.forced,
@@ -46,42 +46,54 @@ fn open<H: Host>(host: &mut H, files: TwoFiles, page: &mut [u8]) -> Result<Store
 }
 
 impl Store {
-    /// Opens a database. It changes nothing: its files are kept for good before it answers.
+    /// Opens a database, and takes memory for so many of its pages. It changes nothing: its files are kept for good before it answers.
     ///
     /// The refusals are `NoFile`, `NotDatabase`, `Unfinished`, `NoFile` of the difference file and `BadDelta`, in this order.
-    pub fn attach<H: Host>(alloc: Global, host: &mut H, name: &Name) -> Result<Store, Fault>
+    pub fn attach<H: Host>(
+        alloc: Global,
+        host: &mut H,
+        name: &Name,
+        cache_pages: u32,
+    ) -> Result<Store, Fault>
         requires name { length name.now ≤ 94 }
+        requires some { 0 < cache_pages }
+        requires few { cache_pages ≤ 4096 }
         ensures attaches { IsTrue H.tells → Attaches result (H.world host.old) (H.world host.new) name.now }
         ensures scn { IfOk result (λ store. store.scn < 4294967296) }
+        ensures blank { IfOk result (HoldsNone cache_pages) }
         ensures quiet { Quiet (H.world host.old) (H.world host.new) }
         ensures cause { CountsDevice result (H.faults host.old) (H.faults host.new) }
     {
-        let files = TwoFiles::attach(alloc, host, name)?;
-        let mut page = vec![in alloc; 0; files.page_size() as usize]?;
-        let store = open(host, files, &mut page)?;
+        let pair = Pair::attach(alloc, host, name, cache_pages)?;
+        let mut page = vec![in alloc; 0; pair.page_size() as usize]?;
+        let store = open(host, pair, &mut page)?;
         Ok(store)
     }
 
     /// Makes a new database with `raw` raw pages, and opens it. The refusal is `FileExists`, where the name is not free; then nothing
-    /// has changed.
+    /// has changed. The memory for so many of its pages is taken first.
     pub fn create<H: Host>(
         alloc: Global,
         host: &mut H,
         name: &Name,
         page_size: u32,
         raw: u32,
+        cache_pages: u32,
     ) -> Result<Store, Fault>
         requires size { IsTrue (is_page_size page_size) }
         requires raw { raw ≤ 65535 }
         requires name { length name.now ≤ 94 }
+        requires some { 0 < cache_pages }
+        requires few { cache_pages ≤ 4096 }
         ensures creates { IsTrue H.tells → Creates result (H.world host.old) (H.world host.new) name.now (fresh page_size raw) }
         ensures page_size { IfOk result (λ store. store.files.page_size ≡ page_size) }
         ensures scn { IfOk result (λ store. store.scn < 4294967296) }
+        ensures blank { IfOk result (HoldsNone cache_pages) }
         ensures cause { CountsDevice result (H.faults host.old) (H.faults host.new) }
     {
-        let files = TwoFiles::create(alloc, host, name, page_size, raw)?;
+        let pair = Pair::create(alloc, host, name, page_size, raw, cache_pages)?;
         Ok(Store {
-            files,
+            pair,
             scn: FIRST_SCN,
             guid: [0; 16],
             forced: true,

@@ -1,8 +1,9 @@
 //! A database that is open: its backup state, what its header says, and the events that lead from one state to the next.
 //!
-//! It rests on `nb_base` for the two files. A layer above may rely on this: `read` gives a page of the image and changes nothing, and
-//! `write`, `begin`, `end` and `merge_turn` make one stroke each or none; at each moment a stop leaves what may be left of what was
-//! seen before the stroke or behind it. What is open is one relation, and no clause above names a file.
+//! It rests on `nb_owner` for the two files and the pages in memory. A layer above may rely on this: `read` gives a page of the image and
+//! changes nothing but which pages are in memory, and `write`, `begin`, `end` and `merge_turn` make one stroke each or none; at each
+//! moment a stop leaves what may be left of what was seen before the stroke or behind it. What is open is one relation, and no clause
+//! above names a file.
 #![tactic(auto)]
 
 mod beginnings;

@@ -1,4 +1,4 @@
-ghost use Rattle.std.specs.Prelude.{◌≡◌, ◌≤◌, ◌<◌, ◌+◌, ℕ, List, ◌∷◌, [], length, IsTrue, IfErr, OnOk, Option, false, not, ◌==◌};
+ghost use Rattle.std.specs.Prelude.{◌≡◌, ◌≤◌, ◌<◌, ◌+◌, ℕ, List, ◌∷◌, [], length, IsTrue, IsSome, IsOk, IfErr, OnOk, Option, false, not, ◌==◌};
 ghost use Rattle.nb_fields.specs.Bytes.{is_zeros, number_in};
 ghost use Rattle.nb_fields.specs.Places.{is_page_size};
 ghost use Rattle.nb_fields.specs.Fresh.{fresh};
@@ -11,19 +11,19 @@ ghost use Rattle.nb_model.specs.Strokes.{page as page_stroke};
 ghost use Rattle.nb_model.specs.Trail.{Trail, settled};
 ghost use Rattle.nb_base.specs.Open.{Fits};
 ghost use Rattle.nb_base.specs.Takes.{IsNoRefusal};
-ghost use Rattle.nb_state.specs.Open.{IsOpen};
+ghost use Rattle.nb_cache.specs.Held.{slot_of};
+ghost use Rattle.nb_state.specs.Open.{IsOpen, but_pages};
 ghost use Rattle.nb_state.specs.Does.{Makes, Goes};
 
 use crate::front::front_of;
-use nb_base::TwoFiles;
-use nb_host::{Fault, Host, HostFault, Name};
-use std::alloc::Global;
+use nb_host::{Fault, Host, HostFault};
+use nb_owner::Pair;
 use std::marker::Model;
 
 /// An open database.
 #[derive(Drop)]
 pub struct Store {
-    pub(crate) files: TwoFiles,
+    pub(crate) pair: Pair,
     pub(crate) scn: u32,
     pub(crate) guid: [u8; 16],
     pub(crate) forced: bool,
@@ -39,9 +39,9 @@ impl Model for Store {
 
     ghost Value = { Held };
 
-    ghost view = { λ s. record { files = s.files; scn = s.scn; guid = s.guid; forced = s.forced; read_only = s.read_only; running = s.running; merged = s.merged } };
+    ghost view = { λ s. record { files = s.pair.files; scn = s.scn; guid = s.guid; forced = s.forced; read_only = s.read_only; running = s.running; merged = s.merged; pages = s.pair.pages; cap = s.pair.cap } };
 
-    ghost invariant = { λ s. IsTrue (is_page_size s.files.page_size) × (s.scn < 4294967296) };
+    ghost invariant = { λ s. IsTrue (is_page_size s.pair.files.page_size) × (s.scn < 4294967296) };
 }
 
 impl Store {
@@ -50,7 +50,7 @@ impl Store {
         ensures value { result ≡ self.now.files.page_size }
         ensures one_of { IsTrue (is_page_size result) }
     {
-        self.files.page_size()
+        self.pair.page_size()
     }
 
     /// How many pages the database has.
@@ -58,7 +58,7 @@ impl Store {
         ensures value { result ≡ self.now.files.count }
         ensures most { result ≤ 1048576 }
     {
-        self.files.count()
+        self.pair.count()
     }
 
     /// The current SCN.
@@ -80,7 +80,7 @@ impl Store {
         ensures value { result ≡ self.now.files.state }
         ensures most { result ≤ 2 }
     {
-        self.files.state()
+        self.pair.state()
     }
 
     /// Whether each page write is kept for good before the next.
@@ -115,7 +115,7 @@ impl Store {
     pub fn delta_count(&self) -> u32
         ensures { result ≡ length self.now.files.entries }
     {
-        self.files.delta_count()
+        self.pair.delta_count()
     }
 
     /// How many pages the main file has.
@@ -123,10 +123,25 @@ impl Store {
         ensures value { result ≡ self.now.files.main_count }
         ensures most { result ≤ 1048576 }
     {
-        self.files.main_count()
+        self.pair.main_count()
     }
 
-    /// Fills in page `number`. Page 0 may take two reads; every other page takes one.
+    /// How many pages may be in memory.
+    pub fn capacity(&self) -> u32
+        ensures { result ≡ self.now.cap }
+    {
+        self.pair.capacity()
+    }
+
+    /// How many pages are in memory.
+    pub fn held(&self) -> u32
+        ensures { result ≡ length self.now.pages }
+    {
+        self.pair.held()
+    }
+
+    /// Fills in page `number`, from memory or from the files. Nothing changes but which pages are in memory. Of the host a page in memory
+    /// asks nothing, page 0 at most two reads, and every other page at most one.
     pub fn read<H: Host>(
         &mut self,
         host: &mut H,
@@ -136,13 +151,14 @@ impl Store {
         requires size { length into.old ≡ self.old.files.page_size }
         ensures page { (t : Trail) → IsTrue H.tells → IsOpen (H.world host.old) self.old t → number < length t.base.image → OnOk result (into.new ≡ page_at t.base.image number) }
         ensures open { (t : Trail) → IsTrue H.tells → IsOpen (H.world host.old) self.old t → IsOpen (H.world host.new) self.new t }
-        ensures same { self.new ≡ self.old }
+        ensures same { but_pages self.new ≡ but_pages self.old }
+        ensures in_memory { IsSome (slot_of self.old.pages number) → IsOk result × (host.new ≡ host.old) }
         ensures quiet { Quiet (H.world host.old) (H.world host.new) }
         ensures reads { IsTrue H.tells → 0 < number → (H.world host.new).reads ≤ (H.world host.old).reads + 1 }
         ensures first_reads { IsTrue H.tells → (H.world host.new).reads ≤ (H.world host.old).reads + 2 }
         ensures cause { CountsFault result (H.faults host.old) (H.faults host.new) }
     {
-        self.files.read(host, number, into)
+        self.pair.read(host, number, into)
     }
 
     /// Fills in page `number` of the main file as it is frozen, in the stalled state.
@@ -160,7 +176,7 @@ impl Store {
         ensures reads { IsTrue H.tells → (H.world host.new).reads ≤ (H.world host.old).reads + 1 }
         ensures cause { CountsFault result (H.faults host.old) (H.faults host.new) }
     {
-        self.files.read_main(host, number, into)
+        self.pair.read_main(host, number, into)
     }
 
     /// Replaces page `number`, or adds it at the end, of page 0 what is behind the control block. It is kept for good where writes are
@@ -179,7 +195,7 @@ impl Store {
         ensures not_refused { IfErr result IsNoRefusal }
         ensures on_memory { result ≡ Err Fault.Memory → (self.new ≡ self.old) × (host.new ≡ host.old) }
     {
-        self.files.write(host, number, page, self.forced)?;
+        self.pair.write(host, number, page, self.forced)?;
         self.take_flags(number, page);
         Ok(())
     }
@@ -205,6 +221,6 @@ impl Store {
         ensures quiet { Quiet (H.world host.old) (H.world host.new) }
         ensures cause { CountsFault result (H.faults host.old) (H.faults host.new) }
     {
-        self.files.sync(host)
+        self.pair.sync(host)
     }
 }

@@ -17,7 +17,7 @@ fn name_of() -> Result<Name, Fail>
 /// A host with a new database of 13 pages of 1,024 bytes.
 fn made(alloc: Global) -> Result<MemHost, Fail> {
     let mut host = MemHost::new(alloc)?;
-    Store::create(alloc, &mut host, &name_of()?, 1024, 8)?;
+    Store::create(alloc, &mut host, &name_of()?, 1024, 8, 4)?;
     Ok(host)
 }
 
@@ -46,7 +46,7 @@ fn step(host: &mut MemHost, store: &mut Store, place: u32) -> Result<(), Fault> 
 #[test]
 fn states_follow_in_order(rt: HostRuntime) -> Result<(), Fail> {
     let mut host = made(rt.alloc())?;
-    let mut store = Store::attach(rt.alloc(), &mut host, &name_of()?)?;
+    let mut store = Store::attach(rt.alloc(), &mut host, &name_of()?, 4)?;
     let rows = [
         (0, 1, 2, 0, None),
         (1, 1, 2, 1, None),
@@ -77,7 +77,7 @@ fn states_follow_in_order(rt: HostRuntime) -> Result<(), Fail> {
 fn back_up(alloc: Global, host: &mut MemHost, name: &Name) -> Result<(), Fault>
     requires { length name.now ≤ 94 }
 {
-    let mut store = Store::attach(alloc, host, name)?;
+    let mut store = Store::attach(alloc, host, name, 4)?;
     for place in 0..7 {
         step(host, &mut store, place)?;
     }
@@ -86,7 +86,7 @@ fn back_up(alloc: Global, host: &mut MemHost, name: &Name) -> Result<(), Fault>
 
 /// Whether the database is one that the backup went through: its state, its SCN and the first byte of page 6.
 fn is_on_the_way(alloc: Global, host: &mut MemHost) -> Result<bool, Fail> {
-    let mut store = Store::attach(alloc, host, &name_of()?)?;
+    let mut store = Store::attach(alloc, host, &name_of()?, 4)?;
     let mut page = vec![in alloc; 0; store.page_size() as usize]?;
     store.read(host, 6, &mut page)?;
     let first = *page.first().unwrap_or(&0);
@@ -156,7 +156,7 @@ fn answer_of(answer: Result<u32, Fault>) -> Answer {
 #[test]
 fn calls_are_refused_by_the_state(rt: HostRuntime) -> Result<(), Fail> {
     let mut host = made(rt.alloc())?;
-    let mut store = Store::attach(rt.alloc(), &mut host, &name_of()?)?;
+    let mut store = Store::attach(rt.alloc(), &mut host, &name_of()?, 4)?;
     assert_eq!(rt; answer_of(store.end(&mut host, 5)), Answer::State(0));
     assert_eq!(rt; answer_of(store.begin(&mut host)), Answer::Scn(2));
     assert_eq!(rt; answer_of(store.begin(&mut host)), Answer::State(1));
@@ -171,7 +171,7 @@ fn calls_are_refused_by_the_state(rt: HostRuntime) -> Result<(), Fail> {
 #[test]
 fn a_merge_that_was_stopped_begins_again(rt: HostRuntime) -> Result<(), Fail> {
     let mut host = made(rt.alloc())?;
-    let mut store = Store::attach(rt.alloc(), &mut host, &name_of()?)?;
+    let mut store = Store::attach(rt.alloc(), &mut host, &name_of()?, 4)?;
     for place in 0..5 {
         step(&mut host, &mut store, place)?;
     }
@@ -210,7 +210,7 @@ fn page_0_is_read_as_it_stands(rt: HostRuntime) -> Result<(), Fail> {
     ];
     for (at, bytes, scn, forced, read_only) in rows {
         let mut host = changed(rt.alloc(), at, &bytes)?;
-        let store = Store::attach(rt.alloc(), &mut host, &name_of()?)?;
+        let store = Store::attach(rt.alloc(), &mut host, &name_of()?, 4)?;
         assert_eq!(rt;
             (store.scn(), store.forced(), store.is_read_only()),
             (scn, forced, read_only),
@@ -223,7 +223,7 @@ fn page_0_is_read_as_it_stands(rt: HostRuntime) -> Result<(), Fail> {
 #[test]
 fn a_backup_needs_two_scns_more(rt: HostRuntime) -> Result<(), Fail> {
     let mut host = changed(rt.alloc(), 28, &[253, 255, 255, 255])?;
-    let mut store = Store::attach(rt.alloc(), &mut host, &name_of()?)?;
+    let mut store = Store::attach(rt.alloc(), &mut host, &name_of()?, 4)?;
     assert_eq!(rt;
         answer_of(store.begin(&mut host)),
         Answer::Scn(4_294_967_294)
@@ -233,7 +233,7 @@ fn a_backup_needs_two_scns_more(rt: HostRuntime) -> Result<(), Fail> {
         Answer::Scn(4_294_967_295)
     );
     host = changed(rt.alloc(), 28, &[254, 255, 255, 255])?;
-    store = Store::attach(rt.alloc(), &mut host, &name_of()?)?;
+    store = Store::attach(rt.alloc(), &mut host, &name_of()?, 4)?;
     assert_eq!(rt;
         answer_of(store.begin(&mut host)),
         Answer::Exhausted(4_294_967_294)
@@ -244,12 +244,12 @@ fn a_backup_needs_two_scns_more(rt: HostRuntime) -> Result<(), Fail> {
 #[test]
 fn hostile_files_are_refused(rt: HostRuntime) -> Result<(), Fail> {
     let mut host = changed(rt.alloc(), 22, &[1])?;
-    let missing = Store::attach(rt.alloc(), &mut host, &name_of()?);
+    let missing = Store::attach(rt.alloc(), &mut host, &name_of()?, 4);
     assert!(rt; matches!(missing, Err(Fault::Refused(Refusal::NoFile { name: _ }))));
-    let taken = Store::create(rt.alloc(), &mut host, &name_of()?, 1024, 8);
+    let taken = Store::create(rt.alloc(), &mut host, &name_of()?, 1024, 8, 4);
     assert!(rt; matches!(taken, Err(Fault::Refused(Refusal::FileExists { name: _ }))));
     host = changed(rt.alloc(), 22, &[3])?;
-    let unfinished = Store::attach(rt.alloc(), &mut host, &name_of()?);
+    let unfinished = Store::attach(rt.alloc(), &mut host, &name_of()?, 4);
     assert!(rt; matches!(unfinished, Err(Fault::Refused(Refusal::Unfinished))));
     Ok(())
 }
@@ -257,7 +257,7 @@ fn hostile_files_are_refused(rt: HostRuntime) -> Result<(), Fail> {
 #[test]
 fn a_frozen_page_is_read(rt: HostRuntime) -> Result<(), Fail> {
     let mut host = made(rt.alloc())?;
-    let mut store = Store::attach(rt.alloc(), &mut host, &name_of()?)?;
+    let mut store = Store::attach(rt.alloc(), &mut host, &name_of()?, 4)?;
     step(&mut host, &mut store, 0)?;
     step(&mut host, &mut store, 1)?;
     store.sync(&mut host)?;

@@ -44,7 +44,7 @@ impl Store {
         ensures scn { OnOk result (self.now.scn < 4294967294) }
         ensures cause { (faults : ℕ) → CountsDevice result faults faults }
     {
-        let found = u32::from(self.files.state());
+        let found = u32::from(self.pair.state());
         if found != 0 {
             return Err(Fault::Refused(Refusal::WrongState { found }));
         }
@@ -61,7 +61,7 @@ impl Store {
         ensures own { (other : ℕ) → self.now.running ≡ Some other → OnOk result (other ≡ session) }
         ensures cause { (faults : ℕ) → CountsDevice result faults faults }
     {
-        if self.files.state() == 0 {
+        if self.pair.state() == 0 {
             return Err(Fault::Refused(Refusal::WrongState { found: 0 }));
         }
         match self.running {
@@ -105,7 +105,7 @@ impl Store {
         ensures page_size { self.new.files.page_size ≡ self.old.files.page_size }
         ensures cause { CountsFault result (H.faults host.old) (H.faults host.new) }
     {
-        self.files.begin(host, guid)?;
+        self.pair.begin(host, guid)?;
         self.scn += 1;
         self.guid = *guid;
         Ok(self.scn)
@@ -122,7 +122,7 @@ impl Store {
         ensures cause { CountsDevice result (H.faults host.old) (H.faults host.new) }
     {
         self.check_end(session)?;
-        if self.files.state() == 1 {
+        if self.pair.state() == 1 {
             let scn = self.end_stalled(host, session)?;
             return Ok(scn);
         }
@@ -144,7 +144,7 @@ impl Store {
         ensures page_size { self.new.files.page_size ≡ self.old.files.page_size }
         ensures cause { CountsFault result (H.faults host.old) (H.faults host.new) }
     {
-        self.files.end(host)?;
+        self.pair.end(host)?;
         let scn = next_scn(self.scn);
         self.scn = scn;
         self.running = Some(session);
@@ -161,12 +161,12 @@ impl Store {
         ensures cause { CountsDevice result (H.faults host.old) (H.faults host.new) }
         ensures not_refused { IfErr result IsNoRefusal }
     {
-        if self.merged < self.files.delta_count() {
-            self.files.merge_entry(host, self.merged)?;
+        if self.merged < self.pair.delta_count() {
+            self.pair.merge_entry(host, self.merged)?;
             self.merged += 1;
             return Ok(Progress::More);
         }
-        self.files.finish(host)?;
+        self.pair.finish(host)?;
         self.running = None;
         Ok(Progress::Finished)
     }

@@ -1,5 +1,5 @@
 -- What the call of the first statement gives to a run, whether it creates a database or opens one.
-use Rattle.std.proofs.Common.{◌≡◌, ◌≢◌, ℕ, List, ◌++◌, Bool, sym, ap, subst, ◌∙◌}
+use Rattle.std.proofs.Common.{◌≡◌, ◌≢◌, ℕ, List, [], ◌++◌, Bool, sym, ap, subst, ◌∙◌}
 use Rattle.std.specs.Prelude.{Result, Ok, Err, Some, IfOk, OnOk, if◌then◌else◌}
 use Rattle.nb_host.specs.World.{World}
 use Rattle.nb_host.specs.Crash.{Untouched}
@@ -13,7 +13,7 @@ use Rattle.nb_change.specs.Gave.{GaveNothing}
 use Rattle.nb_page.specs.Quiet.{Quiet}
 use Rattle.nb_model.specs.declared.reply.Reply.{Reply}
 use Rattle.nb_model.specs.declared.reply.Reply.TheVariants.{Refused as RefusedReply}
-use Rattle.nb_model.specs.Account.{Account}
+use Rattle.nb_model.specs.Account.{Account, Base}
 use Rattle.nb_model.specs.Going.{IsMaking}
 use Rattle.nb_model.specs.Lines.{line_text}
 use Rattle.nb_model.specs.Outcomes.{Given}
@@ -31,7 +31,8 @@ use Rattle.nb_session.specs.Ready.{IsReady}
 use Rattle.nb_session.specs.Says.{SaysLine}
 use Rattle.nb_top.specs.declared.status.Status.{Status}
 use Rattle.nb_top.specs.declared.status.Status.TheVariants.{Refused as RefusedStatus}
-use Rattle.nb_top.specs.Performed.{RunsTo, HasSmallScn, PlaysOpened, first_event, opened_reply, refused_at, told_first, number_of}
+use Rattle.nb_top.specs.Performed.{RunsTo, HasSmallScn, PlaysOpened, first_event, opened_reply, pages_first, refused_at, told_first, number_of}
+use Rattle.nb_top.specs.declared.telling.Telling.{Telling}
 use Rattle.nb_top.specs.Requests.{ToRun}
 use Rattle.nb_top.proofs.BegunRuns.{Left, start, first_one, begun_fails, begun_runs}
 use Rattle.nb_top.proofs.FirstLaws.{First}
@@ -40,9 +41,10 @@ use Rattle.nb_top.proofs.ToldLaws.{Ran, performed_refused}
 use Rattle.nb_top.proofs.RefusedRuns.{refused_runs}
 
 -- It was done: the database is open, no other file was touched, and nothing was said or given.
-pub record FirstDone (old mid : World) (account : Account) (given : Given) (plan : Plan) (is_quiet : Bool) (askable : IsAskable plan) (held : Held) : Type 0 where
+pub record FirstDone (old mid : World) (account : Account) (given : Given) (plan : Plan) (telling : Telling) (askable : IsAskable plan) (held : Held) : Type 0 where
   pub first : First account given plan
   pub says : first.reply ≡ opened_reply plan.first held.files.count held.files.state
+  pub counted : held.files.count ≡ pages_first account plan.first
   pub ready : IsReady mid held (settled (base_now first.now)) first.now
   pub making : IsMaking first.now
   pub named : name_of held ≡ first.target.name
@@ -51,7 +53,8 @@ pub record FirstDone (old mid : World) (account : Account) (given : Given) (plan
   pub read : (m : List ℕ) → Other (OfFiles first.target.name) m → mid.files m ≡ old.files m
   pub silent : mid.said ≡ old.said
   pub gave : GaveNothing old mid
-  pub stops : (n : ℕ) → AtEachMoment old mid (Left old account given plan is_quiet askable first n)
+  pub opens : first.strokes ≡ [] → mid.files ≡ old.files
+  pub stops : (n : ℕ) → AtEachMoment old mid (Left old account given plan telling askable first n)
 
 -- It was refused, and nothing happened.
 pub record FirstRefused (old mid : World) (account : Account) (given : Given) (plan : Plan) (refusal : Refusal) : Type 0 where
@@ -59,25 +62,25 @@ pub record FirstRefused (old mid : World) (account : Account) (given : Given) (p
   pub ran : Ran account given plan (refused_at plan.first_session refusal) account given
   pub not_usage : refusal ≢ Usage
 
-pub record Beginning (old : World) (account : Account) (given : Given) (plan : Plan) (is_quiet : Bool) (askable : IsAskable plan) (mid : World) (result : Result Held Fault) : Type 0 where
-  pub fails : (e : Stop) → RunsTo (Err e) old mid (Ok (ToRun plan is_quiet)) account given
+pub record Beginning (old : World) (account : Account) (given : Given) (plan : Plan) (telling : Telling) (askable : IsAskable plan) (mid : World) (result : Result Held Fault) : Type 0 where
+  pub fails : (e : Stop) → RunsTo (Err e) old mid (Ok (ToRun plan telling)) account given
   pub refused : (refusal : Refusal) → result ≡ Err (Refused refusal) → FirstRefused old mid account given plan refusal
-  pub done : (held : Held) → result ≡ Ok held → FirstDone old mid account given plan is_quiet askable held
+  pub done : (held : Held) → result ≡ Ok held → FirstDone old mid account given plan telling askable held
 
-module _ (old : World) (account : Account) (given : Given) (plan : Plan) (is_quiet : Bool) (askable : IsAskable plan) (mid : World) where
+module _ (old : World) (account : Account) (given : Given) (plan : Plan) (telling : Telling) (askable : IsAskable plan) (mid : World) where
   -- a refusal is said
   pub script_refused : (refusal : Refusal) → FirstRefused old mid account given plan refusal → (new : World) {S E : Type 0} (told : Result S E) (status : Result Status Stop) → SaysLine told mid new (line_text plan.first_session (RefusedReply refusal))
-      → IfOk status (λ s. s ≡ RefusedStatus) → OnOk status (new.said ≡ mid.said ++ line_text plan.first_session (RefusedReply refusal)) → RunsTo status old new (Ok (ToRun plan is_quiet)) account given
+      → IfOk status (λ s. s ≡ RefusedStatus) → OnOk status (new.said ≡ mid.said ++ line_text plan.first_session (RefusedReply refusal)) → RunsTo status old new (Ok (ToRun plan telling)) account given
   script_refused refusal is new told status says ended said =
-      runs_quietly status old mid new (Ok (ToRun plan is_quiet)) account given is.quiet
-      (refused_runs mid new plan.first_session refusal account given (Ok (ToRun plan is_quiet)) told status (performed_refused is_quiet plan account given plan.first_session refusal account given is.ran) says (numbered status ended)
+      runs_quietly status old mid new (Ok (ToRun plan telling)) account given is.quiet
+      (refused_runs mid new plan.first_session refusal account given (Ok (ToRun plan telling)) told status (performed_refused telling plan account given plan.first_session refusal account given is.ran) says (numbered status ended)
       said)
     where
       numbered : (s : Result Status Stop) → IfOk s (λ x. x ≡ RefusedStatus) → IfOk s (λ x. number_of x ≡ status_after (RefusedReply refusal))
       numbered (Ok x) e = ap number_of e ∙ sym (status_refused refusal is.not_usage)
       numbered (Err x) e = tt
 
-  module _ (held : Held) (is : FirstDone old mid account given plan is_quiet askable held) where
+  module _ (held : Held) (is : FirstDone old mid account given plan telling askable held) where
     pub script_now : Now
     script_now = is.first.now
 
@@ -103,26 +106,30 @@ module _ (old : World) (account : Account) (given : Given) (plan : Plan) (is_qui
 
     -- as it is told
     abbrev said_first : Event
-    said_first = told_first is_quiet done_first
+    said_first = told_first telling done_first
 
-    pub script_trail : after_steps (settled (start old account given plan is_quiet askable is.first)) (steps_in done_first) ≡ settled (base_now script_now)
+    pub script_trail : after_steps (settled (start old account given plan telling askable is.first)) (steps_in done_first) ≡ settled (base_now script_now)
     unfolding script_now
-    script_trail = ap (λ (r : Reply). after_steps (settled (start old account given plan is_quiet askable is.first)) (steps_in (first_event plan.first_session is.first.strokes r))) (sym is.says) ∙ is.first.trail
+    script_trail = ap (λ (r : Reply). after_steps (settled (start old account given plan telling askable is.first)) (steps_in (first_event plan.first_session is.first.strokes r))) (sym is.says) ∙ is.first.trail
 
-    says_it : {r : Result Bool Stop} (new : World) (after : Held) → PlaysOpened r mid new held after (start old account given plan is_quiet askable is.first) said_first is.first.now plan
-        → PlaysOpened r mid new held after (start old account given plan is_quiet askable is.first) (first_one old account given plan is_quiet askable is.first) is.first.now plan
+    abbrev its_start : Base
+    its_start = start old account given plan telling askable is.first
+
+    says_it : {r : Result Bool Stop} (new : World) (after : Held) → PlaysOpened r mid new held after its_start said_first telling held.files.count is.first.now plan
+        → PlaysOpened r mid new held after its_start (first_one old account given plan telling askable is.first) telling (pages_first account plan.first) is.first.now plan
     says_it {r} new after plays =
-        subst (λ (x : Reply). PlaysOpened r mid new held after (start old account given plan is_quiet askable is.first) (told_first is_quiet (first_event plan.first_session is.first.strokes x)) is.first.now plan) (sym is.says) plays
+        subst (λ (n : ℕ). PlaysOpened r mid new held after its_start (first_one old account given plan telling askable is.first) telling n is.first.now plan) is.counted
+        (subst (λ (x : Reply). PlaysOpened r mid new held after its_start (told_first telling (first_event plan.first_session is.first.strokes x)) telling held.files.count is.first.now plan) (sym is.says) plays)
 
     -- the turns ended early
-    pub script_ends_early : (new : World) (after : Held) (e : Stop) {f : Stop} → PlaysOpened (Err f) mid new held after (start old account given plan is_quiet askable is.first) said_first script_now plan → RunsTo (Err e) old new (Ok (ToRun plan is_quiet)) account given
+    pub script_ends_early : (new : World) (after : Held) (e : Stop) {f : Stop} → PlaysOpened (Err f) mid new held after (start old account given plan telling askable is.first) said_first telling held.files.count script_now plan → RunsTo (Err e) old new (Ok (ToRun plan telling)) account given
     unfolding script_now
     script_ends_early new after e plays =
-        begun_fails old account given plan is_quiet askable is.first mid new is.alone is.read is.silent is.gave is.stops held after is.named is.small e (says_it new after plays)
+        begun_fails old account given plan telling askable is.first mid new is.alone is.read is.silent is.gave is.opens is.stops held after is.named is.small e (says_it new after plays)
 
     -- all turns were taken
     pub script_ends : (new : World) (after : Held) (refused : Bool) (status : Status) → number_of status ≡ (if refused then 1 else 0)
-        → PlaysOpened (Ok refused) mid new held after (start old account given plan is_quiet askable is.first) said_first script_now plan → RunsTo (Ok status) old new (Ok (ToRun plan is_quiet)) account given
+        → PlaysOpened (Ok refused) mid new held after (start old account given plan telling askable is.first) said_first telling held.files.count script_now plan → RunsTo (Ok status) old new (Ok (ToRun plan telling)) account given
     unfolding script_now
     script_ends new after refused status number plays =
-        begun_runs old account given plan is_quiet askable is.first mid new is.alone is.read is.silent is.gave is.stops held after is.named is.small refused status number (says_it new after plays)
+        begun_runs old account given plan telling askable is.first mid new is.alone is.read is.silent is.gave is.opens is.stops held after is.named is.small refused status number (says_it new after plays)

@@ -1,5 +1,6 @@
 -- A run behind its first statement.
-use Rattle.std.proofs.Common.{◌≡◌, ◌⊎◌, inl, inr, ⊎_elim, ℕ, List, ◌∷◌, ◌++◌, true, false, sym, ap, subst, ◌∙◌}
+use Rattle.std.proofs.Common.{◌≡◌, ◌⊎◌, inl, inr, ⊎_elim, ℕ, List, [], ◌∷◌, ◌++◌, true, false, refl, sym, ap, subst, ◌∙◌, true≢false}
+use Rattle.std.specs.List.{list_all}
 use Rattle.std.specs.Prelude.{Bool, Option, None, Some, Ok, Err, Contains, if◌then◌else◌}
 use Rattle.nb_host.specs.Files.{Files}
 use Rattle.nb_host.specs.World.{World}
@@ -16,7 +17,7 @@ use Rattle.nb_model.specs.Outcomes.{Given}
 use Rattle.nb_model.specs.Output.{output}
 use Rattle.nb_model.specs.Run.{Event, AreFinished, files_made}
 use Rattle.nb_model.specs.Steps.{steps_of}
-use Rattle.nb_model.specs.Strokes.{base_in}
+use Rattle.nb_model.specs.Strokes.{Stroke, base_in}
 use Rattle.nb_model.specs.Trail.{settled}
 use Rattle.nb_base.specs.Open.{OfFiles}
 use Rattle.nb_state.specs.Open.{Held, IsOpen, name_of}
@@ -24,23 +25,49 @@ use Rattle.nb_script.specs.Asked.{IsAskable}
 use Rattle.nb_script.specs.Scripts.{Plan}
 use Rattle.nb_session.specs.declared.stop.Stop.{Stop}
 use Rattle.nb_session.specs.Acts.{Touched}
+use Rattle.nb_session.specs.Replies.{only_tells, only_told}
 use Rattle.nb_session.specs.Stops.{StopLeft}
 use Rattle.nb_top.specs.declared.status.Status.{Status}
-use Rattle.nb_top.specs.Performed.{RunLeft, RunsTo, Finished, HasSmallScn, IsEnded, IsPerformed, PlaysOpened, Target, begins_refused, first_event, seen_after, target_named, target_of, told_first, number_of}
+use Rattle.nb_top.specs.Performed.{RunLeft, RunsTo, Finished, HasSmallScn, IsEnded, IsPerformed, PlaysOpened, Target, begins_refused, first_event, seen_after, pages_first, target_named, target_of, told_first, told_later, number_of, only_opens}
+use Rattle.nb_top.specs.declared.telling.Telling.{Telling}
+use Rattle.nb_top.specs.declared.telling.Telling.TheVariants.{All, Quietly, WithSize}
 use Rattle.nb_top.specs.Requests.{ToRun}
+use Rattle.nb_session.proofs.PlayLaws.{both_true}
 use Rattle.nb_session.proofs.StopLaws.{AreApart}
 use Rattle.nb_top.proofs.FirstEnds.{first_ends}
 use Rattle.nb_top.proofs.FirstLaws.{First, turns}
 use Rattle.nb_top.proofs.MadeRuns.{made_behind}
 use Rattle.nb_top.proofs.QuietRuns.{given_from}
-use Rattle.nb_top.proofs.ToldLaws.{told_begins, told_cons, told_first_made, performed_told}
+use Rattle.nb_top.proofs.ToldLaws.{later_files, told_begins, told_cons, told_first_made, performed_told}
 
-module _ (old : World) (account : Account) (given : Given) (plan : Plan) (is_quiet : Bool) (askable : IsAskable plan) (first : First account given plan) where
+-- it makes no stroke
+opens_without : (e : Event) → only_opens e ≡ true → e.strokes ≡ []
+opens_without e only = by e.strokes only
+  where
+    by : (ss : List Stroke) → elim ss as (λ z. Bool) [ [] ↦ elim e.reply as (λ z. Bool) [ None ↦ true | Some reply ↦ only_tells reply ] | s ∷ rest ↦ false ] ≡ true → ss ≡ []
+    by [] is = refl
+    by (s ∷ ss) is = absurd (true≢false (sym is))
+
+-- what is told of it says nothing of its strokes
+told_strokes : (telling : Telling) (e : Event) → (told_first telling e).strokes ≡ e.strokes
+told_strokes All e = refl
+told_strokes Quietly e = refl
+told_strokes WithSize e = refl
+
+module _ (old : World) (account : Account) (given : Given) (plan : Plan) (telling : Telling) (askable : IsAskable plan) (first : First account given plan) where
   abbrev pub first_one : Event
-  first_one = told_first is_quiet (first_event plan.first_session first.strokes first.reply)
+  first_one = told_first telling (first_event plan.first_session first.strokes first.reply)
+
+  -- how many pages the database then has
+  abbrev pub pages : ℕ
+  pages = pages_first account plan.first
+
+  -- the events behind it
+  abbrev pub later : ℕ → List Event
+  later n = told_later telling pages (turns plan first.now n).0
 
   abbrev pub events : ℕ → List Event
-  events n = first_one ∷ (turns plan first.now n).0
+  events n = first_one ∷ later n
 
   abbrev pub name : List ℕ
   name = first.target.name
@@ -55,23 +82,23 @@ module _ (old : World) (account : Account) (given : Given) (plan : Plan) (is_qui
   begins : (n : ℕ) → begins_refused (events n) ≡ false
   begins n =
       let done : Event = first_event plan.first_session first.strokes first.reply in
-      ap begins_refused (told_cons is_quiet done (turns plan first.now n).0) ∙ told_begins is_quiet (done ∷ (turns plan first.now n).0) ∙ first.allowed
+      ap begins_refused (told_cons telling pages done (turns plan first.now n).0) ∙ told_begins telling pages (done ∷ (turns plan first.now n).0) ∙ first.allowed
 
-  target_is : (n : ℕ) → target_of (Ok (ToRun plan is_quiet)) (events n) ≡ Some first.target
+  target_is : (n : ℕ) → target_of (Ok (ToRun plan telling)) (events n) ≡ Some first.target
   target_is n = ap (λ (b : Bool). elim b as (λ z. Option Target) [ true ↦ None | false ↦ target_named plan.first ]) (begins n) ∙ first.named
 
-  with_target : (n : ℕ) (from new : World) → AtEachMoment from new (Left n) → AtEachMoment from new (RunLeft old account (target_of (Ok (ToRun plan is_quiet)) (events n)) (events n))
+  with_target : (n : ℕ) (from new : World) → AtEachMoment from new (Left n) → AtEachMoment from new (RunLeft old account (target_of (Ok (ToRun plan telling)) (events n)) (events n))
   with_target n from new is = subst (λ (d : Option Target). AtEachMoment from new (RunLeft old account d (events n))) (sym (target_is n)) is
 
-  opened_with : (n : ℕ) → HasSmallScn account (Some first.target) → HasSmallScn account (target_of (Ok (ToRun plan is_quiet)) (events n))
+  opened_with : (n : ℕ) → HasSmallScn account (Some first.target) → HasSmallScn account (target_of (Ok (ToRun plan telling)) (events n))
   opened_with n = subst (HasSmallScn account) (sym (target_is n))
 
-  performed : (n : ℕ) → AreFinished (turns plan first.now n).1.todo → IsPerformed old.files (Ok (ToRun plan is_quiet)) account given (events n) (turns plan first.now n).1.account (turns plan first.now n).1.given
+  performed : (n : ℕ) → AreFinished (turns plan first.now n).1.todo → IsPerformed old.files (Ok (ToRun plan telling)) account given (events n) (turns plan first.now n).1.account (turns plan first.now n).1.given
   performed n finished =
-      performed_told is_quiet plan account given (first_event plan.first_session first.strokes first.reply) (turns plan first.now n).0 (turns plan first.now n).1.account (turns plan first.now n).1.given (first.ran n finished)
+      performed_told telling plan account given (first_event plan.first_session first.strokes first.reply) (turns plan first.now n).0 (turns plan first.now n).1.account (turns plan first.now n).1.given (first.ran n finished)
 
   -- it ended early, in the first statement
-  pub first_fails : (new : World) (e : Stop) → HasSmallScn account (Some first.target) ⊎ Quiet old new → ((n : ℕ) → AtEachMoment old new (Left n)) → RunsTo (Err e) old new (Ok (ToRun plan is_quiet)) account given
+  pub first_fails : (new : World) (e : Stop) → HasSmallScn account (Some first.target) ⊎ Quiet old new → ((n : ℕ) → AtEachMoment old new (Left n)) → RunsTo (Err e) old new (Ok (ToRun plan telling)) account given
   first_fails new e opened stops =
       let end = first_ends plan askable first.now first.todo in
       record {
@@ -86,13 +113,13 @@ module _ (old : World) (account : Account) (given : Given) (plan : Plan) (is_qui
 
   -- The first statement was done: it touched no other file, said nothing and asked for nothing.
   module _ (mid new : World) (alone : Untouched old mid (Other (OfFiles name))) (read : (m : List ℕ) → Other (OfFiles name) m → mid.files m ≡ old.files m) (silent : mid.said ≡ old.said) (gave : GaveNothing old mid)
-      (stops : (n : ℕ) → AtEachMoment old mid (Left n)) (held after : Held) (named : name_of held ≡ name) (small : HasSmallScn account (Some first.target)) where
+      (opens : first.strokes ≡ [] → mid.files ≡ old.files) (stops : (n : ℕ) → AtEachMoment old mid (Left n)) (held after : Held) (named : name_of held ≡ name) (small : HasSmallScn account (Some first.target)) where
     abbrev made : ℕ → List MadeFile
     made n = files_made (turns plan first.now n).0
 
     -- the first statement makes no file
     made_is : (n : ℕ) → files_made (events n) ≡ made n
-    made_is n = made_behind first_one (turns plan first.now n).0 (told_first_made is_quiet (first_event plan.first_session first.strokes first.reply))
+    made_is n = made_behind first_one (later n) (told_first_made telling (first_event plan.first_session first.strokes first.reply)) ∙ later_files telling pages (turns plan first.now n).0
 
     -- a name that is neither the database's nor that of a file that is made
     outside : (n : ℕ) (m : List ℕ) → Other (OfFiles name) m → IsNoneOf (files_made (events n)) m → Other (Touched name (made n)) m
@@ -121,7 +148,7 @@ module _ (old : World) (account : Account) (given : Given) (plan : Plan) (is_qui
         (subst (λ (m : List ℕ). StopLeft mid m (settled start) (events n) (made n) files said) named left))
 
     -- the turns ended early
-    pub begun_fails : (e : Stop) {f : Stop} → PlaysOpened (Err f) mid new held after start first_one first.now plan → RunsTo (Err e) old new (Ok (ToRun plan is_quiet)) account given
+    pub begun_fails : (e : Stop) {f : Stop} → PlaysOpened (Err f) mid new held after start first_one telling pages first.now plan → RunsTo (Err e) old new (Ok (ToRun plan telling)) account given
     begun_fails e plays = record {
       events = events plays.how_often;
       last = (turns plan first.now plays.how_often).1.account;
@@ -133,7 +160,7 @@ module _ (old : World) (account : Account) (given : Given) (plan : Plan) (is_qui
     }
 
     -- all turns were taken
-    pub begun_runs : (refused : Bool) (status : Status) → number_of status ≡ (if refused then 1 else 0) → PlaysOpened (Ok refused) mid new held after start first_one first.now plan → RunsTo (Ok status) old new (Ok (ToRun plan is_quiet)) account given
+    pub begun_runs : (refused : Bool) (status : Status) → number_of status ≡ (if refused then 1 else 0) → PlaysOpened (Ok refused) mid new held after start first_one telling pages first.now plan → RunsTo (Ok status) old new (Ok (ToRun plan telling)) account given
     begun_runs refused status number plays = record {
       events = events n;
       last = (turns plan first.now n).1.account;
@@ -164,4 +191,7 @@ module _ (old : World) (account : Account) (given : Given) (plan : Plan) (is_qui
           database = ended;
           kept = plays.plays.done.kept;
           others = λ m other none. plays.plays.others_read m (λ one. outside n m other none (subst (λ (k : List ℕ). Touched k (made n) m) named one)) ∙ read m other;
+          unchanged = λ only.
+              let both = both_true (only_opens first_one) (list_all only_told (later n)) only in
+              plays.unchanged both.1 ∙ opens (sym (told_strokes telling (first_event plan.first_session first.strokes first.reply)) ∙ opens_without first_one both.0);
         }

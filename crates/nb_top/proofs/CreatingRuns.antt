@@ -47,17 +47,19 @@ use Rattle.nb_script.specs.Scripts.{Plan}
 use Rattle.nb_session.specs.declared.stop.Stop.{Stop}
 use Rattle.nb_session.specs.Acts.{MadeLeft}
 use Rattle.nb_session.specs.Stops.{IsSaid}
-use Rattle.nb_top.specs.Performed.{KnowsNames, MayBeGiven, RunsTo, HasSmallScn, first_event, opened_reply, refused_at, seen_after, target_of}
+use Rattle.nb_top.specs.Performed.{KnowsNames, MayBeGiven, RunsTo, HasSmallScn, first_event, opened_reply, pages_first, refused_at, seen_after, target_of}
+use Rattle.nb_top.specs.declared.telling.Telling.{Telling}
 use Rattle.nb_top.specs.Requests.{ToRun}
 use Rattle.nb_top.proofs.QuietRuns.{left_quietly}
-use Rattle.nb_top.proofs.FirstLaws.{First, first_created, created_base, turns}
+use Rattle.nb_top.proofs.FirstLaws.{First, first_created, first_strikes, created_base, turns}
 use Rattle.nb_top.proofs.FirstReady.{IsBehind, apart_play, base_name, begins_making, first_ready}
 use Rattle.nb_top.proofs.MadeRuns.{made_behind, none_yet}
 use Rattle.nb_top.proofs.BegunRuns.{Left, events, first_one, first_fails}
+use Rattle.nb_top.proofs.BegunRuns.{later as later_told}
 use Rattle.nb_top.proofs.Beginnings.{Beginning, FirstRefused, FirstDone}
-use Rattle.nb_top.proofs.ToldLaws.{Ran, told_first_made, told_first_steps, performed_refused}
+use Rattle.nb_top.proofs.ToldLaws.{Ran, later_files, told_first_made, told_first_steps, performed_refused}
 
-module _ (old : World) (account : Account) (given : Given) (plan : Plan) (is_quiet : Bool) (askable : IsAskable plan) (name : List ℕ) (size raw cache : ℕ) (first_is : plan.first ≡ CreateDb name size raw cache)
+module _ (old : World) (account : Account) (given : Given) (plan : Plan) (telling : Telling) (askable : IsAskable plan) (name : List ℕ) (size raw cache : ℕ) (first_is : plan.first ≡ CreateDb name size raw cache)
     (names : KnowsNames old.files account) where
   fits : FitsFirst (CreateDb name size raw cache)
   fits = subst FitsFirst first_is askable.first.fits
@@ -77,14 +79,14 @@ module _ (old : World) (account : Account) (given : Given) (plan : Plan) (is_qui
       subst (λ (first : Statement). IsRun account given plan.first_session first plan.schedule plan.sessions (refused_at plan.first_session (FileExists name)) account given) (sym first_is)
       (run_ends account given plan.first_session (CreateDb name size raw cache) plan.schedule plan.sessions (RefusedReply (FileExists name)) (not_created account given plan.sessions plan.first_session name size raw cache taken))
 
-  taken_fails : (new : World) (e : Stop) → is_free_entry (account.entry name) ≡ false → Quiet old new → RunsTo (Err e) old new (Ok (ToRun plan is_quiet)) account given
+  taken_fails : (new : World) (e : Stop) → is_free_entry (account.entry name) ≡ false → Quiet old new → RunsTo (Err e) old new (Ok (ToRun plan telling)) account given
   taken_fails new e taken quiet = record {
     events = refused_at plan.first_session (FileExists name);
     last = account;
     left = given;
-    performed = performed_refused is_quiet plan account given plan.first_session (FileExists name) account given (taken_ran taken);
+    performed = performed_refused telling plan account given plan.first_session (FileExists name) account given (taken_ran taken);
     opened = inl tt;
-    stops = left_quietly old new account (target_of (Ok (ToRun plan is_quiet)) (refused_at plan.first_session (FileExists name))) _ quiet;
+    stops = left_quietly old new account (target_of (Ok (ToRun plan telling)) (refused_at plan.first_session (FileExists name))) _ quiet;
     finished = tt;
   }
 
@@ -111,13 +113,13 @@ module _ (old : World) (account : Account) (given : Given) (plan : Plan) (is_qui
         }
 
     abbrev es : ℕ → List Event
-    es n = events old account given plan is_quiet askable first n
+    es n = events old account given plan telling askable first n
 
     abbrev one : Event
-    one = first_one old account given plan is_quiet askable first
+    one = first_one old account given plan telling askable first
 
     abbrev later : ℕ → List Event
-    later n = (turns plan first.now n).0
+    later n = later_told old account given plan telling askable first n
 
     making : MayBeGiven given → IsMaking first.now
     making may =
@@ -131,12 +133,13 @@ module _ (old : World) (account : Account) (given : Given) (plan : Plan) (is_qui
     apart : MayBeGiven given → (n : ℕ) (m bytes : List ℕ) → Contains (files_made (es n)) (m, bytes) → m ≢ name
     unfolding first_created
     apart may n m bytes there same =
-        let its : Contains (files_made (later n)) (m, bytes) =
-        subst (λ (made : List MadeFile). Contains made (m, bytes)) (made_behind one (later n) (told_first_made is_quiet (first_event plan.first_session first.strokes first.reply))) there in
+        let its : Contains (files_made (turns plan first.now n).0) (m, bytes) =
+        subst (λ (made : List MadeFile). Contains made (m, bytes))
+        (made_behind one (later n) (told_first_made telling (first_event plan.first_session first.strokes first.reply)) ∙ later_files telling (pages_first account plan.first) (turns plan first.now n).0) there in
         apart_play plan askable first.now first.todo (making may) (plan.schedule ++ rounds n) m bytes its (inl (same ∙ sym first.name_is))
 
     -- while it is created
-    left_creating : MayBeGiven given → (n : ℕ) (files : Files) (said : List ℕ) → ChangedLeft old (Only name) (CreateLeft old name image) files said → Left old account given plan is_quiet askable first n files said
+    left_creating : MayBeGiven given → (n : ℕ) (files : Files) (said : List ℕ) → ChangedLeft old (Only name) (CreateLeft old name image) files said → Left old account given plan telling askable first n files said
     unfolding first_created
     left_creating may n files said left = ⊎_elim was (⊎_elim unfinished whole) left.has
       where
@@ -152,7 +155,7 @@ module _ (old : World) (account : Account) (given : Given) (plan : Plan) (is_qui
         beside : Leaves old (delta_name name) (files (delta_name name))
         beside = left.others (delta_name name) (no_main name name plain)
 
-        was : Leaves old name (files name) → Left old account given plan is_quiet askable first n files said
+        was : Leaves old name (files name) → Left old account given plan telling askable first n files said
         was is = record {
           out = out;
           count = 0;
@@ -163,7 +166,7 @@ module _ (old : World) (account : Account) (given : Given) (plan : Plan) (is_qui
           others = unasked;
         }
 
-        unfinished : is_free_file (files name) ≡ true → Left old account given plan is_quiet askable first n files said
+        unfinished : is_free_file (files name) ≡ true → Left old account given plan telling askable first n files said
         unfinished is = record {
           out = out;
           count = 0;
@@ -182,10 +185,10 @@ module _ (old : World) (account : Account) (given : Given) (plan : Plan) (is_qui
 
         seen : seen_after account name (take (length (steps_in one)) (steps_of (es n))) ≡ settled (base_of image)
         seen =
-            ap (seen_after account name) cut ∙ ap (seen_after account name) (told_first_steps is_quiet (first_event plan.first_session first.strokes first.reply)) ∙ first.trail
+            ap (seen_after account name) cut ∙ ap (seen_after account name) (told_first_steps telling (first_event plan.first_session first.strokes first.reply)) ∙ first.trail
             ∙ ap settled (created_base account given plan name size raw cache first_is free)
 
-        whole : ShowsIn name (base_of image) files → Left old account given plan is_quiet askable first n files said
+        whole : ShowsIn name (base_of image) files → Left old account given plan telling askable first n files said
         whole is = record {
           out = out;
           count = length (steps_in one);
@@ -200,27 +203,27 @@ module _ (old : World) (account : Account) (given : Given) (plan : Plan) (is_qui
         }
 
   -- nothing happened, whatever the run must have been
-  pub creating_unbegun : (new : World) (e : Stop) → Quiet old new → RunsTo (Err e) old new (Ok (ToRun plan is_quiet)) account given
+  pub creating_unbegun : (new : World) (e : Stop) → Quiet old new → RunsTo (Err e) old new (Ok (ToRun plan telling)) account given
   unfolding first_created
   creating_unbegun new e quiet = by (is_free_entry (account.entry name)) refl
     where
-      by : (free : Bool) → is_free_entry (account.entry name) ≡ free → RunsTo (Err e) old new (Ok (ToRun plan is_quiet)) account given
-      by true is = first_fails old account given plan is_quiet askable (first is) new e (inl (small is)) (λ n. left_quietly old new account _ _ quiet)
+      by : (free : Bool) → is_free_entry (account.entry name) ≡ free → RunsTo (Err e) old new (Ok (ToRun plan telling)) account given
+      by true is = first_fails old account given plan telling askable (first is) new e (inl (small is)) (λ n. left_quietly old new account _ _ quiet)
       by false is = taken_fails new e is quiet
 
   module _ (may : MayBeGiven given) (mid : World) (result : Result Held Fault) (creates : Creates result old mid name image) where
-    creating : (free : is_free_entry (account.entry name) ≡ true) (n : ℕ) → AtEachMoment old mid (Left old account given plan is_quiet askable (first free) n)
+    creating : (free : is_free_entry (account.entry name) ≡ true) (n : ℕ) → AtEachMoment old mid (Left old account given plan telling askable (first free) n)
     creating free n = weaker old mid _ _ creates.left.moments (left_creating free may n)
 
-    pub creates_begins : Beginning old account given plan is_quiet askable mid result
+    pub creates_begins : Beginning old account given plan telling askable mid result
     unfolding first_created
     creates_begins = record { fails = fails; refused = refused; done = done }
       where
-        fails : (e : Stop) → RunsTo (Err e) old mid (Ok (ToRun plan is_quiet)) account given
+        fails : (e : Stop) → RunsTo (Err e) old mid (Ok (ToRun plan telling)) account given
         fails e = by (is_free_entry (account.entry name)) refl
           where
-            by : (free : Bool) → is_free_entry (account.entry name) ≡ free → RunsTo (Err e) old mid (Ok (ToRun plan is_quiet)) account given
-            by true is = first_fails old account given plan is_quiet askable (first is) mid e (inl (small is)) (creating is)
+            by : (free : Bool) → is_free_entry (account.entry name) ≡ free → RunsTo (Err e) old mid (Ok (ToRun plan telling)) account given
+            by true is = first_fails old account given plan telling askable (first is) mid e (inl (small is)) (creating is)
             by false is = taken_fails mid e is (creates.taken (knows ∙ is))
 
         refused : (refusal : Refusal) → result ≡ Err (Refused refusal) → FirstRefused old mid account given plan refusal
@@ -235,7 +238,7 @@ module _ (old : World) (account : Account) (given : Given) (plan : Plan) (is_qui
             exists_usage : FileExists name ≡ Usage → ⊥
             exists_usage e = cc
 
-        done : (held : Held) → result ≡ Ok held → FirstDone old mid account given plan is_quiet askable held
+        done : (held : Held) → result ≡ Ok held → FirstDone old mid account given plan telling askable held
         done held is =
             let answer : IsCreated held old mid name image = subst (λ (r : Result Held Fault). CreateAnswers r old mid name image) is creates.answer in
             let free : is_free_entry (account.entry name) ≡ true = sym knows ∙ answer.was_free in
@@ -244,6 +247,7 @@ module _ (old : World) (account : Account) (given : Given) (plan : Plan) (is_qui
             record {
               first = one;
               says = ap Pages (sym (answer.opened.files.agrees.count ∙ fresh_length size raw)) ∙ ap (λ (s : Statement). opened_reply s held.files.count held.files.state) (sym first_is);
+              counted = answer.opened.files.agrees.count ∙ fresh_length size raw ∙ ap (pages_first account) (sym first_is);
               ready = first_ready old mid account name plain names one.now one.name_is (created_behind free) held answer.named (answer.nothing_runs ∙ sym one.running) (λ m other. creates.left.others_read m (λ e. other (inl e)))
                   (subst (λ (b : Base). IsOpen mid held (settled b)) (sym base) answer.opened);
               making = making free may;
@@ -253,5 +257,6 @@ module _ (old : World) (account : Account) (given : Given) (plan : Plan) (is_qui
               read = λ m other. creates.left.others_read m (λ e. other (inl e));
               silent = creates.left.said;
               gave = creates.gave;
+              opens = λ none. absurd (first_strikes account given plan name size raw cache first_is free none);
               stops = creating free;
             }

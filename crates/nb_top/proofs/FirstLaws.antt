@@ -1,5 +1,5 @@
 -- The first statement of a run, and the run that comes behind it.
-use Rattle.std.proofs.Common.{◌≡◌, ℕ, List, [], ◌∷◌, ◌++◌, length, true, false, refl, sym, ap, subst, ◌∙◌}
+use Rattle.std.proofs.Common.{◌≡◌, ℕ, List, [], ◌∷◌, ◌++◌, length, true, false, refl, sym, ap, subst, ◌∙◌, arith}
 use Rattle.std.specs.Prelude.{None, Some}
 use Rattle.nb_fields.specs.Fresh.{fresh, fresh_count}
 use Rattle.nb_model.specs.declared.reply.Reply.{Reply}
@@ -89,6 +89,11 @@ module _ (account : Account) (given : Given) (plan : Plan) (name : List ℕ) whe
       trail = made_trail (base_in (account.entry name)) (fresh size raw) plan.first_session (Pages (fresh_count size raw)) ∙ ap settled (sym new_one.base);
       ran = created_ran;
     }
+
+    -- it makes a stroke
+    pub first_strikes : first_created.strokes ≡ [] → ⊥
+    unfolding first_created
+    first_strikes none = omega (arith, ap length none)
 
     pub created_base : base_now first_created.now ≡ base_of (fresh size raw)
     unfolding first_created

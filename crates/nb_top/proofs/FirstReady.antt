@@ -14,7 +14,7 @@ use Rattle.nb_change.proofs.NameLaws.{decide}
 use Rattle.nb_page.specs.Free.{is_free_name, has_delta}
 use Rattle.nb_page.proofs.FreeLemmas.{is_free_name-false}
 use Rattle.nb_model.specs.declared.statement.Statement.{Statement}
-use Rattle.nb_model.specs.declared.statement.Statement.TheVariants.{Backup, BackupSince, CopyTo}
+use Rattle.nb_model.specs.declared.statement.Statement.TheVariants.{Backup, BackupSince, CopyTo, CreateTable}
 use Rattle.nb_model.specs.Account.{Base, IsBase, Account}
 use Rattle.nb_model.specs.Built.{is_built}
 use Rattle.nb_model.specs.Causes.{is_free_entry}
@@ -116,8 +116,9 @@ module _ (old mid : World) (before : Account) (name : List ℕ) (plain : is_delt
 -- What a further statement names is a name, and no difference file's.
 pub named_further : (s : Statement) → IsFurther s → IsNamed (Begins s)
 named_further (Backup level name) is = (given_name 100 name is.fits.1).named
-named_further (BackupSince guid name) is = absurd is.fits
+named_further (BackupSince guid name) is = (given_name 100 name is.fits).named
 named_further (CopyTo name) is = (given_name 100 name is.fits).named
+named_further (CreateTable table) is = is.fits
 named_further other is = tt
 
 abbrev pub IsPlain : List ℕ → Type 0

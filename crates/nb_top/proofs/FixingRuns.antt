@@ -1,5 +1,5 @@
 -- A run that fixes a copy: what it does, and what a stop leaves of it.
-use Rattle.std.proofs.Common.{◌≡◌, inl, inr, ⊎_elim, ℕ, List, [], ◌∷◌, ◌++◌, false, refl, sym, ap, subst, ◌∙◌}
+use Rattle.std.proofs.Common.{true≢false, ◌≡◌, inl, inr, ⊎_elim, ℕ, List, [], ◌∷◌, ◌++◌, false, refl, sym, ap, subst, ◌∙◌}
 use Rattle.std.specs.Prelude.{Some, None, Result, Ok, Err, IfOk, OnOk}
 use Rattle.nb_host.specs.Files.{Files}
 use Rattle.nb_host.specs.World.{World}
@@ -148,5 +148,5 @@ module _ (old : World) (account : Account) (given : Given) (db : List ℕ) (know
           stops = stops;
           finished =
               turn_finished old account target DoneReply (fix ∷ []) (base kept.bytes kept.copy) (fix_seen old.files account db kept.bytes knows kept.copy) mid (fixing kept.bytes kept.copy mid does.left)
-              (λ files leaves. (kept.left files leaves).shows) new told says given does.gave kept.now.shows refl said;
+              (λ files leaves. (kept.left files leaves).shows) new told says given does.gave kept.now.shows refl said (λ only. true≢false (sym only));
         }

@@ -5,7 +5,7 @@ use Rattle.nb_host.specs.Files.{Files}
 use Rattle.nb_model.specs.declared.job.Job.{Job}
 use Rattle.nb_model.specs.declared.job.Job.TheVariants.{Run, Stat, Gen, Backup, BackupSince, Restore, Apply, Lock, LockWithSize, Unlock, Fixup}
 use Rattle.nb_model.specs.declared.statement.Statement.{Statement}
-use Rattle.nb_model.specs.declared.statement.Statement.TheVariants.{BeginBackup, EndBackup, Backup as BackupTo}
+use Rattle.nb_model.specs.declared.statement.Statement.TheVariants.{BeginBackup, EndBackup, ShowHeader, ShowPages, Backup as BackupTo, BackupSince as BackupOf}
 use Rattle.nb_model.specs.Account.{Account}
 use Rattle.nb_model.specs.Jobs.{Asks, IsAttaching, account_behind, asks_of, restore_turn, fixup_turn, turn_of}
 use Rattle.nb_model.specs.Outcomes.{Given}
@@ -20,28 +20,33 @@ not_built h = cc
 abbrev one_asked : (db : List ℕ) → Statement → Asks
 one_asked db statement = record { db = db; statements = statement ∷ [] }
 
+-- the header and the pages are asked
+abbrev stat_asked : (db : List ℕ) → Asks
+stat_asked db = record { db = db; statements = ShowHeader ∷ ShowPages ∷ [] }
+
 same_asked : (a b : Asks) → ◌≡◌ {A = Option Asks} (Some a) (Some b) → a ≡ b
 same_asked a b h = cc
 
 none_asked : (asks : Asks) → ◌≡◌ {A = Option Asks} None (Some asks) → ⊥
 none_asked asks h = cc
 
--- What holds of a backup, of lock and of unlock holds of each job that attaches and is done today.
-attaching_jobs : (P : Job → Asks → Type 0) → ((level : ℕ) (db file : List ℕ) → P (Backup level db file) (one_asked db (BackupTo level file)))
-    → ((db : List ℕ) → P (Lock db) (one_asked db BeginBackup)) → ((db : List ℕ) → P (Unlock db) (one_asked db EndBackup))
-    → (job : Job) (asks : Asks) → is_job_built job ≡ true → asks_of job ≡ Some asks → P job asks
+-- What holds of backups, of locks, of unlock and of the statistics holds of each job that attaches and is done today.
+attaching_jobs : (P : Job → Asks → Type 0) → ((level : ℕ) (db file : List ℕ) → P (Backup level db file) (one_asked db (BackupTo level file))) → ((guid db file : List ℕ) → P (BackupSince guid db file) (one_asked db (BackupOf guid file)))
+    → ((db : List ℕ) → P (Lock db) (one_asked db BeginBackup)) → ((db : List ℕ) → P (LockWithSize db) (one_asked db BeginBackup)) → ((db : List ℕ) → P (Unlock db) (one_asked db EndBackup))
+    → ((db : List ℕ) → P (Stat db) (stat_asked db)) → (job : Job) (asks : Asks) → is_job_built job ≡ true → asks_of job ≡ Some asks → P job asks
 unfolding asks_of
-attaching_jobs P backup lock unlock (Backup level db file) asks built is = subst (P (Backup level db file)) (same_asked (one_asked db (BackupTo level file)) asks is) (backup level db file)
-attaching_jobs P backup lock unlock (Lock db) asks built is = subst (P (Lock db)) (same_asked (one_asked db BeginBackup) asks is) (lock db)
-attaching_jobs P backup lock unlock (Unlock db) asks built is = subst (P (Unlock db)) (same_asked (one_asked db EndBackup) asks is) (unlock db)
-attaching_jobs P backup lock unlock (Run script) asks built is = absurd (none_asked asks is)
-attaching_jobs P backup lock unlock (Gen number script) asks built is = absurd (none_asked asks is)
-attaching_jobs P backup lock unlock (Restore db names) asks built is = absurd (none_asked asks is)
-attaching_jobs P backup lock unlock (Apply db file) asks built is = absurd (none_asked asks is)
-attaching_jobs P backup lock unlock (Fixup db) asks built is = absurd (none_asked asks is)
-attaching_jobs P backup lock unlock (Stat db) asks built is = absurd (not_built built)
-attaching_jobs P backup lock unlock (BackupSince guid db file) asks built is = absurd (not_built built)
-attaching_jobs P backup lock unlock (LockWithSize db) asks built is = absurd (not_built built)
+attaching_jobs P backup since lock sized unlock stat (Backup level db file) asks built is = subst (P (Backup level db file)) (same_asked (one_asked db (BackupTo level file)) asks is) (backup level db file)
+attaching_jobs P backup since lock sized unlock stat (BackupSince guid db file) asks built is =
+    subst (P (BackupSince guid db file)) (same_asked (one_asked db (BackupOf guid file)) asks is) (since guid db file)
+attaching_jobs P backup since lock sized unlock stat (Lock db) asks built is = subst (P (Lock db)) (same_asked (one_asked db BeginBackup) asks is) (lock db)
+attaching_jobs P backup since lock sized unlock stat (LockWithSize db) asks built is = subst (P (LockWithSize db)) (same_asked (one_asked db BeginBackup) asks is) (sized db)
+attaching_jobs P backup since lock sized unlock stat (Unlock db) asks built is = subst (P (Unlock db)) (same_asked (one_asked db EndBackup) asks is) (unlock db)
+attaching_jobs P backup since lock sized unlock stat (Stat db) asks built is = subst (P (Stat db)) (same_asked (stat_asked db) asks is) (stat db)
+attaching_jobs P backup since lock sized unlock stat (Run script) asks built is = absurd (none_asked asks is)
+attaching_jobs P backup since lock sized unlock stat (Gen number script) asks built is = absurd (none_asked asks is)
+attaching_jobs P backup since lock sized unlock stat (Restore db names) asks built is = absurd (none_asked asks is)
+attaching_jobs P backup since lock sized unlock stat (Apply db file) asks built is = absurd (none_asked asks is)
+attaching_jobs P backup since lock sized unlock stat (Fixup db) asks built is = absurd (none_asked asks is)
 
 module _ (files : Files) (before last : Account) (given : Given) (events : List Event) where
   -- what such a job asks for is the run of its script
@@ -51,6 +56,9 @@ module _ (files : Files) (before last : Account) (given : Given) (events : List 
   pub attaches_performed : (job : Job) (asks : Asks) → is_job_built job ≡ true → asks_of job ≡ Some asks → Attaches job asks
   attaches_performed = attaching_jobs Attaches
       (λ level db file left done. record { whole = done.whole; left = left; run = done.run; said = done.said })
+      (λ guid db file left done. record { whole = done.whole; left = left; run = done.run; said = done.said })
+      (λ db left done. record { whole = done.whole; left = left; run = done.run; said = done.said })
+      (λ db left done. record { whole = done.whole; left = left; run = done.run; said = done.said })
       (λ db left done. record { whole = done.whole; left = left; run = done.run; said = done.said })
       (λ db left done. record { whole = done.whole; left = left; run = done.run; said = done.said })
 
@@ -61,6 +69,9 @@ module _ (files : Files) (before last : Account) (given : Given) (events : List 
   pub performed_attaches : (job : Job) (asks : Asks) → is_job_built job ≡ true → asks_of job ≡ Some asks → IsAttached job asks
   performed_attaches = attaching_jobs IsAttached
       (λ level db file attaching. record { whole = attaching.whole; run = attaching.run; said = attaching.said })
+      (λ guid db file attaching. record { whole = attaching.whole; run = attaching.run; said = attaching.said })
+      (λ db attaching. record { whole = attaching.whole; run = attaching.run; said = attaching.said })
+      (λ db attaching. record { whole = attaching.whole; run = attaching.run; said = attaching.said })
       (λ db attaching. record { whole = attaching.whole; run = attaching.run; said = attaching.said })
       (λ db attaching. record { whole = attaching.whole; run = attaching.run; said = attaching.said })
 

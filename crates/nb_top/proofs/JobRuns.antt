@@ -1,6 +1,6 @@
 -- A job is done, from the words to its end.
 use Rattle.std.proofs.Common.{◌≡◌, ◌≢◌, inl, inr, ⊎_elim, ℕ, List, [], ◌∷◌, ◌++◌, take, refl, sym, ap, subst, ◌∙◌}
-use Rattle.std.specs.Prelude.{false, Result, Ok, Err, IfOk, IfErr, OnOk}
+use Rattle.std.specs.Prelude.{Result, Ok, Err, IfOk, IfErr, OnOk}
 use Rattle.nb_host.specs.Files.{File, Files}
 use Rattle.nb_host.specs.World.{World}
 use Rattle.nb_host.specs.Crash.{Leaves}
@@ -25,6 +25,7 @@ use Rattle.nb_session.specs.Says.{SaysLine}
 use Rattle.nb_top.specs.declared.status.Status.{Status}
 use Rattle.nb_top.specs.declared.status.Status.TheVariants.{Refused as RefusedStatus, Usage as UsageStatus, Device, Memory}
 use Rattle.nb_top.specs.Performed.{HasSmallScn, HoldsKept, RunLeft, RunStands, RunsTo, Performs, Finished, IsPerformed, IsSure, IsUndone, Knows, MayBeGiven, RestoresKept, StandsFor, kept_after, target_of, number_of, first_event, refused_job}
+use Rattle.nb_top.specs.declared.telling.Telling.TheVariants.{All}
 use Rattle.nb_top.specs.Requests.{Request, ToRun, ToRestore, ToFix, request_asked, script_in, to_run}
 use Rattle.nb_top.proofs.FixedRuns.{fix_left, fix_end, fixes_kept}
 use Rattle.nb_top.proofs.LeftLaws.{left_first, first_count}
@@ -43,7 +44,7 @@ pub unread_runs : (old new : World) (name : List ℕ) (file : File) (account : A
 unread_runs old new name file account given e knows quiet = by (script_in name file) refl knows
   where
     by : (read : Result Plan Refusal) → script_in name file ≡ read → Knows old.files account (to_run read) → RunsTo (Err e) old new (to_run read) account given
-    by (Ok plan) is known = script_unbegun old account given plan false (askable_in name file plan is) known new e quiet
+    by (Ok plan) is known = script_unbegun old account given plan All (askable_in name file plan is) known new e quiet
     by (Err refusal) is known = record {
       events = refused_job refusal;
       last = account;
@@ -68,7 +69,7 @@ module _ (old : World) (account : Account) (given : Given) (e : Stop) (quiet : Q
   }
 
   request_unasked : (r : Request) → CanBeAsked r → Knows old.files account (Ok r) → RunsTo (Err e) old old (Ok r) account given
-  request_unasked (ToRun plan is_quiet) can knows = script_unbegun old account given plan is_quiet can knows old e quiet
+  request_unasked (ToRun plan telling) can knows = script_unbegun old account given plan telling can knows old e quiet
   request_unasked (ToRestore db names) can knows = record {
     events = restore_turn old.files account db names ∷ [];
     last = account_behind db (restore_turn old.files account db names) account;
@@ -120,7 +121,7 @@ module _ (old : World) (account : Account) (given : Given) (sixteen : MayBeGiven
   sure_left : (asked : Result Request Refusal) → ((r : Request) → asked ≡ Ok r → CanBeAsked r) → IsPerformed old.files asked account given events last left → IsSure old account asked events → HasSmallScn account (target_of asked events)
       → (files : Files) (said : List ℕ) (l : RunLeft old account (target_of asked events) events files said) → HoldsKept files (kept_after account (target_of asked events) (take l.count (steps_of events)))
   sure_left (Err refusal) allowed performed sure small files said l = sure.stands.left files (λ m. l.others m tt (none_refused events refusal performed.0 m))
-  sure_left (Ok (ToRun plan is_quiet)) allowed performed sure small files said l = script_left old plan is_quiet (allowed (ToRun plan is_quiet) refl) account given before events last left performed sixteen sure small files said l
+  sure_left (Ok (ToRun plan telling)) allowed performed sure small files said l = script_left old plan telling (allowed (ToRun plan telling) refl) account given before events last left performed sixteen sure small files said l
   sure_left (Ok (ToRestore db names)) allowed performed sure small files said l = restored_left old db names account given (allowed (ToRestore db names) refl) before events last left performed sure files said l
   sure_left (Ok (ToFix db)) allowed performed sure small files said l = fix_left old db account given (allowed (ToFix db) refl) before events last left performed sure files said l
 
@@ -132,8 +133,8 @@ module _ (old : World) (account : Account) (given : Given) (sixteen : MayBeGiven
       subst (StandsFor new) (sym performed.1)
       (still_stands old new account sure.stands reads (λ m. done.others m tt (none_refused events refusal performed.0 m))
       (λ files leaves m. (stops.each files new.said (timely.counts_now old.moment files stops.later leaves)).others m tt (none_refused events refusal performed.0 m)))
-  sure_end (Ok (ToRun plan is_quiet)) allowed performed sure small new timely reads stops status done =
-      script_end old plan is_quiet (allowed (ToRun plan is_quiet) refl) account given before events last left performed sixteen sure small new timely reads stops status done
+  sure_end (Ok (ToRun plan telling)) allowed performed sure small new timely reads stops status done =
+      script_end old plan telling (allowed (ToRun plan telling) refl) account given before events last left performed sixteen sure small new timely reads stops status done
   sure_end (Ok (ToRestore db names)) allowed performed sure small new timely reads stops status done =
       restored_end old db names account given (allowed (ToRestore db names) refl) before events last left performed sure new timely reads status stops done
   sure_end (Ok (ToFix db)) allowed performed sure small new timely reads stops status done = fix_end old db account given (allowed (ToFix db) refl) before events last left performed sure new timely reads status stops done
@@ -141,7 +142,7 @@ module _ (old : World) (account : Account) (given : Given) (sixteen : MayBeGiven
   -- what is restored, and what is fixed
   sure_kept : (asked : Result Request Refusal) → ((r : Request) → asked ≡ Ok r → CanBeAsked r) → IsSure old account asked events → RestoresKept old.files account.kept asked
   sure_kept (Err refusal) allowed sure = tt
-  sure_kept (Ok (ToRun plan is_quiet)) allowed sure = tt
+  sure_kept (Ok (ToRun plan telling)) allowed sure = tt
   sure_kept (Ok (ToRestore db names)) allowed sure = restores_kept old db names account (allowed (ToRestore db names) refl) events sure
   sure_kept (Ok (ToFix db)) allowed sure = fixes_kept old db account (allowed (ToFix db) refl) events sure
 

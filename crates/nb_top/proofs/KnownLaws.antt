@@ -10,7 +10,7 @@ use Rattle.nb_host.specs.declared.refusals.Refusal.{Refusal}
 use Rattle.nb_host.specs.declared.refusals.Refusal.TheVariants.{Usage}
 use Rattle.nb_page.specs.Free.{has_delta, is_free_name}
 use Rattle.nb_model.specs.declared.job.Job.{Job}
-use Rattle.nb_model.specs.declared.job.Job.TheVariants.{Run, Backup, Restore, Lock, Unlock, Fixup}
+use Rattle.nb_model.specs.declared.job.Job.TheVariants.{Run, Stat, Backup, BackupSince, Restore, Lock, LockWithSize, Unlock, Fixup}
 use Rattle.nb_model.specs.declared.statement.Statement.{Statement}
 use Rattle.nb_model.specs.declared.statement.Statement.TheVariants.{OpenDb}
 use Rattle.nb_model.specs.Account.{Account}
@@ -26,7 +26,7 @@ use Rattle.nb_top.specs.Performed.{HoldsUnder, Knows, KnowsNames, KnowsOpened}
 use Rattle.nb_top.specs.Requests.{Request, FitsJob, is_job_built, built_job, request_asked, request_of, script_in, to_run}
 use Rattle.nb_top.specs.Worlds.{HaveNames}
 use Rattle.nb_top.proofs.FirstReady.{base_name}
-use Rattle.nb_top.proofs.RequestLaws.{askable_in, backup_askable, begin_askable, end_askable, fits_words, plain_file}
+use Rattle.nb_top.proofs.RequestLaws.{askable_in, backup_askable, since_askable, begin_askable, end_askable, stat_askable, fits_words, plain_file}
 
 module _ (files : Files) (names : HaveNames files) where
   -- no difference file stands beside a long name
@@ -69,7 +69,10 @@ module _ (files : Files) (names : HaveNames files) (account : Account) (stands :
   known_job : (job : Job) → FitsJob job → Knows files account (request_of files job)
   known_job (Run name) fits = known_script name (script_in name (files name)) refl
   known_job (Backup level db file) fits = known_first (OpenDb db usual_cache) (backup_askable level db file fits).first.fits
+  known_job (BackupSince guid db file) fits = known_first (OpenDb db usual_cache) (since_askable guid db file fits).first.fits
+  known_job (Stat db) fits = known_first (OpenDb db usual_cache) (stat_askable db fits).first.fits
   known_job (Lock db) fits = known_first (OpenDb db usual_cache) (begin_askable db fits).first.fits
+  known_job (LockWithSize db) fits = known_first (OpenDb db usual_cache) (begin_askable db fits).first.fits
   known_job (Unlock db) fits = known_first (OpenDb db usual_cache) (end_askable db fits).first.fits
   known_job (Fixup db) fits = stands.same_image db (plain_file db (and_parts (is_file db) (nat_le (length db) 94) fits).0)
   known_job (Restore db names) fits = known_names db (plain_file db (and_parts (is_file db) (nat_le (length db) 94) fits.0).0)

@@ -1,5 +1,5 @@
 -- The first reply of a run is said, if it says one, and then turns are taken.
-use Rattle.std.proofs.Common.{◌≡◌, ℕ, List, [], ◌∷◌, ◌++◌, Bool, false, length, take, refl, sym, ap, subst, ◌∙◌, arith}
+use Rattle.std.proofs.Common.{◌≡◌, ◌≢◌, ◌⊎◌, inl, inr, ℕ, List, [], ◌∷◌, ◌++◌, Bool, false, length, take, refl, sym, ap, subst, ◌∙◌, arith}
 use Rattle.std.specs.Prelude.{None, Result, Ok, Err, IfOk}
 use Rattle.std.specs.Result.{IsErr}
 use Rattle.std.proofs.lemmas.List.{take_all}
@@ -10,7 +10,7 @@ use Rattle.nb_change.proofs.MomentLaws.{weaker, untouched_fewer}
 use Rattle.nb_page.specs.Free.{is_free_name}
 use Rattle.nb_model.specs.Account.{Base}
 use Rattle.nb_model.specs.Going.{IsMaking}
-use Rattle.nb_model.specs.Making.{NamesOnce}
+use Rattle.nb_model.specs.Making.{MadeFile, NamesOnce}
 use Rattle.nb_model.specs.Output.{output, status_of}
 use Rattle.nb_model.specs.Run.{Event, Now, Played, base_now, begun, replies_of, files_made, rounds}
 use Rattle.nb_model.specs.Steps.{after_steps, steps_in, steps_of, acked_turns}
@@ -25,12 +25,15 @@ use Rattle.nb_session.specs.declared.stop.Stop.{Stop}
 use Rattle.nb_session.specs.Ready.{IsReady}
 use Rattle.nb_session.specs.Says.{FrontSaid, SaysLine}
 use Rattle.nb_session.specs.Stops.{StopLeft, PlayedOut, Plays}
+use Rattle.nb_session.specs.Sized.{PlaysSized}
 use Rattle.nb_session.specs.Todo.{PlaysWhole}
 use Rattle.nb_session.proofs.GiftLaws.{given_nothing}
 use Rattle.nb_session.proofs.PlayLaws.{plays_then, plays_failed, plays_cut, plays_wider}
 use Rattle.nb_session.proofs.StopLaws.{AreApart}
 use Rattle.nb_session.proofs.EndLaws.{HasEnd, turns_end}
-use Rattle.nb_top.specs.Performed.{PlaysOpened, played_behind}
+use Rattle.nb_top.specs.declared.telling.Telling.{Telling}
+use Rattle.nb_top.specs.declared.telling.Telling.TheVariants.{All, Quietly, WithSize}
+use Rattle.nb_top.specs.Performed.{PlaysOpened, PlaysTold, played_behind, told_turns}
 use Rattle.nb_top.proofs.FirstLaws.{turns}
 use Rattle.nb_top.proofs.FirstReady.{apart_play}
 use Rattle.nb_top.proofs.MadeRuns.{no_file, none_front, none_made}
@@ -56,7 +59,7 @@ ready_still old mid held now still ready = record {
 }
 
 module _ (old mid new : World) (held after : Held) (start : Base) (now : Now) (plan : Plan) (askable : IsAskable plan) (ready : IsReady old held (settled (base_now now)) now) (todo : now.todo ≡ begun plan.sessions)
-    (making : IsMaking now) (event : Event) (unmade : event.made ≡ None) (line : List ℕ) (output_is : output (event ∷ []) ≡ line) (trail : after_steps (settled start) (steps_in event) ≡ settled (base_now now))
+    (making : IsMaking now) (event : Event) (telling : Telling) (pages : ℕ) (unmade : event.made ≡ None) (line : List ℕ) (output_is : output (event ∷ []) ≡ line) (trail : after_steps (settled start) (steps_in event) ≡ settled (base_now now))
     {S E : Type 0} (told : Result S E) (says : SaysLine told old mid line) where
   abbrev one : Played
   one = (event ∷ [], now)
@@ -92,24 +95,29 @@ module _ (old mid new : World) (held after : Held) (start : Base) (now : Now) (p
     done = out;
   }
 
-  -- the turns behind it, with the files that they make
+  -- the turns behind it, with the files that they make, and as they are told
   abbrev behind_it : ℕ → Played
   behind_it n = turns plan now n
+
+  abbrev told_behind : ℕ → Played
+  told_behind n = told_turns telling pages (behind_it n)
 
   once : (n : ℕ) → NamesOnce (files_made (behind_it n).0)
   once n = made_once (plan.schedule ++ rounds n) now making
 
   -- the line wasn't said whole
-  pub reply_unsaid : (e : Stop) → PlaysOpened (Err e) old mid held held start event now plan
+  pub reply_unsaid : (e : Stop) → PlaysOpened (Err e) old mid held held start event telling pages now plan
   reply_unsaid e =
       let end : HasEnd plan.schedule now 0 = turns_end plan askable now making.going todo 0 in
-      let more : Played = behind_it end.how_often in
+      let more : Played = told_behind end.how_often in
+      let files : List MadeFile = files_made (behind_it end.how_often).0 in
       record {
         how_often = end.how_often;
-        plays = plays_wider (Err e) old mid held held (settled start) now (played_behind event more) [] (files_made more.0) (λ file there. absurd (no_file file there)) (once end.how_often)
-            (subst (λ (n : List ℕ). AreApart n (files_made more.0)) (sym ready.named) (apart_play plan askable now todo making (plan.schedule ++ rounds end.how_often)))
+        plays = plays_wider (Err e) old mid held held (settled start) now (played_behind event more) [] files (λ file there. absurd (no_file file there)) (once end.how_often)
+            (subst (λ (n : List ℕ). AreApart n files) (sym ready.named) (apart_play plan askable now todo making (plan.schedule ++ rounds end.how_often)))
             (plays_cut old mid held held (settled start) now one more.0 more.1 [] e (plays_one (Err e) tt));
         finished = end.finished;
+        unchanged = tt;
       }
 
   pub ready_mid : IsReady mid held (settled (base_now now)) now
@@ -123,25 +131,52 @@ module _ (old mid new : World) (held after : Held) (start : Base) (now : Now) (p
     status = fine;
     given = given_nothing old mid now.given now.given says.gave refl;
     kept = λ n bytes there. absurd (none_made event unmade (n, bytes) there);
+    unchanged = λ only. says.still.files;
   })
 
   -- turns behind it
-  pub reply_said_then : status_of (replies_of (event ∷ [])) ≡ 0 → mid.said ≡ old.said ++ line → (result : Result Bool Stop) → PlaysWhole result mid new held after (settled (base_now now)) now plan.schedule → PlaysOpened result old new held after start event now plan
+  pub reply_said_then : status_of (replies_of (event ∷ [])) ≡ 0 → mid.said ≡ old.said ++ line → (result : Result Bool Stop) → PlaysTold result mid new held after (settled (base_now now)) telling pages now plan.schedule
+      → PlaysOpened result old new held after start event telling pages now plan
   reply_said_then fine said (Ok refused) whole =
-      let more : Played = behind_it whole.how_often in
+      let more : Played = told_behind whole.how_often in
+      let files : List MadeFile = files_made (behind_it whole.how_often).0 in
       record {
         how_often = whole.how_often;
-        plays = plays_then old mid new held held after (settled start) now one more [] (files_made more.0) (once whole.how_often) (λ file there. absurd (none_made event unmade file there))
+        plays = plays_then old mid new held held after (settled start) now one more [] files (once whole.how_often) (λ file there. absurd (none_made event unmade file there))
             (λ n bytes there. absurd (none_made event unmade (n, bytes) there)) false refused (reply_said fine said)
-            (subst (λ (t : Trail). Plays (Ok refused) mid new held after t now more (files_made more.0)) (sym trail_is) whole.plays);
+            (subst (λ (t : Trail). Plays (Ok refused) mid new held after t now more files) (sym trail_is) whole.plays);
         finished = whole.finished;
+        unchanged = λ only. whole.plays.done.unchanged only ∙ says.still.files;
       }
   reply_said_then fine said (Err e) whole =
-      let more : Played = behind_it whole.how_often in
+      let more : Played = told_behind whole.how_often in
+      let files : List MadeFile = files_made (behind_it whole.how_often).0 in
       record {
         how_often = whole.how_often;
-        plays = plays_failed old mid new held held after (settled start) now one more [] (files_made more.0) (once whole.how_often) (λ file there. absurd (none_made event unmade file there))
+        plays = plays_failed old mid new held held after (settled start) now one more [] files (once whole.how_often) (λ file there. absurd (none_made event unmade file there))
             (λ n bytes there. absurd (none_made event unmade (n, bytes) there)) false e (reply_said fine said)
-            (subst (λ (t : Trail). Plays (Err e) mid new held after t now more (files_made more.0)) (sym trail_is) whole.plays);
+            (subst (λ (t : Trail). Plays (Err e) mid new held after t now more files) (sym trail_is) whole.plays);
         finished = whole.finished;
+        unchanged = tt;
       }
+
+-- Turns that are told as they are, and a begin that is told with the number of pages.
+pub told_whole : (result : Result Bool Stop) (old new : World) (before after : Held) (t : Trail) (telling : Telling) (pages : ℕ) (now : Now) (schedule : List ℕ) → telling ≢ WithSize
+    → PlaysWhole result old new before after t now schedule → PlaysTold result old new before after t telling pages now schedule
+told_whole result old new before after t All pages now schedule other whole = record { how_often = whole.how_often; plays = whole.plays; finished = whole.finished }
+told_whole result old new before after t Quietly pages now schedule other whole = record { how_often = whole.how_often; plays = whole.plays; finished = whole.finished }
+told_whole result old new before after t WithSize pages now schedule other whole = absurd (other refl)
+
+sized_apart : (telling : Telling) → telling ≡ WithSize → (telling ≡ All) ⊎ (telling ≡ Quietly) → ⊥
+sized_apart All is either = cc
+sized_apart Quietly is either = cc
+sized_apart WithSize is (inl all) = cc
+sized_apart WithSize is (inr quietly) = cc
+
+pub told_either : (telling : Telling) → (telling ≡ All) ⊎ (telling ≡ Quietly) → telling ≢ WithSize
+told_either telling either is = sized_apart telling is either
+
+pub told_sized : (result : Result Bool Stop) (old new : World) (before after : Held) (t : Trail) (pages : ℕ) (now : Now) (schedule : List ℕ) → schedule ≡ []
+    → PlaysSized result old new before after t now pages → PlaysTold result old new before after t WithSize pages now schedule
+told_sized result old new before after t pages now schedule none sized =
+    subst (PlaysTold result old new before after t WithSize pages now) (sym none) (record { how_often = sized.how_often; plays = sized.plays; finished = sized.finished })

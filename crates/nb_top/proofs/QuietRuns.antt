@@ -59,6 +59,7 @@ module _ (old mid new : World) (account : Account) (target : Option Target) (eve
     database = done.database;
     kept = done.kept;
     others = λ m unasked none. done.others m unasked none ∙ ap (λ (f : Files). f m) quiet.still.files;
+    unchanged = λ only. done.unchanged only ∙ quiet.still.files;
   }
   finished_quietly (Err e) given left done = tt
 

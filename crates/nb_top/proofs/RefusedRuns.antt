@@ -64,6 +64,7 @@ module _ (old new : World) (session : ℕ) (refusal : Refusal) (account : Accoun
     database = tt;
     kept = λ n bytes there. absurd (none_made event refl (n, bytes) there);
     others = λ m unasked none. ap (λ (f : Files). f m) says.still.files;
+    unchanged = λ only. says.still.files;
   }
   refused_finished told (Err e) says number said = tt
 

@@ -1,6 +1,6 @@
 -- A run whose first statement opens its database.
-use Rattle.std.proofs.Common.{◌≡◌, inl, inr, ℕ, ◌<◌, List, refl, sym, ap, subst, ◌∙◌}
-use Rattle.std.specs.Prelude.{Bool, false, Result, Ok, Err, IfOk}
+use Rattle.std.proofs.Common.{◌≡◌, inl, inr, ℕ, ◌<◌, List, length, refl, sym, ap, subst, ◌∙◌}
+use Rattle.std.specs.Prelude.{false, Result, Ok, Err, IfOk}
 use Rattle.nb_host.specs.Files.{Files}
 use Rattle.nb_host.specs.Names.{is_delta}
 use Rattle.nb_host.specs.World.{World}
@@ -31,7 +31,8 @@ use Rattle.nb_script.specs.Asked.{IsAskable}
 use Rattle.nb_script.specs.Fits.{FitsFirst}
 use Rattle.nb_script.specs.Scripts.{Plan}
 use Rattle.nb_session.specs.declared.stop.Stop.{Stop}
-use Rattle.nb_top.specs.Performed.{KnowsNames, MayBeGiven, RunsTo, HoldsUnder, opened_reply, refused_at}
+use Rattle.nb_top.specs.Performed.{KnowsNames, MayBeGiven, RunsTo, HoldsUnder, opened_reply, pages_first, refused_at}
+use Rattle.nb_top.specs.declared.telling.Telling.{Telling}
 use Rattle.nb_top.specs.Requests.{ToRun}
 use Rattle.nb_top.proofs.QuietRuns.{left_quietly, quiet_gave}
 use Rattle.nb_top.proofs.FirstLaws.{First, first_opened, opened_base}
@@ -41,7 +42,7 @@ use Rattle.nb_top.proofs.Beginnings.{Beginning, FirstRefused, FirstDone}
 use Rattle.nb_top.proofs.ToldLaws.{Ran, performed_refused}
 use Rattle.nb_top.proofs.OpenLaws.{shown_entry, refused_entry, owner_never_usage}
 
-module _ (old : World) (account : Account) (given : Given) (plan : Plan) (is_quiet : Bool) (askable : IsAskable plan) (name : List ℕ) (cache : ℕ) (first_is : plan.first ≡ OpenDb name cache) (knows : HoldsUnder old.files account name) where
+module _ (old : World) (account : Account) (given : Given) (plan : Plan) (telling : Telling) (askable : IsAskable plan) (name : List ℕ) (cache : ℕ) (first_is : plan.first ≡ OpenDb name cache) (knows : HoldsUnder old.files account name) where
   -- what the call tells is what the run must say
   refused_ran : (refusal : Refusal) → owner name (old.files name) (old.files (delta_name name)) ≡ Err refusal → Ran account given plan (refused_at plan.first_session refusal) account given
   refused_ran refusal is =
@@ -67,23 +68,23 @@ module _ (old : World) (account : Account) (given : Given) (plan : Plan) (is_qui
   plain = (base_name name (subst FitsFirst first_is askable.first.fits).0).plain
 
   -- nothing happened, whatever the run must have been
-  pub open_fails : (new : World) (e : Stop) → Quiet old new → RunsTo (Err e) old new (Ok (ToRun plan is_quiet)) account given
+  pub open_fails : (new : World) (e : Stop) → Quiet old new → RunsTo (Err e) old new (Ok (ToRun plan telling)) account given
   open_fails new e quiet = by (owner name (old.files name) (old.files (delta_name name))) refl
     where
-      by : (answer : Result Base Refusal) → owner name (old.files name) (old.files (delta_name name)) ≡ answer → RunsTo (Err e) old new (Ok (ToRun plan is_quiet)) account given
+      by : (answer : Result Base Refusal) → owner name (old.files name) (old.files (delta_name name)) ≡ answer → RunsTo (Err e) old new (Ok (ToRun plan telling)) account given
       by (Err refusal) is = record {
         events = refused_at plan.first_session refusal;
         last = account;
         left = given;
-        performed = performed_refused is_quiet plan account given plan.first_session refusal account given (refused_ran refusal is);
+        performed = performed_refused telling plan account given plan.first_session refusal account given (refused_ran refusal is);
         opened = inl tt;
         stops = left_quietly old new account _ _ quiet;
         finished = tt;
       }
-      by (Ok b) is = first_fails old account given plan is_quiet askable (first_opened account given plan name cache first_is b (there b is)) new e (inr quiet) (λ n. left_quietly old new account _ _ quiet)
+      by (Ok b) is = first_fails old account given plan telling askable (first_opened account given plan name cache first_is b (there b is)) new e (inr quiet) (λ n. left_quietly old new account _ _ quiet)
 
   module _ (names : KnowsNames old.files account) (may : MayBeGiven given) (mid : World) (result : Result Held Fault) (attaches : Attaches result old mid name) (quiet : Quiet old mid) (scn : IfOk result (λ held. held.scn < 4294967296)) where
-    pub attaches_begins : Beginning old account given plan is_quiet askable mid result
+    pub attaches_begins : Beginning old account given plan telling askable mid result
     unfolding first_opened
     attaches_begins = record { fails = λ e. open_fails mid e quiet; refused = is_refused; done = done }
       where
@@ -95,7 +96,7 @@ module _ (old : World) (account : Account) (given : Given) (plan : Plan) (is_qui
         read : (m : List ℕ) → Other (OfFiles name) m → mid.files m ≡ old.files m
         read m other = ap (λ (f : Files). f m) quiet.still.files
 
-        done : (held : Held) → result ≡ Ok held → FirstDone old mid account given plan is_quiet askable held
+        done : (held : Held) → result ≡ Ok held → FirstDone old mid account given plan telling askable held
         done held is =
             let answer : IsAttached held old mid name = subst (λ (r : Result Held Fault). Attaches r old mid name) is attaches in
             let b : Base = answer.base in
@@ -107,6 +108,7 @@ module _ (old : World) (account : Account) (given : Given) (plan : Plan) (is_qui
               first = one;
               says = ap (λ (n : ℕ). OpenedReply n (image_state b.image)) (sym answer.opened.files.agrees.count) ∙ ap (λ (n : ℕ). OpenedReply held.files.count n) (sym answer.opened.files.agrees.state)
                   ∙ ap (λ (s : Statement). opened_reply s held.files.count held.files.state) (sym first_is);
+              counted = answer.opened.files.agrees.count ∙ sym (ap (λ (x : Base). length x.image) (ap base_in here ∙ base_in_base b)) ∙ ap (pages_first account) (sym first_is);
               ready = first_ready old mid account name plain names one.now one.name_is (opened_behind b here) held answer.named (answer.nothing_runs ∙ sym one.running) read opened;
               making = opened_making plan askable one.now one.todo mid held opened (subst (λ (x : Base). IsSoundImage x.image) (sym base) (knows.sound b here)) (subst MayBeGiven (sym one.given_is) may);
               named = answer.named;
@@ -116,5 +118,6 @@ module _ (old : World) (account : Account) (given : Given) (plan : Plan) (is_qui
               read = read;
               silent = quiet.said;
               gave = quiet_gave old mid quiet;
+              opens = λ none. quiet.still.files;
               stops = λ n. left_quietly old mid account _ _ quiet;
             }

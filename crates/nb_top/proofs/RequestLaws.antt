@@ -1,5 +1,5 @@
 -- What the words ask for can be asked.
-use Rattle.std.proofs.Common.{◌≡◌, ◌⊎◌, ⊎_elim, ℕ, zero, suc, ◌-◌, ◌≤◌, List, [], ◌∷◌, length, get_or, true, false, refl, ap, subst, arith}
+use Rattle.std.proofs.Common.{◌≡◌, ◌⊎◌, ⊎_elim, ℕ, zero, suc, ◌-◌, ◌≤◌, List, [], ◌∷◌, length, get_or, true, false, refl, ap, subst, ◌∙◌, arith}
 use Rattle.std.specs.Prelude.{Bool, ◌&&◌, ◌==◌, not, nat_le, slice_index, codes, Option, Some, None, Result, Ok, Err, IfOk, IfErr, replicate}
 use Rattle.std.specs.List.{AllByRecursion, list_all}
 use Rattle.std.proofs.lemmas.Bool.{and_parts, leb-true, le-leb}
@@ -12,19 +12,21 @@ use Rattle.nb_host.specs.declared.refusals.Refusal.TheVariants.{Usage}
 use Rattle.nb_model.specs.declared.job.Job.{Job}
 use Rattle.nb_model.specs.declared.job.Job.TheVariants.{Run, Stat, Gen, Backup, BackupSince, Restore, Apply, Lock, LockWithSize, Unlock, Fixup}
 use Rattle.nb_model.specs.declared.statement.Statement.{Statement}
-use Rattle.nb_model.specs.declared.statement.Statement.TheVariants.{BeginBackup, EndBackup, Backup as BackupTo}
+use Rattle.nb_model.specs.declared.statement.Statement.TheVariants.{BeginBackup, EndBackup, ShowHeader, ShowPages, Backup as BackupTo, BackupSince as BackupOf}
 use Rattle.nb_model.proofs.GoingLaws.{name_short}
 use Rattle.nb_model.specs.Words.{Word, Read, are_flags, is_database, is_file, job_if, number_in_word, plain_job, backup_job, restore_job, apply_job, database_job, read_words, job_of_flags, job_read, job_of}
 use Rattle.nb_script.specs.Asked.{IsFurther, IsAskable}
 use Rattle.nb_script.specs.Fits.{IsBase, IsFile}
 use Rattle.nb_script.specs.Scripts.{Plan}
 use Rattle.nb_script.proofs.AskedLemmas.{answer_is_askable}
+use Rattle.nb_top.specs.Performed.{BeginsAlone}
+use Rattle.nb_top.specs.declared.telling.Telling.TheVariants.{All, Quietly, WithSize}
 use Rattle.nb_top.specs.Requests.{Request, ToRun, ToRestore, ToFix, FitsJob, is_job_built, built_job, job_asked, script_in, to_run, plan_of, request_of, request_asked}
 
 -- The statements of a script can be asked today. The names of a restore and of a fixup are none that a difference file may have, and a restore has a
 -- first file.
 abbrev pub CanBeAsked : Request → Type 0
-CanBeAsked (ToRun plan is_quiet) = IsAskable plan
+CanBeAsked (ToRun plan telling) = IsAskable plan
 CanBeAsked (ToFix db) = is_delta db ≡ false
 CanBeAsked (ToRestore db names) = (is_delta db ≡ false) × AllByRecursion (λ (name : List ℕ). is_delta name ≡ false) names × (1 ≤ length names)
 
@@ -49,7 +51,7 @@ unlock_fits (db ∷ w ∷ ws) = tt
 
 sized_fits : (plain : List Word) → IfJob (database_job LockWithSize plain)
 sized_fits [] = tt
-sized_fits (db ∷ []) = if_fits (is_database db) (LockWithSize db) (λ is. tt)
+sized_fits (db ∷ []) = if_fits (is_database db) (LockWithSize db) (λ is. is)
 sized_fits (db ∷ w ∷ ws) = tt
 
 fixup_fits : (plain : List Word) → IfJob (database_job Fixup plain)
@@ -92,7 +94,7 @@ backup_fits (since ∷ db ∷ file ∷ []) = by _
         (omega (arith, most), names.1, all.1)
 
     by : (guid : Option (List ℕ)) → IfJob (elim guid as (λ z. Option Job) [ Some g ↦ job_if (is_database db && is_file file) (BackupSince g db file) | None ↦ job_if is_level (Backup (slice_index since 0 - 48) db file) ])
-    by (Some g) = if_fits (is_database db && is_file file) (BackupSince g db file) (λ is. tt)
+    by (Some g) = if_fits (is_database db && is_file file) (BackupSince g db file) (λ is. and_parts (is_database db) (is_file file) is)
     by None = if_fits is_level (Backup (slice_index since 0 - 48) db file) fits
 backup_fits (since ∷ db ∷ file ∷ w ∷ ws) = tt
 
@@ -103,7 +105,7 @@ plain_fits (verb ∷ name ∷ []) = by (same_name verb (codes "run"))
   where
     by : (b : Bool) → IfJob (elim b as (λ z. Option Job) [ true ↦ job_if (is_file name) (Run name) | false ↦ job_if (same_name verb (codes "stat") && is_database name) (Stat name) ])
     by true = if_fits (is_file name) (Run name) (λ is. tt)
-    by false = if_fits (same_name verb (codes "stat") && is_database name) (Stat name) (λ is. tt)
+    by false = if_fits (same_name verb (codes "stat") && is_database name) (Stat name) (λ is. (and_parts (same_name verb (codes "stat")) (is_database name) is).1)
 plain_fits (verb ∷ number ∷ name ∷ []) = by (number_in_word number)
   where
     by : (n : Option ℕ) → IfJob (elim n as (λ z. Option Job) [ None ↦ None | Some k ↦ job_if (same_name verb (codes "gen") && is_file name) (Gen k name) ])
@@ -143,15 +145,15 @@ asked_usage files words is = ap (λ (j : Option Job). elim j as (λ z. Result Re
 pub asked_job : (files : Files) (words : List Word) (job : Job) → job_asked words ≡ Some job → request_asked files words ≡ request_of files job
 asked_job files words job is = ap (λ (j : Option Job). elim j as (λ z. Result Request Refusal) [ None ↦ Err Usage | Some k ↦ request_of files k ]) is
 
--- The script of a job that asks a database one thing.
+-- The script of a job that asks a database these things.
 none_further : (n i : ℕ) → AllByRecursion IsFurther (get_or (replicate n []) i [])
 none_further zero i = tt
 none_further (suc n) zero = tt
 none_further (suc n) (suc i) = none_further n i
 
-one_further : (statement : Statement) → IsFurther statement → (i : ℕ) → AllByRecursion IsFurther (get_or ((statement ∷ []) ∷ replicate 15 []) i [])
-one_further statement is zero = (is, tt)
-one_further statement is (suc i) = none_further 15 i
+these_further : (statements : List Statement) → AllByRecursion IsFurther statements → (i : ℕ) → AllByRecursion IsFurther (get_or (statements ∷ replicate 15 []) i [])
+these_further statements are zero = are
+these_further statements are (suc i) = none_further 15 i
 
 swapped : (a b d : Bool) → (a && d && b) ≡ true → (a && b && d) ≡ true
 swapped true true true h = refl
@@ -163,21 +165,31 @@ swapped false b d h = h
 base_given : (db : List ℕ) → is_database db ≡ true → IsBase db
 base_given db is = swapped (is_name db) (nat_le (length db) 94) (not (is_delta db)) is
 
-pub plan_askable : (db : List ℕ) (statement : Statement) → is_database db ≡ true → IsFurther statement → IsAskable (plan_of db statement)
-plan_askable db statement is further = record {
+pub plan_askable : (db : List ℕ) (statements : List Statement) → is_database db ≡ true → AllByRecursion IsFurther statements → length statements ≤ 2 → IsAskable (plan_of db statements)
+plan_askable db statements is further short = record {
   asker = (omega arith, omega arith);
   first = record { is_built = refl; opens = refl; fits = (base_given db is, omega arith, omega arith) };
   order = record { few = omega arith; each = tt };
   sixteen = refl;
   few = omega arith;
-  further = λ session. one_further statement further (session - 1);
+  further = λ session. these_further statements further (session - 1);
 }
 
-pub begin_askable : (db : List ℕ) → is_database db ≡ true → IsAskable (plan_of db BeginBackup)
-begin_askable db is = plan_askable db BeginBackup is (record { is_built = refl; opens_none = refl; fits = tt })
+pub begin_askable : (db : List ℕ) → is_database db ≡ true → IsAskable (plan_of db (BeginBackup ∷ []))
+begin_askable db is = plan_askable db (BeginBackup ∷ []) is (record { is_built = refl; opens_none = refl; fits = tt }, tt) (omega arith)
 
-pub end_askable : (db : List ℕ) → is_database db ≡ true → IsAskable (plan_of db EndBackup)
-end_askable db is = plan_askable db EndBackup is (record { is_built = refl; opens_none = refl; fits = tt })
+pub end_askable : (db : List ℕ) → is_database db ≡ true → IsAskable (plan_of db (EndBackup ∷ []))
+end_askable db is = plan_askable db (EndBackup ∷ []) is (record { is_built = refl; opens_none = refl; fits = tt }, tt) (omega arith)
+
+pub stat_askable : (db : List ℕ) → is_database db ≡ true → IsAskable (plan_of db (ShowHeader ∷ ShowPages ∷ []))
+stat_askable db is =
+    plan_askable db (ShowHeader ∷ ShowPages ∷ []) is (record { is_built = refl; opens_none = refl; fits = tt }, (record { is_built = refl; opens_none = refl; fits = tt }, tt)) (omega arith)
+
+pub begins_alone_in : (db : List ℕ) (script : Plan) (statement : Statement) → script ≡ plan_of db (statement ∷ []) → statement ≡ BeginBackup → BeginsAlone script
+begins_alone_in db script statement same is = record {
+  schedule = ap (λ (plan : Plan). plan.schedule) same;
+  sessions = ap (λ (plan : Plan). plan.sessions) same ∙ ap (λ (s : Statement). (s ∷ []) ∷ replicate 15 []) is;
+}
 
 -- a name of a file has 100 bytes at most
 file_given : (name : List ℕ) → is_file name ≡ true → IsFile name
@@ -191,8 +203,11 @@ file_given name is =
     three true false d h k l = k
     three false b d h k l = h
 
-pub backup_askable : (level : ℕ) (db file : List ℕ) → FitsJob (Backup level db file) → IsAskable (plan_of db (BackupTo level file))
-backup_askable level db file fits = plan_askable db (BackupTo level file) fits.1 (record { is_built = refl; opens_none = refl; fits = (fits.0, file_given file fits.2) })
+pub backup_askable : (level : ℕ) (db file : List ℕ) → FitsJob (Backup level db file) → IsAskable (plan_of db (BackupTo level file ∷ []))
+backup_askable level db file fits = plan_askable db (BackupTo level file ∷ []) fits.1 (record { is_built = refl; opens_none = refl; fits = (fits.0, file_given file fits.2) }, tt) (omega arith)
+
+pub since_askable : (guid db file : List ℕ) → FitsJob (BackupSince guid db file) → IsAskable (plan_of db (BackupOf guid file ∷ []))
+since_askable guid db file fits = plan_askable db (BackupOf guid file ∷ []) fits.0 (record { is_built = refl; opens_none = refl; fits = file_given file fits.1 }, tt) (omega arith)
 
 -- A script that a file spells can be asked.
 err_ok : (refusal : Refusal) (plan : Plan) → Err refusal ≡ Ok plan → ⊥
@@ -232,14 +247,17 @@ module _ (files : Files) (r : Request) where
       same h = cc
 
   run_asked : (name : List ℕ) (s : Result Plan Refusal) → script_in name (files name) ≡ s → to_run s ≡ Ok r → CanBeAsked r
-  run_asked name (Ok plan) is e = this_asked (ToRun plan false) (askable_in name (files name) plan is) e
+  run_asked name (Ok plan) is e = this_asked (ToRun plan All) (askable_in name (files name) plan is) e
   run_asked name (Err refusal) is e = none_asked refusal e
 
   job_can : (job : Job) → FitsJob job → request_of files job ≡ Ok r → CanBeAsked r
   job_can (Run name) fits e = run_asked name (script_in name (files name)) refl e
-  job_can (Backup level db file) fits e = this_asked (ToRun (plan_of db (BackupTo level file)) true) (backup_askable level db file fits) e
-  job_can (Lock db) fits e = this_asked (ToRun (plan_of db BeginBackup) true) (begin_askable db fits) e
-  job_can (Unlock db) fits e = this_asked (ToRun (plan_of db EndBackup) true) (end_askable db fits) e
+  job_can (Backup level db file) fits e = this_asked (ToRun (plan_of db (BackupTo level file ∷ [])) Quietly) (backup_askable level db file fits) e
+  job_can (BackupSince guid db file) fits e = this_asked (ToRun (plan_of db (BackupOf guid file ∷ [])) Quietly) (since_askable guid db file fits) e
+  job_can (Stat db) fits e = this_asked (ToRun (plan_of db (ShowHeader ∷ ShowPages ∷ [])) Quietly) (stat_askable db fits) e
+  job_can (Lock db) fits e = this_asked (ToRun (plan_of db (BeginBackup ∷ [])) Quietly) (begin_askable db fits) e
+  job_can (LockWithSize db) fits e = this_asked (ToRun (plan_of db (BeginBackup ∷ [])) WithSize) (begin_askable db fits) e
+  job_can (Unlock db) fits e = this_asked (ToRun (plan_of db (EndBackup ∷ [])) Quietly) (end_askable db fits) e
   job_can (Fixup db) fits e = this_asked (ToFix db) (plain_file db (and_parts (is_file db) (nat_le (length db) 94) fits).0) e
   job_can (Restore db names) fits e = this_asked (ToRestore db names) (restore_asked db names fits) e
   job_can other fits e = none_asked Usage e

@@ -1,5 +1,5 @@
 -- A run that restores a chain: what it does, and what a stop leaves of its target.
-use Rattle.std.proofs.Common.{◌≡◌, ◌≢◌, inl, inr, ⊎_elim, ℕ, List, [], ◌∷◌, ◌++◌, length, true, false, refl, sym, ap, subst, ◌∙◌}
+use Rattle.std.proofs.Common.{true≢false, ◌≡◌, ◌≢◌, inl, inr, ⊎_elim, ℕ, List, [], ◌∷◌, ◌++◌, length, true, false, refl, sym, ap, subst, ◌∙◌}
 use Rattle.std.specs.Prelude.{Some, Result, Ok, Err, IfOk, OnOk}
 use Rattle.nb_host.specs.Files.{Files}
 use Rattle.nb_host.specs.World.{World}
@@ -174,7 +174,7 @@ module _ (old : World) (account : Account) (given : Given) (db : List ℕ) (name
         finished : new.said ≡ mid.said ++ line_text 1 (Pages count) → Finished Done old new account (Some its_target) (event ∷ []) given given
         finished said =
             turn_finished old account its_target (Pages (length (applied made.links))) (make (fixed (applied made.links)) ∷ []) (base_from made.links) (made_seen account db made.links) mid (making made.links made.accepted mid does.left)
-            made.left new told its_line given does.gave made.shows refl (said ∙ ap (λ (l : List ℕ). mid.said ++ l) line_is)
+            made.left new told its_line given does.gave made.shows refl (said ∙ ap (λ (l : List ℕ). mid.said ++ l) line_is) (λ only. true≢false (sym only))
 
         -- it was
         pub restore_done : new.said ≡ mid.said ++ line_text 1 (Pages count) → RunsTo (Ok Done) old new asked account given

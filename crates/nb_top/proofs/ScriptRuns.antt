@@ -1,6 +1,6 @@
 -- A script is run, from its first statement on.
 use Rattle.std.proofs.Common.{◌≡◌, ℕ, ◌<◌, List, true, false, refl, subst}
-use Rattle.std.specs.Prelude.{Bool, Result, Ok, Err, IfOk, IfErr}
+use Rattle.std.specs.Prelude.{Result, Ok, Err, IfOk, IfErr}
 use Rattle.std.specs.Result.{IsErr}
 use Rattle.nb_fields.specs.Fresh.{fresh}
 use Rattle.nb_host.specs.World.{World}
@@ -19,6 +19,7 @@ use Rattle.nb_script.specs.Scripts.{Plan}
 use Rattle.nb_session.specs.declared.stop.Stop.{Stop}
 use Rattle.nb_top.specs.declared.status.Status.{Status}
 use Rattle.nb_top.specs.Performed.{RunsTo, Knows, KnowsOpened, MayBeGiven}
+use Rattle.nb_top.specs.declared.telling.Telling.{Telling}
 use Rattle.nb_top.specs.Requests.{ToRun}
 use Rattle.nb_top.proofs.Beginnings.{Beginning}
 use Rattle.nb_top.proofs.QuietRuns.{quiet_gave}
@@ -53,17 +54,17 @@ first_opens (CreateDb name size raw cache) first = creates name size raw cache r
 first_opens (OpenDb name cache) first = opens name cache refl
 first_opens other first = absurd (false_true first.opens)
 
-module _ (old : World) (account : Account) (given : Given) (plan : Plan) (is_quiet : Bool) (askable : IsAskable plan) (knows : Knows old.files account (Ok (ToRun plan is_quiet))) where
+module _ (old : World) (account : Account) (given : Given) (plan : Plan) (telling : Telling) (askable : IsAskable plan) (knows : Knows old.files account (Ok (ToRun plan telling))) where
   knows_opened : (first : Statement) → plan.first ≡ first → KnowsOpened old.files account first
   knows_opened first is = subst (λ (s : Statement). KnowsOpened old.files account s) is knows.1
 
   -- nothing happened
-  pub script_unbegun : (new : World) (e : Stop) → Quiet old new → RunsTo (Err e) old new (Ok (ToRun plan is_quiet)) account given
+  pub script_unbegun : (new : World) (e : Stop) → Quiet old new → RunsTo (Err e) old new (Ok (ToRun plan telling)) account given
   script_unbegun new e quiet = by (first_opens plan.first askable.first)
     where
-      by : Opens plan.first → RunsTo (Err e) old new (Ok (ToRun plan is_quiet)) account given
-      by (creates name size raw cache is) = creating_unbegun old account given plan is_quiet askable name size raw cache is knows.0 new e quiet
-      by (opens name cache is) = open_fails old account given plan is_quiet askable name cache is (knows_opened (OpenDb name cache) is) new e quiet
+      by : Opens plan.first → RunsTo (Err e) old new (Ok (ToRun plan telling)) account given
+      by (creates name size raw cache is) = creating_unbegun old account given plan telling askable name size raw cache is knows.0 new e quiet
+      by (opens name cache is) = open_fails old account given plan telling askable name cache is (knows_opened (OpenDb name cache) is) new e quiet
 
   -- the call of the first statement asks for no GUID and no time
   pub first_gave : (mid : World) (result : Result Held Fault)
@@ -81,9 +82,9 @@ module _ (old : World) (account : Account) (given : Given) (plan : Plan) (is_qui
       → ((name : List ℕ) (cache : ℕ) → plan.first ≡ OpenDb name cache → Attaches result old mid name)
       → ((name : List ℕ) (cache : ℕ) → plan.first ≡ OpenDb name cache → Quiet old mid)
       → IfOk result (λ held. held.scn < 4294967296)
-      → Beginning old account given plan is_quiet askable mid result
+      → Beginning old account given plan telling askable mid result
   script_begins may mid result creating attaching quiet scn = by (first_opens plan.first askable.first)
     where
-      by : Opens plan.first → Beginning old account given plan is_quiet askable mid result
-      by (creates name size raw cache is) = creates_begins old account given plan is_quiet askable name size raw cache is knows.0 may mid result (creating name size raw cache is)
-      by (opens name cache is) = attaches_begins old account given plan is_quiet askable name cache is (knows_opened (OpenDb name cache) is) knows.0 may mid result (attaching name cache is) (quiet name cache is) scn
+      by : Opens plan.first → Beginning old account given plan telling askable mid result
+      by (creates name size raw cache is) = creates_begins old account given plan telling askable name size raw cache is knows.0 may mid result (creating name size raw cache is)
+      by (opens name cache is) = attaches_begins old account given plan telling askable name cache is (knows_opened (OpenDb name cache) is) knows.0 may mid result (attaching name cache is) (quiet name cache is) scn

@@ -35,7 +35,8 @@ use Rattle.nb_script.specs.Asked.{IsAskable}
 use Rattle.nb_script.specs.Fits.{FitsFirst}
 use Rattle.nb_script.specs.Scripts.{Plan}
 use Rattle.nb_top.specs.declared.status.Status.{Status}
-use Rattle.nb_top.specs.Performed.{RunLeft, Finished, HasSmallScn, HoldsKept, IsScriptRun, IsSure, MayBeGiven, StandsFor, Target, begins_refused, kept_after, seen_after, target_named, target_of}
+use Rattle.nb_top.specs.Performed.{RunLeft, Finished, HasSmallScn, HoldsKept, IsScriptRun, IsSure, MayBeGiven, StandsFor, Target, begins_refused, kept_after, pages_first, seen_after, target_named, target_of}
+use Rattle.nb_top.specs.declared.telling.Telling.{Telling}
 use Rattle.nb_top.specs.Requests.{Request, ToRun}
 use Rattle.nb_top.proofs.FirstReady.{base_name}
 use Rattle.nb_top.proofs.MadeRuns.{no_file, made_behind}
@@ -284,22 +285,22 @@ told_sure account target whole events last same files known = record {
 }
 
 -- The run of a script.
-module _ (old : World) (plan : Plan) (is_quiet : Bool) (askable : IsAskable plan) (account : Account) (given : Given) (before : (name : List ℕ) → Leaves old name (old.files name)) (events : List Event) (last : Account)
-    (left : Given) (performed : IsScriptRun plan is_quiet account given events last left) (sixteen : MayBeGiven given) (sure : IsSure old account (Ok (ToRun plan is_quiet)) events) where
+module _ (old : World) (plan : Plan) (telling : Telling) (askable : IsAskable plan) (account : Account) (given : Given) (before : (name : List ℕ) → Leaves old name (old.files name)) (events : List Event) (last : Account)
+    (left : Given) (performed : IsScriptRun plan telling account given events last left) (sixteen : MayBeGiven given) (sure : IsSure old account (Ok (ToRun plan telling)) events) where
   abbrev asked : Result Request Refusal
-  asked = Ok (ToRun plan is_quiet)
+  asked = Ok (ToRun plan telling)
 
   none_some : (target : Target) → None ≡ Some target → ⊥
   none_some target h = cc
 
   whole_steps : steps_of performed.whole ≡ steps_of events
-  whole_steps = sym (ap steps_of performed.said ∙ told_steps is_quiet performed.whole)
+  whole_steps = sym (ap steps_of performed.said ∙ told_steps telling (pages_first account plan.first) performed.whole)
 
   whole_files : files_made performed.whole ≡ files_made events
-  whole_files = sym (ap files_made performed.said ∙ told_files is_quiet performed.whole)
+  whole_files = sym (ap files_made performed.said ∙ told_files telling (pages_first account plan.first) performed.whole)
 
   whole_begins : begins_refused performed.whole ≡ begins_refused events
-  whole_begins = sym (ap begins_refused performed.said ∙ told_begins is_quiet performed.whole)
+  whole_begins = sym (ap begins_refused performed.said ∙ told_begins telling (pages_first account plan.first) performed.whole)
 
   sure_run : (target : Target) → target_of asked events ≡ Some target → HasSmallScn account (Some target) → IsSureRun account target events last
   sure_run target is small = by (begins_refused events) refl is

@@ -1,5 +1,5 @@
--- What a quiet run tells: the same events, with no reply of the first but a refusal.
-use Rattle.std.proofs.Common.{◌≡◌, ℕ, List, [], ◌∷◌, true, false, refl, sym, ◌∙◌}
+-- What is told of a run: the same events, a quiet one with no reply of the first but a refusal, and with the number of pages where a begin tells it.
+use Rattle.std.proofs.Common.{◌≡◌, ℕ, List, [], ◌∷◌, ◌++◌, false, refl, sym, ap, ◌∙◌}
 use Rattle.std.specs.Prelude.{Bool, Option, Some, None, Ok, Err, if◌then◌else◌}
 use Rattle.std.proofs.lemmas.List.{append-nil}
 use Rattle.nb_host.specs.World.{World}
@@ -10,60 +10,104 @@ use Rattle.nb_model.specs.declared.reply.Reply.TheVariants.{Refused}
 use Rattle.nb_model.specs.declared.statement.Statement.{Statement}
 use Rattle.nb_model.specs.declared.statement.Statement.TheVariants.{OpenDb}
 use Rattle.nb_model.specs.Account.{Account}
-use Rattle.nb_model.specs.Jobs.{quiet, refusal_in}
+use Rattle.nb_model.specs.Jobs.{all_sized, quiet, refusal_in, sized}
+use Rattle.nb_model.specs.Making.{MadeFile}
 use Rattle.nb_model.specs.Lines.{line_text}
 use Rattle.nb_model.specs.Outcomes.{Given}
 use Rattle.nb_model.specs.Output.{output, text_of, status_of, status_after}
 use Rattle.nb_model.specs.Run.{Event, IsRun, files_made, replies_of, strokes_of}
-use Rattle.nb_model.specs.Steps.{steps_in, steps_of}
+use Rattle.nb_model.specs.Steps.{Step, steps_in, steps_of}
 use Rattle.nb_model.specs.Strokes.{Stroke}
 use Rattle.nb_model.proofs.OutputLaws.{output_one, status_one, output-quiet}
 use Rattle.nb_script.specs.Scripts.{Plan}
 use Rattle.nb_session.specs.Replies.{is_refusal}
 use Rattle.nb_session.specs.Says.{SaysLine}
 use Rattle.nb_session.proofs.SaysLaws.{says_nothing}
-use Rattle.nb_top.specs.Performed.{IsScriptRun, begins_refused, first_event, opened_reply, refused_at, told_first}
+use Rattle.nb_top.specs.declared.telling.Telling.{Telling}
+use Rattle.nb_top.specs.declared.telling.Telling.TheVariants.{All, Quietly, WithSize}
+use Rattle.nb_top.specs.Performed.{IsScriptRun, begins_refused, first_event, is_all, opened_reply, pages_first, refused_at, told, told_first, told_later}
 
 -- the run of a script to these events
 abbrev pub Ran : Account → Given → Plan → List Event → (last : Account) → (left : Given) → Type 0
 Ran account given plan events last left = IsRun account given plan.first_session plan.first plan.schedule plan.sessions events last left
 
--- all that a run tells
-abbrev pub told : (is_quiet : Bool) → List Event → List Event
-told is_quiet whole = if is_quiet then quiet whole else whole
+-- events whose begins are told with the number of pages
+sized_refusal : (pages : ℕ) (reply : Option Reply) → refusal_in reply ≡ sized pages (refusal_in reply)
+sized_refusal pages None = refl
+sized_refusal pages (Some reply) = by reply
+  where
+    by : (reply : Reply) → refusal_in (Some reply) ≡ sized pages (refusal_in (Some reply))
+    by (Refused refusal) = refl
+    by other = refl
 
-pub told_cons : (is_quiet : Bool) (e : Event) (es : List Event) → told_first is_quiet e ∷ es ≡ told is_quiet (e ∷ es)
-told_cons true e es = refl
-told_cons false e es = refl
+sized_steps : (pages : ℕ) (es : List Event) → steps_of (all_sized pages es) ≡ steps_of es
+unfolding steps_of all_sized
+sized_steps pages [] = refl
+sized_steps pages (e ∷ es) = ap (λ (ss : List Step). steps_in e ++ ss) (sized_steps pages es)
 
--- it has the steps and the strokes of the whole
-pub told_steps : (is_quiet : Bool) (es : List Event) → steps_of (told is_quiet es) ≡ steps_of es
+sized_strokes : (pages : ℕ) (es : List Event) → strokes_of (all_sized pages es) ≡ strokes_of es
+unfolding strokes_of all_sized
+sized_strokes pages [] = refl
+sized_strokes pages (e ∷ es) = ap (λ (ss : List Stroke). e.strokes ++ ss) (sized_strokes pages es)
+
+sized_files : (pages : ℕ) (es : List Event) → files_made (all_sized pages es) ≡ files_made es
+unfolding files_made all_sized
+sized_files pages [] = refl
+sized_files pages (e ∷ es) = ap (λ (files : List MadeFile). elim e.made as (λ z. List MadeFile) [ Some file ↦ file ∷ files | None ↦ files ]) (sized_files pages es)
+
+pub told_cons : (telling : Telling) (pages : ℕ) (e : Event) (es : List Event) → told_first telling e ∷ told_later telling pages es ≡ told telling pages (e ∷ es)
+unfolding all_sized
+told_cons All pages e es = refl
+told_cons Quietly pages e es = refl
+told_cons WithSize pages e es = ap (λ (r : Option Reply). record e { reply = r } ∷ all_sized pages es) (sized_refusal pages e.reply)
+
+-- The events that are told have the steps and the strokes of the whole.
+quiet_steps : (es : List Event) → steps_of (quiet es) ≡ steps_of es
 unfolding steps_of
-told_steps true [] = refl
-told_steps true (e ∷ es) = refl
-told_steps false es = refl
+quiet_steps [] = refl
+quiet_steps (e ∷ es) = refl
 
-pub told_strokes : (is_quiet : Bool) (es : List Event) → strokes_of (told is_quiet es) ≡ strokes_of es
+quiet_strokes : (es : List Event) → strokes_of (quiet es) ≡ strokes_of es
 unfolding strokes_of
-told_strokes true [] = refl
-told_strokes true (e ∷ es) = refl
-told_strokes false es = refl
+quiet_strokes [] = refl
+quiet_strokes (e ∷ es) = refl
 
--- and makes the same files
-pub told_files : (is_quiet : Bool) (es : List Event) → files_made (told is_quiet es) ≡ files_made es
+quiet_files : (es : List Event) → files_made (quiet es) ≡ files_made es
 unfolding files_made
-told_files true [] = refl
-told_files true (e ∷ es) = refl
-told_files false es = refl
+quiet_files [] = refl
+quiet_files (e ∷ es) = refl
 
-pub told_first_steps : (is_quiet : Bool) (e : Event) → steps_in (told_first is_quiet e) ≡ steps_in e
-told_first_steps true e = refl
-told_first_steps false e = refl
+pub told_steps : (telling : Telling) (pages : ℕ) (es : List Event) → steps_of (told telling pages es) ≡ steps_of es
+told_steps All pages es = refl
+told_steps Quietly pages es = quiet_steps es
+told_steps WithSize pages es = sized_steps pages (quiet es) ∙ quiet_steps es
 
--- and makes the same file, if it makes one
-pub told_first_made : (is_quiet : Bool) (e : Event) → (told_first is_quiet e).made ≡ e.made
-told_first_made true e = refl
-told_first_made false e = refl
+pub told_strokes : (telling : Telling) (pages : ℕ) (es : List Event) → strokes_of (told telling pages es) ≡ strokes_of es
+told_strokes All pages es = refl
+told_strokes Quietly pages es = quiet_strokes es
+told_strokes WithSize pages es = sized_strokes pages (quiet es) ∙ quiet_strokes es
+
+-- and make the same files
+pub told_files : (telling : Telling) (pages : ℕ) (es : List Event) → files_made (told telling pages es) ≡ files_made es
+told_files All pages es = refl
+told_files Quietly pages es = quiet_files es
+told_files WithSize pages es = sized_files pages (quiet es) ∙ quiet_files es
+
+pub later_files : (telling : Telling) (pages : ℕ) (es : List Event) → files_made (told_later telling pages es) ≡ files_made es
+later_files All pages es = refl
+later_files Quietly pages es = refl
+later_files WithSize pages es = sized_files pages es
+
+pub told_first_steps : (telling : Telling) (e : Event) → steps_in (told_first telling e) ≡ steps_in e
+told_first_steps All e = refl
+told_first_steps Quietly e = refl
+told_first_steps WithSize e = refl
+
+-- and the first makes the same file, if it makes one
+pub told_first_made : (telling : Telling) (e : Event) → (told_first telling e).made ≡ e.made
+told_first_made All e = refl
+told_first_made Quietly e = refl
+told_first_made WithSize e = refl
 
 -- a refusal is told
 refused_reply : (reply : Reply) → elim (refusal_in (Some reply)) as (λ z. Bool) [ None ↦ false | Some r ↦ is_refusal r ] ≡ is_refusal reply
@@ -74,23 +118,30 @@ refused_in : (reply : Option Reply) → elim (refusal_in reply) as (λ z. Bool) 
 refused_in None = refl
 refused_in (Some reply) = refused_reply reply
 
-pub told_begins : (is_quiet : Bool) (es : List Event) → begins_refused (told is_quiet es) ≡ begins_refused es
-told_begins true [] = refl
-told_begins true (e ∷ es) = refused_in e.reply
-told_begins false es = refl
+pub told_begins : (telling : Telling) (pages : ℕ) (es : List Event) → begins_refused (told telling pages es) ≡ begins_refused es
+unfolding all_sized
+told_begins All pages es = refl
+told_begins Quietly pages [] = refl
+told_begins Quietly pages (e ∷ es) = refused_in e.reply
+told_begins WithSize pages [] = refl
+told_begins WithSize pages (e ∷ es) =
+    ap (λ (r : Option Reply). elim r as (λ z. Bool) [ None ↦ false | Some reply ↦ is_refusal reply ]) (sym (sized_refusal pages e.reply)) ∙ refused_in e.reply
 
-pub told_refusal : (is_quiet : Bool) (session : ℕ) (refusal : Refusal) → refused_at session refusal ≡ told is_quiet (refused_at session refusal)
-told_refusal true session refusal = refl
-told_refusal false session refusal = refl
+pub told_refusal : (telling : Telling) (pages session : ℕ) (refusal : Refusal) → refused_at session refusal ≡ told telling pages (refused_at session refusal)
+unfolding all_sized
+told_refusal All pages session refusal = refl
+told_refusal Quietly pages session refusal = refl
+told_refusal WithSize pages session refusal = refl
 
 -- what is asked for is done
-pub performed_told : (is_quiet : Bool) (plan : Plan) (account : Account) (given : Given) (e : Event) (es : List Event) (last : Account) (left : Given) → Ran account given plan (e ∷ es) last left
-    → IsScriptRun plan is_quiet account given (told_first is_quiet e ∷ es) last left
-performed_told is_quiet plan account given e es last left ran = record { whole = e ∷ es; run = ran; said = told_cons is_quiet e es }
+pub performed_told : (telling : Telling) (plan : Plan) (account : Account) (given : Given) (e : Event) (es : List Event) (last : Account) (left : Given) → Ran account given plan (e ∷ es) last left
+    → IsScriptRun plan telling account given (told_first telling e ∷ told_later telling (pages_first account plan.first) es) last left
+performed_told telling plan account given e es last left ran = record { whole = e ∷ es; run = ran; said = told_cons telling (pages_first account plan.first) e es }
 
-pub performed_refused : (is_quiet : Bool) (plan : Plan) (account : Account) (given : Given) (session : ℕ) (refusal : Refusal) (last : Account) (left : Given) → Ran account given plan (refused_at session refusal) last left
-    → IsScriptRun plan is_quiet account given (refused_at session refusal) last left
-performed_refused is_quiet plan account given session refusal last left ran = record { whole = refused_at session refusal; run = ran; said = told_refusal is_quiet session refusal }
+pub performed_refused : (telling : Telling) (plan : Plan) (account : Account) (given : Given) (session : ℕ) (refusal : Refusal) (last : Account) (left : Given) → Ran account given plan (refused_at session refusal) last left
+    → IsScriptRun plan telling account given (refused_at session refusal) last left
+performed_refused telling plan account given session refusal last left ran =
+    record { whole = refused_at session refusal; run = ran; said = told_refusal telling (pages_first account plan.first) session refusal }
 
 -- no reply of a database that is open is a refusal
 pub opened_fine : (first : Statement) (pages state : ℕ) → status_after (opened_reply first pages state) ≡ 0
@@ -117,18 +168,20 @@ quiet_status : (e : Event) → e.reply ≡ None → status_of (replies_of (e ∷
 unfolding replies_of
 quiet_status e none = none_status e.session e.reply none
 
--- the line of a first reply, none of a quiet run
+-- the line of a first reply, where it is told
 module _ (session : ℕ) (strokes : List Stroke) (first : Statement) (pages state : ℕ) where
   abbrev reply : Reply
   reply = opened_reply first pages state
 
-  pub told_output : (is_quiet : Bool) → output (told_first is_quiet (first_event session strokes reply) ∷ []) ≡ (if is_quiet then [] else line_text session reply)
-  told_output true = output-quiet (told_first true (first_event session strokes reply)) [] (untold first pages state) ∙ none_said
-  told_output false = output_one (first_event session strokes reply) reply refl
+  pub told_output : (telling : Telling) → output (told_first telling (first_event session strokes reply) ∷ []) ≡ (if is_all telling then line_text session reply else [])
+  told_output All = output_one (first_event session strokes reply) reply refl
+  told_output Quietly = output-quiet (told_first Quietly (first_event session strokes reply)) [] (untold first pages state) ∙ none_said
+  told_output WithSize = output-quiet (told_first WithSize (first_event session strokes reply)) [] (untold first pages state) ∙ none_said
 
-  pub told_status : (is_quiet : Bool) → status_of (replies_of (told_first is_quiet (first_event session strokes reply) ∷ [])) ≡ 0
-  told_status true = quiet_status (told_first true (first_event session strokes reply)) (untold first pages state)
-  told_status false = status_one (first_event session strokes reply) reply refl ∙ opened_fine first pages state
+  pub told_status : (telling : Telling) → status_of (replies_of (told_first telling (first_event session strokes reply) ∷ [])) ≡ 0
+  told_status All = status_one (first_event session strokes reply) reply refl ∙ opened_fine first pages state
+  told_status Quietly = quiet_status (told_first Quietly (first_event session strokes reply)) (untold first pages state)
+  told_status WithSize = quiet_status (told_first WithSize (first_event session strokes reply)) (untold first pages state)
 
 -- saying nothing
 pub says_none : {T E : Type 0} (value : T) (old : World) → IsTimely old → SaysLine {T = T} {E = E} (Ok value) old old []

@@ -29,7 +29,7 @@ use Rattle.nb_session.specs.Says.{FrontSaid, SaysLine}
 use Rattle.nb_session.specs.Stops.{IsSaid}
 use Rattle.nb_session.proofs.GiftLaws.{given_nothing}
 use Rattle.nb_top.specs.declared.status.Status.TheVariants.{Done}
-use Rattle.nb_top.specs.Performed.{RunLeft, Finished, IsEnded, Target, seen_after}
+use Rattle.nb_top.specs.Performed.{RunLeft, Finished, IsEnded, Target, seen_after, only_tell}
 use Rattle.nb_top.proofs.MadeRuns.{none_front}
 use Rattle.nb_top.proofs.RefusedRuns.{take_self}
 
@@ -117,12 +117,13 @@ module _ (old : World) (account : Account) (target : Target) (reply : Reply) (st
       }
 
       -- it was said whole
-      pub turn_finished : (given : Given) → GaveNothing old mid → ShowsIn db b mid.files → status_after reply ≡ 0 → new.said ≡ mid.said ++ line_text 1 reply → Finished Done old new account (Some target) (one ∷ []) given given
-      turn_finished given gave shows fine said = record {
+      pub turn_finished : (given : Given) → GaveNothing old mid → ShowsIn db b mid.files → status_after reply ≡ 0 → new.said ≡ mid.said ++ line_text 1 reply → (only_tell (one ∷ []) ≡ true → ⊥) → Finished Done old new account (Some target) (one ∷ []) given given
+      turn_finished given gave shows fine said more = record {
         said = said ∙ ap (λ (l : List ℕ). l ++ line_text 1 reply) does.said ∙ ap (λ (l : List ℕ). old.said ++ l) (sym (output_one one reply refl));
         ended = sym (status_one one reply refl ∙ fine);
         gave = given_nothing old new given given (record { guids = says.gave.guids ∙ gave.guids; times = says.gave.times ∙ gave.times }) refl;
         database = subst (λ (t : Trail). IsEnded new db t) (sym seen) (ended shows);
         kept = λ n bytes there. absurd (made_all n bytes there);
         others = λ m other none. ap (λ (f : Files). f m) says.still.files ∙ does.others_read m (λ e. other (inl e));
+        unchanged = λ only. absurd (more only);
       }

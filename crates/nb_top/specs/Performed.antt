@@ -7,10 +7,11 @@
 -- whole, and whole once that is acknowledged. No other file changes. At its end all lines were said, all steps stand, and all files are
 -- whole. Where the files stood for an account with the records of its backups, and the GUIDs that the outside gives are new, they stand for
 -- one at each moment, with the records of the backups that have begun by then.
-use Rattle.std.specs.Prelude.{◌≡◌, ◌≢◌, ◌⊎◌, ℕ, ◌<◌, List, [], ◌∷◌, ◌++◌, length, take, Bool, true, false, Option, None, Some, Result, Ok, Err, IfOk, if◌then◌else◌}
+use Rattle.std.specs.Prelude.{◌≡◌, ◌≢◌, ◌⊎◌, ℕ, ◌<◌, List, [], ◌∷◌, ◌++◌, length, take, Bool, true, false, ◌&&◌, Option, None, Some, Result, Ok, Err, IfOk}
 use Rattle.std.specs.Global.{Vec}
-use Rattle.std.specs.List.{AllByRecursion}
+use Rattle.std.specs.List.{AllByRecursion, list_all}
 use Rattle.nb_fields.specs.Free.{is_free_file}
+use Rattle.nb_fields.specs.Fresh.{fresh_count}
 use Rattle.nb_fields.specs.Header.{guid_of}
 use Rattle.nb_host.specs.Files.{File, Files}
 use Rattle.nb_host.specs.Names.{is_delta}
@@ -32,7 +33,7 @@ use Rattle.nb_model.specs.Causes.{is_free_entry}
 use Rattle.nb_model.specs.Gifts.{WasGiven}
 use Rattle.nb_model.specs.Image.{image_in, image_scn}
 use Rattle.nb_model.specs.NewGuids.{AreNew, guids_in}
-use Rattle.nb_model.specs.Jobs.{quiet, refusal_in, restore_turn, fixup_turn, account_behind}
+use Rattle.nb_model.specs.Jobs.{all_sized, quiet, refusal_in, restore_turn, fixup_turn, account_behind}
 use Rattle.nb_model.specs.Outcomes.{Given}
 use Rattle.nb_model.specs.Output.{output, status_of}
 use Rattle.nb_model.specs.Owner.{delta_name, entry_in}
@@ -50,11 +51,14 @@ use Rattle.nb_fixup.specs.Fixup.{IsFixable}
 use Rattle.nb_restore.specs.Kept.{AreKept, GivesKept}
 use Rattle.nb_script.specs.Scripts.{Plan}
 use Rattle.nb_session.specs.declared.stop.Stop.{Stop}
-use Rattle.nb_session.specs.Replies.{is_refusal}
+use Rattle.nb_session.specs.Replies.{is_refusal, only_tells, only_told}
 use Rattle.nb_session.specs.Acts.{MadeLeft, AreKept as AreFilesKept}
+use Rattle.nb_session.specs.Sized.{begins_alone}
 use Rattle.nb_session.specs.Stops.{IsSaid, IsFront, AreWhole, Plays}
 use Rattle.nb_top.specs.declared.status.Status.{Status}
 use Rattle.nb_top.specs.declared.status.Status.TheVariants.{Done, Refused as RefusedStatus, Usage as UsageStatus, Device, Memory}
+use Rattle.nb_top.specs.declared.telling.Telling.{Telling}
+use Rattle.nb_top.specs.declared.telling.Telling.TheVariants.{All, Quietly, WithSize}
 use Rattle.nb_top.specs.Requests.{Request, ToRun, ToRestore, ToFix, script_in}
 
 -- what the first statement of a run did, or what is said in place of a run
@@ -69,21 +73,46 @@ refused_at session refusal = first_event session [] (Refused refusal) ∷ []
 abbrev pub refused_job : Refusal → List Event
 refused_job refusal = refused_at 0 refusal
 
--- The run of a script, with what is said of it: a quiet one says of its first statement only why it is refused.
-pub record IsScriptRun (plan : Plan) (is_quiet : Bool) (before : Account) (given : Given) (events : List Event) (last : Account) (left : Given) : Type 0 where
+-- how many pages the database has as a run begins: those of a new one, or those of the one that is opened
+abbrev pub pages_first : (before : Account) → (first : Statement) → ℕ
+pages_first before (CreateDb name page_size raw cache) = fresh_count page_size raw
+pages_first before (OpenDb name cache) = length (base_in (before.entry name)).image
+pages_first before other = 0
+
+-- What is told of events: all, or of the first one only why it is refused, or the same and with each begin so many pages.
+abbrev pub told : Telling → (pages : ℕ) → List Event → List Event
+told All pages whole = whole
+told Quietly pages whole = quiet whole
+told WithSize pages whole = all_sized pages (quiet whole)
+
+-- every reply is told
+abbrev pub is_all : Telling → Bool
+is_all All = true
+is_all Quietly = false
+is_all WithSize = false
+
+-- the first event as a run tells it, and those behind it
+abbrev pub told_first : Telling → Event → Event
+told_first All e = e
+told_first Quietly e = record e { reply = refusal_in e.reply }
+told_first WithSize e = record e { reply = refusal_in e.reply }
+
+abbrev pub told_later : Telling → (pages : ℕ) → List Event → List Event
+told_later All pages es = es
+told_later Quietly pages es = es
+told_later WithSize pages es = all_sized pages es
+
+-- The run of a script, with what is told of it.
+pub record IsScriptRun (plan : Plan) (telling : Telling) (before : Account) (given : Given) (events : List Event) (last : Account) (left : Given) : Type 0 where
   pub whole : List Event
   pub run : IsRun before given plan.first_session plan.first plan.schedule plan.sessions whole last left
-  pub said : events ≡ (if is_quiet then quiet whole else whole)
-
--- the first event as a run tells it
-abbrev pub told_first : (is_quiet : Bool) → Event → Event
-told_first is_quiet e = if is_quiet then record e { reply = refusal_in e.reply } else e
+  pub said : events ≡ told telling (pages_first before plan.first) whole
 
 -- What is asked for is done: the run of a script, the one turn of a restore or of a fixup, or one refusal. `left` is what it leaves of
 -- what may be given.
 abbrev pub IsPerformed : Files → Result Request Refusal → (before : Account) → Given → List Event → (last : Account) → (left : Given) → Type 0
 IsPerformed files (Err refusal) before given events last left = (events ≡ refused_job refusal) × (last ≡ before) × (left ≡ given)
-IsPerformed files (Ok (ToRun plan is_quiet)) before given events last left = IsScriptRun plan is_quiet before given events last left
+IsPerformed files (Ok (ToRun plan telling)) before given events last left = IsScriptRun plan telling before given events last left
 IsPerformed files (Ok (ToRestore db names)) before given events last left =
     let turn : Event = restore_turn files before db names in
     (events ≡ turn ∷ []) × (last ≡ account_behind db turn before) × (left ≡ given)
@@ -108,7 +137,7 @@ begins_refused (e ∷ es) = elim e.reply [ None ↦ false | Some reply ↦ is_re
 
 -- the database that is asked for
 abbrev pub target_asked : Request → Option Target
-target_asked (ToRun plan is_quiet) = target_named plan.first
+target_asked (ToRun plan telling) = target_named plan.first
 target_asked (ToRestore db names) = Some (record { name = db; creates = true })
 target_asked (ToFix db) = Some (record { name = db; creates = false })
 
@@ -135,7 +164,7 @@ KnowsOpened files account other = Unit {0}
 -- whether the name of its target is free; and a fixup, what stands under the name.
 abbrev pub Knows : Files → Account → Result Request Refusal → Type 0
 Knows files account (Err refusal) = Unit {0}
-Knows files account (Ok (ToRun plan is_quiet)) = KnowsNames files account × KnowsOpened files account plan.first
+Knows files account (Ok (ToRun plan telling)) = KnowsNames files account × KnowsOpened files account plan.first
 Knows files account (Ok (ToRestore db names)) = is_free_name files db ≡ is_free_entry (account.entry db)
 Knows files account (Ok (ToFix db)) = account.entry db ≡ entry_in files db
 
@@ -195,7 +224,7 @@ pub record StandsFor (w : World) (account : Account) : Type 0 where
 -- a chain that is restored is one of backups whose records are kept, and a copy that is fixed is of one
 abbrev pub HasKeptChain : Files → List Kept → Result Request Refusal → Type 0
 HasKeptChain files kept (Err refusal) = Unit {0}
-HasKeptChain files kept (Ok (ToRun plan is_quiet)) = Unit {0}
+HasKeptChain files kept (Ok (ToRun plan telling)) = Unit {0}
 HasKeptChain files kept (Ok (ToRestore db names)) = (links : List Link) → verdict files names ≡ Ok links → AreKept kept links
 HasKeptChain files kept (Ok (ToFix db)) = (bytes : List ℕ) → IsFixable files db bytes → (r : Kept) × IsKeptAs kept (guid_of bytes) r
 
@@ -216,7 +245,7 @@ pub record HasKeptImage (kept : List Kept) (bytes : List ℕ) : Type 0 where
 -- A chain that is restored gives the image that the begin of its last backup kept. A copy that is fixed has that of its backup.
 abbrev pub RestoresKept : Files → List Kept → Result Request Refusal → Type 0
 RestoresKept files kept (Err refusal) = Unit {0}
-RestoresKept files kept (Ok (ToRun plan is_quiet)) = Unit {0}
+RestoresKept files kept (Ok (ToRun plan telling)) = Unit {0}
 RestoresKept files kept (Ok (ToRestore db names)) = (links : List Link) → verdict files names ≡ Ok links → GivesKept kept links
 RestoresKept files kept (Ok (ToFix db)) = (bytes : List ℕ) → IsFixable files db bytes → HasKeptImage kept bytes
 
@@ -244,8 +273,18 @@ abbrev pub EndsIn : (new : World) → Account → Option Target → List Event �
 EndsIn new account None events = Unit {0}
 EndsIn new account (Some target) events = IsEnded new target.name (seen_after account target.name (steps_of events))
 
+-- a first turn that makes no stroke, and of which nothing is told, or what only tells something
+abbrev pub only_opens : Event → Bool
+only_opens e = elim e.strokes [ [] ↦ elim e.reply [ None ↦ true | Some reply ↦ only_tells reply ] | s ∷ ss ↦ false ]
+
+-- the turns of a run only tell something: they open, they read, or they are refused
+abbrev pub only_tell : List Event → Bool
+only_tell [] = true
+only_tell (e ∷ es) = only_opens e && list_all only_told es
+
 -- A run to its end: all of its lines were said, the status is the one that they give, just what the run asks for was given, the database
--- stands behind all of its steps, each file that it made is whole and kept for good, and other files read as before.
+-- stands behind all of its steps, each file that it made is whole and kept for good, and other files read as before. Where its turns only
+-- told something no file has changed.
 pub record Finished (status : Status) (old new : World) (account : Account) (target : Option Target) (events : List Event) (given left : Given) : Type 0 where
   pub said : new.said ≡ old.said ++ output events
   pub ended : number_of status ≡ status_of (replies_of events)
@@ -253,6 +292,7 @@ pub record Finished (status : Status) (old new : World) (account : Account) (tar
   pub database : EndsIn new account target events
   pub kept : AreFilesKept new (files_made events)
   pub others : (m : List ℕ) → IsUnasked target m → IsNoneOf (files_made events) m → new.files m ≡ old.files m
+  pub unchanged : only_tell events ≡ true → new.files ≡ old.files
 
 -- each GUID that may be given has 16 bytes
 abbrev pub MayBeGiven : Given → Type 0
@@ -310,12 +350,28 @@ opened_reply first pages state = elim first [ OpenDb name cache ↦ OpenedReply 
 abbrev pub played_behind : Event → Played → Played
 played_behind event played = (event ∷ played.0, played.1)
 
+-- turns as a run tells them
+abbrev pub told_turns : Telling → (pages : ℕ) → Played → Played
+told_turns telling pages played = (told_later telling pages played.0, played.1)
+
+-- the script begins a backup in session 1 and does nothing else
+pub record BeginsAlone (plan : Plan) : Type 0 where
+  pub schedule : plan.schedule ≡ []
+  pub sessions : plan.sessions ≡ begins_alone
+
+-- The script's turns were taken to their end and told, or some of them.
+pub record PlaysTold (result : Result Bool Stop) (old new : World) (before after : Held) (t : Trail) (telling : Telling) (pages : ℕ) (now : Now) (schedule : List ℕ) : Type 0 where
+  pub how_often : ℕ
+  pub plays : Plays result old new before after t now (told_turns telling pages (play (schedule ++ rounds how_often) now)) (files_made (play (schedule ++ rounds how_often) now).0)
+  pub finished : AreFinished (play (schedule ++ rounds how_often) now).1.todo
+
 -- The reply of the first statement was said, and then the script's turns were taken to their end, or some of them. `start` stood before
 -- the strokes of the first statement.
-pub record PlaysOpened (result : Result Bool Stop) (old new : World) (before after : Held) (start : Base) (first : Event) (now : Now) (plan : Plan) : Type 0 where
+pub record PlaysOpened (result : Result Bool Stop) (old new : World) (before after : Held) (start : Base) (first : Event) (telling : Telling) (pages : ℕ) (now : Now) (plan : Plan) : Type 0 where
   pub how_often : ℕ
-  pub plays : Plays result old new before after (settled start) now (played_behind first (play (plan.schedule ++ rounds how_often) now)) (files_made (play (plan.schedule ++ rounds how_often) now).0)
+  pub plays : Plays result old new before after (settled start) now (played_behind first (told_turns telling pages (play (plan.schedule ++ rounds how_often) now))) (files_made (play (plan.schedule ++ rounds how_often) now).0)
   pub finished : AreFinished (play (plan.schedule ++ rounds how_often) now).1.todo
+  pub unchanged : IfOk result (λ refused. list_all only_told (told_later telling pages (play (plan.schedule ++ rounds how_often) now).0) ≡ true → new.files ≡ old.files)
 
 -- what is read of a script's file: its bytes, or that it isn't there or is too long
 abbrev pub IsFileRead : Result (Vec ℕ) Fault → (name : List ℕ) → File → Type 0

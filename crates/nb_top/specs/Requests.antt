@@ -7,29 +7,34 @@ use Rattle.nb_host.specs.declared.refusals.Refusal.TheVariants.{Usage, NoFile}
 use Rattle.nb_model.specs.declared.job.Job.{Job}
 use Rattle.nb_model.specs.declared.job.Job.TheVariants.{Run, Stat, Gen, Backup, BackupSince, Restore, Apply, Lock, LockWithSize, Unlock, Fixup}
 use Rattle.nb_model.specs.declared.statement.Statement.{Statement}
-use Rattle.nb_model.specs.declared.statement.Statement.TheVariants.{OpenDb, BeginBackup, EndBackup, Backup as BackupTo}
+use Rattle.nb_model.specs.declared.statement.Statement.TheVariants.{OpenDb, BeginBackup, EndBackup, ShowHeader, ShowPages, Backup as BackupTo, BackupSince as BackupOf}
 use Rattle.nb_model.specs.Jobs.{usual_cache}
 use Rattle.nb_model.specs.Words.{job_of, is_database, is_file}
 use Rattle.nb_script.specs.Scripts.{Plan, script_of}
+use Rattle.nb_top.specs.declared.telling.Telling.{Telling}
+use Rattle.nb_top.specs.declared.telling.Telling.TheVariants.{All, Quietly, WithSize}
 
 -- the jobs that are done today
 abbrev pub is_job_built : Job → Bool
 is_job_built (Run script) = true
-is_job_built (Stat db) = false
+is_job_built (Stat db) = true
 is_job_built (Gen number script) = false
 is_job_built (Backup level db file) = true
-is_job_built (BackupSince guid db file) = false
+is_job_built (BackupSince guid db file) = true
 is_job_built (Restore db files) = true
 is_job_built (Apply db file) = false
 is_job_built (Lock db) = true
-is_job_built (LockWithSize db) = false
+is_job_built (LockWithSize db) = true
 is_job_built (Unlock db) = true
 is_job_built (Fixup db) = true
 
 -- the names of such a job are those that words may give
 abbrev pub FitsJob : Job → Type 0
+FitsJob (Stat db) = is_database db ≡ true
 FitsJob (Lock db) = is_database db ≡ true
+FitsJob (LockWithSize db) = is_database db ≡ true
 FitsJob (Backup level db file) = (level ≤ 9) × (is_database db ≡ true) × (is_file file ≡ true)
+FitsJob (BackupSince guid db file) = (is_database db ≡ true) × (is_file file ≡ true)
 FitsJob (Unlock db) = is_database db ≡ true
 FitsJob (Fixup db) = is_database db ≡ true
 FitsJob (Restore db files) = (is_database db ≡ true) × (1 ≤ length files) × (length files ≤ 10) × (list_all is_file files ≡ true)
@@ -45,8 +50,8 @@ job_asked words = built_job (job_of words)
 
 -- What a job asks for.
 pub data Request : Type 0 where
-  -- the run of a script; of a quiet one the first statement says only why it is refused
-  ToRun : (plan : Plan) (is_quiet : Bool) → Request
+  -- the run of a script, and what is told of it
+  ToRun : (plan : Plan) (telling : Telling) → Request
   -- a database that the files of a chain give
   ToRestore : (db : List ℕ) (names : List (List ℕ)) → Request
   -- a copy of a stalled database that becomes a database, in place
@@ -59,19 +64,22 @@ script_in name (Some bytes) = script_of bytes
 
 -- to run it
 abbrev pub to_run : Result Plan Refusal → Result Request Refusal
-to_run (Ok plan) = Ok (ToRun plan false)
+to_run (Ok plan) = Ok (ToRun plan All)
 to_run (Err refusal) = Err refusal
 
--- the script of a job that opens a database and asks it one thing
-abbrev pub plan_of : (db : List ℕ) → Statement → Plan
-plan_of db statement = record { first_session = 1; first = OpenDb db usual_cache; schedule = []; sessions = (statement ∷ []) ∷ replicate 15 [] }
+-- the script of a job that opens a database and asks it these things
+abbrev pub plan_of : (db : List ℕ) → List Statement → Plan
+plan_of db statements = record { first_session = 1; first = OpenDb db usual_cache; schedule = []; sessions = statements ∷ replicate 15 [] }
 
 -- what a job asks for, or why it is refused
 abbrev pub request_of : Files → Job → Result Request Refusal
 request_of files (Run script) = to_run (script_in script (files script))
-request_of files (Backup level db file) = Ok (ToRun (plan_of db (BackupTo level file)) true)
-request_of files (Lock db) = Ok (ToRun (plan_of db BeginBackup) true)
-request_of files (Unlock db) = Ok (ToRun (plan_of db EndBackup) true)
+request_of files (Backup level db file) = Ok (ToRun (plan_of db (BackupTo level file ∷ [])) Quietly)
+request_of files (BackupSince guid db file) = Ok (ToRun (plan_of db (BackupOf guid file ∷ [])) Quietly)
+request_of files (Stat db) = Ok (ToRun (plan_of db (ShowHeader ∷ ShowPages ∷ [])) Quietly)
+request_of files (Lock db) = Ok (ToRun (plan_of db (BeginBackup ∷ [])) Quietly)
+request_of files (LockWithSize db) = Ok (ToRun (plan_of db (BeginBackup ∷ [])) WithSize)
+request_of files (Unlock db) = Ok (ToRun (plan_of db (EndBackup ∷ [])) Quietly)
 request_of files (Restore db names) = Ok (ToRestore db names)
 request_of files (Fixup db) = Ok (ToFix db)
 request_of files other = Err Usage

@@ -83,6 +83,63 @@ fn levels_by_words(rt: HostRuntime) -> Result<(), Fail> {
     Ok(())
 }
 
+/// A level 0 and a level 1.
+const CHAIN: &str = "1: create database 'a.db' page_size 1024 raw 8
+1: backup 0 to 'a.0'
+1: write 6 'new'
+1: backup 1 to 'a.1'
+";
+
+/// Whether backups since the GUIDs of both, and one since a GUID that no row has, say these lines, and that one makes no file.
+fn says_since(alloc: Global, lines: &str) -> Result<bool, Fail> {
+    let mut host = host_after(alloc, CHAIN)?;
+    let before = host.output().len();
+    let first = "00000000-0000-0000-0000-000000000001";
+    let second = "00000000-0000-0000-0000-000000000002";
+    let none = "00000000-0000-0000-0000-000000000000";
+    run_words(alloc, &mut host, &["-B", first, "a.db", "a.y"])?;
+    run_words(alloc, &mut host, &["-B", second, "a.db", "a.w"])?;
+    run_words(alloc, &mut host, &["-B", none, "a.db", "a.v"])?;
+    let name = Name::read("a.v").ok_or("no name")?;
+    Ok(host.output().get(before..) == Some(lines.as_bytes()) && host.file(&name).is_none())
+}
+
+/// A backup since a GUID goes on from its row, and its level is one more than that one's.
+#[test]
+fn since_a_guid(rt: HostRuntime) -> Result<(), Fail> {
+    let lines = "1: ok level 1 scn 5 pages 4 guid 00000000-0000-0000-0000-000000000003
+1: ok level 2 scn 7 pages 5 guid 00000000-0000-0000-0000-000000000004
+1: refused 30 NoGuid 00000000-0000-0000-0000-000000000000
+";
+    assert!(rt; says_since(rt.alloc(), lines)?);
+    Ok(())
+}
+
+/// A page of the history holds three rows: the fourth backup begins behind a new page, which is in its file.
+#[test]
+fn history_grows(rt: HostRuntime) -> Result<(), Fail> {
+    let mut host = MemHost::new(rt.alloc())?;
+    assert!(rt;
+        says(
+            rt.alloc(),
+            &mut host,
+            "1: create database 'a.db' page_size 1024 raw 8
+1: backup 0 to 'h.0'
+1: backup 0 to 'h.1'
+1: backup 0 to 'h.2'
+1: backup 0 to 'h.3'
+",
+            "1: ok pages 13
+1: ok level 0 scn 1 pages 13 guid 00000000-0000-0000-0000-000000000001
+1: ok level 0 scn 3 pages 13 guid 00000000-0000-0000-0000-000000000002
+1: ok level 0 scn 5 pages 13 guid 00000000-0000-0000-0000-000000000003
+1: ok level 0 scn 7 pages 14 guid 00000000-0000-0000-0000-000000000004
+",
+        )?
+    );
+    Ok(())
+}
+
 /// Why backups and copies are refused: a name that is taken, a level without one below it, and a state that isn't the one they need.
 #[test]
 fn backup_refusals(rt: HostRuntime) -> Result<(), Fail> {

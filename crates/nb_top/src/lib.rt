@@ -24,12 +24,16 @@ mod request;
 mod restore_tests;
 mod restoring;
 mod script;
+#[cfg(test)]
+mod shown_tests;
 mod status;
 #[cfg(test)]
 mod stop_tests;
+mod telling;
 #[cfg(test)]
 mod tests;
 
 pub use nb_lines::render;
+pub use nb_shown::image_digest;
 pub use program::run;
 pub use status::Status;

@@ -31,7 +31,7 @@ fn wrong_job(alloc: Global, host: &mut MemHost, cases: &[Case]) -> Result<Option
 
 #[test]
 fn lock_and_unlock(rt: HostRuntime) -> Result<(), Fail> {
-    let cases: [Case; 13] = [
+    let cases: [Case; 15] = [
         (&["run", "create"], "1: ok pages 13\n", Status::Done),
         (&["-L", "a.db"], "1: ok scn 2\n", Status::Done),
         (
@@ -68,8 +68,23 @@ fn lock_and_unlock(rt: HostRuntime) -> Result<(), Fail> {
         // No job, and jobs that aren't done today.
         (&["-L"], "0: refused 1 Usage\n", Status::Usage),
         (&["-L", "-N", "a.db"], "0: refused 1 Usage\n", Status::Usage),
-        (&["stat", "a.db"], "0: refused 1 Usage\n", Status::Usage),
-        (&["-L", "-S", "a.db"], "0: refused 1 Usage\n", Status::Usage),
+        (&["gen", "7", "g"], "0: refused 1 Usage\n", Status::Usage),
+        // With the number of pages.
+        (
+            &["-L", "-S", "a.db"],
+            "1: ok scn 4 pages 13\n",
+            Status::Done,
+        ),
+        (
+            &["-S", "-L", "a.db"],
+            "1: refused 6 WrongState 1\n",
+            Status::Refused,
+        ),
+        (
+            &["-L", "-S", "no.db"],
+            "1: refused 3 NoFile no.db\n",
+            Status::Refused,
+        ),
     ];
     let mut host = MemHost::new(rt.alloc())?;
     place(&mut host, "create", CREATED)?;

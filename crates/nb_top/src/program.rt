@@ -1,5 +1,5 @@
 // A job, from the words to the last reply.
-ghost use Rattle.std.specs.Prelude.{◌≡◌, ◌≢◌, ◌⊎◌, ◌↔◌, true, None, Ok, map, string_bytes, IsTrue, IfOk};
+ghost use Rattle.std.specs.Prelude.{◌≡◌, ◌≢◌, ◌⊎◌, ◌↔◌, [], ◌∷◌, true, None, Ok, map, string_bytes, IsTrue, IfOk};
 ghost use Rattle.nb_host.specs.Causes.{Rose};
 ghost use Rattle.nb_host.specs.declared.refusals.Refusal.TheVariants.{Usage as UsageRefusal};
 ghost use Rattle.nb_change.specs.Gave.{GaveNothing};
@@ -8,6 +8,7 @@ ghost use Rattle.nb_model.specs.Gifts.{Foretells};
 ghost use Rattle.nb_model.specs.Lines.{line_text};
 ghost use Rattle.nb_model.specs.Outcomes.{Given};
 ghost use Rattle.nb_model.specs.declared.reply.Reply.TheVariants.{Refused as RefusedReply};
+ghost use Rattle.nb_model.specs.declared.statement.Statement.TheVariants.{BeginBackup, ShowHeader, ShowPages};
 ghost use Rattle.nb_script.specs.Asked.{IsAskable};
 ghost use Rattle.nb_session.specs.Acts.{Grows};
 ghost use Rattle.nb_session.specs.Causes.{CountsStop};
@@ -18,9 +19,10 @@ ghost use Rattle.nb_top.specs.Requests.{FitsJob, ToRun, is_job_built, job_asked,
 use crate::Status;
 use crate::fixing::run_fix;
 use crate::reading::read_script;
-use crate::request::{read_built, script_asking};
+use crate::request::{read_built, script_asking, script_showing};
 use crate::restoring::run_restore;
 use crate::script::{refuse, run_script, settled};
+use crate::telling::Telling;
 use nb_host::{Host, Name, Refusal};
 use nb_model::{Job, Statement};
 use nb_session::Stop;
@@ -35,27 +37,45 @@ fn run_file<H: Host>(alloc: Global, host: &mut H, name: &Name) -> Result<Status,
     ensures cause { CountsStop result (H.faults host.old) (H.faults host.new) }
 {
     match settled(read_script(alloc, host, name))? {
-        Ok(script) => run_script(alloc, host, &script, false),
+        Ok(script) => run_script(alloc, host, &script, Telling::All),
         Err(refusal) => refuse(alloc, host, 0, refusal),
     }
 }
 
-/// Opens a database and asks it one thing. Of the opening it says only why it is refused.
+/// Opens a database and asks it one thing, and tells so much of it.
 fn run_asking<H: Host>(
     alloc: Global,
     host: &mut H,
     db: &Name,
     statement: Statement,
+    telling: Telling,
 ) -> Result<Status, Stop>
-    requires { IsAskable (plan_of db.now statement) }
-    ensures runs { (account : Account) (given : Given) → IsTrue H.tells → Knows (H.world host.old).files account (Ok (ToRun (plan_of db.now statement) true)) → MayBeGiven given → Foretells given (H.world host.old) (H.world host.new)
-        → RunsTo result (H.world host.old) (H.world host.new) (Ok (ToRun (plan_of db.now statement) true)) account given }
-    ensures grows { (account : Account) → IsTrue H.tells → Knows (H.world host.old).files account (Ok (ToRun (plan_of db.now statement) true)) → Grows (H.world host.old) (H.world host.new) }
+    requires askable { IsAskable (plan_of db.now (statement ∷ [])) }
+    requires sized { telling ≡ Telling.WithSize → statement ≡ BeginBackup }
+    ensures runs { (account : Account) (given : Given) → IsTrue H.tells → Knows (H.world host.old).files account (Ok (ToRun (plan_of db.now (statement ∷ [])) telling)) → MayBeGiven given → Foretells given (H.world host.old) (H.world host.new)
+        → RunsTo result (H.world host.old) (H.world host.new) (Ok (ToRun (plan_of db.now (statement ∷ [])) telling)) account given }
+    ensures grows { (account : Account) → IsTrue H.tells → Knows (H.world host.old).files account (Ok (ToRun (plan_of db.now (statement ∷ [])) telling)) → Grows (H.world host.old) (H.world host.new) }
     ensures done { IfOk result (λ status. (status ≡ Status.Done) ⊎ (status ≡ Status.Refused)) }
     ensures cause { CountsStop result (H.faults host.old) (H.faults host.new) }
 {
     match settled(script_asking(alloc, db, statement))? {
-        Ok(script) => run_script(alloc, host, &script, true),
+        Ok(script) => run_script(alloc, host, &script, telling),
+        Err(_) => unreachable!(),
+    }
+}
+
+/// Opens a database and shows its header and its pages. Of the opening it says only why it is refused.
+fn run_stat<H: Host>(alloc: Global, host: &mut H, db: &Name) -> Result<Status, Stop>
+    requires askable { IsAskable (plan_of db.now (ShowHeader ∷ ShowPages ∷ [])) }
+    ensures runs { (account : Account) (given : Given) → IsTrue H.tells → Knows (H.world host.old).files account (Ok (ToRun (plan_of db.now (ShowHeader ∷ ShowPages ∷ [])) Telling.Quietly)) → MayBeGiven given
+        → Foretells given (H.world host.old) (H.world host.new)
+        → RunsTo result (H.world host.old) (H.world host.new) (Ok (ToRun (plan_of db.now (ShowHeader ∷ ShowPages ∷ [])) Telling.Quietly)) account given }
+    ensures grows { (account : Account) → IsTrue H.tells → Knows (H.world host.old).files account (Ok (ToRun (plan_of db.now (ShowHeader ∷ ShowPages ∷ [])) Telling.Quietly)) → Grows (H.world host.old) (H.world host.new) }
+    ensures done { IfOk result (λ status. (status ≡ Status.Done) ⊎ (status ≡ Status.Refused)) }
+    ensures cause { CountsStop result (H.faults host.old) (H.faults host.new) }
+{
+    match settled(script_showing(alloc, db))? {
+        Ok(script) => run_script(alloc, host, &script, Telling::Quietly),
         Err(_) => unreachable!(),
     }
 }
@@ -84,10 +104,29 @@ fn run_job<H: Host>(alloc: Global, host: &mut H, job: &Job) -> Result<Status, St
                     level: *level,
                     name,
                 },
+                Telling::Quietly,
             )
         }
-        Job::Lock { db } => run_asking(alloc, host, db, Statement::BeginBackup),
-        Job::Unlock { db } => run_asking(alloc, host, db, Statement::EndBackup),
+        Job::BackupSince { guid, db, file } => {
+            let name = file.copied();
+            run_asking(
+                alloc,
+                host,
+                db,
+                Statement::BackupSince { guid: *guid, name },
+                Telling::Quietly,
+            )
+        }
+        Job::Stat { db } => run_stat(alloc, host, db),
+        Job::Lock { db } => run_asking(alloc, host, db, Statement::BeginBackup, Telling::Quietly),
+        Job::LockWithSize { db } => run_asking(
+            alloc,
+            host,
+            db,
+            Statement::BeginBackup,
+            Telling::WithSize,
+        ),
+        Job::Unlock { db } => run_asking(alloc, host, db, Statement::EndBackup, Telling::Quietly),
         _ => unreachable!(),
     }
 }
@@ -119,9 +158,9 @@ fn do_job<H: Host>(alloc: Global, words: &[String], host: &mut H) -> Result<Stat
 
 /// Does the job that the words name, which are those of the command line without the program's own name.
 ///
-/// It says one line for each reply; a job that makes, begins or ends a backup says nothing of the opening but why it is refused. Words that
-/// name no job that is done today, and a script that cannot be read, are refused to session 0. Where a call of the host fails or memory runs out, the
-/// run ends at once and says nothing more.
+/// It says one line for each reply; a job that makes, begins or ends a backup, or shows the statistics, says nothing of the opening but why
+/// it is refused. Words that name no job that is done today, and a script that cannot be read, are refused to session 0. Where a call of the
+/// host fails or memory runs out, the run ends at once and says nothing more.
 pub fn run<H: Host>(alloc: Global, words: &[String], host: &mut H) -> Status
     // The count of the host's faults rises in this call exactly where the answer is Device.
     ensures device { result ≡ Status.Device → Rose (H.faults host.old) (H.faults host.new) }

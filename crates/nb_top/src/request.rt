@@ -1,7 +1,8 @@
 // What the words ask for: a job that is done today, and the script of a job that opens a database.
-ghost use Rattle.std.specs.Prelude.{◌≡◌, ◌⊎◌, None, Some, map, string_bytes, IsTrue, IfOk, IfErr};
+ghost use Rattle.std.specs.Prelude.{◌≡◌, ◌⊎◌, [], ◌∷◌, None, Some, map, string_bytes, IsTrue, IfOk, IfErr};
 ghost use Rattle.nb_host.specs.declared.faults.Fault.TheVariants.{Memory as MemoryFault, Refused as RefusedFault};
 ghost use Rattle.nb_host.specs.declared.refusals.Refusal.TheVariants.{Usage as UsageRefusal};
+ghost use Rattle.nb_model.specs.declared.statement.Statement.TheVariants.{ShowHeader, ShowPages};
 ghost use Rattle.nb_top.specs.Requests.{FitsJob, is_job_built, job_asked, plan_of};
 
 use nb_host::{Fault, Name, Refusal};
@@ -20,8 +21,11 @@ fn is_built(job: &Job) -> bool
         job,
         Job::Run { .. }
             | Job::Backup { .. }
+            | Job::BackupSince { .. }
             | Job::Restore { .. }
+            | Job::Stat { .. }
             | Job::Lock { .. }
+            | Job::LockWithSize { .. }
             | Job::Unlock { .. }
             | Job::Fixup { .. }
     )
@@ -44,7 +48,7 @@ pub(crate) fn read_built(alloc: Global, words: &[String]) -> Result<Job, Fault>
 
 /// The script of a job that opens a database and asks it one thing, in session 1.
 pub(crate) fn script_asking(alloc: Global, db: &Name, statement: Statement) -> Result<Script, Fault>
-    ensures script { IfOk result (λ script. script ≡ plan_of db.now statement) }
+    ensures script { IfOk result (λ script. script ≡ plan_of db.now (statement ∷ [])) }
     ensures only_memory { IfErr result (λ fault. fault ≡ MemoryFault) }
 {
     let first = Statement::OpenDb {
@@ -53,5 +57,15 @@ pub(crate) fn script_asking(alloc: Global, db: &Name, statement: Statement) -> R
     };
     let mut script = Script::new(alloc, 1, first, Vec::new(alloc));
     script.add(1, statement)?;
+    Ok(script)
+}
+
+/// The script of the job that shows the header of a database and its pages.
+pub(crate) fn script_showing(alloc: Global, db: &Name) -> Result<Script, Fault>
+    ensures script { IfOk result (λ script. script ≡ plan_of db.now (ShowHeader ∷ ShowPages ∷ [])) }
+    ensures only_memory { IfErr result (λ fault. fault ≡ MemoryFault) }
+{
+    let mut script = script_asking(alloc, db, Statement::ShowHeader)?;
+    script.add(1, Statement::ShowPages)?;
     Ok(script)
 }

@@ -13,7 +13,7 @@ ghost use Rattle.nb_model.specs.Outcomes.{Given};
 ghost use Rattle.nb_model.specs.Run.{Now, base_now, begun};
 ghost use Rattle.nb_model.specs.Steps.{after_steps, steps_in};
 ghost use Rattle.nb_model.specs.Strokes.{Stroke};
-ghost use Rattle.nb_model.specs.Trail.{settled as settled_trail};
+ghost use Rattle.nb_model.specs.Trail.{Trail, settled as settled_trail};
 ghost use Rattle.nb_model.specs.declared.reply.Reply.TheVariants.{Refused as RefusedReply};
 ghost use Rattle.nb_model.specs.declared.statement.Statement.TheVariants.{CreateDb, OpenDb};
 ghost use Rattle.nb_state.specs.Beginnings.{Attaches, Creates};
@@ -22,15 +22,16 @@ ghost use Rattle.nb_session.specs.Acts.{Grows};
 ghost use Rattle.nb_session.specs.Causes.{CountsStop};
 ghost use Rattle.nb_session.specs.Ready.{IsReady};
 ghost use Rattle.nb_session.specs.Says.{SaysLine};
-ghost use Rattle.nb_top.specs.Performed.{Knows, MayBeGiven, RunsTo, PlaysOpened, first_event, opened_reply, told_first, number_of};
+ghost use Rattle.nb_top.specs.Performed.{BeginsAlone, Knows, MayBeGiven, RunsTo, PlaysOpened, PlaysTold, first_event, is_all, opened_reply, told_first, number_of};
 ghost use Rattle.nb_top.specs.Requests.{ToRun};
 
 use crate::Status;
+use crate::telling::Telling;
 use nb_engine::Engine;
 use nb_host::{Fault, Host, Refusal};
 use nb_model::{Reply, Statement};
 use nb_script::Script;
-use nb_session::{Stop, say, take_turns};
+use nb_session::{Stop, begin_sized, say, take_turns};
 use std::alloc::Global;
 
 /// What was answered: a value or a refusal; otherwise the run ends.
@@ -95,9 +96,9 @@ fn open<H: Host>(alloc: Global, host: &mut H, first: &Statement) -> Result<Engin
             name,
             page_size,
             raw,
-            ..
-        } => Engine::create(alloc, host, name, *page_size, *raw),
-        Statement::OpenDb { name, .. } => Engine::attach(alloc, host, name),
+            cache,
+        } => Engine::create(alloc, host, name, *page_size, *raw, *cache),
+        Statement::OpenDb { name, cache } => Engine::attach(alloc, host, name, *cache),
         _ => unreachable!(),
     }
 }
@@ -112,47 +113,74 @@ fn first_reply(first: &Statement, pages: u32, state: u16) -> Reply
     }
 }
 
-/// Says the reply of the first statement that has opened the database. A quiet run says nothing of it.
+/// Says the reply of the first statement that has opened the database, where every reply is told.
 fn say_opened<H: Host>(
     alloc: Global,
     host: &mut H,
     engine: &Engine,
     script: &Script,
-    is_quiet: bool,
+    telling: Telling,
 ) -> Result<(), Stop>
     ensures line { IsTrue H.tells → SaysLine result (H.world host.old) (H.world host.new)
-        (if is_quiet then [] else line_text script.now.first_session (opened_reply script.now.first engine.now.files.count engine.now.files.state)) }
+        (if is_all telling then line_text script.now.first_session (opened_reply script.now.first engine.now.files.count engine.now.files.state) else []) }
     ensures gave { GaveNothing (H.world host.old) (H.world host.new) }
     ensures cause { CountsStop result (H.faults host.old) (H.faults host.new) }
 {
-    if is_quiet {
-        return Ok(());
+    match telling {
+        Telling::Quietly | Telling::WithSize => Ok(()),
+        Telling::All => {
+            let reply = first_reply(script.first(), engine.count(), engine.store().state());
+            say_line(alloc, host, script.first_session(), &reply)
+        }
     }
-    let reply = first_reply(script.first(), engine.count(), engine.store().state());
-    say_line(alloc, host, script.first_session(), &reply)
 }
 
-/// Says the reply of the first statement, where the run isn't quiet, and then the sessions take their turns. Answers whether a statement
+/// The sessions take their turns. Where a begin is told with the number of pages, it is all that the script does. Answers whether a statement
+/// was refused.
+fn take_told<H: Host>(
+    alloc: Global,
+    host: &mut H,
+    engine: &mut Engine,
+    script: &Script,
+    telling: Telling,
+) -> Result<bool, Stop>
+    requires askable { IsAskable script.now }
+    requires sized { telling ≡ Telling.WithSize → BeginsAlone script.now }
+    ensures plays { (now : Now) (t : Trail) → IsTrue H.tells → IsReady (H.world host.old) engine.old t now → now.todo ≡ begun script.now.sessions → IsMaking now
+        → Foretells now.given (H.world host.old) (H.world host.new)
+        → PlaysTold result (H.world host.old) (H.world host.new) engine.old engine.new t telling engine.old.files.count now script.now.schedule }
+    ensures grows { (now : Now) (t : Trail) → IsTrue H.tells → IsReady (H.world host.old) engine.old t now → now.todo ≡ begun script.now.sessions → IsMaking now
+        → Grows (H.world host.old) (H.world host.new) }
+    ensures cause { CountsStop result (H.faults host.old) (H.faults host.new) }
+{
+    match telling {
+        Telling::WithSize => begin_sized(alloc, host, engine),
+        Telling::All | Telling::Quietly => take_turns(alloc, host, engine, script),
+    }
+}
+
+/// Says the reply of the first statement, where every reply is told, and then the sessions take their turns. Answers whether a statement
 /// was refused.
 fn run_opened<H: Host>(
     alloc: Global,
     host: &mut H,
     engine: &mut Engine,
     script: &Script,
-    is_quiet: bool,
+    telling: Telling,
 ) -> Result<bool, Stop>
-    requires { IsAskable script.now }
+    requires askable { IsAskable script.now }
+    requires sized { telling ≡ Telling.WithSize → BeginsAlone script.now }
     ensures plays { (now : Now) (start : Base) (strokes : List Stroke) → IsTrue H.tells → IsReady (H.world host.old) engine.old (settled_trail (base_now now)) now → now.todo ≡ begun script.now.sessions
         → IsMaking now → Foretells now.given (H.world host.old) (H.world host.new)
         → after_steps (settled_trail start) (steps_in (first_event script.now.first_session strokes (opened_reply script.now.first engine.old.files.count engine.old.files.state))) ≡ settled_trail (base_now now)
         → PlaysOpened result (H.world host.old) (H.world host.new) engine.old engine.new start
-        (told_first is_quiet (first_event script.now.first_session strokes (opened_reply script.now.first engine.old.files.count engine.old.files.state))) now script.now }
+        (told_first telling (first_event script.now.first_session strokes (opened_reply script.now.first engine.old.files.count engine.old.files.state))) telling engine.old.files.count now script.now }
     ensures grows { (now : Now) → IsTrue H.tells → IsReady (H.world host.old) engine.old (settled_trail (base_now now)) now → now.todo ≡ begun script.now.sessions → IsMaking now
         → Grows (H.world host.old) (H.world host.new) }
     ensures cause { CountsStop result (H.faults host.old) (H.faults host.new) }
 {
-    say_opened(alloc, host, engine, script, is_quiet)?;
-    take_turns(alloc, host, engine, script)
+    say_opened(alloc, host, engine, script, telling)?;
+    take_told(alloc, host, engine, script, telling)
 }
 
 /// The status of a run to its end.
@@ -167,24 +195,25 @@ fn ended(refused: bool) -> Status
     }
 }
 
-/// Runs a script: its first statement, and then the turns of its sessions to their end. A first statement that is refused ends it. A
-/// quiet run says of the first statement only why it is refused.
+/// Runs a script: its first statement, and then the turns of its sessions to their end, and tells so much of it. A first statement that is
+/// refused ends it.
 pub fn run_script<H: Host>(
     alloc: Global,
     host: &mut H,
     script: &Script,
-    is_quiet: bool,
+    telling: Telling,
 ) -> Result<Status, Stop>
-    requires { IsAskable script.now }
-    ensures runs { (account : Account) (given : Given) → IsTrue H.tells → Knows (H.world host.old).files account (Ok (ToRun script.now is_quiet)) → MayBeGiven given → Foretells given (H.world host.old) (H.world host.new)
-        → RunsTo result (H.world host.old) (H.world host.new) (Ok (ToRun script.now is_quiet)) account given }
-    ensures grows { (account : Account) → IsTrue H.tells → Knows (H.world host.old).files account (Ok (ToRun script.now is_quiet)) → Grows (H.world host.old) (H.world host.new) }
+    requires askable { IsAskable script.now }
+    requires sized { telling ≡ Telling.WithSize → BeginsAlone script.now }
+    ensures runs { (account : Account) (given : Given) → IsTrue H.tells → Knows (H.world host.old).files account (Ok (ToRun script.now telling)) → MayBeGiven given → Foretells given (H.world host.old) (H.world host.new)
+        → RunsTo result (H.world host.old) (H.world host.new) (Ok (ToRun script.now telling)) account given }
+    ensures grows { (account : Account) → IsTrue H.tells → Knows (H.world host.old).files account (Ok (ToRun script.now telling)) → Grows (H.world host.old) (H.world host.new) }
     ensures done { IfOk result (λ status. (status ≡ Status.Done) ⊎ (status ≡ Status.Refused)) }
     ensures cause { CountsStop result (H.faults host.old) (H.faults host.new) }
 {
     match settled(open(alloc, host, script.first()))? {
         Ok(mut engine) => {
-            let refused = run_opened(alloc, host, &mut engine, script, is_quiet)?;
+            let refused = run_opened(alloc, host, &mut engine, script, telling)?;
             Ok(ended(refused))
         }
         Err(refusal) => refuse(alloc, host, script.first_session(), refusal),

@@ -3,14 +3,16 @@ use crate::Status;
 use crate::backup_tests::{difference, with_part};
 use crate::restore_tests::run_words;
 use crate::tests::{FIRST_RUN, host_after, lines_of, replies_of, run_text, says};
+use nb_host::Name;
 use nb_mem::MemHost;
 use std::alloc::Global;
 use std::test::Fail;
 
-/// A script, a second one that opens the database and reads it, and what that may say: each row has a number of replies of the first and
-/// the lines of the second, ended by a `|` each. So many picks are tried of what each stop leaves.
+/// What was run before, if anything, a script, a third one that opens the database and reads it, and what that may say: each row has a number
+/// of replies of the script and the lines of the third, ended by a `|` each. So many picks are tried of what each stop leaves.
 #[derive(Clone, Copy)]
 struct Case {
+    before: &'static str,
     script: &'static str,
     look: &'static str,
     rows: &'static str,
@@ -59,11 +61,11 @@ fn ends_well(alloc: Global, host: &mut MemHost, look: &str, lines: &[u8]) -> Res
     Ok(is_ended(alloc, host, state)? && lines_of(alloc, host, look)? == ended)
 }
 
-/// Whether what stands of the database is right after so many replies. Nothing need stand before the first.
+/// Whether what stands of the database is right after so many replies. Where the script creates it, nothing need stand before the first.
 fn is_right(alloc: Global, host: &mut MemHost, case: Case, replies: usize) -> Result<bool, Fail> {
     let lines = lines_of(alloc, host, case.look)?;
     if lines.starts_with(b"1: refused") {
-        return Ok(replies == 0);
+        return Ok(replies == 0 && case.before.is_empty());
     }
     Ok(is_row(alloc, case.rows, replies, &lines)? && ends_well(alloc, host, case.look, &lines)?)
 }
@@ -91,16 +93,40 @@ fn stopped_at(alloc: Global, script: &str, call: u64) -> Result<MemHost, Fail> {
     Ok(host)
 }
 
+/// Places the files of the database that the script before leaves.
+fn place_before(alloc: Global, host: &mut MemHost, case: Case) -> Result<(), Fail> {
+    if case.before.is_empty() {
+        return Ok(());
+    }
+    let before = host_after(alloc, case.before)?;
+    for text in ["a.db", "a.db.delta"] {
+        let name = Name::read(text).ok_or("no name")?;
+        if let Some(bytes) = before.file(&name) {
+            host.put_file(&name, bytes)?;
+        }
+    }
+    Ok(())
+}
+
 /// Whether the script may be stopped at this call.
 fn may_stop(alloc: Global, case: Case, call: u64) -> Result<bool, Fail> {
-    let host = stopped_at(alloc, case.script, call)?;
+    let mut host = MemHost::fused(alloc, call)?;
+    place_before(alloc, &mut host, case)?;
+    run_text(alloc, &mut host, case.script)?;
     Ok(wrong_pick(alloc, &host, case)?.is_none())
+}
+
+/// How many calls the script makes.
+fn calls_of(alloc: Global, case: Case) -> Result<u64, Fail> {
+    let mut host = MemHost::new(alloc)?;
+    place_before(alloc, &mut host, case)?;
+    run_text(alloc, &mut host, case.script)?;
+    Ok(host.calls())
 }
 
 /// The first host call at which a stop leaves something wrong.
 fn wrong_stop(alloc: Global, case: Case) -> Result<Option<u64>, Fail> {
-    let whole = host_after(alloc, case.script)?;
-    for call in 1..=whole.calls() {
+    for call in 1..=calls_of(alloc, case)? {
         if !may_stop(alloc, case, call)? {
             return Ok(Some(call));
         }
@@ -111,6 +137,7 @@ fn wrong_stop(alloc: Global, case: Case) -> Result<Option<u64>, Fail> {
 /// Whether this call may fail: what stands then is right, and so is what a stop leaves of it.
 fn may_fail(alloc: Global, case: Case, call: u64) -> Result<bool, Fail> {
     let mut host = MemHost::failing(alloc, &[call])?;
+    place_before(alloc, &mut host, case)?;
     let status = run_text(alloc, &mut host, case.script)?;
     let replies = replies_of(&host);
     Ok(
@@ -122,8 +149,7 @@ fn may_fail(alloc: Global, case: Case, call: u64) -> Result<bool, Fail> {
 
 /// The first host call that, where it fails, leaves something wrong.
 fn wrong_failure(alloc: Global, case: Case) -> Result<Option<u64>, Fail> {
-    let whole = host_after(alloc, case.script)?;
-    for call in 1..=whole.calls() {
+    for call in 1..=calls_of(alloc, case)? {
         if !may_fail(alloc, case, call)? {
             return Ok(Some(call));
         }
@@ -133,6 +159,7 @@ fn wrong_failure(alloc: Global, case: Case) -> Result<Option<u64>, Fail> {
 
 /// A backup under which a page is written, one is new and one is given back.
 const BACKUP: Case = Case {
+    before: "",
     script: "1: create database 'a.db' page_size 1024 raw 8
 1: write 6 'a'
 1: alter database begin backup
@@ -174,8 +201,56 @@ fn a_backup_failing(rt: HostRuntime) -> Result<(), Fail> {
     Ok(())
 }
 
+/// A database is opened in the normal state, and written.
+const OPENED: Case = Case {
+    before: "1: create database 'a.db' page_size 1024 raw 8\n1: write 6 'a'\n",
+    script: "1: open 'a.db'\n1: write 6 'b'\n1: page new\n",
+    look: "1: open 'a.db'\n1: read 6\n1: read 13\n",
+    rows: "0|1: ok pages 13 state 0|1: ok 'a'|1: refused 9 PageRange 13 13|
+1|1: ok pages 13 state 0|1: ok 'a'|1: refused 9 PageRange 13 13|
+1|1: ok pages 13 state 0|1: ok 'b'|1: refused 9 PageRange 13 13|
+2|1: ok pages 13 state 0|1: ok 'b'|1: refused 9 PageRange 13 13|
+2|1: ok pages 14 state 0|1: ok 'b'|1: refused 10 NotAllocated 13|
+2|1: ok pages 14 state 0|1: ok 'b'|1: ok ''|
+3|1: ok pages 14 state 0|1: ok 'b'|1: ok ''|
+",
+    picks: 8,
+};
+
+/// One is opened in the stalled state, written, and merged.
+const OPENED_STALLED: Case = Case {
+    before: "1: create database 'a.db' page_size 1024 raw 8\n1: alter database begin backup\n1: write 6 'a'\n",
+    script: "1: open 'a.db'\n1: write 6 'b'\n1: alter database end backup\n",
+    look: "1: open 'a.db'\n1: read 6\n",
+    rows: "0|1: ok pages 13 state 1|1: ok 'a'|
+1|1: ok pages 13 state 1|1: ok 'a'|
+1|1: ok pages 13 state 1|1: ok 'b'|
+2|1: ok pages 13 state 1|1: ok 'b'|
+2|1: ok pages 13 state 2|1: ok 'b'|
+2|1: ok pages 13 state 0|1: ok 'b'|
+3|1: ok pages 13 state 0|1: ok 'b'|
+",
+    picks: 8,
+};
+
+/// Before its opening is answered nothing of a database has changed, and from then on a stop leaves what was acknowledged.
+#[test]
+fn opened_and_stopped(rt: HostRuntime) -> Result<(), Fail> {
+    assert_eq!(rt; wrong_stop(rt.alloc(), OPENED)?, None);
+    assert_eq!(rt; wrong_stop(rt.alloc(), OPENED_STALLED)?, None);
+    Ok(())
+}
+
+#[test]
+fn opened_and_failing(rt: HostRuntime) -> Result<(), Fail> {
+    assert_eq!(rt; wrong_failure(rt.alloc(), OPENED)?, None);
+    assert_eq!(rt; wrong_failure(rt.alloc(), OPENED_STALLED)?, None);
+    Ok(())
+}
+
 /// A second session writes a page that the first has merged already.
 const MERGE: Case = Case {
+    before: "",
     script: "1: create database 'a.db' page_size 1024 raw 8
 schedule 1 1 1 1 1 1 1 1 1 2
 1: alter database begin backup
@@ -275,6 +350,7 @@ fn merge_with_a_second_session(rt: HostRuntime) -> Result<(), Fail> {
 /// Under seed 8, of the five entries of a merge the first two are merged one by one between other sessions' writes, new pages and frees, on
 /// pages that are merged already, that are to be merged, and others.
 const SEEDED: Case = Case {
+    before: "",
     script: "1: create database 'a.db' page_size 1024 raw 8
 seed 8
 1: alter database begin backup

@@ -1,5 +1,4 @@
 use Rattle.std.proofs.Common.{ℕ, ◌∙◌}
-use Rattle.nb_state.proofs.MakesLaws.{open_still}
 use Rattle.nb_engine.specs.Make.{new_of}
 use Rattle.nb_engine.proofs.FindLaws.{lowest_is}
 use Rattle.nb_engine.proofs.PlaceTests.{first_place, room_tested, room_found, way_begins}
@@ -9,22 +8,22 @@ use Rattle.nb_engine.proofs.find.check_new.Goals as goal
 pub returns-in_err-check_places-clause-test : goal.returns-in_err-check_places-clause-test
 returns-in_err-check_places-clause-test g c t kind payload tells is header sound =
     let image = t.base.image in
-    let still = open_still _ _ _ _ t c.in_ok-page.ensures.same c.in_ok-page.ensures.quiet is in
+    let still = c.in_ok-page.ensures.open t tells is in
     let first = first_place image c.in_ok-page.page (c.in_ok-page.ensures.value t tells is) in
     room_tested (Unit {0}) ℕ _ _ image (new_of kind payload image).0 c.from_residual-in_err-check_places.ensures
-    (c.in_err-check_places.ensures.full t tells still first (c.in_ok-page.ensures.map t tells is) sound) (has_none kind (λ p. payload) image header sound)
+    (c.in_err-check_places.ensures.full t tells still first (c.in_ok-page.ensures.map t tells is) sound) (has_none kind payload image header sound)
 
 pub returns-clause-test : goal.returns-clause-test
 returns-clause-test g c t kind payload tells is header sound =
     let image = t.base.image in
-    let still = open_still _ _ _ _ t c.in_ok-page.ensures.same c.in_ok-page.ensures.quiet is in
+    let still = c.in_ok-page.ensures.open t tells is in
     let first = first_place image c.in_ok-page.page (c.in_ok-page.ensures.value t tells is) in
     let way = c.in_ok-check_places.ensures.tested t tells still first (c.in_ok-page.ensures.map t tells is) in
-    room_found (new_of kind payload image).0 (has_page kind (λ p. payload) image header sound way.end way.room)
+    room_found (new_of kind payload image).0 (has_page kind payload image header sound way.end way.room)
 
 pub returns-clause-tested : goal.returns-clause-tested
 returns-clause-tested g c t tells is =
-    let still = open_still _ _ _ _ t c.in_ok-page.ensures.same c.in_ok-page.ensures.quiet is in
+    let still = c.in_ok-page.ensures.open t tells is in
     let first = first_place t.base.image c.in_ok-page.page (c.in_ok-page.ensures.value t tells is) in
     way_begins t.base.image c.in_ok-page.page (c.in_ok-page.ensures.value t tells is) (c.in_ok-check_places.ensures.tested t tells still first (c.in_ok-page.ensures.map t tells is))
 
@@ -33,5 +32,5 @@ returns-clause-value g c t tells is = c.in_ok-page.ensures.value t tells is ∙ 
 
 pub returns-clause-map : goal.returns-clause-map
 returns-clause-map g c t tells is =
-    let still = open_still _ _ _ _ t c.in_ok-page.ensures.same c.in_ok-page.ensures.quiet is in
+    let still = c.in_ok-page.ensures.open t tells is in
     c.in_ok-check_places.ensures.map t tells still (c.in_ok-page.ensures.map t tells is)

@@ -5,8 +5,9 @@ use Rattle.nb_fields.specs.Places.{is_page_size, is_system_place}
 use Rattle.nb_page.proofs.QuietLemmas.{quiet_joined}
 use Rattle.nb_model.specs.Image.{image_size}
 use Rattle.nb_model.specs.Causes.{Cause}
+use Rattle.nb_model.specs.Trail.{Trail}
+use Rattle.nb_state.specs.Open.{IsOpen}
 use Rattle.nb_state.specs.Does.{Tested}
-use Rattle.nb_state.proofs.MakesLaws.{open_still}
 use Rattle.nb_engine.specs.Find.{HoldsMap}
 use Rattle.nb_engine.proofs.PlaceTests.{not_asked, place_behind, room_at, ready_sound, ready_on, way_ends}
 use Rattle.nb_engine.proofs.find.check_places.Goals as goal
@@ -15,23 +16,25 @@ pub loop-place-preserved : goal.loop-place-preserved
 loop-place-preserved g c =
     let same = c.in_ok-check_place.ensures.same ∙ c.loop-place.invariant.same in
     let quiet = quiet_joined _ _ _ c.loop-place.invariant.quiet c.in_ok-check_place.ensures.quiet in
+    let after = λ (t : Trail) (tells : IsTrue g.H.Host.tells) (is : IsOpen (g.H.Host.world c.args.host.now) c.args.store.now t). c.in_ok-check_place.ensures.open t tells (c.loop-place.invariant.opened t tells is) in
     record {
       behind = omega (arith, c.loop-place.invariant.behind, c.in_ok-place.ensures.not_before);
       next = λ t tells is first.
-          let still = open_still _ _ _ _ t same quiet is in
+          let still = after t tells is in
           let system : is_system_place (image_size t.base.image) c.loop-place.place ≡ true =
           ap (λ (s : ℕ). is_system_place s c.loop-place.place) (sym (c.page_size-page_size.ensures.value ∙ is.files.agrees.page_size)) ∙ sym c.is_system_place.ensures ∙ c.if-not-is_system_place.false in
           place_behind t.base.image c.loop-place.place c.in_ok-place.place (c.loop-place.invariant.next t tells is first) system (c.in_ok-place.ensures.value t tells still);
-      ends = λ t tells is ends. c.in_ok-place.ensures.map t tells (open_still _ _ _ _ t same quiet is);
+      ends = λ t tells is ends. c.in_ok-place.ensures.map t tells (after t tells is);
       ready = λ t tells is ends.
-          let before = open_still _ _ _ _ t c.loop-place.invariant.same c.loop-place.invariant.quiet is in
+          let before = c.loop-place.invariant.opened t tells is in
           ready_on t.base.image c.args.first c.loop-place.place c.in_ok-place.place (c.loop-place.invariant.ready t tells is ends)
-          (c.in_ok-check_place.ensures.test t tells before (c.loop-place.invariant.ends t tells is ends)) (c.in_ok-place.ensures.value t tells (open_still _ _ _ _ t same quiet is));
+          (c.in_ok-check_place.ensures.test t tells before (c.loop-place.invariant.ends t tells is ends)) (c.in_ok-place.ensures.value t tells (after t tells is));
       plain = λ plain.
           absurd (true≢false (sym (sym c.is_system_place.ensures ∙ c.if-not-is_system_place.false)
           ∙ ap (λ (s : ℕ). is_system_place s c.loop-place.place) c.page_size-page_size.ensures.value ∙ ap (is_system_place c.args.store.now.files.page_size) (c.loop-place.invariant.plain plain) ∙ plain));
       map_room = c.in_ok-place.ensures.room ∙ c.in_ok-check_place.ensures.map_room ∙ c.loop-place.invariant.map_room;
       scn_room = c.in_ok-check_place.ensures.scn_room ∙ c.loop-place.invariant.scn_room;
+      opened = λ t tells is. c.in_ok-place.ensures.open t tells (after t tells is);
       same = c.in_ok-place.ensures.same ∙ same;
       quiet = quiet_joined _ _ _ quiet c.in_ok-place.ensures.quiet;
       cause = c.in_ok-place.ensures.cause ∙ c.in_ok-check_place.ensures.cause ∙ c.loop-place.invariant.cause;
@@ -39,7 +42,7 @@ loop-place-preserved g c =
 
 pub returns-in_err-check_place-clause-full : goal.returns-in_err-check_place-clause-full
 returns-in_err-check_place-clause-full g c t tells is next ends sound =
-    let still = open_still _ _ _ _ t c.loop-place.invariant.same c.loop-place.invariant.quiet is in
+    let still = c.loop-place.invariant.opened t tells is in
     let size : IsTrue (is_page_size (image_size t.base.image)) = subst (λ (s : ℕ). IsTrue (is_page_size s)) (c.page_size-page_size.ensures.value ∙ is.files.agrees.page_size) c.page_size-page_size.ensures.one_of in
     not_asked (Unit {0}) (Unit {0}) _ _ t.base.image c.from_residual.ensures
     (subst (λ (cause : Cause). Tested {T = Unit {0}} (Err c.in_err-check_place.field-0.0) cause) (ready_sound t.base.image c.loop-place.place size sound)
@@ -47,7 +50,7 @@ returns-in_err-check_place-clause-full g c t tells is next ends sound =
 
 pub returns-then-not-is_system_place-clause-tested : goal.returns-then-not-is_system_place-clause-tested
 returns-then-not-is_system_place-clause-tested g c t tells is next ends =
-    let still = open_still _ _ _ _ t c.loop-place.invariant.same c.loop-place.invariant.quiet is in
+    let still = c.loop-place.invariant.opened t tells is in
     let plain : is_system_place (image_size t.base.image) c.loop-place.place ≡ false =
     ap (λ (s : ℕ). is_system_place s c.loop-place.place) (sym (c.page_size-page_size.ensures.value ∙ is.files.agrees.page_size)) ∙ sym c.is_system_place.ensures ∙ c.if-not-is_system_place.true in
     way_ends t.base.image c.args.first c.loop-place.place (c.loop-place.invariant.ready t tells is ends) (c.in_ok-check_place.ensures.test t tells still (c.loop-place.invariant.ends t tells is ends))
@@ -55,11 +58,11 @@ returns-then-not-is_system_place-clause-tested g c t tells is next ends =
 
 pub returns-in_err-place-clause-full : goal.returns-in_err-place-clause-full
 returns-in_err-place-clause-full g c t tells is next ends sound =
-    let still = open_still _ _ _ _ t (c.in_ok-check_place.ensures.same ∙ c.loop-place.invariant.same) (quiet_joined _ _ _ c.loop-place.invariant.quiet c.in_ok-check_place.ensures.quiet) is in
+    let still = c.in_ok-check_place.ensures.open t tells (c.loop-place.invariant.opened t tells is) in
     not_asked ℕ (Unit {0}) _ _ t.base.image c.from_residual-in_err-place.ensures (c.in_err-place.ensures.sound t tells still sound)
 
 pub returns-then-not-is_system_place-clause-map : goal.returns-then-not-is_system_place-clause-map
 returns-then-not-is_system_place-clause-map g c t tells is ends plain =
-    let still = open_still _ _ _ _ t c.loop-place.invariant.same c.loop-place.invariant.quiet is in
+    let still = c.loop-place.invariant.opened t tells is in
     let same : c.loop-place.place ≡ c.args.first = c.loop-place.invariant.plain (ap (λ (s : ℕ). is_system_place s c.args.first) is.files.agrees.page_size ∙ plain) in
     subst (λ (p : ℕ). HoldsMap t.base.image p c.check_place.new.map) same (c.in_ok-check_place.ensures.map t tells still (c.loop-place.invariant.ends t tells is ends)) plain

@@ -3,7 +3,7 @@ use Rattle.std.specs.Prelude.{false}
 use Rattle.nb_fields.specs.Places.{is_system_place}
 use Rattle.nb_page.specs.Quiet.{Quiet}
 use Rattle.nb_model.specs.Trail.{Trail}
-use Rattle.nb_state.specs.Open.{IsOpen}
+use Rattle.nb_state.specs.Open.{IsOpen, but_pages}
 use Rattle.nb_engine.specs.Find.{IsNextPlace, EndsAt}
 use Rattle.nb_engine.proofs.PlaceTests.{AreReady}
 use Rattle.nb_engine.proofs.find.check_places.Given as goal
@@ -17,7 +17,8 @@ invariant-loop-place g l = record {
   plain : is_system_place l.fn.store.files.page_size l.fn.first ≡ false → l.place ≡ l.fn.first;
   map_room : length l.map ≡ length l.fn.map;
   scn_room : length l.scn_page ≡ length l.fn.scn_page;
-  same : l.store ≡ l.fn.store;
+  opened : (t : Trail) → IsTrue g.H.Host.tells → IsOpen (g.H.Host.world l.fn.host) l.fn.store t → IsOpen (g.H.Host.world l.host) l.store t;
+  same : but_pages l.store ≡ but_pages l.fn.store;
   quiet : Quiet (g.H.Host.world l.fn.host) (g.H.Host.world l.host);
   cause : g.H.Host.faults l.host ≡ g.H.Host.faults l.fn.host;
 }

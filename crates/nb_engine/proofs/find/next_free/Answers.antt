@@ -7,14 +7,13 @@ use Rattle.nb_model.specs.Image.{image_size}
 use Rattle.nb_model.specs.Causes.{Cause}
 use Rattle.nb_state.specs.Open.{Held}
 use Rattle.nb_state.specs.Does.{Tested}
-use Rattle.nb_state.proofs.MakesLaws.{open_still}
 use Rattle.nb_engine.proofs.FindLaws.{some_near, taken_behind, found_near, found_none, map_near, map_behind, map_last, inventory_sound}
 use Rattle.nb_engine.proofs.PlaceTests.{never_refused}
 use Rattle.nb_engine.proofs.find.next_free.Goals as goal
 
 pub returns-in_err-free-clause-sound : goal.returns-in_err-free-clause-sound
 returns-in_err-free-clause-sound g c t tells is sound =
-    let still = open_still _ _ _ _ t c.loop-page.invariant.same c.loop-page.invariant.quiet is in
+    let still = c.loop-page.invariant.opened t tells is in
     let low : c.loop-page.page < length t.base.image = omega (arith, is.files.agrees.count, c.count-count.ensures.value, c.loop-page-test.true) in
     let size : IsTrue (is_page_size (image_size t.base.image)) = subst (λ (s : ℕ). IsTrue (is_page_size s)) (c.page_size-page_size.ensures.value ∙ is.files.agrees.page_size) c.page_size-page_size.ensures.one_of in
     never_refused (Option ℕ) ℕ _ _ _ c.from_residual.ensures
@@ -22,7 +21,7 @@ returns-in_err-free-clause-sound g c t tells is sound =
 
 pub returns-in-Some-clause-value : goal.returns-in-Some-clause-value
 returns-in-Some-clause-value g c t tells is =
-    let still = open_still _ _ _ _ t c.loop-page.invariant.same c.loop-page.invariant.quiet is in
+    let still = c.loop-page.invariant.opened t tells is in
     found_near t.base.image c.args.from c.loop-page.page c.in-Some.free (c.loop-page.invariant.taken t tells is) c.loop-page.invariant.behind
     (some_near t.base.image c.loop-page.page _ c.in-Some.free _ c.in-Some.is (c.in_ok-free.ensures.found t tells still))
 
@@ -34,7 +33,7 @@ returns-clause-value g c t tells is =
 
 pub returns-in-Some-clause-map : goal.returns-in-Some-clause-map
 returns-in-Some-clause-map g c t tells is inside =
-    let still = open_still _ _ _ _ t c.loop-page.invariant.same c.loop-page.invariant.quiet is in
+    let still = c.loop-page.invariant.opened t tells is in
     let read = c.in_ok-free.ensures.reads t tells still in
     map_near t.base.image c.loop-page.page c.in-Some.free _ (some_near t.base.image c.loop-page.page _ c.in-Some.free _ c.in-Some.is (c.in_ok-free.ensures.found t tells still)) read.test read.page
 
@@ -48,17 +47,18 @@ pub loop-page-preserved : goal.loop-page-preserved
 loop-page-preserved g c = record {
   behind = search rules;
   taken = λ t tells is.
-      let still = open_still _ _ _ _ t c.loop-page.invariant.same c.loop-page.invariant.quiet is in
+      let still = c.loop-page.invariant.opened t tells is in
       let same = c.page_size-page_size.ensures.value ∙ ap (λ (h : Held). h.files.page_size) (sym c.loop-page.invariant.same) in
       taken_behind t.base.image c.args.from c.loop-page.page _ _ _ c.in_ok-free.field-0 same c.behind_bits-page.ensures c.in_default.is (c.loop-page.invariant.taken t tells is) (c.in_ok-free.ensures.found t tells still);
   looked = λ t tells is inside.
-      let still = open_still _ _ _ _ t c.loop-page.invariant.same c.loop-page.invariant.quiet is in
+      let still = c.loop-page.invariant.opened t tells is in
       let size = c.page_size-page_size.ensures.value ∙ is.files.agrees.page_size in
       let low : c.loop-page.page < length t.base.image = omega (arith, is.files.agrees.count, c.count-count.ensures.value, c.loop-page-test.true) in
       let least : 0 < bits_in c.page_size-page_size.result = omega (arith, bits-least c.page_size-page_size.result c.page_size-page_size.ensures.one_of) in
       let read = c.in_ok-free.ensures.reads t tells still in
       map_behind t.base.image c.page_size-page_size.result c.loop-page.page _ _ size least low c.behind_bits-page.ensures read.test read.page;
   room = c.in_ok-free.ensures.room ∙ c.loop-page.invariant.room;
+  opened = λ t tells is. c.in_ok-free.ensures.open t tells (c.loop-page.invariant.opened t tells is);
   same = c.in_ok-free.ensures.same ∙ c.loop-page.invariant.same;
   quiet = quiet_joined _ _ _ c.loop-page.invariant.quiet c.in_ok-free.ensures.quiet;
   once = search rules;

@@ -2,7 +2,7 @@ use Rattle.std.proofs.Common.{◌≡◌, ◌+◌, ◌-◌, ◌<◌, ◌≤◌, l
 use Rattle.std.specs.Prelude.{min}
 use Rattle.nb_page.specs.Quiet.{Quiet}
 use Rattle.nb_model.specs.Trail.{Trail}
-use Rattle.nb_state.specs.Open.{IsOpen}
+use Rattle.nb_state.specs.Open.{IsOpen, but_pages}
 use Rattle.nb_engine.specs.Find.{AreTaken, IsMap}
 use Rattle.nb_fields.specs.Places.{bits_in}
 use Rattle.nb_engine.proofs.FindLaws.{maps_before}
@@ -14,7 +14,8 @@ invariant-loop-page g l = record {
   taken : (t : Trail) → IsTrue g.H.Host.tells → IsOpen (g.H.Host.world l.fn.host) l.fn.store t → AreTaken t.base.image l.fn.from l.page;
   looked : (t : Trail) → IsTrue g.H.Host.tells → IsOpen (g.H.Host.world l.fn.host) l.fn.store t → l.fn.from < l.page → IsMap t.base.image (min l.page (length t.base.image) - 1) l.map;
   room : length l.map ≡ length l.fn.map;
-  same : l.store ≡ l.fn.store;
+  opened : (t : Trail) → IsTrue g.H.Host.tells → IsOpen (g.H.Host.world l.fn.host) l.fn.store t → IsOpen (g.H.Host.world l.host) l.store t;
+  same : but_pages l.store ≡ but_pages l.fn.store;
   quiet : Quiet (g.H.Host.world l.fn.host) (g.H.Host.world l.host);
   once : IsTrue g.H.Host.tells → (g.H.Host.world l.host).reads ≤ (g.H.Host.world l.fn.host).reads + maps_before (bits_in l.fn.store.files.page_size) l.fn.from l.page l.fn.store.files.count;
   cause : g.H.Host.faults l.host ≡ g.H.Host.faults l.fn.host;

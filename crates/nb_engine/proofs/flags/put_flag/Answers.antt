@@ -5,7 +5,6 @@ use Rattle.nb_model.specs.Lines.{flag}
 use Rattle.nb_model.specs.Strokes.{Stroke}
 use Rattle.nb_model.specs.Pages.{byte_strokes}
 use Rattle.nb_state.specs.Does.{Makes}
-use Rattle.nb_state.proofs.MakesLaws.{open_still}
 use Rattle.nb_engine.specs.Tries.{Tries}
 use Rattle.nb_engine.proofs.DoesLaws.{tries_early, tries_passed, tries_after, tries_made}
 use Rattle.nb_engine.proofs.FlagLaws.{byte_is, flagged-some, flag_fits, flag_strokes}
@@ -20,7 +19,7 @@ write-requires-clause-some g c =
 pub returns-in_err-read_first-clause-tries : goal.returns-in_err-read_first-clause-tries
 returns-in_err-read_first-clause-tries g c t tells is =
     let read = c.in_err-read_first.ensures in
-    tries_early (Unit {0}) (Unit {0}) _ _ _ _ _ _ t None None _ c.from_residual.ensures (λ r e. e) (read.reads t tells is).test read.same read.quiet is
+    tries_early (Unit {0}) (Unit {0}) _ _ _ _ _ _ t None None _ c.from_residual.ensures (λ r e. e) (read.reads t tells is).test read.same read.quiet is (read.open t tells is)
 
 pub returns-in_err-write-clause-tries : goal.returns-in_err-write-clause-tries
 returns-in_err-write-clause-tries g c t tells is =
@@ -29,7 +28,7 @@ returns-in_err-write-clause-tries g c t tells is =
     let long : c.args.at ≤ length c.read_first.new.page = omega (arith, c.read_first.auto.page, size.at_least, c.requires.inside) in
     let read = c.in_ok-read_first.ensures in
     let first = (read.reads t tells is).page in
-    let still = open_still _ _ _ _ t read.same read.quiet is in
+    let still = read.open t tells is in
     let new = g.H.Host.world c.write.new.host in
     let fault = c.in_err-write.field-0.0 in
     let strokes = flag_strokes c.args.at c.from.result c.args.on c.read_first.new.page c.put_number.new.page image (c.from.ensures ∙ byte_is c.args.on) first c.put_number.ensures.written in
@@ -46,7 +45,7 @@ returns-clause-tries g c t tells is =
     let long : c.args.at ≤ length c.read_first.new.page = omega (arith, c.read_first.auto.page, size.at_least, c.requires.inside) in
     let read = c.in_ok-read_first.ensures in
     let first = (read.reads t tells is).page in
-    let still = open_still _ _ _ _ t read.same read.quiet is in
+    let still = read.open t tells is in
     let strokes = flag_strokes c.args.at c.from.result c.args.on c.read_first.new.page c.put_number.new.page image (c.from.ensures ∙ byte_is c.args.on) first c.put_number.ensures.written in
     let makes = c.in_ok-write.ensures.makes t tells still (flag_fits c.args.at _ c.read_first.new.page c.put_number.new.page image first c.put_number.ensures.written c.requires.behind long) in
     tries_after {T = Unit {0}} (Ok tt) _ _ _ _ _ _ t _ _ read.same read.quiet is

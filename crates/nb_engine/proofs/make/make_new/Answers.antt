@@ -8,14 +8,14 @@ use Rattle.nb_model.specs.Causes.{no_room}
 use Rattle.nb_model.specs.Trail.{Trail}
 use Rattle.nb_base.specs.Takes.{after_strokes}
 use Rattle.nb_state.proofs.MakesLaws.{goes_on, goes_nowhere}
-use Rattle.nb_engine.specs.Make.{IsWell, IsOnward, new_of}
+use Rattle.nb_engine.specs.Make.{IsWell, IsOnward, content, new_of}
 use Rattle.nb_engine.proofs.WhereLaws.{where_passed, where_valued}
 use Rattle.nb_engine.proofs.NewLaws.{so_far_begun, round_failed, round_done, last_number, last_round}
 use Rattle.nb_engine.proofs.make.make_new.Goals as goal
 
 pub loop-store-init : goal.loop-store-init
 loop-store-init g c = record {
-  so_far = λ t tells is at low holds. so_far_begun (code_of c.args.kind) c.args.payload.now (g.H.Host.world c.args.host.now) c.args.store.now t c.args.first c.args.map.now (quiet_begun (g.H.Host.world c.args.host.now) (g.met.H.Host.timely c.args.host.now)) is at low holds;
+  so_far = λ t tells is at low holds. so_far_begun (code_of c.args.kind) (content c.args.own c.args.payload.now) (g.H.Host.world c.args.host.now) c.args.store.now t c.args.first c.args.map.now (quiet_begun (g.H.Host.world c.args.host.now) (g.met.H.Host.timely c.args.host.now)) is at low holds;
   goes = goes_nowhere c.args.store.now c.args.store.now refl;
   low = c.requires.low;
   most = c.requires.high;
@@ -28,7 +28,7 @@ pub returns-in_err-place-clause-makes : goal.returns-in_err-place-clause-makes
 returns-in_err-place-clause-makes g c t tells is at low holds =
     let image = t.base.image in
     let kind : ℕ = code_of c.args.kind in
-    let payload : List ℕ = c.args.payload.now in
+    let payload : ℕ → List ℕ = content c.args.own c.args.payload.now in
     let P : Type 0 = IsWell image × (no_room (new_of kind payload image).0 ≡ None) in
     let old = g.H.Host.world c.args.host.now in
     let mid = g.H.Host.world c.loop-store.host in
@@ -47,7 +47,7 @@ loop-store-preserved g c = record {
   so_far = λ t tells is at low holds.
       let image = t.base.image in
       let kind : ℕ = code_of c.args.kind in
-      let payload : List ℕ = c.args.payload.now in
+      let payload : ℕ → List ℕ = content c.args.own c.args.payload.now in
       let P : Type 0 = IsWell image × (no_room (new_of kind payload image).0 ≡ None) in
       let old = g.H.Host.world c.args.host.now in
       let mid = g.H.Host.world c.loop-store.host in
@@ -72,7 +72,7 @@ pub returns-in_err-take_new-clause-makes : goal.returns-in_err-take_new-clause-m
 returns-in_err-take_new-clause-makes g c t tells is at low holds =
     let image = t.base.image in
     let kind : ℕ = code_of c.args.kind in
-    let payload : List ℕ = c.args.payload.now in
+    let payload : ℕ → List ℕ = content c.args.own c.args.payload.now in
     let P : Type 0 = IsWell image × (no_room (new_of kind payload image).0 ≡ None) in
     let old = g.H.Host.world c.args.host.now in
     let mid = g.H.Host.world c.loop-store.host in
@@ -92,7 +92,7 @@ pub returns-clause-makes : goal.returns-clause-makes
 returns-clause-makes g c t tells is at low holds =
     let image = t.base.image in
     let kind : ℕ = code_of c.args.kind in
-    let payload : List ℕ = c.args.payload.now in
+    let payload : ℕ → List ℕ = content c.args.own c.args.payload.now in
     let P : Type 0 = IsWell image × (no_room (new_of kind payload image).0 ≡ None) in
     let old = g.H.Host.world c.args.host.now in
     let mid = g.H.Host.world c.loop-store.host in
@@ -111,7 +111,7 @@ pub returns-clause-value : goal.returns-clause-value
 returns-clause-value g c t tells is at low holds is_well room =
     let image = t.base.image in
     let kind : ℕ = code_of c.args.kind in
-    let payload : List ℕ = c.args.payload.now in
+    let payload : ℕ → List ℕ = content c.args.own c.args.payload.now in
     let P : Type 0 = IsWell image × (no_room (new_of kind payload image).0 ≡ None) in
     let old = g.H.Host.world c.args.host.now in
     let mid = g.H.Host.world c.loop-store.host in

@@ -7,7 +7,7 @@ use Rattle.nb_fields.proofs.SizeLemmas.{size_facts}
 use Rattle.nb_model.specs.Image.{Page, image_size}
 use Rattle.nb_model.specs.Forms.{old_page, is_kind, system_kind, system_payload}
 use Rattle.nb_state.specs.Open.{Held}
-use Rattle.nb_state.proofs.MakesLaws.{open_still, makes_none}
+use Rattle.nb_state.proofs.MakesLaws.{makes_none}
 use Rattle.nb_engine.specs.Tries.{Tries}
 use Rattle.nb_engine.specs.Make.{page_strokes, system_cause, system_strokes}
 use Rattle.nb_engine.proofs.DoesLaws.{tries_passed, tries_made, tries_after}
@@ -26,7 +26,7 @@ returns-then-branch-clause-tries g c t tells is low =
     let same : code_of c.system_kind-kind.result ≡ system_kind image p = c.system_kind-kind.ensures image (c.page_size.ensures.value ∙ is.files.agrees.page_size) in
     let there : is_kind image (system_kind image p) p ≡ true = ap (λ (k : ℕ). is_kind image k p) (sym same) ∙ sym (has.value t tells is) ∙ c.if-branch.true in
     tries_named {T = Unit {0}} (Ok tt) _ _ _ _ t _ _ _ _ (sym (system_free image p there)) (sym (system_made image p there))
-    (tries_made {T = Unit {0}} (Ok tt) _ _ _ _ t _ [] refl tt (makes_none {T = Unit {0}} (Ok tt) _ _ _ _ t has.same has.quiet is))
+    (tries_made {T = Unit {0}} (Ok tt) _ _ _ _ t _ [] refl tt (makes_none {T = Unit {0}} (Ok tt) _ _ _ _ t has.same has.quiet is (has.open t tells is)))
 
 pub returns-in_err-put_page-clause-tries : goal.returns-in_err-put_page-clause-tries
 returns-in_err-put_page-clause-tries g c t tells is low =
@@ -49,7 +49,7 @@ returns-in_err-put_page-clause-tries g c t tells is low =
     tries_passed c.from_residual-in_err-put_page.result fault
     (λ r. Tries r (g.H.Host.world c.args.host.now) (g.H.Host.world c.put_page.new.host) c.args.store.now c.put_page.new.store t (system_cause image p) (system_strokes image p)) c.from_residual-in_err-put_page.ensures
     (tries_after {T = Unit {0}} (Err fault) _ (g.H.Host.world c.has_page.new.host) _ _ c.has_page.new.store _ t _ _ has.same has.quiet is
-    (tries_named {T = Unit {0}} (Err fault) _ _ _ _ t _ _ _ _ (sym (system_asks image p none)) strokes (c.in_err-put_page.ensures.tries t payload tells (open_still _ _ _ _ t has.same has.quiet is) low room filled)))
+    (tries_named {T = Unit {0}} (Err fault) _ _ _ _ t _ _ _ _ (sym (system_asks image p none)) strokes (c.in_err-put_page.ensures.tries t payload tells (has.open t tells is) low room filled)))
 
 pub returns-clause-tries : goal.returns-clause-tries
 returns-clause-tries g c t tells is low =
@@ -69,4 +69,4 @@ returns-clause-tries g c t tells is low =
     let room : 16 + length payload ≤ length (old_page p image) = omega (arith, payload_whole image p whole, ap length page, long, facts.at_least) in
     let strokes : page_strokes image p (code_of c.system_kind-kind.result) payload ≡ system_strokes image p = ap (λ (k : ℕ). page_strokes image p k payload) same ∙ sym (system_unmade image p none) in
     tries_after {T = Unit {0}} (Ok tt) _ (g.H.Host.world c.has_page.new.host) _ _ c.has_page.new.store _ t _ _ has.same has.quiet is
-    (tries_named {T = Unit {0}} (Ok tt) _ _ _ _ t _ _ _ _ (sym (system_asks image p none)) strokes (c.in_ok-put_page.ensures.tries t payload tells (open_still _ _ _ _ t has.same has.quiet is) low room filled))
+    (tries_named {T = Unit {0}} (Ok tt) _ _ _ _ t _ _ _ _ (sym (system_asks image p none)) strokes (c.in_ok-put_page.ensures.tries t payload tells (has.open t tells is) low room filled))

@@ -10,7 +10,6 @@ use Rattle.nb_model.specs.Sound.{IsSoundImage}
 use Rattle.nb_model.proofs.PutSound.{IsPlace}
 use Rattle.nb_model.proofs.RoundLaws.{round_well}
 use Rattle.nb_base.specs.Takes.{after_strokes}
-use Rattle.nb_state.proofs.MakesLaws.{open_still}
 use Rattle.nb_engine.specs.Find.{not_there}
 use Rattle.nb_engine.specs.Make.{IsWell, IsOnward, MakesWhere, round, behind}
 use Rattle.nb_engine.proofs.DoesLaws.{tries_passed}
@@ -39,7 +38,7 @@ returns-in_err-next-clause-makes g c t tells is low system =
     (λ r. MakesWhere (IsWell image × (behind image p < 1048576)) (λ next x. IsOnward x p next c.next_free.new.map) r (g.H.Host.world c.args.host.now) (g.H.Host.world c.next_free.new.host) c.args.store.now c.next_free.new.store t (round image p).strokes)
     c.from_residual-in_err-next.ensures
     (where_quiet tt (IsWell image) (IsWell image × (behind image p < 1048576)) (λ value x. p < length x) (λ next x. IsOnward x p next c.next_free.new.map) (Err fault) _ _ _ _ _ _ t (round image p).strokes first
-    c.in_err-next.ensures.same c.in_err-next.ensures.quiet (λ r. r.0)
+    c.in_err-next.ensures.same c.in_err-next.ensures.quiet (λ v. c.in_err-next.ensures.open v tells) (λ r. r.0)
     (λ r same.
     let sound : IsSoundImage u.base.image = subst IsSoundImage (sym (image_is t p (round image p) (round_is t.base p) first.some.made same)) (round_well image (well image r.0) p at system (omega (arith, c.requires.low))).sound in
     sure_of {T = ℕ} (Err fault) None refl (c.in_err-next.ensures.sound u tells first.some.makes.opened sound)) tt)
@@ -51,7 +50,7 @@ returns-then-next-ge-MOST_PAGES-clause-makes g c t tells is low system =
     let first = c.in_ok-take_place.ensures.makes t tells is low system in
     let u = after_strokes t first.some.made in
     where_quiet tt (IsWell image) (IsWell image × (behind image p < 1048576)) (λ value x. p < length x) (λ next x. IsOnward x p next c.next_free.new.map) (Err (Refused (Full 1048576))) _ _ _ _ _ _ t (round image p).strokes first
-    c.in_ok-next.ensures.same c.in_ok-next.ensures.quiet (λ r. r.0)
+    c.in_ok-next.ensures.same c.in_ok-next.ensures.quiet (λ v. c.in_ok-next.ensures.open v tells) (λ r. r.0)
     (λ r same.
     let next : c.in_ok-next.next ≡ behind image p =
     c.in_ok-next.ensures.value u tells first.some.makes.opened ∙ ap (λ (y : Image). free_from (length y - (p + 1)) (p + 1) y) (image_is t p (round image p) (round_is t.base p) first.some.made same) in
@@ -67,14 +66,14 @@ returns-in_err-hold_map-clause-makes g c t tells is low system =
     let u = after_strokes t first.some.made in
     let opened = first.some.makes.opened in
     let search = c.in_ok-next.ensures in
-    let then = open_still _ _ _ _ u search.same search.quiet opened in
+    let then = search.open u tells opened in
     let ends = search.map u tells opened in
     let fault = c.in_err-hold_map.field-0.0 in
     tries_passed c.from_residual-in_err-hold_map.result fault
     (λ r. MakesWhere (IsWell image × (behind image p < 1048576)) (λ next x. IsOnward x p next c.hold_map.new.map) r (g.H.Host.world c.args.host.now) (g.H.Host.world c.hold_map.new.host) c.args.store.now c.hold_map.new.store t (round image p).strokes)
     c.from_residual-in_err-hold_map.ensures
     (where_quiet tt (IsWell image) (IsWell image × (behind image p < 1048576)) (λ value x. p < length x) (λ next x. IsOnward x p next c.hold_map.new.map) (Err fault) _ _ _ _ _ _ t (round image p).strokes first
-    (c.in_err-hold_map.ensures.same ∙ search.same) (quiet_joined _ _ _ search.quiet c.in_err-hold_map.ensures.quiet) (λ r. r.0)
+    (c.in_err-hold_map.ensures.same ∙ search.same) (quiet_joined _ _ _ search.quiet c.in_err-hold_map.ensures.quiet) (λ v open_. c.in_err-hold_map.ensures.open v tells (search.open v tells open_)) (λ r. r.0)
     (λ r same.
     let after = round_well image (well image r.0) p at system (omega (arith, c.requires.low)) in
     let back = sym (image_is t p (round image p) (round_is t.base p) first.some.made same) in
@@ -90,8 +89,8 @@ returns-clause-makes g c t tells is low system =
     let u = after_strokes t first.some.made in
     let opened = first.some.makes.opened in
     let search = c.in_ok-next.ensures in
-    let then = open_still _ _ _ _ u search.same search.quiet opened in
+    let then = search.open u tells opened in
     let found = search.value u tells opened in
     where_quiet tt (IsWell image) (IsWell image × (behind image p < 1048576)) (λ value x. p < length x) (λ next x. IsOnward x p next c.hold_map.new.map) (Ok c.in_ok-next.next) _ _ _ _ _ _ t (round image p).strokes first
-    (c.in_ok-hold_map.ensures.same ∙ search.same) (quiet_joined _ _ _ search.quiet c.in_ok-hold_map.ensures.quiet) (λ r. r.0) (λ r same. tt)
+    (c.in_ok-hold_map.ensures.same ∙ search.same) (quiet_joined _ _ _ search.quiet c.in_ok-hold_map.ensures.quiet) (λ v open_. c.in_ok-hold_map.ensures.open v tells (search.open v tells open_)) (λ r. r.0) (λ r same. tt)
     (record { found = found; low = next_low u.base.image p c.in_ok-next.next first.ends found; holds = c.in_ok-hold_map.ensures.map u tells then (search.map u tells opened) })

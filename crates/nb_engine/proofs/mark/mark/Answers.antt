@@ -2,7 +2,6 @@ use Rattle.std.proofs.Common.{ℕ, sym, ap, ◌∙◌}
 use Rattle.std.specs.Prelude.{Ok, Err}
 use Rattle.nb_model.specs.Image.{page_at}
 use Rattle.nb_model.specs.Causes.{not_kind}
-use Rattle.nb_state.proofs.MakesLaws.{open_still}
 use Rattle.nb_engine.specs.Tries.{Tries}
 use Rattle.nb_engine.specs.Mark.{bit_for, mark_cause, mark_strokes}
 use Rattle.nb_engine.proofs.TestLaws.{inventory_place_is}
@@ -16,7 +15,7 @@ returns-in_err-read-clause-tries g c t tells is =
     let read = c.in_err-read.ensures in
     let at = inventory_place_is image _ c.args.number _ _ c.place_of.ensures c.covers-k.ensures.number (c.page_size-page_size.ensures.value ∙ is.files.agrees.page_size) in
     tries_early (Unit {0}) (Unit {0}) _ _ _ _ _ _ t (not_kind image 2 c.place_of.result) _ _ c.from_residual.ensures (λ r e. mark_other t.base c.args.number r (ap (λ (q : ℕ). not_kind image 2 q) (sym at) ∙ e))
-    (read.reads t tells is).test read.same read.quiet is
+    (read.reads t tells is).test read.same read.quiet is (read.open t tells is)
 
 pub returns-in_err-put_map-clause-tries : goal.returns-in_err-put_map-clause-tries
 returns-in_err-put_map-clause-tries g c t tells is =
@@ -29,7 +28,7 @@ returns-in_err-put_map-clause-tries g c t tells is =
     (λ r. Tries r (g.H.Host.world c.args.host.now) (g.H.Host.world c.put_map.new.host) c.args.store.now c.put_map.new.store t (mark_cause image c.args.number) (mark_strokes image c.args.number (bit_for c.args.free)))
     c.from_residual-in_err-put_map.ensures
     (tries_after {T = Unit {0}} (Err fault) _ _ _ _ _ _ t _ _ read.same read.quiet is
-    (c.in_err-put_map.ensures.tries t tells (open_still _ _ _ _ t read.same read.quiet is) (ap (λ (q : ℕ). not_kind image 2 q) (sym at) ∙ found.test) (found.page ∙ ap (λ (q : ℕ). page_at image q) at)))
+    (c.in_err-put_map.ensures.tries t tells (read.open t tells is) (ap (λ (q : ℕ). not_kind image 2 q) (sym at) ∙ found.test) (found.page ∙ ap (λ (q : ℕ). page_at image q) at)))
 
 pub returns-clause-tries : goal.returns-clause-tries
 returns-clause-tries g c t tells is =
@@ -38,4 +37,4 @@ returns-clause-tries g c t tells is =
     let found = read.reads t tells is in
     let at = inventory_place_is image _ c.args.number _ _ c.place_of.ensures c.covers-k.ensures.number (c.page_size-page_size.ensures.value ∙ is.files.agrees.page_size) in
     tries_after {T = Unit {0}} (Ok tt) _ _ _ _ _ _ t _ _ read.same read.quiet is
-    (c.in_ok-put_map.ensures.tries t tells (open_still _ _ _ _ t read.same read.quiet is) (ap (λ (q : ℕ). not_kind image 2 q) (sym at) ∙ found.test) (found.page ∙ ap (λ (q : ℕ). page_at image q) at))
+    (c.in_ok-put_map.ensures.tries t tells (read.open t tells is) (ap (λ (q : ℕ). not_kind image 2 q) (sym at) ∙ found.test) (found.page ∙ ap (λ (q : ℕ). page_at image q) at))

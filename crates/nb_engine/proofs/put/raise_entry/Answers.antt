@@ -2,7 +2,7 @@ use Rattle.std.proofs.Common.{◌≡◌, List, sym, subst, ◌∙◌}
 use Rattle.std.specs.Prelude.{Bool, true, Ok, Err}
 use Rattle.nb_model.specs.Strokes.{Stroke}
 use Rattle.nb_state.specs.Does.{Makes}
-use Rattle.nb_state.proofs.MakesLaws.{open_still, makes_none}
+use Rattle.nb_state.proofs.MakesLaws.{makes_none}
 use Rattle.nb_engine.specs.Tries.{Tries}
 use Rattle.nb_engine.specs.Put.{must_raise, raise_strokes, entry_cause}
 use Rattle.nb_engine.proofs.PutLaws.{raised_not, raised_once}
@@ -13,7 +13,7 @@ use Rattle.nb_engine.proofs.put.raise_entry.Goals as goal
 pub returns-in_err-must_raise-clause-tries : goal.returns-in_err-must_raise-clause-tries
 returns-in_err-must_raise-clause-tries g c t tells is =
     let asked = c.in_err-must_raise.ensures in
-    tries_early Bool (Unit {0}) _ _ _ _ _ _ t (entry_cause t.base.image c.args.number) _ _ c.from_residual.ensures (λ r e. e) (asked.tells t tells is).test asked.same asked.quiet is
+    tries_early Bool (Unit {0}) _ _ _ _ _ _ t (entry_cause t.base.image c.args.number) _ _ c.from_residual.ensures (λ r e. e) (asked.tells t tells is).test asked.same asked.quiet is (asked.open t tells is)
 
 pub returns-in_err-raise-clause-tries : goal.returns-in_err-raise-clause-tries
 returns-in_err-raise-clause-tries g c t tells is =
@@ -22,7 +22,7 @@ returns-in_err-raise-clause-tries g c t tells is =
     let asked = c.in_ok-must_raise.ensures in
     let told = asked.tells t tells is in
     let must : must_raise image p ≡ true = sym told.value ∙ c.if-branch.true in
-    let still = open_still _ _ _ _ t asked.same asked.quiet is in
+    let still = asked.open t tells is in
     let makes = c.in_err-raise.ensures.makes t tells still told.test must (told.page c.if-branch.true) in
     tries_passed c.from_residual-in_err-raise.result c.in_err-raise.field-0.0
     (λ r. Tries r (g.H.Host.world c.args.host.now) (g.H.Host.world c.raise.new.host) c.args.store.now c.raise.new.store t (entry_cause image p) (raise_strokes image p)) c.from_residual-in_err-raise.ensures
@@ -36,7 +36,7 @@ returns-clause-tries g c t tells is =
     let p = c.args.number in
     let asked = c.in_ok-must_raise.ensures in
     let told = asked.tells t tells is in
-    let still = open_still _ _ _ _ t asked.same asked.quiet is in
+    let still = asked.open t tells is in
     elim c.if-branch.branch [
       | then-branch+in_ok-raise w ↦
           let must : must_raise image p ≡ true = sym told.value ∙ w.if-branch.true in
@@ -49,5 +49,5 @@ returns-clause-tries g c t tells is =
           rw (w.host-is, w.store-is)
           (tries_made {T = Unit {0}} (Ok tt) _ _ _ _ t _ _ told.test tt
           (subst (λ (ss : List Stroke). Makes {T = Unit {0}} (Ok tt) (g.H.Host.world c.args.host.now) (g.H.Host.world c.must_raise.new.host) c.args.store.now c.must_raise.new.store t ss) (sym (raised_not image p (sym told.value ∙ w.if-branch.false)))
-          (makes_none (Ok tt) _ _ _ _ t asked.same asked.quiet is)))
+          (makes_none (Ok tt) _ _ _ _ t asked.same asked.quiet is still)))
     ]

@@ -6,7 +6,6 @@ use Rattle.nb_fields.specs.Places.{is_page_size}
 use Rattle.nb_model.specs.Image.{Page, page_at, image_size}
 use Rattle.nb_model.specs.Forms.{drafted, old_page}
 use Rattle.nb_model.specs.Chains.{Slot, backup_slot, put_slot}
-use Rattle.nb_state.proofs.MakesLaws.{open_still}
 use Rattle.nb_engine.specs.Tries.{Tries}
 use Rattle.nb_engine.specs.Put.{entry_cause}
 use Rattle.nb_engine.proofs.DoesLaws.{tries_passed, tries_after, tries_these}
@@ -39,7 +38,7 @@ returns-in_err-put_page-clause-tries g c t tells is low =
     (λ r. Tries r (g.H.Host.world c.args.host.now) (g.H.Host.world c.put_page.new.host) c.args.store.now c.put_page.new.store t (entry_cause image p) (put_slot p c.args.room.now.slot bytes (drafted image)).strokes) c.from_residual-in_err-put_page.ensures
     (tries_these {T = Unit {0}} (Err fault) _ _ _ _ t _ _ _ (λ none. slot_strokes t.base p c.args.room.now.slot bytes size low none)
     (tries_after {T = Unit {0}} (Err fault) _ (g.H.Host.world c.read.new.host) _ _ c.read.new.self _ t _ _ old.same old.quiet is
-    (c.in_err-put_page.ensures.tries t payload tells (open_still _ _ _ _ t old.same old.quiet is) (omega (arith, low)) room filled)))
+    (c.in_err-put_page.ensures.tries t payload tells (old.open t tells is) (omega (arith, low)) room filled)))
 
 pub returns-clause-tries : goal.returns-clause-tries
 returns-clause-tries g c t tells is low =
@@ -60,4 +59,4 @@ returns-clause-tries g c t tells is low =
     let size : IsTrue (is_page_size (image_size image)) = subst (λ (n : ℕ). IsTrue (is_page_size n)) (c.requires.page_room ∙ is.files.agrees.page_size) c.requires.size in
     tries_these {T = Unit {0}} (Ok tt) _ _ _ _ t _ _ _ (λ none. slot_strokes t.base p c.args.room.now.slot bytes size low none)
     (tries_after {T = Unit {0}} (Ok tt) _ (g.H.Host.world c.read.new.host) _ _ c.read.new.self _ t _ _ old.same old.quiet is
-    (c.in_ok-put_page.ensures.tries t payload tells (open_still _ _ _ _ t old.same old.quiet is) (omega (arith, low)) room filled))
+    (c.in_ok-put_page.ensures.tries t payload tells (old.open t tells is) (omega (arith, low)) room filled))

@@ -4,7 +4,6 @@ use Rattle.nb_fields.specs.Places.{is_page_size}
 use Rattle.nb_model.specs.Image.{image_size}
 use Rattle.nb_model.specs.Forms.{inventory_of, scn_page_of}
 use Rattle.nb_model.specs.Causes.{first_cause, not_kind, not_of_form, no_scn}
-use Rattle.nb_state.proofs.MakesLaws.{open_still}
 use Rattle.nb_engine.specs.Room.{taken_draft}
 use Rattle.nb_engine.proofs.DoesLaws.{tested_on}
 use Rattle.nb_engine.proofs.RoomLaws.{inventory_refused, scn_refused, free_refused, scn_spent, room_free}
@@ -23,7 +22,7 @@ returns-in_err-check_scn_page-clause-test g c t tells is kind =
     let p : ℕ = c.args.number in
     let size : IsTrue (is_page_size (image_size image)) = subst (λ (n : ℕ). IsTrue (is_page_size n)) is.files.agrees.page_size c.requires.size in
     let free = c.in_ok-free.ensures in
-    let here = open_still _ _ _ _ t free.same free.quiet is in
+    let here = free.open t tells is in
     tested_on (Unit {0}) (Unit {0}) _ _ (not_kind image 10 (scn_page_of image p)) (first_cause (not_of_form (taken_draft image p) ∷ no_scn image ∷ [])) c.from_residual-in_err-check_scn_page.ensures
     (scn_refused image p size c.requires.low kind (free.test t tells is)) (c.in_err-check_scn_page.ensures.test t tells here)
 
@@ -33,7 +32,7 @@ returns-then-free-clause-test g c t tells is kind =
     let p : ℕ = c.args.number in
     let size : IsTrue (is_page_size (image_size image)) = subst (λ (n : ℕ). IsTrue (is_page_size n)) is.files.agrees.page_size c.requires.size in
     let free = c.in_ok-free.ensures in
-    let here = open_still _ _ _ _ t free.same free.quiet is in
+    let here = free.open t tells is in
     free_refused image p size c.requires.low kind (free.test t tells is) (c.in_ok-check_scn_page.ensures.test t tells here) (sym (free.value t tells is) ∙ c.if-free.true)
 
 pub returns-in_err-check_scn-clause-test : goal.returns-in_err-check_scn-clause-test
@@ -42,7 +41,7 @@ returns-in_err-check_scn-clause-test g c t tells is kind =
     let p : ℕ = c.args.number in
     let size : IsTrue (is_page_size (image_size image)) = subst (λ (n : ℕ). IsTrue (is_page_size n)) is.files.agrees.page_size c.requires.size in
     let free = c.in_ok-free.ensures in
-    let here = open_still _ _ _ _ t free.same free.quiet is in
+    let here = free.open t tells is in
     tested_on (Unit {0}) (Unit {0}) _ _ (no_scn image) (first_cause (not_of_form (taken_draft image p) ∷ no_scn image ∷ [])) c.from_residual-in_err-check_scn.ensures
     (scn_spent image p size c.requires.low kind (free.test t tells is) (c.in_ok-check_scn_page.ensures.test t tells here) (sym (free.value t tells is) ∙ c.if-free.false)) (c.in_err-check_scn.ensures.test image (c.scn-scn.ensures ∙ is.agrees.scn))
 
@@ -52,5 +51,5 @@ returns-clause-test g c t tells is kind =
     let p : ℕ = c.args.number in
     let size : IsTrue (is_page_size (image_size image)) = subst (λ (n : ℕ). IsTrue (is_page_size n)) is.files.agrees.page_size c.requires.size in
     let free = c.in_ok-free.ensures in
-    let here = open_still _ _ _ _ t free.same free.quiet is in
+    let here = free.open t tells is in
     room_free image p size c.requires.low kind (free.test t tells is) (c.in_ok-check_scn_page.ensures.test t tells here) (sym (free.value t tells is) ∙ c.if-free.false) (c.in_ok-check_scn.ensures.test image (c.scn-scn.ensures ∙ is.agrees.scn))

@@ -2,7 +2,6 @@ use Rattle.std.proofs.Common.{rules, ℕ, refl, ◌∙◌, arith}
 use Rattle.nb_page.proofs.QuietLemmas.{quiet_begun, quiet_joined}
 use Rattle.nb_model.specs.Causes.{broken_at}
 use Rattle.nb_model.specs.Chains.{History, pages_of}
-use Rattle.nb_state.proofs.MakesLaws.{open_still}
 use Rattle.nb_engine.specs.declared.walk.Walked.{Walked}
 use Rattle.nb_engine.specs.History.{not_linked}
 use Rattle.nb_engine.proofs.DoesLaws.{tested_on}
@@ -16,6 +15,7 @@ loop-left-init g c = record {
   low = omega arith;
   few = omega (arith, c.count-left.ensures.value);
   room = refl;
+  opened = λ t tells is. is;
   same = refl;
   quiet = quiet_begun (g.H.Host.world c.args.host.now) (g.met.H.Host.timely c.args.host.now);
   once = λ tells. omega arith;
@@ -25,35 +25,35 @@ loop-left-init g c = record {
 pub returns-in_err-next-clause-test : goal.returns-in_err-next-clause-test
 returns-in_err-next-clause-test g c t tells is =
     let l = c.loop-left in
-    let still = open_still _ _ _ _ t l.invariant.same l.invariant.quiet is in
+    let still = l.invariant.opened t tells is in
     tested_on ℕ (Walked × ℕ) _ _ (not_linked t.base.image l.number) (broken_at (pages_of History t.base.image)) c.from_residual.ensures
     (walks_broken t.base.image c.args.wanted.now l.left l.number l.walked c.loop-left-test.true (l.invariant.walks t tells is)) (c.in_err-next.ensures.test t tells still)
 
 pub returns-then-next-eq0-clause-test : goal.returns-then-next-eq0-clause-test
 returns-then-next-eq0-clause-test g c t tells is =
     let l = c.loop-left in
-    let still = open_still _ _ _ _ t l.invariant.same l.invariant.quiet is in
+    let still = l.invariant.opened t tells is in
     walks_none t.base.image c.args.wanted.now l.left l.number l.walked c.loop-left-test.true (l.invariant.walks t tells is) (c.in_ok-next.ensures.test t tells still) c.take_link.new.walked
     (λ ss was. c.in_ok-next.ensures.walked t ss tells still was) c.in_ok-next.next (c.in_ok-next.ensures.next t tells still) c.if-next-eq0.true
 
 pub returns-then-next-eq0-clause-walked : goal.returns-then-next-eq0-clause-walked
 returns-then-next-eq0-clause-walked g c t tells is =
     let l = c.loop-left in
-    let still = open_still _ _ _ _ t l.invariant.same l.invariant.quiet is in
+    let still = l.invariant.opened t tells is in
     walks_gathered t.base.image c.args.wanted.now l.left l.number l.walked c.loop-left-test.true (l.invariant.walks t tells is) (c.in_ok-next.ensures.test t tells still) c.take_link.new.walked
     (λ ss was. c.in_ok-next.ensures.walked t ss tells still was) c.in_ok-next.next (c.in_ok-next.ensures.next t tells still) c.if-next-eq0.true
 
 pub returns-then-next-eq0-clause-last : goal.returns-then-next-eq0-clause-last
 returns-then-next-eq0-clause-last g c t tells is =
     let l = c.loop-left in
-    let still = open_still _ _ _ _ t l.invariant.same l.invariant.quiet is in
+    let still = l.invariant.opened t tells is in
     walks_last t.base.image c.args.wanted.now l.left l.number l.walked c.loop-left-test.true (l.invariant.walks t tells is) (c.in_ok-next.ensures.test t tells still) c.take_link.new.walked
     (λ ss was. c.in_ok-next.ensures.walked t ss tells still was) c.in_ok-next.next (c.in_ok-next.ensures.next t tells still) c.if-next-eq0.true
 
 pub returns-then-next-eq0-clause-once : goal.returns-then-next-eq0-clause-once
 returns-then-next-eq0-clause-once g c t tells is =
     let l = c.loop-left in
-    let still = open_still _ _ _ _ t l.invariant.same l.invariant.quiet is in
+    let still = l.invariant.opened t tells is in
     let long =
     walks_length t.base.image c.args.wanted.now l.left l.number l.walked c.loop-left-test.true (l.invariant.walks t tells is) (c.in_ok-next.ensures.test t tells still) c.take_link.new.walked
     (λ ss was. c.in_ok-next.ensures.walked t ss tells still was) c.in_ok-next.next (c.in_ok-next.ensures.next t tells still) c.if-next-eq0.true in
@@ -64,13 +64,14 @@ loop-left-preserved g c =
     let l = c.loop-left in
     record {
       walks = λ t tells is.
-          let still = open_still _ _ _ _ t l.invariant.same l.invariant.quiet is in
+          let still = l.invariant.opened t tells is in
           walks_next t.base.image c.args.wanted.now l.left l.number l.walked c.loop-left-test.true (l.invariant.walks t tells is) (c.in_ok-next.ensures.test t tells still) c.take_link.new.walked
           (λ ss was. c.in_ok-next.ensures.walked t ss tells still was) c.in_ok-next.next (c.in_ok-next.ensures.next t tells still) c.if-next-eq0.false;
       placed = search rules;
       low = search rules;
       few = omega (arith, l.invariant.few);
       room = search rules;
+      opened = λ t tells is. c.in_ok-next.ensures.open t tells (l.invariant.opened t tells is);
       same = c.in_ok-next.ensures.same ∙ l.invariant.same;
       quiet = quiet_joined _ _ _ l.invariant.quiet c.in_ok-next.ensures.quiet;
       once = λ tells. omega (arith, l.invariant.once tells, c.in_ok-next.ensures.once tells, c.loop-left-test.true, l.invariant.few);

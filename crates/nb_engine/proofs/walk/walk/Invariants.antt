@@ -2,7 +2,7 @@ use Rattle.std.proofs.Common.{◌≡◌, ◌+◌, ◌-◌, ◌<◌, ◌≤◌, l
 use Rattle.std.specs.Prelude.{IsTrue, IfSome}
 use Rattle.nb_page.specs.Quiet.{Quiet}
 use Rattle.nb_model.specs.Trail.{Trail}
-use Rattle.nb_state.specs.Open.{IsOpen}
+use Rattle.nb_state.specs.Open.{IsOpen, but_pages}
 use Rattle.nb_engine.specs.History.{IsPlaced}
 use Rattle.nb_engine.proofs.WalkLaws.{Walks}
 use Rattle.nb_engine.proofs.walk.walk.Given as goal
@@ -14,7 +14,8 @@ invariant-loop-left g l = record {
   low : 0 < l.number;
   few : l.left ≤ l.fn.store.files.count;
   room : length l.page ≡ length l.fn.page;
-  same : l.store ≡ l.fn.store;
+  opened : (t : Trail) → IsTrue g.H.Host.tells → IsOpen (g.H.Host.world l.fn.host) l.fn.store t → IsOpen (g.H.Host.world l.host) l.store t;
+  same : but_pages l.store ≡ but_pages l.fn.store;
   quiet : Quiet (g.H.Host.world l.fn.host) (g.H.Host.world l.host);
   once : IsTrue g.H.Host.tells → (g.H.Host.world l.host).reads ≤ (g.H.Host.world l.fn.host).reads + (l.fn.store.files.count - l.left);
   cause : g.H.Host.faults l.host ≡ g.H.Host.faults l.fn.host;

@@ -1,54 +1,54 @@
-use Rattle.std.proofs.Common.{length, refl, ap, ◌∙◌, arith}
-use Rattle.nb_fields.proofs.SizeLemmas.{size_facts}
-use Rattle.nb_host.specs.Files.{Files}
-use Rattle.nb_change.proofs.GaveLaws.{gave_begun, silent_gave, read_gave, nothing_joined}
-use Rattle.nb_restore.proofs.FrontLaws.{named, front_begun, front_then_still, front_then_page}
-use Rattle.nb_restore.proofs.PageLaws.{copied_none, copied_next, copied_all, read_cut}
+use Rattle.std.proofs.Common.{◌≡◌, ◌*◌, ◌++◌, length, take, drop, refl, ap, sym, ◌∙◌, arith}
+use Rattle.std.specs.Prelude.{Some}
+use Rattle.std.proofs.lemmas.List.{length-take-le}
+use Rattle.nb_host.specs.Files.{with_bytes}
+use Rattle.nb_change.proofs.GaveLaws.{gave_begun, nothing_joined}
+use Rattle.nb_model.specs.Levels.{joined}
+use Rattle.nb_model.proofs.ImageLaws.{length-joined}
+use Rattle.nb_chain.proofs.AnswerLemmas.{passed}
+use Rattle.nb_restore.specs.Copied.{IsDone}
+use Rattle.nb_restore.proofs.FrontLaws.{front_begun, front_joined}
+use Rattle.nb_restore.proofs.LevelLaws.{fails_alike}
+use Rattle.nb_restore.proofs.PieceLaws.{copied_none, copied_next, copied_all}
 use Rattle.nb_restore.proofs.records.copy_pages.Goals as goal
 
-pub loop-number-init : goal.loop-number-init
-loop-number-init g c = record {
+pub loop-at-init : goal.loop-at-init
+loop-at-init g c = record {
   left = λ tells. front_begun _ _ (g.met.H.Host.timely _);
-  pages = λ tells ps apart there sizes long. copied_none _ ps _;
+  bytes = λ tells ps start apart there sizes long stands. copied_none c.args.page_size (joined ps) start _ _ c.from-at.ensures stands;
   gave = gave_begun _;
   cause = refl;
+  behind = omega (arith, c.from-at.ensures);
 }
 
-pub returns-in_err-read_page-clause-left : goal.returns-in_err-read_page-clause-left
-returns-in_err-read_page-clause-left g c tells = let read = c.read_page.ensures in front_then_still _ _ _ _ (c.loop-number.invariant.left tells) (g.met.H.Host.timely _) read.files read.log.said read.time
+pub returns-in_err-copy_piece-clause-left : goal.returns-in_err-copy_piece-clause-left
+returns-in_err-copy_piece-clause-left g c tells = front_joined _ _ _ _ (c.loop-at.invariant.left tells) (c.copy_piece.ensures.left tells)
 
-pub returns-then-not-branch-clause-left : goal.returns-then-not-branch-clause-left
-returns-then-not-branch-clause-left g c tells = let read = c.read_page.ensures in front_then_still _ _ _ _ (c.loop-number.invariant.left tells) (g.met.H.Host.timely _) read.files read.log.said read.time
+pub returns-in_err-copy_piece-clause-pages : goal.returns-in_err-copy_piece-clause-pages
+returns-in_err-copy_piece-clause-pages g c tells ps start apart there sizes long stands =
+    let all : length (joined ps) ≡ c.from.result * c.from-2.result = length-joined c.args.page_size ps sizes ∙ ap (λ k. k * c.args.page_size) (long ∙ sym c.from.ensures) ∙ ap (λ k. c.from.result * k) (sym c.from-2.ensures) in
+    let count : length (take c.piece_at-count.result c.loop-at.piece) ≡ c.piece_at-count.result = length-take-le c.piece_at-count.result c.loop-at.piece c.piece_at-count.ensures.room in
+    passed _ (λ r. IsDone r ((g.H.Host.world c.copy_piece.new.host).files c.args.target.now ≡ Some (start ++ drop c.args.page_size (joined ps)))) c.from_residual.result c.in_err-copy_piece.field-0.0 c.from_residual.ensures
+    (fails_alike (Unit {0}) (Unit {0}) c.in_err-copy_piece.field-0.0 _ _ (c.in_err-copy_piece.ensures.bytes tells (joined ps) ((c.loop-at.invariant.left tells).others_read _ apart ∙ there) (omega (arith, all, count, c.piece_at-count.ensures.inside))))
 
-pub returns-then-not-branch-clause-pages : goal.returns-then-not-branch-clause-pages
-returns-then-not-branch-clause-pages g c tells ps apart there sizes long =
-    read_cut _ ps c.loop-number.number (omega (arith, c.loop-number-test.true, long)) sizes _ _ c.read_page.new.into c.in_ok-read_page.field-0
-    ((c.loop-number.invariant.left tells).others_read _ apart ∙ there) c.loop-number.auto.page c.if-not-branch.true (c.in_ok-read_page.ensures.answer tells)
-
-pub returns-in_err-write_page-clause-left : goal.returns-in_err-write_page-clause-left
-returns-in_err-write_page-clause-left g c tells =
-    let read = c.read_page.ensures in
-    let write = c.write_page.ensures in
-    front_then_page _ _ _ _ _ _ _ _ tells (omega (arith, c.loop-number.auto)) (omega (arith, (size_facts (length c.args.page.now) c.requires.size).at_least, c.loop-number.auto.page, c.read_page.auto.into))
-    (front_then_still _ _ _ _ (c.loop-number.invariant.left tells) (g.met.H.Host.timely _) read.files read.log.said read.time) (g.met.H.Host.timely _) write.files write.log.said write.time
-
-pub loop-number-preserved : goal.loop-number-preserved
-loop-number-preserved g c =
-    let loop = c.loop-number.invariant in
-    let read = c.in_ok-read_page.ensures in
-    let write = c.in_ok-write_page.ensures in
+pub loop-at-preserved : goal.loop-at-preserved
+loop-at-preserved g c =
+    let loop = c.loop-at.invariant in
+    let copy = c.in_ok-copy_piece.ensures in
     record {
-      left = λ tells.
-          front_then_page _ _ _ _ _ _ _ _ tells (omega (arith, c.loop-number.auto)) (omega (arith, (size_facts (length c.args.page.now) c.requires.size).at_least, c.loop-number.auto.page, c.read_page.auto.into))
-          (front_then_still _ _ _ _ (loop.left tells) (g.met.H.Host.timely _) read.files read.log.said read.time) (g.met.H.Host.timely _) write.files write.log.said write.time;
-      pages = λ tells ps apart there sizes long.
-          copied_next _ ps c.loop-number.number (omega (arith, c.loop-number-test.true, long)) sizes (omega (arith, c.loop-number.auto)) _ c.read_page.new.into c.in_ok-read_page.field-0 _ _ _ _ _
-          ((loop.left tells).others_read _ apart ∙ there) c.loop-number.auto.page (omega (arith, c.loop-number.auto.page, c.read_page.auto.into)) c.if-not-branch.false (read.answer tells)
-          (omega (arith, c.loop-number-test.true, c.requires.most)) (loop.pages tells ps apart there sizes long) (ap (λ (f : Files). f c.args.target.now) read.files.files) (named _ _ c.args.target.now _ (write.files.files tells));
-      gave = nothing_joined _ _ _ (nothing_joined _ _ _ loop.gave (read_gave _ _ _ _ read.log)) (silent_gave _ _ write.log);
-      cause = write.cause ∙ read.cause ∙ loop.cause;
+      left = λ tells. front_joined _ _ _ _ (loop.left tells) (copy.left tells);
+      bytes = λ tells ps start apart there sizes long stands.
+          let all : length (joined ps) ≡ c.from.result * c.from-2.result = length-joined c.args.page_size ps sizes ∙ ap (λ k. k * c.args.page_size) (long ∙ sym c.from.ensures) ∙ ap (λ k. c.from.result * k) (sym c.from-2.ensures) in
+          let count : length (take c.piece_at-count.result c.loop-at.piece) ≡ c.piece_at-count.result = length-take-le c.piece_at-count.result c.loop-at.piece c.piece_at-count.ensures.room in
+          copied_next c.args.page_size (joined ps) start c.loop-at.at c.piece_at-count.result _ _ loop.behind (loop.bytes tells ps start apart there sizes long stands)
+          (copy.bytes tells (joined ps) ((loop.left tells).others_read _ apart ∙ there) (omega (arith, all, count, c.piece_at-count.ensures.inside))
+          ∙ ap (λ k. with_bytes ((g.H.Host.world c.loop-at.host).files c.args.target.now) (take k (drop c.loop-at.at (joined ps)))) count);
+      gave = nothing_joined _ _ _ loop.gave copy.gave;
+      cause = copy.cause ∙ loop.cause;
+      behind = omega (arith, loop.behind);
     }
 
 pub returns-clause-pages : goal.returns-clause-pages
-returns-clause-pages g c tells ps apart there sizes long =
-    copied_all _ ps c.loop-number.number _ _ (omega (arith, c.loop-number.auto)) (omega (arith, c.loop-number-test.false, long)) (c.loop-number.invariant.pages tells ps apart there sizes long)
+returns-clause-pages g c tells ps start apart there sizes long stands =
+    let all : length (joined ps) ≡ c.from.result * c.from-2.result = length-joined c.args.page_size ps sizes ∙ ap (λ k. k * c.args.page_size) (long ∙ sym c.from.ensures) ∙ ap (λ k. c.from.result * k) (sym c.from-2.ensures) in
+    copied_all c.args.page_size (joined ps) start c.loop-at.at _ (omega (arith, all, c.loop-at-test.false)) (c.loop-at.invariant.bytes tells ps start apart there sizes long stands)

@@ -1,7 +1,13 @@
 use Rattle.nb_chain.proofs.AnswerLemmas.{passed}
 use Rattle.nb_restore.specs.Restore.{Restores}
-use Rattle.nb_restore.proofs.RestoreLaws.{plan_for, restore_fails, restore_done}
+use Rattle.nb_restore.proofs.RestoreLaws.{not_prepared, plan_for, restore_fails, restore_done}
 use Rattle.nb_restore.proofs.restoring.restore.Goals as goal
+
+pub returns-in_err-count-clause-restores : goal.returns-in_err-count-clause-restores
+returns-in_err-count-clause-restores g c tells =
+    let prepare = c.in_err-count.ensures in
+    passed _ (λ r. Restores r (g.H.Host.world c.args.host.now) (g.H.Host.world c.prepare.new.host) c.args.target.now c.args.files.now) c.from_residual-in_err-count.result c.in_err-count.field-0.0 c.from_residual-in_err-count.ensures
+    (not_prepared _ _ _ _ c.in_err-count.field-0.0 prepare.quiet (prepare.answer tells))
 
 pub returns-in_err-write_target-clause-restores : goal.returns-in_err-write_target-clause-restores
 returns-in_err-write_target-clause-restores g c tells =

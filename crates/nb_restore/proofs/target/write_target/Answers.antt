@@ -12,6 +12,14 @@ returns-in_err-copy_pages-clause-left g c tells ps links plan =
     let begin = c.in_ok-begin.ensures in
     part_left _ _ _ _ _ _ _ _ _ _ _ (record { plan = plan; size_is = c.requires.size; long = refl; wide = c.requires.first; left = begin.left tells plan.stands; kept = begin.begun tells }) _ (c.copy_pages.ensures.left tells)
 
+pub returns-in_err-copy_pages-clause-done : goal.returns-in_err-copy_pages-clause-done
+returns-in_err-copy_pages-clause-done g c tells ps links plan =
+    let begin = c.in_ok-begin.ensures in
+    passed _ (λ r. IsDone r (KeepsImage (g.H.Host.world c.copy_pages.new.host) c.args.target.now (restored ps links))) c.from_residual-in_err-copy_pages.result c.in_err-copy_pages.field-0.0 c.from_residual-in_err-copy_pages.ensures
+    (fails_alike (Unit {0}) (Unit {0}) c.in_err-copy_pages.field-0.0 _ _
+    (c.in_err-copy_pages.ensures.pages tells ps c.args.page.now plan.whole.apart
+    (level_0_there _ _ _ _ _ _ _ _ _ ps links (record { plan = plan; size_is = c.requires.size; long = refl; wide = c.requires.first; left = begin.left tells plan.stands; kept = begin.begun tells })) plan.whole.sizes plan.whole.long (begin.begun tells).reads))
+
 pub returns-in_err-write_levels-clause-left : goal.returns-in_err-write_levels-clause-left
 returns-in_err-write_levels-clause-left g c tells ps links plan =
     let begin = c.in_ok-begin.ensures in
@@ -23,9 +31,9 @@ returns-in_err-write_levels-clause-done g c tells ps links plan =
     let begin = c.in_ok-begin.ensures in
     passed _ (λ r. IsDone r (KeepsImage (g.H.Host.world c.write_levels.new.host) c.args.target.now (restored ps links))) c.from_residual-in_err-write_levels.result c.in_err-write_levels.field-0.0 c.from_residual-in_err-write_levels.ensures
     (fails_alike (Unit {0}) (Unit {0}) c.in_err-write_levels.field-0.0
-    (OverwritesAll (length c.copy_pages.new.page) links ((g.H.Host.world c.copy_pages.new.host).files c.args.target.now) ((g.H.Host.world c.write_levels.new.host).files c.args.target.now) c.args.first.now c.write_levels.new.first) _
+    (OverwritesAll (length c.args.page.now) links ((g.H.Host.world c.copy_pages.new.host).files c.args.target.now) ((g.H.Host.world c.write_levels.new.host).files c.args.target.now) c.args.first.now c.write_levels.new.first) _
     (c.in_err-write_levels.ensures.pages tells links
-    (readers_ready _ _ _ _ _ _ _ _ _ ps _ (record { plan = plan; size_is = c.requires.size; long = refl; wide = c.requires.first; left = begin.left tells plan.stands; kept = begin.begun tells }) _ _ c.copy_pages.auto.page (c.copy_pages.ensures.left tells))))
+    (readers_ready _ _ _ _ _ _ _ _ _ ps _ (record { plan = plan; size_is = c.requires.size; long = refl; wide = c.requires.first; left = begin.left tells plan.stands; kept = begin.begun tells }) _ _ refl (c.copy_pages.ensures.left tells))))
 
 pub returns-in_err-finish-clause-left : goal.returns-in_err-finish-clause-left
 returns-in_err-finish-clause-left g c tells ps links plan =
@@ -34,9 +42,9 @@ returns-in_err-finish-clause-left g c tells ps links plan =
     let write = c.in_ok-write_levels.ensures in
     let begun : IsBegun (g.H.Host.world c.args.host.now) (g.H.Host.world c.begin.new.host) c.args.target.now c.args.file.now (length c.args.page.now) c.args.pages c.args.readers.items c.args.first.now c.args.page.now ps links =
     record { plan = plan; size_is = c.requires.size; long = refl; wide = c.requires.first; left = begin.left tells plan.stands; kept = begin.begun tells } in
-    let written = all_written _ _ _ _ _ _ _ _ _ _ _ begun _ _ _ _ c.copy_pages.auto.page (copy.left tells) (write.left tells)
-    (copy.pages tells ps plan.whole.apart (level_0_there _ _ _ _ _ _ _ _ _ _ _ begun) plan.whole.sizes plan.whole.long)
-    (write.pages tells links (readers_ready _ _ _ _ _ _ _ _ _ _ _ begun _ _ c.copy_pages.auto.page (copy.left tells))) in
+    let written = all_written _ _ _ _ _ _ _ _ _ _ _ begun _ _ _ _ refl (copy.left tells) (write.left tells)
+    (copy.pages tells ps c.args.page.now plan.whole.apart (level_0_there _ _ _ _ _ _ _ _ _ _ _ begun) plan.whole.sizes plan.whole.long begun.kept.reads)
+    (write.pages tells links (readers_ready _ _ _ _ _ _ _ _ _ _ _ begun _ _ refl (copy.left tells))) in
     all_left _ _ _ _ _ _ _ _ written _ c.put.ensures.written (g.met.H.Host.reads_left _ tells _) (c.finish.ensures.left tells)
 
 pub returns-clause-left : goal.returns-clause-left
@@ -46,9 +54,9 @@ returns-clause-left g c tells ps links plan =
     let write = c.in_ok-write_levels.ensures in
     let begun : IsBegun (g.H.Host.world c.args.host.now) (g.H.Host.world c.begin.new.host) c.args.target.now c.args.file.now (length c.args.page.now) c.args.pages c.args.readers.items c.args.first.now c.args.page.now ps links =
     record { plan = plan; size_is = c.requires.size; long = refl; wide = c.requires.first; left = begin.left tells plan.stands; kept = begin.begun tells } in
-    let written = all_written _ _ _ _ _ _ _ _ _ _ _ begun _ _ _ _ c.copy_pages.auto.page (copy.left tells) (write.left tells)
-    (copy.pages tells ps plan.whole.apart (level_0_there _ _ _ _ _ _ _ _ _ _ _ begun) plan.whole.sizes plan.whole.long)
-    (write.pages tells links (readers_ready _ _ _ _ _ _ _ _ _ _ _ begun _ _ c.copy_pages.auto.page (copy.left tells))) in
+    let written = all_written _ _ _ _ _ _ _ _ _ _ _ begun _ _ _ _ refl (copy.left tells) (write.left tells)
+    (copy.pages tells ps c.args.page.now plan.whole.apart (level_0_there _ _ _ _ _ _ _ _ _ _ _ begun) plan.whole.sizes plan.whole.long begun.kept.reads)
+    (write.pages tells links (readers_ready _ _ _ _ _ _ _ _ _ _ _ begun _ _ refl (copy.left tells))) in
     all_left _ _ _ _ _ _ _ _ written _ c.put.ensures.written (g.met.H.Host.reads_left _ tells _) (c.in_ok-finish.ensures.left tells)
 
 pub returns-clause-done : goal.returns-clause-done
@@ -58,7 +66,7 @@ returns-clause-done g c tells ps links plan =
     let write = c.in_ok-write_levels.ensures in
     let begun : IsBegun (g.H.Host.world c.args.host.now) (g.H.Host.world c.begin.new.host) c.args.target.now c.args.file.now (length c.args.page.now) c.args.pages c.args.readers.items c.args.first.now c.args.page.now ps links =
     record { plan = plan; size_is = c.requires.size; long = refl; wide = c.requires.first; left = begin.left tells plan.stands; kept = begin.begun tells } in
-    let written = all_written _ _ _ _ _ _ _ _ _ _ _ begun _ _ _ _ c.copy_pages.auto.page (copy.left tells) (write.left tells)
-    (copy.pages tells ps plan.whole.apart (level_0_there _ _ _ _ _ _ _ _ _ _ _ begun) plan.whole.sizes plan.whole.long)
-    (write.pages tells links (readers_ready _ _ _ _ _ _ _ _ _ _ _ begun _ _ c.copy_pages.auto.page (copy.left tells))) in
+    let written = all_written _ _ _ _ _ _ _ _ _ _ _ begun _ _ _ _ refl (copy.left tells) (write.left tells)
+    (copy.pages tells ps c.args.page.now plan.whole.apart (level_0_there _ _ _ _ _ _ _ _ _ _ _ begun) plan.whole.sizes plan.whole.long begun.kept.reads)
+    (write.pages tells links (readers_ready _ _ _ _ _ _ _ _ _ _ _ begun _ _ refl (copy.left tells))) in
     all_kept _ _ _ _ _ _ _ _ written _ c.put.ensures.written (c.in_ok-finish.ensures.done tells)

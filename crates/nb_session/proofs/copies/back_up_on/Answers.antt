@@ -1,13 +1,10 @@
-use Rattle.std.proofs.Common.{◌≡◌, ◌-◌, ◌<◌, ℕ, length, refl, sym, ap, subst}
+use Rattle.std.proofs.Common.{◌≡◌, ◌-◌, ℕ, refl, sym, ap, subst}
 use Rattle.std.specs.Prelude.{Ok, Err, None}
 use Rattle.nb_host.specs.declared.faults.Fault.{Fault}
 use Rattle.nb_host.specs.declared.faults.Fault.TheVariants.{Refused, Device, Memory}
 use Rattle.nb_model.specs.declared.reply.Reply.TheVariants.{Level}
-use Rattle.nb_model.specs.Account.{Base}
 use Rattle.nb_model.specs.Backups.{close_backup}
-use Rattle.nb_model.specs.Going.{IsAt}
 use Rattle.nb_model.specs.Outcomes.{Given, ClosesBackup, next_time}
-use Rattle.nb_model.specs.Sound.{IsSoundImage}
 use Rattle.nb_state.specs.declared.turns.Progress.{Progress}
 use Rattle.nb_state.specs.declared.turns.Progress.TheVariants.{More, Finished}
 use Rattle.nb_copy.specs.FileCopying.{file_count, file_next, file_written}
@@ -16,12 +13,10 @@ use Rattle.nb_copy.specs.Closing.{GaveTimeAtMost, BackupTurn, BackupCounts}
 use Rattle.nb_session.specs.Askers.{copy_first, copy_rest}
 use Rattle.nb_session.specs.declared.task.Taken.{Taken}
 use Rattle.nb_session.specs.Steps.{IsBehind}
-use Rattle.nb_session.proofs.BackupLaws.{seen_with, backup_files, turn_told, turn_acts, turn_sure, more_behind, close_behind}
-use Rattle.nb_session.proofs.CopyLaws.{apart_one, stalled_now}
+use Rattle.nb_session.proofs.BackupLaws.{seen_with, MayGoOn, may_go_on, backup_files, turn_told, turn_acts, turn_sure, more_behind, close_behind}
+use Rattle.nb_session.proofs.CopyLaws.{apart_one}
 use Rattle.nb_session.proofs.EventLaws.{marks_made}
-use Rattle.nb_session.proofs.ReadyLaws.{apart_files}
-use Rattle.nb_session.proofs.TurnLaws.{turns_failed, turns_quiet}
-use Rattle.nb_session.proofs.WayLaws.{backing_at}
+use Rattle.nb_session.proofs.TurnLaws.{turns_failed, turns_quiet, turns_never}
 use Rattle.nb_session.proofs.copies.back_up_on.Goals as goal
 
 pub returns-in-Ok-More-clause-turn : goal.returns-in-Ok-More-clause-turn
@@ -34,15 +29,11 @@ returns-in-Ok-More-clause-turn g c now t more tells ready makes here goes =
     let copier : Backed = c.args.copier in
     let later : Backed = c.turn.new.self in
     let rest : ℕ = file_count copier.file - file_next copier.file in
-    let backs = backing_at now (session - 1) rest copier.backing more (subst (IsAt now (session - 1)) here (makes.going.each (session - 1))) in
-    let sound = subst (λ (x : Base). IsSoundImage x.image) (sym ready.base) makes.going.sound in
-    let below = subst (λ (x : Base). copier.backing.page < length x.image) (sym ready.base) backs.room.below in
-    let stalled = stalled_now old a t now (session - 1) ready backs.runs in
-    let apart = apart_files a copier.backing.name goes.1 in
-    let asked = c.in-Ok-More.ensures.asks t tells ready.opened stalled goes.0 below apart in
+    let may : MayGoOn a t copier = may_go_on old a t now session copier more ready makes.going here goes.1 in
+    let asked = c.in-Ok-More.ensures.asks t tells ready.opened may.stalled goes.0 may.below may.apart in
     let turns = λ (given : Given) (most : GaveTimeAtMost old mid (next_time given)).
     subst (λ (p : Progress). BackupTurn (Ok p) old mid a b copier later t (next_time given) (close_backup (seen_with now given) copier.backing).strokes) c.in-Ok-More.field-0-is
-    (c.in-Ok-More.ensures.turn (seen_with now given) t tells ready.base ready.opened stalled sound goes.0 below apart most) in
+    (c.in-Ok-More.ensures.turn (seen_with now given) t tells ready.base ready.opened may.stalled may.sound goes.0 may.below may.apart most) in
     let counts = subst (λ (p : Progress). BackupCounts (Ok p) copier later) c.in-Ok-More.field-0-is c.in-Ok-More.ensures.counts in
     turns_quiet (λ progress. None) (Ok More) (λ (taken : Taken). taken.refused) (λ (taken : Taken). taken.task) old mid mid a b t now session (copy_first rest (ClosesBackup copier.backing)) (copy_rest rest (ClosesBackup copier.backing)) more _ (backup_files old mid a b t now session copier later ready goes.0 goes.1 c.in-Ok-More.ensures.goes) makes here
     (turn_acts old mid a b t now session copier later ready goes.0 goes.1 c.in-Ok-More.ensures.goes (g.met.H.Host.reads_left c.args.host.now tells copier.backing.name) (Ok More) turns asked.0 asked.1 counts)
@@ -60,15 +51,11 @@ returns-in-Ok-Finished-clause-turn g c now t more tells ready makes here goes =
     let copier : Backed = c.args.copier in
     let later : Backed = c.turn.new.self in
     let rest : ℕ = file_count copier.file - file_next copier.file in
-    let backs = backing_at now (session - 1) rest copier.backing more (subst (IsAt now (session - 1)) here (makes.going.each (session - 1))) in
-    let sound = subst (λ (x : Base). IsSoundImage x.image) (sym ready.base) makes.going.sound in
-    let below = subst (λ (x : Base). copier.backing.page < length x.image) (sym ready.base) backs.room.below in
-    let stalled = stalled_now old a t now (session - 1) ready backs.runs in
-    let apart = apart_files a copier.backing.name goes.1 in
-    let asked = c.in-Ok-Finished.ensures.asks t tells ready.opened stalled goes.0 below apart in
+    let may : MayGoOn a t copier = may_go_on old a t now session copier more ready makes.going here goes.1 in
+    let asked = c.in-Ok-Finished.ensures.asks t tells ready.opened may.stalled goes.0 may.below may.apart in
     let turns = λ (given : Given) (most : GaveTimeAtMost old mid (next_time given)).
     subst (λ (p : Progress). BackupTurn (Ok p) old mid a b copier later t (next_time given) (close_backup (seen_with now given) copier.backing).strokes) c.in-Ok-Finished.field-0-is
-    (c.in-Ok-Finished.ensures.turn (seen_with now given) t tells ready.base ready.opened stalled sound goes.0 below apart most) in
+    (c.in-Ok-Finished.ensures.turn (seen_with now given) t tells ready.base ready.opened may.stalled may.sound goes.0 may.below may.apart most) in
     let counts = subst (λ (p : Progress). BackupCounts (Ok p) copier later) c.in-Ok-Finished.field-0-is c.in-Ok-Finished.ensures.counts in
     let says : Level c.level.result c.scn.result c.written.result c.guid.result ≡ Level later.backing.ask.level later.backing.scn (file_written later.file) later.backing.guid = rw (c.level.ensures.value, c.scn.ensures, c.written.ensures, c.guid.ensures) refl in
     turns_quiet (λ progress. None) (Ok Finished) (λ (taken : Taken). taken.refused) (λ (taken : Taken). taken.task) old mid mid a b t now session (copy_first rest (ClosesBackup copier.backing)) (copy_rest rest (ClosesBackup copier.backing)) more _ (backup_files old mid a b t now session copier later ready goes.0 goes.1 c.in-Ok-Finished.ensures.goes) makes here
@@ -87,16 +74,13 @@ returns-in-Err-Refused-clause-turn g c now t more tells ready makes here goes =
     let copier : Backed = c.args.copier in
     let later : Backed = c.turn.new.self in
     let rest : ℕ = file_count copier.file - file_next copier.file in
-    let backs = backing_at now (session - 1) rest copier.backing more (subst (IsAt now (session - 1)) here (makes.going.each (session - 1))) in
-    let sound = subst (λ (x : Base). IsSoundImage x.image) (sym ready.base) makes.going.sound in
-    let below = subst (λ (x : Base). copier.backing.page < length x.image) (sym ready.base) backs.room.below in
-    let stalled = stalled_now old a t now (session - 1) ready backs.runs in
-    let apart = apart_files a copier.backing.name goes.1 in
-    let asked = c.in-Err-Refused.ensures.asks t tells ready.opened stalled goes.0 below apart in
+    let may : MayGoOn a t copier = may_go_on old a t now session copier more ready makes.going here goes.1 in
+    let asked = c.in-Err-Refused.ensures.asks t tells ready.opened may.stalled goes.0 may.below may.apart in
     let turns = λ (given : Given) (most : GaveTimeAtMost old mid (next_time given)).
     subst (λ (f : Fault). BackupTurn (Err f) old mid a b copier later t (next_time given) (close_backup (seen_with now given) copier.backing).strokes) c.in-Err-Refused.field-0-is
-    (c.in-Err-Refused.ensures.turn (seen_with now given) t tells ready.base ready.opened stalled sound goes.0 below apart most) in
-    absurd (turn_sure old mid a b t now session copier later ready goes.0 goes.1 c.in-Err-Refused.ensures.goes (g.met.H.Host.reads_left c.args.host.now tells copier.backing.name) (Err (Refused c.in-Err-Refused.refusal)) turns asked.0 asked.1)
+    (c.in-Err-Refused.ensures.turn (seen_with now given) t tells ready.base ready.opened may.stalled may.sound goes.0 may.below may.apart most) in
+    turns_never (λ (taken : Taken). taken.refused) (λ (taken : Taken). taken.task) c.say_refused.result old (g.H.Host.world c.say_refused.new.host) a c.stop_running.new.engine t now session (copy_first rest (ClosesBackup copier.backing)) (copy_rest rest (ClosesBackup copier.backing)) more
+    (turn_sure old mid a b t now session copier later ready goes.0 goes.1 c.in-Err-Refused.ensures.goes (g.met.H.Host.reads_left c.args.host.now tells copier.backing.name) (Err (Refused c.in-Err-Refused.refusal)) turns asked.0 asked.1)
 
 pub returns-in-Err-Device-clause-turn : goal.returns-in-Err-Device-clause-turn
 returns-in-Err-Device-clause-turn g c now t more tells ready makes here goes =
@@ -108,15 +92,11 @@ returns-in-Err-Device-clause-turn g c now t more tells ready makes here goes =
     let copier : Backed = c.args.copier in
     let later : Backed = c.turn.new.self in
     let rest : ℕ = file_count copier.file - file_next copier.file in
-    let backs = backing_at now (session - 1) rest copier.backing more (subst (IsAt now (session - 1)) here (makes.going.each (session - 1))) in
-    let sound = subst (λ (x : Base). IsSoundImage x.image) (sym ready.base) makes.going.sound in
-    let below = subst (λ (x : Base). copier.backing.page < length x.image) (sym ready.base) backs.room.below in
-    let stalled = stalled_now old a t now (session - 1) ready backs.runs in
-    let apart = apart_files a copier.backing.name goes.1 in
-    let asked = c.in-Err-Device.ensures.asks t tells ready.opened stalled goes.0 below apart in
+    let may : MayGoOn a t copier = may_go_on old a t now session copier more ready makes.going here goes.1 in
+    let asked = c.in-Err-Device.ensures.asks t tells ready.opened may.stalled goes.0 may.below may.apart in
     let turns = λ (given : Given) (most : GaveTimeAtMost old mid (next_time given)).
     subst (λ (f : Fault). BackupTurn (Err f) old mid a b copier later t (next_time given) (close_backup (seen_with now given) copier.backing).strokes) c.in-Err-Device.field-0-is
-    (c.in-Err-Device.ensures.turn (seen_with now given) t tells ready.base ready.opened stalled sound goes.0 below apart most) in
+    (c.in-Err-Device.ensures.turn (seen_with now given) t tells ready.base ready.opened may.stalled may.sound goes.0 may.below may.apart most) in
     turns_failed (λ progress. None) (Err Device) (λ (taken : Taken). taken.refused) (λ (taken : Taken). taken.task) old mid mid a b t now session (copy_first rest (ClosesBackup copier.backing)) (copy_rest rest (ClosesBackup copier.backing)) more _ (backup_files old mid a b t now session copier later ready goes.0 goes.1 c.in-Err-Device.ensures.goes) makes here
     (turn_acts old mid a b t now session copier later ready goes.0 goes.1 c.in-Err-Device.ensures.goes (g.met.H.Host.reads_left c.args.host.now tells copier.backing.name) (Err Device) turns asked.0 asked.1 tt)
     (marks_made (λ progress. None) (Err Device) old mid a b t now session (copy_first rest (ClosesBackup copier.backing)) _ (apart_one a copier.backing.name _ goes.1) (g.met.H.Host.reads_left c.turn.new.host tells))
@@ -132,15 +112,11 @@ returns-clause-turn g c now t more tells ready makes here goes =
     let copier : Backed = c.args.copier in
     let later : Backed = c.turn.new.self in
     let rest : ℕ = file_count copier.file - file_next copier.file in
-    let backs = backing_at now (session - 1) rest copier.backing more (subst (IsAt now (session - 1)) here (makes.going.each (session - 1))) in
-    let sound = subst (λ (x : Base). IsSoundImage x.image) (sym ready.base) makes.going.sound in
-    let below = subst (λ (x : Base). copier.backing.page < length x.image) (sym ready.base) backs.room.below in
-    let stalled = stalled_now old a t now (session - 1) ready backs.runs in
-    let apart = apart_files a copier.backing.name goes.1 in
-    let asked = c.in-Err-Memory.ensures.asks t tells ready.opened stalled goes.0 below apart in
+    let may : MayGoOn a t copier = may_go_on old a t now session copier more ready makes.going here goes.1 in
+    let asked = c.in-Err-Memory.ensures.asks t tells ready.opened may.stalled goes.0 may.below may.apart in
     let turns = λ (given : Given) (most : GaveTimeAtMost old mid (next_time given)).
     subst (λ (f : Fault). BackupTurn (Err f) old mid a b copier later t (next_time given) (close_backup (seen_with now given) copier.backing).strokes) c.in-Err-Memory.field-0-is
-    (c.in-Err-Memory.ensures.turn (seen_with now given) t tells ready.base ready.opened stalled sound goes.0 below apart most) in
+    (c.in-Err-Memory.ensures.turn (seen_with now given) t tells ready.base ready.opened may.stalled may.sound goes.0 may.below may.apart most) in
     turns_failed (λ progress. None) (Err Memory) (λ (taken : Taken). taken.refused) (λ (taken : Taken). taken.task) old mid mid a b t now session (copy_first rest (ClosesBackup copier.backing)) (copy_rest rest (ClosesBackup copier.backing)) more _ (backup_files old mid a b t now session copier later ready goes.0 goes.1 c.in-Err-Memory.ensures.goes) makes here
     (turn_acts old mid a b t now session copier later ready goes.0 goes.1 c.in-Err-Memory.ensures.goes (g.met.H.Host.reads_left c.args.host.now tells copier.backing.name) (Err Memory) turns asked.0 asked.1 tt)
     (marks_made (λ progress. None) (Err Memory) old mid a b t now session (copy_first rest (ClosesBackup copier.backing)) _ (apart_one a copier.backing.name _ goes.1) (g.met.H.Host.reads_left c.turn.new.host tells))

@@ -3,17 +3,17 @@ use Rattle.std.specs.Prelude.{Ok, Err, None}
 use Rattle.nb_host.specs.declared.faults.Fault.{Fault}
 use Rattle.nb_host.specs.declared.faults.Fault.TheVariants.{Refused, Device, Memory}
 use Rattle.nb_model.specs.declared.reply.Reply.TheVariants.{Refused as RefusedBy}
-use Rattle.nb_model.specs.declared.statement.Statement.TheVariants.{Backup as BackupTo}
 use Rattle.nb_model.specs.Account.{Base}
-use Rattle.nb_model.specs.Backups.{backup_turn}
 use Rattle.nb_model.specs.Outcomes.{Begins, Given, next_guid}
 use Rattle.nb_model.specs.Run.{base_now}
 use Rattle.nb_model.specs.Sound.{IsSoundImage}
+use Rattle.nb_model.specs.Turns.{first_turn}
 use Rattle.nb_state.specs.Turns.{GaveAtMost}
 use Rattle.nb_copy.specs.Starting.{StartsBackup}
 use Rattle.nb_session.specs.declared.task.Taken.{Taken}
+use Rattle.nb_session.specs.Askers.{file_asked}
 use Rattle.nb_session.specs.Steps.{IsBehind}
-use Rattle.nb_session.proofs.BackupLaws.{seen_with, knows_free, starts_told, start_acts, start_behind, start_refused}
+use Rattle.nb_session.proofs.BackupLaws.{file_plain, seen_with, knows_free, starts_told, start_acts, start_behind, start_refused}
 use Rattle.nb_session.proofs.EventLaws.{marks_none}
 use Rattle.nb_session.proofs.MakesLaws.{begins_make}
 use Rattle.nb_session.proofs.TurnLaws.{turns_failed, turns_quiet, turns_refused, status_told}
@@ -26,16 +26,17 @@ returns-in-Ok-clause-turn g c now t more tells ready makes here =
     let a = c.args.engine.now in
     let b = c.start.new.engine in
     let session = c.args.session in
-    let level = c.args.level in
-    let name = c.args.name.now in
+    let it = c.args.statement.now in
+    let asks = c.requires.backup in
+    let plain = file_plain it asks c.requires.asked.fits in
     let sound = subst (λ (x : Base). IsSoundImage x.image) (sym ready.base) makes.going.sound in
     let asked = c.in-Ok.ensures.asks t tells ready.opened in
-    let starts = λ (given : Given) (most : GaveAtMost old mid (next_guid given)). c.in-Ok.ensures.turn (seen_with now given) t tells ready.base ready.running ready.opened sound (knows_free old a t now name ready makes.going c.requires.plain) most in
-    turns_quiet (λ copier. None) (Ok c.in-Ok.copier) (λ (taken : Taken). taken.refused) (λ (taken : Taken). taken.task) old mid mid a b t now session (Begins (BackupTo level name)) [] more [] (begins_make (base_now now).frozen (BackupTo level name)) makes here
-    (start_acts old mid a b t now session level name ready (Ok c.in-Ok.copier) starts asked.0 asked.2 asked.1) (λ acts. marks_none old mid a)
+    let starts = λ (given : Given) (most : GaveAtMost old mid (next_guid given)). c.in-Ok.ensures.turn (seen_with now given) t tells ready.base ready.running ready.opened sound (knows_free old a t now (file_asked it) ready makes.going plain) most in
+    turns_quiet (λ copier. None) (Ok c.in-Ok.copier) (λ (taken : Taken). taken.refused) (λ (taken : Taken). taken.task) old mid mid a b t now session (Begins it) [] more [] (begins_make (base_now now).frozen it) makes here
+    (start_acts old mid a b t now session it asks ready (Ok c.in-Ok.copier) starts asked.0 asked.2 asked.1) (λ acts. marks_none old mid a)
     c.under_way.result tt (ap (λ (x : Taken). x.refused) c.under_way.ensures) ready (λ said is. is)
-    (λ told. subst (λ (x : Taken). IsBehind mid b session (Begins (BackupTo level name)) [] now x.task) (sym c.under_way.ensures)
-    (start_behind old mid a b t now session level name ready c.in-Ok.copier (next_guid now.given) c.requires.plain (starts_told old mid a b t now session level name ready (Ok c.in-Ok.copier) starts asked.0 asked.2 told)))
+    (λ told. subst (λ (x : Taken). IsBehind mid b session (Begins it) [] now x.task) (sym c.under_way.ensures)
+    (start_behind old mid a b t now session it asks ready c.in-Ok.copier (next_guid now.given) plain (starts_told old mid a b t now session it asks ready (Ok c.in-Ok.copier) starts asked.0 asked.2 told)))
 
 pub returns-in-Err-Refused-clause-turn : goal.returns-in-Err-Refused-clause-turn
 returns-in-Err-Refused-clause-turn g c now t more tells ready makes here =
@@ -45,18 +46,19 @@ returns-in-Err-Refused-clause-turn g c now t more tells ready makes here =
     let a = c.args.engine.now in
     let b = c.start.new.engine in
     let session = c.args.session in
-    let level = c.args.level in
-    let name = c.args.name.now in
+    let it = c.args.statement.now in
+    let asks = c.requires.backup in
+    let plain = file_plain it asks c.requires.asked.fits in
     let refusal = c.in-Err-Refused.refusal in
     let sound = subst (λ (x : Base). IsSoundImage x.image) (sym ready.base) makes.going.sound in
     let asked = c.in-Err-Refused.ensures.asks t tells ready.opened in
     let starts = λ (given : Given) (most : GaveAtMost old mid (next_guid given)).
-    subst (λ (f : Fault). StartsBackup (Err f) old mid a b t (next_guid given) (backup_turn (seen_with now given) session level name)) c.in-Err-Refused.field-0-is
-    (c.in-Err-Refused.ensures.turn (seen_with now given) t tells ready.base ready.running ready.opened sound (knows_free old a t now name ready makes.going c.requires.plain) most) in
-    turns_refused (λ copier. None) refusal old mid new a b t now session (Begins (BackupTo level name)) [] more [] (begins_make (base_now now).frozen (BackupTo level name)) makes here
-    (start_acts old mid a b t now session level name ready (Err (Refused refusal)) starts asked.0 asked.2 asked.1) (λ acts. marks_none old mid a) ready c.say_refused.result (c.say_refused.ensures.line tells) c.say_refused.ensures.taken
-    (λ is. status_told session (BackupTo level name) now (RefusedBy refusal) refl is)
-    (λ told. start_refused old mid a b t now session level name ready refusal (next_guid now.given) (starts_told old mid a b t now session level name ready (Err (Refused refusal)) starts asked.0 asked.2 told) new)
+    subst (λ (f : Fault). StartsBackup (Err f) old mid a b t (next_guid given) (first_turn (seen_with now given) session it)) c.in-Err-Refused.field-0-is
+    (c.in-Err-Refused.ensures.turn (seen_with now given) t tells ready.base ready.running ready.opened sound (knows_free old a t now (file_asked it) ready makes.going plain) most) in
+    turns_refused (λ copier. None) refusal old mid new a b t now session (Begins it) [] more [] (begins_make (base_now now).frozen it) makes here
+    (start_acts old mid a b t now session it asks ready (Err (Refused refusal)) starts asked.0 asked.2 asked.1) (λ acts. marks_none old mid a) ready c.say_refused.result (c.say_refused.ensures.line tells) c.say_refused.ensures.taken
+    (λ is. status_told session it now (RefusedBy refusal) c.requires.asked.is_built is)
+    (λ told. start_refused old mid a b t now session it asks ready refusal (next_guid now.given) (starts_told old mid a b t now session it asks ready (Err (Refused refusal)) starts asked.0 asked.2 told) new)
 
 pub returns-in-Err-Device-clause-turn : goal.returns-in-Err-Device-clause-turn
 returns-in-Err-Device-clause-turn g c now t more tells ready makes here =
@@ -65,15 +67,16 @@ returns-in-Err-Device-clause-turn g c now t more tells ready makes here =
     let a = c.args.engine.now in
     let b = c.start.new.engine in
     let session = c.args.session in
-    let level = c.args.level in
-    let name = c.args.name.now in
+    let it = c.args.statement.now in
+    let asks = c.requires.backup in
+    let plain = file_plain it asks c.requires.asked.fits in
     let sound = subst (λ (x : Base). IsSoundImage x.image) (sym ready.base) makes.going.sound in
     let asked = c.in-Err-Device.ensures.asks t tells ready.opened in
     let starts = λ (given : Given) (most : GaveAtMost old mid (next_guid given)).
-    subst (λ (f : Fault). StartsBackup (Err f) old mid a b t (next_guid given) (backup_turn (seen_with now given) session level name)) c.in-Err-Device.field-0-is
-    (c.in-Err-Device.ensures.turn (seen_with now given) t tells ready.base ready.running ready.opened sound (knows_free old a t now name ready makes.going c.requires.plain) most) in
-    turns_failed (λ copier. None) (Err Device) (λ (taken : Taken). taken.refused) (λ (taken : Taken). taken.task) old mid mid a b t now session (Begins (BackupTo level name)) [] more [] (begins_make (base_now now).frozen (BackupTo level name)) makes here
-    (start_acts old mid a b t now session level name ready (Err Device) starts asked.0 asked.2 asked.1) (λ acts. marks_none old mid a) (Err Device) refl
+    subst (λ (f : Fault). StartsBackup (Err f) old mid a b t (next_guid given) (first_turn (seen_with now given) session it)) c.in-Err-Device.field-0-is
+    (c.in-Err-Device.ensures.turn (seen_with now given) t tells ready.base ready.running ready.opened sound (knows_free old a t now (file_asked it) ready makes.going plain) most) in
+    turns_failed (λ copier. None) (Err Device) (λ (taken : Taken). taken.refused) (λ (taken : Taken). taken.task) old mid mid a b t now session (Begins it) [] more [] (begins_make (base_now now).frozen it) makes here
+    (start_acts old mid a b t now session it asks ready (Err Device) starts asked.0 asked.2 asked.1) (λ acts. marks_none old mid a) (Err Device) refl
 
 pub returns-in-Err-Memory-clause-turn : goal.returns-in-Err-Memory-clause-turn
 returns-in-Err-Memory-clause-turn g c now t more tells ready makes here =
@@ -82,12 +85,13 @@ returns-in-Err-Memory-clause-turn g c now t more tells ready makes here =
     let a = c.args.engine.now in
     let b = c.start.new.engine in
     let session = c.args.session in
-    let level = c.args.level in
-    let name = c.args.name.now in
+    let it = c.args.statement.now in
+    let asks = c.requires.backup in
+    let plain = file_plain it asks c.requires.asked.fits in
     let sound = subst (λ (x : Base). IsSoundImage x.image) (sym ready.base) makes.going.sound in
     let asked = c.in-Err-Memory.ensures.asks t tells ready.opened in
     let starts = λ (given : Given) (most : GaveAtMost old mid (next_guid given)).
-    subst (λ (f : Fault). StartsBackup (Err f) old mid a b t (next_guid given) (backup_turn (seen_with now given) session level name)) c.in-Err-Memory.field-0-is
-    (c.in-Err-Memory.ensures.turn (seen_with now given) t tells ready.base ready.running ready.opened sound (knows_free old a t now name ready makes.going c.requires.plain) most) in
-    turns_failed (λ copier. None) (Err Memory) (λ (taken : Taken). taken.refused) (λ (taken : Taken). taken.task) old mid mid a b t now session (Begins (BackupTo level name)) [] more [] (begins_make (base_now now).frozen (BackupTo level name)) makes here
-    (start_acts old mid a b t now session level name ready (Err Memory) starts asked.0 asked.2 asked.1) (λ acts. marks_none old mid a) (Err Memory) refl
+    subst (λ (f : Fault). StartsBackup (Err f) old mid a b t (next_guid given) (first_turn (seen_with now given) session it)) c.in-Err-Memory.field-0-is
+    (c.in-Err-Memory.ensures.turn (seen_with now given) t tells ready.base ready.running ready.opened sound (knows_free old a t now (file_asked it) ready makes.going plain) most) in
+    turns_failed (λ copier. None) (Err Memory) (λ (taken : Taken). taken.refused) (λ (taken : Taken). taken.task) old mid mid a b t now session (Begins it) [] more [] (begins_make (base_now now).frozen it) makes here
+    (start_acts old mid a b t now session it asks ready (Err Memory) starts asked.0 asked.2 asked.1) (λ acts. marks_none old mid a) (Err Memory) refl

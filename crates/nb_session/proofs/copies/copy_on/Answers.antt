@@ -12,7 +12,7 @@ use Rattle.nb_copy.specs.Turns.{CopyCounts}
 use Rattle.nb_session.specs.declared.task.Taken.{Taken}
 use Rattle.nb_session.specs.Askers.{copy_first, copy_rest}
 use Rattle.nb_session.specs.Steps.{IsBehind}
-use Rattle.nb_session.proofs.CopyLaws.{copy_said, said_pages, copy_files, copy_fails, copy_more, copy_ends, more_behind, end_behind, copying_stalled, apart_one}
+use Rattle.nb_session.proofs.CopyLaws.{stopped_is, copy_said, said_pages, copy_files, copy_fails, copy_more, copy_ends, more_behind, end_behind, copying_stalled, apart_one}
 use Rattle.nb_session.proofs.EventLaws.{marks_made}
 use Rattle.nb_session.proofs.ReadyLaws.{apart_files}
 use Rattle.nb_session.proofs.TurnLaws.{turns_failed, turns_quiet, turns_unsaid, turns_said}
@@ -76,7 +76,7 @@ returns-in_err-say-in-Finished-clause-turn g c now t more tells ready makes here
     let counts = subst (λ (p : Progress). CopyCounts (Ok p) copy later) c.in-Finished.is c.in_ok-turn.ensures.counts in
     let none : left ≡ 0 = omega (arith, counts.0) in
     let all = c.written.ensures ∙ ap (λ (x : Copying). x.next) counts.1 ∙ counts.0 ∙ sym goes.0.of.long in
-    let stopped = c.stop_running.ensures.own (ap (λ (h : Held). h.running) copies.same ∙ goes.2) ∙ ap (λ (h : Held). record h { running = None }) copies.same in
+    let stopped : d ≡ record a { running = None } = stopped_is a b d c.args.session copies.same goes.2 c.stop_running.ensures.own in
     let reads = g.met.H.Host.reads_left c.args.host.now tells copy.name in
     turns_unsaid (copy_said pages) (Ok Finished) (λ (taken : Taken). taken.refused) (λ (taken : Taken). taken.task) old mid new a d t now c.args.session (copy_first left (ClosesCopy copy.name)) (copy_rest left (ClosesCopy copy.name)) more _
     (copy_files old mid a d t now c.args.session copy later pages ready goes.1 reads left) makes here
@@ -101,7 +101,7 @@ returns-in_ok-say-in-Finished-clause-turn g c now t more tells ready makes here 
     let counts = subst (λ (p : Progress). CopyCounts (Ok p) copy later) c.in-Finished.is c.in_ok-turn.ensures.counts in
     let none : left ≡ 0 = omega (arith, counts.0) in
     let all = c.written.ensures ∙ ap (λ (x : Copying). x.next) counts.1 ∙ counts.0 ∙ sym goes.0.of.long in
-    let stopped = c.stop_running.ensures.own (ap (λ (h : Held). h.running) copies.same ∙ goes.2) ∙ ap (λ (h : Held). record h { running = None }) copies.same in
+    let stopped : d ≡ record a { running = None } = stopped_is a b d c.args.session copies.same goes.2 c.stop_running.ensures.own in
     let reads = g.met.H.Host.reads_left c.args.host.now tells copy.name in
     turns_said (copy_said pages) (Ok Finished) (λ (taken : Taken). taken.refused) (λ (taken : Taken). taken.task) old mid new a d t now c.args.session (copy_first left (ClosesCopy copy.name)) (copy_rest left (ClosesCopy copy.name)) more _
     (copy_files old mid a d t now c.args.session copy later pages ready goes.1 reads left) makes here

@@ -11,7 +11,7 @@ use Rattle.nb_session.specs.Steps.{IsBehind}
 use Rattle.nb_session.proofs.EventLaws.{marks_none}
 use Rattle.nb_session.proofs.MakesLaws.{ends_make}
 use Rattle.nb_session.proofs.MergeLaws.{ends_acts, ends_behind, ends_quiet, ends_unrefused}
-use Rattle.nb_session.proofs.TurnLaws.{seen_now, turns_failed, turns_quiet}
+use Rattle.nb_session.proofs.TurnLaws.{seen_now, turns_failed, turns_quiet, turns_never}
 use Rattle.nb_session.proofs.merges.end_backup.Goals as goal
 
 pub returns-in-Ok-clause-turn : goal.returns-in-Ok-clause-turn
@@ -34,7 +34,8 @@ returns-in-Err-Refused-clause-turn g c now t more tells ready makes here runs =
     let a = c.args.engine.now in
     let b = c.end.new.self in
     let does = subst (λ (f : Fault). DoesEnd (Err f) old mid a b t (end_scn t.base.image) (end_turn (seen_now now) c.args.session)) c.in-Err-Refused.field-0-is (c.in-Err-Refused.ensures.turn (seen_now now) t tells ready.base ready.running ready.opened) in
-    absurd (ends_unrefused old mid a b t now c.args.session ready makes.going c.args.reply more here runs c.in-Err-Refused.refusal does)
+    turns_never (λ (taken : Taken). taken.refused) (λ (taken : Taken). taken.task) c.say_refused.result old (g.H.Host.world c.say_refused.new.host) a b t now c.args.session (Ends c.args.reply) [] more
+    (ends_unrefused old mid a b t now c.args.session ready makes.going c.args.reply more here runs c.in-Err-Refused.refusal does)
 
 pub returns-in-Err-Device-clause-turn : goal.returns-in-Err-Device-clause-turn
 returns-in-Err-Device-clause-turn g c now t more tells ready makes here runs =

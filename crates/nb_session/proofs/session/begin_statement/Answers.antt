@@ -23,10 +23,6 @@ pub returns-in-EndBackup-clause-turn : goal.returns-in-EndBackup-clause-turn
 returns-in-EndBackup-clause-turn g c now t more tells ready makes =
     subst (Begun c.begin_merge.result (g.H.Host.world c.args.host.now) (g.H.Host.world c.begin_merge.new.host) c.args.engine.now c.begin_merge.new.engine t now c.args.session more) (sym c.in-EndBackup.is) (c.begin_merge.ensures.turn now t more tells ready makes)
 
-pub returns-in-Backup-clause-turn : goal.returns-in-Backup-clause-turn
-returns-in-Backup-clause-turn g c now t more tells ready makes =
-    subst (Begun c.begin_backup.result (g.H.Host.world c.args.host.now) (g.H.Host.world c.begin_backup.new.host) c.args.engine.now c.begin_backup.new.engine t now c.args.session more) (sym c.in-Backup.is) (c.begin_backup.ensures.turn now t more tells ready makes)
-
 pub returns-in-CopyTo-clause-turn : goal.returns-in-CopyTo-clause-turn
 returns-in-CopyTo-clause-turn g c now t more tells ready makes =
     subst (Begun c.begin_copy.result (g.H.Host.world c.args.host.now) (g.H.Host.world c.begin_copy.new.host) c.args.engine.now c.begin_copy.new.engine t now c.args.session more) (sym c.in-CopyTo.is) (c.begin_copy.ensures.turn now t more tells ready makes)

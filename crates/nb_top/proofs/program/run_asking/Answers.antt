@@ -1,9 +1,10 @@
-use Rattle.std.proofs.Common.{◌≡◌, sym, subst}
-use Rattle.std.specs.Prelude.{Ok, IfOk, true}
+use Rattle.std.proofs.Common.{◌≡◌, [], ◌∷◌, sym, subst}
+use Rattle.std.specs.Prelude.{Ok, IfOk}
 use Rattle.nb_page.proofs.QuietLemmas.{quiet_begun}
 use Rattle.nb_session.proofs.GiftLaws.{grows_none}
 use Rattle.nb_top.specs.Performed.{RunsTo, Knows}
 use Rattle.nb_top.specs.Requests.{ToRun, plan_of}
+use Rattle.nb_top.proofs.RequestLaws.{begins_alone_in}
 use Rattle.nb_top.proofs.QuietRuns.{quiet_gave}
 use Rattle.nb_top.proofs.ScriptRuns.{runs_err, settled_value, script_unbegun}
 use Rattle.nb_top.proofs.program.run_asking.Goals as goal
@@ -11,9 +12,9 @@ use Rattle.nb_top.proofs.program.run_asking.Goals as goal
 pub returns-in_err-script-clause-runs : goal.returns-in_err-script-clause-runs
 returns-in_err-script-clause-runs g c account given tells knows may told =
     let old = g.H.Host.world c.args.host.now in
-    let plan = plan_of c.args.db.now c.args.statement in
-    runs_err c.from_residual.result c.from_residual.ensures.0 (λ r. RunsTo r old old (Ok (ToRun plan true)) account given)
-    (λ e. script_unbegun old account given plan true c.requires knows old e (quiet_begun old (g.met.H.Host.timely c.args.host.now)))
+    let plan = plan_of c.args.db.now (c.args.statement ∷ []) in
+    runs_err c.from_residual.result c.from_residual.ensures.0 (λ r. RunsTo r old old (Ok (ToRun plan c.args.telling)) account given)
+    (λ e. script_unbegun old account given plan c.args.telling c.requires.askable knows old e (quiet_begun old (g.met.H.Host.timely c.args.host.now)))
 
 pub returns-in_err-script-clause-grows : goal.returns-in_err-script-clause-grows
 returns-in_err-script-clause-grows g c account tells knows =
@@ -24,16 +25,23 @@ pub returns-clause-runs : goal.returns-clause-runs
 returns-clause-runs g c account given tells knows may told =
     let old = g.H.Host.world c.args.host.now in
     let new = g.H.Host.world c.run_script.new.host in
-    let plan = plan_of c.args.db.now c.args.statement in
+    let plan = plan_of c.args.db.now (c.args.statement ∷ []) in
     let is = settled_value c.in_ok-script.field-0 c.in-Ok.script (λ value. c.script_asking.result ≡ Ok value) c.in-Ok.is c.in_ok-script.ensures.value in
     let same : c.in-Ok.script ≡ plan = subst (λ r. IfOk r (λ script. script ≡ plan)) is c.script_asking.ensures.script in
-    subst (λ p. RunsTo c.run_script.result old new (Ok (ToRun p true)) account given) same
-    (c.run_script.ensures.runs account given tells (subst (λ p. Knows old.files account (Ok (ToRun p true))) (sym same) knows) may told)
+    subst (λ p. RunsTo c.run_script.result old new (Ok (ToRun p c.args.telling)) account given) same
+    (c.run_script.ensures.runs account given tells (subst (λ p. Knows old.files account (Ok (ToRun p c.args.telling))) (sym same) knows) may told)
 
 pub returns-clause-grows : goal.returns-clause-grows
 returns-clause-grows g c account tells knows =
     let old = g.H.Host.world c.args.host.now in
-    let plan = plan_of c.args.db.now c.args.statement in
+    let plan = plan_of c.args.db.now (c.args.statement ∷ []) in
     let is = settled_value c.in_ok-script.field-0 c.in-Ok.script (λ value. c.script_asking.result ≡ Ok value) c.in-Ok.is c.in_ok-script.ensures.value in
     let same : c.in-Ok.script ≡ plan = subst (λ r. IfOk r (λ script. script ≡ plan)) is c.script_asking.ensures.script in
-    c.run_script.ensures.grows account tells (subst (λ p. Knows old.files account (Ok (ToRun p true))) (sym same) knows)
+    c.run_script.ensures.grows account tells (subst (λ p. Knows old.files account (Ok (ToRun p c.args.telling))) (sym same) knows)
+
+pub run_script-requires-clause-sized : goal.run_script-requires-clause-sized
+run_script-requires-clause-sized g c is_sized =
+    let plan = plan_of c.args.db.now (c.args.statement ∷ []) in
+    let is = settled_value c.in_ok-script.field-0 c.in-Ok.script (λ value. c.script_asking.result ≡ Ok value) c.in-Ok.is c.in_ok-script.ensures.value in
+    let same : c.in-Ok.script ≡ plan = subst (λ r. IfOk r (λ script. script ≡ plan)) is c.script_asking.ensures.script in
+    begins_alone_in c.args.db.now c.in-Ok.script c.args.statement same (c.requires.sized is_sized)

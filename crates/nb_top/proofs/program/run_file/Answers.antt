@@ -1,8 +1,9 @@
 use Rattle.std.proofs.Common.{◌≡◌, ap, sym, subst}
-use Rattle.std.specs.Prelude.{Ok, Err, false}
+use Rattle.std.specs.Prelude.{Ok, Err}
 use Rattle.nb_host.specs.declared.faults.Fault.TheVariants.{Refused}
 use Rattle.nb_session.proofs.GiftLaws.{grows_none, grows_joined}
 use Rattle.nb_top.specs.Performed.{RunsTo, IsRead, Knows}
+use Rattle.nb_top.specs.declared.telling.Telling.TheVariants.{All}
 use Rattle.nb_top.specs.Requests.{ToRun, script_in, to_run}
 use Rattle.nb_top.proofs.QuietRuns.{runs_quietly, knows_quietly, quiet_gave, foretold_from}
 use Rattle.nb_top.proofs.JobRuns.{unread_runs, job_refused, script_number}
@@ -32,10 +33,10 @@ returns-in-Ok-clause-runs g c account given tells knows may told =
     let file = old.files name in
     let quiet = c.read_script.ensures.quiet in
     let is = settled_value c.in_ok-script.field-0 c.in-Ok.script (λ value. c.read_script.result ≡ Ok value) c.in-Ok.is c.in_ok-script.ensures.value in
-    let read : to_run (script_in name file) ≡ Ok (ToRun c.in-Ok.script false) = ap to_run (subst (λ r. IsRead r (script_in name file)) is (c.read_script.ensures.read tells)) in
+    let read : to_run (script_in name file) ≡ Ok (ToRun c.in-Ok.script All) = ap to_run (subst (λ r. IsRead r (script_in name file)) is (c.read_script.ensures.read tells)) in
     runs_quietly c.run_script.result old mid new (to_run (script_in name file)) account given quiet
     (subst (λ asked. RunsTo c.run_script.result mid new asked account given) (sym read)
-    (c.run_script.ensures.runs account given tells (knows_quietly old mid account (Ok (ToRun c.in-Ok.script false)) quiet (subst (Knows old.files account) read knows)) may
+    (c.run_script.ensures.runs account given tells (knows_quietly old mid account (Ok (ToRun c.in-Ok.script All)) quiet (subst (Knows old.files account) read knows)) may
     (foretold_from old mid new given (quiet_gave old mid quiet) told)))
 
 pub returns-in-Ok-clause-grows : goal.returns-in-Ok-clause-grows
@@ -47,9 +48,9 @@ returns-in-Ok-clause-grows g c account tells knows =
     let file = old.files name in
     let quiet = c.read_script.ensures.quiet in
     let is = settled_value c.in_ok-script.field-0 c.in-Ok.script (λ value. c.read_script.result ≡ Ok value) c.in-Ok.is c.in_ok-script.ensures.value in
-    let read : to_run (script_in name file) ≡ Ok (ToRun c.in-Ok.script false) = ap to_run (subst (λ r. IsRead r (script_in name file)) is (c.read_script.ensures.read tells)) in
+    let read : to_run (script_in name file) ≡ Ok (ToRun c.in-Ok.script All) = ap to_run (subst (λ r. IsRead r (script_in name file)) is (c.read_script.ensures.read tells)) in
     grows_joined old mid new (grows_none old mid (quiet_gave old mid quiet))
-    (c.run_script.ensures.grows account tells (knows_quietly old mid account (Ok (ToRun c.in-Ok.script false)) quiet (subst (Knows old.files account) read knows)))
+    (c.run_script.ensures.grows account tells (knows_quietly old mid account (Ok (ToRun c.in-Ok.script All)) quiet (subst (Knows old.files account) read knows)))
 
 pub returns-in-Err-clause-runs : goal.returns-in-Err-clause-runs
 returns-in-Err-clause-runs g c account given tells knows may told =

@@ -1,13 +1,14 @@
-use Rattle.std.proofs.Common.{length, sym, subst}
-use Rattle.std.specs.Prelude.{Ok, nat_le, true}
+use Rattle.std.proofs.Common.{[], ◌∷◌, length, sym, subst}
+use Rattle.std.specs.Prelude.{Ok, nat_le}
 use Rattle.std.proofs.lemmas.Bool.{and_parts, leb-true}
-use Rattle.nb_model.specs.declared.statement.Statement.TheVariants.{Backup}
+use Rattle.nb_model.specs.declared.statement.Statement.TheVariants.{Backup, BackupSince as BackupOf}
 use Rattle.nb_model.specs.Words.{is_file}
 use Rattle.nb_script.specs.Asked.{IsAskable}
 use Rattle.nb_session.proofs.GiftLaws.{grows_none}
 use Rattle.nb_top.specs.Performed.{RunsTo, Knows}
 use Rattle.nb_top.specs.Requests.{FitsJob, ToRun, ToRestore, plan_of, request_of}
-use Rattle.nb_top.proofs.RequestLaws.{backup_askable}
+use Rattle.nb_top.specs.declared.telling.Telling.TheVariants.{Quietly}
+use Rattle.nb_top.proofs.RequestLaws.{backup_askable, since_askable}
 use Rattle.nb_top.proofs.program.run_job.Goals as goal
 
 pub returns-in-Run-clause-runs : goal.returns-in-Run-clause-runs
@@ -48,12 +49,12 @@ returns-in-Fixup-clause-runs g c account given tells knows may told =
 pub returns-in-Fixup-clause-grows : goal.returns-in-Fixup-clause-grows
 returns-in-Fixup-clause-grows g c account tells knows = grows_none (g.H.Host.world c.args.host.now) (g.H.Host.world c.run_fix.new.host) (c.run_fix.ensures.gave tells)
 
-pub run_asking-requires : goal.run_asking-requires
-run_asking-requires g c =
+pub run_asking-requires-clause-askable : goal.run_asking-requires-clause-askable
+run_asking-requires-clause-askable g c =
     let level = c.in-Backup.level in
     let db = c.in-Backup.db in
     let file = c.in-Backup.file in
-    subst (λ name. IsAskable (plan_of db (Backup level name))) (sym c.copied-name.ensures) (backup_askable level db file (subst FitsJob c.in-Backup.is c.requires.fits))
+    subst (λ name. IsAskable (plan_of db (Backup level name ∷ []))) (sym c.copied-name.ensures) (backup_askable level db file (subst FitsJob c.in-Backup.is c.requires.fits))
 
 pub returns-in-Backup-clause-runs : goal.returns-in-Backup-clause-runs
 returns-in-Backup-clause-runs g c account given tells knows may told =
@@ -61,15 +62,15 @@ returns-in-Backup-clause-runs g c account given tells knows may told =
     let new = g.H.Host.world c.run_asking.new.host in
     let is = c.copied-name.ensures in
     subst (λ job. RunsTo c.run_asking.result old new (request_of old.files job) account given) (sym c.in-Backup.is)
-    (subst (λ name. RunsTo c.run_asking.result old new (Ok (ToRun (plan_of c.in-Backup.db (Backup c.in-Backup.level name)) true)) account given) is
+    (subst (λ name. RunsTo c.run_asking.result old new (Ok (ToRun (plan_of c.in-Backup.db (Backup c.in-Backup.level name ∷ [])) Quietly)) account given) is
     (c.run_asking.ensures.runs account given tells
-    (subst (λ name. Knows old.files account (Ok (ToRun (plan_of c.in-Backup.db (Backup c.in-Backup.level name)) true))) (sym is) (subst (λ job. Knows old.files account (request_of old.files job)) c.in-Backup.is knows)) may told))
+    (subst (λ name. Knows old.files account (Ok (ToRun (plan_of c.in-Backup.db (Backup c.in-Backup.level name ∷ [])) Quietly))) (sym is) (subst (λ job. Knows old.files account (request_of old.files job)) c.in-Backup.is knows)) may told))
 
 pub returns-in-Backup-clause-grows : goal.returns-in-Backup-clause-grows
 returns-in-Backup-clause-grows g c account tells knows =
     let old = g.H.Host.world c.args.host.now in
     c.run_asking.ensures.grows account tells
-    (subst (λ name. Knows old.files account (Ok (ToRun (plan_of c.in-Backup.db (Backup c.in-Backup.level name)) true))) (sym c.copied-name.ensures)
+    (subst (λ name. Knows old.files account (Ok (ToRun (plan_of c.in-Backup.db (Backup c.in-Backup.level name ∷ [])) Quietly))) (sym c.copied-name.ensures)
     (subst (λ job. Knows old.files account (request_of old.files job)) c.in-Backup.is knows))
 
 pub returns-in-Lock-clause-runs : goal.returns-in-Lock-clause-runs
@@ -95,3 +96,52 @@ pub returns-in-Unlock-clause-grows : goal.returns-in-Unlock-clause-grows
 returns-in-Unlock-clause-grows g c account tells knows =
     let old = g.H.Host.world c.args.host.now in
     c.run_asking-in-Unlock.ensures.grows account tells (subst (λ job. Knows old.files account (request_of old.files job)) c.in-Unlock.is knows)
+
+pub returns-in-LockWithSize-clause-runs : goal.returns-in-LockWithSize-clause-runs
+returns-in-LockWithSize-clause-runs g c account given tells knows may told =
+    let old = g.H.Host.world c.args.host.now in
+    let new = g.H.Host.world c.run_asking-in-LockWithSize.new.host in
+    subst (λ job. RunsTo c.run_asking-in-LockWithSize.result old new (request_of old.files job) account given) (sym c.in-LockWithSize.is)
+    (c.run_asking-in-LockWithSize.ensures.runs account given tells (subst (λ job. Knows old.files account (request_of old.files job)) c.in-LockWithSize.is knows) may told)
+
+pub returns-in-LockWithSize-clause-grows : goal.returns-in-LockWithSize-clause-grows
+returns-in-LockWithSize-clause-grows g c account tells knows =
+    let old = g.H.Host.world c.args.host.now in
+    c.run_asking-in-LockWithSize.ensures.grows account tells (subst (λ job. Knows old.files account (request_of old.files job)) c.in-LockWithSize.is knows)
+
+pub returns-in-Stat-clause-runs : goal.returns-in-Stat-clause-runs
+returns-in-Stat-clause-runs g c account given tells knows may told =
+    let old = g.H.Host.world c.args.host.now in
+    let new = g.H.Host.world c.run_stat.new.host in
+    subst (λ job. RunsTo c.run_stat.result old new (request_of old.files job) account given) (sym c.in-Stat.is)
+    (c.run_stat.ensures.runs account given tells (subst (λ job. Knows old.files account (request_of old.files job)) c.in-Stat.is knows) may told)
+
+pub returns-in-Stat-clause-grows : goal.returns-in-Stat-clause-grows
+returns-in-Stat-clause-grows g c account tells knows =
+    let old = g.H.Host.world c.args.host.now in
+    c.run_stat.ensures.grows account tells (subst (λ job. Knows old.files account (request_of old.files job)) c.in-Stat.is knows)
+
+pub run_asking-requires-in-BackupSince-clause-askable : goal.run_asking-requires-in-BackupSince-clause-askable
+run_asking-requires-in-BackupSince-clause-askable g c =
+    let guid = c.in-BackupSince.guid in
+    let db = c.in-BackupSince.db in
+    let file = c.in-BackupSince.file in
+    subst (λ name. IsAskable (plan_of db (BackupOf guid name ∷ []))) (sym c.copied-name-in-BackupSince.ensures) (since_askable guid db file (subst FitsJob c.in-BackupSince.is c.requires.fits))
+
+pub returns-in-BackupSince-clause-runs : goal.returns-in-BackupSince-clause-runs
+returns-in-BackupSince-clause-runs g c account given tells knows may told =
+    let old = g.H.Host.world c.args.host.now in
+    let new = g.H.Host.world c.run_asking-in-BackupSince.new.host in
+    let is = c.copied-name-in-BackupSince.ensures in
+    subst (λ job. RunsTo c.run_asking-in-BackupSince.result old new (request_of old.files job) account given) (sym c.in-BackupSince.is)
+    (subst (λ name. RunsTo c.run_asking-in-BackupSince.result old new (Ok (ToRun (plan_of c.in-BackupSince.db (BackupOf c.in-BackupSince.guid name ∷ [])) Quietly)) account given) is
+    (c.run_asking-in-BackupSince.ensures.runs account given tells
+    (subst (λ name. Knows old.files account (Ok (ToRun (plan_of c.in-BackupSince.db (BackupOf c.in-BackupSince.guid name ∷ [])) Quietly))) (sym is)
+    (subst (λ job. Knows old.files account (request_of old.files job)) c.in-BackupSince.is knows)) may told))
+
+pub returns-in-BackupSince-clause-grows : goal.returns-in-BackupSince-clause-grows
+returns-in-BackupSince-clause-grows g c account tells knows =
+    let old = g.H.Host.world c.args.host.now in
+    c.run_asking-in-BackupSince.ensures.grows account tells
+    (subst (λ name. Knows old.files account (Ok (ToRun (plan_of c.in-BackupSince.db (BackupOf c.in-BackupSince.guid name ∷ [])) Quietly))) (sym c.copied-name-in-BackupSince.ensures)
+    (subst (λ job. Knows old.files account (request_of old.files job)) c.in-BackupSince.is knows))

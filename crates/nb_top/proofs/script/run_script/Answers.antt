@@ -19,10 +19,10 @@ returns-in_err-engine-clause-runs g c account given tells knows may told =
     let old = g.H.Host.world c.args.host.now in
     let mid = g.H.Host.world c.open.new.host in
     let plan = c.args.script.now in
-    let begins = script_begins old account given plan c.args.is_quiet c.requires knows may mid c.open.result
+    let begins = script_begins old account given plan c.args.telling c.requires.askable knows may mid c.open.result
     (λ name size raw cache is. c.open.ensures.creates name size raw cache tells (c.first.ensures ∙ is)) (λ name cache is. c.open.ensures.attaches name cache tells (c.first.ensures ∙ is))
     (λ name cache is. c.open.ensures.quiet name cache (c.first.ensures ∙ is)) c.open.ensures.scn in
-    runs_err c.from_residual.result c.from_residual.ensures.0 (λ r. RunsTo r old mid (Ok (ToRun plan c.args.is_quiet)) account given) begins.fails
+    runs_err c.from_residual.result c.from_residual.ensures.0 (λ r. RunsTo r old mid (Ok (ToRun plan c.args.telling)) account given) begins.fails
 
 pub returns-in_err-refused-in-Ok-clause-runs : goal.returns-in_err-refused-in-Ok-clause-runs
 returns-in_err-refused-in-Ok-clause-runs g c account given tells knows may told =
@@ -30,17 +30,17 @@ returns-in_err-refused-in-Ok-clause-runs g c account given tells knows may told 
     let mid = g.H.Host.world c.open.new.host in
     let new = g.H.Host.world c.run_opened.new.host in
     let plan = c.args.script.now in
-    let begins = script_begins old account given plan c.args.is_quiet c.requires knows may mid c.open.result
+    let begins = script_begins old account given plan c.args.telling c.requires.askable knows may mid c.open.result
     (λ name size raw cache is. c.open.ensures.creates name size raw cache tells (c.first.ensures ∙ is)) (λ name cache is. c.open.ensures.attaches name cache tells (c.first.ensures ∙ is))
     (λ name cache is. c.open.ensures.quiet name cache (c.first.ensures ∙ is)) c.open.ensures.scn in
     let held = c.in-Ok.engine in
     let done = begins.done held (settled_value c.in_ok-engine.field-0 held (λ value. c.open.result ≡ Ok value) c.in-Ok.is c.in_ok-engine.ensures.value) in
-    let later = subst (λ x. Foretells x mid new) (sym (script_given old account given plan c.args.is_quiet c.requires mid held done)) (foretold_from old mid new given done.gave told) in
-    runs_err c.from_residual-in_err-refused-in-Ok.result c.from_residual-in_err-refused-in-Ok.ensures.0 (λ r. RunsTo r old new (Ok (ToRun plan c.args.is_quiet)) account given)
-    (λ e. script_ends_early old account given plan c.args.is_quiet c.requires mid held done new c.run_opened.new.engine e
-    (c.in_err-refused-in-Ok.ensures.plays (script_now old account given plan c.args.is_quiet c.requires mid held done) (start old account given plan c.args.is_quiet c.requires done.first) done.first.strokes tells
-    (script_ready old account given plan c.args.is_quiet c.requires mid held done) (script_todo old account given plan c.args.is_quiet c.requires mid held done)
-    (script_making old account given plan c.args.is_quiet c.requires mid held done) later (script_trail old account given plan c.args.is_quiet c.requires mid held done)))
+    let later = subst (λ x. Foretells x mid new) (sym (script_given old account given plan c.args.telling c.requires.askable mid held done)) (foretold_from old mid new given done.gave told) in
+    runs_err c.from_residual-in_err-refused-in-Ok.result c.from_residual-in_err-refused-in-Ok.ensures.0 (λ r. RunsTo r old new (Ok (ToRun plan c.args.telling)) account given)
+    (λ e. script_ends_early old account given plan c.args.telling c.requires.askable mid held done new c.run_opened.new.engine e
+    (c.in_err-refused-in-Ok.ensures.plays (script_now old account given plan c.args.telling c.requires.askable mid held done) (start old account given plan c.args.telling c.requires.askable done.first) done.first.strokes tells
+    (script_ready old account given plan c.args.telling c.requires.askable mid held done) (script_todo old account given plan c.args.telling c.requires.askable mid held done)
+    (script_making old account given plan c.args.telling c.requires.askable mid held done) later (script_trail old account given plan c.args.telling c.requires.askable mid held done)))
 
 pub returns-in_ok-refused-in-Ok-clause-runs : goal.returns-in_ok-refused-in-Ok-clause-runs
 returns-in_ok-refused-in-Ok-clause-runs g c account given tells knows may told =
@@ -48,16 +48,16 @@ returns-in_ok-refused-in-Ok-clause-runs g c account given tells knows may told =
     let mid = g.H.Host.world c.open.new.host in
     let new = g.H.Host.world c.run_opened.new.host in
     let plan = c.args.script.now in
-    let begins = script_begins old account given plan c.args.is_quiet c.requires knows may mid c.open.result
+    let begins = script_begins old account given plan c.args.telling c.requires.askable knows may mid c.open.result
     (λ name size raw cache is. c.open.ensures.creates name size raw cache tells (c.first.ensures ∙ is)) (λ name cache is. c.open.ensures.attaches name cache tells (c.first.ensures ∙ is))
     (λ name cache is. c.open.ensures.quiet name cache (c.first.ensures ∙ is)) c.open.ensures.scn in
     let held = c.in-Ok.engine in
     let done = begins.done held (settled_value c.in_ok-engine.field-0 held (λ value. c.open.result ≡ Ok value) c.in-Ok.is c.in_ok-engine.ensures.value) in
-    let later = subst (λ x. Foretells x mid new) (sym (script_given old account given plan c.args.is_quiet c.requires mid held done)) (foretold_from old mid new given done.gave told) in
-    script_ends old account given plan c.args.is_quiet c.requires mid held done new c.run_opened.new.engine c.in_ok-refused-in-Ok.refused c.ended.result c.ended.ensures.number
-    (c.in_ok-refused-in-Ok.ensures.plays (script_now old account given plan c.args.is_quiet c.requires mid held done) (start old account given plan c.args.is_quiet c.requires done.first) done.first.strokes tells
-    (script_ready old account given plan c.args.is_quiet c.requires mid held done) (script_todo old account given plan c.args.is_quiet c.requires mid held done)
-    (script_making old account given plan c.args.is_quiet c.requires mid held done) later (script_trail old account given plan c.args.is_quiet c.requires mid held done))
+    let later = subst (λ x. Foretells x mid new) (sym (script_given old account given plan c.args.telling c.requires.askable mid held done)) (foretold_from old mid new given done.gave told) in
+    script_ends old account given plan c.args.telling c.requires.askable mid held done new c.run_opened.new.engine c.in_ok-refused-in-Ok.refused c.ended.result c.ended.ensures.number
+    (c.in_ok-refused-in-Ok.ensures.plays (script_now old account given plan c.args.telling c.requires.askable mid held done) (start old account given plan c.args.telling c.requires.askable done.first) done.first.strokes tells
+    (script_ready old account given plan c.args.telling c.requires.askable mid held done) (script_todo old account given plan c.args.telling c.requires.askable mid held done)
+    (script_making old account given plan c.args.telling c.requires.askable mid held done) later (script_trail old account given plan c.args.telling c.requires.askable mid held done))
 
 pub returns-in-Err-clause-runs : goal.returns-in-Err-clause-runs
 returns-in-Err-clause-runs g c account given tells knows may told =
@@ -65,20 +65,20 @@ returns-in-Err-clause-runs g c account given tells knows may told =
     let mid = g.H.Host.world c.open.new.host in
     let new = g.H.Host.world c.refuse.new.host in
     let plan = c.args.script.now in
-    let begins = script_begins old account given plan c.args.is_quiet c.requires knows may mid c.open.result
+    let begins = script_begins old account given plan c.args.telling c.requires.askable knows may mid c.open.result
     (λ name size raw cache is. c.open.ensures.creates name size raw cache tells (c.first.ensures ∙ is)) (λ name cache is. c.open.ensures.attaches name cache tells (c.first.ensures ∙ is))
     (λ name cache is. c.open.ensures.quiet name cache (c.first.ensures ∙ is)) c.open.ensures.scn in
     let refusal = c.in-Err.refusal in
     let is = begins.refused refusal (settled_refusal c.in_ok-engine.field-0 refusal (λ r. c.open.result ≡ Err (Refused r)) c.in-Err.is c.in_ok-engine.ensures.refusal) in
     let says = says_other _ _ _ _ _ (ap (λ s. line_text s (RefusedReply refusal)) c.first_session.ensures.value) (c.refuse.ensures.line tells) in
-    script_refused old account given plan c.args.is_quiet c.requires mid refusal is new c.refuse.result c.refuse.result says c.refuse.ensures.ok says.said
+    script_refused old account given plan c.args.telling c.requires.askable mid refusal is new c.refuse.result c.refuse.result says c.refuse.ensures.ok says.said
 
 pub returns-in_err-engine-clause-grows : goal.returns-in_err-engine-clause-grows
 returns-in_err-engine-clause-grows g c account tells knows =
     let old = g.H.Host.world c.args.host.now in
     let mid = g.H.Host.world c.open.new.host in
     let plan = c.args.script.now in
-    grows_none old mid (first_gave old account no_given plan c.args.is_quiet c.requires knows mid c.open.result
+    grows_none old mid (first_gave old account no_given plan c.args.telling c.requires.askable knows mid c.open.result
     (λ name size raw cache is. c.open.ensures.creates name size raw cache tells (c.first.ensures ∙ is)) (λ name cache is. c.open.ensures.quiet name cache (c.first.ensures ∙ is)))
 
 pub returns-in_err-refused-in-Ok-clause-grows : goal.returns-in_err-refused-in-Ok-clause-grows
@@ -87,15 +87,15 @@ returns-in_err-refused-in-Ok-clause-grows g c account tells knows =
     let mid = g.H.Host.world c.open.new.host in
     let new = g.H.Host.world c.run_opened.new.host in
     let plan = c.args.script.now in
-    let begins = script_begins old account no_given plan c.args.is_quiet c.requires knows tt mid c.open.result
+    let begins = script_begins old account no_given plan c.args.telling c.requires.askable knows tt mid c.open.result
     (λ name size raw cache is. c.open.ensures.creates name size raw cache tells (c.first.ensures ∙ is)) (λ name cache is. c.open.ensures.attaches name cache tells (c.first.ensures ∙ is))
     (λ name cache is. c.open.ensures.quiet name cache (c.first.ensures ∙ is)) c.open.ensures.scn in
     let held = c.in-Ok.engine in
     let done = begins.done held (settled_value c.in_ok-engine.field-0 held (λ value. c.open.result ≡ Ok value) c.in-Ok.is c.in_ok-engine.ensures.value) in
     grows_joined old mid new (grows_none old mid done.gave)
-    (c.in_err-refused-in-Ok.ensures.grows (script_now old account no_given plan c.args.is_quiet c.requires mid held done) tells
-    (script_ready old account no_given plan c.args.is_quiet c.requires mid held done) (script_todo old account no_given plan c.args.is_quiet c.requires mid held done)
-    (script_making old account no_given plan c.args.is_quiet c.requires mid held done))
+    (c.in_err-refused-in-Ok.ensures.grows (script_now old account no_given plan c.args.telling c.requires.askable mid held done) tells
+    (script_ready old account no_given plan c.args.telling c.requires.askable mid held done) (script_todo old account no_given plan c.args.telling c.requires.askable mid held done)
+    (script_making old account no_given plan c.args.telling c.requires.askable mid held done))
 
 pub returns-in_ok-refused-in-Ok-clause-grows : goal.returns-in_ok-refused-in-Ok-clause-grows
 returns-in_ok-refused-in-Ok-clause-grows g c account tells knows =
@@ -103,15 +103,15 @@ returns-in_ok-refused-in-Ok-clause-grows g c account tells knows =
     let mid = g.H.Host.world c.open.new.host in
     let new = g.H.Host.world c.run_opened.new.host in
     let plan = c.args.script.now in
-    let begins = script_begins old account no_given plan c.args.is_quiet c.requires knows tt mid c.open.result
+    let begins = script_begins old account no_given plan c.args.telling c.requires.askable knows tt mid c.open.result
     (λ name size raw cache is. c.open.ensures.creates name size raw cache tells (c.first.ensures ∙ is)) (λ name cache is. c.open.ensures.attaches name cache tells (c.first.ensures ∙ is))
     (λ name cache is. c.open.ensures.quiet name cache (c.first.ensures ∙ is)) c.open.ensures.scn in
     let held = c.in-Ok.engine in
     let done = begins.done held (settled_value c.in_ok-engine.field-0 held (λ value. c.open.result ≡ Ok value) c.in-Ok.is c.in_ok-engine.ensures.value) in
     grows_joined old mid new (grows_none old mid done.gave)
-    (c.in_ok-refused-in-Ok.ensures.grows (script_now old account no_given plan c.args.is_quiet c.requires mid held done) tells
-    (script_ready old account no_given plan c.args.is_quiet c.requires mid held done) (script_todo old account no_given plan c.args.is_quiet c.requires mid held done)
-    (script_making old account no_given plan c.args.is_quiet c.requires mid held done))
+    (c.in_ok-refused-in-Ok.ensures.grows (script_now old account no_given plan c.args.telling c.requires.askable mid held done) tells
+    (script_ready old account no_given plan c.args.telling c.requires.askable mid held done) (script_todo old account no_given plan c.args.telling c.requires.askable mid held done)
+    (script_making old account no_given plan c.args.telling c.requires.askable mid held done))
 
 pub returns-in-Err-clause-grows : goal.returns-in-Err-clause-grows
 returns-in-Err-clause-grows g c account tells knows =
@@ -119,6 +119,6 @@ returns-in-Err-clause-grows g c account tells knows =
     let mid = g.H.Host.world c.open.new.host in
     let new = g.H.Host.world c.refuse.new.host in
     let plan = c.args.script.now in
-    grows_joined old mid new (grows_none old mid (first_gave old account no_given plan c.args.is_quiet c.requires knows mid c.open.result
+    grows_joined old mid new (grows_none old mid (first_gave old account no_given plan c.args.telling c.requires.askable knows mid c.open.result
     (λ name size raw cache is. c.open.ensures.creates name size raw cache tells (c.first.ensures ∙ is)) (λ name cache is. c.open.ensures.quiet name cache (c.first.ensures ∙ is))))
     (grows_none mid new c.refuse.ensures.gave)

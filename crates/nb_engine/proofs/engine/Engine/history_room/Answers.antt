@@ -8,9 +8,9 @@ use Rattle.nb_model.specs.Forms.{drafted}
 use Rattle.nb_model.specs.Causes.{first_cause, broken_at, not_of_form, no_room, no_scn}
 use Rattle.nb_model.specs.Chains.{History, pages_of, found_pages, spots, free_spot, last_of, grown}
 use Rattle.nb_model.specs.Backups.{room_in}
-use Rattle.nb_state.specs.Open.{Held, IsOpen}
+use Rattle.nb_state.specs.Open.{Held, IsOpen, but_pages}
 use Rattle.nb_state.specs.Does.{Makes}
-use Rattle.nb_state.proofs.MakesLaws.{open_still, makes_none, makes_after}
+use Rattle.nb_state.proofs.MakesLaws.{makes_none, makes_after}
 use Rattle.nb_engine.specs.declared.walk.Room.{Room}
 use Rattle.nb_engine.specs.declared.walk.Walked.{Walked}
 use Rattle.nb_engine.specs.Make.{MakesSome}
@@ -32,7 +32,7 @@ returns-in_err-walked-clause-makes g c t tells is sound =
     let image = t.base.image in
     let walked = c.in_err-walked.ensures in
     tries_early (Walked × ℕ) Room _ _ _ _ _ _ t (broken_at (pages_of History image)) (room_cause image) (room_in image).draft.strokes c.from_residual.ensures
-    (λ r e. first_here (broken_at (pages_of History image)) (not_of_form (room_in image).draft ∷ no_room (room_in image).draft ∷ no_scn image ∷ []) r e) (walked.test t tells here) (walked.same ∙ c.self.view_is) walked.quiet is
+    (λ r e. first_here (broken_at (pages_of History image)) (not_of_form (room_in image).draft ∷ no_room (room_in image).draft ∷ no_scn image ∷ []) r e) (walked.test t tells here) (walked.same ∙ ap but_pages c.self.view_is) walked.quiet is (walked.open t tells here)
 
 pub returns-in_err-check_room-in-Some-clause-makes : goal.returns-in_err-check_room-in-Some-clause-makes
 returns-in_err-check_room-in-Some-clause-makes g c t tells is sound =
@@ -41,15 +41,15 @@ returns-in_err-check_room-in-Some-clause-makes g c t tells is sound =
     let image = t.base.image in
     let walked = c.in_ok-walked.ensures in
     let linked = walked.test t tells here in
-    let still = open_still _ _ _ _ t walked.same walked.quiet here in
-    let same = walked.same ∙ c.self.view_is in
+    let still = walked.open t tells here in
+    let same = walked.same ∙ ap but_pages c.self.view_is in
     let kept = room_some (free_spot (spots History image)) c.in-Some.room (sym (ap (λ (x : Walked). x.room) (walked.walked t tells here)) ∙ c.in-Some.is) in
     let data_page = spot_data image linked kept.spot kept.is in
     let kind : kind_of (page_at image c.in-Some.room.page) ≡ 5 = ap (λ (n : ℕ). kind_of (page_at image n)) kept.page ∙ data_page.kind in
     let cause_is = ap (λ (n : ℕ). first_cause (not_of_form (taken_draft image n) ∷ no_scn image ∷ [])) kept.page ∙ kept_cause image kept.spot kept.is linked in
     let tests = c.in_err-check_room-in-Some.ensures in
     tries_early (Unit {0}) Room _ _ _ _ _ _ t _ (room_cause image) (room_in image).draft.strokes c.from_residual-in_err-check_room-in-Some.ensures (λ r e. sym cause_is ∙ e) (tests.test t tells still kind) (tests.same ∙ same)
-    (quiet_joined _ _ _ walked.quiet tests.quiet) is
+    (quiet_joined _ _ _ walked.quiet tests.quiet) is (tests.open t tells still)
 
 pub returns-in_ok-check_room-in-Some-clause-makes : goal.returns-in_ok-check_room-in-Some-clause-makes
 returns-in_ok-check_room-in-Some-clause-makes g c t tells is sound =
@@ -58,8 +58,8 @@ returns-in_ok-check_room-in-Some-clause-makes g c t tells is sound =
     let image = t.base.image in
     let walked = c.in_ok-walked.ensures in
     let linked = walked.test t tells here in
-    let still = open_still _ _ _ _ t walked.same walked.quiet here in
-    let same = walked.same ∙ c.self.view_is in
+    let still = walked.open t tells here in
+    let same = walked.same ∙ ap but_pages c.self.view_is in
     let kept = room_some (free_spot (spots History image)) c.in-Some.room (sym (ap (λ (x : Walked). x.room) (walked.walked t tells here)) ∙ c.in-Some.is) in
     let data_page = spot_data image linked kept.spot kept.is in
     let kind : kind_of (page_at image c.in-Some.room.page) ≡ 5 = ap (λ (n : ℕ). kind_of (page_at image n)) kept.page ∙ data_page.kind in
@@ -67,7 +67,7 @@ returns-in_ok-check_room-in-Some-clause-makes g c t tells is sound =
     let tests = c.in_ok-check_room-in-Some.ensures in
     tries_made (Ok c.in-Some.room) w _ _ _ t (room_cause image) (room_in image).draft.strokes (sym cause_is ∙ tests.test t tells still kind) tt
     (subst (λ (ss : List Stroke). Makes (Ok c.in-Some.room) w (g.H.Host.world c.check_room.new.host) c.args.self.now c.check_room.new.store t ss) (sym (kept_none image kept.spot kept.is))
-    (makes_none (Ok c.in-Some.room) w _ _ _ t (tests.same ∙ same) (quiet_joined _ _ _ walked.quiet tests.quiet) is))
+    (makes_none (Ok c.in-Some.room) w _ _ _ t (tests.same ∙ same) (quiet_joined _ _ _ walked.quiet tests.quiet) is (tests.open t tells still)))
 
 pub returns-in_err-number-in-None-clause-makes : goal.returns-in_err-number-in-None-clause-makes
 returns-in_err-number-in-None-clause-makes g c t tells is sound =
@@ -76,8 +76,8 @@ returns-in_err-number-in-None-clause-makes g c t tells is sound =
     let image = t.base.image in
     let walked = c.in_ok-walked.ensures in
     let linked = walked.test t tells here in
-    let still = open_still _ _ _ _ t walked.same walked.quiet here in
-    let same = walked.same ∙ c.self.view_is in
+    let still = walked.open t tells here in
+    let same = walked.same ∙ ap but_pages c.self.view_is in
     let none : free_spot (spots History image) ≡ None = room_none (free_spot (spots History image)) (sym (ap (λ (x : Walked). x.room) (walked.walked t tells here)) ∙ c.in-None.is) in
     let pages : List ℕ = found_pages History image in
     let last_is = walked.last t tells here in
@@ -100,8 +100,8 @@ returns-in_ok-number-in-None-clause-makes g c t tells is sound =
     let image = t.base.image in
     let walked = c.in_ok-walked.ensures in
     let linked = walked.test t tells here in
-    let still = open_still _ _ _ _ t walked.same walked.quiet here in
-    let same = walked.same ∙ c.self.view_is in
+    let still = walked.open t tells here in
+    let same = walked.same ∙ ap but_pages c.self.view_is in
     let none : free_spot (spots History image) ≡ None = room_none (free_spot (spots History image)) (sym (ap (λ (x : Walked). x.room) (walked.walked t tells here)) ∙ c.in-None.is) in
     let pages : List ℕ = found_pages History image in
     let last_is = walked.last t tells here in
@@ -123,8 +123,8 @@ returns-in_ok-check_room-in-Some-clause-room g c t tells is sound =
     let image = t.base.image in
     let walked = c.in_ok-walked.ensures in
     let linked = walked.test t tells here in
-    let still = open_still _ _ _ _ t walked.same walked.quiet here in
-    let same = walked.same ∙ c.self.view_is in
+    let still = walked.open t tells here in
+    let same = walked.same ∙ ap but_pages c.self.view_is in
     let kept = room_some (free_spot (spots History image)) c.in-Some.room (sym (ap (λ (x : Walked). x.room) (walked.walked t tells here)) ∙ c.in-Some.is) in
     let data_page = spot_data image linked kept.spot kept.is in
     let kind : kind_of (page_at image c.in-Some.room.page) ≡ 5 = ap (λ (n : ℕ). kind_of (page_at image n)) kept.page ∙ data_page.kind in
@@ -138,8 +138,8 @@ returns-in_ok-number-in-None-clause-room g c t tells is sound =
     let image = t.base.image in
     let walked = c.in_ok-walked.ensures in
     let linked = walked.test t tells here in
-    let still = open_still _ _ _ _ t walked.same walked.quiet here in
-    let same = walked.same ∙ c.self.view_is in
+    let still = walked.open t tells here in
+    let same = walked.same ∙ ap but_pages c.self.view_is in
     let none : free_spot (spots History image) ≡ None = room_none (free_spot (spots History image)) (sym (ap (λ (x : Walked). x.room) (walked.walked t tells here)) ∙ c.in-None.is) in
     let pages : List ℕ = found_pages History image in
     let last_is = walked.last t tells here in
@@ -157,8 +157,8 @@ returns-in_ok-check_room-in-Some-clause-below g c t tells is sound =
     let image = t.base.image in
     let walked = c.in_ok-walked.ensures in
     let linked = walked.test t tells here in
-    let still = open_still _ _ _ _ t walked.same walked.quiet here in
-    let same = walked.same ∙ c.self.view_is in
+    let still = walked.open t tells here in
+    let same = walked.same ∙ ap but_pages c.self.view_is in
     let kept = room_some (free_spot (spots History image)) c.in-Some.room (sym (ap (λ (x : Walked). x.room) (walked.walked t tells here)) ∙ c.in-Some.is) in
     let data_page = spot_data image linked kept.spot kept.is in
     let kind : kind_of (page_at image c.in-Some.room.page) ≡ 5 = ap (λ (n : ℕ). kind_of (page_at image n)) kept.page ∙ data_page.kind in
@@ -172,8 +172,8 @@ returns-in_ok-number-in-None-clause-below g c t tells is sound =
     let image = t.base.image in
     let walked = c.in_ok-walked.ensures in
     let linked = walked.test t tells here in
-    let still = open_still _ _ _ _ t walked.same walked.quiet here in
-    let same = walked.same ∙ c.self.view_is in
+    let still = walked.open t tells here in
+    let same = walked.same ∙ ap but_pages c.self.view_is in
     let none : free_spot (spots History image) ≡ None = room_none (free_spot (spots History image)) (sym (ap (λ (x : Walked). x.room) (walked.walked t tells here)) ∙ c.in-None.is) in
     let pages : List ℕ = found_pages History image in
     let last_is = walked.last t tells here in
@@ -186,19 +186,22 @@ returns-in_ok-number-in-None-clause-below g c t tells is sound =
 
 pub returns-in_err-walked-clause-some : goal.returns-in_err-walked-clause-some
 returns-in_err-walked-clause-some g c t tells is =
-    record { made = _; makes = makes_none {T = Room} c.from_residual.result _ _ _ _ t (c.in_err-walked.ensures.same ∙ c.self.view_is) c.in_err-walked.ensures.quiet is }
+    let here = subst (λ (h : Held). IsOpen (g.H.Host.world c.args.host.now) h t) (sym c.self.view_is) is in
+    record { made = _; makes = makes_none {T = Room} c.from_residual.result _ _ _ _ t (c.in_err-walked.ensures.same ∙ ap but_pages c.self.view_is) c.in_err-walked.ensures.quiet is (c.in_err-walked.ensures.open t tells here) }
 
 pub returns-in_err-check_room-in-Some-clause-some : goal.returns-in_err-check_room-in-Some-clause-some
 returns-in_err-check_room-in-Some-clause-some g c t tells is =
+    let here = subst (λ (h : Held). IsOpen (g.H.Host.world c.args.host.now) h t) (sym c.self.view_is) is in
     let walked = c.in_ok-walked.ensures in
     let tests = c.in_err-check_room-in-Some.ensures in
-    record { made = _; makes = makes_none {T = Room} c.from_residual-in_err-check_room-in-Some.result _ _ _ _ t (tests.same ∙ walked.same ∙ c.self.view_is) (quiet_joined _ _ _ walked.quiet tests.quiet) is }
+    record { made = _; makes = makes_none {T = Room} c.from_residual-in_err-check_room-in-Some.result _ _ _ _ t (tests.same ∙ walked.same ∙ ap but_pages c.self.view_is) (quiet_joined _ _ _ walked.quiet tests.quiet) is (tests.open t tells (walked.open t tells here)) }
 
 pub returns-in_ok-check_room-in-Some-clause-some : goal.returns-in_ok-check_room-in-Some-clause-some
 returns-in_ok-check_room-in-Some-clause-some g c t tells is =
+    let here = subst (λ (h : Held). IsOpen (g.H.Host.world c.args.host.now) h t) (sym c.self.view_is) is in
     let walked = c.in_ok-walked.ensures in
     let tests = c.in_ok-check_room-in-Some.ensures in
-    record { made = _; makes = makes_none (Ok c.in-Some.room) _ _ _ _ t (tests.same ∙ walked.same ∙ c.self.view_is) (quiet_joined _ _ _ walked.quiet tests.quiet) is }
+    record { made = _; makes = makes_none (Ok c.in-Some.room) _ _ _ _ t (tests.same ∙ walked.same ∙ ap but_pages c.self.view_is) (quiet_joined _ _ _ walked.quiet tests.quiet) is (tests.open t tells (walked.open t tells here)) }
 
 pub returns-in_err-number-in-None-clause-some : goal.returns-in_err-number-in-None-clause-some
 returns-in_err-number-in-None-clause-some g c t tells is =
@@ -207,8 +210,8 @@ returns-in_err-number-in-None-clause-some g c t tells is =
     let image = t.base.image in
     let walked = c.in_ok-walked.ensures in
     let linked = walked.test t tells here in
-    let still = open_still _ _ _ _ t walked.same walked.quiet here in
-    let same = walked.same ∙ c.self.view_is in
+    let still = walked.open t tells here in
+    let same = walked.same ∙ ap but_pages c.self.view_is in
     let least = history_least image linked in
     let fault = c.in_err-number-in-None.field-0.0 in
     let new = g.H.Host.world c.grow.new.host in
@@ -223,8 +226,8 @@ returns-in_ok-number-in-None-clause-some g c t tells is =
     let image = t.base.image in
     let walked = c.in_ok-walked.ensures in
     let linked = walked.test t tells here in
-    let still = open_still _ _ _ _ t walked.same walked.quiet here in
-    let same = walked.same ∙ c.self.view_is in
+    let still = walked.open t tells here in
+    let same = walked.same ∙ ap but_pages c.self.view_is in
     let least = history_least image linked in
     let room : Room = record { page = c.in_ok-number-in-None.number; slot = 0 } in
     let new = g.H.Host.world c.grow.new.host in

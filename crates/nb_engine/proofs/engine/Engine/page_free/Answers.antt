@@ -1,12 +1,11 @@
-use Rattle.std.proofs.Common.{◌≡◌, refl, sym, subst, ◌∙◌}
+use Rattle.std.proofs.Common.{◌≡◌, refl, sym, subst, ◌∙◌, ap}
 use Rattle.std.specs.Prelude.{Ok, Err, true, None}
 use Rattle.nb_model.specs.declared.reply.Reply.TheVariants.{Done}
 use Rattle.nb_model.specs.Image.{is_read_only}
 use Rattle.nb_model.specs.Causes.{read_only}
 use Rattle.nb_model.specs.Outcomes.{Seen}
 use Rattle.nb_model.specs.Pages.{free_turn}
-use Rattle.nb_state.specs.Open.{Held, IsOpen}
-use Rattle.nb_state.proofs.MakesLaws.{open_still}
+use Rattle.nb_state.specs.Open.{Held, IsOpen, but_pages}
 use Rattle.nb_engine.specs.Tries.{Tries}
 use Rattle.nb_engine.specs.Mark.{mark_cause, mark_strokes}
 use Rattle.nb_engine.specs.Replies.{done}
@@ -19,7 +18,7 @@ pub returns-in_err-take_raw-clause-turn : goal.returns-in_err-take_raw-clause-tu
 returns-in_err-take_raw-clause-turn g c s t tells same is =
     let here = subst (λ (h : Held). IsOpen (g.H.Host.world c.args.host.now) h t) (sym c.self.view_is) is in
     let raw = c.in_err-take_raw.ensures in
-    tested_does (Unit {0}) (Unit {0}) done _ _ _ _ _ _ t s (λ (x : Seen). free_turn x c.args.number) _ c.from_residual.ensures same (raw.same ∙ c.self.view_is) raw.quiet is
+    tested_does (Unit {0}) (Unit {0}) done _ _ _ _ _ _ t s (λ (x : Seen). free_turn x c.args.number) _ c.from_residual.ensures same (raw.same ∙ ap but_pages c.self.view_is) raw.quiet is (raw.open t tells here)
     (raw.reads t tells here).test (free_untaken (seeing s t.base) c.args.number)
 
 pub returns-then-number-eq0-clause-turn : goal.returns-then-number-eq0-clause-turn
@@ -31,9 +30,9 @@ pub returns-then-is_read_only-clause-turn : goal.returns-then-is_read_only-claus
 returns-then-is_read_only-clause-turn g c s t tells same is =
     let here = subst (λ (h : Held). IsOpen (g.H.Host.world c.args.host.now) h t) (sym c.self.view_is) is in
     let raw = c.in_ok-take_raw.ensures in
-    let still = open_still _ _ _ _ t raw.same raw.quiet here in
+    let still = raw.open t tells here in
     let closed : is_read_only t.base.image ≡ true = sym still.agrees.read_only ∙ sym c.is_read_only.ensures ∙ c.if-is_read_only.true in
-    refused_does done _ _ _ _ _ t s (λ (x : Seen). free_turn x c.args.number) same (raw.same ∙ c.self.view_is) raw.quiet is
+    refused_does done _ _ _ _ _ t s (λ (x : Seen). free_turn x c.args.number) same (raw.same ∙ ap but_pages c.self.view_is) raw.quiet is (raw.open t tells here)
     (free_closed (seeing s t.base) c.args.number (raw.reads t tells here).test _ (closed_cause t.base.image closed))
 
 pub returns-in_err-mark-clause-turn : goal.returns-in_err-mark-clause-turn
@@ -43,12 +42,12 @@ returns-in_err-mark-clause-turn g c s t tells same is =
     let new = g.H.Host.world c.mark.new.host in
     let here = subst (λ (h : Held). IsOpen old h t) (sym c.self.view_is) is in
     let raw = c.in_ok-take_raw.ensures in
-    let still = open_still _ _ _ _ t raw.same raw.quiet here in
+    let still = raw.open t tells here in
     let free : read_only image ≡ None = open_cause image (sym still.agrees.read_only ∙ sym c.is_read_only.ensures ∙ c.if-is_read_only.false) in
     let fault = c.in_err-mark.field-0.0 in
     let result = c.from_residual-in_err-mark.result in
     let tries = tries_passed result fault (λ r. Tries r old new c.args.self.now c.mark.new.store t (mark_cause image c.args.number) (mark_strokes image c.args.number 1)) c.from_residual-in_err-mark.ensures
-    (tries_after {T = Unit {0}} (Err fault) _ _ _ _ _ _ t _ _ (raw.same ∙ c.self.view_is) raw.quiet is (c.in_err-mark.ensures.tries t tells still)) in
+    (tries_after {T = Unit {0}} (Err fault) _ _ _ _ _ _ t _ _ (raw.same ∙ ap but_pages c.self.view_is) raw.quiet is (c.in_err-mark.ensures.tries t tells still)) in
     tries_does done result old new _ _ t s (λ (x : Seen). free_turn x c.args.number) _ Done _ same (free_is (seeing s t.base) c.args.number (raw.reads t tells here).test free) (if_err result fault _ c.from_residual-in_err-mark.ensures) tries
 
 pub returns-clause-turn : goal.returns-clause-turn
@@ -57,7 +56,7 @@ returns-clause-turn g c s t tells same is =
     let old = g.H.Host.world c.args.host.now in
     let here = subst (λ (h : Held). IsOpen old h t) (sym c.self.view_is) is in
     let raw = c.in_ok-take_raw.ensures in
-    let still = open_still _ _ _ _ t raw.same raw.quiet here in
+    let still = raw.open t tells here in
     let free : read_only image ≡ None = open_cause image (sym still.agrees.read_only ∙ sym c.is_read_only.ensures ∙ c.if-is_read_only.false) in
-    let tries = tries_after {T = Unit {0}} (Ok tt) _ _ _ _ _ _ t _ _ (raw.same ∙ c.self.view_is) raw.quiet is (c.in_ok-mark.ensures.tries t tells still) in
+    let tries = tries_after {T = Unit {0}} (Ok tt) _ _ _ _ _ _ t _ _ (raw.same ∙ ap but_pages c.self.view_is) raw.quiet is (c.in_ok-mark.ensures.tries t tells still) in
     tries_does done (Ok tt) old _ _ _ t s (λ (x : Seen). free_turn x c.args.number) _ Done _ same (free_is (seeing s t.base) c.args.number (raw.reads t tells here).test free) refl tries

@@ -1,4 +1,4 @@
-use Rattle.std.proofs.Common.{◌≡◌, ◌<◌, ◌≤◌, ℕ, List, [], ◌∷◌, length, refl, sym, subst, ◌∙◌, arith}
+use Rattle.std.proofs.Common.{◌≡◌, ◌<◌, ◌≤◌, ℕ, List, [], ◌∷◌, length, refl, sym, subst, ◌∙◌, arith, ap}
 use Rattle.std.specs.Prelude.{true, false, Ok, Err}
 use Rattle.nb_fields.specs.Payloads.{text_payload}
 use Rattle.nb_host.specs.declared.faults.Fault.TheVariants.{Refused}
@@ -9,9 +9,9 @@ use Rattle.nb_model.specs.Image.{image_scn, is_read_only}
 use Rattle.nb_model.specs.Causes.{no_room}
 use Rattle.nb_model.specs.Pages.{new_turn}
 use Rattle.nb_model.specs.Sound.{IsSoundImage}
-use Rattle.nb_state.specs.Open.{Held, IsOpen}
+use Rattle.nb_state.specs.Open.{Held, IsOpen, but_pages}
 use Rattle.nb_state.specs.Does.{Makes, Does}
-use Rattle.nb_state.proofs.MakesLaws.{open_still, makes_none, makes_after}
+use Rattle.nb_state.proofs.MakesLaws.{makes_none, makes_after}
 use Rattle.nb_engine.specs.Make.{MakesSome, new_raw, new_of}
 use Rattle.nb_engine.specs.Replies.{page_made}
 use Rattle.nb_engine.proofs.DoesLaws.{seeing, tested_does, refused_does, tries_passed}
@@ -24,7 +24,7 @@ returns-then-is_read_only-clause-turn g c s t tells same is sound =
     let w = g.H.Host.world c.args.host.now in
     let here = subst (λ (h : Held). IsOpen w h t) (sym c.self.view_is) is in
     let closed : is_read_only t.base.image ≡ true = sym here.agrees.read_only ∙ sym c.is_read_only.ensures ∙ c.if-is_read_only.true in
-    refused_does page_made (Access 1) w w _ _ t s new_turn same refl (quiet_begun w (g.met.H.Host.timely c.args.host.now)) is (new_closed (seeing s t.base) closed)
+    refused_does page_made (Access 1) w w _ _ t s new_turn same refl (quiet_begun w (g.met.H.Host.timely c.args.host.now)) is is (new_closed (seeing s t.base) closed)
 
 pub returns-then-count-lt-FIRST_TO_GIVE-clause-turn : goal.returns-then-count-lt-FIRST_TO_GIVE-clause-turn
 returns-then-count-lt-FIRST_TO_GIVE-clause-turn g c s t tells same is sound =
@@ -43,8 +43,8 @@ returns-in_err-first-clause-turn g c s t tells same is sound =
     let free : is_read_only image ≡ false = sym here.agrees.read_only ∙ sym c.is_read_only.ensures ∙ c.if-is_read_only.false in
     let is_well = well_of w _ t here c.self.invariant.0 scn whole in
     let tests = c.in_err-first.ensures in
-    tested_does ℕ ℕ page_made _ _ _ _ _ _ t s new_turn (no_room (new_raw image).0) c.from_residual.ensures same (tests.same ∙ c.self.view_is) tests.quiet is
-    (tests.test t 8 (text_payload []) tells here (header_of w _ t here scn) whole) (new_full (seeing s t.base) free is_well)
+    tested_does ℕ ℕ page_made _ _ _ _ _ _ t s new_turn (no_room (new_raw image).0) c.from_residual.ensures same (tests.same ∙ ap but_pages c.self.view_is) tests.quiet is (tests.open t tells here)
+    (tests.test t 8 (λ p. text_payload []) tells here (header_of w _ t here scn) whole) (new_full (seeing s t.base) free is_well)
 
 pub returns-in_err-number-clause-turn : goal.returns-in_err-number-clause-turn
 returns-in_err-number-clause-turn g c s t tells same is sound =
@@ -56,17 +56,17 @@ returns-in_err-number-clause-turn g c s t tells same is sound =
     let free : is_read_only image ≡ false = sym here.agrees.read_only ∙ sym c.is_read_only.ensures ∙ c.if-is_read_only.false in
     let is_well = well_of w _ t here c.self.invariant.0 scn whole in
     let tests = c.in_ok-first.ensures in
-    let room = tests.test t 8 (text_payload []) tells here (header_of w _ t here scn) whole in
-    let for_zeros = tests.test t 8 (0 ∷ 0 ∷ []) tells here (header_of w _ t here scn) whole in
+    let room = tests.test t 8 (λ p. text_payload []) tells here (header_of w _ t here scn) whole in
+    let for_zeros = tests.test t 8 (λ p. 0 ∷ 0 ∷ []) tells here (header_of w _ t here scn) whole in
     let at = tests.value t tells here in
     let low : c.in_ok-first.first ≤ length image = omega (arith, at, lowest_most image whole.least) in
-    let still = open_still _ _ _ _ t tests.same tests.quiet here in
+    let still = tests.open t tells here in
     let fault = c.in_err-number.field-0.0 in
     let these = (c.in_err-number.ensures.makes t tells still at low (tests.map t tells here)).these (is_well, for_zeros) in
     let result = c.from_residual-in_err-number.result in
     tries_passed result fault (λ r. Does page_made r w (g.H.Host.world c.make_new.new.host) c.args.self.now c.make_new.new.store t (new_turn s)) c.from_residual-in_err-number.ensures
     (made_does (Err fault) w _ c.args.self.now c.make_new.new.store t s (new_raw image).1 (new_raw image).0.strokes same (new_says (seeing s t.base) free is_well room) tt these.sure
-    (makes_after (Err fault) w _ _ _ _ _ t (new_raw image).0.strokes (tests.same ∙ c.self.view_is) tests.quiet is (subst (λ (xs : List ℕ). Makes {T = ℕ} (Err fault) (g.H.Host.world c.check_new.new.host) (g.H.Host.world c.make_new.new.host) c.check_new.new.store c.make_new.new.store t (new_of 8 xs image).0.strokes) empty_is these.makes)))
+    (makes_after (Err fault) w _ _ _ _ _ t (new_raw image).0.strokes (tests.same ∙ ap but_pages c.self.view_is) tests.quiet is (subst (λ (xs : List ℕ). Makes {T = ℕ} (Err fault) (g.H.Host.world c.check_new.new.host) (g.H.Host.world c.make_new.new.host) c.check_new.new.store c.make_new.new.store t (new_of 8 (λ p. xs) image).0.strokes) empty_is these.makes)))
 
 pub returns-clause-turn : goal.returns-clause-turn
 returns-clause-turn g c s t tells same is sound =
@@ -78,30 +78,31 @@ returns-clause-turn g c s t tells same is sound =
     let free : is_read_only image ≡ false = sym here.agrees.read_only ∙ sym c.is_read_only.ensures ∙ c.if-is_read_only.false in
     let is_well = well_of w _ t here c.self.invariant.0 scn whole in
     let tests = c.in_ok-first.ensures in
-    let room = tests.test t 8 (text_payload []) tells here (header_of w _ t here scn) whole in
-    let for_zeros = tests.test t 8 (0 ∷ 0 ∷ []) tells here (header_of w _ t here scn) whole in
+    let room = tests.test t 8 (λ p. text_payload []) tells here (header_of w _ t here scn) whole in
+    let for_zeros = tests.test t 8 (λ p. 0 ∷ 0 ∷ []) tells here (header_of w _ t here scn) whole in
     let at = tests.value t tells here in
     let low : c.in_ok-first.first ≤ length image = omega (arith, at, lowest_most image whole.least) in
-    let still = open_still _ _ _ _ t tests.same tests.quiet here in
+    let still = tests.open t tells here in
     let these = (c.in_ok-number.ensures.makes t tells still at low (tests.map t tells here)).these (is_well, for_zeros) in
     made_does (Ok c.in_ok-number.number) w _ c.args.self.now c.make_new.new.store t s (new_raw image).1 (new_raw image).0.strokes same (new_says (seeing s t.base) free is_well room)
-    (subst (λ (xs : List ℕ). c.in_ok-number.number ≡ (new_of 8 xs image).1) empty_is (c.in_ok-number.ensures.value t tells still at low (tests.map t tells here) is_well for_zeros)) tt
-    (makes_after (Ok c.in_ok-number.number) w _ _ _ _ _ t (new_raw image).0.strokes (tests.same ∙ c.self.view_is) tests.quiet is (subst (λ (xs : List ℕ). Makes (Ok c.in_ok-number.number) (g.H.Host.world c.check_new.new.host) (g.H.Host.world c.make_new.new.host) c.check_new.new.store c.make_new.new.store t (new_of 8 xs image).0.strokes) empty_is these.makes))
+    (subst (λ (xs : List ℕ). c.in_ok-number.number ≡ (new_of 8 (λ p. xs) image).1) empty_is (c.in_ok-number.ensures.value t tells still at low (tests.map t tells here) is_well for_zeros)) tt
+    (makes_after (Ok c.in_ok-number.number) w _ _ _ _ _ t (new_raw image).0.strokes (tests.same ∙ ap but_pages c.self.view_is) tests.quiet is (subst (λ (xs : List ℕ). Makes (Ok c.in_ok-number.number) (g.H.Host.world c.check_new.new.host) (g.H.Host.world c.make_new.new.host) c.check_new.new.store c.make_new.new.store t (new_of 8 (λ p. xs) image).0.strokes) empty_is these.makes))
 
 pub returns-then-is_read_only-clause-some : goal.returns-then-is_read_only-clause-some
 returns-then-is_read_only-clause-some g c t tells is =
     let w = g.H.Host.world c.args.host.now in
-    record { made = _; makes = makes_none {T = ℕ} (Err (Refused (Access 1))) w w _ _ t refl (quiet_begun w (g.met.H.Host.timely c.args.host.now)) is }
+    record { made = _; makes = makes_none {T = ℕ} (Err (Refused (Access 1))) w w c.args.self.now c.args.self.now t refl (quiet_begun w (g.met.H.Host.timely c.args.host.now)) is is }
 
 pub returns-then-count-lt-FIRST_TO_GIVE-clause-some : goal.returns-then-count-lt-FIRST_TO_GIVE-clause-some
 returns-then-count-lt-FIRST_TO_GIVE-clause-some g c t tells is =
     let w = g.H.Host.world c.args.host.now in
-    record { made = _; makes = makes_none {T = ℕ} (Err (Refused (NotDatabase c.count-count.result))) w w _ _ t refl (quiet_begun w (g.met.H.Host.timely c.args.host.now)) is }
+    record { made = _; makes = makes_none {T = ℕ} (Err (Refused (NotDatabase c.count-count.result))) w w c.args.self.now c.args.self.now t refl (quiet_begun w (g.met.H.Host.timely c.args.host.now)) is is }
 
 pub returns-in_err-first-clause-some : goal.returns-in_err-first-clause-some
 returns-in_err-first-clause-some g c t tells is =
+    let here = subst (λ (h : Held). IsOpen (g.H.Host.world c.args.host.now) h t) (sym c.self.view_is) is in
     let tests = c.in_err-first.ensures in
-    record { made = _; makes = makes_none {T = ℕ} c.from_residual.result (g.H.Host.world c.args.host.now) _ _ _ t (tests.same ∙ c.self.view_is) tests.quiet is }
+    record { made = _; makes = makes_none {T = ℕ} c.from_residual.result (g.H.Host.world c.args.host.now) _ _ _ t (tests.same ∙ ap but_pages c.self.view_is) tests.quiet is (tests.open t tells here) }
 
 pub returns-in_err-number-clause-some : goal.returns-in_err-number-clause-some
 returns-in_err-number-clause-some g c t tells is =
@@ -111,11 +112,11 @@ returns-in_err-number-clause-some g c t tells is =
     let at = tests.value t tells here in
     let least : 5 ≤ length t.base.image = omega (arith, here.files.agrees.count, c.count-count.ensures.value, c.if-count-lt-FIRST_TO_GIVE.false) in
     let low : c.in_ok-first.first ≤ length t.base.image = omega (arith, at, lowest_most t.base.image least) in
-    let still = open_still _ _ _ _ t tests.same tests.quiet here in
+    let still = tests.open t tells here in
     let fault = c.in_err-number.field-0.0 in
     let some = (c.in_err-number.ensures.makes t tells still at low (tests.map t tells here)).some in
     tries_passed c.from_residual-in_err-number.result fault (λ r. MakesSome r w (g.H.Host.world c.make_new.new.host) c.args.self.now c.make_new.new.store t) c.from_residual-in_err-number.ensures
-    (record { made = some.made; makes = makes_after (Err fault) w _ _ _ _ _ t some.made (tests.same ∙ c.self.view_is) tests.quiet is some.makes })
+    (record { made = some.made; makes = makes_after (Err fault) w _ _ _ _ _ t some.made (tests.same ∙ ap but_pages c.self.view_is) tests.quiet is some.makes })
 
 pub returns-clause-some : goal.returns-clause-some
 returns-clause-some g c t tells is =
@@ -125,6 +126,6 @@ returns-clause-some g c t tells is =
     let at = tests.value t tells here in
     let least : 5 ≤ length t.base.image = omega (arith, here.files.agrees.count, c.count-count.ensures.value, c.if-count-lt-FIRST_TO_GIVE.false) in
     let low : c.in_ok-first.first ≤ length t.base.image = omega (arith, at, lowest_most t.base.image least) in
-    let still = open_still _ _ _ _ t tests.same tests.quiet here in
+    let still = tests.open t tells here in
     let some = (c.in_ok-number.ensures.makes t tells still at low (tests.map t tells here)).some in
-    record { made = some.made; makes = makes_after (Ok c.in_ok-number.number) w _ _ _ _ _ t some.made (tests.same ∙ c.self.view_is) tests.quiet is some.makes }
+    record { made = some.made; makes = makes_after (Ok c.in_ok-number.number) w _ _ _ _ _ t some.made (tests.same ∙ ap but_pages c.self.view_is) tests.quiet is some.makes }

@@ -1,4 +1,4 @@
-use Rattle.std.proofs.Common.{◌≡◌, List, [], ◌∷◌, ◌++◌, refl, sym, subst, ◌∙◌, arith}
+use Rattle.std.proofs.Common.{◌≡◌, List, [], ◌∷◌, ◌++◌, refl, sym, subst, ◌∙◌, arith, ap}
 use Rattle.std.specs.Prelude.{Ok, Err}
 use Rattle.nb_fields.specs.Payloads.{text_payload}
 use Rattle.nb_model.specs.declared.reply.Reply.TheVariants.{Done}
@@ -6,8 +6,7 @@ use Rattle.nb_model.specs.Image.{Image, page_at}
 use Rattle.nb_model.specs.Strokes.{Stroke}
 use Rattle.nb_model.specs.Outcomes.{Seen}
 use Rattle.nb_model.specs.Pages.{write_turn}
-use Rattle.nb_state.specs.Open.{Held, IsOpen}
-use Rattle.nb_state.proofs.MakesLaws.{open_still}
+use Rattle.nb_state.specs.Open.{Held, IsOpen, but_pages}
 use Rattle.nb_engine.specs.Tries.{Tries}
 use Rattle.nb_engine.specs.Put.{entry_cause, raise_strokes, raw_stroke}
 use Rattle.nb_engine.specs.Replies.{done}
@@ -23,7 +22,7 @@ pub returns-in_err-take_raw-clause-turn : goal.returns-in_err-take_raw-clause-tu
 returns-in_err-take_raw-clause-turn g c s t tells same is =
     let here = subst (λ (h : Held). IsOpen (g.H.Host.world c.args.host.now) h t) (sym c.self.view_is) is in
     let raw = c.in_err-take_raw.ensures in
-    tested_does (Unit {0}) (Unit {0}) done _ _ _ _ _ _ t s (λ (x : Seen). write_turn x c.args.number c.args.text.now) _ c.from_residual.ensures same (raw.same ∙ c.self.view_is) raw.quiet is
+    tested_does (Unit {0}) (Unit {0}) done _ _ _ _ _ _ t s (λ (x : Seen). write_turn x c.args.number c.args.text.now) _ c.from_residual.ensures same (raw.same ∙ ap but_pages c.self.view_is) raw.quiet is (raw.open t tells here)
     (raw.reads t tells here).test (write_untaken (seeing s t.base) c.args.number c.args.text.now)
 
 pub returns-then-number-eq0-clause-turn : goal.returns-then-number-eq0-clause-turn
@@ -35,8 +34,8 @@ pub returns-in_err-check_write-clause-turn : goal.returns-in_err-check_write-cla
 returns-in_err-check_write-clause-turn g c s t tells same is =
     let here = subst (λ (h : Held). IsOpen (g.H.Host.world c.args.host.now) h t) (sym c.self.view_is) is in
     let raw = c.in_ok-take_raw.ensures in
-    let still = open_still _ _ _ _ t raw.same raw.quiet here in
-    tested_does (Unit {0}) (Unit {0}) done _ _ _ _ _ _ t s (λ (x : Seen). write_turn x c.args.number c.args.text.now) _ c.from_residual-in_err-check_write.ensures same (raw.same ∙ c.self.view_is) raw.quiet is
+    let still = raw.open t tells here in
+    tested_does (Unit {0}) (Unit {0}) done _ _ _ _ _ _ t s (λ (x : Seen). write_turn x c.args.number c.args.text.now) _ c.from_residual-in_err-check_write.ensures same (raw.same ∙ ap but_pages c.self.view_is) raw.quiet is (raw.open t tells here)
     (c.in_err-check_write.ensures.test t.base.image (c.is_read_only.ensures ∙ still.agrees.read_only)) (write_checked (seeing s t.base) c.args.number c.args.text.now (raw.reads t tells here).test)
 
 pub returns-in_err-raise_entry-clause-turn : goal.returns-in_err-raise_entry-clause-turn
@@ -48,7 +47,7 @@ returns-in_err-raise_entry-clause-turn g c s t tells same is =
     let new = g.H.Host.world c.raise_entry.new.host in
     let here = subst (λ (h : Held). IsOpen old h t) (sym c.self.view_is) is in
     let raw = c.in_ok-take_raw.ensures in
-    let still = open_still _ _ _ _ t raw.same raw.quiet here in
+    let still = raw.open t tells here in
     let some = entries_some _ image c.self.invariant.0 here.files.agrees.page_size in
     let turn = write_is (seeing s t.base) p text (raw.reads t tells here).test (c.in_ok-check_write.ensures.test image (c.is_read_only.ensures ∙ still.agrees.read_only)) some in
     let both : List Stroke = raise_strokes image p ++ raw_stroke image p text ∷ [] in
@@ -56,7 +55,7 @@ returns-in_err-raise_entry-clause-turn g c s t tells same is =
     let result = c.from_residual-in_err-raise_entry.result in
     let tries = tries_passed result fault (λ r. Tries r old new c.args.self.now c.raise_entry.new.store t (entry_cause image p) both) c.from_residual-in_err-raise_entry.ensures
     (tries_front (Unit {0}) (Unit {0}) fault _ _ _ _ t _ (raise_strokes image p) (raw_stroke image p text ∷ [])
-    (tries_after {T = Unit {0}} (Err fault) _ _ _ _ _ _ t _ _ (raw.same ∙ c.self.view_is) raw.quiet is (c.in_err-raise_entry.ensures.tries t tells still))) in
+    (tries_after {T = Unit {0}} (Err fault) _ _ _ _ _ _ t _ _ (raw.same ∙ ap but_pages c.self.view_is) raw.quiet is (c.in_err-raise_entry.ensures.tries t tells still))) in
     tries_does done result old new _ _ t s (λ (x : Seen). write_turn x p text) _ Done both same turn (if_err result fault _ c.from_residual-in_err-raise_entry.ensures) tries
 
 pub returns-in_err-write_raw-clause-turn : goal.returns-in_err-write_raw-clause-turn
@@ -70,11 +69,11 @@ returns-in_err-write_raw-clause-turn g c s t tells same is =
     let here = subst (λ (h : Held). IsOpen old h t) (sym c.self.view_is) is in
     let raw = c.in_ok-take_raw.ensures in
     let reads = raw.reads t tells here in
-    let still = open_still _ _ _ _ t raw.same raw.quiet here in
+    let still = raw.open t tells here in
     let some = entries_some _ image c.self.invariant.0 here.files.agrees.page_size in
     let of_raw = is_raw image p reads.test in
     let turn = write_is (seeing s t.base) p text reads.test (c.in_ok-check_write.ensures.test image (c.is_read_only.ensures ∙ still.agrees.read_only)) some in
-    let first = tries_after {T = Unit {0}} (Ok tt) old _ mid c.args.self.now _ c.raise_entry.new.store t _ _ (raw.same ∙ c.self.view_is) raw.quiet is (c.in_ok-raise_entry.ensures.tries t tells still) in
+    let first = tries_after {T = Unit {0}} (Ok tt) old _ mid c.args.self.now _ c.raise_entry.new.store t _ _ (raw.same ∙ ap but_pages c.self.view_is) raw.quiet is (c.in_ok-raise_entry.ensures.tries t tells still) in
     let read : c.deref_mut-2.result.now ≡ page_at image p = vec_whole _ c.take_raw.new.page _ _ c.deref_mut-2.ensures.value (omega (arith, c.take_raw.auto.page, c.deref_mut.ensures.len)) ∙ reads.page in
     let fault = c.in_err-write_raw.field-0.0 in
     let result = c.from_residual-in_err-write_raw.result in
@@ -95,11 +94,11 @@ returns-clause-turn g c s t tells same is =
     let here = subst (λ (h : Held). IsOpen old h t) (sym c.self.view_is) is in
     let raw = c.in_ok-take_raw.ensures in
     let reads = raw.reads t tells here in
-    let still = open_still _ _ _ _ t raw.same raw.quiet here in
+    let still = raw.open t tells here in
     let some = entries_some _ image c.self.invariant.0 here.files.agrees.page_size in
     let of_raw = is_raw image p reads.test in
     let turn = write_is (seeing s t.base) p text reads.test (c.in_ok-check_write.ensures.test image (c.is_read_only.ensures ∙ still.agrees.read_only)) some in
-    let first = tries_after {T = Unit {0}} (Ok tt) old _ mid c.args.self.now _ c.raise_entry.new.store t _ _ (raw.same ∙ c.self.view_is) raw.quiet is (c.in_ok-raise_entry.ensures.tries t tells still) in
+    let first = tries_after {T = Unit {0}} (Ok tt) old _ mid c.args.self.now _ c.raise_entry.new.store t _ _ (raw.same ∙ ap but_pages c.self.view_is) raw.quiet is (c.in_ok-raise_entry.ensures.tries t tells still) in
     let read : c.deref_mut-2.result.now ≡ page_at image p = vec_whole _ c.take_raw.new.page _ _ c.deref_mut-2.ensures.value (omega (arith, c.take_raw.auto.page, c.deref_mut.ensures.len)) ∙ reads.page in
     let tries = then_page old mid _ _ t p of_raw.plain some first {T = Unit {0}} (Ok tt) new _ c.deref_mut-2.result.now (λ (x : Image). raw_stroke x p text) of_raw.low read (put_stroke-after image _ p 8 (text_payload text))
     tt (λ u opened low is. c.in_ok-write_raw.ensures.makes u tells opened low is) in

@@ -21,7 +21,7 @@ returns-then-state-ne0-clause-turn g c s t tells same is =
     let state = c.state-state.ensures.value ∙ here.files.agrees.state in
     let other = state_other t.base.image (λ e. c.if-state-ne0.true (state ∙ e)) ∙ ap (λ (n : ℕ). Some (WrongState n)) (sym (c.from.ensures ∙ state)) in
     tries_does done _ first first _ _ t s (λ (x : Seen). access_turn x c.args.closed) _ Done _ same (access_is (seeing s t.base) c.args.closed) tt
-    (tries_failed (Unit {0}) _ first first _ _ t (not_state 0 t.base.image) _ other refl (quiet_begun first (g.met.H.Host.timely c.args.host.now)) is)
+    (tries_failed (Unit {0}) _ first first _ _ t (not_state 0 t.base.image) _ other refl (quiet_begun first (g.met.H.Host.timely c.args.host.now)) is is)
 
 pub returns-in_err-put_flag-clause-turn : goal.returns-in_err-put_flag-clause-turn
 returns-in_err-put_flag-clause-turn g c s t tells same is =

@@ -21,7 +21,7 @@ returns-then-is_read_only-clause-turn g c s t tells same is =
     let here = subst (λ (h : Held). IsOpen first h t) (sym c.self.view_is) is in
     let closed : is_read_only t.base.image ≡ true = sym here.agrees.read_only ∙ sym c.is_read_only.ensures ∙ c.if-is_read_only.true in
     tries_does done _ first first _ _ t s (λ (x : Seen). forced_turn x c.args.on) _ Done _ same (forced_is (seeing s t.base) c.args.on) tt
-    (tries_failed (Unit {0}) _ first first _ _ t (read_only t.base.image) _ (closed_cause t.base.image closed) refl (quiet_begun first (g.met.H.Host.timely c.args.host.now)) is)
+    (tries_failed (Unit {0}) _ first first _ _ t (read_only t.base.image) _ (closed_cause t.base.image closed) refl (quiet_begun first (g.met.H.Host.timely c.args.host.now)) is is)
 
 pub returns-in_err-put_flag-clause-turn : goal.returns-in_err-put_flag-clause-turn
 returns-in_err-put_flag-clause-turn g c s t tells same is =

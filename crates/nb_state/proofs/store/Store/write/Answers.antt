@@ -15,10 +15,10 @@ returns-in_err-write-clause-makes g c t tells given fits =
     let new : World = g.H.Host.world c.write.new.host in
     let is = subst (λ (h : Held). IsOpen old h t) (sym c.self.view_is) given in
     let wrote = c.write.ensures in
-    let after : Held = record c.args.self.now { files = c.write.new.self } in
-    let left = subst (λ (h : Held). Strikes old new (name_of h) t (page c.args.number c.args.page.now ∷ [])) c.self.view_is (wrote.takes t tells is.files fits is.agrees.forced).left in
-    let goes = subst (λ (h : Held). Goes h (record h { files = c.write.new.self })) c.self.view_is (goes_files _ c.write.new.self wrote.name wrote.page_size wrote.state wrote.entries) in
-    subst (λ (h : Held). Makes {T = Unit {0}} c.from_residual.result old new c.args.self.now h t (page c.args.number c.args.page.now ∷ [])) (sym (ap (λ (h : Held). record h { files = c.write.new.self }) c.self.view_is))
+    let after : Held = record c.args.self.now { files = c.write.new.self.files; pages = c.write.new.self.pages; cap = c.write.new.self.cap } in
+    let left = subst (λ (h : Held). Strikes old new (name_of h) t (page c.args.number c.args.page.now ∷ [])) c.self.view_is (wrote.takes t tells (record { files = is.files; pages = is.pages }) fits is.agrees.forced).left in
+    let goes = subst (λ (h : Held). Goes h (record h { files = c.write.new.self.files; pages = c.write.new.self.pages; cap = c.write.new.self.cap })) c.self.view_is (goes_files _ c.write.new.self wrote.name wrote.page_size wrote.state wrote.entries) in
+    subst (λ (h : Held). Makes {T = Unit {0}} c.from_residual.result old new c.args.self.now h t (page c.args.number c.args.page.now ∷ [])) (sym (ap (λ (h : Held). record h { files = c.write.new.self.files; pages = c.write.new.self.pages; cap = c.write.new.self.cap }) c.self.view_is))
     (subst (λ r. Makes {T = Unit {0}} r old new c.args.self.now after t (page c.args.number c.args.page.now ∷ [])) (sym (passed_on c.from_residual.result c.in_err-write.field-0.0 c.from_residual.ensures)) (record {
       left = left;
       opened = never_ended (Unit {0}) c.in_err-write.field-0.0 _ c.in_err-write.ensures.not_refused;
@@ -27,7 +27,7 @@ returns-in_err-write-clause-makes g c t tells given fits =
     }))
 
 pub take_flags-requires : goal.take_flags-requires
-take_flags-requires g c = let size = size_facts c.self.inside.files.page_size c.self.invariant.0 in omega (arith, size.at_least, c.requires.size, ap (λ (h : Held). h.files.page_size) c.self.view_is)
+take_flags-requires g c = let size = size_facts c.self.inside.pair.files.page_size c.self.invariant.0 in omega (arith, size.at_least, c.requires.size, ap (λ (h : Held). h.files.page_size) c.self.view_is)
 
 pub returns-clause-makes : goal.returns-clause-makes
 returns-clause-makes g c t tells given fits =
@@ -35,14 +35,14 @@ returns-clause-makes g c t tells given fits =
     let new : World = g.H.Host.world c.write.new.host in
     let is = subst (λ (h : Held). IsOpen old h t) (sym c.self.view_is) given in
     let wrote = c.in_ok-write.ensures in
-    let takes = wrote.takes t tells is.files fits is.agrees.forced in
-    let files = c.write.new.self in
+    let takes = wrote.takes t tells (record { files = is.files; pages = is.pages }) fits is.agrees.forced in
+    let pair = c.write.new.self in
     let first = c.take_flags.ensures.first in
     let other = c.take_flags.ensures.other in
     record {
       left = subst (λ (h : Held). Strikes old new (name_of h) t (page c.args.number c.args.page.now ∷ [])) c.self.view_is takes.left;
-      opened = open_written t c.args.number c.args.page.now fits _ files old new c.take_flags.new.self first other is wrote.state wrote.entries takes.done (λ two. wrote.merged t _ tells is.files fits two (is.merged two));
+      opened = open_written t c.args.number c.args.page.now fits _ pair old new c.take_flags.new.self first other is wrote.state wrote.entries takes.done (λ two. wrote.merged t _ tells (record { files = is.files; pages = is.pages }) fits two (is.merged two));
       goes = subst (λ (h : Held). Goes h c.take_flags.new.self) c.self.view_is
-          (goes_written c.args.number c.args.page.now _ c.take_flags.new.self files first other (goes_files _ files wrote.name wrote.page_size wrote.state wrote.entries));
+          (goes_written c.args.number c.args.page.now _ c.take_flags.new.self pair first other (goes_files _ pair wrote.name wrote.page_size wrote.state wrote.entries));
       gave = wrote.gave;
     }

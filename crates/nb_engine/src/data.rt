@@ -1,0 +1,199 @@
+// Data pages, of which chains are made, are read, written and given back.
+ghost use Rattle.std.specs.Prelude.{◌≡◌, ◌≢◌, ◌+◌, ◌<◌, ◌≤◌, ◌++◌, IsTrue, IfErr, OnOk, None, length, take, drop};
+ghost use Rattle.nb_fields.specs.Places.{is_page_size};
+ghost use Rattle.nb_host.specs.declared.faults.Fault.TheVariants.{Memory};
+ghost use Rattle.nb_change.specs.Counts.{CountsDevice};
+ghost use Rattle.nb_page.specs.Quiet.{Quiet};
+ghost use Rattle.nb_model.specs.Causes.{not_kind};
+ghost use Rattle.nb_model.specs.Forms.{drafted, give_page};
+ghost use Rattle.nb_model.specs.Sound.{IsSoundImage};
+ghost use Rattle.nb_model.specs.Trail.{Trail};
+ghost use Rattle.nb_base.specs.Takes.{IsNoRefusal};
+ghost use Rattle.nb_state.specs.Open.{IsOpen, but_pages};
+ghost use Rattle.nb_state.specs.Does.{Tested, Goes};
+ghost use Rattle.nb_engine.specs.Data.{not_data, put_data, data_cause, ready_cause};
+ghost use Rattle.nb_engine.specs.Mark.{mark_cause};
+ghost use Rattle.nb_engine.specs.Put.{Reads};
+ghost use Rattle.nb_engine.specs.Tries.{Tries};
+
+use crate::Engine;
+use crate::make::put_page;
+use crate::mark::{check_mark, mark};
+use crate::pages::ScnPage;
+use crate::put::must_raise;
+use crate::reads::take_system;
+use nb_fields::PageKind;
+use nb_fields::layouts::data;
+use nb_host::{Fault, Host, Refusal};
+use nb_state::Store;
+
+/// Where the payload of a page begins.
+const HEAD: usize = 16;
+
+/// Takes over what these bytes have behind the head of a page.
+fn put_behind(page: &mut [u8], bytes: &[u8])
+    requires size { IsTrue (is_page_size (length page.old)) }
+    requires same { length bytes.now ≡ length page.old }
+    ensures { page.new ≡ take 16 page.old ++ drop 16 bytes.now }
+{
+    page[HEAD..].copy_from_slice(&bytes[HEAD..]);
+}
+
+/// Writes page `number`, a data page, with what these bytes have behind the head. The refusals are `NotDatabase` of the page, where it is
+/// none, and of its SCN page, in this order.
+fn write_data<H: Host>(
+    store: &mut Store,
+    host: &mut H,
+    number: u32,
+    bytes: &[u8],
+    page: &mut [u8],
+    scn_page: &mut ScnPage,
+) -> Result<(), Fault>
+    requires size { IsTrue (is_page_size (length page.old)) }
+    requires room { length page.old ≡ store.old.files.page_size }
+    requires scn_room { length scn_page.old ≡ store.old.files.page_size }
+    requires same { length bytes.now ≡ store.old.files.page_size }
+    requires low { 0 < number }
+    ensures tries { (t : Trail) → IsTrue H.tells → IsOpen (H.world host.old) store.old t
+        → Tries result (H.world host.old) (H.world host.new) store.old store.new t (data_cause t.base.image number) (put_data number bytes.now t.base.image).strokes }
+    ensures goes { Goes store.old store.new }
+    ensures scn_room { length scn_page.new ≡ length scn_page.old }
+    ensures cause { CountsDevice result (H.faults host.old) (H.faults host.new) }
+{
+    // A page that is read is below the length, and so below the most pages that there may be.
+    let _count = store.count();
+    take_system(store, host, number, PageKind::Data, page)?;
+    put_behind(page, bytes);
+    put_page(store, host, number, PageKind::Data, page, scn_page)?;
+    Ok(())
+}
+
+impl Engine {
+    /// Reads page `number`, a data page of that owner. It takes one read at most.
+    ///
+    /// The refusal is `NotDatabase` of the page, where it is past the end, of another kind, or of another owner.
+    pub fn data_read<H: Host>(
+        &mut self,
+        host: &mut H,
+        number: u32,
+        owner: u32,
+        into: &mut [u8],
+    ) -> Result<(), Fault>
+        requires size { length into.old ≡ self.old.files.page_size }
+        ensures reads { (t : Trail) → IsTrue H.tells → IsOpen (H.world host.old) self.old t → Reads result t.base.image (not_data t.base.image owner number) number into.new }
+        ensures low { OnOk result (0 < number) }
+        ensures high { OnOk result (number < 1048576) }
+        ensures open { (t : Trail) → IsTrue H.tells → IsOpen (H.world host.old) self.old t → IsOpen (H.world host.new) self.new t }
+        ensures same { but_pages self.new ≡ but_pages self.old }
+        ensures quiet { Quiet (H.world host.old) (H.world host.new) }
+        ensures once { IsTrue H.tells → (H.world host.new).reads ≤ (H.world host.old).reads + 1 }
+        ensures cause { CountsDevice result (H.faults host.old) (H.faults host.new) }
+        ensures takes_none { IfErr result (λ fault. fault ≢ Memory) }
+    {
+        // A page that is read is below the length, and so below the most pages that there may be.
+        let _count = self.store.count();
+        // Page 0 is the header, whatever the host gives for it.
+        if number == 0 {
+            return Err(Fault::Refused(Refusal::NotDatabase { page: number }));
+        }
+        take_system(&mut self.store, host, number, PageKind::Data, into)?;
+        if data::Owner::get(into) != u64::from(owner) {
+            return Err(Fault::Refused(Refusal::NotDatabase { page: number }));
+        }
+        Ok(())
+    }
+
+    /// Writes page `number`, a data page. Of the bytes that are given those behind the head count: the next page, the owner and the slots.
+    /// The head is that of the page as it stands, with its generation raised and the current SCN. The SCN entry of the page is raised before,
+    /// where that is below the current SCN.
+    ///
+    /// The refusals are `NotDatabase` of the page, where it is past the end or no data page, and of its SCN page, in this order. A refused
+    /// call changes nothing.
+    pub fn data_write<H: Host>(
+        &mut self,
+        host: &mut H,
+        number: u32,
+        page: &[u8],
+    ) -> Result<(), Fault>
+        requires size { length page.now ≡ self.old.files.page_size }
+        requires low { 0 < number }
+        ensures tries { (t : Trail) → IsTrue H.tells → IsOpen (H.world host.old) self.old t
+            → Tries result (H.world host.old) (H.world host.new) self.old self.new t (data_cause t.base.image number) (put_data number page.now t.base.image).strokes }
+        ensures sure { (t : Trail) → IsTrue H.tells → IsOpen (H.world host.old) self.old t → IsSoundImage t.base.image → not_kind t.base.image 5 number ≡ None → IfErr result IsNoRefusal }
+        ensures goes { Goes self.old self.new }
+        ensures cause { CountsDevice result (H.faults host.old) (H.faults host.new) }
+    {
+        write_data(
+            &mut self.store,
+            host,
+            number,
+            page,
+            &mut self.page,
+            &mut self.scn_page,
+        )?;
+        Ok(())
+    }
+
+    /// Gives page `number` back: its inventory page says from then on that it is free. The page itself stays as it is. The SCN entry of the
+    /// inventory page is raised before, where that is below the current SCN.
+    ///
+    /// The refusals are `NotDatabase` of the inventory page and of the SCN page of that, in this order. A refused call changes nothing.
+    pub fn data_free<H: Host>(&mut self, host: &mut H, number: u32) -> Result<(), Fault>
+        requires high { number < 1048576 }
+        ensures tries { (t : Trail) → IsTrue H.tells → IsOpen (H.world host.old) self.old t
+            → Tries result (H.world host.old) (H.world host.new) self.old self.new t (mark_cause t.base.image number) (give_page number (drafted t.base.image)).strokes }
+        ensures sure { (t : Trail) → IsTrue H.tells → IsOpen (H.world host.old) self.old t → IsSoundImage t.base.image → 2 ≤ number → number < length t.base.image → IfErr result IsNoRefusal }
+        ensures goes { Goes self.old self.new }
+        ensures cause { CountsDevice result (H.faults host.old) (H.faults host.new) }
+    {
+        mark(
+            &mut self.store,
+            host,
+            number,
+            true,
+            &mut self.map,
+            &mut self.scn_page,
+        )?;
+        Ok(())
+    }
+
+    /// Tests that page `number`, a data page, may be written, and, where that is asked, that it may be given back. It changes nothing but
+    /// which pages are in memory.
+    ///
+    /// The refusals are `NotDatabase` of the page, where it is past the end or no data page, of its SCN page, and, where it is to be given
+    /// back, of its inventory page and of the SCN page of that, in this order.
+    pub fn data_ready<H: Host>(
+        &mut self,
+        host: &mut H,
+        number: u32,
+        free: bool,
+    ) -> Result<(), Fault>
+        ensures test { (t : Trail) → IsTrue H.tells → IsOpen (H.world host.old) self.old t → Tested result (ready_cause t.base.image number free) }
+        ensures open { (t : Trail) → IsTrue H.tells → IsOpen (H.world host.old) self.old t → IsOpen (H.world host.new) self.new t }
+        ensures same { but_pages self.new ≡ but_pages self.old }
+        ensures quiet { Quiet (H.world host.old) (H.world host.new) }
+        ensures cause { CountsDevice result (H.faults host.old) (H.faults host.new) }
+    {
+        // A page that is read is below the length, and so below the most pages that there may be.
+        let _count = self.store.count();
+        take_system(
+            &mut self.store,
+            host,
+            number,
+            PageKind::Data,
+            &mut self.page,
+        )?;
+        must_raise(&mut self.store, host, number, &mut self.scn_page)?;
+        if !free {
+            return Ok(());
+        }
+        check_mark(
+            &mut self.store,
+            host,
+            number,
+            &mut self.map,
+            &mut self.scn_page,
+        )?;
+        Ok(())
+    }
+}

@@ -1,0 +1,171 @@
+// New data pages: the first of a chain, and one behind its last.
+ghost use Rattle.std.specs.Prelude.{◌≡◌, ◌+◌, ◌<◌, ◌≤◌, ℕ, List, IsTrue, IfOk, length};
+ghost use Rattle.nb_fields.specs.Payloads.{data_payload};
+ghost use Rattle.nb_change.specs.Counts.{CountsDevice};
+ghost use Rattle.nb_page.specs.Quiet.{Quiet};
+ghost use Rattle.nb_model.specs.Causes.{no_room};
+ghost use Rattle.nb_model.specs.Chains.{Chain, owner_of, last_of, grown};
+ghost use Rattle.nb_model.specs.Forms.{drafted, new_page};
+ghost use Rattle.nb_model.specs.Sound.{IsSoundImage};
+ghost use Rattle.nb_model.specs.Trail.{Trail};
+ghost use Rattle.nb_state.specs.Open.{IsOpen, but_pages};
+ghost use Rattle.nb_state.specs.Does.{Tested, Goes};
+ghost use Rattle.nb_engine.specs.Data.{new_data, second_data};
+ghost use Rattle.nb_engine.specs.Make.{MakesSome};
+ghost use Rattle.nb_engine.specs.Tries.{Tries};
+
+use crate::Engine;
+use crate::find::{FIRST_TO_GIVE, check_new, check_rooms};
+use crate::grow::{check_growth, grow_from};
+use crate::make::make_new;
+use nb_fields::{Field, PageKind};
+use nb_host::{Fault, Host, Refusal};
+
+/// Where the slots begin behind the head of a page.
+const SLOTS: usize = 16;
+
+/// As many bytes as any page has behind its head.
+const MOST_PAYLOAD: usize = 1008;
+
+/// The owner behind the head of a page.
+type Owner = Field<4, 4>;
+
+/// Makes of these bytes what a data page has behind its head: no next page, the owner and the slots.
+fn fill_payload(into: &mut [u8], owner: u32, slots: &[u8])
+    requires room { length into.old ≡ 16 + length slots.now }
+    ensures { into.new ≡ data_payload 0 owner slots.now }
+{
+    into.fill(0);
+    Owner::put(into, u64::from(owner));
+    into[SLOTS..].copy_from_slice(slots);
+}
+
+impl Engine {
+    /// Makes a data page with these slots, and answers its number, which is found as that of a new raw page. It leads to no other page. Its
+    /// owner is the one that is named, or, where none is, the page itself: so begins the chain of a table.
+    ///
+    /// The refusals are `NotDatabase` of a database of fewer than five pages, by its length, or of an inventory page that isn't of its kind,
+    /// and `Full`, where no page is left. All that the new page changes is tested before the first write. Where the inventories agree with
+    /// the pages, a refused call changes nothing, and is refused for want of room alone.
+    pub fn data_new<H: Host>(
+        &mut self,
+        host: &mut H,
+        owner: Option<u32>,
+        slots: &[u8],
+    ) -> Result<u32, Fault>
+        requires short { length slots.now ≤ 992 }
+        ensures makes { (t : Trail) → IsTrue H.tells → IsOpen (H.world host.old) self.old t → IsSoundImage t.base.image
+            → Tries result (H.world host.old) (H.world host.new) self.old self.new t (no_room (new_data owner slots.now t.base.image).0) (new_data owner slots.now t.base.image).0.strokes }
+        ensures value { (t : Trail) → IsTrue H.tells → IsOpen (H.world host.old) self.old t → IsSoundImage t.base.image → IfOk result (λ number. number ≡ (new_data owner slots.now t.base.image).1) }
+
+        // Whatever is in the database: it makes some strokes and is open behind them, so only its two files are touched.
+        ensures some { (t : Trail) → IsTrue H.tells → IsOpen (H.world host.old) self.old t → MakesSome result (H.world host.old) (H.world host.new) self.old self.new t }
+        ensures least { IfOk result (λ number. 5 ≤ number) }
+        ensures most { IfOk result (λ number. number < 1048576) }
+        ensures goes { Goes self.old self.new }
+        ensures cause { CountsDevice result (H.faults host.old) (H.faults host.new) }
+    {
+        let count = self.store.count();
+        if count < FIRST_TO_GIVE {
+            return Err(Fault::Refused(Refusal::NotDatabase { page: count }));
+        }
+        let first = check_new(&mut self.store, host, &mut self.map, &mut self.scn_page)?;
+        let mut room = [0; MOST_PAYLOAD];
+        let payload = &mut room[..SLOTS + slots.len()];
+        fill_payload(payload, owner.unwrap_or(0), slots);
+        let number = make_new(
+            &mut self.store,
+            host,
+            first,
+            PageKind::Data,
+            payload,
+            owner.is_none(),
+            &mut self.page,
+            &mut self.map,
+            &mut self.scn_page,
+        )?;
+        Ok(number)
+    }
+
+    /// Makes a data page with these slots behind `last`, the last page of a chain of that owner, which is linked to it once it stands. It
+    /// answers the number of the new page.
+    ///
+    /// The refusals are those of `data_new`, and `NotDatabase` of the SCN page of the last page. All is tested before the first write. Where
+    /// the inventories agree with the pages, a refused call changes nothing, and is refused for want of room alone.
+    pub fn data_grow<H: Host>(
+        &mut self,
+        host: &mut H,
+        last: u32,
+        owner: u32,
+        slots: &[u8],
+    ) -> Result<u32, Fault>
+        requires low { 0 < last }
+        requires high { last < 1048576 }
+        requires short { length slots.now ≤ 992 }
+        ensures makes { (t : Trail) (chain : Chain) (pages : List ℕ) → IsTrue H.tells → IsOpen (H.world host.old) self.old t → IsSoundImage t.base.image → owner ≡ owner_of chain → last ≡ last_of pages → last < length t.base.image
+            → Tries result (H.world host.old) (H.world host.new) self.old self.new t (no_room (grown chain pages slots.now (drafted t.base.image)).0) (grown chain pages slots.now (drafted t.base.image)).0.strokes }
+        ensures value { (t : Trail) (chain : Chain) (pages : List ℕ) → IsTrue H.tells → IsOpen (H.world host.old) self.old t → IsSoundImage t.base.image → owner ≡ owner_of chain
+            → IfOk result (λ number. number ≡ (grown chain pages slots.now (drafted t.base.image)).1) }
+        ensures some { (t : Trail) → IsTrue H.tells → IsOpen (H.world host.old) self.old t → MakesSome result (H.world host.old) (H.world host.new) self.old self.new t }
+        ensures least { IfOk result (λ number. 5 ≤ number) }
+        ensures most { IfOk result (λ number. number < 1048576) }
+        ensures goes { Goes self.old self.new }
+        ensures cause { CountsDevice result (H.faults host.old) (H.faults host.new) }
+    {
+        let count = self.store.count();
+        if count < FIRST_TO_GIVE {
+            return Err(Fault::Refused(Refusal::NotDatabase { page: count }));
+        }
+        let first = check_growth(
+            &mut self.store,
+            host,
+            last,
+            &mut self.map,
+            &mut self.scn_page,
+        )?;
+        let mut room = [0; MOST_PAYLOAD];
+        let payload = &mut room[..SLOTS + slots.len()];
+        fill_payload(payload, owner, slots);
+        let number = grow_from(
+            &mut self.store,
+            host,
+            first,
+            last,
+            payload,
+            &mut self.page,
+            &mut self.map,
+            &mut self.scn_page,
+        )?;
+        Ok(number)
+    }
+
+    /// Tests that `pages` new data pages, one or two, may be made, one right behind the other. It changes nothing but which pages
+    /// are in memory.
+    ///
+    /// The refusals are `NotDatabase` of a database of fewer than five pages, by its length, or of an inventory page that isn't of its kind,
+    /// and `Full`, where fewer pages are left.
+    pub fn room_for<H: Host>(&mut self, host: &mut H, pages: u32) -> Result<(), Fault>
+        requires some { 1 ≤ pages }
+        requires few { pages ≤ 2 }
+        ensures one { (t : Trail) (first : ℕ → List ℕ) → IsTrue H.tells → IsOpen (H.world host.old) self.old t → IsSoundImage t.base.image → pages ≡ 1 → Tested result (no_room (new_page 5 first (drafted t.base.image)).0) }
+        ensures two { (t : Trail) (first second : ℕ → List ℕ) → IsTrue H.tells → IsOpen (H.world host.old) self.old t → IsSoundImage t.base.image → pages ≡ 2 → ((p : ℕ) → length (first p) ≤ 1008)
+            → Tested result (no_room (second_data first second t.base.image).0) }
+        ensures open { (t : Trail) → IsTrue H.tells → IsOpen (H.world host.old) self.old t → IsOpen (H.world host.new) self.new t }
+        ensures same { but_pages self.new ≡ but_pages self.old }
+        ensures quiet { Quiet (H.world host.old) (H.world host.new) }
+        ensures cause { CountsDevice result (H.faults host.old) (H.faults host.new) }
+    {
+        let count = self.store.count();
+        if count < FIRST_TO_GIVE {
+            return Err(Fault::Refused(Refusal::NotDatabase { page: count }));
+        }
+        check_rooms(
+            &mut self.store,
+            host,
+            pages,
+            &mut self.map,
+            &mut self.scn_page,
+        )?;
+        Ok(())
+    }
+}

@@ -1,0 +1,116 @@
+-- A page of the history that is taken stays as it is, whatever statements on pages do.
+use Rattle.std.proofs.Common.{◌≡◌, ◌≢◌, ℕ, ◌+◌, ◌/◌, ◌<◌, List, [], length, refl, sym, ap, subst, ◌∙◌, arith}
+use Rattle.std.specs.Prelude.{true, false, Some, None}
+use Rattle.std.proofs.lemmas.Bool.{true≢false}
+use Rattle.nb_fields.specs.Page.{kind_of}
+use Rattle.nb_fields.specs.Payloads.{text_payload}
+use Rattle.nb_fields.specs.Places.{bits_in, is_inventory_place}
+use Rattle.nb_model.specs.declared.statement.Statement.{Statement}
+use Rattle.nb_model.specs.declared.statement.Statement.TheVariants.{CreateDb, OpenDb, PageNew, Write, Read, Free, CreateTable, DropTable, Insert, Update, Delete, Get, Scan, Forced, Access, Sync, ShowHeader, ShowPages, ShowImage, ShowCache}
+use Rattle.nb_model.specs.Account.{Base}
+use Rattle.nb_model.specs.Backups.{pages_turn}
+use Rattle.nb_model.specs.Causes.{Cause, not_raw}
+use Rattle.nb_model.specs.Forms.{Draft, drafted, put, give_page, new_page}
+use Rattle.nb_model.specs.Image.{Page, Image, page_at, image_size}
+use Rattle.nb_model.specs.Going.{IsNamed}
+use Rattle.nb_model.specs.Outcomes.{Begins, Seen, Outcome, unless, changes}
+use Rattle.nb_model.specs.Pages.{new_turn, write_turn, read_turn, free_turn, forced_turn, access_turn, header_turn, image_turn, cache_turn, byte_strokes}
+use Rattle.nb_model.specs.Sound.{IsSoundImage, HasHeader}
+use Rattle.nb_model.specs.Strokes.{Stroke, on_base, base_after}
+use Rattle.nb_model.specs.Turns.{first_turn}
+use Rattle.nb_model.specs.Well.{is_on_pages}
+use Rattle.nb_model.proofs.FitLaws.{IsWhole, Fits}
+use Rattle.nb_model.proofs.BitSound.{give_fits}
+use Rattle.nb_model.proofs.HeadSound.{byte_fits}
+use Rattle.nb_model.proofs.NewSound.{new_raw_fits, empty_text}
+use Rattle.nb_model.proofs.PutSound.{IsPlain, short_text, no_first, not_when, raw_facts, raw_plain, header_whole, text_fits}
+use Rattle.nb_model.proofs.RoundLaws.{AnyPage, any_kinds}
+use Rattle.nb_model.proofs.SoundLaws.{inventory_there, inventory_place_some}
+use Rattle.nb_model.proofs.TableTurns.{create_keeps, drop_keeps, insert_keeps, update_keeps, delete_keeps, get_keeps, scan_keeps}
+use Rattle.nb_model.proofs.HeldLaws.{IsHeld, IsOfHistory, held_write, held_put, held_bit, new_is_made}
+
+-- Each statement on pages keeps a page of the history that is held.
+module _ (q : ℕ) (bytes : Page) (of_history : IsOfHistory bytes) where
+  abbrev HoldsBehind : Base → List Stroke → Type 0
+  HoldsBehind b ss = IsHeld q bytes (base_after b ss).image
+
+  abbrev KeepsHeld : Statement → Type 0
+  KeepsHeld statement = (s : Seen) (session : ℕ) → HasHeader s.base.image → IsSoundImage s.base.image → IsHeld q bytes s.base.image → HoldsBehind s.base (first_turn s session statement).strokes
+
+  none_behind : (b : Base) → IsHeld q bytes b.image → HoldsBehind b []
+  unfolding base_after
+  none_behind b held = held
+
+  -- a turn that may be refused
+  guarded : (s : Seen) (c : Cause) (o : Outcome) → IsHeld q bytes s.base.image → (c ≡ None → HoldsBehind s.base o.strokes) → HoldsBehind s.base (unless s c o).strokes
+  unfolding unless
+  guarded s None o held behind = behind refl
+  guarded s (Some r) o held behind = none_behind s.base held
+
+  -- a raw page isn't the one that is held
+  raw_other : (image : Image) (p : ℕ) → not_raw image p ≡ None → IsHeld q bytes image → q ≢ p
+  raw_other image p none held e = absurd (omega (arith, (raw_facts image p none).1, of_history.of_kind, ap kind_of (sym held.is ∙ ap (page_at image) e)))
+
+  write_holds : (p : ℕ) (text : List ℕ) → KeepsHeld (Write p text)
+  unfolding first_turn write_turn changes
+  write_holds p text s session h is held = guarded s _ _ held (λ none.
+      let raw = no_first _ _ none in
+      let long = no_first _ _ (no_first _ _ raw.1).1 in
+      let fits : Fits AnyPage s.base (put p 8 (text_payload text) (drafted s.base.image)) = text_fits AnyPage (λ page e. tt) (λ page e. tt) s.base p text h is raw.0 (short_text text long.0) in
+      let plain : IsPlain s.base.image p = raw_plain s.base.image p h is raw.0 in
+      subst (IsHeld q bytes) (sym fits.is.is)
+      (held_put q bytes s.base.image (header_whole s.base.image h is) p 8 (text_payload text) plain.place (raw_other s.base.image p raw.0 held)
+      (λ e. absurd (true≢false (sym (inventory_there (image_size s.base.image) (q / bits_in (image_size s.base.image)) (header_whole s.base.image h is).fields.size) ∙ ap (is_inventory_place (image_size s.base.image)) e ∙ plain.no_inventory))) held))
+
+  free_holds : (p : ℕ) → KeepsHeld (Free p)
+  unfolding first_turn free_turn changes
+  free_holds p s session h is held = guarded s _ _ held (λ none.
+      let raw = no_first _ _ none in
+      let fits : Fits AnyPage s.base (give_page p (drafted s.base.image)) = give_fits AnyPage (λ page e. tt) (λ page e. tt) s.base p h is raw.0 in
+      let plain : IsPlain s.base.image p = raw_plain s.base.image p h is raw.0 in
+      let whole : IsWhole s.base.image = header_whole s.base.image h is in
+      let first : p ≢ 1 = λ e. true≢false (sym (inventory_there (image_size s.base.image) 0 whole.fields.size) ∙ ap (is_inventory_place (image_size s.base.image)) (sym e) ∙ plain.no_inventory) in
+      subst (IsHeld q bytes) (sym fits.is.is)
+      (held_bit q bytes s.base.image whole 1 p (omega arith) (let some = plain.place.behind in omega (arith, some, first)) (raw_facts s.base.image p raw.0).0 (raw_other s.base.image p raw.0 held) held))
+
+  new_holds : KeepsHeld PageNew
+  unfolding first_turn new_turn changes
+  new_holds s session h is held = guarded s _ _ held (λ none.
+      let made : Draft × ℕ = new_page 8 (λ p. text_payload []) (drafted s.base.image) in
+      let room = no_first _ _ (no_first _ _ (no_first _ _ none).1).1 in
+      let full : made.0.full ≡ false = not_when made.0.full _ room.0 in
+      let fits : Fits AnyPage s.base made.0 = new_raw_fits AnyPage any_kinds (λ page e. tt) s.base h is in
+      subst (IsHeld q bytes) (sym fits.is.is)
+      ((new_is_made (length s.base.image + 4) 8 (λ p. text_payload []) s.base.image (header_whole s.base.image h is) refl empty_text full).keeps q bytes held))
+
+  byte_holds : (at value : ℕ) (b : Base) → HasHeader b.image → IsSoundImage b.image → at < 1024 → IsHeld q bytes b.image → HoldsBehind b (byte_strokes at value b.image)
+  unfolding byte_strokes base_after on_base
+  byte_holds at value b h is low held =
+      let whole : IsWhole b.image = header_whole b.image h is in
+      let fits = byte_fits AnyPage (λ page e. tt) b at value h is low in
+      held_write q bytes b.image 0 _ whole fits.0.0 (λ e. absurd (let some = held.behind in omega (arith, some, e)))
+      (λ e. absurd (let some = inventory_place_some (image_size b.image) (q / bits_in (image_size b.image)) whole.fields.size in omega (arith, some, e))) held
+
+  pub statement_holds : (statement : Statement) → is_on_pages statement ≡ true → IsNamed (Begins statement) → KeepsHeld statement
+  unfolding first_turn read_turn forced_turn access_turn header_turn pages_turn image_turn cache_turn
+  statement_holds (CreateDb name size raw cache) on named s session h is held = none_behind s.base held
+  statement_holds (OpenDb name cache) on named s session h is held = none_behind s.base held
+  statement_holds PageNew on named s session h is held = new_holds s session h is held
+  statement_holds (Write p text) on named s session h is held = write_holds p text s session h is held
+  statement_holds (Read p) on named s session h is held = guarded s _ _ held (λ none. none_behind s.base held)
+  statement_holds (Free p) on named s session h is held = free_holds p s session h is held
+  statement_holds (Forced forced) on named s session h is held = guarded s _ _ held (λ none. byte_holds 64 _ s.base h is (omega arith) held)
+  statement_holds (Access closed) on named s session h is held = guarded s _ _ held (λ none. byte_holds 65 _ s.base h is (omega arith) held)
+  statement_holds Sync on named s session h is held = none_behind s.base held
+  statement_holds ShowHeader on named s session h is held = none_behind s.base held
+  statement_holds ShowPages on named s session h is held = guarded s _ _ held (λ none. none_behind s.base held)
+  statement_holds ShowImage on named s session h is held = none_behind s.base held
+  statement_holds ShowCache on named s session h is held = none_behind s.base held
+  statement_holds (CreateTable table) on named s session h is held = (create_keeps s h is table named).held q bytes of_history held
+  statement_holds (DropTable table) on named s session h is held = (drop_keeps s h is table).held q bytes of_history held
+  statement_holds (Insert table key text) on named s session h is held = (insert_keeps s h is table key text).held q bytes of_history held
+  statement_holds (Update table key text) on named s session h is held = (update_keeps s h is table key text).held q bytes of_history held
+  statement_holds (Delete table key) on named s session h is held = (delete_keeps s h is table key).held q bytes of_history held
+  statement_holds (Get table key) on named s session h is held = (get_keeps s h is table key).held q bytes of_history held
+  statement_holds (Scan table) on named s session h is held = (scan_keeps s h is table).held q bytes of_history held
+  statement_holds other on named s session h is held = absurd (true≢false (sym on))

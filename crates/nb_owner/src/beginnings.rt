@@ -1,0 +1,64 @@
+// A database is created or opened. No page of it is in memory then.
+ghost use Rattle.std.specs.Prelude.{◌≡◌, ◌<◌, ◌≤◌, IsTrue, IfOk, length};
+ghost use Rattle.nb_fields.specs.Places.{is_page_size};
+ghost use Rattle.nb_fields.specs.Fresh.{fresh};
+ghost use Rattle.nb_change.specs.Counts.{CountsDevice};
+ghost use Rattle.nb_page.specs.Quiet.{Quiet};
+ghost use Rattle.nb_base.specs.Beginnings.{Attaches, Creates};
+ghost use Rattle.nb_owner.specs.Beginnings.{files_of, IsBlank};
+
+use crate::Pair;
+use nb_base::TwoFiles;
+use nb_cache::Cache;
+use nb_host::{Fault, Host, Name};
+use std::alloc::Global;
+
+impl Pair {
+    /// Opens the two files of a database, and takes memory for so many of its pages. It changes nothing: both files are kept for good
+    /// before it answers.
+    ///
+    /// The refusals are `NoFile`, `NotDatabase`, `Unfinished`, `NoFile` of the difference file and `BadDelta`, in this order.
+    pub fn attach<H: Host>(
+        alloc: Global,
+        host: &mut H,
+        name: &Name,
+        cache_pages: u32,
+    ) -> Result<Pair, Fault>
+        requires name { length name.now ≤ 94 }
+        requires some { 0 < cache_pages }
+        requires few { cache_pages ≤ 4096 }
+        ensures attaches { IsTrue H.tells → Attaches (files_of result) (H.world host.old) (H.world host.new) name.now }
+        ensures blank { IfOk result (IsBlank cache_pages) }
+        ensures quiet { Quiet (H.world host.old) (H.world host.new) }
+        ensures cause { CountsDevice result (H.faults host.old) (H.faults host.new) }
+    {
+        let files = TwoFiles::attach(alloc, host, name)?;
+        let cache = Cache::new(alloc, cache_pages, files.page_size())?;
+        Ok(Pair { files, cache })
+    }
+
+    /// Makes a new database with `raw` raw pages, and opens it. The refusal is `FileExists`, where the name is not free; then nothing
+    /// has changed. The memory for so many of its pages is taken first.
+    pub fn create<H: Host>(
+        alloc: Global,
+        host: &mut H,
+        name: &Name,
+        page_size: u32,
+        raw: u32,
+        cache_pages: u32,
+    ) -> Result<Pair, Fault>
+        requires size { IsTrue (is_page_size page_size) }
+        requires raw { raw ≤ 65535 }
+        requires name { length name.now ≤ 94 }
+        requires some { 0 < cache_pages }
+        requires few { cache_pages ≤ 4096 }
+        ensures creates { IsTrue H.tells → Creates (files_of result) (H.world host.old) (H.world host.new) name.now (fresh page_size raw) }
+        ensures page_size { IfOk result (λ pair. pair.files.page_size ≡ page_size) }
+        ensures blank { IfOk result (IsBlank cache_pages) }
+        ensures cause { CountsDevice result (H.faults host.old) (H.faults host.new) }
+    {
+        let cache = Cache::new(alloc, cache_pages, page_size)?;
+        let files = TwoFiles::create(alloc, host, name, page_size, raw)?;
+        Ok(Pair { files, cache })
+    }
+}

@@ -1,0 +1,229 @@
+// Pages are read and written, in memory and in the files.
+ghost use Rattle.std.specs.Prelude.{◌≡◌, ◌<◌, ◌≤◌, ◌+◌, ℕ, List, [], ◌∷◌, length, IsTrue, IsSome, IsOk, IfErr, OnOk, OnErr, Option, false};
+ghost use Rattle.nb_fields.specs.Bytes.{is_zeros};
+ghost use Rattle.nb_fields.specs.Places.{is_page_size};
+ghost use Rattle.nb_host.specs.Causes.{CountsFault};
+ghost use Rattle.nb_change.specs.Counts.{CountsDevice};
+ghost use Rattle.nb_change.specs.Gave.{GaveNothing};
+ghost use Rattle.nb_page.specs.Quiet.{Quiet};
+ghost use Rattle.nb_model.specs.Image.{page_at, is_forced};
+ghost use Rattle.nb_model.specs.Strokes.{page as page_stroke};
+ghost use Rattle.nb_model.specs.Trail.{Trail, settled};
+ghost use Rattle.nb_base.specs.Open.{Fits, AreMerged};
+ghost use Rattle.nb_base.specs.Takes.{Takes, IsNoRefusal};
+ghost use Rattle.nb_cache.specs.Held.{slot_of};
+ghost use Rattle.nb_owner.specs.Open.{IsOpen, used};
+
+use nb_base::TwoFiles;
+use nb_cache::Cache;
+use nb_host::{Fault, Host, HostFault};
+use std::marker::Model;
+
+/// The two files of one database, and its pages that were used last.
+#[derive(Drop)]
+pub struct Pair {
+    pub(crate) files: TwoFiles,
+    pub(crate) cache: Cache,
+}
+
+impl Model for Pair {
+    ghost use Rattle.std.specs.Prelude.{◌≡◌, nat_eq};
+    ghost use Rattle.std.specs.List.{IsDistinct};
+    ghost use Rattle.std.specs.Map.{keys_of};
+    ghost use Rattle.nb_cache.specs.Held.{NoneWaits};
+    ghost use Rattle.nb_owner.specs.Open.{Held};
+
+    ghost Value = { Held };
+
+    ghost view = { λ p. record { files = p.files; pages = p.cache.pages; cap = p.cache.cap } };
+
+    // No page is in memory twice, and none waits to be written.
+    ghost invariant = { λ p. (p.cache.page_size ≡ p.files.page_size) × IsDistinct nat_eq (keys_of p.cache.pages) × NoneWaits p.cache.pages };
+}
+
+impl Pair {
+    /// How many pages the database has.
+    pub fn count(&self) -> u32
+        ensures value { result ≡ self.now.files.count }
+        ensures most { result ≤ 1048576 }
+    {
+        self.files.count()
+    }
+
+    /// In bytes.
+    pub fn page_size(&self) -> u32
+        ensures value { result ≡ self.now.files.page_size }
+        ensures one_of { IsTrue (is_page_size result) }
+    {
+        self.files.page_size()
+    }
+
+    /// The backup state: 0 normal, 1 stalled, 2 merge.
+    pub fn state(&self) -> u16
+        ensures value { result ≡ self.now.files.state }
+        ensures most { result ≤ 2 }
+    {
+        self.files.state()
+    }
+
+    /// How many pages the difference file holds; none in the normal state.
+    pub fn delta_count(&self) -> u32
+        ensures value { result ≡ length self.now.files.entries }
+        ensures most { result ≤ 1048576 }
+    {
+        self.files.delta_count()
+    }
+
+    /// How many pages the main file has, as it is frozen in the stalled state.
+    pub fn main_count(&self) -> u32
+        ensures value { result ≡ self.now.files.main_count }
+        ensures most { result ≤ 1048576 }
+    {
+        self.files.main_count()
+    }
+
+    /// How many pages may be in memory.
+    pub fn capacity(&self) -> u32
+        ensures { result ≡ self.now.cap }
+    {
+        self.cache.capacity()
+    }
+
+    /// How many pages are in memory.
+    pub fn held(&self) -> u32
+        ensures { result ≡ length self.now.pages }
+    {
+        self.cache.held()
+    }
+
+    /// Fills in page `number` of the database, from memory or from the file that holds it. It then is the page in memory that was used
+    /// last. Of the host a page in memory asks nothing, page 0 at most two reads, and every other page at most one.
+    pub fn read<H: Host>(
+        &mut self,
+        host: &mut H,
+        number: u32,
+        into: &mut [u8],
+    ) -> Result<(), HostFault>
+        requires size { length into.old ≡ self.old.files.page_size }
+        ensures page { (t : Trail) → IsTrue H.tells → IsOpen (H.world host.old) self.old t → number < length t.base.image → OnOk result (into.new ≡ page_at t.base.image number) }
+        ensures open { (t : Trail) → IsTrue H.tells → IsOpen (H.world host.old) self.old t → IsOpen (H.world host.new) self.new t }
+        ensures used { number < self.old.files.count → OnOk result (self.new.pages ≡ used self.old.pages self.old.cap number into.new) }
+        ensures failed { OnErr result (self.new ≡ self.old) }
+        ensures same { self.new ≡ record self.old { pages = self.new.pages } }
+        ensures in_memory { IsSome (slot_of self.old.pages number) → IsOk result × (host.new ≡ host.old) }
+        ensures quiet { Quiet (H.world host.old) (H.world host.new) }
+        ensures reads { IsTrue H.tells → 0 < number → (H.world host.new).reads ≤ (H.world host.old).reads + 1 }
+        ensures first_reads { IsTrue H.tells → (H.world host.new).reads ≤ (H.world host.old).reads + 2 }
+        ensures cause { CountsFault result (H.faults host.old) (H.faults host.new) }
+    {
+        if self.cache.look(number, into) {
+            return Ok(());
+        }
+        self.fetch(host, number, into)?;
+        Ok(())
+    }
+
+    /// Fills in page `number` from the file that holds it, and has it in memory then.
+    fn fetch<H: Host>(
+        &mut self,
+        host: &mut H,
+        number: u32,
+        into: &mut [u8],
+    ) -> Result<(), HostFault>
+        requires size { length into.old ≡ self.old.files.page_size }
+        ensures page { (t : Trail) → IsTrue H.tells → IsOpen (H.world host.old) self.old t → number < length t.base.image → OnOk result (into.new ≡ page_at t.base.image number) }
+        ensures open { (t : Trail) → IsTrue H.tells → IsOpen (H.world host.old) self.old t → IsOpen (H.world host.new) self.new t }
+        ensures used { number < self.old.files.count → OnOk result (self.new.pages ≡ used self.old.pages self.old.cap number into.new) }
+        ensures failed { OnErr result (self.new ≡ self.old) }
+        ensures same { self.new ≡ record self.old { pages = self.new.pages } }
+        ensures quiet { Quiet (H.world host.old) (H.world host.new) }
+        ensures reads { IsTrue H.tells → 0 < number → (H.world host.new).reads ≤ (H.world host.old).reads + 1 }
+        ensures first_reads { IsTrue H.tells → (H.world host.new).reads ≤ (H.world host.old).reads + 2 }
+        ensures cause { CountsFault result (H.faults host.old) (H.faults host.new) }
+    {
+        self.files.read(host, number, into)?;
+        if number < self.files.count() {
+            self.cache.keep(number, into);
+        }
+        Ok(())
+    }
+
+    /// Replaces page `number` of the database, or adds it at the end. It then is the page in memory that was used last. It is kept for
+    /// good where writes are forced, where it makes the database longer, and where it is page 0 or an SCN inventory page.
+    ///
+    /// Where it wants memory nothing has changed.
+    pub fn write<H: Host>(
+        &mut self,
+        host: &mut H,
+        number: u32,
+        page: &[u8],
+        forced: bool,
+    ) -> Result<(), Fault>
+        requires size { length page.now ≡ self.old.files.page_size }
+        requires most { number < 1048576 }
+        requires some { is_zeros page.now ≡ false }
+        ensures takes { (t : Trail) → IsTrue H.tells → IsOpen (H.world host.old) self.old t → Fits number page.now t.base.image → forced ≡ is_forced t.base.image
+            → Takes result (H.world host.old) (H.world host.new) self.old.files.name (IsOpen (H.world host.new) self.new) t (page_stroke number page.now ∷ []) }
+        ensures merged { (t : Trail) (k : ℕ) → IsTrue H.tells → IsOpen (H.world host.old) self.old t → Fits number page.now t.base.image → self.old.files.state ≡ 2
+            → AreMerged (H.world host.old) self.old.files k → OnOk result (AreMerged (H.world host.new) self.new.files k) }
+        ensures used { OnOk result (self.new.pages ≡ used self.old.pages self.old.cap number page.now) }
+        ensures failed { OnErr result (self.new.pages ≡ self.old.pages) }
+        ensures cap { self.new.cap ≡ self.old.cap }
+        ensures gave { GaveNothing (H.world host.old) (H.world host.new) }
+        ensures reads { (H.world host.new).reads ≡ (H.world host.old).reads }
+        ensures state { self.new.files.state ≡ self.old.files.state }
+        ensures entries { self.old.files.state ≡ 2 → self.new.files.entries ≡ self.old.files.entries }
+        ensures name { self.new.files.name ≡ self.old.files.name }
+        ensures page_size { self.new.files.page_size ≡ self.old.files.page_size }
+        ensures cause { CountsDevice result (H.faults host.old) (H.faults host.new) }
+        ensures not_refused { IfErr result IsNoRefusal }
+        ensures on_memory { result ≡ Err Fault.Memory → (self.new ≡ self.old) × (host.new ≡ host.old) }
+    {
+        self.files.write(host, number, page, forced)?;
+        self.cache.keep(number, page);
+        Ok(())
+    }
+
+    /// Keeps both files for good. It changes nothing.
+    pub fn sync<H: Host>(&mut self, host: &mut H) -> Result<(), HostFault>
+        ensures open { (t : Trail) → IsTrue H.tells → IsOpen (H.world host.old) self.old t → IsOpen (H.world host.new) self.new t }
+        ensures settled { (t : Trail) → IsTrue H.tells → IsOpen (H.world host.old) self.old t → OnOk result (IsOpen (H.world host.new) self.new (settled t.base)) }
+        ensures merged { (k : ℕ) → AreMerged (H.world host.old) self.old.files k → AreMerged (H.world host.new) self.new.files k }
+        ensures same { self.new ≡ self.old }
+        ensures quiet { Quiet (H.world host.old) (H.world host.new) }
+        ensures cause { CountsFault result (H.faults host.old) (H.faults host.new) }
+    {
+        self.files.sync(host)
+    }
+
+    /// Fills in page 0 from the files, past the pages in memory: for whoever opens a database.
+    pub fn read_first<H: Host>(&mut self, host: &mut H, into: &mut [u8]) -> Result<(), HostFault>
+        requires size { length into.old ≡ self.old.files.page_size }
+        ensures page { (t : Trail) → IsTrue H.tells → IsOpen (H.world host.old) self.old t → 0 < length t.base.image → OnOk result (into.new ≡ page_at t.base.image 0) }
+        ensures open { (t : Trail) → IsTrue H.tells → IsOpen (H.world host.old) self.old t → IsOpen (H.world host.new) self.new t }
+        ensures same { self.new ≡ self.old }
+        ensures quiet { Quiet (H.world host.old) (H.world host.new) }
+        ensures reads { IsTrue H.tells → (H.world host.new).reads ≤ (H.world host.old).reads + 2 }
+        ensures cause { CountsFault result (H.faults host.old) (H.faults host.new) }
+    {
+        self.files.read(host, 0, into)
+    }
+
+    /// Fills in page `number` of the main file as it is frozen, in the stalled state. It goes past the pages in memory.
+    pub fn read_main<H: Host>(
+        &mut self,
+        host: &mut H,
+        number: u32,
+        into: &mut [u8],
+    ) -> Result<(), HostFault>
+        requires size { length into.old ≡ self.old.files.page_size }
+        ensures page { (t : Trail) → IsTrue H.tells → IsOpen (H.world host.old) self.old t → self.old.files.state ≡ 1 → number < length t.base.frozen → OnOk result (into.new ≡ page_at t.base.frozen number) }
+        ensures open { (t : Trail) → IsTrue H.tells → IsOpen (H.world host.old) self.old t → IsOpen (H.world host.new) self.new t }
+        ensures same { self.new ≡ self.old }
+        ensures quiet { Quiet (H.world host.old) (H.world host.new) }
+        ensures reads { IsTrue H.tells → (H.world host.new).reads ≤ (H.world host.old).reads + 1 }
+        ensures cause { CountsFault result (H.faults host.old) (H.faults host.new) }
+    {
+        self.files.read_main(host, number, into)
+    }
+}

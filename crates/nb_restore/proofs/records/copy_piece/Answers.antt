@@ -1,0 +1,34 @@
+use Rattle.std.proofs.Common.{ℕ, List, arith, ap, ◌∙◌}
+use Rattle.nb_host.specs.Files.{Files, with_bytes}
+use Rattle.nb_restore.proofs.FrontLaws.{named, front_still, front_then_bytes}
+use Rattle.nb_restore.proofs.PieceLaws.{piece_short, piece_whole}
+use Rattle.nb_restore.proofs.records.copy_piece.Goals as goal
+
+pub returns-in_err-got-clause-left : goal.returns-in_err-got-clause-left
+returns-in_err-got-clause-left g c tells = let read = c.read_at.ensures in front_still _ _ _ (g.met.H.Host.timely _) read.files read.log.said read.time
+
+pub returns-then-got-piece-clause-left : goal.returns-then-got-piece-clause-left
+returns-then-got-piece-clause-left g c tells = let read = c.read_at.ensures in front_still _ _ _ (g.met.H.Host.timely _) read.files read.log.said read.time
+
+pub returns-then-got-piece-clause-bytes : goal.returns-then-got-piece-clause-bytes
+returns-then-got-piece-clause-bytes g c tells bytes there fits =
+    piece_short c.args.at bytes c.args.piece.now c.read_at.new.into _ c.in_ok-got.got there fits (c.in_ok-got.ensures.answer tells) (omega (arith, c.if-got-piece.true, c.read_at.auto.into)) c.read_at.auto.into
+
+pub returns-in_err-append-clause-left : goal.returns-in_err-append-clause-left
+returns-in_err-append-clause-left g c tells =
+    let read = c.read_at.ensures in
+    let append = c.append.ensures in
+    front_then_bytes _ _ _ _ _ _ _ tells (front_still _ _ _ (g.met.H.Host.timely _) read.files read.log.said read.time) (g.met.H.Host.timely _) append.files append.log.said append.time
+
+pub returns-clause-left : goal.returns-clause-left
+returns-clause-left g c tells =
+    let read = c.read_at.ensures in
+    let append = c.append.ensures in
+    front_then_bytes _ _ _ _ _ _ _ tells (front_still _ _ _ (g.met.H.Host.timely _) read.files read.log.said read.time) (g.met.H.Host.timely _) append.files append.log.said append.time
+
+pub returns-clause-bytes : goal.returns-clause-bytes
+returns-clause-bytes g c tells bytes there fits =
+    let whole = piece_whole c.args.at bytes c.args.piece.now c.read_at.new.into _ c.in_ok-got.got there fits (c.in_ok-got.ensures.answer tells) (omega (arith, c.if-got-piece.false, c.read_at.auto.into)) c.read_at.auto.into in
+    named _ _ c.args.target.now _ (c.in_ok-append.ensures.files.files tells)
+    ∙ ap (λ (f : Files). with_bytes (f c.args.target.now) c.read_at.new.into) c.read_at.ensures.files.files
+    ∙ ap (λ (xs : List ℕ). with_bytes ((g.H.Host.world c.args.host.now).files c.args.target.now) xs) whole

@@ -1,0 +1,7 @@
+use Rattle.std.proofs.Common.{refl}
+use Rattle.nb_model.specs.Backups.{count_from}
+use Rattle.nb_shown.proofs.counts.PageCounts.none.Goals as goal
+
+pub returns-clause-none : goal.returns-clause-none
+unfolding count_from
+returns-clause-none c image = refl
