@@ -1,0 +1,47 @@
+// What is looked for in a chain, and what a walk comes by.
+ghost use Rattle.std.specs.Prelude.{◌≡◌};
+
+use nb_model::TableName;
+
+/// As many tables as a database may have.
+pub(crate) const MOST_TABLES: u32 = 12;
+
+/// As many bytes as a slot has.
+pub(crate) const SLOT: usize = 256;
+
+/// What is looked for.
+#[derive(Drop)]
+pub(crate) enum Sought {
+    /// The slot of that table, in the catalogue.
+    Table(TableName),
+    /// The slot of the row with that key, in the chain that begins with page `first`.
+    Row {
+        first: u32,
+        key: u64,
+    },
+}
+
+/// Where a slot stands: its page, and its number there, from 0.
+#[derive(Clone, Copy, Debug, PartialEq, Eq)]
+pub(crate) struct Place {
+    pub(crate) page: u32,
+    pub(crate) slot: u32,
+}
+
+/// A slot and what it holds.
+#[derive(Drop)]
+pub(crate) struct Found {
+    pub(crate) place: Place,
+    pub(crate) bytes: [u8; SLOT],
+}
+
+/// What a walk has come by.
+#[derive(Drop)]
+pub(crate) struct Walked {
+    /// The first slot that is looked for.
+    pub(crate) found: Option<Found>,
+    /// The first free slot.
+    pub(crate) room: Option<Place>,
+    /// How many slots are used, counted up to `MOST_TABLES`.
+    pub(crate) used: u32,
+}

@@ -1,0 +1,1 @@
+// Slots of rows and of tables, as their bytes hold them.

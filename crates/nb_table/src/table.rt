@@ -1,0 +1,40 @@
+// A table is looked for in the catalogue.
+ghost use Rattle.std.specs.Prelude.{◌≡◌, ◌≢◌, IsTrue, IfErr, IfOk, Some, [], ◌∷◌, is_none, length};
+ghost use Rattle.nb_host.specs.declared.faults.Fault.TheVariants.{Memory};
+ghost use Rattle.nb_host.specs.declared.refusals.Refusal.TheVariants.{NoTable};
+ghost use Rattle.nb_change.specs.Counts.{CountsDevice};
+ghost use Rattle.nb_page.specs.Quiet.{Quiet};
+ghost use Rattle.nb_model.specs.Causes.{first_cause, broken_at, when};
+ghost use Rattle.nb_model.specs.Chains.{Catalogue, pages_of, table_spot};
+ghost use Rattle.nb_model.specs.Trail.{Trail};
+ghost use Rattle.nb_state.specs.Open.{IsOpen, but_pages};
+ghost use Rattle.nb_state.specs.Does.{Tested};
+ghost use Rattle.nb_table.specs.Walks.{spot_of, IsPlaced};
+
+use crate::look::{Found, Sought};
+use crate::walk::walk;
+use nb_engine::Engine;
+use nb_host::{Fault, Host, Refusal};
+use nb_model::TableName;
+
+/// The slot of that table in the catalogue. The refusals are `NotDatabase` of the first page of the catalogue that breaks the form, and
+/// `NoTable`, in this order.
+pub(crate) fn find_table<H: Host>(
+    host: &mut H,
+    engine: &mut Engine,
+    table: &TableName,
+    page: &mut [u8],
+) -> Result<Found, Fault>
+    requires size { length page.old ≡ engine.old.files.page_size }
+    ensures test { (t : Trail) → IsTrue H.tells → IsOpen (H.world host.old) engine.old t → Tested result (first_cause (broken_at (pages_of Catalogue t.base.image) ∷ when (is_none (table_spot table.now t.base.image)) NoTable ∷ [])) }
+    ensures found { (t : Trail) → IsTrue H.tells → IsOpen (H.world host.old) engine.old t → IfOk result (λ f. table_spot table.now t.base.image ≡ Some (spot_of f)) }
+    ensures placed { IfOk result (λ f. IsPlaced engine.old.files.page_size f.place) }
+    ensures room { length page.new ≡ length page.old }
+    ensures open { (t : Trail) → IsTrue H.tells → IsOpen (H.world host.old) engine.old t → IsOpen (H.world host.new) engine.new t }
+    ensures same { but_pages engine.new ≡ but_pages engine.old }
+    ensures quiet { Quiet (H.world host.old) (H.world host.new) }
+    ensures cause { CountsDevice result (H.faults host.old) (H.faults host.new) }
+    ensures takes_none { IfErr result (λ fault. fault ≢ Memory) }
+{
+    unreachable!()
+}

@@ -1,0 +1,1 @@
+// Tables on a host in memory.
