@@ -342,10 +342,10 @@ fn is_shared_right(alloc: Global, host: &MemHost, pick: u64) -> Result<bool, Fai
     Ok(copied && (replies == 0 || has_one(alloc, &mut left, texts_after(replies))?))
 }
 
-/// The first of the picks 0 to 2 by which a stop at this call of SHARED leaves something wrong.
+/// The first of the picks 0 and 1 by which a stop at this call of SHARED leaves something wrong.
 fn wrong_shared_pick(alloc: Global, call: u64) -> Result<Option<u64>, Fail> {
     let host = stopped_at(alloc, SHARED, call)?;
-    for pick in 0..3 {
+    for pick in 0..2 {
         if !is_shared_right(alloc, &host, pick)? {
             return Ok(Some(pick));
         }
