@@ -1,0 +1,3 @@
+pub mod InTableLaws
+pub mod SpotPages
+pub mod PlaceLaws
