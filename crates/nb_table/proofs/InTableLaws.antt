@@ -102,6 +102,10 @@ module _ (image : Image) (before : Cause) (table : List ℕ) (behind : Cause) wh
         by None (Some q) f = cc
         by (Some q) b f = cc
 
+    -- so the chain from the page that the slot names
+    pub chain_formed_from : (first : ℕ) → first ≡ first_in spot.bytes → broken_at (pages_of (RowsFrom first) image) ≡ None
+    chain_formed_from first e = ap (λ (n : ℕ). broken_at (pages_of (RowsFrom n) image)) e ∙ chain_formed
+
 -- The turn, by its tests.
 module _ (s : Seen) (before : Cause) (table : List ℕ) (behind : Cause) (go : Spot → Chain → Outcome) where
   abbrev image : Image
@@ -141,6 +145,9 @@ module _ (s : Seen) (before : Cause) (table : List ℕ) (behind : Cause) (go : S
       by None None None f h = cc
       by None None (Some x) f h =
           unless_allowed s _ (go x (chain_at x)) (sym (one_cause (chain_cause image behind (Some x))) ∙ f) ∙ ap (λ (y : Spot). go y (chain_at y)) (some_same x spot h)
+
+  pub table_goes_from : rows_cause image before table behind ≡ None → (spot : Spot) → table_spot table image ≡ Some spot → (first : ℕ) → first ≡ first_in spot.bytes → in_table s before table behind go ≡ go spot (RowsFrom first)
+  table_goes_from none spot at first e = table_goes none spot at ∙ ap (λ (n : ℕ). go spot (RowsFrom n)) (sym e)
 
 -- calls that change nothing before one that does a turn
 pub does_after : {T : Type 0} (reply : T → Reply) (result : Result T Fault) (old mid new : World) (a b c : Held) (t : Trail) (turn : Outcome) → but_pages b ≡ but_pages a → Quiet old mid → IsOpen old a t → Does reply result mid new b c t turn

@@ -1,3 +1,4 @@
 pub mod InTableLaws
 pub mod SpotPages
 pub mod PlaceLaws
+pub mod ChangeLaws

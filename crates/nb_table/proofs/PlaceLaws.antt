@@ -1,20 +1,16 @@
 -- A slot of a chain is written, or its chain grows: what that does of a turn.
 use Rattle.std.proofs.Common.{◌≡◌, ℕ, ◌+◌, ◌*◌, ◌<◌, ◌≤◌, List, [], ◌∷◌, ◌++◌, length, drop, replicate, refl, sym, ap, subst, ◌∙◌, arith, length-append}
-use Rattle.std.specs.Prelude.{Bool, true, false, Option, Some, None, Result, is_some}
+use Rattle.std.specs.Prelude.{Bool, true, false, Option, Some, None, Result, IfSome, is_some}
 use Rattle.nb_fields.specs.Bytes.{bytes_of, with_part}
 use Rattle.nb_fields.specs.Payloads.{data_payload}
 use Rattle.nb_host.specs.World.{World}
 use Rattle.nb_host.specs.declared.faults.Fault.{Fault}
-use Rattle.nb_host.specs.declared.refusals.Refusal.{Refusal}
-use Rattle.nb_host.specs.declared.refusals.Refusal.TheVariants.{KeyExists, NoKey}
-use Rattle.nb_model.specs.declared.reply.Reply.TheVariants.{Refused, Done}
+use Rattle.nb_model.specs.Account.{Base}
 use Rattle.nb_model.specs.Image.{Page, Image, page_at, image_scn}
 use Rattle.nb_model.specs.Trail.{Trail}
 use Rattle.nb_model.specs.Forms.{Draft, drafted, put}
-use Rattle.nb_model.specs.Causes.{Cause, first_cause, when, not_kind, lowest_broken, not_of_form, no_room, broken_at}
-use Rattle.nb_model.specs.Chains.{Chain, Slot, Spot, owner_of, pages_of, found_pages, spots, row_spot, free_spot, last_of, put_slot, grown, place_slot}
-use Rattle.nb_model.specs.Outcomes.{Seen, Outcome, says, unless, changes}
-use Rattle.nb_model.specs.Tables.{with_spot, in_row}
+use Rattle.nb_model.specs.Causes.{not_kind, lowest_broken, not_of_form, no_room, broken_at}
+use Rattle.nb_model.specs.Chains.{Chain, Slot, Spot, owner_of, pages_of, found_pages, spots, free_spot, last_of, put_slot, grown, place_slot}
 use Rattle.nb_model.specs.Sound.{IsSoundImage}
 use Rattle.nb_model.proofs.DraftJoin.{join_put}
 use Rattle.nb_model.proofs.FitLaws.{IsWhole}
@@ -26,15 +22,16 @@ use Rattle.nb_engine.specs.Make.{IsWell}
 use Rattle.nb_engine.specs.Put.{entry_cause}
 use Rattle.nb_engine.specs.Room.{linked_payload}
 use Rattle.nb_engine.specs.Tries.{Tries}
-use Rattle.nb_engine.proofs.CauseLaws.{unless_allowed, first_none, first_next, first_here, one_cause, refused_by, judged_by}
 use Rattle.nb_engine.proofs.DataLaws.{data_there, by_entry}
 use Rattle.nb_engine.proofs.GrowLaws.{whole, new_long}
 use Rattle.nb_engine.proofs.MakeLaws.{well, from_well, entry_none, tries_named}
 use Rattle.nb_engine.proofs.NewLaws.{told}
 use Rattle.nb_engine.proofs.NewTurn.{header_of}
 use Rattle.nb_engine.proofs.PutLaws.{put_form, put_room}
-use Rattle.nb_engine.proofs.TestLaws.{applies, rests}
-use Rattle.nb_table.proofs.SpotPages.{spot_kind, last_there}
+use Rattle.nb_table.specs.declared.look.Place.{Place}
+use Rattle.nb_table.specs.declared.look.Found.{Found}
+use Rattle.nb_table.specs.Walks.{place_of, found_of, place_at, found_at}
+use Rattle.nb_table.proofs.SpotPages.{free_kind, last_there}
 
 -- what the laws of a sound image ask for, of a database that is open
 pub well_open : (w : World) (held : Held) (t : Trail) → IsOpen w held t → IsSoundImage t.base.image → IsWell t.base.image
@@ -65,17 +62,17 @@ slot_tries result old new a b t p slot bytes page is some kind now tries =
     tries_named result old new a b t (data_cause t.base.image p) None _ _ (slot_cause t.base.image is p some kind) (ap (λ (x : Page). (put p 5 (drop 16 x) (drafted t.base.image)).strokes) now) tries
 
 -- What the draft of a write finds: nothing that is broken, and it asks for no page.
-module _ (s : Seen) (is : IsWell s.base.image) (p slot : ℕ) (bytes : Slot) (some : 0 < p) (kind : not_kind s.base.image 5 p ≡ None) where
+module _ (b : Base) (is : IsWell b.image) (p slot : ℕ) (bytes : Slot) (some : 0 < p) (kind : not_kind b.image 5 p ≡ None) where
   abbrev payload : List ℕ
-  payload = drop 16 (with_part (32 + 256 * slot) bytes (page_at s.base.image p))
+  payload = drop 16 (with_part (32 + 256 * slot) bytes (page_at b.image p))
 
-  pub slot_form : not_of_form (put_slot p slot bytes (drafted s.base.image)) ≡ None
+  pub slot_form : not_of_form (put_slot p slot bytes (drafted b.image)) ≡ None
   unfolding put_slot
-  slot_form = put_form s.base p 5 payload (slot_entry s.base.image is p some kind)
+  slot_form = put_form b p 5 payload (slot_entry b.image is p some kind)
 
-  pub slot_room : no_room (put_slot p slot bytes (drafted s.base.image)) ≡ None
+  pub slot_room : no_room (put_slot p slot bytes (drafted b.image)) ≡ None
   unfolding put_slot
-  slot_room = put_room s.base p 5 payload (slot_entry s.base.image is p some kind)
+  slot_room = put_room b p 5 payload (slot_entry b.image is p some kind)
 
 -- A chain grows by a page: what its draft reads is of the form.
 payload_short : (chain : Chain) (slots : List ℕ) → length slots ≤ 992 → length (data_payload 0 (owner_of chain) slots) ≤ 1008
@@ -139,16 +136,80 @@ module _ (chain : Chain) (image : Image) (bytes : Slot) where
   pub placed_behind : free_spot (spots chain image) ≡ None → placed ≡ (grown chain pages bytes (drafted image)).0
   placed_behind none = placed_is ∙ ap placed_by none
 
--- What the draft reads is of the form.
-module _ (s : Seen) (chain : Chain) (is : IsWell s.base.image) (formed : broken_at (pages_of chain s.base.image) ≡ None) (some : (x : Spot) → free_spot (spots chain s.base.image) ≡ Some x → 0 < x.page)
-    (last_some : 0 < last_of (found_pages chain s.base.image)) (bytes : Slot) (short : length bytes ≤ 992) where
-  abbrev z : Image
-  z = s.base.image
+-- The slot of a place.
+pub record IsPlaceOf (o : Option Spot) (place : Place) : Type 0 where
+  pub spot : Spot
+  pub is : o ≡ Some spot
+  pub page : place.page ≡ spot.page
+  pub slot : place.slot ≡ spot.slot
 
-  pub placed_form : not_of_form (place_slot chain (found_pages chain z) bytes (drafted z)) ≡ None
-  unfolding free_spot
-  placed_form = by (free_spot (spots chain z)) refl
-    where
-      by : (o : Option Spot) → free_spot (spots chain z) ≡ o → not_of_form (place_slot chain (found_pages chain z) bytes (drafted z)) ≡ None
-      by (Some x) e = ap (λ (d : Draft). not_of_form d) (placed_there chain z bytes x e) ∙ slot_form s is x.page x.slot bytes (some x e) (spot_kind chain z formed _ x e)
-      by None e = ap (λ (d : Draft). not_of_form d) (placed_behind chain z bytes e) ∙ grown_form z is chain (found_pages chain z) bytes short last_some (last_there chain z formed)
+pub place_some : (o : Option Spot) (place : Place) → Some place ≡ place_at o → IsPlaceOf o place
+place_some None place e = cc
+place_some (Some s) place e =
+    let same : place ≡ place_of s = cc in
+    record { spot = s; is = refl; page = ap (λ (x : Place). x.page) same; slot = ap (λ (x : Place). x.slot) same }
+
+pub place_none : (o : Option Spot) → None ≡ place_at o → o ≡ None
+place_none None e = refl
+place_none (Some s) e = cc
+
+pub found_some : (o : Option Spot) (f : Found) → Some f ≡ found_at o → IsPlaceOf o f.place
+found_some None f e = cc
+found_some (Some s) f e =
+    let same : f ≡ found_of s = cc in
+    record { spot = s; is = refl; page = ap (λ (x : Found). x.place.page) same; slot = ap (λ (x : Found). x.place.slot) same }
+
+pub found_none : (o : Option Spot) → None ≡ found_at o → o ≡ None
+found_none None e = refl
+found_none (Some s) e = cc
+
+pub found_there : (o : Option Spot) → is_some (found_at o) ≡ is_some o
+found_there None = refl
+found_there (Some s) = refl
+
+-- What is placed in a chain that is of the form.
+module _ (b : Base) (chain : Chain) (is : IsWell b.image) (formed : broken_at (pages_of chain b.image) ≡ None) (bytes : Slot) where
+  abbrev z : Image
+  z = b.image
+
+  abbrev into : Draft
+  into = place_slot chain (found_pages chain z) bytes (drafted z)
+
+  -- into a free slot
+  module _ (place : Place) (free : Some place ≡ place_at (free_spot (spots chain z))) (some : 0 < place.page) where
+    at_place : IsPlaceOf (free_spot (spots chain z)) place
+    at_place = place_some (free_spot (spots chain z)) place free
+
+    pub place_kind : not_kind z 5 place.page ≡ None
+    place_kind = ap (λ (n : ℕ). not_kind z 5 n) at_place.page ∙ free_kind chain z formed at_place.spot at_place.is
+
+    there_is : put_slot place.page place.slot bytes (drafted z) ≡ into
+    there_is =
+        ap (λ (n : ℕ). put_slot n place.slot bytes (drafted z)) at_place.page ∙ ap (λ (n : ℕ). put_slot at_place.spot.page n bytes (drafted z)) at_place.slot
+        ∙ sym (placed_there chain z bytes at_place.spot at_place.is)
+
+    pub there_form : not_of_form into ≡ None
+    there_form = ap (λ (d : Draft). not_of_form d) (sym there_is) ∙ slot_form b is place.page place.slot bytes some place_kind
+
+    there_room : no_room into ≡ None
+    there_room = ap (λ (d : Draft). no_room d) (sym there_is) ∙ slot_room b is place.page place.slot bytes some place_kind
+
+    pub there_tries : {T : Type 0} (result : Result T Fault) (old new : World) (a e : Held) (t : Trail) → Tries result old new a e t None (put_slot place.page place.slot bytes (drafted z)).strokes → Tries result old new a e t (no_room into) into.strokes
+    there_tries result old new a e t tries = tries_named result old new a e t None (no_room into) _ _ (sym there_room) (ap (λ (d : Draft). d.strokes) there_is) tries
+
+  -- or into a new page
+  module _ (none : None ≡ place_at (free_spot (spots chain z))) where
+    behind_is : (grown chain (found_pages chain z) bytes (drafted z)).0 ≡ into
+    behind_is = sym (placed_behind chain z bytes (place_none (free_spot (spots chain z)) none))
+
+    pub behind_form : length bytes ≤ 992 → 0 < last_of (found_pages chain z) → not_of_form into ≡ None
+    behind_form short some = ap (λ (d : Draft). not_of_form d) (sym behind_is) ∙ grown_form z is chain (found_pages chain z) bytes short some (last_there chain z formed)
+
+    pub behind_tries : {T : Type 0} (result : Result T Fault) (old new : World) (a e : Held) (t : Trail)
+        → Tries result old new a e t (no_room (grown chain (found_pages chain z) bytes (drafted z)).0) (grown chain (found_pages chain z) bytes (drafted z)).0.strokes → Tries result old new a e t (no_room into) into.strokes
+    behind_tries result old new a e t tries = tries_named result old new a e t _ (no_room into) _ _ (ap (λ (d : Draft). no_room d) behind_is) (ap (λ (d : Draft). d.strokes) behind_is) tries
+
+  -- so what it reads is of the form
+  pub placed_form : (room : Option Place) → room ≡ place_at (free_spot (spots chain z)) → IfSome room (λ place. 0 < place.page) → length bytes ≤ 992 → 0 < last_of (found_pages chain z) → not_of_form into ≡ None
+  placed_form (Some place) e some short last_some = there_form place e some
+  placed_form None e some short last_some = behind_form e short last_some
