@@ -22,10 +22,13 @@ use Rattle.nb_engine.proofs.CauseLaws.{unless_allowed, first_none, first_next, f
 use Rattle.nb_engine.proofs.DoesLaws.{seeing, tries_does}
 use Rattle.nb_engine.proofs.TestLaws.{applies, rests}
 use Rattle.nb_table.specs.declared.look.Found.{Found}
+use Rattle.nb_table.specs.declared.look.Place.{Place}
+use Rattle.nb_table.specs.declared.look.Sought.TheVariants.{Row}
+use Rattle.nb_table.specs.declared.look.Walked.{Walked}
 use Rattle.nb_table.specs.Rows.{rows_cause}
-use Rattle.nb_table.specs.Walks.{found_at}
+use Rattle.nb_table.specs.Walks.{gathered, found_at, place_at, IsPlaced}
 use Rattle.nb_table.proofs.InTableLaws.{table_refused, table_goes_from}
-use Rattle.nb_table.proofs.PlaceLaws.{IsPlaceOf, found_some, slot_form, slot_room}
+use Rattle.nb_table.proofs.PlaceLaws.{IsPlaceOf, found_some, found_there, slot_form, slot_room}
 use Rattle.nb_table.proofs.SpotPages.{row_kind}
 
 -- what is said is `ok`
@@ -51,6 +54,12 @@ module _ (s : Seen) (chain : Chain) (key : ℕ) (bytes : Slot) where
   unfolding in_row with_spot
   row_written row found is some kind =
       ap row_by found ∙ allowed s [] (put_slot row.page row.slot bytes (drafted image)) Done first_none (slot_form s.base is row.page row.slot bytes some kind) (slot_room s.base is row.page row.slot bytes some kind)
+
+-- the page of a row that was found is a data page
+pub found_kind : (image : Image) (chain : Chain) → broken_at (pages_of chain image) ≡ None → (key : ℕ) (row : Found) → Some row ≡ found_at (row_spot key (spots chain image)) → not_kind image 5 row.place.page ≡ None
+found_kind image chain formed key row found =
+    let at = found_some (row_spot key (spots chain image)) row found in
+    ap (λ (n : ℕ). not_kind image 5 n) at.page ∙ row_kind chain image formed key at.spot at.is
 
 -- so a call that writes it does that
 pub row_does : (result : Result (Unit {0}) Fault) (old new : World) (a b : Held) (t : Trail) (s : Seen) (chain : Chain) (key : ℕ) (bytes : Slot) (row : Found) → t.base ≡ s.base → IsWell t.base.image → broken_at (pages_of chain t.base.image) ≡ None
@@ -102,6 +111,23 @@ module _ (s : Seen) (chain : Chain) (key : ℕ) (bytes : Slot) where
       judged_by s (known ∷ []) into Done (first_next known [] (rests _ _ e) ∙ first_none)
       ∙ ap (λ (c : Cause). unless s c (says s Done into.strokes)) (first_next (not_of_form into) (no_room into ∷ []) form ∙ one_cause (no_room into))
 
+-- What a walk for a key came by.
+module _ (first key : ℕ) (ss : List Spot) (walked : Walked) (is : walked ≡ gathered (Row first key) ss) where
+  pub walked_found : walked.found ≡ found_at (row_spot key ss)
+  unfolding row_spot
+  walked_found = ap (λ (x : Walked). x.found) is
+
+  pub walked_room : walked.room ≡ place_at (free_spot ss)
+  walked_room = ap (λ (x : Walked). x.room) is
+
+  pub walked_key : is_some walked.found ≡ is_some (row_spot key ss)
+  walked_key = ap (λ (o : Option Found). is_some o) walked_found ∙ found_there (row_spot key ss)
+
+-- no slot that is found is one of page 0
+pub low_of : (size : ℕ) (room : Option Place) → IfSome room (IsPlaced size) → IfSome room (λ place. 0 < place.page)
+low_of size (Some place) is = is.low
+low_of size None is = tt
+
 -- The turns, by what was tested.
 module _ (s : Seen) (table : List ℕ) (key : ℕ) (text : List ℕ) where
   abbrev seen : Image
@@ -114,17 +140,19 @@ module _ (s : Seen) (table : List ℕ) (key : ℕ) (text : List ℕ) where
   unfolding insert_turn
   insert_refused r e = table_refused s (read_only seen) table (too_long text) _ r e
 
-  pub insert_goes : tests ≡ None → (spot : Spot) → table_spot table seen ≡ Some spot → (first : ℕ) → first ≡ first_in spot.bytes → insert_turn s table key text ≡ adding s (RowsFrom first) key (row_slot key text)
+  pub insert_goes : tests ≡ None → (spot : Spot) → table_spot table seen ≡ Some spot → (first : ℕ) → first ≡ first_in spot.bytes → (bytes : Slot) → bytes ≡ row_slot key text
+      → insert_turn s table key text ≡ adding s (RowsFrom first) key bytes
   unfolding insert_turn
-  insert_goes none spot at first e = table_goes_from s (read_only seen) table (too_long text) _ none spot at first e
+  insert_goes none spot at first e bytes are = table_goes_from s (read_only seen) table (too_long text) _ none spot at first e ∙ ap (λ (bs : Slot). adding s (RowsFrom first) key bs) (sym are)
 
   pub update_refused : (r : Refusal) → tests ≡ Some r → update_turn s table key text ≡ says s (Refused r) []
   unfolding update_turn
   update_refused r e = table_refused s (read_only seen) table (too_long text) _ r e
 
-  pub update_goes : tests ≡ None → (spot : Spot) → table_spot table seen ≡ Some spot → (first : ℕ) → first ≡ first_in spot.bytes → update_turn s table key text ≡ in_row s (RowsFrom first) key (row_slot key text)
+  pub update_goes : tests ≡ None → (spot : Spot) → table_spot table seen ≡ Some spot → (first : ℕ) → first ≡ first_in spot.bytes → (bytes : Slot) → bytes ≡ row_slot key text
+      → update_turn s table key text ≡ in_row s (RowsFrom first) key bytes
   unfolding update_turn
-  update_goes none spot at first e = table_goes_from s (read_only seen) table (too_long text) _ none spot at first e
+  update_goes none spot at first e bytes are = table_goes_from s (read_only seen) table (too_long text) _ none spot at first e ∙ ap (λ (bs : Slot). in_row s (RowsFrom first) key bs) (sym are)
 
 module _ (s : Seen) (table : List ℕ) (key : ℕ) where
   abbrev image_seen : Image
@@ -134,6 +162,7 @@ module _ (s : Seen) (table : List ℕ) (key : ℕ) where
   unfolding delete_turn
   delete_refused r e = table_refused s (read_only image_seen) table None _ r e
 
-  pub delete_goes : rows_cause image_seen (read_only image_seen) table (too_long []) ≡ None → (spot : Spot) → table_spot table image_seen ≡ Some spot → (first : ℕ) → first ≡ first_in spot.bytes → delete_turn s table key ≡ in_row s (RowsFrom first) key free_slot
+  pub delete_goes : rows_cause image_seen (read_only image_seen) table (too_long []) ≡ None → (spot : Spot) → table_spot table image_seen ≡ Some spot → (first : ℕ) → first ≡ first_in spot.bytes → (bytes : Slot) → bytes ≡ free_slot
+      → delete_turn s table key ≡ in_row s (RowsFrom first) key bytes
   unfolding delete_turn
-  delete_goes none spot at first e = table_goes_from s (read_only image_seen) table None _ none spot at first e
+  delete_goes none spot at first e bytes are = table_goes_from s (read_only image_seen) table None _ none spot at first e ∙ ap (λ (bs : Slot). in_row s (RowsFrom first) key bs) (sym are)

@@ -35,8 +35,8 @@ fn put_found<H: Host>(
 ) -> Result<(), Fault>
     requires size { length page.old ≡ engine.old.files.page_size }
     requires placed { IfSome found.now (λ f. IsPlaced engine.old.files.page_size f.place) }
-    ensures turn { (s : Seen) (t : Trail) (chain : Chain) → IsTrue H.tells → t.base ≡ s.base → IsOpen (H.world host.old) engine.old t → IsSoundImage s.base.image → broken_at (pages_of chain s.base.image) ≡ None
-        → found.now ≡ found_at (row_spot key (spots chain s.base.image))
+    ensures turn { (s : Seen) (t : Trail) (chain : Chain) → IsTrue H.tells → t.base ≡ s.base → IsOpen (H.world host.old) engine.old t → IsSoundImage t.base.image → broken_at (pages_of chain t.base.image) ≡ None
+        → found.now ≡ found_at (row_spot key (spots chain t.base.image))
         → Does done result (H.world host.old) (H.world host.new) engine.old engine.new t (in_row s chain key bytes.now) }
     ensures goes { Goes engine.old engine.new }
     ensures cause { CountsDevice result (H.faults host.old) (H.faults host.new) }
