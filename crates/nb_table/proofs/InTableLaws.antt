@@ -47,26 +47,26 @@ module _ (image : Image) (before : Cause) (table : List ℕ) (behind : Cause) wh
   module _ (free : before ≡ None) where
     -- that it is there
     pub table_fails : (r : Refusal) → find_cause image table ≡ Some r → rows_cause image before table behind ≡ Some r
-    table_fails r e = first_next before _ free ∙ by (broken_at (pages_of Catalogue image)) (table_spot table image) e
+    unfolding first_cause
+    table_fails r e = first_next before (broken_at (pages_of Catalogue image) ∷ chain_cause image behind (table_spot table image) ∷ []) free ∙ by (broken_at (pages_of Catalogue image)) (table_spot table image) e
       where
         by : (b : Cause) (o : Option Spot) → first_cause (b ∷ when (is_none o) NoTable ∷ []) ≡ Some r → first_cause (b ∷ chain o ∷ []) ≡ Some r
-        unfolding first_cause
         by (Some q) o f = f
         by None None f = f
         by None (Some spot) f = cc
 
     module _ (found : find_cause image table ≡ None) (spot : Spot) (at : table_spot table image ≡ Some spot) where
       formed : broken_at (pages_of Catalogue image) ≡ None
+      unfolding first_cause
       formed = by (broken_at (pages_of Catalogue image)) found
         where
           by : (b : Cause) → first_cause (b ∷ when (is_none (table_spot table image)) NoTable ∷ []) ≡ None → b ≡ None
-          unfolding first_cause
           by None f = refl
           by (Some q) f = cc
 
       leads : rows_cause image before table behind ≡ chain (Some spot)
       leads =
-          first_next before _ free ∙ first_next (broken_at (pages_of Catalogue image)) (chain (table_spot table image) ∷ []) formed ∙ one_cause (chain (table_spot table image)) ∙ ap chain at
+          first_next before (broken_at (pages_of Catalogue image) ∷ chain_cause image behind (table_spot table image) ∷ []) free ∙ first_next (broken_at (pages_of Catalogue image)) (chain (table_spot table image) ∷ []) formed ∙ one_cause (chain (table_spot table image)) ∙ ap chain at
 
       abbrev broken : Cause
       broken = broken_at (pages_of (chain_at spot) image)
@@ -85,19 +85,19 @@ module _ (image : Image) (before : Cause) (table : List ℕ) (behind : Cause) wh
   -- what none of these tests finds
   module _ (none : rows_cause image before table behind ≡ None) (spot : Spot) (at : table_spot table image ≡ Some spot) where
     chain_none : first_cause (behind ∷ broken_at (pages_of (chain_at spot) image) ∷ []) ≡ None
+    unfolding first_cause
     chain_none = by before (broken_at (pages_of Catalogue image)) (none ∙ refl)
       where
         by : (a b : Cause) → first_cause (a ∷ b ∷ chain (table_spot table image) ∷ []) ≡ None → chain (Some spot) ≡ None
-        unfolding first_cause
         by None None f = ap chain (sym at) ∙ sym (one_cause (chain (table_spot table image))) ∙ f
         by None (Some q) f = cc
         by (Some q) b f = cc
 
     pub chain_formed : broken_at (pages_of (chain_at spot) image) ≡ None
+    unfolding first_cause
     chain_formed = by behind (broken_at (pages_of (chain_at spot) image)) chain_none
       where
         by : (a b : Cause) → first_cause (a ∷ b ∷ []) ≡ None → b ≡ None
-        unfolding first_cause
         by None None f = refl
         by None (Some q) f = cc
         by (Some q) b f = cc
@@ -123,11 +123,10 @@ module _ (s : Seen) (before : Cause) (table : List ℕ) (behind : Cause) (go : S
 
   -- it is refused
   pub table_refused : (r : Refusal) → rows_cause image before table behind ≡ Some r → in_table s before table behind go ≡ says s (Refused r) []
-  unfolding in_table
+  unfolding in_table unless with_spot first_cause
   table_refused r e = by before (broken_at (pages_of Catalogue image)) (table_spot table image) e
     where
       by : (a b : Cause) (o : Option Spot) → first_cause (a ∷ b ∷ chain_cause image behind o ∷ []) ≡ Some r → turn_by a b o ≡ says s (Refused r) []
-      unfolding unless with_spot first_cause
       by (Some q) b o f = same_refusal q r f
       by None (Some q) o f = same_refusal q r f
       by None None None f = same_refusal NoTable r f
@@ -135,11 +134,10 @@ module _ (s : Seen) (before : Cause) (table : List ℕ) (behind : Cause) (go : S
 
   -- or goes on with the table's slot in the catalogue and its chain
   pub table_goes : rows_cause image before table behind ≡ None → (spot : Spot) → table_spot table image ≡ Some spot → in_table s before table behind go ≡ go spot (chain_at spot)
-  unfolding in_table
+  unfolding in_table unless with_spot first_cause
   table_goes none spot at = by before (broken_at (pages_of Catalogue image)) (table_spot table image) none at
     where
       by : (a b : Cause) (o : Option Spot) → first_cause (a ∷ b ∷ chain_cause image behind o ∷ []) ≡ None → o ≡ Some spot → turn_by a b o ≡ go spot (chain_at spot)
-      unfolding unless with_spot first_cause
       by (Some q) b o f h = cc
       by None (Some q) o f h = cc
       by None None None f h = cc
@@ -152,7 +150,7 @@ module _ (s : Seen) (before : Cause) (table : List ℕ) (behind : Cause) (go : S
 -- calls that change nothing before one that does a turn
 pub does_after : {T : Type 0} (reply : T → Reply) (result : Result T Fault) (old mid new : World) (a b c : Held) (t : Trail) (turn : Outcome) → but_pages b ≡ but_pages a → Quiet old mid → IsOpen old a t → Does reply result mid new b c t turn
     → Does reply result old new a c t turn
-does_after reply result old mid new a b c t turn same quiet is does = record {
+does_after {T} reply result old mid new a b c t turn same quiet is does = record {
   answer = does.answer;
   makes = makes_after result old mid new a b c t turn.strokes same quiet is does.makes;
   refused = refused_more result does.refused;

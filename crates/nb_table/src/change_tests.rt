@@ -13,18 +13,18 @@ use std::alloc::Global;
 use std::test::Fail;
 
 /// The name of the database.
-fn base_name() -> Result<Name, Fail>
+fn base_name() -> Result<Name, Fault>
     ensures { IfOk result (λ name. length name ≤ 94) }
 {
-    Ok(Name::read("a.db").ok_or("no name")?)
+    Name::read("a.db").ok_or(Fault::Device)
 }
 
-fn table_named(name: &str) -> Result<TableName, Fail> {
-    Ok(TableName::read(name).ok_or("no table's name")?)
+fn table_named(name: &str) -> Result<TableName, Fault> {
+    TableName::read(name).ok_or(Fault::Device)
 }
 
 /// The table of these tests.
-fn people() -> Result<TableName, Fail> {
+fn people() -> Result<TableName, Fault> {
     table_named("people")
 }
 
@@ -46,8 +46,8 @@ fn new_base(alloc: Global, host: &mut MemHost) -> Result<Engine, Fail> {
 }
 
 /// The database of that host, opened again.
-fn open(alloc: Global, host: &mut MemHost) -> Result<Engine, Fail> {
-    Ok(Engine::attach(alloc, host, &base_name()?, 4)?)
+fn open(alloc: Global, host: &mut MemHost) -> Result<Engine, Fault> {
+    Engine::attach(alloc, host, &base_name()?, 4)
 }
 
 /// Inserts rows with these keys.
@@ -235,7 +235,7 @@ fn is_left(alloc: Global, host: &mut MemHost, is_done: bool) -> Result<bool, Fai
 }
 
 /// Opens the database of the host, and adds a fourth row, behind which the chain has a page more.
-fn add_fourth(alloc: Global, host: &mut MemHost) -> Result<(), Fail> {
+fn add_fourth(alloc: Global, host: &mut MemHost) -> Result<(), Fault> {
     let mut engine = open(alloc, host)?;
     insert(host, &mut engine, &people()?, 4, b"fourth")?;
     Ok(())

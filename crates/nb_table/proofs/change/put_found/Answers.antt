@@ -1,5 +1,5 @@
-use Rattle.std.proofs.Common.{◌≡◌, ℕ, ◌<◌, List, sym, ap, subst, ◌∙◌}
-use Rattle.std.specs.Prelude.{None, Some, Ok, Err}
+use Rattle.std.proofs.Common.{◌≡◌, ℕ, ◌<◌, List, refl, sym, ap, subst, ◌∙◌}
+use Rattle.std.specs.Prelude.{Option, None, Some, Ok, Err, IfSome}
 use Rattle.nb_host.specs.declared.refusals.Refusal.TheVariants.{NoKey}
 use Rattle.nb_page.proofs.QuietLemmas.{quiet_begun}
 use Rattle.nb_model.specs.Outcomes.{Seen}
@@ -8,6 +8,8 @@ use Rattle.nb_model.specs.Tables.{in_row}
 use Rattle.nb_state.specs.Does.{Does}
 use Rattle.nb_engine.specs.Replies.{done}
 use Rattle.nb_engine.proofs.DoesLaws.{seeing, refused_does}
+use Rattle.nb_table.specs.declared.look.Found.{Found}
+use Rattle.nb_table.specs.Walks.{IsPlaced}
 use Rattle.nb_table.proofs.InTableLaws.{does_passed}
 use Rattle.nb_table.proofs.PlaceLaws.{well_open, found_none}
 use Rattle.nb_table.proofs.SpotPages.{row_kind}
@@ -24,9 +26,10 @@ pub returns-in_err-put_slot-clause-turn : goal.returns-in_err-put_slot-clause-tu
 returns-in_err-put_slot-clause-turn g c s t chain tells same is sound formed found =
     let w = g.H.Host.world c.args.host.now in
     let well = well_open w c.args.engine.now t is sound in
-    let row = c.in-Some.row.now in
+    let row = c.in-Some.row in
     let there = sym c.in-Some.is ∙ found in
-    let low = c.put_slot.requires.placed.low in
+    let placed = subst (λ (o : Option Found). IfSome o (λ f. IsPlaced c.args.engine.now.files.page_size f.place)) c.in-Some.is c.requires.placed in
+    let low = placed.low in
     does_passed done _ c.in_err-put_slot.field-0.0 w _ _ _ t (in_row s chain c.args.key c.args.bytes.now) c.from_residual.ensures
     (row_does (Err c.in_err-put_slot.field-0.0) w _ _ _ t s chain c.args.key c.args.bytes.now row same well formed there low
     (c.in_err-put_slot.ensures.tries t tells is sound (found_kind t.base.image chain formed c.args.key row there)))
@@ -35,7 +38,8 @@ pub returns-clause-turn : goal.returns-clause-turn
 returns-clause-turn g c s t chain tells same is sound formed found =
     let w = g.H.Host.world c.args.host.now in
     let well = well_open w c.args.engine.now t is sound in
-    let row = c.in-Some.row.now in
+    let row = c.in-Some.row in
     let there = sym c.in-Some.is ∙ found in
-    let low = c.put_slot.requires.placed.low in
+    let placed = subst (λ (o : Option Found). IfSome o (λ f. IsPlaced c.args.engine.now.files.page_size f.place)) c.in-Some.is c.requires.placed in
+    let low = placed.low in
     row_does (Ok tt) w _ _ _ t s chain c.args.key c.args.bytes.now row same well formed there low (c.in_ok-put_slot.ensures.tries t tells is sound (found_kind t.base.image chain formed c.args.key row there))
