@@ -24,7 +24,7 @@ returns-in_err-put_slot-in-Some-clause-tries g c t chain tells is sound owner fo
     let after = c.put_slot.new.engine in
     let into = place_slot chain (found_pages chain t.base.image) bytes (drafted t.base.image) in
     let fault = c.in_err-put_slot-in-Some.field-0.0 in
-    tries_passed c.from_residual-in_err-put_slot-in-Some.result fault (λ r. Tries r w new c.args.engine.now after t (no_room into) into.strokes) c.from_residual-in_err-put_slot-in-Some.ensures
+    tries_passed c.from_residual.result fault (λ r. Tries r w new c.args.engine.now after t (no_room into) into.strokes) c.from_residual.ensures
     (there_tries t.base chain well formed bytes c.in-Some.place free low {T = Unit {0}} (Err fault) w new c.args.engine.now after t
     (c.in_err-put_slot-in-Some.ensures.tries t tells is sound (place_kind t.base chain well formed bytes c.in-Some.place free low)))
 
