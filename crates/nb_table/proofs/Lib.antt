@@ -2,3 +2,9 @@ pub mod InTableLaws
 pub mod SpotPages
 pub mod PlaceLaws
 pub mod ChangeLaws
+pub mod DropLaws
+pub mod GiveLaws
+pub mod CleanLaws
+pub mod DropTurnLaws
+pub mod CreateLaws
+pub mod CreateTurnLaws

@@ -22,7 +22,7 @@ use nb_host::{Fault, Host, Refusal};
 use nb_model::TableName;
 
 /// A free slot.
-const FREE: [u8; SLOT] = [0; SLOT];
+pub(crate) const FREE: [u8; SLOT] = [0; SLOT];
 
 /// Writes the slot of the row with that key. The refusal is `NoKey`, where none was found.
 fn put_found<H: Host>(

@@ -33,7 +33,7 @@ pub(crate) struct Rows {
 }
 
 /// Tests that the database may be changed. The refusal is `Access`.
-fn check_access(closed: bool) -> Result<(), Fault>
+pub(crate) fn check_access(closed: bool) -> Result<(), Fault>
     ensures test { (image : Image) → closed ≡ is_read_only image → Tested result (read_only image) }
     ensures cause { (faults : ℕ) → CountsDevice result faults faults }
 {
