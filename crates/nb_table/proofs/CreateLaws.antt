@@ -26,7 +26,7 @@ use Rattle.nb_model.proofs.PlaceTurns.{join_at}
 use Rattle.nb_model.proofs.PutSound.{IsPlace, not_when}
 use Rattle.nb_model.proofs.RoomLaws.{no_system}
 use Rattle.nb_model.proofs.RoundLaws.{IsNew, new_is_new, new_unbroken, put_unbroken}
-use Rattle.nb_model.proofs.TableTurns.{none_room}
+use Rattle.nb_model.proofs.TableTurns.{none_room, table_length}
 use Rattle.nb_base.specs.Takes.{after_strokes, IsNoRefusal}
 use Rattle.nb_state.specs.Open.{Held}
 use Rattle.nb_state.specs.Does.{Makes}
@@ -58,7 +58,7 @@ data_plain image h p low kind = no_system (image_size image) p (inventory (is_in
     scn_page true e = absurd (omega (arith, kind, h.sound.sound.system.scn_pages p low e))
 
 module _ (image : Image) (h : IsWhole image) where
-  abbrev first : ℕ → List ℕ
+  abbrev pub first : ℕ → List ℕ
   first p = data_payload 0 p []
 
   abbrev made : Draft × ℕ
@@ -120,14 +120,14 @@ module _ (image : Image) (h : IsWhole image) where
         ∙ ap lowest_broken first_unbroken
 
   -- The slot in a new page behind the last.
-  module _ (table : List ℕ) (short : length (table_slot table made.1) ≤ 992) where
+  module _ (table : List ℕ) where
     abbrev slots : Slot
     slots = table_slot table made.1
 
     abbrev pages : List ℕ
     pages = found_pages Catalogue image
 
-    abbrev second : ℕ → List ℕ
+    abbrev pub second : ℕ → List ℕ
     second p = data_payload 0 0 slots
 
     abbrev next : Draft × ℕ
@@ -158,11 +158,11 @@ module _ (image : Image) (h : IsWhole image) where
       left_second = ap (λ (t : Bool). when t (Full 1048576)) both.0
 
     -- what it reads is of the form
-    module _ (some : 0 < last_of pages) (low : last_of pages < length image) where
-      pub behind_form : not_of_form (created_behind image table) ≡ None
-      behind_form =
-          ap (λ (d : Draft). not_of_form d) behind_joined
-          ∙ formed_joined made.0 grows first_form (grown_form y (from_well y first_whole) Catalogue pages slots short some (let long = first_long in omega (arith, low, long)))
+    pub behind_form : length table ≤ 240 → 0 < last_of pages → last_of pages < length image → not_of_form (created_behind image table) ≡ None
+    behind_form named some low =
+      let short : length slots ≤ 992 = omega (arith, table_length table made.1 named) in
+      ap (λ (d : Draft). not_of_form d) behind_joined
+      ∙ formed_joined made.0 grows first_form (grown_form y (from_well y first_whole) Catalogue pages slots short some (let long = first_long in omega (arith, low, long)))
 
 -- What the calls do of it.
 module _ (t : Trail) (h : IsWhole t.base.image) (table : List ℕ) where
@@ -183,6 +183,9 @@ module _ (t : Trail) (h : IsWhole t.base.image) (table : List ℕ) where
 
   pub sound_then : IsSoundImage u.base.image
   sound_then = subst IsSoundImage (sym image_then) (first_whole x h).sound
+
+  pub long_then : length x ≤ length u.base.image
+  long_then = omega (arith, first_long x h, ap length image_then)
 
   -- at a place
   module _ (place : Place) where
@@ -207,18 +210,18 @@ module _ (t : Trail) (h : IsWhole t.base.image) (table : List ℕ) where
         (tries_then n result old mid new a b c t (no_room new_first.0) xs (ys n) one (sure_of result None refl two.test) two.makes)
 
   -- in a new page
-  module _ (short : length (table_slot table new_first.1) ≤ 992) (room : no_room (created_behind x table) ≡ None) where
+  module _ (room : no_room (created_behind x table) ≡ None) where
     abbrev grows_by : (first : ℕ) → Draft
     grows_by n = (grown Catalogue (found_pages Catalogue x) (table_slot table n) (drafted u.base.image)).0
 
     pub behind_front : (fault : Fault) (old new : World) (a b : Held) → Tries {T = ℕ} (Err fault) old new a b t (no_room new_first.0) xs
         → Tries {T = Unit {0}} (Err fault) old new a b t (no_room (created_behind x table)) (created_behind x table).strokes
     behind_front fault old new a b tries =
-        tries_named {T = Unit {0}} (Err fault) old new a b t (no_room new_first.0) (no_room (created_behind x table)) (xs ++ (grows x h table short).strokes) (created_behind x table).strokes
-        (left_first x h table short room ∙ sym room) (sym (behind_strokes x h table short))
-        (tries_front ℕ (Unit {0}) fault old new a b t (no_room new_first.0) xs (grows x h table short).strokes tries)
+        tries_named {T = Unit {0}} (Err fault) old new a b t (no_room new_first.0) (no_room (created_behind x table)) (xs ++ (grows x h table).strokes) (created_behind x table).strokes
+        (left_first x h table room ∙ sym room) (sym (behind_strokes x h table))
+        (tries_front ℕ (Unit {0}) fault old new a b t (no_room new_first.0) xs (grows x h table).strokes tries)
 
-    grows_are : (n : ℕ) → n ≡ new_first.1 → grows_by n ≡ grows x h table short
+    grows_are : (n : ℕ) → n ≡ new_first.1 → grows_by n ≡ grows x h table
     grows_are n same =
         ap grows_by same ∙ ap (λ (z : Image). (grown Catalogue (found_pages Catalogue x) (table_slot table new_first.1) (drafted z)).0) image_then
 
@@ -226,11 +229,11 @@ module _ (t : Trail) (h : IsWhole t.base.image) (table : List ℕ) where
         → Makes result mid new b c u (grows_by n).strokes → Tries result old new a c t (no_room (created_behind x table)) (created_behind x table).strokes
     behind_then n result old mid new a b c one same never makes =
         tries_named result old new a c t (no_room new_first.0) (no_room (created_behind x table)) (xs ++ (grows_by n).strokes) (created_behind x table).strokes (one.test ∙ sym room)
-        (ap (λ (d : Draft). xs ++ d.strokes) (grows_are n same) ∙ sym (behind_strokes x h table short))
+        (ap (λ (d : Draft). xs ++ d.strokes) (grows_are n same) ∙ sym (behind_strokes x h table))
         (tries_then n result old mid new a b c t (no_room new_first.0) xs (grows_by n).strokes one never makes)
 
     free : (n : ℕ) → n ≡ new_first.1 → no_room (grows_by n) ≡ None
-    free n same = ap (λ (d : Draft). no_room d) (grows_are n same) ∙ left_second x h table short room
+    free n same = ap (λ (d : Draft). no_room d) (grows_are n same) ∙ left_second x h table room
 
     pub behind_failed : (n : ℕ) (fault : Fault) (old mid new : World) (a b c : Held) → Tries (Ok n) old mid a b t (no_room new_first.0) xs → n ≡ new_first.1
         → Tries {T = ℕ} (Err fault) mid new b c u (no_room (grows_by n)) (grows_by n).strokes → Tries {T = Unit {0}} (Err fault) old new a c t (no_room (created_behind x table)) (created_behind x table).strokes

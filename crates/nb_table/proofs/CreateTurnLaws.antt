@@ -1,20 +1,28 @@
 -- The turn of a table that is made, by its causes.
-use Rattle.std.proofs.Common.{◌≡◌, ℕ, ◌<◌, List, [], ◌∷◌, ◌++◌, length, refl, sym, ap, subst, ◌∙◌, arith}
+use Rattle.std.proofs.Common.{◌≡◌, ℕ, ◌<◌, ◌≤◌, List, [], ◌∷◌, ◌++◌, length, refl, sym, ap, subst, ◌∙◌, arith}
 use Rattle.std.specs.Prelude.{Bool, true, false, Option, Some, None, is_some, is_none, nat_le, min}
 use Rattle.nb_host.specs.declared.refusals.Refusal.{Refusal}
 use Rattle.nb_host.specs.declared.refusals.Refusal.TheVariants.{TableExists, TooManyTables}
 use Rattle.nb_model.specs.declared.reply.Reply.TheVariants.{Done, Refused}
-use Rattle.nb_model.specs.Causes.{Cause, first_cause, broken_at, read_only, not_of_form, no_room, when}
+use Rattle.nb_model.specs.Causes.{Cause, first_cause, broken_at, read_only, not_kind, not_of_form, no_room, when}
 use Rattle.nb_model.specs.Chains.{Catalogue, Spot, found_pages, free_spot, pages_of, spots, table_spot, table_slot, place_at}
 use Rattle.nb_model.specs.Forms.{Draft}
 use Rattle.nb_model.specs.Image.{Image}
 use Rattle.nb_model.specs.Outcomes.{Seen, says, unless}
 use Rattle.nb_model.specs.Rows.{used}
 use Rattle.nb_model.specs.Tables.{create_turn}
+use Rattle.nb_model.proofs.PutSound.{no_first}
+use Rattle.nb_model.proofs.ReadLaws.{le_no}
+use Rattle.nb_engine.proofs.DataLaws.{data_there}
+use Rattle.nb_engine.proofs.TestLaws.{le_yes}
 use Rattle.nb_engine.proofs.CauseLaws.{unless_refused, unless_allowed, first_none, first_next, first_here, one_cause, refused_by, judged_by}
 use Rattle.nb_table.specs.declared.look.Place.{Place}
 use Rattle.nb_table.specs.Creates.{first_made, created_in, created_behind, new_cause}
-use Rattle.nb_table.specs.Walks.{place_of, place_at as places}
+use Rattle.nb_table.specs.declared.look.Sought.TheVariants.{Table}
+use Rattle.nb_table.specs.declared.look.Walked.{Walked}
+use Rattle.nb_table.specs.Walks.{gathered, place_of, place_at as places}
+use Rattle.nb_table.proofs.PlaceLaws.{IsPlaceOf, place_some, found_there}
+use Rattle.nb_table.proofs.SpotPages.{free_kind}
 
 module _ (image : Image) (table : List ℕ) where
   abbrev broken : Cause
@@ -94,3 +102,32 @@ module _ (s : Seen) (table : List ℕ) where
           by : (o : Option Spot) → None ≡ places o → draft o ≡ created_behind image_now table
           by None f = refl
           by (Some f) g = cc
+
+-- What a walk for the name came by.
+module _ (image : Image) (name : List ℕ) (walked : Walked) (is : walked ≡ gathered (Table name) (spots Catalogue image)) where
+  pub table_there : is_some walked.found ≡ is_some (table_spot name image)
+  unfolding table_spot
+  table_there = ap (λ (w : Walked). is_some w.found) is ∙ found_there (table_spot name image)
+
+  pub room_there : walked.room ≡ places (free_spot (spots Catalogue image))
+  room_there = ap (λ (w : Walked). w.room) is
+
+  used_there : walked.used ≡ min 12 (length (used (spots Catalogue image)))
+  used_there = ap (λ (w : Walked). w.used) is
+
+  pub many_used : 12 ≤ walked.used → nat_le 12 (length (used (spots Catalogue image))) ≡ true
+  many_used most = le_yes 12 (length (used (spots Catalogue image))) (omega (arith, most, used_there))
+
+  pub few_used : walked.used < 12 → nat_le 12 (length (used (spots Catalogue image))) ≡ false
+  few_used less = le_no 12 (length (used (spots Catalogue image))) (omega (arith, less, used_there))
+
+-- where a table may be made, the catalogue is of the form, and a free place is in one of its pages
+module _ (image : Image) where
+  pub new_formed : (table : List ℕ) → new_cause image table ≡ None → broken_at (pages_of Catalogue image) ≡ None
+  new_formed table none = (no_first (broken_at (pages_of Catalogue image)) _ none).0
+
+  pub place_data : broken_at (pages_of Catalogue image) ≡ None → (place : Place) → Some place ≡ places (free_spot (spots Catalogue image)) → (place.page < length image) × (not_kind image 5 place.page ≡ None)
+  place_data formed place e =
+      let at : IsPlaceOf (free_spot (spots Catalogue image)) place = place_some (free_spot (spots Catalogue image)) place e in
+      let kind : not_kind image 5 place.page ≡ None = ap (λ (n : ℕ). not_kind image 5 n) at.page ∙ free_kind Catalogue image formed at.spot at.is in
+      (data_there image place.page kind, kind)

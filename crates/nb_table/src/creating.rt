@@ -115,13 +115,20 @@ pub fn create<H: Host>(
     ensures goes { Goes engine.old engine.new }
     ensures cause { CountsDevice result (H.faults host.old) (H.faults host.new) }
 {
+    // Contracts ask for its length, which is known of a name.
+    let _name = table.as_str();
     check_access(engine.store().is_read_only())?;
     let mut buffer = [0; LARGEST_PAGE];
     let page = &mut buffer[..engine.page_size() as usize];
     let (free, last) = check_table(host, engine, table, page)?;
     match free {
-        Some(place) => create_in(host, engine, table, place, page)?,
-        None => create_behind(host, engine, table, last)?,
+        Some(place) => {
+            create_in(host, engine, table, place, page)?;
+            Ok(())
+        }
+        None => {
+            create_behind(host, engine, table, last)?;
+            Ok(())
+        }
     }
-    Ok(())
 }
