@@ -1,5 +1,5 @@
 use Rattle.std.proofs.Common.{◌≡◌, ◌<◌, ◌≤◌, ℕ, List, length, refl, sym, ap, subst, ◌∙◌, arith}
-use Rattle.std.specs.Prelude.{Option, None, Ok, Err}
+use Rattle.std.specs.Prelude.{Option, None, Ok, Err, IfSome}
 use Rattle.nb_page.proofs.QuietLemmas.{quiet_begun}
 use Rattle.nb_model.specs.declared.reply.Reply.TheVariants.{Done}
 use Rattle.nb_model.specs.Account.{Base}
@@ -18,6 +18,7 @@ use Rattle.nb_state.specs.Open.{Held}
 use Rattle.nb_state.specs.Does.{Does}
 use Rattle.nb_table.specs.declared.look.Place.{Place}
 use Rattle.nb_table.specs.Creates.{new_cause, created_in, created_behind}
+use Rattle.nb_table.specs.Walks.{IsPlaced}
 use Rattle.nb_table.proofs.CreateLaws.{in_form, behind_form}
 use Rattle.nb_table.proofs.CreateTurnLaws.{create_denied, create_refused, create_at, create_last, new_formed, place_data}
 use Rattle.nb_table.proofs.SpotPages.{last_there}
@@ -57,13 +58,14 @@ returns-in_err-create_in-in-Some-clause-turn g c s t tells same is sound =
     let last = g.H.Host.world c.create_in.new.host in
     let whole = header_whole image (header_of w c.args.engine.now t is scn) here in
     let at = sym c.in-Some.is ∙ tests.room t tells is in
+    let placed = subst (λ (o : Option Place). IfSome o (IsPlaced c.args.engine.now.files.page_size)) c.in-Some.is tests.placed in
     let page_is = place_data image (new_formed image table new) place at in
     let fault = c.in_err-create_in-in-Some.field-0.0 in
     let made = created_in image table place in
     let now = seeing s t.base in
     tries_passed c.from_residual-in_err-create_in-in-Some.result fault (λ r. Does done r w last c.args.engine.now c.create_in.new.engine t (create_turn s table)) c.from_residual-in_err-create_in-in-Some.ensures
     (tries_does {T = Unit {0}} done (Err fault) w last c.args.engine.now c.create_in.new.engine t s (λ (x : Seen). create_turn x table) (no_room made) Done made.strokes same
-    (create_at now table free new place at (in_form image whole table place c.create_in.requires.placed.low page_is.0)) tt
+    (create_at now table free new place at (in_form image whole table place placed.low page_is.0)) tt
     (tries_after {T = Unit {0}} (Err fault) w mid last c.args.engine.now c.check_table.new.engine c.create_in.new.engine t (no_room made) made.strokes tests.same tests.quiet is
     (c.in_err-create_in-in-Some.ensures.tries t tells (tests.open t tells is) here page_is.1)))
 
@@ -83,11 +85,12 @@ returns-in_ok-create_in-in-Some-clause-turn g c s t tells same is sound =
     let last = g.H.Host.world c.create_in.new.host in
     let whole = header_whole image (header_of w c.args.engine.now t is scn) here in
     let at = sym c.in-Some.is ∙ tests.room t tells is in
+    let placed = subst (λ (o : Option Place). IfSome o (IsPlaced c.args.engine.now.files.page_size)) c.in-Some.is tests.placed in
     let page_is = place_data image (new_formed image table new) place at in
     let made = created_in image table place in
     let now = seeing s t.base in
     tries_does {T = Unit {0}} done (Ok tt) w last c.args.engine.now c.create_in.new.engine t s (λ (x : Seen). create_turn x table) (no_room made) Done made.strokes same
-    (create_at now table free new place at (in_form image whole table place c.create_in.requires.placed.low page_is.0)) refl
+    (create_at now table free new place at (in_form image whole table place placed.low page_is.0)) refl
     (tries_after {T = Unit {0}} (Ok tt) w mid last c.args.engine.now c.check_table.new.engine c.create_in.new.engine t (no_room made) made.strokes tests.same tests.quiet is
     (c.in_ok-create_in-in-Some.ensures.tries t tells (tests.open t tells is) here page_is.1))
 
