@@ -160,9 +160,9 @@ module _ (image : Image) (h : IsWhole image) where
     -- what it reads is of the form
     pub behind_form : length table ≤ 240 → 0 < last_of pages → last_of pages < length image → not_of_form (created_behind image table) ≡ None
     behind_form named some low =
-      let short : length slots ≤ 992 = omega (arith, table_length table made.1 named) in
-      ap (λ (d : Draft). not_of_form d) behind_joined
-      ∙ formed_joined made.0 grows first_form (grown_form y (from_well y first_whole) Catalogue pages slots short some (let long = first_long in omega (arith, low, long)))
+        let short : length slots ≤ 992 = omega (arith, table_length table made.1 named) in
+        ap (λ (d : Draft). not_of_form d) behind_joined
+        ∙ formed_joined made.0 grows first_form (grown_form y (from_well y first_whole) Catalogue pages slots short some (let long = first_long in omega (arith, low, long)))
 
 -- What the calls do of it.
 module _ (t : Trail) (h : IsWhole t.base.image) (table : List ℕ) where

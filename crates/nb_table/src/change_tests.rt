@@ -116,10 +116,7 @@ fn a_freed_slot_is_used_again(rt: HostRuntime) -> Result<(), Fail> {
     fill(&mut host, &mut engine, &[8])?;
     let gone = has(&mut host, &mut engine, 1, None)?;
     let is_there = has(&mut host, &mut engine, 8, Some(b"first"))?;
-    assert_eq!(rt;
-        (gone, is_there, engine.count()),
-        (true, true, 14)
-    );
+    assert_eq!(rt; (gone, is_there, engine.count()), (true, true, 14));
     Ok(())
 }
 
@@ -130,16 +127,11 @@ fn is_closed(host: &mut MemHost, engine: &mut Engine) -> Result<bool, Fail> {
     let inserted = insert(host, engine, &none, 1, &long);
     let updated = update(host, engine, &none, 1, &long);
     let deleted = delete(host, engine, &none, 1);
-    Ok(matches!(
-        inserted,
-        Err(Fault::Refused(Refusal::Access { found: 1 }))
-    ) && matches!(
-        updated,
-        Err(Fault::Refused(Refusal::Access { found: 1 }))
-    ) && matches!(
-        deleted,
-        Err(Fault::Refused(Refusal::Access { found: 1 }))
-    ))
+    Ok(
+        matches!(inserted, Err(Fault::Refused(Refusal::Access { found: 1 })))
+            && matches!(updated, Err(Fault::Refused(Refusal::Access { found: 1 })))
+            && matches!(deleted, Err(Fault::Refused(Refusal::Access { found: 1 }))),
+    )
 }
 
 /// Whether each change of a table that isn't there is refused before its text is measured.
@@ -162,13 +154,12 @@ fn is_too_long(host: &mut MemHost, engine: &mut Engine) -> Result<bool, Fail> {
     let long = [b'x'; 201];
     let inserted = insert(host, engine, &table, 1, &long);
     let updated = update(host, engine, &table, 2, &long);
-    Ok(matches!(
-        inserted,
-        Err(Fault::Refused(Refusal::TextLong { len: 201 }))
-    ) && matches!(
-        updated,
-        Err(Fault::Refused(Refusal::TextLong { len: 201 }))
-    ))
+    Ok(
+        matches!(
+            inserted,
+            Err(Fault::Refused(Refusal::TextLong { len: 201 }))
+        ) && matches!(updated, Err(Fault::Refused(Refusal::TextLong { len: 201 }))),
+    )
 }
 
 /// Whether key 1 is there, and key 2 isn't.
@@ -178,20 +169,15 @@ fn is_keyed(host: &mut MemHost, engine: &mut Engine) -> Result<bool, Fail> {
     let updated = update(host, engine, &table, 2, b"");
     let deleted = delete(host, engine, &table, 2);
     Ok(
-        matches!(
-            inserted,
-            Err(Fault::Refused(Refusal::KeyExists { key: 1 }))
-        ) && matches!(updated, Err(Fault::Refused(Refusal::NoKey { key: 2 })))
+        matches!(inserted, Err(Fault::Refused(Refusal::KeyExists { key: 1 })))
+            && matches!(updated, Err(Fault::Refused(Refusal::NoKey { key: 2 })))
             && matches!(deleted, Err(Fault::Refused(Refusal::NoKey { key: 2 }))),
     )
 }
 
 /// A copy of the file of the database.
 fn file_of(alloc: Global, host: &MemHost) -> Result<Vec<u8>, Fail> {
-    Ok(Vec::from_slice(
-        alloc,
-        host.file(&base_name()?).unwrap_or(b""),
-    )?)
+    Ok(Vec::from_slice(alloc, host.file(&base_name()?).unwrap_or(b""))?)
 }
 
 #[test]
@@ -204,10 +190,7 @@ fn a_refused_change_changes_nothing(rt: HostRuntime) -> Result<(), Fail> {
     let too_long = is_too_long(&mut host, &mut engine)?;
     let keyed = is_keyed(&mut host, &mut engine)?;
     let same = file_of(rt.alloc(), &host)?.as_slice() == before.as_slice();
-    assert_eq!(rt;
-        (missing, too_long, keyed, same),
-        (true, true, true, true)
-    );
+    assert_eq!(rt; (missing, too_long, keyed, same), (true, true, true, true));
     Ok(())
 }
 

@@ -26,6 +26,8 @@ pub use read::{get, scan};
 #[cfg(test)]
 mod change_tests;
 #[cfg(test)]
+mod creating_tests;
+#[cfg(test)]
 mod tests;
 
 /// The most bytes that a page has.

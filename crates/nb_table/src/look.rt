@@ -15,10 +15,7 @@ pub(crate) enum Sought {
     /// The slot of that table, in the catalogue.
     Table(TableName),
     /// The slot of the row with that key, in the chain that begins with page `first`.
-    Row {
-        first: u32,
-        key: u64,
-    },
+    Row { first: u32, key: u64 },
 }
 
 /// Where a slot stands: its page, and its number there, from 0.
