@@ -8,3 +8,9 @@ pub mod CleanLaws
 pub mod DropTurnLaws
 pub mod CreateLaws
 pub mod CreateTurnLaws
+pub mod SlotLaws
+pub mod GatherLaws
+pub mod WalkLaws
+pub mod FindLaws
+pub mod SortedLaws
+pub mod ReadTurns
