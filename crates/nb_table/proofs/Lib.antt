@@ -1,0 +1,16 @@
+pub mod InTableLaws
+pub mod SpotPages
+pub mod PlaceLaws
+pub mod ChangeLaws
+pub mod DropLaws
+pub mod GiveLaws
+pub mod CleanLaws
+pub mod DropTurnLaws
+pub mod CreateLaws
+pub mod CreateTurnLaws
+pub mod SlotLaws
+pub mod GatherLaws
+pub mod WalkLaws
+pub mod FindLaws
+pub mod SortedLaws
+pub mod ReadTurns

@@ -1,1 +1,4 @@
+pub mod Rows
 pub mod Walks
+pub mod Drops
+pub mod Creates

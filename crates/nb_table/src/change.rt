@@ -1,17 +1,52 @@
 // Rows are inserted, updated and deleted.
-ghost use Rattle.std.specs.Prelude.{◌≡◌, IsTrue};
+ghost use Rattle.std.specs.Prelude.{◌≡◌, None, IsTrue, IfSome, length};
 ghost use Rattle.nb_change.specs.Counts.{CountsDevice};
+ghost use Rattle.nb_model.specs.Causes.{broken_at};
+ghost use Rattle.nb_model.specs.Chains.{Chain, pages_of, spots, row_spot};
 ghost use Rattle.nb_model.specs.Outcomes.{Seen};
 ghost use Rattle.nb_model.specs.Sound.{IsSoundImage};
-ghost use Rattle.nb_model.specs.Tables.{insert_turn, update_turn, delete_turn};
+ghost use Rattle.nb_model.specs.Tables.{in_row, insert_turn, update_turn, delete_turn};
 ghost use Rattle.nb_model.specs.Trail.{Trail};
 ghost use Rattle.nb_engine.specs.Replies.{done};
 ghost use Rattle.nb_state.specs.Open.{IsOpen};
 ghost use Rattle.nb_state.specs.Does.{Does, Goes};
+ghost use Rattle.nb_table.specs.Walks.{found_at, IsPlaced};
 
+use crate::LARGEST_PAGE;
+use crate::look::{Found, SLOT};
+use crate::put::{add_slot, put_slot};
+use crate::rows::find_rows;
+use crate::slots::row_bytes;
 use nb_engine::Engine;
 use nb_host::{Fault, Host, Refusal};
 use nb_model::TableName;
+
+/// A free slot.
+pub(crate) const FREE: [u8; SLOT] = [0; SLOT];
+
+/// Writes the slot of the row with that key. The refusal is `NoKey`, where none was found.
+fn put_found<H: Host>(
+    host: &mut H,
+    engine: &mut Engine,
+    found: &Option<Found>,
+    key: u64,
+    bytes: &[u8; SLOT],
+    page: &mut [u8],
+) -> Result<(), Fault>
+    requires size { length page.old ≡ engine.old.files.page_size }
+    requires placed { IfSome found.now (λ f. IsPlaced engine.old.files.page_size f.place) }
+    ensures turn { (s : Seen) (t : Trail) (chain : Chain) → IsTrue H.tells → t.base ≡ s.base → IsOpen (H.world host.old) engine.old t → IsSoundImage t.base.image → broken_at (pages_of chain t.base.image) ≡ None
+        → found.now ≡ found_at (row_spot key (spots chain t.base.image))
+        → Does done result (H.world host.old) (H.world host.new) engine.old engine.new t (in_row s chain key bytes.now) }
+    ensures goes { Goes engine.old engine.new }
+    ensures cause { CountsDevice result (H.faults host.old) (H.faults host.new) }
+{
+    let Some(row) = found else {
+        return Err(Fault::Refused(Refusal::NoKey { key }));
+    };
+    put_slot(host, engine, row.place, bytes, page)?;
+    Ok(())
+}
 
 /// Puts a row with that key and a text of at most 200 bytes into the table. It goes into the first free slot in the order of the chain;
 /// where none is free, a new page holds it before the chain leads to that page.
@@ -30,7 +65,23 @@ pub fn insert<H: Host>(
     ensures goes { Goes engine.old engine.new }
     ensures cause { CountsDevice result (H.faults host.old) (H.faults host.new) }
 {
-    unreachable!()
+    let mut buffer = [0; LARGEST_PAGE];
+    let page = &mut buffer[..engine.page_size() as usize];
+    let rows = find_rows(host, engine, table, key, text, page)?;
+    if rows.walked.found.is_some() {
+        return Err(Fault::Refused(Refusal::KeyExists { key }));
+    }
+    let bytes = row_bytes(key, text);
+    add_slot(
+        host,
+        engine,
+        rows.first,
+        rows.walked.room,
+        rows.last,
+        &bytes,
+        page,
+    )?;
+    Ok(())
 }
 
 /// Gives the row with that key a text of at most 200 bytes.
@@ -49,7 +100,12 @@ pub fn update<H: Host>(
     ensures goes { Goes engine.old engine.new }
     ensures cause { CountsDevice result (H.faults host.old) (H.faults host.new) }
 {
-    unreachable!()
+    let mut buffer = [0; LARGEST_PAGE];
+    let page = &mut buffer[..engine.page_size() as usize];
+    let rows = find_rows(host, engine, table, key, text, page)?;
+    let bytes = row_bytes(key, text);
+    put_found(host, engine, &rows.walked.found, key, &bytes, page)?;
+    Ok(())
 }
 
 /// Takes the row with that key out of the table: its slot is free again. The chain keeps its pages.
@@ -67,5 +123,9 @@ pub fn delete<H: Host>(
     ensures goes { Goes engine.old engine.new }
     ensures cause { CountsDevice result (H.faults host.old) (H.faults host.new) }
 {
-    unreachable!()
+    let mut buffer = [0; LARGEST_PAGE];
+    let page = &mut buffer[..engine.page_size() as usize];
+    let rows = find_rows(host, engine, table, key, &[], page)?;
+    put_found(host, engine, &rows.walked.found, key, &FREE, page)?;
+    Ok(())
 }

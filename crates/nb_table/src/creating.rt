@@ -1,31 +1,130 @@
 // A table is made.
-ghost use Rattle.std.specs.Prelude.{◌≡◌, IsTrue};
+ghost use Rattle.std.specs.Prelude.{◌≡◌, ◌<◌, IsTrue, IfOk, IfSome, None, length};
 ghost use Rattle.nb_change.specs.Counts.{CountsDevice};
+ghost use Rattle.nb_page.specs.Quiet.{Quiet};
+ghost use Rattle.nb_model.specs.Causes.{no_room, not_kind};
+ghost use Rattle.nb_model.specs.Chains.{Catalogue, found_pages, free_spot, last_of, spots};
 ghost use Rattle.nb_model.specs.Outcomes.{Seen};
 ghost use Rattle.nb_model.specs.Sound.{IsSoundImage};
 ghost use Rattle.nb_model.specs.Tables.{create_turn};
 ghost use Rattle.nb_model.specs.Trail.{Trail};
 ghost use Rattle.nb_engine.specs.Replies.{done};
-ghost use Rattle.nb_state.specs.Open.{IsOpen};
-ghost use Rattle.nb_state.specs.Does.{Does, Goes};
+ghost use Rattle.nb_engine.specs.Tries.{Tries};
+ghost use Rattle.nb_state.specs.Open.{IsOpen, but_pages};
+ghost use Rattle.nb_state.specs.Does.{Tested, Does, Goes};
+ghost use Rattle.nb_table.specs.Creates.{IsLastOf, created_in, created_behind, new_cause};
+ghost use Rattle.nb_table.specs.Walks.{IsPlaced, place_at};
 
+use crate::LARGEST_PAGE;
+use crate::look::{MOST_TABLES, Place, Sought};
+use crate::put::put_slot;
+use crate::rows::check_access;
+use crate::slots::table_bytes;
+use crate::walk::walk;
 use nb_engine::Engine;
 use nb_host::{Fault, Host, Refusal};
 use nb_model::TableName;
+
+/// What stands in the owner field of each page of the catalogue.
+const CATALOGUE: u32 = 0;
+
+/// Tests that a table of that name may be made, and answers the first free slot of the catalogue, and its last page. The refusals are
+/// `NotDatabase` of the catalogue, `TableExists` and `TooManyTables`, in this order.
+fn check_table<H: Host>(
+    host: &mut H,
+    engine: &mut Engine,
+    table: &TableName,
+    page: &mut [u8],
+) -> Result<(Option<Place>, u32), Fault>
+    requires size { length page.old ≡ engine.old.files.page_size }
+    ensures test { (t : Trail) → IsTrue H.tells → IsOpen (H.world host.old) engine.old t → Tested result (new_cause t.base.image table.now) }
+    ensures room { (t : Trail) → IsTrue H.tells → IsOpen (H.world host.old) engine.old t → IfOk result (λ (room, last). room ≡ place_at (free_spot (spots Catalogue t.base.image))) }
+    ensures last { (t : Trail) → IsTrue H.tells → IsOpen (H.world host.old) engine.old t → IfOk result (λ (room, last). last ≡ last_of (found_pages Catalogue t.base.image)) }
+    ensures placed { IfOk result (λ (room, last). IfSome room (IsPlaced engine.old.files.page_size)) }
+    ensures low { IfOk result (λ (room, last). 0 < last) }
+    ensures high { IfOk result (λ (room, last). last < 1048576) }
+    ensures open { (t : Trail) → IsTrue H.tells → IsOpen (H.world host.old) engine.old t → IsOpen (H.world host.new) engine.new t }
+    ensures same { but_pages engine.new ≡ but_pages engine.old }
+    ensures quiet { Quiet (H.world host.old) (H.world host.new) }
+    ensures cause { CountsDevice result (H.faults host.old) (H.faults host.new) }
+{
+    let (walked, last) = walk(host, engine, &Sought::Table(table.copied()), page)?;
+    if walked.found.is_some() {
+        return Err(Fault::Refused(Refusal::TableExists));
+    }
+    if walked.used >= MOST_TABLES {
+        return Err(Fault::Refused(Refusal::TooManyTables));
+    }
+    Ok((walked.room, last))
+}
+
+/// Makes the first page of a table, and then its slot in the catalogue at that place. The refusal is `Full`.
+fn create_in<H: Host>(
+    host: &mut H,
+    engine: &mut Engine,
+    table: &TableName,
+    place: Place,
+    page: &mut [u8],
+) -> Result<(), Fault>
+    requires size { length page.old ≡ engine.old.files.page_size }
+    requires placed { IsPlaced engine.old.files.page_size place }
+    ensures tries { (t : Trail) → IsTrue H.tells → IsOpen (H.world host.old) engine.old t → IsSoundImage t.base.image → not_kind t.base.image 5 place.page ≡ None
+        → Tries result (H.world host.old) (H.world host.new) engine.old engine.new t (no_room (created_in t.base.image table.now place)) (created_in t.base.image table.now place).strokes }
+    ensures goes { Goes engine.old engine.new }
+    ensures cause { CountsDevice result (H.faults host.old) (H.faults host.new) }
+{
+    let first = engine.data_new(host, None, &[])?;
+    // That may be the page that was made just now, where the inventories call a page of the catalogue free.
+    put_slot(host, engine, place, &table_bytes(table, first), page)?;
+    Ok(())
+}
+
+/// Makes the first page of a table, and then one behind the last of the catalogue, in which its slot stands. The refusal is `Full`, where
+/// not both pages are left.
+fn create_behind<H: Host>(
+    host: &mut H,
+    engine: &mut Engine,
+    table: &TableName,
+    last: u32,
+) -> Result<(), Fault>
+    requires low { 0 < last }
+    requires high { last < 1048576 }
+    ensures tries { (t : Trail) → IsTrue H.tells → IsOpen (H.world host.old) engine.old t → IsSoundImage t.base.image → IsLastOf t.base.image last
+        → Tries result (H.world host.old) (H.world host.new) engine.old engine.new t (no_room (created_behind t.base.image table.now)) (created_behind t.base.image table.now).strokes }
+    ensures goes { Goes engine.old engine.new }
+    ensures cause { CountsDevice result (H.faults host.old) (H.faults host.new) }
+{
+    // Nothing is made where the second page isn't to be had.
+    engine.room_for(host, 2)?;
+    let first = engine.data_new(host, None, &[])?;
+    engine.data_grow(host, last, CATALOGUE, &table_bytes(table, first))?;
+    Ok(())
+}
 
 /// Makes a table without rows: its first page, and then its slot in the catalogue, which is the moment at which it is there.
 ///
 /// The refusals are `Access`, `NotDatabase` of the catalogue, `TableExists`, `TooManyTables` where there are 12, and `Full`, in this
 /// order. A refused call changes nothing.
-pub fn create<H: Host>(
-    host: &mut H,
-    engine: &mut Engine,
-    table: &TableName,
-) -> Result<(), Fault>
+pub fn create<H: Host>(host: &mut H, engine: &mut Engine, table: &TableName) -> Result<(), Fault>
     ensures turn { (s : Seen) (t : Trail) → IsTrue H.tells → t.base ≡ s.base → IsOpen (H.world host.old) engine.old t → IsSoundImage s.base.image
         → Does done result (H.world host.old) (H.world host.new) engine.old engine.new t (create_turn s table.now) }
     ensures goes { Goes engine.old engine.new }
     ensures cause { CountsDevice result (H.faults host.old) (H.faults host.new) }
 {
-    unreachable!()
+    // Contracts ask for its length, which is known of a name.
+    let _name = table.as_str();
+    check_access(engine.store().is_read_only())?;
+    let mut buffer = [0; LARGEST_PAGE];
+    let page = &mut buffer[..engine.page_size() as usize];
+    let (free, last) = check_table(host, engine, table, page)?;
+    match free {
+        Some(place) => {
+            create_in(host, engine, table, place, page)?;
+            Ok(())
+        }
+        None => {
+            create_behind(host, engine, table, last)?;
+            Ok(())
+        }
+    }
 }

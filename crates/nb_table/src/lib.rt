@@ -11,7 +11,9 @@ mod change;
 mod creating;
 mod dropping;
 mod look;
+mod put;
 mod read;
+mod rows;
 mod slots;
 mod table;
 mod walk;
@@ -21,6 +23,10 @@ pub use creating::create;
 pub use dropping::drop_table;
 pub use read::{get, scan};
 
+#[cfg(test)]
+mod change_tests;
+#[cfg(test)]
+mod creating_tests;
 #[cfg(test)]
 mod tests;
 

@@ -1,0 +1,168 @@
+-- What a row's turn does, once its table's rows are come by.
+use Rattle.std.proofs.Common.{◌≡◌, ℕ, ◌<◌, ◌≤◌, List, [], ◌∷◌, length, refl, sym, ap, ◌∙◌, arith}
+use Rattle.std.specs.Prelude.{Bool, true, false, Option, Some, None, Result, Ok, Err, IfOk, IfSome, is_some}
+use Rattle.nb_host.specs.World.{World}
+use Rattle.nb_host.specs.declared.faults.Fault.{Fault}
+use Rattle.nb_host.specs.declared.refusals.Refusal.{Refusal}
+use Rattle.nb_host.specs.declared.refusals.Refusal.TheVariants.{KeyExists, NoKey}
+use Rattle.nb_model.specs.declared.reply.Reply.TheVariants.{Refused, Done}
+use Rattle.nb_model.specs.Image.{Image}
+use Rattle.nb_model.specs.Trail.{Trail}
+use Rattle.nb_model.specs.Forms.{Draft, drafted}
+use Rattle.nb_model.specs.Causes.{Cause, first_cause, when, read_only, too_long, not_kind, not_of_form, no_room, broken_at}
+use Rattle.nb_model.specs.Chains.{Chain, RowsFrom, Slot, Spot, pages_of, found_pages, spots, table_spot, row_spot, free_spot, first_in, last_of, row_slot, free_slot, put_slot, place_slot}
+use Rattle.nb_model.specs.Outcomes.{Seen, Outcome, says, unless, changes}
+use Rattle.nb_model.specs.Tables.{with_spot, in_row, insert_turn, update_turn, delete_turn}
+use Rattle.nb_state.specs.Open.{Held}
+use Rattle.nb_state.specs.Does.{Does}
+use Rattle.nb_engine.specs.Make.{IsWell}
+use Rattle.nb_engine.specs.Replies.{done}
+use Rattle.nb_engine.specs.Tries.{Tries}
+use Rattle.nb_engine.proofs.CauseLaws.{unless_allowed, first_none, first_next, first_here, one_cause, refused_by, judged_by, allowed}
+use Rattle.nb_engine.proofs.DoesLaws.{seeing, tries_does}
+use Rattle.nb_engine.proofs.TestLaws.{applies, rests}
+use Rattle.nb_table.specs.declared.look.Found.{Found}
+use Rattle.nb_table.specs.declared.look.Place.{Place}
+use Rattle.nb_table.specs.declared.look.Sought.TheVariants.{Row}
+use Rattle.nb_table.specs.declared.look.Walked.{Walked}
+use Rattle.nb_table.specs.Rows.{rows_cause}
+use Rattle.nb_table.specs.Walks.{gathered, found_at, place_at, IsPlaced}
+use Rattle.nb_table.proofs.InTableLaws.{table_refused, table_goes_from}
+use Rattle.nb_table.proofs.PlaceLaws.{IsPlaceOf, found_some, found_there, slot_form, slot_room}
+use Rattle.nb_table.proofs.SpotPages.{row_kind}
+
+-- what is said is `ok`
+pub said : (result : Result (Unit {0}) Fault) → IfOk result (λ value. done value ≡ Done)
+said (Ok value) = refl
+said (Err fault) = tt
+
+-- A row is looked for to be written.
+module _ (s : Seen) (chain : Chain) (key : ℕ) (bytes : Slot) where
+  abbrev image : Image
+  image = s.base.image
+
+  abbrev row_by : Option Spot → Outcome
+  row_by o = with_spot s o (NoKey key) (λ row. changes s [] (put_slot row.page row.slot bytes (drafted image)) Done)
+
+  -- it isn't there
+  pub row_missing : row_spot key (spots chain image) ≡ None → in_row s chain key bytes ≡ says s (Refused (NoKey key)) []
+  unfolding in_row with_spot
+  row_missing none = ap row_by none
+
+  -- its slot is written
+  pub row_written : (row : Spot) → row_spot key (spots chain image) ≡ Some row → IsWell image → 0 < row.page → not_kind image 5 row.page ≡ None → in_row s chain key bytes ≡ says s Done (put_slot row.page row.slot bytes (drafted image)).strokes
+  unfolding in_row with_spot
+  row_written row found is some kind =
+      ap row_by found ∙ allowed s [] (put_slot row.page row.slot bytes (drafted image)) Done first_none (slot_form s.base is row.page row.slot bytes some kind) (slot_room s.base is row.page row.slot bytes some kind)
+
+-- the page of a row that was found is a data page
+pub found_kind : (image : Image) (chain : Chain) → broken_at (pages_of chain image) ≡ None → (key : ℕ) (row : Found) → Some row ≡ found_at (row_spot key (spots chain image)) → not_kind image 5 row.place.page ≡ None
+found_kind image chain formed key row found =
+    let at = found_some (row_spot key (spots chain image)) row found in
+    ap (λ (n : ℕ). not_kind image 5 n) at.page ∙ row_kind chain image formed key at.spot at.is
+
+-- so a call that writes it does that
+pub row_does : (result : Result (Unit {0}) Fault) (old new : World) (a b : Held) (t : Trail) (s : Seen) (chain : Chain) (key : ℕ) (bytes : Slot) (row : Found) → t.base ≡ s.base → IsWell t.base.image → broken_at (pages_of chain t.base.image) ≡ None
+    → Some row ≡ found_at (row_spot key (spots chain t.base.image)) → 0 < row.place.page → Tries result old new a b t None (put_slot row.place.page row.place.slot bytes (drafted t.base.image)).strokes → Does done result old new a b t (in_row s chain key bytes)
+row_does result old new a b t s chain key bytes row same is formed found some tries =
+    tries_does done result old new a b t s (λ (x : Seen). in_row x chain key bytes) None Done (put_slot row.place.page row.place.slot bytes (drafted image)).strokes same turn (said result) tries
+  where
+    image : Image
+    image = t.base.image
+
+    at : IsPlaceOf (row_spot key (spots chain image)) row.place
+    at = found_some (row_spot key (spots chain image)) row found
+
+    there : Draft
+    there = put_slot at.spot.page at.spot.slot bytes (drafted image)
+
+    are : put_slot row.place.page row.place.slot bytes (drafted image) ≡ put_slot at.spot.page at.spot.slot bytes (drafted image)
+    are = ap (λ (n : ℕ). put_slot n row.place.slot bytes (drafted image)) at.page ∙ ap (λ (n : ℕ). put_slot at.spot.page n bytes (drafted image)) at.slot
+
+    turn : in_row (seeing s t.base) chain key bytes ≡ unless (seeing s t.base) None (says (seeing s t.base) Done (put_slot row.place.page row.place.slot bytes (drafted image)).strokes)
+    turn =
+        row_written (seeing s t.base) chain key bytes at.spot at.is is (subst_low at.page some) (row_kind chain image formed key at.spot at.is)
+        ∙ ap (λ (d : Draft). says (seeing s t.base) Done d.strokes) (sym are) ∙ sym (unless_allowed (seeing s t.base) None (says (seeing s t.base) Done (put_slot row.place.page row.place.slot bytes (drafted image)).strokes) refl)
+      where
+        subst_low : {p q : ℕ} → p ≡ q → 0 < p → 0 < q
+        subst_low e low = omega (arith, e, low)
+
+-- A row is added.
+module _ (s : Seen) (chain : Chain) (key : ℕ) (bytes : Slot) where
+  abbrev now : Image
+  now = s.base.image
+
+  abbrev into : Draft
+  into = place_slot chain (found_pages chain now) bytes (drafted now)
+
+  abbrev known : Cause
+  known = when (is_some (row_spot key (spots chain now))) (KeyExists key)
+
+  abbrev pub adding : Outcome
+  adding = changes s (known ∷ []) into Done
+
+  -- its key is there already
+  pub key_known : is_some (row_spot key (spots chain now)) ≡ true → adding ≡ says s (Refused (KeyExists key)) []
+  key_known e = refused_by s (known ∷ []) into Done (KeyExists key) (first_here known [] (KeyExists key) (applies _ _ e))
+
+  -- or it is refused for want of room alone
+  pub key_new : is_some (row_spot key (spots chain now)) ≡ false → not_of_form into ≡ None → adding ≡ unless s (no_room into) (says s Done into.strokes)
+  key_new e form =
+      judged_by s (known ∷ []) into Done (first_next known [] (rests _ _ e) ∙ first_none)
+      ∙ ap (λ (c : Cause). unless s c (says s Done into.strokes)) (first_next (not_of_form into) (no_room into ∷ []) form ∙ one_cause (no_room into))
+
+-- What a walk for a key came by.
+module _ (first key : ℕ) (ss : List Spot) (walked : Walked) (is : walked ≡ gathered (Row first key) ss) where
+  pub walked_found : walked.found ≡ found_at (row_spot key ss)
+  unfolding row_spot
+  walked_found = ap (λ (x : Walked). x.found) is
+
+  pub walked_room : walked.room ≡ place_at (free_spot ss)
+  walked_room = ap (λ (x : Walked). x.room) is
+
+  pub walked_key : is_some walked.found ≡ is_some (row_spot key ss)
+  walked_key = ap (λ (o : Option Found). is_some o) walked_found ∙ found_there (row_spot key ss)
+
+-- no slot that is found is one of page 0
+pub low_of : (size : ℕ) (room : Option Place) → IfSome room (IsPlaced size) → IfSome room (λ place. 0 < place.page)
+low_of size (Some place) is = is.low
+low_of size None is = tt
+
+-- The turns, by what was tested.
+module _ (s : Seen) (table : List ℕ) (key : ℕ) (text : List ℕ) where
+  abbrev seen : Image
+  seen = s.base.image
+
+  abbrev tests : Cause
+  tests = rows_cause seen (read_only seen) table (too_long text)
+
+  pub insert_refused : (r : Refusal) → tests ≡ Some r → insert_turn s table key text ≡ says s (Refused r) []
+  unfolding insert_turn
+  insert_refused r e = table_refused s (read_only seen) table (too_long text) _ r e
+
+  pub insert_goes : tests ≡ None → (spot : Spot) → table_spot table seen ≡ Some spot → (first : ℕ) → first ≡ first_in spot.bytes → (bytes : Slot) → bytes ≡ row_slot key text
+      → insert_turn s table key text ≡ adding s (RowsFrom first) key bytes
+  unfolding insert_turn
+  insert_goes none spot at first e bytes are = table_goes_from s (read_only seen) table (too_long text) _ none spot at first e ∙ ap (λ (bs : Slot). adding s (RowsFrom first) key bs) (sym are)
+
+  pub update_refused : (r : Refusal) → tests ≡ Some r → update_turn s table key text ≡ says s (Refused r) []
+  unfolding update_turn
+  update_refused r e = table_refused s (read_only seen) table (too_long text) _ r e
+
+  pub update_goes : tests ≡ None → (spot : Spot) → table_spot table seen ≡ Some spot → (first : ℕ) → first ≡ first_in spot.bytes → (bytes : Slot) → bytes ≡ row_slot key text
+      → update_turn s table key text ≡ in_row s (RowsFrom first) key bytes
+  unfolding update_turn
+  update_goes none spot at first e bytes are = table_goes_from s (read_only seen) table (too_long text) _ none spot at first e ∙ ap (λ (bs : Slot). in_row s (RowsFrom first) key bs) (sym are)
+
+module _ (s : Seen) (table : List ℕ) (key : ℕ) where
+  abbrev image_seen : Image
+  image_seen = s.base.image
+
+  pub delete_refused : (r : Refusal) → rows_cause image_seen (read_only image_seen) table (too_long []) ≡ Some r → delete_turn s table key ≡ says s (Refused r) []
+  unfolding delete_turn
+  delete_refused r e = table_refused s (read_only image_seen) table None _ r e
+
+  pub delete_goes : rows_cause image_seen (read_only image_seen) table (too_long []) ≡ None → (spot : Spot) → table_spot table image_seen ≡ Some spot → (first : ℕ) → first ≡ first_in spot.bytes → (bytes : Slot) → bytes ≡ free_slot
+      → delete_turn s table key ≡ in_row s (RowsFrom first) key bytes
+  unfolding delete_turn
+  delete_goes none spot at first e bytes are = table_goes_from s (read_only image_seen) table None _ none spot at first e ∙ ap (λ (bs : Slot). in_row s (RowsFrom first) key bs) (sym are)

@@ -1,0 +1,133 @@
+-- The turn of a table that is made, by its causes.
+use Rattle.std.proofs.Common.{◌≡◌, ℕ, ◌<◌, ◌≤◌, List, [], ◌∷◌, ◌++◌, length, refl, sym, ap, subst, ◌∙◌, arith}
+use Rattle.std.specs.Prelude.{Bool, true, false, Option, Some, None, is_some, is_none, nat_le, min}
+use Rattle.nb_host.specs.declared.refusals.Refusal.{Refusal}
+use Rattle.nb_host.specs.declared.refusals.Refusal.TheVariants.{TableExists, TooManyTables}
+use Rattle.nb_model.specs.declared.reply.Reply.TheVariants.{Done, Refused}
+use Rattle.nb_model.specs.Causes.{Cause, first_cause, broken_at, read_only, not_kind, not_of_form, no_room, when}
+use Rattle.nb_model.specs.Chains.{Catalogue, Spot, found_pages, free_spot, pages_of, spots, table_spot, table_slot, place_at}
+use Rattle.nb_model.specs.Forms.{Draft}
+use Rattle.nb_model.specs.Image.{Image}
+use Rattle.nb_model.specs.Outcomes.{Seen, says, unless}
+use Rattle.nb_model.specs.Rows.{used}
+use Rattle.nb_model.specs.Tables.{create_turn}
+use Rattle.nb_model.proofs.PutSound.{no_first}
+use Rattle.nb_model.proofs.ReadLaws.{le_no}
+use Rattle.nb_engine.proofs.DataLaws.{data_there}
+use Rattle.nb_engine.proofs.TestLaws.{le_yes}
+use Rattle.nb_engine.proofs.CauseLaws.{unless_refused, unless_allowed, first_none, first_next, first_here, one_cause, refused_by, judged_by}
+use Rattle.nb_table.specs.declared.look.Place.{Place}
+use Rattle.nb_table.specs.Creates.{first_made, created_in, created_behind, new_cause}
+use Rattle.nb_table.specs.declared.look.Sought.TheVariants.{Table}
+use Rattle.nb_table.specs.declared.look.Walked.{Walked}
+use Rattle.nb_table.specs.Walks.{gathered, place_of, place_at as places}
+use Rattle.nb_table.proofs.PlaceLaws.{IsPlaceOf, place_some, found_there}
+use Rattle.nb_table.proofs.SpotPages.{free_kind}
+
+module _ (image : Image) (table : List ℕ) where
+  abbrev broken : Cause
+  broken = broken_at (pages_of Catalogue image)
+
+  abbrev there : Cause
+  there = when (is_some (table_spot table image)) TableExists
+
+  abbrev many : Cause
+  many = when (nat_le 12 (length (used (spots Catalogue image)))) TooManyTables
+
+  -- the tests in their order
+  pub not_whole : (r : Refusal) → broken ≡ Some r → new_cause image table ≡ Some r
+  not_whole r e = first_here broken (there ∷ many ∷ []) r e
+
+  module _ (formed : broken ≡ None) where
+    pub exists : is_some (table_spot table image) ≡ true → new_cause image table ≡ Some TableExists
+    exists e = first_next broken (there ∷ many ∷ []) formed ∙ first_here there (many ∷ []) TableExists (ap (λ (t : Bool). when t TableExists) e)
+
+    module _ (new : is_some (table_spot table image) ≡ false) where
+      to_many : new_cause image table ≡ many
+      to_many = first_next broken (there ∷ many ∷ []) formed ∙ first_next there (many ∷ []) (ap (λ (t : Bool). when t TableExists) new) ∙ one_cause many
+
+      pub too_many : nat_le 12 (length (used (spots Catalogue image))) ≡ true → new_cause image table ≡ Some TooManyTables
+      too_many e = to_many ∙ ap (λ (t : Bool). when t TooManyTables) e
+
+      pub may : nat_le 12 (length (used (spots Catalogue image))) ≡ false → new_cause image table ≡ None
+      may e = to_many ∙ ap (λ (t : Bool). when t TooManyTables) e
+
+module _ (s : Seen) (table : List ℕ) where
+  abbrev image_now : Image
+  image_now = s.base.image
+
+  abbrev causes : List Cause
+  causes = read_only image_now ∷ broken image_now table ∷ there image_now table ∷ many image_now table ∷ []
+
+  abbrev draft : Option Spot → Draft
+  draft o = place_at Catalogue o (found_pages Catalogue image_now) (table_slot table (first_made image_now).1) (first_made image_now).0
+
+  abbrev here : Option Spot
+  here = free_spot (spots Catalogue image_now)
+
+  pub create_denied : (r : Refusal) → read_only image_now ≡ Some r → create_turn s table ≡ says s (Refused r) []
+  unfolding create_turn
+  create_denied r e = refused_by s causes (draft here) Done r (first_here (read_only image_now) _ r e)
+
+  module _ (free : read_only image_now ≡ None) where
+    pub create_refused : (r : Refusal) → new_cause image_now table ≡ Some r → create_turn s table ≡ says s (Refused r) []
+    unfolding create_turn
+    create_refused r e = refused_by s causes (draft here) Done r (first_next (read_only image_now) _ free ∙ e)
+
+    module _ (new : new_cause image_now table ≡ None) where
+      create_by : (d : Draft) → draft here ≡ d → not_of_form d ≡ None → create_turn s table ≡ unless s (no_room d) (says s Done d.strokes)
+      unfolding create_turn
+      create_by d same formed =
+          judged_by s causes (draft here) Done (first_next (read_only image_now) _ free ∙ new)
+          ∙ ap (λ (e : Draft). unless s (first_cause (not_of_form e ∷ no_room e ∷ [])) (says s Done e.strokes)) same
+          ∙ ap (λ (c : Cause). unless s c (says s Done d.strokes)) (first_next (not_of_form d) (no_room d ∷ []) formed ∙ one_cause (no_room d))
+
+      -- the slot is at a place
+      pub create_at : (place : Place) → Some place ≡ places here → not_of_form (created_in image_now table place) ≡ None
+          → create_turn s table ≡ unless s (no_room (created_in image_now table place)) (says s Done (created_in image_now table place).strokes)
+      create_at place e formed = create_by (created_in image_now table place) (by here e) formed
+        where
+          some_is : (a b : Place) → Some a ≡ Some b → a ≡ b
+          some_is a b f = cc
+
+          by : (o : Option Spot) → Some place ≡ places o → draft o ≡ created_in image_now table place
+          by None f = cc
+          by (Some f) g = ap (λ (p : Place). created_in image_now table p) (sym (some_is place (place_of f) g))
+
+      -- or in a new page
+      pub create_last : None ≡ places here → not_of_form (created_behind image_now table) ≡ None
+          → create_turn s table ≡ unless s (no_room (created_behind image_now table)) (says s Done (created_behind image_now table).strokes)
+      create_last e formed = create_by (created_behind image_now table) (by here e) formed
+        where
+          by : (o : Option Spot) → None ≡ places o → draft o ≡ created_behind image_now table
+          by None f = refl
+          by (Some f) g = cc
+
+-- What a walk for the name came by.
+module _ (image : Image) (name : List ℕ) (walked : Walked) (is : walked ≡ gathered (Table name) (spots Catalogue image)) where
+  pub table_there : is_some walked.found ≡ is_some (table_spot name image)
+  unfolding table_spot
+  table_there = ap (λ (w : Walked). is_some w.found) is ∙ found_there (table_spot name image)
+
+  pub room_there : walked.room ≡ places (free_spot (spots Catalogue image))
+  room_there = ap (λ (w : Walked). w.room) is
+
+  used_there : walked.used ≡ min 12 (length (used (spots Catalogue image)))
+  used_there = ap (λ (w : Walked). w.used) is
+
+  pub many_used : 12 ≤ walked.used → nat_le 12 (length (used (spots Catalogue image))) ≡ true
+  many_used most = le_yes 12 (length (used (spots Catalogue image))) (omega (arith, most, used_there))
+
+  pub few_used : walked.used < 12 → nat_le 12 (length (used (spots Catalogue image))) ≡ false
+  few_used less = le_no 12 (length (used (spots Catalogue image))) (omega (arith, less, used_there))
+
+-- where a table may be made, the catalogue is of the form, and a free place is in one of its pages
+module _ (image : Image) where
+  pub new_formed : (table : List ℕ) → new_cause image table ≡ None → broken_at (pages_of Catalogue image) ≡ None
+  new_formed table none = (no_first (broken_at (pages_of Catalogue image)) _ none).0
+
+  pub place_data : broken_at (pages_of Catalogue image) ≡ None → (place : Place) → Some place ≡ places (free_spot (spots Catalogue image)) → (place.page < length image) × (not_kind image 5 place.page ≡ None)
+  place_data formed place e =
+      let at : IsPlaceOf (free_spot (spots Catalogue image)) place = place_some (free_spot (spots Catalogue image)) place e in
+      let kind : not_kind image 5 place.page ≡ None = ap (λ (n : ℕ). not_kind image 5 n) at.page ∙ free_kind Catalogue image formed at.spot at.is in
+      (data_there image place.page kind, kind)

@@ -1,0 +1,72 @@
+-- The turn of a table that is dropped, by its causes.
+use Rattle.std.proofs.Common.{◌≡◌, ℕ, ◌<◌, List, [], ◌∷◌, sym, subst, ◌∙◌}
+use Rattle.std.specs.Prelude.{Some, None}
+use Rattle.nb_host.specs.declared.refusals.Refusal.{Refusal}
+use Rattle.nb_model.specs.declared.reply.Reply.TheVariants.{Done, Refused}
+use Rattle.nb_model.specs.Causes.{Cause, broken_at, read_only, not_kind}
+use Rattle.nb_model.specs.Chains.{Chain, Catalogue, RowsFrom, Spot, first_in, found_pages, free_slot, pages_of, put_slot, table_spot}
+use Rattle.nb_model.specs.Forms.{Draft, drafted}
+use Rattle.nb_model.specs.Image.{Image}
+use Rattle.nb_model.specs.Outcomes.{Seen, Outcome, says, changes}
+use Rattle.nb_model.specs.Sound.{HasHeader, IsSoundImage}
+use Rattle.nb_model.specs.Tables.{all_given, drop_turn}
+use Rattle.nb_model.proofs.DropTurns.{join_given}
+use Rattle.nb_model.proofs.PutSound.{header_whole, no_first}
+use Rattle.nb_engine.specs.Make.{IsWell}
+use Rattle.nb_engine.proofs.CauseLaws.{first_none, allowed}
+use Rattle.nb_engine.proofs.MakeLaws.{from_well}
+use Rattle.nb_table.specs.Drops.{IsWholeTable, dropped}
+use Rattle.nb_table.specs.Rows.{chain_cause, rows_cause}
+use Rattle.nb_table.proofs.CleanLaws.{IsClean, clean_joined, clean_given}
+use Rattle.nb_table.proofs.DropLaws.{slot_low, written, tables_then}
+use Rattle.nb_table.proofs.InTableLaws.{chain_formed, table_refused, table_goes}
+use Rattle.nb_table.proofs.PlaceLaws.{slot_form, slot_room}
+use Rattle.nb_table.proofs.SpotPages.{table_kind}
+
+module _ (s : Seen) (table : List ℕ) where
+  abbrev image : Image
+  image = s.base.image
+
+  abbrev tests : Cause
+  tests = rows_cause image (read_only image) table None
+
+  abbrev drops : Spot → Chain → Outcome
+  drops spot chain = changes s [] (all_given (found_pages chain image) (put_slot spot.page spot.slot free_slot (drafted image))) Done
+
+  pub drop_refused : (r : Refusal) → tests ≡ Some r → drop_turn s table ≡ says s (Refused r) []
+  unfolding drop_turn
+  drop_refused r e = table_refused s (read_only image) table None drops r e
+
+  -- what was come by is a whole table
+  pub whole_table : tests ≡ None → (spot : Spot) → table_spot table image ≡ Some spot → IsWholeTable image table spot
+  whole_table none spot found = record {
+    catalogue = (no_first (broken_at (pages_of Catalogue image)) (chain_cause image None (table_spot table image) ∷ []) (no_first (read_only image) (broken_at (pages_of Catalogue image) ∷ chain_cause image None (table_spot table image) ∷ []) none).1).0;
+    found = found;
+    formed = chain_formed image (read_only image) table None none spot found;
+  }
+
+  pub drop_says : tests ≡ None → (spot : Spot) → HasHeader image → IsSoundImage image → IsWholeTable image table spot → drop_turn s table ≡ says s Done (dropped image spot).strokes
+  unfolding drop_turn
+  drop_says none spot h is has =
+      table_goes s (read_only image) table None drops none spot has.found
+      ∙ allowed s [] (dropped image spot) Done first_none clean.formed clean.room
+    where
+      pages : List ℕ
+      pages = found_pages (RowsFrom (first_in spot.bytes)) image
+
+      freed : Draft
+      freed = put_slot spot.page spot.slot free_slot (drafted image)
+
+      kind : not_kind image 5 spot.page ≡ None
+      kind = table_kind image has.catalogue table spot has.found
+
+      well : IsWell image
+      well = from_well image (header_whole image h is)
+
+      slot : IsClean freed
+      slot = record { formed = slot_form s.base well spot.page spot.slot free_slot (slot_low s.base h is table spot has) kind; room = slot_room s.base well spot.page spot.slot free_slot (slot_low s.base h is table spot has) kind }
+
+      clean : IsClean (dropped image spot)
+      clean = subst IsClean (sym (join_given pages freed))
+          (clean_joined freed (all_given pages (drafted freed.image)) slot
+          (clean_given freed.image pages (written s.base h is table spot has).keeps.fits.whole (tables_then s.base h is table spot has)))

@@ -1,0 +1,43 @@
+use Rattle.std.proofs.Common.{◌≡◌, ◌<◌, ◌≤◌, ℕ, List, sym, ap, ◌∙◌, arith}
+use Rattle.std.specs.Prelude.{Option, is_some}
+use Rattle.nb_model.specs.Causes.{broken_at}
+use Rattle.nb_model.specs.Chains.{Catalogue, pages_of, spots}
+use Rattle.nb_engine.proofs.DoesLaws.{tested_on}
+use Rattle.nb_table.specs.declared.look.Place.{Place}
+use Rattle.nb_table.specs.declared.look.Sought.TheVariants.{Table}
+use Rattle.nb_table.specs.declared.look.Walked.{Walked}
+use Rattle.nb_table.specs.Creates.{new_cause}
+use Rattle.nb_table.specs.Walks.{gathered}
+use Rattle.nb_table.proofs.CreateTurnLaws.{not_whole, exists, too_many, may, table_there, many_used, few_used}
+use Rattle.nb_table.proofs.creating.check_table.Goals as goal
+
+pub returns-in_err-walked-clause-test : goal.returns-in_err-walked-clause-test
+returns-in_err-walked-clause-test g c t tells is =
+    let image = t.base.image in
+    tested_on (Walked × ℕ) (Option Place × ℕ) _ _ (broken_at (pages_of Catalogue image)) (new_cause image c.args.table.now) c.from_residual.ensures (not_whole image c.args.table.now) (c.in_err-walked.ensures.test t tells is)
+
+pub returns-then-is_some-clause-test : goal.returns-then-is_some-clause-test
+returns-then-is_some-clause-test g c t tells is =
+    let image = t.base.image in
+    let table : List ℕ = c.args.table.now in
+    let walked = c.in_ok-walked.ensures in
+    let came = walked.walked t tells is ∙ ap (λ (n : List ℕ). gathered (Table n) (spots Catalogue image)) c.copied.ensures in
+    exists image table (walked.test t tells is) (sym (table_there image table c.in_ok-walked.walked came) ∙ sym c.is_some.ensures ∙ c.if-is_some.true)
+
+pub returns-then-walked-ge-MOST_TABLES-clause-test : goal.returns-then-walked-ge-MOST_TABLES-clause-test
+returns-then-walked-ge-MOST_TABLES-clause-test g c t tells is =
+    let image = t.base.image in
+    let table : List ℕ = c.args.table.now in
+    let walked = c.in_ok-walked.ensures in
+    let came = walked.walked t tells is ∙ ap (λ (n : List ℕ). gathered (Table n) (spots Catalogue image)) c.copied.ensures in
+    too_many image table (walked.test t tells is) (sym (table_there image table c.in_ok-walked.walked came) ∙ sym c.is_some.ensures ∙ c.if-is_some.false)
+    (many_used image table c.in_ok-walked.walked came (omega (arith, c.if-walked-ge-MOST_TABLES.true)))
+
+pub returns-clause-test : goal.returns-clause-test
+returns-clause-test g c t tells is =
+    let image = t.base.image in
+    let table : List ℕ = c.args.table.now in
+    let walked = c.in_ok-walked.ensures in
+    let came = walked.walked t tells is ∙ ap (λ (n : List ℕ). gathered (Table n) (spots Catalogue image)) c.copied.ensures in
+    may image table (walked.test t tells is) (sym (table_there image table c.in_ok-walked.walked came) ∙ sym c.is_some.ensures ∙ c.if-is_some.false)
+    (few_used image table c.in_ok-walked.walked came (omega (arith, c.if-walked-ge-MOST_TABLES.false)))

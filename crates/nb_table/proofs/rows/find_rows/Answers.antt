@@ -1,0 +1,60 @@
+use Rattle.std.proofs.Common.{◌≡◌, ℕ, [], List, sym, ap, subst, ◌∙◌}
+use Rattle.std.specs.Prelude.{Bool, Ok, Err, Some}
+use Rattle.nb_model.specs.Image.{is_read_only}
+use Rattle.nb_model.specs.Causes.{read_only, too_long, broken_at}
+use Rattle.nb_model.specs.Chains.{RowsFrom, pages_of, first_in}
+use Rattle.nb_state.specs.Open.{Held}
+use Rattle.nb_page.proofs.QuietLemmas.{quiet_joined}
+use Rattle.nb_engine.proofs.DoesLaws.{tested_on}
+use Rattle.nb_table.specs.declared.look.Found.{Found}
+use Rattle.nb_table.specs.declared.look.Walked.{Walked}
+use Rattle.nb_table.specs.declared.rows.Rows.{Rows}
+use Rattle.nb_table.specs.Rows.{rows_cause}
+use Rattle.nb_table.specs.Walks.{spot_of}
+use Rattle.nb_table.proofs.InTableLaws.{find_cause, before_fails, table_fails, behind_fails, chain_fails, rows_none}
+use Rattle.nb_table.proofs.rows.find_rows.Goals as goal
+
+pub returns-in_err-check_access-clause-test : goal.returns-in_err-check_access-clause-test
+returns-in_err-check_access-clause-test g c t tells is =
+    let image = t.base.image in
+    let closed = c.is_read_only.ensures ∙ ap (λ (h : Held). h.read_only) c.store.ensures ∙ is.agrees.read_only in
+    tested_on (Unit {0}) Rows _ _ (read_only image) (rows_cause image (read_only image) c.args.table.now (too_long c.args.text.now)) c.from_residual.ensures
+    (before_fails image (read_only image) c.args.table.now (too_long c.args.text.now)) (c.in_err-check_access.ensures.test image closed)
+
+pub returns-in_err-found-clause-test : goal.returns-in_err-found-clause-test
+returns-in_err-found-clause-test g c t tells is =
+    let image = t.base.image in
+    let closed = c.is_read_only.ensures ∙ ap (λ (h : Held). h.read_only) c.store.ensures ∙ is.agrees.read_only in
+    let free = c.in_ok-check_access.ensures.test image closed in
+    tested_on Found Rows _ _ (find_cause image c.args.table.now) (rows_cause image (read_only image) c.args.table.now (too_long c.args.text.now)) c.from_residual-in_err-found.ensures
+    (table_fails image (read_only image) c.args.table.now (too_long c.args.text.now) free) (c.in_err-found.ensures.test t tells is)
+
+pub returns-in_err-check_text-clause-test : goal.returns-in_err-check_text-clause-test
+returns-in_err-check_text-clause-test g c t tells is =
+    let image = t.base.image in
+    let closed = c.is_read_only.ensures ∙ ap (λ (h : Held). h.read_only) c.store.ensures ∙ is.agrees.read_only in
+    let free = c.in_ok-check_access.ensures.test image closed in
+    let found = c.in_ok-found.ensures in
+    tested_on (Unit {0}) Rows _ _ (too_long c.args.text.now) (rows_cause image (read_only image) c.args.table.now (too_long c.args.text.now)) c.from_residual-in_err-check_text.ensures
+    (behind_fails image (read_only image) c.args.table.now (too_long c.args.text.now) free (found.test t tells is) (spot_of c.in_ok-found.found) (found.found t tells is)) c.in_err-check_text.ensures.test
+
+pub returns-in_err-walked-clause-test : goal.returns-in_err-walked-clause-test
+returns-in_err-walked-clause-test g c t tells is =
+    let image = t.base.image in
+    let closed = c.is_read_only.ensures ∙ ap (λ (h : Held). h.read_only) c.store.ensures ∙ is.agrees.read_only in
+    let free = c.in_ok-check_access.ensures.test image closed in
+    let found = c.in_ok-found.ensures in
+    let first : ℕ = c.first_page-first.result in
+    tested_on (Walked × ℕ) Rows _ _ (broken_at (pages_of (RowsFrom first) image)) (rows_cause image (read_only image) c.args.table.now (too_long c.args.text.now)) c.from_residual-in_err-walked.ensures
+    (λ r e. chain_fails image (read_only image) c.args.table.now (too_long c.args.text.now) free (found.test t tells is) (spot_of c.in_ok-found.found) (found.found t tells is) c.in_ok-check_text.ensures.test r
+    (ap (λ (n : ℕ). broken_at (pages_of (RowsFrom n) image)) (sym c.first_page-first.ensures) ∙ e)) (c.in_err-walked.ensures.test t tells (found.open t tells is))
+
+pub returns-clause-test : goal.returns-clause-test
+returns-clause-test g c t tells is =
+    let image = t.base.image in
+    let closed = c.is_read_only.ensures ∙ ap (λ (h : Held). h.read_only) c.store.ensures ∙ is.agrees.read_only in
+    let free = c.in_ok-check_access.ensures.test image closed in
+    let found = c.in_ok-found.ensures in
+    let first : ℕ = c.first_page-first.result in
+    rows_none image (read_only image) c.args.table.now (too_long c.args.text.now) free (found.test t tells is) (spot_of c.in_ok-found.found) (found.found t tells is) c.in_ok-check_text.ensures.test
+    (ap (λ (n : ℕ). broken_at (pages_of (RowsFrom n) image)) (sym c.first_page-first.ensures) ∙ c.in_ok-walked.ensures.test t tells (found.open t tells is))

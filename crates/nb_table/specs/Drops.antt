@@ -1,0 +1,17 @@
+-- A table that is dropped.
+use Rattle.std.specs.Prelude.{◌≡◌, ℕ, List, Some, None}
+use Rattle.nb_model.specs.Causes.{broken_at}
+use Rattle.nb_model.specs.Chains.{Catalogue, RowsFrom, Spot, first_in, found_pages, free_slot, pages_of, put_slot, table_spot}
+use Rattle.nb_model.specs.Forms.{Draft, drafted}
+use Rattle.nb_model.specs.Image.{Image}
+use Rattle.nb_model.specs.Tables.{all_given}
+
+-- The slot is that of the table. The chains of the catalogue and of the table are of the form.
+pub record IsWholeTable (image : Image) (table : List ℕ) (spot : Spot) : Type 0 where
+  pub catalogue : broken_at (pages_of Catalogue image) ≡ None
+  pub found : table_spot table image ≡ Some spot
+  pub formed : broken_at (pages_of (RowsFrom (first_in spot.bytes)) image) ≡ None
+
+-- its slot becomes free, and then its pages are given back
+abbrev pub dropped : Image → Spot → Draft
+dropped image spot = all_given (found_pages (RowsFrom (first_in spot.bytes)) image) (put_slot spot.page spot.slot free_slot (drafted image))

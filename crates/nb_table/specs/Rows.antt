@@ -1,0 +1,15 @@
+-- The rows of a table, as they are come by before one of them is changed.
+use Rattle.std.specs.Prelude.{List, [], ◌∷◌, ℕ, Option, Some, None}
+use Rattle.nb_host.specs.declared.refusals.Refusal.TheVariants.{NoTable}
+use Rattle.nb_model.specs.Image.{Image}
+use Rattle.nb_model.specs.Causes.{Cause, first_cause, broken_at}
+use Rattle.nb_model.specs.Chains.{Catalogue, RowsFrom, Spot, pages_of, first_in, table_spot}
+
+-- why no chain is come by in that slot of the catalogue: there is none, a test before the chain fails, or the chain isn't of the form
+abbrev pub chain_cause : Image → (behind : Cause) → Option Spot → Cause
+chain_cause image behind None = Some NoTable
+chain_cause image behind (Some spot) = first_cause (behind ∷ broken_at (pages_of (RowsFrom (first_in spot.bytes)) image) ∷ [])
+
+-- why the rows of a table aren't come by: a test before the catalogue fails, or the catalogue isn't of the form, or its slot leads to none
+abbrev pub rows_cause : Image → (before : Cause) (table : List ℕ) (behind : Cause) → Cause
+rows_cause image before table behind = first_cause (before ∷ broken_at (pages_of Catalogue image) ∷ chain_cause image behind (table_spot table image) ∷ [])

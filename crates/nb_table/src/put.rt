@@ -1,0 +1,84 @@
+// Slots are written: one that is there, or one more of a chain.
+ghost use Rattle.std.specs.Prelude.{◌≡◌, ◌+◌, ◌*◌, ◌<◌, ◌≤◌, None, IsTrue, IfSome, length};
+ghost use Rattle.nb_fields.specs.Bytes.{with_part};
+ghost use Rattle.nb_change.specs.Counts.{CountsDevice};
+ghost use Rattle.nb_model.specs.Causes.{not_kind, no_room, broken_at};
+ghost use Rattle.nb_model.specs.Chains.{Chain, owner_of, pages_of, found_pages, spots, free_spot, last_of, put_slot, place_slot};
+ghost use Rattle.nb_model.specs.Forms.{drafted};
+ghost use Rattle.nb_model.specs.Sound.{IsSoundImage};
+ghost use Rattle.nb_model.specs.Trail.{Trail};
+ghost use Rattle.nb_engine.specs.Tries.{Tries};
+ghost use Rattle.nb_state.specs.Open.{IsOpen};
+ghost use Rattle.nb_state.specs.Does.{Goes};
+ghost use Rattle.nb_table.specs.Walks.{place_at, IsPlaced};
+
+use crate::look::{Place, SLOT};
+use nb_engine::Engine;
+use nb_fields::layouts::data;
+use nb_host::{Fault, Host};
+
+/// Writes these bytes into slot `number` of a page.
+fn put_bytes(page: &mut [u8], number: u32, bytes: &[u8; SLOT])
+    requires { 288 + 256 * number ≤ length page.old }
+    ensures { page.new ≡ with_part (32 + 256 * number) bytes.now page.old }
+{
+    let from = data::SLOTS_AT + data::SLOT * number as usize;
+    page[from..from + data::SLOT].copy_from_slice(bytes);
+}
+
+/// Writes a slot of a data page. Where the inventories agree with the pages, it isn't refused.
+pub(crate) fn put_slot<H: Host>(
+    host: &mut H,
+    engine: &mut Engine,
+    place: Place,
+    bytes: &[u8; SLOT],
+    page: &mut [u8],
+) -> Result<(), Fault>
+    requires size { length page.old ≡ engine.old.files.page_size }
+    requires placed { IsPlaced engine.old.files.page_size place }
+    ensures tries { (t : Trail) → IsTrue H.tells → IsOpen (H.world host.old) engine.old t → IsSoundImage t.base.image → not_kind t.base.image 5 place.page ≡ None
+        → Tries result (H.world host.old) (H.world host.new) engine.old engine.new t None (put_slot place.page place.slot bytes.now (drafted t.base.image)).strokes }
+    ensures goes { Goes engine.old engine.new }
+    ensures cause { CountsDevice result (H.faults host.old) (H.faults host.new) }
+{
+    engine.read(host, place.page, page)?;
+    put_bytes(page, place.slot, bytes);
+    engine.data_write(host, place.page, page)?;
+    Ok(())
+}
+
+/// Puts these bytes into a chain whose pages have that owner: into `room`, its first free slot, or, where it has none, into the first slot
+/// of a new page, behind which the last page is linked to that.
+///
+/// The refusal is `Full`, where no page is left for a new one.
+pub(crate) fn add_slot<H: Host>(
+    host: &mut H,
+    engine: &mut Engine,
+    owner: u32,
+    room: Option<Place>,
+    last: u32,
+    bytes: &[u8; SLOT],
+    page: &mut [u8],
+) -> Result<(), Fault>
+    requires size { length page.old ≡ engine.old.files.page_size }
+    requires placed { IfSome room (IsPlaced engine.old.files.page_size) }
+    requires low { 0 < last }
+    requires high { last < 1048576 }
+    ensures tries { (t : Trail) (chain : Chain) → IsTrue H.tells → IsOpen (H.world host.old) engine.old t → IsSoundImage t.base.image → owner ≡ owner_of chain → broken_at (pages_of chain t.base.image) ≡ None
+        → room ≡ place_at (free_spot (spots chain t.base.image)) → last ≡ last_of (found_pages chain t.base.image)
+        → Tries result (H.world host.old) (H.world host.new) engine.old engine.new t (no_room (place_slot chain (found_pages chain t.base.image) bytes.now (drafted t.base.image)))
+        (place_slot chain (found_pages chain t.base.image) bytes.now (drafted t.base.image)).strokes }
+    ensures goes { Goes engine.old engine.new }
+    ensures cause { CountsDevice result (H.faults host.old) (H.faults host.new) }
+{
+    match room {
+        Some(place) => {
+            put_slot(host, engine, place, bytes, page)?;
+            Ok(())
+        }
+        None => {
+            engine.data_grow(host, last, owner, bytes)?;
+            Ok(())
+        }
+    }
+}
