@@ -1,10 +1,7 @@
 // Rows are changed, on a host in memory.
 ghost use Rattle.std.specs.Prelude.{◌≤◌, IfOk, length};
 
-use crate::look::Place;
-use crate::put::put_slot;
-use crate::slots::table_bytes;
-use crate::{delete, get, insert, update};
+use crate::{create, delete, get, insert, update};
 use nb_engine::Engine;
 use nb_host::{Fault, Name, Refusal};
 use nb_mem::MemHost;
@@ -29,19 +26,9 @@ fn people() -> Result<TableName, Fault> {
 }
 
 /// A new database of 13 pages of 1,024 bytes, and page 13, the first of a table without rows: a page has three slots.
-#[tactic(auto, using(nb_fields::proofs::SizeLemmas::size_facts))]
 fn new_base(alloc: Global, host: &mut MemHost) -> Result<Engine, Fail> {
     let mut engine = Engine::create(alloc, host, &base_name()?, 1024, 8, 4)?;
-    let first = engine.data_new(host, None, &[])?;
-    let mut page = vec![in alloc; 0; engine.page_size() as usize]?;
-    let place = Place { page: 3, slot: 0 };
-    put_slot(
-        host,
-        &mut engine,
-        place,
-        &table_bytes(&people()?, first),
-        &mut page,
-    )?;
+    create(host, &mut engine, &people()?)?;
     Ok(engine)
 }
 
@@ -116,82 +103,51 @@ fn a_freed_slot_is_used_again(rt: HostRuntime) -> Result<(), Fail> {
     fill(&mut host, &mut engine, &[8])?;
     let gone = has(&mut host, &mut engine, 1, None)?;
     let is_there = has(&mut host, &mut engine, 8, Some(b"first"))?;
-    assert_eq!(rt; (gone, is_there, engine.count()), (true, true, 14));
+    assert_eq!(rt;
+        (gone, is_there, engine.count()),
+        (true, true, 14)
+    );
     Ok(())
 }
 
-/// Whether a database that is closed refuses each change before it looks for the table.
-fn is_closed(host: &mut MemHost, engine: &mut Engine) -> Result<bool, Fail> {
-    let none = table_named("none")?;
-    let long = [b'x'; 201];
-    let inserted = insert(host, engine, &none, 1, &long);
-    let updated = update(host, engine, &none, 1, &long);
-    let deleted = delete(host, engine, &none, 1);
-    Ok(
-        matches!(inserted, Err(Fault::Refused(Refusal::Access { found: 1 })))
-            && matches!(updated, Err(Fault::Refused(Refusal::Access { found: 1 })))
-            && matches!(deleted, Err(Fault::Refused(Refusal::Access { found: 1 }))),
-    )
+/// The refusal by a word of its own.
+fn word_of(outcome: Result<(), Fault>) -> &'static str {
+    match outcome {
+        Ok(()) => "done",
+        Err(Fault::Refused(Refusal::Access { found: 1 })) => "closed",
+        Err(Fault::Refused(Refusal::NoTable)) => "no table",
+        Err(Fault::Refused(Refusal::TextLong { len: 201 })) => "long",
+        Err(Fault::Refused(Refusal::KeyExists { key: 1 })) => "known",
+        Err(Fault::Refused(Refusal::NoKey { key: 2 })) => "unknown",
+        Err(_) => "another",
+    }
 }
 
-/// Whether each change of a table that isn't there is refused before its text is measured.
-fn is_missing(host: &mut MemHost, engine: &mut Engine) -> Result<bool, Fail> {
-    let none = table_named("none")?;
-    let long = [b'x'; 201];
-    let inserted = insert(host, engine, &none, 1, &long);
-    let updated = update(host, engine, &none, 1, &long);
-    let deleted = delete(host, engine, &none, 1);
-    Ok(
-        matches!(inserted, Err(Fault::Refused(Refusal::NoTable)))
-            && matches!(updated, Err(Fault::Refused(Refusal::NoTable)))
-            && matches!(deleted, Err(Fault::Refused(Refusal::NoTable))),
-    )
-}
-
-/// Whether a text of 201 bytes is refused before the key is looked for.
-fn is_too_long(host: &mut MemHost, engine: &mut Engine) -> Result<bool, Fail> {
-    let table = people()?;
-    let long = [b'x'; 201];
-    let inserted = insert(host, engine, &table, 1, &long);
-    let updated = update(host, engine, &table, 2, &long);
-    Ok(
-        matches!(
-            inserted,
-            Err(Fault::Refused(Refusal::TextLong { len: 201 }))
-        ) && matches!(updated, Err(Fault::Refused(Refusal::TextLong { len: 201 }))),
-    )
-}
-
-/// Whether key 1 is there, and key 2 isn't.
-fn is_keyed(host: &mut MemHost, engine: &mut Engine) -> Result<bool, Fail> {
-    let table = people()?;
-    let inserted = insert(host, engine, &table, 1, b"");
-    let updated = update(host, engine, &table, 2, b"");
-    let deleted = delete(host, engine, &table, 2);
-    Ok(
-        matches!(inserted, Err(Fault::Refused(Refusal::KeyExists { key: 1 })))
-            && matches!(updated, Err(Fault::Refused(Refusal::NoKey { key: 2 })))
-            && matches!(deleted, Err(Fault::Refused(Refusal::NoKey { key: 2 }))),
-    )
+/// What an insert, an update and a delete with that key are answered.
+fn answers(
+    host: &mut MemHost,
+    engine: &mut Engine,
+    table: &TableName,
+    key: u64,
+    text: &[u8],
+) -> (&'static str, &'static str, &'static str) {
+    let inserted = word_of(insert(host, engine, table, key, text));
+    let updated = word_of(update(host, engine, table, key, text));
+    let deleted = word_of(delete(host, engine, table, key));
+    (inserted, updated, deleted)
 }
 
 /// A copy of the file of the database.
 fn file_of(alloc: Global, host: &MemHost) -> Result<Vec<u8>, Fail> {
-    Ok(Vec::from_slice(alloc, host.file(&base_name()?).unwrap_or(b""))?)
+    Ok(Vec::from_slice(
+        alloc,
+        host.file(&base_name()?).unwrap_or(b""),
+    )?)
 }
 
-#[test]
-fn a_refused_change_changes_nothing(rt: HostRuntime) -> Result<(), Fail> {
-    let mut host = MemHost::new(rt.alloc())?;
-    let mut engine = new_base(rt.alloc(), &mut host)?;
-    fill(&mut host, &mut engine, &[1])?;
-    let before = file_of(rt.alloc(), &host)?;
-    let missing = is_missing(&mut host, &mut engine)?;
-    let too_long = is_too_long(&mut host, &mut engine)?;
-    let keyed = is_keyed(&mut host, &mut engine)?;
-    let same = file_of(rt.alloc(), &host)?.as_slice() == before.as_slice();
-    assert_eq!(rt; (missing, too_long, keyed, same), (true, true, true, true));
-    Ok(())
+/// Whether the database has that file.
+fn is_same(host: &MemHost, bytes: &[u8]) -> Result<bool, Fail> {
+    Ok(host.file(&base_name()?) == Some(bytes))
 }
 
 #[test]
@@ -199,22 +155,90 @@ fn a_closed_database_is_not_changed(rt: HostRuntime) -> Result<(), Fail> {
     let mut host = MemHost::new(rt.alloc())?;
     let mut engine = new_base(rt.alloc(), &mut host)?;
     engine.set_access(&mut host, true)?;
-    let before = file_of(rt.alloc(), &host)?;
-    let closed = is_closed(&mut host, &mut engine)?;
-    let same = file_of(rt.alloc(), &host)?.as_slice() == before.as_slice();
-    assert_eq!(rt; (closed, same), (true, true));
+    let bytes = file_of(rt.alloc(), &host)?;
+    let none = table_named("none")?;
+    let words = answers(&mut host, &mut engine, &none, 1, &[b'x'; 201]);
+    assert_eq!(rt;
+        (words, is_same(&host, &bytes)?),
+        (("closed", "closed", "closed"), true)
+    );
     Ok(())
 }
 
-/// Whether the host has a table of keys 1, 2 and 3, and perhaps of 4.
+/// The table is looked for before the text is measured.
+#[test]
+fn without_its_table_no_row_is_changed(rt: HostRuntime) -> Result<(), Fail> {
+    let mut host = MemHost::new(rt.alloc())?;
+    let mut engine = new_base(rt.alloc(), &mut host)?;
+    let bytes = file_of(rt.alloc(), &host)?;
+    let none = table_named("none")?;
+    let words = answers(&mut host, &mut engine, &none, 1, &[b'x'; 201]);
+    assert_eq!(rt;
+        (words, is_same(&host, &bytes)?),
+        (("no table", "no table", "no table"), true)
+    );
+    Ok(())
+}
+
+/// The text is measured before the key is looked for.
+#[test]
+fn a_long_text_is_refused(rt: HostRuntime) -> Result<(), Fail> {
+    let mut host = MemHost::new(rt.alloc())?;
+    let mut engine = new_base(rt.alloc(), &mut host)?;
+    let bytes = file_of(rt.alloc(), &host)?;
+    let words = answers(&mut host, &mut engine, &people()?, 2, &[b'x'; 201]);
+    assert_eq!(rt;
+        (words, is_same(&host, &bytes)?),
+        (("long", "long", "unknown"), true)
+    );
+    Ok(())
+}
+
+#[test]
+fn a_key_stands_once(rt: HostRuntime) -> Result<(), Fail> {
+    let mut host = MemHost::new(rt.alloc())?;
+    let mut engine = new_base(rt.alloc(), &mut host)?;
+    let table = people()?;
+    let first = answers(&mut host, &mut engine, &table, 1, b"");
+    fill(&mut host, &mut engine, &[1])?;
+    let again = word_of(insert(&mut host, &mut engine, &table, 1, b"again"));
+    let other = word_of(update(&mut host, &mut engine, &table, 2, b"again"));
+    let kept = has(&mut host, &mut engine, 1, Some(b"first"))?;
+    assert_eq!(rt;
+        (first, again, other, kept),
+        (("done", "done", "done"), "known", "unknown", true)
+    );
+    Ok(())
+}
+
+/// Whether each of the rows of keys 1, 2 and 3 is there as it was inserted.
+fn are_kept(host: &mut MemHost, engine: &mut Engine) -> Result<bool, Fail> {
+    for key in 1..4 {
+        if !has(host, engine, key, Some(b"first"))? {
+            return Ok(false);
+        }
+    }
+    Ok(true)
+}
+
+/// Whether the host has a table of keys 1, 2 and 3, and of 4, or, unless that was acknowledged, not.
 fn is_left(alloc: Global, host: &mut MemHost, is_done: bool) -> Result<bool, Fail> {
     let mut engine = open(alloc, host)?;
-    let kept = has(host, &mut engine, 1, Some(b"first"))?
-        && has(host, &mut engine, 2, Some(b"first"))?
-        && has(host, &mut engine, 3, Some(b"first"))?;
+    let kept = are_kept(host, &mut engine)?;
     let added = has(host, &mut engine, 4, Some(b"fourth"))?;
-    let none = has(host, &mut engine, 4, None)?;
-    Ok(kept && (added || none && !is_done))
+    let missing = has(host, &mut engine, 4, None)?;
+    Ok(kept && (added || missing && !is_done))
+}
+
+/// The first of some picks by which a stop now leaves anything else.
+fn wrong_pick(alloc: Global, host: &MemHost, is_done: bool) -> Result<Option<u64>, Fail> {
+    for pick in 0..6 {
+        let mut left = host.left(pick)?;
+        if !is_left(alloc, &mut left, is_done)? {
+            return Ok(Some(pick));
+        }
+    }
+    Ok(None)
 }
 
 /// Opens the database of the host, and adds a fourth row, behind which the chain has a page more.
@@ -230,13 +254,7 @@ fn wrong_stop(alloc: Global, bytes: &[u8]) -> Result<Option<u64>, Fail> {
         let mut host = MemHost::fused(alloc, stop)?;
         host.put_file(&base_name()?, bytes)?;
         let is_done = add_fourth(alloc, &mut host).is_ok();
-        for pick in [0, 1, 2, 5] {
-            let mut left = host.left(pick)?;
-            if !is_left(alloc, &mut left, is_done)? {
-                return Ok(Some(stop));
-            }
-        }
-        if stop == 39 && !is_done {
+        if wrong_pick(alloc, &host, is_done)?.is_some() || !is_done && stop == 39 {
             return Ok(Some(stop));
         }
     }
