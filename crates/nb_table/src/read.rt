@@ -1,21 +1,43 @@
 // Rows are read.
-ghost use Rattle.std.specs.Prelude.{◌≡◌, ◌≢◌, IsTrue, IfErr};
+ghost use Rattle.std.specs.Prelude.{◌≡◌, ◌≢◌, ◌+◌, ◌*◌, ◌≤◌, ℕ, List, [], ◌∷◌, ◌++◌, true, IsTrue, IfErr, IfOk, OnOk, length, slice_index};
+ghost use Rattle.std.specs.List.{list_all};
+ghost use Rattle.nb_fields.specs.Places.{is_page_size};
 ghost use Rattle.nb_host.specs.declared.faults.Fault.TheVariants.{Memory};
 ghost use Rattle.nb_change.specs.Counts.{CountsDevice};
 ghost use Rattle.nb_page.specs.Quiet.{Quiet};
+ghost use Rattle.nb_model.specs.Causes.{broken_at};
+ghost use Rattle.nb_model.specs.Chains.{RowsFrom, Spot, is_slot, slots_in, spots_on, pages_of, spots};
 ghost use Rattle.nb_model.specs.Outcomes.{Seen};
+ghost use Rattle.nb_model.specs.Rows.{rows_in};
 ghost use Rattle.nb_model.specs.Tables.{get_turn, scan_turn};
 ghost use Rattle.nb_model.specs.Trail.{Trail};
 ghost use Rattle.nb_model.specs.declared.reply.Reply.TheVariants.{Rows};
 ghost use Rattle.nb_engine.specs.Replies.{valued};
 ghost use Rattle.nb_state.specs.Open.{IsOpen, but_pages};
-ghost use Rattle.nb_state.specs.Does.{Does, Goes};
+ghost use Rattle.nb_state.specs.Does.{Does, Goes, Tested};
 
+use crate::LARGEST_PAGE;
+use crate::look::Chain;
+use crate::slots::{first_page, key_of, slot_at, slot_count, text_of, use_of};
+use crate::table::{find_row, find_table};
+use crate::walk::take_page;
 use arrayvec::ArrayVec;
 use nb_engine::Engine;
 use nb_host::{Fault, Host, Refusal};
-use nb_model::{RowList, TableName};
+use nb_model::{RowList, TableName, Text};
 use std::alloc::Global;
+use std::collections::BTreeMap;
+
+/// A text of at most 200 bytes.
+fn copied(text: &[u8]) -> ArrayVec<u8, 200>
+    requires { length text.now ≤ 200 }
+    ensures { result.items ≡ text.now }
+{
+    let mut copy = ArrayVec::new();
+    // It fits.
+    let _ = copy.try_extend_from_slice(text);
+    copy
+}
 
 /// The text of the row with that key.
 ///
@@ -36,7 +58,98 @@ pub fn get<H: Host>(
     ensures cause { CountsDevice result (H.faults host.old) (H.faults host.new) }
     ensures takes_none { IfErr result (λ fault. fault ≢ Memory) }
 {
-    unreachable!()
+    let mut buffer = [0; LARGEST_PAGE];
+    let page = &mut buffer[..engine.page_size() as usize];
+    let found = find_table(host, engine, table, page)?;
+    let row = find_row(host, engine, first_page(&found.bytes), key, page)?;
+    Ok(copied(text_of(&row.bytes)))
+}
+
+/// Comes by one slot, which is of the form. Of two rows with one key the first stays.
+fn add_row(
+    alloc: Global,
+    rows: &mut BTreeMap<u64, Text>,
+    slot: &[u8],
+) -> Result<(), Fault>
+    requires size { length slot.now ≡ 256 }
+    requires form { is_slot (RowsFrom 0) slot.now ≡ true }
+    ensures rows { (ss : List Spot) (s : Spot) → rows.old.entries ≡ rows_in ss → s.bytes ≡ slot.now → OnOk result (rows.new.entries ≡ rows_in (ss ++ s ∷ [])) }
+    ensures only_memory { IfErr result (λ fault. fault ≡ Memory) }
+{
+    if use_of(slot) == 0 {
+        return Ok(());
+    }
+    let key = key_of(slot);
+    if rows.contains_key(&key) {
+        return Ok(());
+    }
+    let text = Text::new(alloc, text_of(slot))?;
+    rows.insert(key, text)?;
+    Ok(())
+}
+
+/// Comes by the slots of a page, which are of the form.
+fn add_rows(
+    alloc: Global,
+    rows: &mut BTreeMap<u64, Text>,
+    page: &[u8],
+) -> Result<(), Fault>
+    requires size { IsTrue (is_page_size (length page.now)) }
+    requires form { list_all (is_slot (RowsFrom 0)) (slots_in page.now) ≡ true }
+    ensures rows { (ss : List Spot) (number : ℕ) → rows.old.entries ≡ rows_in ss → OnOk result (rows.new.entries ≡ rows_in (ss ++ spots_on number 0 (slots_in page.now))) }
+    ensures only_memory { IfErr result (λ fault. fault ≡ Memory) }
+{
+    let count = slot_count(page);
+    let mut slot = 0;
+    while slot < count {
+        add_row(alloc, rows, slot_at(page, slot))?;
+        slot += 1;
+    }
+    Ok(())
+}
+
+/// The rows in the chain that begins with page `first`. The refusal is `NotDatabase` of the first page that breaks the form.
+fn take_rows<H: Host>(
+    alloc: Global,
+    host: &mut H,
+    engine: &mut Engine,
+    first: u32,
+    page: &mut [u8],
+) -> Result<BTreeMap<u64, Text>, Fault>
+    requires size { length page.old ≡ engine.old.files.page_size }
+    ensures test { (t : Trail) → IsTrue H.tells → IsOpen (H.world host.old) engine.old t → Tested result (broken_at (pages_of (RowsFrom first) t.base.image)) }
+    ensures rows { (t : Trail) → IsTrue H.tells → IsOpen (H.world host.old) engine.old t → IfOk result (λ rows. rows.entries ≡ rows_in (spots (RowsFrom first) t.base.image)) }
+    ensures open { (t : Trail) → IsTrue H.tells → IsOpen (H.world host.old) engine.old t → IsOpen (H.world host.new) engine.new t }
+    ensures same { but_pages engine.new ≡ but_pages engine.old }
+    ensures quiet { Quiet (H.world host.old) (H.world host.new) }
+    ensures cause { CountsDevice result (H.faults host.old) (H.faults host.new) }
+{
+    let chain = Chain::Rows(first);
+    let mut rows = BTreeMap::new(alloc);
+    let mut number = first;
+    let mut left = engine.count();
+    while left > 0 {
+        let next = take_page(host, engine, chain, number, page)?;
+        add_rows(alloc, &mut rows, page)?;
+        if next == 0 {
+            return Ok(rows);
+        }
+        number = next;
+        left -= 1;
+    }
+    Err(Fault::Refused(Refusal::NotDatabase { page: number }))
+}
+
+/// The rows as a list, their keys rising.
+fn listed(alloc: Global, rows: BTreeMap<u64, Text>) -> Result<RowList, Fault>
+    ensures rows { IfOk result (λ list. list ≡ rows.entries) }
+    ensures only_memory { IfErr result (λ fault. fault ≡ Memory) }
+{
+    let mut list = RowList::new(alloc);
+    for (key, text) in rows {
+        list.push(key, text.as_slice())?;
+    }
+    Ok(list)
 }
 
 /// The rows of the table, their keys rising. Of two rows with one key, which no sound table has, the first in the order of the chain
@@ -58,5 +171,9 @@ pub fn scan<H: Host>(
     ensures quiet { Quiet (H.world host.old) (H.world host.new) }
     ensures cause { CountsDevice result (H.faults host.old) (H.faults host.new) }
 {
-    unreachable!()
+    let mut buffer = [0; LARGEST_PAGE];
+    let page = &mut buffer[..engine.page_size() as usize];
+    let found = find_table(host, engine, table, page)?;
+    let rows = take_rows(alloc, host, engine, first_page(&found.bytes), page)?;
+    listed(alloc, rows)
 }

@@ -1,11 +1,11 @@
-// A table is looked for in the catalogue.
-ghost use Rattle.std.specs.Prelude.{◌≡◌, ◌≢◌, IsTrue, IfErr, IfOk, Some, [], ◌∷◌, is_none, length};
+// A table is looked for in the catalogue, and a row in the chain of its table.
+ghost use Rattle.std.specs.Prelude.{◌≡◌, ◌≢◌, ◌≤◌, IsTrue, IfErr, IfOk, Some, [], ◌∷◌, is_none, length};
 ghost use Rattle.nb_host.specs.declared.faults.Fault.TheVariants.{Memory};
-ghost use Rattle.nb_host.specs.declared.refusals.Refusal.TheVariants.{NoTable};
+ghost use Rattle.nb_host.specs.declared.refusals.Refusal.TheVariants.{NoTable, NoKey};
 ghost use Rattle.nb_change.specs.Counts.{CountsDevice};
 ghost use Rattle.nb_page.specs.Quiet.{Quiet};
 ghost use Rattle.nb_model.specs.Causes.{first_cause, broken_at, when};
-ghost use Rattle.nb_model.specs.Chains.{Catalogue, pages_of, table_spot};
+ghost use Rattle.nb_model.specs.Chains.{Catalogue, RowsFrom, pages_of, spots, table_spot, row_spot, length_in};
 ghost use Rattle.nb_model.specs.Trail.{Trail};
 ghost use Rattle.nb_state.specs.Open.{IsOpen, but_pages};
 ghost use Rattle.nb_state.specs.Does.{Tested};
@@ -36,5 +36,39 @@ pub(crate) fn find_table<H: Host>(
     ensures cause { CountsDevice result (H.faults host.old) (H.faults host.new) }
     ensures takes_none { IfErr result (λ fault. fault ≢ Memory) }
 {
-    unreachable!()
+    let sought = Sought::Table(table.copied());
+    let (walked, _) = walk(host, engine, &sought, page)?;
+    match walked.found {
+        Some(found) => Ok(found),
+        None => Err(Fault::Refused(Refusal::NoTable)),
+    }
+}
+
+/// The slot of the row with that key in the chain that begins with page `first`. The refusals are `NotDatabase` of the first page of the
+/// chain that breaks the form, and `NoKey`, in this order.
+pub(crate) fn find_row<H: Host>(
+    host: &mut H,
+    engine: &mut Engine,
+    first: u32,
+    key: u64,
+    page: &mut [u8],
+) -> Result<Found, Fault>
+    requires size { length page.old ≡ engine.old.files.page_size }
+    ensures test { (t : Trail) → IsTrue H.tells → IsOpen (H.world host.old) engine.old t → Tested result (first_cause (broken_at (pages_of (RowsFrom first) t.base.image) ∷ when (is_none (row_spot key (spots (RowsFrom first) t.base.image))) (NoKey key) ∷ [])) }
+    ensures found { (t : Trail) → IsTrue H.tells → IsOpen (H.world host.old) engine.old t → IfOk result (λ f. row_spot key (spots (RowsFrom first) t.base.image) ≡ Some (spot_of f)) }
+    ensures placed { IfOk result (λ f. IsPlaced engine.old.files.page_size f.place) }
+    ensures short { IfOk result (λ f. length_in f.bytes ≤ 200) }
+    ensures room { length page.new ≡ length page.old }
+    ensures open { (t : Trail) → IsTrue H.tells → IsOpen (H.world host.old) engine.old t → IsOpen (H.world host.new) engine.new t }
+    ensures same { but_pages engine.new ≡ but_pages engine.old }
+    ensures quiet { Quiet (H.world host.old) (H.world host.new) }
+    ensures cause { CountsDevice result (H.faults host.old) (H.faults host.new) }
+    ensures takes_none { IfErr result (λ fault. fault ≢ Memory) }
+{
+    let sought = Sought::Row { first, key };
+    let (walked, _) = walk(host, engine, &sought, page)?;
+    match walked.found {
+        Some(found) => Ok(found),
+        None => Err(Fault::Refused(Refusal::NoKey { key })),
+    }
 }

@@ -1,18 +1,174 @@
 // A walk over a chain of data pages, page by page along its links. Nothing changes.
-ghost use Rattle.std.specs.Prelude.{◌≡◌, ◌≢◌, ◌+◌, ◌<◌, ◌≤◌, IsTrue, IfErr, IfOk, IfSome, OnOk, length};
+ghost use Rattle.std.specs.Prelude.{◌≡◌, ◌≢◌, ◌+◌, ◌*◌, ◌<◌, ◌≤◌, ℕ, List, [], ◌∷◌, ◌++◌, true, min, IsTrue, IfErr, IfOk, IfSome, OnOk, length, slice_index};
+ghost use Rattle.std.specs.List.{list_all};
+ghost use Rattle.nb_fields.specs.Places.{is_page_size};
 ghost use Rattle.nb_host.specs.declared.faults.Fault.TheVariants.{Memory};
 ghost use Rattle.nb_change.specs.Counts.{CountsDevice};
 ghost use Rattle.nb_page.specs.Quiet.{Quiet};
+ghost use Rattle.nb_model.specs.Image.{page_at};
 ghost use Rattle.nb_model.specs.Causes.{broken_at};
-ghost use Rattle.nb_model.specs.Chains.{pages_of, found_pages, spots, last_of};
+ghost use Rattle.nb_model.specs.Chains.{Spot, is_slot, is_filled, slots_in, spots_on, next_in, pages_of, found_pages, spots, last_of};
 ghost use Rattle.nb_model.specs.Trail.{Trail};
 ghost use Rattle.nb_state.specs.Open.{IsOpen, but_pages};
 ghost use Rattle.nb_state.specs.Does.{Tested};
-ghost use Rattle.nb_table.specs.Walks.{chain_of, gathered, place_of, IsPlaced};
+ghost use Rattle.nb_table.specs.Walks.{chain_by, chain_of, not_linked, gathered, IsPlaced};
 
-use crate::look::{Sought, Walked};
+use crate::look::{Chain, Found, MOST_TABLES, Place, SLOT, Sought, Walked};
+use crate::slots::{slot_at, slot_count, use_of};
 use nb_engine::Engine;
+use nb_fields::layouts::data;
 use nb_host::{Fault, Host, Refusal};
+
+/// Whether a slot of the chain is of the form.
+fn is_slot(chain: Chain, slot: &[u8]) -> bool
+    requires { length slot.now ≡ 256 }
+    ensures { result ≡ is_slot (chain_by chain) slot.now }
+{
+    let used = use_of(slot);
+    if used == 0 {
+        return true;
+    }
+    used == 1 && chain.is_filled(slot)
+}
+
+/// Whether all slots of a page of the chain are of the form.
+fn are_slots(chain: Chain, page: &[u8]) -> bool
+    requires { IsTrue (is_page_size (length page.now)) }
+    ensures { result ≡ list_all (is_slot (chain_by chain)) (slots_in page.now) }
+{
+    let count = slot_count(page);
+    let mut slot = 0;
+    while slot < count {
+        if !is_slot(chain, slot_at(page, slot)) {
+            return false;
+        }
+        slot += 1;
+    }
+    true
+}
+
+/// Reads page `number` of the chain, and answers the page that it is linked to, or 0. The refusal is `NotDatabase` of the page, where it
+/// isn't one of the chain. It takes one read at most.
+pub(crate) fn take_page<H: Host>(
+    host: &mut H,
+    engine: &mut Engine,
+    chain: Chain,
+    number: u32,
+    page: &mut [u8],
+) -> Result<u32, Fault>
+    requires size { length page.old ≡ engine.old.files.page_size }
+    ensures test { (t : Trail) → IsTrue H.tells → IsOpen (H.world host.old) engine.old t → Tested result (not_linked (chain_by chain) t.base.image number) }
+    ensures page { (t : Trail) → IsTrue H.tells → IsOpen (H.world host.old) engine.old t → OnOk result (page.new ≡ page_at t.base.image number) }
+    ensures next { IfOk result (λ next. next ≡ next_in page.new) }
+    ensures form { OnOk result (list_all (is_slot (chain_by chain)) (slots_in page.new) ≡ true) }
+    ensures low { OnOk result (0 < number) }
+    ensures high { OnOk result (number < 1048576) }
+    ensures sized { length page.new ≡ length page.old }
+    ensures open { (t : Trail) → IsTrue H.tells → IsOpen (H.world host.old) engine.old t → IsOpen (H.world host.new) engine.new t }
+    ensures same { but_pages engine.new ≡ but_pages engine.old }
+    ensures quiet { Quiet (H.world host.old) (H.world host.new) }
+    ensures once { IsTrue H.tells → (H.world host.new).reads ≤ (H.world host.old).reads + 1 }
+    ensures cause { CountsDevice result (H.faults host.old) (H.faults host.new) }
+    ensures takes_none { IfErr result (λ fault. fault ≢ Memory) }
+{
+    // Slots are counted by the size of a page, which is one of six.
+    let _size = engine.page_size();
+    engine.data_read(host, number, chain.owner(), page)?;
+    if !are_slots(chain, page) {
+        return Err(Fault::Refused(Refusal::NotDatabase { page: number }));
+    }
+    Ok(data::Next::get(page) as u32)
+}
+
+/// What a slot holds, and where it stands.
+fn found(slot: &[u8], place: Place) -> Found
+    requires { length slot.now ≡ 256 }
+    ensures place { result.place ≡ place }
+    ensures bytes { result.bytes ≡ slot.now }
+{
+    let mut bytes = [0; SLOT];
+    bytes.copy_from_slice(slot);
+    Found { place, bytes }
+}
+
+/// Comes by one slot, which is of the form.
+fn add_slot(walked: &mut Walked, sought: &Sought, slot: &[u8], place: Place)
+    requires size { length slot.now ≡ 256 }
+    requires form { is_slot (chain_of sought.now) slot.now ≡ true }
+    ensures walked { (ss : List Spot) → walked.old ≡ gathered sought.now ss
+        → walked.new ≡ gathered sought.now (ss ++ record { page = place.page; slot = place.slot; bytes = slot.now } ∷ []) }
+    ensures found { (size : ℕ) → IsPlaced size place → IfSome walked.old.found (λ f. IsPlaced size f.place) → IfSome walked.new.found (λ f. IsPlaced size f.place) }
+    ensures filled { IfSome walked.old.found (λ f. IsTrue (is_filled (chain_of sought.now) f.bytes)) → IfSome walked.new.found (λ f. IsTrue (is_filled (chain_of sought.now) f.bytes)) }
+    ensures room { (size : ℕ) → IsPlaced size place → IfSome walked.old.room (IsPlaced size) → IfSome walked.new.room (IsPlaced size) }
+{
+    if use_of(slot) == 0 {
+        if walked.room.is_none() {
+            walked.room = Some(place);
+        }
+        return;
+    }
+    if walked.used < MOST_TABLES {
+        walked.used += 1;
+    }
+    if walked.found.is_none() && sought.is_in(slot) {
+        walked.found = Some(found(slot, place));
+    }
+}
+
+/// Comes by the slots of page `number`, which are of the form.
+fn add_slots(walked: &mut Walked, sought: &Sought, page: &[u8], number: u32)
+    requires size { IsTrue (is_page_size (length page.now)) }
+    requires form { list_all (is_slot (chain_of sought.now)) (slots_in page.now) ≡ true }
+    requires low { 0 < number }
+    requires high { number < 1048576 }
+    ensures walked { (ss : List Spot) → walked.old ≡ gathered sought.now ss → walked.new ≡ gathered sought.now (ss ++ spots_on number 0 (slots_in page.now)) }
+    ensures found { IfSome walked.old.found (λ f. IsPlaced (length page.now) f.place) → IfSome walked.new.found (λ f. IsPlaced (length page.now) f.place) }
+    ensures filled { IfSome walked.old.found (λ f. IsTrue (is_filled (chain_of sought.now) f.bytes)) → IfSome walked.new.found (λ f. IsTrue (is_filled (chain_of sought.now) f.bytes)) }
+    ensures room { IfSome walked.old.room (IsPlaced (length page.now)) → IfSome walked.new.room (IsPlaced (length page.now)) }
+{
+    let count = slot_count(page);
+    let mut slot = 0;
+    while slot < count {
+        let place = Place { page: number, slot };
+        add_slot(walked, sought, slot_at(page, slot), place);
+        slot += 1;
+    }
+}
+
+/// Comes by page `number`, and answers the page that it is linked to, or 0. The refusal is `NotDatabase` of the page, where it isn't one of
+/// the chain.
+fn take_link<H: Host>(
+    host: &mut H,
+    engine: &mut Engine,
+    sought: &Sought,
+    number: u32,
+    page: &mut [u8],
+    walked: &mut Walked,
+) -> Result<u32, Fault>
+    requires size { length page.old ≡ engine.old.files.page_size }
+    ensures test { (t : Trail) → IsTrue H.tells → IsOpen (H.world host.old) engine.old t → Tested result (not_linked (chain_of sought.now) t.base.image number) }
+    ensures next { (t : Trail) → IsTrue H.tells → IsOpen (H.world host.old) engine.old t → IfOk result (λ next. next ≡ next_in (page_at t.base.image number)) }
+    ensures walked { (t : Trail) (ss : List Spot) → IsTrue H.tells → IsOpen (H.world host.old) engine.old t → walked.old ≡ gathered sought.now ss
+        → OnOk result (walked.new ≡ gathered sought.now (ss ++ spots_on number 0 (slots_in (page_at t.base.image number)))) }
+    ensures found { IfSome walked.old.found (λ f. IsPlaced engine.old.files.page_size f.place) → OnOk result (IfSome walked.new.found (λ f. IsPlaced engine.old.files.page_size f.place)) }
+    ensures filled { IfSome walked.old.found (λ f. IsTrue (is_filled (chain_of sought.now) f.bytes)) → OnOk result (IfSome walked.new.found (λ f. IsTrue (is_filled (chain_of sought.now) f.bytes))) }
+    ensures room { IfSome walked.old.room (IsPlaced engine.old.files.page_size) → OnOk result (IfSome walked.new.room (IsPlaced engine.old.files.page_size)) }
+    ensures low { OnOk result (0 < number) }
+    ensures high { OnOk result (number < 1048576) }
+    ensures sized { length page.new ≡ length page.old }
+    ensures open { (t : Trail) → IsTrue H.tells → IsOpen (H.world host.old) engine.old t → IsOpen (H.world host.new) engine.new t }
+    ensures same { but_pages engine.new ≡ but_pages engine.old }
+    ensures quiet { Quiet (H.world host.old) (H.world host.new) }
+    ensures once { IsTrue H.tells → (H.world host.new).reads ≤ (H.world host.old).reads + 1 }
+    ensures cause { CountsDevice result (H.faults host.old) (H.faults host.new) }
+    ensures takes_none { IfErr result (λ fault. fault ≢ Memory) }
+{
+    // Slots are counted by the size of a page, which is one of six.
+    let _size = engine.page_size();
+    let next = take_page(host, engine, sought.chain(), number, page)?;
+    add_slots(walked, sought, page, number);
+    Ok(next)
+}
 
 /// Comes by all slots of the chain in which it is looked for, and answers its last page too. The refusal is `NotDatabase` of the first page
 /// that breaks the form: a chain that leads back into itself has more pages than the database. Each page of the chain takes one read at
@@ -28,9 +184,11 @@ pub(crate) fn walk<H: Host>(
     ensures walked { (t : Trail) → IsTrue H.tells → IsOpen (H.world host.old) engine.old t → IfOk result (λ (walked, last). walked ≡ gathered sought.now (spots (chain_of sought.now) t.base.image)) }
     ensures last { (t : Trail) → IsTrue H.tells → IsOpen (H.world host.old) engine.old t → IfOk result (λ (walked, last). last ≡ last_of (found_pages (chain_of sought.now) t.base.image)) }
     ensures found { IfOk result (λ (walked, last). IfSome walked.found (λ f. IsPlaced engine.old.files.page_size f.place)) }
+    ensures filled { IfOk result (λ (walked, last). IfSome walked.found (λ f. IsTrue (is_filled (chain_of sought.now) f.bytes))) }
     ensures room { IfOk result (λ (walked, last). IfSome walked.room (IsPlaced engine.old.files.page_size)) }
     ensures low { IfOk result (λ (walked, last). 0 < last) }
     ensures high { IfOk result (λ (walked, last). last < 1048576) }
+    ensures sized { length page.new ≡ length page.old }
     ensures open { (t : Trail) → IsTrue H.tells → IsOpen (H.world host.old) engine.old t → IsOpen (H.world host.new) engine.new t }
     ensures same { but_pages engine.new ≡ but_pages engine.old }
     ensures quiet { Quiet (H.world host.old) (H.world host.new) }
@@ -38,5 +196,20 @@ pub(crate) fn walk<H: Host>(
     ensures cause { CountsDevice result (H.faults host.old) (H.faults host.new) }
     ensures takes_none { IfErr result (λ fault. fault ≢ Memory) }
 {
-    unreachable!()
+    let mut walked = Walked {
+        found: None,
+        room: None,
+        used: 0,
+    };
+    let mut number = sought.chain().first();
+    let mut left = engine.count();
+    while left > 0 {
+        let next = take_link(host, engine, sought, number, page, &mut walked)?;
+        if next == 0 {
+            return Ok((walked, number));
+        }
+        number = next;
+        left -= 1;
+    }
+    Err(Fault::Refused(Refusal::NotDatabase { page: number }))
 }

@@ -1,0 +1,49 @@
+-- A table or a row that was looked for: it is found, or there is none.
+use Rattle.std.proofs.Common.{◌≡◌, List, [], ◌∷◌, refl, sym, ap, ◌∙◌}
+use Rattle.std.specs.Prelude.{Bool, true, false, Option, Some, None, is_none}
+use Rattle.nb_host.specs.declared.refusals.Refusal.{Refusal}
+use Rattle.nb_model.specs.Causes.{Cause, first_cause, when}
+use Rattle.nb_model.specs.Chains.{Spot}
+use Rattle.nb_engine.proofs.CauseLaws.{first_none, first_next, first_here}
+use Rattle.nb_table.specs.declared.look.Found.{Found}
+use Rattle.nb_table.specs.Walks.{found_of, spot_of, found_at}
+
+some_same : (f g : Found) → Some f ≡ Some g → f ≡ g
+some_same f g e = cc
+
+some_none : (f : Found) → Some f ≡ None → ⊥
+some_none f e = cc
+
+-- what a walk has found, by the slot that is looked for
+pub found_some : (o : Option Spot) (f : Found) → Some f ≡ found_at o → o ≡ Some (spot_of f)
+found_some None f e = absurd (some_none f e)
+found_some (Some s) f e = ap (λ (x : Found). Some (spot_of x)) (sym (some_same f (found_of s) e))
+
+pub found_none : (o : Option Spot) → None ≡ found_at o → o ≡ None
+found_none None e = refl
+found_none (Some s) e = absurd (some_none (found_of s) (sym e))
+
+-- the refusals of a search: the chain is broken, or nothing is found
+module _ (broken : Cause) (o : Option Spot) (missing : Refusal) where
+  abbrev search_cause : Cause
+  search_cause = first_cause (broken ∷ when (is_none o) missing ∷ [])
+
+  pub search_broken : (r : Refusal) → broken ≡ Some r → search_cause ≡ Some r
+  search_broken r e = first_here broken (when (is_none o) missing ∷ []) r e
+
+  pub search_missing : broken ≡ None → o ≡ None → search_cause ≡ Some missing
+  search_missing whole none = first_next broken (when (is_none o) missing ∷ []) whole ∙ first_here (when (is_none o) missing) [] missing (ap (λ (x : Option Spot). when (is_none x) missing) none)
+
+  pub search_found : (s : Spot) → broken ≡ None → o ≡ Some s → search_cause ≡ None
+  search_found s whole some = first_next broken (when (is_none o) missing ∷ []) whole ∙ first_next (when (is_none o) missing) [] (ap (λ (x : Option Spot). when (is_none x) missing) some) ∙ first_none
+
+  -- what a search that isn't refused says
+  pub search_whole : search_cause ≡ None → broken ≡ None
+  search_whole e = by broken refl
+    where
+      clash : (r : Refusal) → Some r ≡ None → ⊥
+      clash r d = cc
+
+      by : (c : Cause) → broken ≡ c → broken ≡ None
+      by None d = d
+      by (Some r) d = absurd (clash r (sym (search_broken r d) ∙ e))

@@ -1,0 +1,168 @@
+-- What a walk has come by, and one slot more.
+use Rattle.std.proofs.Common.{◌≡◌, ◌≢◌, ℕ, zero, suc, ◌+◌, ◌<◌, ◌≤◌, List, [], ◌∷◌, ◌++◌, length, refl, sym, ap, ◌∙◌, arith}
+use Rattle.std.specs.Prelude.{Bool, true, false, ◌&&◌, ◌||◌, ◌==◌, nat_eq, min, Option, Some, None, slice_index, is_some}
+use Rattle.std.proofs.lemmas.Bool.{and_parts, eqb-true}
+use Rattle.nb_model.specs.Chains.{Chain, Slot, Spot, is_used, is_slot, is_filled, first_such, free_spot}
+use Rattle.nb_model.specs.Rows.{used}
+use Rattle.nb_model.proofs.ReadLaws.{eq_no, eq_yes, and_no_right}
+use Rattle.nb_engine.proofs.SlotLaws.{first_held, first_hit, first_miss}
+use Rattle.nb_table.specs.declared.look.Sought.{Sought}
+use Rattle.nb_table.specs.declared.look.Sought.TheVariants.{Table, Row}
+use Rattle.nb_table.specs.declared.look.Place.{Place}
+use Rattle.nb_table.specs.declared.look.Found.{Found}
+use Rattle.nb_table.specs.declared.look.Walked.{Walked}
+use Rattle.nb_table.specs.Walks.{chain_of, has, is_sought, place_of, found_of, place_at, found_at, gathered}
+
+-- which slots are of the form, by the first byte
+module _ (chain : Chain) (slot : Slot) where
+  abbrev first : ℕ
+  first = slice_index slot 0
+
+  pub slot_free : first ≡ 0 → is_slot chain slot ≡ true
+  unfolding is_slot
+  slot_free e = ap (λ (t : Bool). t || (is_used slot && is_filled chain slot)) (eq_yes first 0 e)
+
+  by_use : first ≢ 0 → is_slot chain slot ≡ (is_used slot && is_filled chain slot)
+  unfolding is_slot
+  by_use e = ap (λ (t : Bool). t || (is_used slot && is_filled chain slot)) (eq_no first 0 e)
+
+  pub slot_used : first ≡ 1 → is_slot chain slot ≡ is_filled chain slot
+  slot_used e = by_use (λ d. absurd (omega (arith, d, e))) ∙ ap (λ (t : Bool). t && is_filled chain slot) (eq_yes first 1 e)
+
+  pub slot_other : first ≢ 0 → first ≢ 1 → is_slot chain slot ≡ false
+  slot_other no_zero no_one = by_use no_zero ∙ ap (λ (t : Bool). t && is_filled chain slot) (eq_no first 1 no_one)
+
+  -- a slot of the form that isn't free is used
+  pub used_of : is_slot chain slot ≡ true → first ≢ 0 → is_used slot ≡ true
+  used_of form e = (and_parts (is_used slot) (is_filled chain slot) (sym (by_use e) ∙ form)).0
+
+  pub filled_of : is_slot chain slot ≡ true → first ≢ 0 → is_filled chain slot ≡ true
+  filled_of form e = (and_parts (is_used slot) (is_filled chain slot) (sym (by_use e) ∙ form)).1
+
+sought_is : (sought : Sought) (slot : Slot) → is_sought sought slot ≡ (is_used slot && has sought slot)
+sought_is (Table name) slot = refl
+sought_is (Row first key) slot = refl
+
+-- the used slots, and one more
+used_more : (ss : List Spot) (s : Spot) → length (used (ss ++ s ∷ [])) ≡ length (used ss) + length (used (s ∷ []))
+unfolding used
+used_more [] s = refl
+used_more (x ∷ xs) s = by (used_more xs s) (is_used x.bytes)
+  where
+    by : length (used (xs ++ s ∷ [])) ≡ length (used xs) + length (used (s ∷ [])) → (t : Bool) → length (elim t as (λ z. List Spot) [ true ↦ x ∷ used (xs ++ s ∷ []) | false ↦ used (xs ++ s ∷ []) ]) ≡ length (elim t as (λ z. List Spot) [ true ↦ x ∷ used xs | false ↦ used xs ]) + length (used (s ∷ []))
+    by rest true = omega (arith, rest)
+    by rest false = rest
+
+used_one : (s : Spot) → is_used s.bytes ≡ true → length (used (s ∷ [])) ≡ 1
+unfolding used
+used_one s e = ap (λ (t : Bool). length (elim t as (λ z. List Spot) [ true ↦ s ∷ [] | false ↦ [] ])) e
+
+used_not : (s : Spot) → is_used s.bytes ≡ false → length (used (s ∷ [])) ≡ 0
+unfolding used
+used_not s e = ap (λ (t : Bool). length (elim t as (λ z. List Spot) [ true ↦ s ∷ [] | false ↦ [] ])) e
+
+-- The first that passes a test, as a walk holds it, and one slot more.
+module _ {A : Type 0} (at : Option Spot → Option A) (test : Spot → Bool) (ss : List Spot) (s : Spot) (held : Option A) (is : held ≡ at (first_such test ss)) (none : is_some (at None) ≡ false) (some : (x : Spot) → is_some (at (Some x)) ≡ true) where
+  true_false : true ≡ false → ⊥
+  true_false d = cc
+
+  none_yet : is_some held ≡ false → first_such test ss ≡ None
+  none_yet e = by (first_such test ss) refl
+    where
+      by : (o : Option Spot) → first_such test ss ≡ o → first_such test ss ≡ None
+      by None d = d
+      by (Some y) d = absurd (true_false (sym (ap is_some is ∙ ap (λ (x : Option Spot). is_some (at x)) d ∙ some y) ∙ e))
+
+  pub stays : is_some held ≡ true → held ≡ at (first_such test (ss ++ s ∷ []))
+  stays e = by (first_such test ss) refl
+    where
+      by : (o : Option Spot) → first_such test ss ≡ o → held ≡ at (first_such test (ss ++ s ∷ []))
+      by (Some y) d = is ∙ ap at (d ∙ sym (first_held test s ss y d))
+      by None d = absurd (true_false (sym e ∙ ap is_some is ∙ ap (λ (x : Option Spot). is_some (at x)) d ∙ none))
+
+  pub misses : test s ≡ false → held ≡ at (first_such test (ss ++ s ∷ []))
+  misses e = is ∙ ap at (sym (first_miss test s ss e))
+
+  pub hits : is_some held ≡ false → test s ≡ true → at (Some s) ≡ at (first_such test (ss ++ s ∷ []))
+  hits first e = sym (ap at (first_hit test s ss (none_yet first) e))
+
+abbrev pub walked_of : Option Found → Option Place → ℕ → Walked
+walked_of found room used = record { found = found; room = room; used = used }
+
+three : (a b : Option Found) (c d : Option Place) (m n : ℕ) → a ≡ b → c ≡ d → m ≡ n → walked_of a c m ≡ walked_of b d n
+three a b c d m n e f g = ap (λ (x : Option Found). walked_of x c m) e ∙ ap (λ (x : Option Place). walked_of b x m) f ∙ ap (walked_of b d) g
+
+module _ (sought : Sought) (ss : List Spot) (s : Spot) (old : Walked) (is : old ≡ gathered sought ss) where
+  abbrev wanted : Spot → Bool
+  wanted x = is_sought sought x.bytes
+
+  abbrev unused : Spot → Bool
+  unused x = nat_eq (slice_index x.bytes 0) 0
+
+  abbrev more : List Spot
+  more = ss ++ s ∷ []
+
+  found_is : old.found ≡ found_at (first_such wanted ss)
+  found_is = ap (λ (x : Walked). x.found) is
+
+  room_is : old.room ≡ place_at (first_such unused ss)
+  unfolding free_spot
+  room_is = ap (λ (x : Walked). x.room) is
+
+  used_is : old.used ≡ min 12 (length (used ss))
+  used_is = ap (λ (x : Walked). x.used) is
+
+  -- a free slot
+  module _ (free : slice_index s.bytes 0 ≡ 0) where
+    not_used : is_used s.bytes ≡ false
+    not_used = eq_no (slice_index s.bytes 0) 1 (λ e. absurd (omega (arith, e, free)))
+
+    used_same : old.used ≡ min 12 (length (used more))
+    used_same = used_is ∙ ap (min 12) (let a = used_more ss s in let b = used_not s not_used in let c : length (used ss) ≡ length (used more) = omega (arith, a, b) in c)
+
+    found_same : old.found ≡ found_at (first_such wanted more)
+    found_same = misses found_at wanted ss s old.found found_is refl (λ x. refl) (sought_is sought s.bytes ∙ ap (λ (t : Bool). t && has sought s.bytes) not_used)
+
+    pub free_first : is_some old.room ≡ false → walked_of old.found (Some (place_of s)) old.used ≡ gathered sought more
+    unfolding free_spot
+    free_first none = three _ _ _ _ _ _ found_same (hits place_at unused ss s old.room room_is refl (λ x. refl) none (eq_yes (slice_index s.bytes 0) 0 free)) used_same
+
+    pub free_more : is_some old.room ≡ true → old ≡ gathered sought more
+    unfolding free_spot
+    free_more some = three _ _ _ _ _ _ found_same (stays place_at unused ss s old.room room_is refl (λ x. refl) some) used_same
+
+  -- a used one
+  module _ (is_one : is_used s.bytes ≡ true) where
+    not_free : slice_index s.bytes 0 ≢ 0
+    not_free e = absurd (omega (arith, eqb-true (slice_index s.bytes 0) 1 is_one, e))
+
+    room_same : old.room ≡ place_at (free_spot more)
+    unfolding free_spot
+    room_same = misses place_at unused ss s old.room room_is refl (λ x. refl) (eq_no (slice_index s.bytes 0) 0 not_free)
+
+    wanted_is : wanted s ≡ has sought s.bytes
+    wanted_is = sought_is sought s.bytes ∙ ap (λ (t : Bool). t && has sought s.bytes) is_one
+
+    -- how many are used then
+    pub UsedMore : ℕ → Type 0
+    UsedMore n = n ≡ min 12 (length (used more))
+
+    pub counted : old.used < 12 → UsedMore (old.used + 1)
+    counted few = (let a = used_more ss s in let b = used_one s is_one in let e = used_is in omega (arith, a, b, e, few))
+
+    pub counted_all : 12 ≤ old.used → UsedMore old.used
+    counted_all many = (let a = used_more ss s in let b = used_one s is_one in let e = used_is in omega (arith, a, b, e, many))
+
+    pub used_hit : (n : ℕ) → UsedMore n → is_some old.found ≡ false → has sought s.bytes ≡ true → walked_of (Some (found_of s)) old.room n ≡ gathered sought more
+    used_hit n count none e = three _ _ _ _ _ _ (hits found_at wanted ss s old.found found_is refl (λ x. refl) none (wanted_is ∙ e)) room_same count
+
+    pub used_miss : (n : ℕ) → UsedMore n → has sought s.bytes ≡ false → walked_of old.found old.room n ≡ gathered sought more
+    used_miss n count e = three _ _ _ _ _ _ (misses found_at wanted ss s old.found found_is refl (λ x. refl) (wanted_is ∙ e)) room_same count
+
+    pub used_more_of : (n : ℕ) → UsedMore n → is_some old.found ≡ true → walked_of old.found old.room n ≡ gathered sought more
+    used_more_of n count some = three _ _ _ _ _ _ (stays found_at wanted ss s old.found found_is refl (λ x. refl) some) room_same count
+
+-- nothing was come by yet
+pub gathered_none : (sought : Sought) → walked_of None None 0 ≡ gathered sought []
+unfolding first_such free_spot used
+gathered_none sought = refl

@@ -1,0 +1,110 @@
+-- Slots are written field by field, and read.
+use Rattle.std.proofs.Common.{◌≡◌, inl, inr, ℕ, ◌+◌, ◌<◌, ◌≤◌, ◌-◌, List, [], ◌∷◌, ◌++◌, length, replicate, refl, ap, ◌∙◌, arith, append_assoc, length-append}
+use Rattle.std.specs.Prelude.{IsTrue, Bool, true, false, ◌&&◌, ◌||◌, ◌==◌, nat_lt, nat_le, slice_index}
+use Rattle.std.specs.List.{list_all}
+use Rattle.std.specs.Str.{IsAscii, IsUtf8}
+use Rattle.std.proofs.lemmas.Bool.{and_parts, or_cases, leb-true, eqb-true, cases_Bool, cases_lt}
+use Rattle.std.proofs.lemmas.List.{get_or_past}
+use Rattle.std.proofs.lemmas.List.Sums.{AllPass-from_list_all}
+use Rattle.std.proofs.lemmas.Str.{IsUtf8-from_ascii}
+use Rattle.nb_fields.specs.Bytes.{bytes_of, with_part, padded}
+use Rattle.nb_fields.proofs.NumberLemmas.{length-bytes_of}
+use Rattle.nb_fields.proofs.PageLemmas.{with_part-padded, with_part-padded_next}
+use Rattle.nb_model.specs.TableNames.{is_table_name, is_table_byte, is_letter}
+use Rattle.nb_model.specs.Chains.{row_slot, table_slot}
+
+zeros_are : replicate 256 0 ≡ padded 256 []
+unfolding padded
+zeros_are = refl
+
+-- bytes are written behind a gap
+with_gap : (at gap : ℕ) (bytes front : List ℕ) → length front + gap ≡ at → at + length bytes ≤ 256 → with_part at bytes (padded 256 front) ≡ padded 256 (front ++ (replicate gap 0 ++ bytes))
+with_gap at gap bytes front place room =
+    with_part-padded 256 at bytes front (omega (arith, place)) room ∙ ap (λ (n : ℕ). padded 256 (front ++ (replicate n 0 ++ bytes))) (let e : at - length front ≡ gap = omega (arith, place) in e)
+
+-- a used slot, and the length of its text
+used_part : (d rest : List ℕ) → (bytes_of 1 1 ++ (replicate 1 0 ++ d)) ++ rest ≡ 1 ∷ 0 ∷ (d ++ rest)
+unfolding bytes_of
+used_part d rest = refl
+
+module _ (d : List ℕ) (dl : length d ≡ 2) where
+  abbrev x4 : List ℕ
+  x4 = bytes_of 1 1 ++ (replicate 1 0 ++ d)
+
+  l4 : length x4 ≡ 4
+  l4 = omega (arith, length-append (bytes_of 1 1) (replicate 1 0 ++ d), length-bytes_of 1 1, length-append (replicate 1 0) d, dl)
+
+  front : with_part 2 d (with_part 0 (bytes_of 1 1) (replicate 256 0)) ≡ padded 256 x4
+  front =
+      let one : length (bytes_of 1 1) ≡ 1 = length-bytes_of 1 1 in
+      ap (λ (x : List ℕ). with_part 2 d (with_part 0 (bytes_of 1 1) x)) zeros_are ∙ ap (with_part 2 d) (with_part-padded_next 256 0 (bytes_of 1 1) [] refl (omega (arith, one))) ∙ with_gap 2 1 d (bytes_of 1 1) (omega (arith, one)) (omega (arith, dl))
+
+-- the slot of a row
+pub row_written : (key : ℕ) (text : List ℕ) → length text ≤ 200
+    → with_part 16 text (with_part 8 (bytes_of 8 key) (with_part 2 (bytes_of 2 (length text)) (with_part 0 (bytes_of 1 1) (replicate 256 0)))) ≡ row_slot key text
+unfolding row_slot
+row_written key text short =
+    let d : List ℕ = bytes_of 2 (length text) in
+    let f : List ℕ = bytes_of 8 key in
+    let dl : length d ≡ 2 = length-bytes_of 2 (length text) in
+    let fl : length f ≡ 8 = length-bytes_of 8 key in
+    let gap : List ℕ = replicate 4 0 in
+    let y4 : List ℕ = x4 d dl in
+    let l : length y4 ≡ 4 = l4 d dl in
+    let y16 : List ℕ = y4 ++ (gap ++ f) in
+    let l16 : length y16 ≡ 16 = omega (arith, length-append y4 (gap ++ f), l, length-append gap f, fl) in
+    let grouped : y16 ++ text ≡ y4 ++ (gap ++ (f ++ text)) = append_assoc y4 (gap ++ f) text ∙ ap (λ (xs : List ℕ). y4 ++ xs) (append_assoc gap f text) in
+    ap (λ (x : List ℕ). with_part 16 text (with_part 8 f x)) (front d dl) ∙ ap (with_part 16 text) (with_gap 8 4 f y4 (omega (arith, l)) (omega (arith, fl)))
+    ∙ with_part-padded_next 256 16 text y16 l16 (omega (arith, short)) ∙ ap (padded 256) (grouped ∙ used_part d (gap ++ (f ++ text)))
+
+-- the slot of a table
+pub table_written : (name : List ℕ) (first : ℕ) → length name ≤ 30
+    → with_part 16 name (with_part 4 (bytes_of 4 first) (with_part 2 (bytes_of 2 (length name)) (with_part 0 (bytes_of 1 1) (replicate 256 0)))) ≡ table_slot name first
+unfolding table_slot
+table_written name first short =
+    let d : List ℕ = bytes_of 2 (length name) in
+    let f : List ℕ = bytes_of 4 first in
+    let dl : length d ≡ 2 = length-bytes_of 2 (length name) in
+    let fl : length f ≡ 4 = length-bytes_of 4 first in
+    let gap : List ℕ = replicate 8 0 in
+    let y4 : List ℕ = x4 d dl in
+    let l : length y4 ≡ 4 = l4 d dl in
+    let y8 : List ℕ = y4 ++ f in
+    let l8 : length y8 ≡ 8 = omega (arith, length-append y4 f, l, fl) in
+    let grouped : y8 ++ (gap ++ name) ≡ y4 ++ (f ++ (gap ++ name)) = append_assoc y4 f (gap ++ name) in
+    ap (λ (x : List ℕ). with_part 16 name (with_part 4 f x)) (front d dl) ∙ ap (with_part 16 name) (with_part-padded_next 256 4 f y4 l (omega (arith, fl)))
+    ∙ with_gap 16 8 name y8 (omega (arith, l8)) (omega (arith, short)) ∙ ap (padded 256) (grouped ∙ used_part d (f ++ (gap ++ name)))
+
+-- a name of a table has at most 30 bytes
+pub name_short : (name : List ℕ) → IsTrue (is_table_name name) → length name ≤ 30
+name_short name is =
+    let a = (and_parts _ (list_all is_table_byte name) is).0 in
+    let b = (and_parts _ (is_letter (slice_index name 0)) a).0 in
+    leb-true (length name) 30 (and_parts (nat_lt 0 (length name)) (nat_le (length name) 30) b).1
+
+-- Names of tables are ASCII, so they are text.
+between : (b low high : ℕ) → high < 128 → (nat_le low b && nat_le b high) ≡ true → b < 128
+between b low high h e = omega (arith, leb-true b high (and_parts (nat_le low b) (nat_le b high) e).1, h)
+
+is : (b n : ℕ) → n < 128 → (b == n) ≡ true → b < 128
+is b n h e = omega (arith, eqb-true b n e, h)
+
+either : (p q : Bool) (b : ℕ) → (p ≡ true → b < 128) → (q ≡ true → b < 128) → (p || q) ≡ true → b < 128
+either p q b f g e = elim (or_cases p q e) [ inl h ↦ f h | inr h ↦ g h ]
+
+table_byte : (b : ℕ) → is_table_byte b ≡ true → b < 128
+table_byte b = either _ _ b (either _ _ b (either _ _ b (between b 65 90 (omega arith)) (between b 97 122 (omega arith))) (between b 48 57 (omega arith))) (is b 95 (omega arith))
+
+ascii : (bytes : List ℕ) → list_all is_table_byte bytes ≡ true → IsAscii bytes
+ascii bytes all i =
+    elim (cases_lt i (length bytes)) [
+      | inl inside ↦ table_byte (slice_index bytes i) (AllPass-from_list_all is_table_byte bytes all i 0 inside)
+      | inr past ↦ omega (arith, get_or_past bytes i 0 past)
+    ]
+
+-- what is no text is no name
+pub no_text : (bytes : List ℕ) → (IsUtf8 bytes → ⊥) → is_table_name bytes ≡ false
+no_text bytes none = elim (cases_Bool (is_table_name bytes)) [
+  | inl e ↦ absurd (none (IsUtf8-from_ascii bytes (ascii bytes (and_parts _ (list_all is_table_byte bytes) e).1)))
+  | inr e ↦ e
+]

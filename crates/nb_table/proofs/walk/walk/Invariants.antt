@@ -1,0 +1,27 @@
+use Rattle.std.proofs.Common.{◌≡◌, ◌+◌, ◌-◌, ◌<◌, ◌≤◌, length}
+use Rattle.std.specs.Prelude.{IsTrue, IfSome}
+use Rattle.nb_page.specs.Quiet.{Quiet}
+use Rattle.nb_model.specs.Chains.{is_filled}
+use Rattle.nb_model.specs.Trail.{Trail}
+use Rattle.nb_state.specs.Open.{IsOpen, but_pages}
+use Rattle.nb_table.specs.Walks.{chain_of, gathered, IsPlaced}
+use Rattle.nb_table.proofs.WalkLaws.{Walks}
+use Rattle.nb_table.proofs.walk.walk.Given as goal
+
+abbrev pub invariant-loop-left : goal.invariant-loop-left
+invariant-loop-left g l = record {
+  walks : (t : Trail) → IsTrue g.H.Host.tells → IsOpen (g.H.Host.world l.fn.host) l.fn.engine t → Walks (chain_of l.fn.sought) t.base.image (λ ss. l.walked ≡ gathered l.fn.sought ss) l.left l.number;
+  found : IfSome l.walked.found (λ f. IsPlaced l.fn.engine.files.page_size f.place);
+  filled : IfSome l.walked.found (λ f. IsTrue (is_filled (chain_of l.fn.sought) f.bytes));
+  room : IfSome l.walked.room (IsPlaced l.fn.engine.files.page_size);
+  few : l.left ≤ l.fn.engine.files.count;
+  sized : length l.page ≡ length l.fn.page;
+  opened : (t : Trail) → IsTrue g.H.Host.tells → IsOpen (g.H.Host.world l.fn.host) l.fn.engine t → IsOpen (g.H.Host.world l.host) l.engine t;
+  same : but_pages l.engine ≡ but_pages l.fn.engine;
+  quiet : Quiet (g.H.Host.world l.fn.host) (g.H.Host.world l.host);
+  once : IsTrue g.H.Host.tells → (g.H.Host.world l.host).reads ≤ (g.H.Host.world l.fn.host).reads + (l.fn.engine.files.count - l.left);
+  cause : g.H.Host.faults l.host ≡ g.H.Host.faults l.fn.host;
+}
+
+abbrev pub decreases-loop-left : goal.decreases-loop-left
+decreases-loop-left g l = l.left
