@@ -17,11 +17,7 @@ use nb_model::TableName;
 ///
 /// The refusals are `Access`, `NotDatabase` of the catalogue, `TableExists`, `TooManyTables` where there are 12, and `Full`, in this
 /// order. A refused call changes nothing.
-pub fn create<H: Host>(
-    host: &mut H,
-    engine: &mut Engine,
-    table: &TableName,
-) -> Result<(), Fault>
+pub fn create<H: Host>(host: &mut H, engine: &mut Engine, table: &TableName) -> Result<(), Fault>
     ensures turn { (s : Seen) (t : Trail) → IsTrue H.tells → t.base ≡ s.base → IsOpen (H.world host.old) engine.old t → IsSoundImage s.base.image
         → Does done result (H.world host.old) (H.world host.new) engine.old engine.new t (create_turn s table.now) }
     ensures goes { Goes engine.old engine.new }

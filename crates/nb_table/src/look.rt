@@ -61,10 +61,7 @@ pub(crate) enum Sought {
     /// The slot of that table, in the catalogue.
     Table(TableName),
     /// The slot of the row with that key, in the chain that begins with page `first`.
-    Row {
-        first: u32,
-        key: u64,
-    },
+    Row { first: u32, key: u64 },
 }
 
 impl Sought {

@@ -66,11 +66,7 @@ pub fn get<H: Host>(
 }
 
 /// Comes by one slot, which is of the form. Of two rows with one key the first stays.
-fn add_row(
-    alloc: Global,
-    rows: &mut BTreeMap<u64, Text>,
-    slot: &[u8],
-) -> Result<(), Fault>
+fn add_row(alloc: Global, rows: &mut BTreeMap<u64, Text>, slot: &[u8]) -> Result<(), Fault>
     requires size { length slot.now ≡ 256 }
     requires form { is_slot (RowsFrom 0) slot.now ≡ true }
     ensures rows { (ss : List Spot) (s : Spot) → rows.old.entries ≡ rows_in ss → s.bytes ≡ slot.now → OnOk result (rows.new.entries ≡ rows_in (ss ++ s ∷ [])) }
@@ -89,11 +85,7 @@ fn add_row(
 }
 
 /// Comes by the slots of a page, which are of the form.
-fn add_rows(
-    alloc: Global,
-    rows: &mut BTreeMap<u64, Text>,
-    page: &[u8],
-) -> Result<(), Fault>
+fn add_rows(alloc: Global, rows: &mut BTreeMap<u64, Text>, page: &[u8]) -> Result<(), Fault>
     requires size { IsTrue (is_page_size (length page.now)) }
     requires form { list_all (is_slot (RowsFrom 0)) (slots_in page.now) ≡ true }
     ensures rows { (ss : List Spot) (number : ℕ) → rows.old.entries ≡ rows_in ss → OnOk result (rows.new.entries ≡ rows_in (ss ++ spots_on number 0 (slots_in page.now))) }
