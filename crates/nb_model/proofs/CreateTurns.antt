@@ -1,12 +1,12 @@
 -- A table is created: its page is made first, and it is there once its slot stands in the catalogue.
 use Rattle.std.proofs.Common.{◌≡◌, ◌≢◌, ◌⊎◌, inr, ℕ, ◌+◌, ◌≤◌, ◌<◌, List, [], ◌++◌, length, refl, sym, ap, subst, ◌∙◌, arith}
-use Rattle.std.specs.Prelude.{true, false, None, is_some, Result, Ok, Err}
+use Rattle.std.specs.Prelude.{true, false, Option, None, is_some, Result, Ok, Err}
 use Rattle.std.specs.List.{AllByRecursion}
 use Rattle.std.proofs.lemmas.Bool.{or_parts}
 use Rattle.nb_fields.specs.Payloads.{data_payload}
 use Rattle.nb_fields.specs.Places.{is_system_place}
 use Rattle.nb_model.specs.Account.{Base}
-use Rattle.nb_model.specs.Chains.{Catalogue, History, RowsFrom, Slot, owner_in, next_in, is_slot, slots_in, pages_of, found_pages, table_spot, table_slot, place_slot}
+use Rattle.nb_model.specs.Chains.{Catalogue, History, RowsFrom, Slot, owner_in, next_in, is_slot, slots_in, Spot, pages_of, found_pages, spots_of, spots, free_spot, table_spot, table_slot, place_at, place_slot}
 use Rattle.nb_model.specs.Forms.{Draft, drafted, old_page}
 use Rattle.nb_model.specs.Image.{Page, Image, page_at, image_scn}
 use Rattle.nb_model.specs.RowChanges.{GivesRows}
@@ -21,7 +21,7 @@ use Rattle.nb_model.proofs.FitLaws.{IsWhole, Fits, fits_first, fitting_stays}
 use Rattle.nb_model.proofs.HeldAlong.{new_held_along, each_along, longer_along, both_along}
 use Rattle.nb_model.proofs.HeldChains.{KeepsEach, IsHeldIn, chains_held, chain_each, nothing_changes}
 use Rattle.nb_model.proofs.HeldLaws.{IsHeld, IsMade, new_is_made}
-use Rattle.nb_model.proofs.NeatLaws.{all_go, chains_are, same_pages, same_all, same_chains, same_table, stays_neat, other_rows, rows_of_none, ChangesChain}
+use Rattle.nb_model.proofs.NeatLaws.{all_go, chains_are, same_pages, same_all, same_chains, catalogue_same, same_table, stays_neat, other_rows, rows_of_none, ChangesChain}
 use Rattle.nb_model.proofs.NewSlots.{IsFree, free_fits, new_next, none_used}
 use Rattle.nb_model.proofs.NewSound.{new_fits}
 use Rattle.nb_model.proofs.PutSound.{header_whole}
@@ -34,7 +34,7 @@ use Rattle.nb_model.proofs.SpotKeys.{Absent}
 use Rattle.nb_model.proofs.TableCases.{new_first, created, MayCreate}
 use Rattle.nb_model.proofs.TableDrafts.{place_left}
 use Rattle.nb_model.proofs.TableTurns.{none_room}
-use Rattle.nb_model.proofs.PlaceTurns.{join_place, none_is, Made, placed}
+use Rattle.nb_model.proofs.PlaceTurns.{join_at, none_is, Made, placed}
 
 -- What the turn makes: the page, and then the slot.
 module _ (b : Base) (header : HasHeader b.image) (is : IsSoundImage b.image) (neat : IsNeat b.image) (table : List ℕ) (named : is_table_name table ≡ true) (may : MayCreate b.image table) where
@@ -56,11 +56,14 @@ module _ (b : Base) (header : HasHeader b.image) (is : IsSoundImage b.image) (ne
   abbrev ps : List ℕ
   ps = found_pages Catalogue x
 
+  abbrev room : Option Spot
+  room = free_spot (spots Catalogue x)
+
   whole : IsWhole x
   whole = header_whole x header is
 
   left : made.0.full ≡ false
-  left = place_left Catalogue ps bytes made.0 may.left
+  left = place_left Catalogue room ps bytes made.0 may.left
 
   is_new : IsNew x 5 made
   is_new = new_is_new (length x + 4) 5 (λ p. data_payload 0 p []) x whole refl none_room left
@@ -141,8 +144,14 @@ module _ (b : Base) (header : HasHeader b.image) (is : IsSoundImage b.image) (ne
   abbrev place : Image → Draft
   place z = place_slot Catalogue (found_pages Catalogue z) bytes (drafted z)
 
+  -- the place that was free is the first that is free behind the new page
+  same_room : room ≡ free_spot (spots_of m ps)
+  unfolding spots
+  same_room = ap free_spot (sym (catalogue_same x c.image neat History no_catalogue changes)) ∙ ap (λ (qs : List ℕ). free_spot (spots_of c.image qs)) pages_then ∙ ap (λ (z : Image). free_spot (spots_of z ps)) mid
+
   joins : created x table ≡ joined made.0 (place_slot Catalogue ps bytes (drafted m))
-  joins = join_place Catalogue ps bytes made.0
+  unfolding place_slot
+  joins = join_at Catalogue room ps bytes made.0 ∙ ap (λ (o : Option Spot). joined made.0 (place_at Catalogue o ps bytes (drafted m))) same_room
 
   full : (place_slot Catalogue ps bytes (drafted m)).full ≡ false
   full = (or_parts (place_slot Catalogue ps bytes (drafted m)).full made.0.full (ap (λ (d : Draft). d.full) (sym joins) ∙ may.left)).0

@@ -4,7 +4,7 @@ use Rattle.std.specs.Prelude.{Bool, Option, Some, None, true, false, ◌==◌, n
 use Rattle.nb_fields.specs.Places.{is_system_place}
 use Rattle.nb_model.specs.Image.{Page, Image, image_size, image_scn, with_page}
 use Rattle.nb_model.specs.Account.{Base}
-use Rattle.nb_model.specs.Chains.{Chain, Slot, Spot, spots_of, free_spot, put_slot, last_of, grown, place_slot}
+use Rattle.nb_model.specs.Chains.{Chain, Slot, Spot, spots_of, free_spot, put_slot, last_of, grown, place_at, place_slot}
 use Rattle.nb_model.specs.Tables.{all_given}
 use Rattle.nb_model.specs.Strokes.{page, base_after, on_base, merged_page}
 use Rattle.nb_model.specs.Forms.{Draft, drafted, wrote, written, needs, is_kind, has_entry, scn_entry, entry_written, entry_raised, raised, put, set_bit, give_page, lowest_free, needs_inventories, searched, system_kind, system_page, no_page, new_within}
@@ -80,13 +80,13 @@ module _ (P : Draft → Type 0) (kept : IsKept P) where
   unfolding grown
   grown_keeps chain pages bytes d h = put_keeps P kept (last_of pages) 5 _ _ (new_keeps P kept _ 5 _ d h)
 
+  pub at_keeps : (chain : Chain) (room : Option Spot) (pages : List ℕ) (bytes : Slot) (d : Draft) → P d → P (place_at chain room pages bytes d)
+  at_keeps chain (Some s) pages bytes d h = slot_keeps s.page s.slot bytes d h
+  at_keeps chain None pages bytes d h = grown_keeps chain pages bytes d h
+
   pub place_keeps : (chain : Chain) (pages : List ℕ) (bytes : Slot) (d : Draft) → P d → P (place_slot chain pages bytes d)
   unfolding place_slot
-  place_keeps chain pages bytes d h = by (free_spot (spots_of d.image pages))
-    where
-      by : (o : Option Spot) → P (elim o as (λ z. Draft) [ Some s ↦ put_slot s.page s.slot bytes d | None ↦ (grown chain pages bytes d).0 ])
-      by (Some s) = slot_keeps s.page s.slot bytes d h
-      by None = grown_keeps chain pages bytes d h
+  place_keeps chain pages bytes d h = at_keeps chain (free_spot (spots_of d.image pages)) pages bytes d h
 
   pub given_keeps : (ps : List ℕ) (d : Draft) → P d → P (all_given ps d)
   unfolding all_given

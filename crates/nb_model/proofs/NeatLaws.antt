@@ -225,7 +225,7 @@ same_all x y [] all = refl
 same_all x y (c ∷ cs) all = ap (λ (ps : List ℕ). found_pages c y ++ ps) (same_all x y cs all.1) ∙ ap (λ (r : Result (List ℕ) ℕ). elim r as (λ z. List ℕ) [ Ok ps ↦ ps | Err p ↦ [] ] ++ pages_of_all x cs) all.0
 
 module _ (x y : Image) (neat : IsNeat x) (changed : Chain) (rows_chain : Catalogue ≢ changed) (changes : ChangesChain changed x y) where
-  catalogue_same : spots Catalogue y ≡ spots Catalogue x
+  pub catalogue_same : spots Catalogue y ≡ spots Catalogue x
   catalogue_same = first (subst (AllByRecursion (λ c. (c ≡ changed) ⊎ (spots c y ≡ spots c x))) (chains_are x) changes.others).0
     where
       first : (Catalogue ≡ changed) ⊎ (spots Catalogue y ≡ spots Catalogue x) → spots Catalogue y ≡ spots Catalogue x

@@ -10,7 +10,7 @@ use Rattle.nb_fields.specs.Payloads.{data_payload}
 use Rattle.nb_host.specs.Names.{same_name}
 use Rattle.nb_model.specs.Account.{Base}
 use Rattle.nb_model.specs.Causes.{broken_at}
-use Rattle.nb_model.specs.Chains.{Chain, Catalogue, History, RowsFrom, Slot, Spot, owner_of, next_in, is_slot, is_used, table_of, first_in, slots_in, first_such, free_spot, walk, pages_of, found_pages, spots_of, spots, table_spot, table_slot, put_slot, last_of, grown, place_slot}
+use Rattle.nb_model.specs.Chains.{Chain, Catalogue, History, RowsFrom, Slot, Spot, owner_of, next_in, is_slot, is_used, table_of, first_in, slots_in, first_such, free_spot, walk, pages_of, found_pages, spots_of, spots, table_spot, table_slot, put_slot, last_of, grown, place_at, place_slot}
 use Rattle.nb_model.specs.Forms.{Draft, drafted, put, raised, new_page}
 use Rattle.nb_model.specs.Image.{Page, Image, page_at}
 use Rattle.nb_model.specs.RowChanges.{GivesRows}
@@ -56,13 +56,10 @@ join_grown chain ps bytes d =
     ap (λ (n : Draft × ℕ). put (last_of ps) 5 (drop 16 (with_part 16 (bytes_of 4 n.1) (page_at n.0.image (last_of ps)))) n.0) (join_new (length d.image + 4) 5 (λ p. data_payload 0 (owner_of chain) bytes) d)
     ∙ join_put (last_of ps) 5 link (joined d made.0) ∙ joined_grouped d made.0 (put (last_of ps) 5 link (drafted made.0.image)) ∙ ap (joined d) (sym (join_put (last_of ps) 5 link made.0))
 
-pub join_place : (chain : Chain) (ps : List ℕ) (bytes : Slot) → Joins (place_slot chain ps bytes)
-unfolding place_slot put_slot grown
-join_place chain ps bytes d = by (free_spot (spots_of d.image ps))
-  where
-    by : (o : Option Spot) → (elim o as (λ z. Draft) [ Some s ↦ put_slot s.page s.slot bytes d | None ↦ (grown chain ps bytes d).0 ]) ≡ joined d (elim o as (λ z. Draft) [ Some s ↦ put_slot s.page s.slot bytes (drafted d.image) | None ↦ (grown chain ps bytes (drafted d.image)).0 ])
-    by (Some s) = join_put s.page 5 (drop 16 (with_part (32 + 256 * s.slot) bytes (page_at d.image s.page))) d
-    by None = join_grown chain ps bytes d
+pub join_at : (chain : Chain) (room : Option Spot) (ps : List ℕ) (bytes : Slot) → Joins (place_at chain room ps bytes)
+unfolding put_slot grown
+join_at chain (Some s) ps bytes d = join_put s.page 5 (drop 16 (with_part (32 + 256 * s.slot) bytes (page_at d.image s.page))) d
+join_at chain None ps bytes d = join_grown chain ps bytes d
 
 -- a spot that is found is among them
 such_among : (s : Spot) (free : is_used s.bytes ≡ false) (f : Spot → Spot) (filled : is_used (f s).bytes ≡ true) (test : Spot → Bool) (xs : List Spot) → first_such test xs ≡ Some s → Among f s free filled xs

@@ -16,7 +16,7 @@ use Rattle.nb_fields.specs.Payloads.{data_payload}
 use Rattle.nb_model.specs.Strokes.{base_after}
 use Rattle.nb_model.specs.TableNames.{is_table_name}
 use Rattle.nb_model.specs.Turns.{first_turn}
-use Rattle.nb_model.proofs.DraftLaws.{IsOf, drafts_are, drafted_is, new_keeps, slot_keeps, place_keeps, given_keeps}
+use Rattle.nb_model.proofs.DraftLaws.{IsOf, drafts_are, drafted_is, new_keeps, slot_keeps, at_keeps, place_keeps, given_keeps}
 use Rattle.nb_model.proofs.DropTurns.{drop_turn_rows, drop_gone}
 use Rattle.nb_model.proofs.CreateTurns.{create_turn_rows, create_there}
 use Rattle.nb_model.proofs.GrowthTurns.{grown_turn}
@@ -123,7 +123,7 @@ drop_there s session table header is neat = drop_either (λ o. o.reply ≡ Some 
 
 -- A table that is created has no rows, and the catalogue has it then.
 created_is : (s : Seen) (table : List ℕ) → IsOf s.base (created s.base.image table)
-created_is s table = place_keeps (IsOf s.base) (drafts_are s.base) Catalogue (found_pages Catalogue s.base.image) (table_slot table (new_first s.base.image).1) (new_first s.base.image).0
+created_is s table = at_keeps (IsOf s.base) (drafts_are s.base) Catalogue (free_spot (spots Catalogue s.base.image)) (found_pages Catalogue s.base.image) (table_slot table (new_first s.base.image).1) (new_first s.base.image).0
     (new_keeps (IsOf s.base) (drafts_are s.base) (length s.base.image + 4) 5 (λ p. data_payload 0 p []) (drafted s.base.image) (drafted_is s.base))
 
 pub create_rows : (s : Seen) (session : ℕ) (table : List ℕ) → HasHeader s.base.image → IsSoundImage s.base.image → IsNeat s.base.image → is_table_name table ≡ true → (first_turn s session (CreateTable table)).reply ≡ Some Done

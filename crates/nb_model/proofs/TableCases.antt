@@ -6,7 +6,7 @@ use Rattle.nb_host.specs.declared.refusals.Refusal.TheVariants.{TableExists, Key
 use Rattle.nb_model.specs.declared.reply.Reply.{Reply}
 use Rattle.nb_model.specs.declared.reply.Reply.TheVariants.{Done, Value, Rows}
 use Rattle.nb_model.specs.Causes.{Cause, first_cause, when, read_only, too_long, broken_at, not_of_form, no_room}
-use Rattle.nb_model.specs.Chains.{Chain, Catalogue, RowsFrom, Slot, Spot, spots, pages_of, found_pages, table_spot, row_spot, first_in, text_in, row_slot, table_slot, free_slot, put_slot, place_slot}
+use Rattle.nb_model.specs.Chains.{Chain, Catalogue, RowsFrom, Slot, Spot, spots, pages_of, found_pages, table_spot, row_spot, first_in, text_in, row_slot, table_slot, free_slot, free_spot, put_slot, place_at, place_slot}
 use Rattle.nb_model.specs.Forms.{Draft, drafted, new_page}
 use Rattle.nb_model.specs.Image.{Image, is_read_only}
 use Rattle.nb_model.specs.Outcomes.{Seen, Outcome, says, changes}
@@ -65,7 +65,7 @@ abbrev pub new_first : Image → Draft × ℕ
 new_first image = new_page 5 (λ p. data_payload 0 p []) (drafted image)
 
 abbrev pub created : Image → (table : List ℕ) → Draft
-created image table = place_slot Catalogue (found_pages Catalogue image) (table_slot table (new_first image).1) (new_first image).0
+created image table = place_at Catalogue (free_spot (spots Catalogue image)) (found_pages Catalogue image) (table_slot table (new_first image).1) (new_first image).0
 
 pub record MayCreate (image : Image) (table : List ℕ) : Type 0 where
   pub may : is_read_only image ≡ false

@@ -13,7 +13,7 @@ use Rattle.nb_fields.proofs.NumberLemmas.{length-bytes_of}
 use Rattle.nb_fields.proofs.PartLemmas.{length-with_part}
 use Rattle.nb_fields.proofs.SizeLemmas.{SizeFacts, size_facts}
 use Rattle.nb_model.specs.Account.{Base, base_of}
-use Rattle.nb_model.specs.Chains.{Chain, Slot, Spot, owner_of, owner_in, spots_of, free_spot, put_slot, last_of, grown, place_slot}
+use Rattle.nb_model.specs.Chains.{Chain, Slot, Spot, owner_of, owner_in, spots_of, free_spot, put_slot, last_of, grown, place_at, place_slot}
 use Rattle.nb_model.specs.Forms.{Draft, drafted, old_page, put, with_bit, set_bit, give_page, inventory_of, bit_number, new_within, new_page}
 use Rattle.nb_model.specs.Image.{Page, Image, page_at, image_size, image_scn}
 use Rattle.nb_model.specs.Tables.{all_given}
@@ -279,19 +279,16 @@ module _ (b : Base) (d : Draft) (k : Keeps b d) where
       (λ e. page.owner (sym (ap (λ (x : Page). owner_in (stamped x 5 payload (image_scn d.image) p)) (old_there d.image p page.below) ∙ linked_owner old next (image_scn d.image) p (omega (arith, size.at_least, old_long))) ∙ e))
 
 -- where a page was left for all, it was left before
-pub place_left : (chain : Chain) (pages : List ℕ) (bytes : Slot) (d : Draft) → (place_slot chain pages bytes d).full ≡ false → d.full ≡ false
-unfolding place_slot put_slot grown
-place_left chain pages bytes d left = by (free_spot (spots_of d.image pages)) left
+pub place_left : (chain : Chain) (room : Option Spot) (pages : List ℕ) (bytes : Slot) (d : Draft) → (place_at chain room pages bytes d).full ≡ false → d.full ≡ false
+unfolding put_slot grown
+place_left chain (Some s) pages bytes d left = put_full s.page 5 (drop 16 (with_part (32 + 256 * s.slot) bytes (page_at d.image s.page))) d left
+place_left chain None pages bytes d left = new_left (put_full (last_of pages) 5 (drop 16 (with_part 16 (bytes_of 4 made.1) (page_at made.0.image (last_of pages)))) made.0 left)
   where
     made : Draft × ℕ
     made = new_page 5 (λ p. data_payload 0 (owner_of chain) bytes) d
 
-    by : (o : Option Spot) → (elim o as (λ z. Draft) [ Some s ↦ put_slot s.page s.slot bytes d | None ↦ (grown chain pages bytes d).0 ]).full ≡ false → d.full ≡ false
-    by (Some s) left = put_full s.page 5 (drop 16 (with_part (32 + 256 * s.slot) bytes (page_at d.image s.page))) d left
-    by None left = new_left (put_full (last_of pages) 5 (drop 16 (with_part 16 (bytes_of 4 made.1) (page_at made.0.image (last_of pages)))) made.0 left)
-      where
-        new_left : made.0.full ≡ false → d.full ≡ false
-        new_left left = (or_parts _ d.full (ap (λ (x : Draft × ℕ). x.0.full) (sym (join_new (length d.image + 4) 5 (λ p. data_payload 0 (owner_of chain) bytes) d)) ∙ left)).1
+    new_left : made.0.full ≡ false → d.full ≡ false
+    new_left left = (or_parts _ d.full (ap (λ (x : Draft × ℕ). x.0.full) (sym (join_new (length d.image + 4) 5 (λ p. data_payload 0 (owner_of chain) bytes) d)) ∙ left)).1
 
 -- A slot is placed: where the pages have no room, on a page more.
 module _ (b : Base) (d : Draft) (k : Keeps b d) (chain : Chain) (pages : List ℕ) (bytes : Slot) (long : length bytes ≡ 256) (other : owner_of chain ≢ 1) (small : owner_of chain < 4294967296)
@@ -315,16 +312,19 @@ module _ (b : Base) (d : Draft) (k : Keeps b d) (chain : Chain) (pages : List �
       let one : GoesToNew b d k made = made_goes (put_full last 5 (drop 16 (with_part 16 (bytes_of 4 made.1) (page_at made.0.image last))) made.0 left) in
       goes_both b d made.0 _ one.goes (goes_link b made.0 one.goes.keeps last made.1 (last_of_all (IsTablePage made.0.image) pages some (all_pages b d made.0 pages one.goes each)))
 
+  -- at a place that is in its page
+  pub goes_at : (room : Option Spot) → ((s : Spot) → room ≡ Some s → IsTablePage d.image s.page × (256 * s.slot + 288 ≤ image_size d.image)) → (place_at chain room pages bytes d).full ≡ false → Goes b d (place_at chain room pages bytes d)
+  goes_at (Some s) within left = let here = within s refl in goes_slot b d k s.page s.slot bytes here.0 here.1 long
+  goes_at None within left = goes_grown left
+
   pub goes_place : (place_slot chain pages bytes d).full ≡ false → Goes b d (place_slot chain pages bytes d)
   unfolding place_slot
-  goes_place left = by (free_spot (spots_of d.image pages)) refl left
+  goes_place left = goes_at (free_spot (spots_of d.image pages)) within left
     where
-      by : (o : Option Spot) → free_spot (spots_of d.image pages) ≡ o → (elim o as (λ z. Draft) [ Some s ↦ put_slot s.page s.slot bytes d | None ↦ (grown chain pages bytes d).0 ]).full ≡ false
-          → Goes b d (elim o as (λ z. Draft) [ Some s ↦ put_slot s.page s.slot bytes d | None ↦ (grown chain pages bytes d).0 ])
-      by (Some s) found left =
+      within : (s : Spot) → free_spot (spots_of d.image pages) ≡ Some s → IsTablePage d.image s.page × (256 * s.slot + 288 ≤ image_size d.image)
+      within s found =
           let on : IsSpotOn (IsTablePage d.image) d.image s = free_on (IsTablePage d.image) d.image pages s each found in
-          goes_slot b d k s.page s.slot bytes on.page (spot_within d.image s.page s.slot (page_long b d k s.page on.page.below) on.within) long
-      by None found left = goes_grown left
+          (on.page, spot_within d.image s.page s.slot (page_long b d k s.page on.page.below) on.within)
 
 -- Pages are given back, one after the other.
 pub goes_given : (b : Base) (ps : List ℕ) (d : Draft) → Keeps b d → AllByRecursion (IsTablePage d.image) ps → Goes b d (all_given ps d)

@@ -7,7 +7,7 @@ use Rattle.nb_model.specs.Forms.{Draft, drafted}
 use Rattle.nb_model.specs.Image.{Image}
 use Rattle.nb_model.specs.Outcomes.{Seen, says}
 use Rattle.nb_model.specs.Tables.{create_turn, drop_turn, insert_turn, update_turn, delete_turn, get_turn, scan_turn}
-use Rattle.nb_model.proofs.DraftLaws.{new_keeps, slot_keeps, place_keeps, given_keeps}
+use Rattle.nb_model.proofs.DraftLaws.{new_keeps, slot_keeps, at_keeps, place_keeps, given_keeps}
 use Rattle.nb_model.proofs.NormalLaws.{HasPages, forms_have_pages}
 use Rattle.nb_model.proofs.OpeningLaws.{WritesPages}
 use Rattle.nb_model.proofs.TableCases.{chain_at, create_either, drop_either, insert_either, update_either, delete_either, get_either, scan_either}
@@ -33,7 +33,7 @@ module _ (s : Seen) where
   slot_paged p slot bytes = slot_keeps HasPages forms_have_pages p slot bytes (drafted image) first
 
   pub create_paged : (table : List ℕ) → WritesPages (create_turn s table)
-  create_paged table = create_either WritesPages s denied table (λ may. draft_paged _ _ (place_keeps HasPages forms_have_pages _ _ _ _ (new_keeps HasPages forms_have_pages _ 5 _ (drafted image) first)))
+  create_paged table = create_either WritesPages s denied table (λ may. draft_paged _ _ (at_keeps HasPages forms_have_pages _ _ _ _ _ (new_keeps HasPages forms_have_pages _ 5 _ (drafted image) first)))
 
   pub drop_paged : (table : List ℕ) → WritesPages (drop_turn s table)
   drop_paged table = drop_either WritesPages s denied table (λ spot may. draft_paged _ _ (given_keeps HasPages forms_have_pages (found_pages (chain_at spot) image) _ (slot_paged spot.page spot.slot free_slot)))

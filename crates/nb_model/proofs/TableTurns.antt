@@ -14,7 +14,7 @@ use Rattle.nb_model.specs.declared.reply.Reply.{Reply}
 use Rattle.nb_model.specs.declared.reply.Reply.TheVariants.{Done}
 use Rattle.nb_model.specs.Account.{Base}
 use Rattle.nb_model.specs.Causes.{broken_at}
-use Rattle.nb_model.specs.Chains.{Chain, Catalogue, RowsFrom, Slot, Spot, owner_of, owner_in, first_in, is_in_chain, pages_of, found_pages, spots, spots_of, first_such, table_spot, row_spot, row_slot, table_slot, free_slot, put_slot}
+use Rattle.nb_model.specs.Chains.{Chain, Catalogue, RowsFrom, Slot, Spot, owner_of, owner_in, first_in, is_in_chain, pages_of, found_pages, spots, spots_of, first_such, free_spot, table_spot, row_spot, row_slot, table_slot, free_slot, put_slot}
 use Rattle.nb_model.specs.Forms.{Draft, drafted}
 use Rattle.nb_model.specs.Image.{Page, Image, image_size}
 use Rattle.nb_model.specs.Outcomes.{Seen, Outcome, says}
@@ -22,7 +22,7 @@ use Rattle.nb_model.specs.Sound.{HasHeader, IsSoundImage}
 use Rattle.nb_model.specs.Strokes.{base_after}
 use Rattle.nb_model.specs.TableNames.{is_table_name}
 use Rattle.nb_model.specs.Tables.{create_turn, drop_turn, insert_turn, update_turn, delete_turn, get_turn, scan_turn}
-use Rattle.nb_model.proofs.FitLaws.{IsWhole, AreFitting}
+use Rattle.nb_model.proofs.FitLaws.{IsWhole, AreFitting, fitting_stays}
 use Rattle.nb_model.proofs.HeldLaws.{IsHeld, IsOfHistory}
 use Rattle.nb_model.proofs.NoRows.{HasNoRows}
 use Rattle.nb_model.proofs.PutSound.{header_whole}
@@ -31,7 +31,7 @@ use Rattle.nb_model.proofs.SlotLaws.{new_owner}
 use Rattle.nb_model.proofs.SoundLaws.{all_at, inventory_there}
 use Rattle.nb_model.proofs.SpotLaws.{IsSpotOn, all_on, spot_within}
 use Rattle.nb_model.proofs.TableCases.{HasTable, chain_at, new_first, created, MayCreate, dropped, inserted, row_written, MayPut, create_either, drop_either, insert_either, update_either, delete_either, get_either, scan_either}
-use Rattle.nb_model.proofs.TableDrafts.{IsTablePage, Keeps, Goes, GoesToNew, keeps_first, goes_new, goes_slot, goes_place, goes_given, all_pages, place_left}
+use Rattle.nb_model.proofs.TableDrafts.{IsTablePage, Keeps, Goes, GoesToNew, keeps_first, goes_new, goes_slot, goes_at, goes_place, goes_given, all_pages, place_left}
 use Rattle.nb_model.proofs.TurnCases.{refused}
 
 -- the lengths of slots
@@ -121,6 +121,7 @@ module _ (s : Seen) (h : HasHeader s.base.image) (is : IsSoundImage s.base.image
   free_length = refl
 
   pub create_keeps : (table : List ℕ) → is_table_name table ≡ true → TurnKeeps s (create_turn s table)
+  unfolding free_spot
   create_keeps table named = create_either (TurnKeeps s) s denied table (λ may. says_draft s (created image table) Done (goes may).keeps)
     where
       owner : (old : Page) (scn p : ℕ) → p ≢ 1 → p < 1048576 → owner_in (stamped old 5 (data_payload 0 p []) scn p) ≢ 1
@@ -131,11 +132,19 @@ module _ (s : Seen) (h : HasHeader s.base.image) (is : IsSoundImage s.base.image
           let slot : Slot = table_slot table (new_first image).1 in
           let pages : List ℕ = found_pages Catalogue image in
           let new : GoesToNew s.base (drafted image) first (new_first image) = goes_new s.base (drafted image) first (λ p. data_payload 0 p []) none_room owner (new_left may.left) in
-          goes_place s.base (new_first image).0 new.goes.keeps Catalogue pages slot (table_length table (new_first image).1 (omega (arith, name_short table named))) (catalogue_other image h is) (omega arith)
-          (pages_found Catalogue image may.catalogue).some (all_pages s.base (drafted image) (new_first image).0 pages new.goes (chain_pages image h is Catalogue (catalogue_other image h is) may.catalogue)) may.left
+          goes_at s.base (new_first image).0 new.goes.keeps Catalogue pages slot (table_length table (new_first image).1 (omega (arith, name_short table named))) (catalogue_other image h is) (omega arith)
+          (pages_found Catalogue image may.catalogue).some (all_pages s.base (drafted image) (new_first image).0 pages new.goes (chain_pages image h is Catalogue (catalogue_other image h is) may.catalogue))
+          (free_spot (spots Catalogue image)) (within new.goes) may.left
         where
           new_left : (created image table).full ≡ false → (new_first image).0.full ≡ false
-          new_left left = place_left Catalogue (found_pages Catalogue image) (table_slot table (new_first image).1) (new_first image).0 left
+          new_left left = place_left Catalogue (free_spot (spots Catalogue image)) (found_pages Catalogue image) (table_slot table (new_first image).1) (new_first image).0 left
+
+          -- the place that was free is there behind the new page too
+          within : Goes s.base (drafted image) (new_first image).0 → (f : Spot) → free_spot (spots Catalogue image) ≡ Some f → IsTablePage (new_first image).0.image f.page × (256 * f.slot + 288 ≤ image_size (new_first image).0.image)
+          within new f found =
+              let on : IsSpotOn (IsTablePage image) image f = found_on image h is Catalogue (catalogue_other image h is) may.catalogue _ f found in
+              let size : image_size (new_first image).0.image ≡ image_size image = sym (ap image_size new.keeps.fits.is.is) ∙ (fitting_stays HasNoRows (new_first image).0.strokes s.base new.keeps.fits.each whole).size in
+              (new.pages f.page on.page, subst (λ (x : ℕ). 256 * f.slot + 288 ≤ x) (sym size) (on_within image h is Catalogue (catalogue_other image h is) may.catalogue f on))
 
   -- a table's chain of rows
   module _ (table : List ℕ) (spot : Spot) (has : HasTable image table spot) where

@@ -187,10 +187,14 @@ grown chain pages slots d =
     let made : Draft × ℕ = new_page 5 (λ p. data_payload 0 (owner_of chain) slots) d in
     (put (last_of pages) 5 (drop 16 (with_part 16 (bytes_of 4 made.1) (page_at made.0.image (last_of pages)))) made.0, made.1)
 
--- The slot is written into the first page of the chain that has room for it. Where none has, a new page holds it before the
--- last page is linked to it: the link is the moment at which it is there.
-unfoldable pub place_slot : Chain → (pages : List ℕ) → Slot → Draft → Draft
-place_slot chain pages bytes d = elim (free_spot (spots_of d.image pages)) [
+-- The slot is written at that place of the chain. Where there is none, a new page holds it before the last page is linked to it:
+-- the link is the moment at which it is there.
+abbrev pub place_at : Chain → (room : Option Spot) (pages : List ℕ) → Slot → Draft → Draft
+place_at chain room pages bytes d = elim room [
   | Some s ↦ put_slot s.page s.slot bytes d
   | None ↦ (grown chain pages bytes d).0
 ]
+
+-- it is written into the first free slot of the chain
+unfoldable pub place_slot : Chain → (pages : List ℕ) → Slot → Draft → Draft
+place_slot chain pages bytes d = place_at chain (free_spot (spots_of d.image pages)) pages bytes d

@@ -7,7 +7,7 @@ use Rattle.nb_model.specs.declared.reply.Reply.TheVariants.{Done, Value, Rows, R
 use Rattle.nb_model.specs.Image.{Image}
 use Rattle.nb_model.specs.Forms.{Draft, drafted, give_page, new_page}
 use Rattle.nb_model.specs.Causes.{Cause, first_cause, when, read_only, too_long, broken_at}
-use Rattle.nb_model.specs.Chains.{Chain, Catalogue, RowsFrom, Slot, Spot, spots, pages_of, found_pages, table_spot, row_spot, first_in, text_in, row_slot, table_slot, free_slot, put_slot, place_slot}
+use Rattle.nb_model.specs.Chains.{Chain, Catalogue, RowsFrom, Slot, Spot, spots, pages_of, found_pages, table_spot, row_spot, first_in, text_in, row_slot, table_slot, free_slot, free_spot, put_slot, place_at, place_slot}
 use Rattle.nb_model.specs.Rows.{used, rows_in}
 use Rattle.nb_model.specs.Outcomes.{Seen, Outcome, says, unless, changes}
 
@@ -16,7 +16,7 @@ unfoldable pub with_spot : Seen → Option Spot → Refusal → (Spot → Outcom
 with_spot s None refusal go = says s (Refused refusal) []
 with_spot s (Some spot) refusal go = go spot
 
--- `create table T`: its first page, then its slot in the catalogue
+-- `create table T`: its first page, then its slot in the catalogue, at the place that was free before
 unfoldable pub create_turn : Seen → (table : List ℕ) → Outcome
 create_turn s table =
     let image : Image = s.base.image in
@@ -27,7 +27,7 @@ create_turn s table =
     ∷ when (is_some (table_spot table image)) TableExists
     ∷ when (nat_le 12 (length (used (spots Catalogue image)))) TooManyTables
     ∷ [])
-    (place_slot Catalogue (found_pages Catalogue image) (table_slot table made.1) made.0) Done
+    (place_at Catalogue (free_spot (spots Catalogue image)) (found_pages Catalogue image) (table_slot table made.1) made.0) Done
 
 -- A table is looked for in the catalogue. Then come further causes, and whether its chain is of the form, and then what is done
 -- with its slot in the catalogue and its chain.

@@ -19,6 +19,13 @@ pub fn is_built(statement: &Statement) -> bool
         | Statement::Backup { .. }
         | Statement::BackupSince { .. }
         | Statement::CopyTo { .. }
+        | Statement::CreateTable { .. }
+        | Statement::DropTable { .. }
+        | Statement::Insert { .. }
+        | Statement::Update { .. }
+        | Statement::Delete { .. }
+        | Statement::Get { .. }
+        | Statement::Scan { .. }
         | Statement::Forced { .. }
         | Statement::Access { .. }
         | Statement::Sync

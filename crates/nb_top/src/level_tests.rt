@@ -310,3 +310,62 @@ fn levels_stopped(rt: HostRuntime) -> Result<(), Fail> {
     assert_eq!(rt; wrong_stop(rt.alloc())?, None);
     Ok(())
 }
+
+/// What page 6 may be after so many replies of SHARED: the text that was acknowledged last, or the next.
+fn texts_after(replies: usize) -> (&'static str, &'static str) {
+    match replies {
+        0 => ("", ""),
+        1 => ("", "hello"),
+        2 => ("hello", "later"),
+        _ => ("later", "later"),
+    }
+}
+
+/// Whether the database, once it is unlocked, has one of these texts in page 6.
+fn has_one(alloc: Global, host: &mut MemHost, texts: (&str, &str)) -> Result<bool, Fail> {
+    run_words(alloc, host, &["-N", "a.db"])?;
+    let lines = pages_of(alloc, host, "a.db")?;
+    let (first, second) = texts;
+    let first = format!(in alloc; "1: ok pages 13 state 0\n1: ok '{first}'\n1: ok ''\n")?;
+    let second = format!(in alloc; "1: ok pages 13 state 0\n1: ok '{second}'\n1: ok ''\n")?;
+    Ok(lines.as_slice() == first.as_bytes() || lines.as_slice() == second.as_bytes())
+}
+
+/// Whether what a stop now leaves of SHARED by this pick is right: the backup, without what the other session wrote beside it, and the
+/// database, with it. Before the first reply there may be none.
+fn is_shared_right(alloc: Global, host: &MemHost, pick: u64) -> Result<bool, Fail> {
+    let mut left = host.left(pick)?;
+    let replies = replies_of(host);
+    let words = ["-R", "b.db", "a.0"];
+    let copied = replies < 8 && is_refused(alloc, &mut left, &words)?
+        || gives(alloc, &mut left, &words, "hello")?;
+    Ok(copied && (replies == 0 || has_one(alloc, &mut left, texts_after(replies))?))
+}
+
+/// The first of the picks 0 to 2 by which a stop at this call of SHARED leaves something wrong.
+fn wrong_shared_pick(alloc: Global, call: u64) -> Result<Option<u64>, Fail> {
+    let host = stopped_at(alloc, SHARED, call)?;
+    for pick in 0..3 {
+        if !is_shared_right(alloc, &host, pick)? {
+            return Ok(Some(pick));
+        }
+    }
+    Ok(None)
+}
+
+/// The first host call of SHARED at which a stop leaves something wrong.
+fn wrong_shared_stop(alloc: Global) -> Result<Option<u64>, Fail> {
+    let whole = host_after(alloc, SHARED)?;
+    for call in 1..=whole.calls() {
+        if wrong_shared_pick(alloc, call)?.is_some() {
+            return Ok(Some(call));
+        }
+    }
+    Ok(None)
+}
+
+#[test]
+fn a_shared_backup_stopped(rt: HostRuntime) -> Result<(), Fail> {
+    assert_eq!(rt; wrong_shared_stop(rt.alloc())?, None);
+    Ok(())
+}
