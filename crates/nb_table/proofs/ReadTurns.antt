@@ -38,21 +38,19 @@ module _ (s : Seen) (table : List ℕ) (go : Spot → Chain → Outcome) where
   abbrev behind : Spot → Outcome
   behind spot = unless s (broken_at (pages_of (chain spot) image)) (go spot (chain spot))
 
-  turn_is : turn ≡ unless s (broken_at (pages_of Catalogue image)) (with_spot s (table_spot table image) NoTable behind)
-  unfolding in_table first_cause
-  turn_is = by (broken_at (pages_of Catalogue image))
-    where
-      inner : (spot : Spot) → unless s (first_cause (None ∷ broken_at (pages_of (chain spot) image) ∷ [])) (go spot (chain spot)) ≡ behind spot
-      inner spot = ap (λ (c : Cause). unless s c (go spot (chain spot))) (one_cause (broken_at (pages_of (chain spot) image)))
+  inner : (spot : Spot) → unless s (first_cause (None ∷ broken_at (pages_of (chain spot) image) ∷ [])) (go spot (chain spot)) ≡ behind spot
+  inner spot = ap (λ (c : Cause). unless s c (go spot (chain spot))) (first_next None (broken_at (pages_of (chain spot) image) ∷ []) refl ∙ one_cause (broken_at (pages_of (chain spot) image)))
 
-      by : (c : Cause) → unless s (first_cause (None ∷ c ∷ [])) (with_spot s (table_spot table image) NoTable (λ spot. unless s (first_cause (None ∷ broken_at (pages_of (chain spot) image) ∷ [])) (go spot (chain spot))))
-          ≡ unless s c (with_spot s (table_spot table image) NoTable behind)
-      by c = ap (λ (x : Cause). unless s x _) (one_cause c) ∙ ap (λ (o : Outcome). unless s c o) (each (table_spot table image))
-        where
-          each : (o : Option Spot) → with_spot s o NoTable (λ spot. unless s (first_cause (None ∷ broken_at (pages_of (chain spot) image) ∷ [])) (go spot (chain spot))) ≡ with_spot s o NoTable behind
-          unfolding with_spot
-          each None = refl
-          each (Some spot) = inner spot
+  each : (o : Option Spot) → with_spot s o NoTable (λ spot. unless s (first_cause (None ∷ broken_at (pages_of (chain spot) image) ∷ [])) (go spot (chain spot))) ≡ with_spot s o NoTable behind
+  unfolding with_spot
+  each None = refl
+  each (Some spot) = inner spot
+
+  turn_is : turn ≡ unless s (broken_at (pages_of Catalogue image)) (with_spot s (table_spot table image) NoTable behind)
+  unfolding in_table
+  turn_is =
+      let c : Cause = broken_at (pages_of Catalogue image) in
+      ap (λ (x : Cause). unless s x _) (first_next None (c ∷ []) refl ∙ one_cause c) ∙ ap (λ (o : Outcome). unless s c o) (each (table_spot table image))
 
   -- the table isn't found
   pub table_missing : (r : Refusal) → search_cause (broken_at (pages_of Catalogue image)) (table_spot table image) NoTable ≡ Some r → turn ≡ says s (Refused r) []
