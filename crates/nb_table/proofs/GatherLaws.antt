@@ -46,7 +46,7 @@ sought_is (Row first key) slot = refl
 -- the used slots, and one more
 used_more : (ss : List Spot) (s : Spot) → length (used (ss ++ s ∷ [])) ≡ length (used ss) + length (used (s ∷ []))
 unfolding used
-used_more [] s = refl
+used_more [] s = omega arith
 used_more (x ∷ xs) s = by (used_more xs s) (is_used x.bytes)
   where
     by : length (used (xs ++ s ∷ [])) ≡ length (used xs) + length (used (s ∷ [])) → (t : Bool) → length (elim t as (λ z. List Spot) [ true ↦ x ∷ used (xs ++ s ∷ []) | false ↦ used (xs ++ s ∷ []) ]) ≡ length (elim t as (λ z. List Spot) [ true ↦ x ∷ used xs | false ↦ used xs ]) + length (used (s ∷ []))
@@ -86,6 +86,12 @@ module _ {A : Type 0} (at : Option Spot → Option A) (test : Spot → Bool) (ss
   pub hits : is_some held ≡ false → test s ≡ true → at (Some s) ≡ at (first_such test (ss ++ s ∷ []))
   hits first e = sym (ap at (first_hit test s ss (none_yet first) e))
 
+abbrev found_with : Place → Slot → Found
+found_with place bytes = record { place = place; bytes = bytes }
+
+pub found_is : (f : Found) (place : Place) (bytes : Slot) → f.place ≡ place → f.bytes ≡ bytes → f ≡ record { place = place; bytes = bytes }
+found_is f place bytes a b = ap (λ (p : Place). found_with p f.bytes) a ∙ ap (found_with place) b
+
 abbrev pub walked_of : Option Found → Option Place → ℕ → Walked
 walked_of found room used = record { found = found; room = room; used = used }
 
@@ -102,8 +108,8 @@ module _ (sought : Sought) (ss : List Spot) (s : Spot) (old : Walked) (is : old 
   abbrev more : List Spot
   more = ss ++ s ∷ []
 
-  found_is : old.found ≡ found_at (first_such wanted ss)
-  found_is = ap (λ (x : Walked). x.found) is
+  its_found : old.found ≡ found_at (first_such wanted ss)
+  its_found = ap (λ (x : Walked). x.found) is
 
   room_is : old.room ≡ place_at (first_such unused ss)
   unfolding free_spot
@@ -121,7 +127,7 @@ module _ (sought : Sought) (ss : List Spot) (s : Spot) (old : Walked) (is : old 
     used_same = used_is ∙ ap (min 12) (let a = used_more ss s in let b = used_not s not_used in let c : length (used ss) ≡ length (used more) = omega (arith, a, b) in c)
 
     found_same : old.found ≡ found_at (first_such wanted more)
-    found_same = misses found_at wanted ss s old.found found_is refl (λ x. refl) (sought_is sought s.bytes ∙ ap (λ (t : Bool). t && has sought s.bytes) not_used)
+    found_same = misses found_at wanted ss s old.found its_found refl (λ x. refl) (sought_is sought s.bytes ∙ ap (λ (t : Bool). t && has sought s.bytes) not_used)
 
     pub free_first : is_some old.room ≡ false → walked_of old.found (Some (place_of s)) old.used ≡ gathered sought more
     unfolding free_spot
@@ -144,23 +150,20 @@ module _ (sought : Sought) (ss : List Spot) (s : Spot) (old : Walked) (is : old 
     wanted_is = sought_is sought s.bytes ∙ ap (λ (t : Bool). t && has sought s.bytes) is_one
 
     -- how many are used then
-    pub UsedMore : ℕ → Type 0
+    abbrev pub UsedMore : ℕ → Type 0
     UsedMore n = n ≡ min 12 (length (used more))
 
-    pub counted : old.used < 12 → UsedMore (old.used + 1)
-    counted few = (let a = used_more ss s in let b = used_one s is_one in let e = used_is in omega (arith, a, b, e, few))
-
-    pub counted_all : 12 ≤ old.used → UsedMore old.used
-    counted_all many = (let a = used_more ss s in let b = used_one s is_one in let e = used_is in omega (arith, a, b, e, many))
+    pub counted : (n : ℕ) → n ≡ min 12 (min (old.used + 1) 4294967295) → UsedMore n
+    counted n e = (let a = used_more ss s in let b = used_one s is_one in let f = used_is in omega (arith, a, b, e, f))
 
     pub used_hit : (n : ℕ) → UsedMore n → is_some old.found ≡ false → has sought s.bytes ≡ true → walked_of (Some (found_of s)) old.room n ≡ gathered sought more
-    used_hit n count none e = three _ _ _ _ _ _ (hits found_at wanted ss s old.found found_is refl (λ x. refl) none (wanted_is ∙ e)) room_same count
+    used_hit n count none e = three _ _ _ _ _ _ (hits found_at wanted ss s old.found its_found refl (λ x. refl) none (wanted_is ∙ e)) room_same count
 
     pub used_miss : (n : ℕ) → UsedMore n → has sought s.bytes ≡ false → walked_of old.found old.room n ≡ gathered sought more
-    used_miss n count e = three _ _ _ _ _ _ (misses found_at wanted ss s old.found found_is refl (λ x. refl) (wanted_is ∙ e)) room_same count
+    used_miss n count e = three _ _ _ _ _ _ (misses found_at wanted ss s old.found its_found refl (λ x. refl) (wanted_is ∙ e)) room_same count
 
     pub used_more_of : (n : ℕ) → UsedMore n → is_some old.found ≡ true → walked_of old.found old.room n ≡ gathered sought more
-    used_more_of n count some = three _ _ _ _ _ _ (stays found_at wanted ss s old.found found_is refl (λ x. refl) some) room_same count
+    used_more_of n count some = three _ _ _ _ _ _ (stays found_at wanted ss s old.found its_found refl (λ x. refl) some) room_same count
 
 -- nothing was come by yet
 pub gathered_none : (sought : Sought) → walked_of None None 0 ≡ gathered sought []

@@ -232,7 +232,7 @@ module _ (chain : Chain) (image : Image) (P : List Spot → Type 0) (all number 
   abbrev left : ℕ
   left = all - 1
 
-  so : Walks chain image P (suc left) number
+  pub so : Walks chain image P (suc left) number
   so = subst (λ (n : ℕ). Walks chain image P n number) (let e : all ≡ suc (all - 1) = omega (arith, some) in e) was
 
   -- the next page breaks the form

@@ -22,7 +22,8 @@ pub(crate) fn slot_count(page: &[u8]) -> u32
 /// Slot `slot` of a page.
 pub(crate) fn slot_at(page: &[u8], slot: u32) -> &[u8]
     requires { 288 + 256 * slot ≤ length page.now }
-    ensures { result.now ≡ part (32 + 256 * slot) 256 page.now }
+    ensures bytes { result.now ≡ part (32 + 256 * slot) 256 page.now }
+    ensures size { length result.now ≡ 256 }
 {
     let from = data::SLOTS_AT + data::SLOT * slot as usize;
     &page[from..from + data::SLOT]

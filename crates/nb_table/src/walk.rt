@@ -107,9 +107,7 @@ fn add_slot(walked: &mut Walked, sought: &Sought, slot: &[u8], place: Place)
         }
         return;
     }
-    if walked.used < MOST_TABLES {
-        walked.used += 1;
-    }
+    walked.used = MOST_TABLES.min(walked.used.saturating_add(1));
     if walked.found.is_none() && sought.is_in(slot) {
         walked.found = Some(found(slot, place));
     }

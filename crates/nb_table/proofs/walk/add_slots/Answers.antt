@@ -27,7 +27,7 @@ slot_at-requires c = slot_inside (length c.args.page.now) c.slot_count-count.res
 pub add_slot-requires-form : goal.add_slot-requires-form
 add_slot-requires-form c =
     let test : Slot → Bool = is_slot (chain_of c.args.sought.now) in
-    ap test c.slot_at.ensures ∙ passes_here test c.args.page.now c.slot_count-count.result c.loop-slot.slot c.loop-slot-test.true c.loop-slot.invariant.form
+    ap test c.slot_at.ensures.bytes ∙ passes_here test c.args.page.now c.slot_count-count.result c.loop-slot.slot c.loop-slot-test.true c.loop-slot.invariant.form
 
 pub loop-slot-preserved : goal.loop-slot-preserved
 loop-slot-preserved c =
@@ -44,7 +44,7 @@ loop-slot-preserved c =
           comes_next (λ xs. c.loop-slot.walked ≡ gathered sought xs) (λ xs. c.add_slot.new.walked ≡ gathered sought xs) ss page c.args.number count slot c.loop-slot-test.true (c.loop-slot.invariant.comes ss is)
           (λ front was.
           c.add_slot.ensures.walked front was
-          ∙ ap (λ (b : Slot). gathered sought (front ++ record { page = c.args.number; slot = slot; bytes = b } ∷ [])) c.slot_at.ensures);
+          ∙ ap (λ (b : Slot). gathered sought (front ++ record { page = c.args.number; slot = slot; bytes = b } ∷ [])) c.slot_at.ensures.bytes);
       found = λ found. c.add_slot.ensures.found (length page) placed (c.loop-slot.invariant.found found);
       filled = λ filled. c.add_slot.ensures.filled (c.loop-slot.invariant.filled filled);
       room = λ room. c.add_slot.ensures.room (length page) placed (c.loop-slot.invariant.room room);

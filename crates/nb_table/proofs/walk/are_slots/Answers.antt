@@ -17,7 +17,7 @@ returns-then-not-is_slot c =
     let test : Slot → Bool = is_slot (chain_by c.args.chain) in
     let page = c.args.page.now in
     sym (test_here test page c.slot_count-count.result c.loop-slot.slot c.loop-slot-test.true (list_all test (slots_in page)) c.loop-slot.invariant.form
-    (ap test (sym c.slot_at.ensures) ∙ sym c.is_slot.ensures ∙ c.if-not-is_slot.true))
+    (ap test (sym c.slot_at.ensures.bytes) ∙ sym c.is_slot.ensures ∙ c.if-not-is_slot.true))
 
 pub loop-slot-preserved : goal.loop-slot-preserved
 loop-slot-preserved c =
@@ -26,7 +26,7 @@ loop-slot-preserved c =
     record {
       many = c.loop-slot.invariant.many;
       form = test_next test page c.slot_count-count.result c.loop-slot.slot c.loop-slot-test.true (list_all test (slots_in page)) c.loop-slot.invariant.form
-          (ap test (sym c.slot_at.ensures) ∙ sym c.is_slot.ensures ∙ c.if-not-is_slot.false);
+          (ap test (sym c.slot_at.ensures.bytes) ∙ sym c.is_slot.ensures ∙ c.if-not-is_slot.false);
     }
 
 pub returns : goal.returns
