@@ -41,7 +41,7 @@ module _ (chain : Chain) (slot : Slot) where
 
 sought_is : (sought : Sought) (slot : Slot) → is_sought sought slot ≡ (is_used slot && has sought slot)
 sought_is (Table name) slot = refl
-sought_is (Row first key) slot = refl
+sought_is (Row at key) slot = refl
 
 -- the used slots, and one more
 used_more : (ss : List Spot) (s : Spot) → length (used (ss ++ s ∷ [])) ≡ length (used ss) + length (used (s ∷ []))

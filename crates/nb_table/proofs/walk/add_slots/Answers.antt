@@ -3,7 +3,7 @@ use Rattle.std.specs.Prelude.{Bool, IfSome, IsTrue}
 use Rattle.std.specs.List.{list_all}
 use Rattle.nb_model.specs.Chains.{Slot, Spot, is_slot, slots_in}
 use Rattle.nb_model.specs.Chains.{is_filled}
-use Rattle.nb_table.specs.Walks.{chain_of, gathered}
+use Rattle.nb_table.specs.Walks.{chain_of, gathered, IsPlaced}
 use Rattle.nb_table.proofs.WalkLaws.{test_first, passes_here, passes_next, comes_first, comes_next, comes_last, slot_inside}
 use Rattle.nb_table.proofs.walk.add_slots.Goals as goal
 
@@ -24,8 +24,8 @@ loop-slot-init c =
 pub slot_at-requires : goal.slot_at-requires
 slot_at-requires c = slot_inside (length c.args.page.now) c.slot_count-count.result c.loop-slot.slot c.slot_count-count.ensures c.loop-slot-test.true
 
-pub add_slot-requires-form : goal.add_slot-requires-form
-add_slot-requires-form c =
+pub add_slot-requires-clause-form : goal.add_slot-requires-clause-form
+add_slot-requires-clause-form c =
     let test : Slot → Bool = is_slot (chain_of c.args.sought.now) in
     ap test c.slot_at.ensures.bytes ∙ passes_here test c.args.page.now c.slot_count-count.result c.loop-slot.slot c.loop-slot-test.true c.loop-slot.invariant.form
 
@@ -36,7 +36,7 @@ loop-slot-preserved c =
     let page = c.args.page.now in
     let count : ℕ = c.slot_count-count.result in
     let slot : ℕ = c.loop-slot.slot in
-    let placed = record { low = c.requires.low; high = c.requires.high; inside = slot_inside (length page) count slot c.slot_count-count.ensures c.loop-slot-test.true } in
+    let placed : IsPlaced (length page) (record { page = c.args.number; slot = slot }) = record { low = c.requires.low; high = c.requires.high; inside = slot_inside (length page) count slot c.slot_count-count.ensures c.loop-slot-test.true } in
     record {
       many = c.loop-slot.invariant.many;
       form = passes_next test page count slot c.loop-slot-test.true c.loop-slot.invariant.form;

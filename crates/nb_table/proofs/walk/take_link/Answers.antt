@@ -12,8 +12,8 @@ returns-in_err-next-clause-test g c t tells is =
     tested_on ℕ ℕ _ _ (not_linked _ t.base.image c.args.number) (not_linked (chain_of c.args.sought.now) t.base.image c.args.number) c.from_residual.ensures
     (λ r e. ap (λ (x : Chain). not_linked x t.base.image c.args.number) (sym c.chain.ensures) ∙ e) (c.in_err-next.ensures.test t tells is)
 
-pub add_slots-requires-form : goal.add_slots-requires-form
-add_slots-requires-form g c = ap (λ (x : Chain). list_all (is_slot x) (slots_in c.take_page.new.page)) (sym c.chain.ensures) ∙ c.in_ok-next.ensures.form
+pub add_slots-requires-clause-form : goal.add_slots-requires-clause-form
+add_slots-requires-clause-form g c = ap (λ (x : Chain). list_all (is_slot x) (slots_in c.take_page.new.page)) (sym c.chain.ensures) ∙ c.in_ok-next.ensures.form
 
 pub returns-clause-test : goal.returns-clause-test
 returns-clause-test g c t tells is = ap (λ (x : Chain). not_linked x t.base.image c.args.number) (sym c.chain.ensures) ∙ c.in_ok-next.ensures.test t tells is
