@@ -25,7 +25,7 @@ found_none (Some s) e = absurd (some_none (found_of s) (sym e))
 
 -- the refusals of a search: the chain is broken, or nothing is found
 module _ (broken : Cause) (o : Option Spot) (missing : Refusal) where
-  abbrev search_cause : Cause
+  abbrev pub search_cause : Cause
   search_cause = first_cause (broken ∷ when (is_none o) missing ∷ [])
 
   pub search_broken : (r : Refusal) → broken ≡ Some r → search_cause ≡ Some r

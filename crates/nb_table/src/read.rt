@@ -116,6 +116,8 @@ fn take_rows<H: Host>(
     ensures quiet { Quiet (H.world host.old) (H.world host.new) }
     ensures cause { CountsDevice result (H.faults host.old) (H.faults host.new) }
 {
+    // Slots are counted by the size of a page, which is one of six.
+    let _size = engine.page_size();
     let chain = Chain::Rows(first);
     let mut rows = BTreeMap::new(alloc);
     let mut number = first;
