@@ -169,5 +169,6 @@ pub fn scan<H: Host>(
     let page = &mut buffer[..engine.page_size() as usize];
     let found = find_table(host, engine, table, page)?;
     let rows = take_rows(alloc, host, engine, first_page(&found.bytes), page)?;
-    listed(alloc, rows)
+    let list = listed(alloc, rows)?;
+    Ok(list)
 }
