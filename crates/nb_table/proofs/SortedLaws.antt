@@ -1,13 +1,13 @@
 -- Rows in the order of their keys, slot by slot.
-use Rattle.std.proofs.Common.{Ordering, Less, Equal, Greater, ◌≡◌, ◌≢◌, inl, inr, ℕ, zero, suc, ◌<◌, ◌≤◌, List, [], ◌∷◌, ◌++◌, refl, sym, ap, ◌∙◌, arith}
-use Rattle.std.specs.Prelude.{Bool, true, false, cond, ◌&&◌, ◌==◌, nat_lt, nat_eq, Option, Some, None, option_map, is_some, slice_index}
+use Rattle.std.proofs.Common.{Ordering, Less, Equal, Greater, ◌≡◌, ◌≢◌, inl, inr, ℕ, suc, ◌<◌, List, [], ◌∷◌, ◌++◌, refl, sym, ap, ◌∙◌, arith}
+use Rattle.std.specs.Prelude.{Bool, true, false, cond, ◌==◌, nat_lt, nat_eq, Option, Some, None, option_map, is_some, slice_index}
 use Rattle.std.specs.Ordering.{nat_cmp, is_eq, match_ordering}
 use Rattle.std.specs.List.{list_all}
 use Rattle.std.specs.Map.{lookup}
 use Rattle.std.specs.BTreeMap.{insert_entry, is_at}
 use Rattle.std.proofs.lemmas.Bool.{and_from}
 use Rattle.std.proofs.lemmas.Bool.Decides.{eqb_tells, leb_tells}
-use Rattle.nb_model.specs.Chains.{Chain, RowsFrom, Slot, Spot, is_used, is_slot, key_of, text_in, first_such, row_spot}
+use Rattle.nb_model.specs.Chains.{RowsFrom, Slot, Spot, is_used, is_slot, key_of, text_in, first_such, row_spot}
 use Rattle.nb_model.specs.Rows.{RowMap, with_row, row_at, rows_in}
 use Rattle.nb_model.proofs.ReadLaws.{eq_yes, eq_no, lt_yes, lt_no}
 use Rattle.nb_model.proofs.RowMaps.{rows_rise, same_maps, rows_at}

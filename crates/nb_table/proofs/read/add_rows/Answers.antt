@@ -1,6 +1,5 @@
-use Rattle.std.proofs.Common.{◌≡◌, ◌-◌, ◌/◌, ◌*◌, ◌+◌, ℕ, [], ◌∷◌, ◌++◌, length, sym, ap, ◌∙◌, arith}
+use Rattle.std.proofs.Common.{◌≡◌, ℕ, length, sym, ap, ◌∙◌, arith}
 use Rattle.std.specs.Prelude.{Bool}
-use Rattle.std.specs.List.{list_all}
 use Rattle.nb_model.specs.Chains.{RowsFrom, Slot, is_slot}
 use Rattle.nb_model.specs.Rows.{rows_in}
 use Rattle.nb_table.proofs.WalkLaws.{test_first, passes_here, passes_next, comes_first, comes_next, comes_last, slot_inside}

@@ -1,7 +1,7 @@
 use Rattle.std.proofs.Common.{◌≡◌, ℕ, List, [], ap, sym, ◌∙◌}
 use Rattle.nb_page.proofs.QuietLemmas.{quiet_joined}
 use Rattle.nb_model.specs.declared.reply.Reply.TheVariants.{Value}
-use Rattle.nb_model.specs.Chains.{RowsFrom, Spot, text_in, first_in}
+use Rattle.nb_model.specs.Chains.{Spot, text_in}
 use Rattle.nb_model.specs.Outcomes.{Seen, says}
 use Rattle.nb_model.specs.Tables.{get_turn}
 use Rattle.nb_engine.specs.Replies.{valued}

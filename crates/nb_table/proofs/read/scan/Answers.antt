@@ -6,7 +6,7 @@ use Rattle.nb_host.specs.declared.refusals.Refusal.{Refusal}
 use Rattle.nb_page.proofs.QuietLemmas.{quiet_joined}
 use Rattle.nb_model.specs.declared.reply.Reply.TheVariants.{Rows}
 use Rattle.nb_model.specs.Causes.{broken_at}
-use Rattle.nb_model.specs.Chains.{RowsFrom, Spot, first_in, pages_of, spots}
+use Rattle.nb_model.specs.Chains.{RowsFrom, Spot, pages_of, spots}
 use Rattle.nb_model.specs.Outcomes.{Seen, says}
 use Rattle.nb_model.specs.Rows.{RowMap, rows_in}
 use Rattle.nb_model.specs.Tables.{scan_turn}

@@ -1,12 +1,12 @@
-use Rattle.std.proofs.Common.{◌≡◌, rules, ℕ, [], ◌++◌, List, length, refl, sym, ap, subst, ◌∙◌, arith}
+use Rattle.std.proofs.Common.{◌≡◌, ℕ, ◌++◌, List, refl, sym, ap, subst, ◌∙◌, arith}
 use Rattle.std.specs.Prelude.{IsTrue}
 use Rattle.std.specs.BTreeMap.{BTreeMap}
 use Rattle.nb_fields.specs.Places.{is_page_size}
 use Rattle.nb_page.proofs.QuietLemmas.{quiet_begun, quiet_joined}
 use Rattle.nb_model.specs.Causes.{broken_at}
-use Rattle.nb_model.specs.Chains.{Chain, RowsFrom, Spot, pages_of, slots_in, spots_on, next_in}
-use Rattle.nb_model.specs.Image.{Page, page_at}
-use Rattle.nb_model.specs.Rows.{RowMap, rows_in}
+use Rattle.nb_model.specs.Chains.{RowsFrom, pages_of, slots_in, spots_on, next_in}
+use Rattle.nb_model.specs.Image.{Page}
+use Rattle.nb_model.specs.Rows.{rows_in}
 use Rattle.nb_engine.proofs.DoesLaws.{tested_on}
 use Rattle.nb_table.specs.Walks.{not_linked}
 use Rattle.nb_table.proofs.SortedLaws.{any_rows, rows_none}

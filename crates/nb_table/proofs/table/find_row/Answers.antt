@@ -1,7 +1,7 @@
-use Rattle.std.proofs.Common.{ℕ, List, sym, ap, ◌∙◌}
+use Rattle.std.proofs.Common.{ℕ, sym, ap, ◌∙◌}
 use Rattle.nb_host.specs.declared.refusals.Refusal.TheVariants.{NoKey}
 use Rattle.nb_model.specs.Causes.{broken_at}
-use Rattle.nb_model.specs.Chains.{RowsFrom, Spot, pages_of, spots, row_spot, length_in}
+use Rattle.nb_model.specs.Chains.{RowsFrom, pages_of, spots, row_spot}
 use Rattle.nb_engine.proofs.DoesLaws.{tested_on}
 use Rattle.nb_table.specs.declared.look.Found.{Found}
 use Rattle.nb_table.specs.declared.look.Walked.{Walked}
