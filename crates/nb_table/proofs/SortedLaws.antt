@@ -130,13 +130,22 @@ module _ (ss : List Spot) (s : Spot) (slot : Slot) (rs : RowMap) (is : rs ≡ ro
     there =
         ap (λ (k : ℕ). is_some (row_at k (rows_in ss))) (ap key_of same ∙ sym its) ∙ ap (λ (m : RowMap). is_some (row_at key m)) (sym is) ∙ sym (ap is_some (get_is key rs))
 
-    pub held_again : is_some (lookup (is_at (nat_cmp key)) rs) ≡ true → rs ≡ rows_in (ss ++ s ∷ [])
+    held_again : is_some (lookup (is_at (nat_cmp key)) rs) ≡ true → rs ≡ rows_in (ss ++ s ∷ [])
     held_again some = is ∙ sym (row_again ss s (there ∙ some))
 
-    pub held_new : is_used slot ≡ true → is_some (lookup (is_at (nat_cmp key)) rs) ≡ false → (text : List ℕ) → text ≡ text_in slot → insert_entry nat_cmp rs key text ≡ rows_in (ss ++ s ∷ [])
+    held_new : is_used slot ≡ true → is_some (lookup (is_at (nat_cmp key)) rs) ≡ false → (text : List ℕ) → text ≡ text_in slot → insert_entry nat_cmp rs key text ≡ rows_in (ss ++ s ∷ [])
     held_new used none text text_is =
         insert_is key text rs ∙ ap (with_row key text) is ∙ ap (λ (k : ℕ). with_row k text (rows_in ss)) (its ∙ sym (ap key_of same)) ∙ ap (λ (t : List ℕ). with_row (key_of s.bytes) t (rows_in ss)) (text_is ∙ sym (ap text_in same))
         ∙ sym (row_new ss s (ap is_used same ∙ used) (there ∙ none))
+
+    -- it is added where there is none with its key
+    pub held_added : is_used slot ≡ true → (text : List ℕ) → text ≡ text_in slot → (now : RowMap) → (is_some (lookup (is_at (nat_cmp key)) rs) ≡ true → now ≡ rs)
+        → (is_some (lookup (is_at (nat_cmp key)) rs) ≡ false → now ≡ insert_entry nat_cmp rs key text) → now ≡ rows_in (ss ++ s ∷ [])
+    held_added used text text_is now old new = by (is_some (lookup (is_at (nat_cmp key)) rs)) refl
+      where
+        by : (t : Bool) → is_some (lookup (is_at (nat_cmp key)) rs) ≡ t → now ≡ rows_in (ss ++ s ∷ [])
+        by true e = old e ∙ held_again e
+        by false e = new e ∙ held_new used e text text_is
 
 -- which chain of rows a slot stands in doesn't matter to its form
 pub any_rows : (first : ℕ) (slots : List Slot) → list_all (is_slot (RowsFrom first)) slots ≡ list_all (is_slot (RowsFrom 0)) slots

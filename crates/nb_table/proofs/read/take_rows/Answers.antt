@@ -59,7 +59,7 @@ loop-left-preserved g c =
           let still = l.invariant.opened t tells is in
           let page = c.in_ok-next.ensures.page t tells still in
           walks_next (RowsFrom c.args.first) image (λ ss. l.rows.entries ≡ rows_in ss) l.left l.number c.loop-left-test.true (l.invariant.walks t tells is) (c.in_ok-next.ensures.test t tells still) (λ ss. c.add_rows.new.rows.entries ≡ rows_in ss)
-    (λ ss was. c.in_ok-add_rows.ensures.rows ss l.number was ∙ ap (λ (x : Page). rows_in (ss ++ spots_on l.number 0 (slots_in x))) page) c.in_ok-next.next (c.in_ok-next.ensures.next ∙ ap next_in page) c.if-next-eq0.false;
+          (λ ss was. c.in_ok-add_rows.ensures.rows ss l.number was ∙ ap (λ (x : Page). rows_in (ss ++ spots_on l.number 0 (slots_in x))) page) c.in_ok-next.next (c.in_ok-next.ensures.next ∙ ap next_in page) c.if-next-eq0.false;
       sized = c.in_ok-next.ensures.sized ∙ l.invariant.sized;
       opened = λ t tells is. c.in_ok-next.ensures.open t tells (l.invariant.opened t tells is);
       same = c.in_ok-next.ensures.same ∙ l.invariant.same;
