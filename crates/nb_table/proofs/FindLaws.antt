@@ -1,9 +1,11 @@
 -- A table or a row that was looked for: it is found, or there is none.
-use Rattle.std.proofs.Common.{◌≡◌, List, [], ◌∷◌, refl, sym, ap, ◌∙◌}
-use Rattle.std.specs.Prelude.{Bool, true, false, Option, Some, None, is_none}
+use Rattle.std.proofs.Common.{◌≡◌, ℕ, [], ◌∷◌, refl, sym, ap, ◌∙◌}
+use Rattle.std.specs.Prelude.{Option, Some, None, is_none}
 use Rattle.nb_host.specs.declared.refusals.Refusal.{Refusal}
-use Rattle.nb_model.specs.Causes.{Cause, first_cause, when}
-use Rattle.nb_model.specs.Chains.{Spot}
+use Rattle.nb_host.specs.declared.refusals.Refusal.TheVariants.{NoKey}
+use Rattle.nb_model.specs.Image.{Image}
+use Rattle.nb_model.specs.Causes.{Cause, first_cause, when, broken_at}
+use Rattle.nb_model.specs.Chains.{Spot, RowsFrom, pages_of, spots, row_spot}
 use Rattle.nb_engine.proofs.CauseLaws.{first_none, first_next, first_here}
 use Rattle.nb_table.specs.declared.look.Found.{Found}
 use Rattle.nb_table.specs.Walks.{found_of, spot_of, found_at}
@@ -13,6 +15,13 @@ some_same f g e = cc
 
 some_none : (f : Found) → Some f ≡ None → ⊥
 some_none f e = cc
+
+-- why a row isn't found, and that it is
+abbrev pub row_cause : Image → (first key : ℕ) → Cause
+row_cause image first key = first_cause (broken_at (pages_of (RowsFrom first) image) ∷ when (is_none (row_spot key (spots (RowsFrom first) image))) (NoKey key) ∷ [])
+
+abbrev pub row_found : Image → (first key : ℕ) → Option Spot
+row_found image first key = row_spot key (spots (RowsFrom first) image)
 
 -- what a walk has found, by the slot that is looked for
 pub found_some : (o : Option Spot) (f : Found) → Some f ≡ found_at o → o ≡ Some (spot_of f)
@@ -25,7 +34,7 @@ found_none (Some s) e = absurd (some_none (found_of s) (sym e))
 
 -- the refusals of a search: the chain is broken, or nothing is found
 module _ (broken : Cause) (o : Option Spot) (missing : Refusal) where
-  abbrev search_cause : Cause
+  abbrev pub search_cause : Cause
   search_cause = first_cause (broken ∷ when (is_none o) missing ∷ [])
 
   pub search_broken : (r : Refusal) → broken ≡ Some r → search_cause ≡ Some r

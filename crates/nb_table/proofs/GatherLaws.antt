@@ -1,17 +1,17 @@
 -- What a walk has come by, and one slot more.
-use Rattle.std.proofs.Common.{◌≡◌, ◌≢◌, ℕ, zero, suc, ◌+◌, ◌<◌, ◌≤◌, List, [], ◌∷◌, ◌++◌, length, refl, sym, ap, ◌∙◌, arith}
-use Rattle.std.specs.Prelude.{Bool, true, false, ◌&&◌, ◌||◌, ◌==◌, nat_eq, min, Option, Some, None, slice_index, is_some}
+use Rattle.std.proofs.Common.{◌≡◌, ◌≢◌, ℕ, ◌+◌, List, [], ◌∷◌, ◌++◌, length, refl, sym, ap, ◌∙◌, arith}
+use Rattle.std.specs.Prelude.{Bool, true, false, ◌&&◌, ◌||◌, nat_eq, min, Option, Some, None, slice_index, is_some}
 use Rattle.std.proofs.lemmas.Bool.{and_parts, eqb-true}
 use Rattle.nb_model.specs.Chains.{Chain, Slot, Spot, is_used, is_slot, is_filled, first_such, free_spot}
 use Rattle.nb_model.specs.Rows.{used}
-use Rattle.nb_model.proofs.ReadLaws.{eq_no, eq_yes, and_no_right}
+use Rattle.nb_model.proofs.ReadLaws.{eq_no, eq_yes}
 use Rattle.nb_engine.proofs.SlotLaws.{first_held, first_hit, first_miss}
 use Rattle.nb_table.specs.declared.look.Sought.{Sought}
 use Rattle.nb_table.specs.declared.look.Sought.TheVariants.{Table, Row}
 use Rattle.nb_table.specs.declared.look.Place.{Place}
 use Rattle.nb_table.specs.declared.look.Found.{Found}
 use Rattle.nb_table.specs.declared.look.Walked.{Walked}
-use Rattle.nb_table.specs.Walks.{chain_of, has, is_sought, place_of, found_of, place_at, found_at, gathered}
+use Rattle.nb_table.specs.Walks.{has, is_sought, place_of, found_of, place_at, found_at, gathered}
 
 -- which slots are of the form, by the first byte
 module _ (chain : Chain) (slot : Slot) where

@@ -1,17 +1,17 @@
 -- The turns that read rows, by what is found on the way.
 use Rattle.std.proofs.Common.{◌≡◌, ℕ, List, [], ◌∷◌, refl, ap, ◌∙◌}
-use Rattle.std.specs.Prelude.{Option, Some, None, is_none}
+use Rattle.std.specs.Prelude.{Option, Some, None}
 use Rattle.nb_host.specs.declared.refusals.Refusal.{Refusal}
 use Rattle.nb_host.specs.declared.refusals.Refusal.TheVariants.{NoTable, NoKey}
 use Rattle.nb_model.specs.declared.reply.Reply.TheVariants.{Refused, Value, Rows}
 use Rattle.nb_model.specs.Image.{Image}
-use Rattle.nb_model.specs.Causes.{Cause, first_cause, when, broken_at}
+use Rattle.nb_model.specs.Causes.{Cause, first_cause, broken_at}
 use Rattle.nb_model.specs.Chains.{Chain, Catalogue, RowsFrom, Spot, pages_of, spots, table_spot, row_spot, first_in, text_in}
 use Rattle.nb_model.specs.Outcomes.{Seen, Outcome, says, unless}
 use Rattle.nb_model.specs.Rows.{rows_in}
 use Rattle.nb_model.specs.Tables.{with_spot, in_table, get_turn, scan_turn}
 use Rattle.nb_engine.proofs.CauseLaws.{unless_refused, unless_allowed, first_next, one_cause}
-use Rattle.nb_table.proofs.FindLaws.{search_cause, search_broken, search_whole}
+use Rattle.nb_table.proofs.FindLaws.{search_cause, search_whole}
 
 -- a slot that was looked for, by what was found
 spot_some : (s : Seen) (o : Option Spot) (r : Refusal) (go : Spot → Outcome) (spot : Spot) → o ≡ Some spot → with_spot s o r go ≡ go spot
@@ -38,10 +38,16 @@ module _ (s : Seen) (table : List ℕ) (go : Spot → Chain → Outcome) where
   abbrev behind : Spot → Outcome
   behind spot = unless s (broken_at (pages_of (chain spot) image)) (go spot (chain spot))
 
-  inner : (spot : Spot) → unless s (first_cause (None ∷ broken_at (pages_of (chain spot) image) ∷ [])) (go spot (chain spot)) ≡ behind spot
+  abbrev tested : Spot → Outcome
+  tested spot = unless s (first_cause (None ∷ broken_at (pages_of (chain spot) image) ∷ [])) (go spot (chain spot))
+
+  abbrev searched_for : Outcome
+  searched_for = with_spot s (table_spot table image) NoTable tested
+
+  inner : (spot : Spot) → tested spot ≡ behind spot
   inner spot = ap (λ (c : Cause). unless s c (go spot (chain spot))) (first_next None (broken_at (pages_of (chain spot) image) ∷ []) refl ∙ one_cause (broken_at (pages_of (chain spot) image)))
 
-  each : (o : Option Spot) → with_spot s o NoTable (λ spot. unless s (first_cause (None ∷ broken_at (pages_of (chain spot) image) ∷ [])) (go spot (chain spot))) ≡ with_spot s o NoTable behind
+  each : (o : Option Spot) → with_spot s o NoTable tested ≡ with_spot s o NoTable behind
   unfolding with_spot
   each None = refl
   each (Some spot) = inner spot
@@ -50,7 +56,7 @@ module _ (s : Seen) (table : List ℕ) (go : Spot → Chain → Outcome) where
   unfolding in_table
   turn_is =
       let c : Cause = broken_at (pages_of Catalogue image) in
-      ap (λ (x : Cause). unless s x _) (first_next None (c ∷ []) refl ∙ one_cause c) ∙ ap (λ (o : Outcome). unless s c o) (each (table_spot table image))
+      ap (λ (x : Cause). unless s x searched_for) (first_next None (c ∷ []) refl ∙ one_cause c) ∙ ap (λ (o : Outcome). unless s c o) (each (table_spot table image))
 
   -- the table isn't found
   pub table_missing : (r : Refusal) → search_cause (broken_at (pages_of Catalogue image)) (table_spot table image) NoTable ≡ Some r → turn ≡ says s (Refused r) []
@@ -81,19 +87,19 @@ module _ (s : Seen) (table : List ℕ) (key : ℕ) where
   get_missing r e = table_missing s table get_from r e
 
   module _ (spot : Spot) (found : search_cause (broken_at (pages_of Catalogue s.base.image)) (table_spot table s.base.image) NoTable ≡ None) (at : table_spot table s.base.image ≡ Some spot) where
-    abbrev chain : Chain
-    chain = RowsFrom (first_in spot.bytes)
+    abbrev its : Chain
+    its = RowsFrom (first_in spot.bytes)
 
-    pub get_refused : (r : Refusal) → search_cause (broken_at (pages_of chain s.base.image)) (row_spot key (spots chain s.base.image)) (NoKey key) ≡ Some r → get_turn s table key ≡ says s (Refused r) []
+    pub get_refused : (r : Refusal) → search_cause (broken_at (pages_of its s.base.image)) (row_spot key (spots its s.base.image)) (NoKey key) ≡ Some r → get_turn s table key ≡ says s (Refused r) []
     unfolding get_turn
-    get_refused r e = table_found s table get_from spot found at ∙ searched s (broken_at (pages_of chain s.base.image)) (row_spot key (spots chain s.base.image)) (NoKey key) got r e
+    get_refused r e = table_found s table get_from spot found at ∙ searched s (broken_at (pages_of its s.base.image)) (row_spot key (spots its s.base.image)) (NoKey key) got r e
 
-    pub get_says : (row : Spot) → search_cause (broken_at (pages_of chain s.base.image)) (row_spot key (spots chain s.base.image)) (NoKey key) ≡ None → row_spot key (spots chain s.base.image) ≡ Some row
+    pub get_says : (row : Spot) → search_cause (broken_at (pages_of its s.base.image)) (row_spot key (spots its s.base.image)) (NoKey key) ≡ None → row_spot key (spots its s.base.image) ≡ Some row
         → get_turn s table key ≡ says s (Value (text_in row.bytes)) []
     unfolding get_turn
     get_says row none e =
-        table_whole s table get_from spot found at (search_whole (broken_at (pages_of chain s.base.image)) (row_spot key (spots chain s.base.image)) (NoKey key) none)
-        ∙ spot_some s (row_spot key (spots chain s.base.image)) (NoKey key) got row e
+        table_whole s table get_from spot found at (search_whole (broken_at (pages_of its s.base.image)) (row_spot key (spots its s.base.image)) (NoKey key) none)
+        ∙ spot_some s (row_spot key (spots its s.base.image)) (NoKey key) got row e
 
 -- `scan`
 module _ (s : Seen) (table : List ℕ) where

@@ -1,12 +1,13 @@
 -- Rows in the order of their keys, slot by slot.
-use Rattle.std.proofs.Common.{◌≡◌, ◌≢◌, inl, inr, ℕ, zero, suc, ◌<◌, ◌≤◌, List, [], ◌∷◌, ◌++◌, refl, sym, ap, ◌∙◌, arith}
-use Rattle.std.specs.Prelude.{Bool, true, false, cond, ◌&&◌, ◌==◌, nat_lt, nat_eq, Option, Some, None, option_map, is_some}
-use Rattle.std.specs.Ordering.{Ordering, Less, Equal, Greater, nat_cmp, is_eq, match_ordering}
+use Rattle.std.proofs.Common.{Ordering, Less, Equal, Greater, ◌≡◌, ◌≢◌, inl, inr, ℕ, suc, ◌<◌, List, [], ◌∷◌, ◌++◌, refl, sym, ap, ◌∙◌, arith}
+use Rattle.std.specs.Prelude.{Bool, true, false, cond, ◌==◌, nat_lt, nat_eq, Option, Some, None, option_map, is_some, slice_index}
+use Rattle.std.specs.Ordering.{nat_cmp, is_eq, match_ordering}
+use Rattle.std.specs.List.{list_all}
 use Rattle.std.specs.Map.{lookup}
 use Rattle.std.specs.BTreeMap.{insert_entry, is_at}
 use Rattle.std.proofs.lemmas.Bool.{and_from}
 use Rattle.std.proofs.lemmas.Bool.Decides.{eqb_tells, leb_tells}
-use Rattle.nb_model.specs.Chains.{Chain, RowsFrom, Slot, Spot, is_used, is_slot, key_of, text_in, first_such, row_spot}
+use Rattle.nb_model.specs.Chains.{RowsFrom, Slot, Spot, is_used, is_slot, key_of, text_in, first_such, row_spot}
 use Rattle.nb_model.specs.Rows.{RowMap, with_row, row_at, rows_in}
 use Rattle.nb_model.proofs.ReadLaws.{eq_yes, eq_no, lt_yes, lt_no}
 use Rattle.nb_model.proofs.RowMaps.{rows_rise, same_maps, rows_at}
@@ -116,3 +117,41 @@ module _ (ss : List Spot) (s : Spot) where
       by : (o : Option Spot) → row_spot key ss ≡ o → row_spot key ss ≡ None
       by None e = e
       by (Some y) e = absurd (true_false (sym (ap is_some (rows_at key ss ∙ ap (option_map text_of) e)) ∙ none))
+
+-- the rows that a map holds, and one slot more
+module _ (ss : List Spot) (s : Spot) (slot : Slot) (rs : RowMap) (is : rs ≡ rows_in ss) (same : s.bytes ≡ slot) where
+  pub held_free : slice_index slot 0 ≡ 0 → rs ≡ rows_in (ss ++ s ∷ [])
+  held_free free =
+      let first : slice_index s.bytes 0 ≡ 0 = ap (λ (b : Slot). slice_index b 0) same ∙ free in
+      is ∙ sym (row_free ss s (eq_no (slice_index s.bytes 0) 1 (λ e. absurd (omega (arith, e, first)))))
+
+  module _ (key : ℕ) (its : key ≡ key_of slot) where
+    there : is_some (row_at (key_of s.bytes) (rows_in ss)) ≡ is_some (lookup (is_at (nat_cmp key)) rs)
+    there =
+        ap (λ (k : ℕ). is_some (row_at k (rows_in ss))) (ap key_of same ∙ sym its) ∙ ap (λ (m : RowMap). is_some (row_at key m)) (sym is) ∙ sym (ap is_some (get_is key rs))
+
+    held_again : is_some (lookup (is_at (nat_cmp key)) rs) ≡ true → rs ≡ rows_in (ss ++ s ∷ [])
+    held_again some = is ∙ sym (row_again ss s (there ∙ some))
+
+    held_new : is_used slot ≡ true → is_some (lookup (is_at (nat_cmp key)) rs) ≡ false → (text : List ℕ) → text ≡ text_in slot → insert_entry nat_cmp rs key text ≡ rows_in (ss ++ s ∷ [])
+    held_new used none text text_is =
+        insert_is key text rs ∙ ap (with_row key text) is ∙ ap (λ (k : ℕ). with_row k text (rows_in ss)) (its ∙ sym (ap key_of same)) ∙ ap (λ (t : List ℕ). with_row (key_of s.bytes) t (rows_in ss)) (text_is ∙ sym (ap text_in same))
+        ∙ sym (row_new ss s (ap is_used same ∙ used) (there ∙ none))
+
+    -- it is added where there is none with its key
+    pub held_added : is_used slot ≡ true → (text : List ℕ) → text ≡ text_in slot → (now : RowMap) → (is_some (lookup (is_at (nat_cmp key)) rs) ≡ true → now ≡ rs)
+        → (is_some (lookup (is_at (nat_cmp key)) rs) ≡ false → now ≡ insert_entry nat_cmp rs key text) → now ≡ rows_in (ss ++ s ∷ [])
+    held_added used text text_is now old new = by (is_some (lookup (is_at (nat_cmp key)) rs)) refl
+      where
+        by : (t : Bool) → is_some (lookup (is_at (nat_cmp key)) rs) ≡ t → now ≡ rows_in (ss ++ s ∷ [])
+        by true e = old e ∙ held_again e
+        by false e = new e ∙ held_new used e text text_is
+
+-- which chain of rows a slot stands in doesn't matter to its form
+pub any_rows : (first : ℕ) (slots : List Slot) → list_all (is_slot (RowsFrom first)) slots ≡ list_all (is_slot (RowsFrom 0)) slots
+unfolding is_slot
+any_rows first slots = refl
+
+pub rows_none : [] ≡ rows_in []
+unfolding rows_in
+rows_none = refl

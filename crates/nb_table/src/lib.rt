@@ -28,7 +28,7 @@ mod change_tests;
 #[cfg(test)]
 mod creating_tests;
 #[cfg(test)]
-mod tests;
+mod read_tests;
 
 /// The most bytes that a page has.
 const LARGEST_PAGE: usize = 32768;

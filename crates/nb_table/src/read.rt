@@ -1,6 +1,8 @@
 // Rows are read.
-ghost use Rattle.std.specs.Prelude.{◌≡◌, ◌≢◌, ◌+◌, ◌*◌, ◌≤◌, ℕ, List, [], ◌∷◌, ◌++◌, true, IsTrue, IfErr, IfOk, OnOk, length, slice_index};
+ghost use Rattle.std.specs.Prelude.{◌≡◌, ◌≢◌, ◌+◌, ◌*◌, ◌≤◌, ℕ, List, [], ◌∷◌, ◌++◌, true, false, is_some, IsTrue, IfErr, IfOk, OnOk, length, slice_index};
 ghost use Rattle.std.specs.List.{list_all};
+ghost use Rattle.std.specs.Ordering.{nat_cmp};
+ghost use Rattle.std.specs.BTreeMap.{get, insert_entry};
 ghost use Rattle.nb_fields.specs.Places.{is_page_size};
 ghost use Rattle.nb_host.specs.declared.faults.Fault.TheVariants.{Memory};
 ghost use Rattle.nb_change.specs.Counts.{CountsDevice};
@@ -27,6 +29,7 @@ use nb_host::{Fault, Host, Refusal};
 use nb_model::{RowList, TableName, Text};
 use std::alloc::Global;
 use std::collections::BTreeMap;
+use std::collections::btree_map::Entry;
 
 /// A text of at most 200 bytes.
 fn copied(text: &[u8]) -> ArrayVec<u8, 200>
@@ -65,6 +68,26 @@ pub fn get<H: Host>(
     Ok(copied(text_of(&row.bytes)))
 }
 
+/// Adds a row, where there is none with that key.
+fn add_new(
+    alloc: Global,
+    rows: &mut BTreeMap<u64, Text>,
+    key: u64,
+    text: &[u8],
+) -> Result<(), Fault>
+    ensures there { OnOk result (is_some (get nat_cmp rows.old key) ≡ true → rows.new.entries ≡ rows.old.entries) }
+    ensures new { OnOk result (is_some (get nat_cmp rows.old key) ≡ false → rows.new.entries ≡ insert_entry nat_cmp rows.old.entries key text.now) }
+    ensures only_memory { IfErr result (λ fault. fault ≡ Memory) }
+{
+    match rows.entry(key)? {
+        Entry::Occupied(_) => Ok(()),
+        Entry::Vacant(entry) => {
+            entry.insert(Text::new(alloc, text)?);
+            Ok(())
+        }
+    }
+}
+
 /// Comes by one slot, which is of the form. Of two rows with one key the first stays.
 fn add_row(alloc: Global, rows: &mut BTreeMap<u64, Text>, slot: &[u8]) -> Result<(), Fault>
     requires size { length slot.now ≡ 256 }
@@ -75,12 +98,7 @@ fn add_row(alloc: Global, rows: &mut BTreeMap<u64, Text>, slot: &[u8]) -> Result
     if use_of(slot) == 0 {
         return Ok(());
     }
-    let key = key_of(slot);
-    if rows.contains_key(&key) {
-        return Ok(());
-    }
-    let text = Text::new(alloc, text_of(slot))?;
-    rows.insert(key, text)?;
+    add_new(alloc, rows, key_of(slot), text_of(slot))?;
     Ok(())
 }
 
@@ -116,6 +134,8 @@ fn take_rows<H: Host>(
     ensures quiet { Quiet (H.world host.old) (H.world host.new) }
     ensures cause { CountsDevice result (H.faults host.old) (H.faults host.new) }
 {
+    // Slots are counted by the size of a page, which is one of six.
+    let _size = engine.page_size();
     let chain = Chain::Rows(first);
     let mut rows = BTreeMap::new(alloc);
     let mut number = first;
@@ -167,5 +187,6 @@ pub fn scan<H: Host>(
     let page = &mut buffer[..engine.page_size() as usize];
     let found = find_table(host, engine, table, page)?;
     let rows = take_rows(alloc, host, engine, first_page(&found.bytes), page)?;
-    listed(alloc, rows)
+    let list = listed(alloc, rows)?;
+    Ok(list)
 }

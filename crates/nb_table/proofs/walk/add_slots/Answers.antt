@@ -1,8 +1,6 @@
-use Rattle.std.proofs.Common.{◌≡◌, ◌+◌, ◌-◌, ◌*◌, ◌/◌, ℕ, [], ◌∷◌, ◌++◌, length, refl, sym, ap, ◌∙◌, arith}
-use Rattle.std.specs.Prelude.{Bool, IfSome, IsTrue}
-use Rattle.std.specs.List.{list_all}
-use Rattle.nb_model.specs.Chains.{Slot, Spot, is_slot, slots_in}
-use Rattle.nb_model.specs.Chains.{is_filled}
+use Rattle.std.proofs.Common.{◌≡◌, ℕ, [], ◌∷◌, ◌++◌, length, sym, ap, ◌∙◌, arith}
+use Rattle.std.specs.Prelude.{Bool}
+use Rattle.nb_model.specs.Chains.{Slot, is_slot}
 use Rattle.nb_table.specs.Walks.{chain_of, gathered, IsPlaced}
 use Rattle.nb_table.proofs.WalkLaws.{test_first, passes_here, passes_next, comes_first, comes_next, comes_last, slot_inside}
 use Rattle.nb_table.proofs.walk.add_slots.Goals as goal

@@ -1,4 +1,4 @@
-use Rattle.std.proofs.Common.{◌+◌, ◌-◌, ◌*◌, ◌/◌, ℕ, length, refl, sym, ap, ◌∙◌, arith}
+use Rattle.std.proofs.Common.{length, sym, ap, ◌∙◌, arith}
 use Rattle.std.specs.Prelude.{Bool}
 use Rattle.std.specs.List.{list_all}
 use Rattle.nb_model.specs.Chains.{Slot, is_slot, slots_in}

@@ -1,6 +1,5 @@
-use Rattle.std.proofs.Common.{ℕ, ◌++◌, sym, ap, subst, ◌∙◌, arith}
+use Rattle.std.proofs.Common.{ℕ, ◌++◌, sym, ap, ◌∙◌}
 use Rattle.std.specs.List.{list_all}
-use Rattle.std.specs.Prelude.{true}
 use Rattle.nb_model.specs.Image.{Page}
 use Rattle.nb_model.specs.Chains.{Chain, is_slot, slots_in, spots_on, next_in}
 use Rattle.nb_engine.proofs.DoesLaws.{tested_on}

@@ -1,8 +1,7 @@
-use Rattle.std.proofs.Common.{ℕ, refl, sym, ap, ◌∙◌, arith}
-use Rattle.std.specs.Prelude.{None, Some}
+use Rattle.std.proofs.Common.{ℕ, sym, ap, ◌∙◌}
 use Rattle.std.specs.List.{list_all}
 use Rattle.nb_model.specs.Image.{Page}
-use Rattle.nb_model.specs.Chains.{is_slot, slots_in, owner_of}
+use Rattle.nb_model.specs.Chains.{is_slot, slots_in}
 use Rattle.nb_engine.specs.Data.{not_data}
 use Rattle.nb_engine.proofs.DoesLaws.{tested_on}
 use Rattle.nb_table.specs.Walks.{chain_by, not_linked}

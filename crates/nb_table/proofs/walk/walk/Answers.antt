@@ -1,7 +1,7 @@
-use Rattle.std.proofs.Common.{◌≡◌, rules, ℕ, [], List, refl, sym, ap, ◌∙◌, arith}
+use Rattle.std.proofs.Common.{◌≡◌, rules, ℕ, refl, ap, ◌∙◌, arith}
 use Rattle.nb_page.proofs.QuietLemmas.{quiet_begun, quiet_joined}
 use Rattle.nb_model.specs.Causes.{broken_at}
-use Rattle.nb_model.specs.Chains.{Chain, Spot, first_of, pages_of}
+use Rattle.nb_model.specs.Chains.{first_of, pages_of}
 use Rattle.nb_engine.proofs.DoesLaws.{tested_on}
 use Rattle.nb_table.specs.declared.look.Walked.{Walked}
 use Rattle.nb_table.specs.Walks.{chain_of, gathered, not_linked}

@@ -1,0 +1,80 @@
+use Rattle.std.proofs.Common.{◌≡◌, ℕ, ◌++◌, List, refl, sym, ap, subst, ◌∙◌, arith}
+use Rattle.std.specs.Prelude.{IsTrue}
+use Rattle.std.specs.BTreeMap.{BTreeMap}
+use Rattle.nb_fields.specs.Places.{is_page_size}
+use Rattle.nb_page.proofs.QuietLemmas.{quiet_begun, quiet_joined}
+use Rattle.nb_model.specs.Causes.{broken_at}
+use Rattle.nb_model.specs.Chains.{RowsFrom, pages_of, slots_in, spots_on, next_in}
+use Rattle.nb_model.specs.Image.{Page}
+use Rattle.nb_model.specs.Rows.{rows_in}
+use Rattle.nb_engine.proofs.DoesLaws.{tested_on}
+use Rattle.nb_table.specs.Walks.{not_linked}
+use Rattle.nb_table.proofs.SortedLaws.{any_rows, rows_none}
+use Rattle.nb_table.proofs.WalkLaws.{walks_first, walks_broken, walks_next, walks_none, walks_all, walks_over}
+use Rattle.nb_table.proofs.read.take_rows.Goals as goal
+
+pub loop-left-init : goal.loop-left-init
+loop-left-init g c = record {
+  walks = λ t tells is.
+      walks_first (RowsFrom c.args.first) t.base.image (λ ss. c.new-rows.result.entries ≡ rows_in ss) c.count-left.result c.args.first (c.count-left.ensures.value ∙ is.files.agrees.count) refl (c.new-rows.ensures.empty ∙ rows_none);
+  sized = refl;
+  opened = λ t tells is. is;
+  same = refl;
+  quiet = quiet_begun (g.H.Host.world c.args.host.now) (g.met.H.Host.timely c.args.host.now);
+  cause = refl;
+}
+
+pub returns-in_err-next-clause-test : goal.returns-in_err-next-clause-test
+returns-in_err-next-clause-test g c t tells is =
+    let l = c.loop-left in
+    let chain = RowsFrom c.args.first in
+    let still = l.invariant.opened t tells is in
+    tested_on ℕ (BTreeMap ℕ (List ℕ)) _ _ (not_linked chain t.base.image l.number) (broken_at (pages_of chain t.base.image)) c.from_residual.ensures
+    (walks_broken chain t.base.image (λ ss. l.rows.entries ≡ rows_in ss) l.left l.number c.loop-left-test.true (l.invariant.walks t tells is)) (c.in_err-next.ensures.test t tells still)
+
+pub returns-then-next-eq0-clause-test : goal.returns-then-next-eq0-clause-test
+returns-then-next-eq0-clause-test g c t tells is =
+    let l = c.loop-left in
+    let image = t.base.image in
+    let still = l.invariant.opened t tells is in
+    let page = c.in_ok-next.ensures.page t tells still in
+    walks_none (RowsFrom c.args.first) image (λ ss. l.rows.entries ≡ rows_in ss) l.left l.number c.loop-left-test.true (l.invariant.walks t tells is) (c.in_ok-next.ensures.test t tells still) (λ ss. c.add_rows.new.rows.entries ≡ rows_in ss)
+    (λ ss was. c.in_ok-add_rows.ensures.rows ss l.number was ∙ ap (λ (x : Page). rows_in (ss ++ spots_on l.number 0 (slots_in x))) page) c.in_ok-next.next (c.in_ok-next.ensures.next ∙ ap next_in page) c.if-next-eq0.true
+
+pub returns-then-next-eq0-clause-rows : goal.returns-then-next-eq0-clause-rows
+returns-then-next-eq0-clause-rows g c t tells is =
+    let l = c.loop-left in
+    let image = t.base.image in
+    let still = l.invariant.opened t tells is in
+    let page = c.in_ok-next.ensures.page t tells still in
+    walks_all (RowsFrom c.args.first) image (λ ss. l.rows.entries ≡ rows_in ss) l.left l.number c.loop-left-test.true (l.invariant.walks t tells is) (c.in_ok-next.ensures.test t tells still) (λ ss. c.add_rows.new.rows.entries ≡ rows_in ss)
+    (λ ss was. c.in_ok-add_rows.ensures.rows ss l.number was ∙ ap (λ (x : Page). rows_in (ss ++ spots_on l.number 0 (slots_in x))) page) c.in_ok-next.next (c.in_ok-next.ensures.next ∙ ap next_in page) c.if-next-eq0.true
+
+pub loop-left-preserved : goal.loop-left-preserved
+loop-left-preserved g c =
+    let l = c.loop-left in
+    record {
+      walks = λ t tells is.
+          let image = t.base.image in
+          let still = l.invariant.opened t tells is in
+          let page = c.in_ok-next.ensures.page t tells still in
+          walks_next (RowsFrom c.args.first) image (λ ss. l.rows.entries ≡ rows_in ss) l.left l.number c.loop-left-test.true (l.invariant.walks t tells is) (c.in_ok-next.ensures.test t tells still) (λ ss. c.add_rows.new.rows.entries ≡ rows_in ss)
+          (λ ss was. c.in_ok-add_rows.ensures.rows ss l.number was ∙ ap (λ (x : Page). rows_in (ss ++ spots_on l.number 0 (slots_in x))) page) c.in_ok-next.next (c.in_ok-next.ensures.next ∙ ap next_in page) c.if-next-eq0.false;
+      sized = c.in_ok-next.ensures.sized ∙ l.invariant.sized;
+      opened = λ t tells is. c.in_ok-next.ensures.open t tells (l.invariant.opened t tells is);
+      same = c.in_ok-next.ensures.same ∙ l.invariant.same;
+      quiet = quiet_joined _ _ _ l.invariant.quiet c.in_ok-next.ensures.quiet;
+      cause = c.in_ok-next.ensures.cause ∙ l.invariant.cause;
+    }
+
+pub returns-clause-test : goal.returns-clause-test
+returns-clause-test g c t tells is =
+    let l = c.loop-left in
+    walks_over (RowsFrom c.args.first) t.base.image (λ ss. l.rows.entries ≡ rows_in ss) l.left l.number (omega (arith, c.loop-left-test.false)) (l.invariant.walks t tells is)
+
+pub add_rows-requires-clause-size : goal.add_rows-requires-clause-size
+add_rows-requires-clause-size g c =
+    subst (λ (n : ℕ). IsTrue (is_page_size n)) (c.page_size-size.ensures.value ∙ sym (c.in_ok-next.ensures.sized ∙ c.loop-left.invariant.sized ∙ c.requires.size)) c.page_size-size.ensures.one_of
+
+pub add_rows-requires-clause-form : goal.add_rows-requires-clause-form
+add_rows-requires-clause-form g c = sym (any_rows c.args.first (slots_in c.take_page.new.page)) ∙ c.in_ok-next.ensures.form

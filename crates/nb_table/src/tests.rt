@@ -1,1 +1,0 @@
-// Tables on a host in memory.
