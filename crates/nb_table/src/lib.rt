@@ -22,6 +22,8 @@ pub use dropping::drop_table;
 pub use read::{get, scan};
 
 #[cfg(test)]
+mod read_tests;
+#[cfg(test)]
 mod tests;
 
 /// The most bytes that a page has.
