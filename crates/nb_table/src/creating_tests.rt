@@ -56,22 +56,27 @@ fn create_filled(host: &mut MemHost, engine: &mut Engine, name: &str) -> Result<
     Ok(())
 }
 
-/// Whether there is a table of that name, and the row with key 1 in it as it is asked for.
-fn is_there(host: &mut MemHost, engine: &mut Engine, name: &str, row: bool) -> Result<bool, Fail> {
-    match get(host, engine, &table_named(name)?, 1) {
-        Ok(_) => Ok(row),
-        Err(Fault::Refused(Refusal::NoKey { .. })) => Ok(!row),
-        Err(Fault::Refused(Refusal::NoTable)) => Ok(false),
-        Err(fault) => Err(fault.into()),
-    }
+/// What there is of a table, by a word of its own.
+fn word_of(host: &mut MemHost, engine: &mut Engine, name: &str) -> Result<&'static str, Fail> {
+    let word = match get(host, engine, &table_named(name)?, 1) {
+        Ok(_) => "rows",
+        Err(Fault::Refused(Refusal::NoKey { .. })) => "no rows",
+        Err(Fault::Refused(Refusal::NoTable)) => "none",
+        Err(_) => "broken",
+    };
+    Ok(word)
 }
 
-/// Whether there is no table of that name.
-fn is_gone(host: &mut MemHost, engine: &mut Engine, name: &str) -> Result<bool, Fail> {
-    Ok(matches!(
-        get(host, engine, &table_named(name)?, 1),
-        Err(Fault::Refused(Refusal::NoTable))
-    ))
+/// What a statement is answered, by a word of its own.
+fn answer_of(outcome: Result<(), Fault>) -> &'static str {
+    match outcome {
+        Ok(()) => "done",
+        Err(Fault::Refused(Refusal::Access { found: 1 })) => "closed",
+        Err(Fault::Refused(Refusal::NoTable)) => "no table",
+        Err(Fault::Refused(Refusal::TableExists)) => "known",
+        Err(Fault::Refused(Refusal::TooManyTables)) => "many",
+        Err(_) => "another",
+    }
 }
 
 /// A copy of the file of the database.
@@ -79,41 +84,36 @@ fn file_of(alloc: Global, host: &MemHost) -> Result<Vec<u8>, Fail> {
     Ok(Vec::from_slice(alloc, host.file(&base_name()?).unwrap_or(b""))?)
 }
 
+/// Whether the database has that file.
+fn is_same(host: &MemHost, bytes: &[u8]) -> Result<bool, Fail> {
+    Ok(host.file(&base_name()?) == Some(bytes))
+}
+
 #[test]
 fn a_table_is_made_without_rows(rt: HostRuntime) -> Result<(), Fail> {
     let mut host = MemHost::new(rt.alloc())?;
     let mut engine = new_base(rt.alloc(), &mut host)?;
     create_named(&mut host, &mut engine, "people")?;
-    let there = is_there(&mut host, &mut engine, "people", false)?;
-    let other = is_gone(&mut host, &mut engine, "peopl")?;
-    assert_eq!(rt; (there, other, engine.count()), (true, true, 14));
+    let made = word_of(&mut host, &mut engine, "people")?;
+    let other = word_of(&mut host, &mut engine, "peopl")?;
+    assert_eq!(rt; (made, other, engine.count()), ("no rows", "none", 14));
     Ok(())
 }
 
-/// Twelve tables have four pages of the catalogue.
+/// Twelve tables take four pages of the catalogue.
 #[test]
 fn a_thirteenth_table_is_refused(rt: HostRuntime) -> Result<(), Fail> {
     let mut host = MemHost::new(rt.alloc())?;
     let mut engine = new_base(rt.alloc(), &mut host)?;
-    create_all(
-        &mut host,
-        &mut engine,
-        &["a", "b", "c", "d", "e", "f", "g", "h", "i", "j", "k", "l"],
-    )?;
-    let first = is_there(&mut host, &mut engine, "a", false)?;
-    let last = is_there(&mut host, &mut engine, "l", false)?;
-    let refused = matches!(
-        create_named(&mut host, &mut engine, "m"),
-        Err(Fault::Refused(Refusal::TooManyTables))
-    );
-    assert_eq!(rt;
-        (first, last, refused, engine.count()),
-        (true, true, true, 28)
-    );
+    create_all(&mut host, &mut engine, &["a", "b", "c", "d", "e", "f"])?;
+    create_all(&mut host, &mut engine, &["g", "h", "i", "j", "k", "l"])?;
+    let last = word_of(&mut host, &mut engine, "l")?;
+    let next = answer_of(create_named(&mut host, &mut engine, "m"));
+    assert_eq!(rt; (last, next, engine.count()), ("no rows", "many", 28));
     Ok(())
 }
 
-/// The next table has its pages.
+/// The next table has them.
 #[test]
 fn a_dropped_table_gives_its_pages_back(rt: HostRuntime) -> Result<(), Fail> {
     let mut host = MemHost::new(rt.alloc())?;
@@ -121,31 +121,11 @@ fn a_dropped_table_gives_its_pages_back(rt: HostRuntime) -> Result<(), Fail> {
     create_filled(&mut host, &mut engine, "people")?;
     create_named(&mut host, &mut engine, "towns")?;
     drop_named(&mut host, &mut engine, "people")?;
-    let gone = is_gone(&mut host, &mut engine, "people")?;
-    let kept = is_there(&mut host, &mut engine, "towns", false)?;
-    create_filled(&mut host, &mut engine, "people")?;
-    assert_eq!(rt; (gone, kept, engine.count()), (true, true, 16));
+    let gone = word_of(&mut host, &mut engine, "people")?;
+    let kept = word_of(&mut host, &mut engine, "towns")?;
+    create_filled(&mut host, &mut engine, "rivers")?;
+    assert_eq!(rt; (gone, kept, engine.count()), ("none", "no rows", 16));
     Ok(())
-}
-
-/// Whether a table that is there isn't made again, and one that isn't there isn't dropped.
-fn is_refused(host: &mut MemHost, engine: &mut Engine) -> Result<bool, Fail> {
-    let made = create_named(host, engine, "people");
-    let dropped = drop_named(host, engine, "towns");
-    Ok(
-        matches!(made, Err(Fault::Refused(Refusal::TableExists)))
-            && matches!(dropped, Err(Fault::Refused(Refusal::NoTable))),
-    )
-}
-
-/// Whether a database that is closed refuses both, whatever is in it.
-fn is_closed(host: &mut MemHost, engine: &mut Engine) -> Result<bool, Fail> {
-    let made = create_named(host, engine, "people");
-    let dropped = drop_named(host, engine, "towns");
-    Ok(
-        matches!(made, Err(Fault::Refused(Refusal::Access { found: 1 })))
-            && matches!(dropped, Err(Fault::Refused(Refusal::Access { found: 1 }))),
-    )
 }
 
 #[test]
@@ -153,27 +133,34 @@ fn a_refused_statement_changes_nothing(rt: HostRuntime) -> Result<(), Fail> {
     let mut host = MemHost::new(rt.alloc())?;
     let mut engine = new_base(rt.alloc(), &mut host)?;
     create_named(&mut host, &mut engine, "people")?;
-    let before = file_of(rt.alloc(), &host)?;
-    let refused = is_refused(&mut host, &mut engine)?;
-    let same = file_of(rt.alloc(), &host)?.as_slice() == before.as_slice();
-    assert_eq!(rt; (refused, same), (true, true));
+    let bytes = file_of(rt.alloc(), &host)?;
+    let made = answer_of(create_named(&mut host, &mut engine, "people"));
+    let dropped = answer_of(drop_named(&mut host, &mut engine, "towns"));
+    assert_eq!(rt;
+        (made, dropped, is_same(&host, &bytes)?),
+        ("known", "no table", true)
+    );
     Ok(())
 }
 
+/// Whatever tables it has.
 #[test]
-fn a_closed_database_has_its_tables(rt: HostRuntime) -> Result<(), Fail> {
+fn a_closed_database_keeps_its_tables(rt: HostRuntime) -> Result<(), Fail> {
     let mut host = MemHost::new(rt.alloc())?;
     let mut engine = new_base(rt.alloc(), &mut host)?;
     create_named(&mut host, &mut engine, "people")?;
     engine.set_access(&mut host, true)?;
-    let before = file_of(rt.alloc(), &host)?;
-    let closed = is_closed(&mut host, &mut engine)?;
-    let same = file_of(rt.alloc(), &host)?.as_slice() == before.as_slice();
-    assert_eq!(rt; (closed, same), (true, true));
+    let bytes = file_of(rt.alloc(), &host)?;
+    let made = answer_of(create_named(&mut host, &mut engine, "people"));
+    let dropped = answer_of(drop_named(&mut host, &mut engine, "towns"));
+    assert_eq!(rt;
+        (made, dropped, is_same(&host, &bytes)?),
+        ("closed", "closed", true)
+    );
     Ok(())
 }
 
-/// A database with three tables, of which `people` has two pages: the catalogue is full.
+/// The file of a database with three tables, of which `people` has two pages: the catalogue is full.
 fn full_base(alloc: Global) -> Result<Vec<u8>, Fail> {
     let mut host = MemHost::new(alloc)?;
     let mut engine = new_base(alloc, &mut host)?;
@@ -182,52 +169,60 @@ fn full_base(alloc: Global) -> Result<Vec<u8>, Fail> {
     file_of(alloc, &host)
 }
 
-/// What is done to it.
-#[derive(Clone, Copy)]
-enum Step {
-    /// A fourth table is made, behind which the catalogue has a page more.
-    Make,
-    /// The table of two pages is dropped.
-    Drop,
-}
-
-/// Opens the database of the host, and makes the step.
-fn take(alloc: Global, host: &mut MemHost, step: Step) -> Result<(), Fault> {
+/// Opens the database of the host, and drops the table of two pages, or makes a fourth one, behind which the catalogue has a page more.
+fn take(alloc: Global, host: &mut MemHost, drops: bool) -> Result<(), Fault> {
     let mut engine = open(alloc, host)?;
-    match step {
-        Step::Make => create_named(host, &mut engine, "rivers"),
-        Step::Drop => drop_named(host, &mut engine, "people"),
+    if drops {
+        return drop_named(host, &mut engine, "people");
     }
+    create_named(host, &mut engine, "rivers")
 }
 
-/// Whether the host has the tables as they stand before the step, or behind it, where it isn't done for good.
-fn is_left(alloc: Global, host: &mut MemHost, step: Step, is_done: bool) -> Result<bool, Fail> {
+/// Whether the host has these tables and no other ones.
+fn has_tables(alloc: Global, host: &mut MemHost, people: &str, rivers: &str) -> Result<bool, Fail> {
     let mut engine = open(alloc, host)?;
-    let kept = is_there(host, &mut engine, "towns", false)?
-        && is_there(host, &mut engine, "roads", false)?;
-    let people = is_there(host, &mut engine, "people", true)?;
-    let rivers = is_there(host, &mut engine, "rivers", false)?;
-    Ok(
-        kept && match step {
-            Step::Make => people && (rivers || !is_done),
-            Step::Drop => !rivers && !(people && is_done),
-        },
-    )
+    let first = word_of(host, &mut engine, "people")?;
+    let second = word_of(host, &mut engine, "towns")?;
+    let third = word_of(host, &mut engine, "roads")?;
+    let fourth = word_of(host, &mut engine, "rivers")?;
+    Ok(first == people && second == "no rows" && third == "no rows" && fourth == rivers)
+}
+
+/// Whether the host has the tables as they stand behind the step, or, unless that was acknowledged, before it.
+fn is_left(alloc: Global, host: &mut MemHost, drops: bool, is_done: bool) -> Result<bool, Fail> {
+    let (people, rivers) = if drops {
+        ("none", "none")
+    } else {
+        ("rows", "no rows")
+    };
+    let behind = has_tables(alloc, host, people, rivers)?;
+    let before = has_tables(alloc, host, "rows", "none")?;
+    Ok(behind || before && !is_done)
+}
+
+/// The first of some picks by which a stop now leaves anything else.
+fn wrong_pick(
+    alloc: Global,
+    host: &MemHost,
+    drops: bool,
+    is_done: bool,
+) -> Result<Option<u64>, Fail> {
+    for pick in 0..6 {
+        let mut left = host.left(pick)?;
+        if !is_left(alloc, &mut left, drops, is_done)? {
+            return Ok(Some(pick));
+        }
+    }
+    Ok(None)
 }
 
 /// The first call at which a stop leaves other tables than those before or after, or after which an acknowledged step is missing.
-fn wrong_stop(alloc: Global, bytes: &[u8], step: Step) -> Result<Option<u64>, Fail> {
+fn wrong_stop(alloc: Global, bytes: &[u8], drops: bool) -> Result<Option<u64>, Fail> {
     for stop in 1..40 {
         let mut host = MemHost::fused(alloc, stop)?;
         host.put_file(&base_name()?, bytes)?;
-        let is_done = take(alloc, &mut host, step).is_ok();
-        for pick in [0, 1, 2, 5] {
-            let mut left = host.left(pick)?;
-            if !is_left(alloc, &mut left, step, is_done)? {
-                return Ok(Some(stop));
-            }
-        }
-        if stop == 39 && !is_done {
+        let is_done = take(alloc, &mut host, drops).is_ok();
+        if wrong_pick(alloc, &host, drops, is_done)?.is_some() || !is_done && stop == 39 {
             return Ok(Some(stop));
         }
     }
@@ -235,10 +230,15 @@ fn wrong_stop(alloc: Global, bytes: &[u8], step: Step) -> Result<Option<u64>, Fa
 }
 
 #[test]
-fn a_stop_leaves_the_tables_before_or_after(rt: HostRuntime) -> Result<(), Fail> {
+fn a_stop_leaves_a_table_made_or_not(rt: HostRuntime) -> Result<(), Fail> {
     let bytes = full_base(rt.alloc())?;
-    let made = wrong_stop(rt.alloc(), &bytes, Step::Make)?;
-    let dropped = wrong_stop(rt.alloc(), &bytes, Step::Drop)?;
-    assert_eq!(rt; (made, dropped), (None, None));
+    assert_eq!(rt; wrong_stop(rt.alloc(), &bytes, false)?, None);
+    Ok(())
+}
+
+#[test]
+fn a_stop_leaves_a_table_dropped_or_not(rt: HostRuntime) -> Result<(), Fail> {
+    let bytes = full_base(rt.alloc())?;
+    assert_eq!(rt; wrong_stop(rt.alloc(), &bytes, true)?, None);
     Ok(())
 }
