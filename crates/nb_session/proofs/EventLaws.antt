@@ -20,14 +20,13 @@ use Rattle.nb_change.proofs.SettledLaws.{durable_is, durable_still}
 use Rattle.nb_model.specs.declared.reply.Reply.{Reply}
 use Rattle.nb_model.specs.Strokes.{Stroke}
 use Rattle.nb_model.specs.Going.{IsMaking}
-use Rattle.nb_model.specs.Lines.{line_text}
 use Rattle.nb_model.specs.Making.{MadeFile, making}
 use Rattle.nb_model.specs.Outcomes.{Turn, Outcome}
 use Rattle.nb_model.specs.Run.{Event, Now, Played, base_now, event_of, outcome, stands_then, take_turn, replies_of, files_made}
 use Rattle.nb_model.specs.Output.{output, status_of, status_after}
 use Rattle.nb_model.specs.Steps.{made, steps_in, steps_of, after_step, after_steps, acked_turns}
 use Rattle.nb_model.specs.Trail.{Trail, StandsIn, after_stroke}
-use Rattle.nb_model.proofs.OutputLaws.{output_one, status_one, output-quiet, output_no_event, status_no_event}
+use Rattle.nb_model.proofs.OutputLaws.{output-quiet, output_no_event, status_no_event}
 use Rattle.nb_model.proofs.StepsLaws.{steps_one, strokes_within, strokes_front, acked_steps_none, acked_steps_most, turns_before}
 use Rattle.nb_base.specs.Takes.{after_strokes}
 use Rattle.nb_copy.specs.Making.{IsKept, IsUnfinishedOr}
@@ -35,13 +34,16 @@ use Rattle.nb_state.specs.Open.{Held, IsOpen, name_of}
 use Rattle.nb_state.specs.Does.{WhereEnded}
 use Rattle.nb_state.proofs.TurnLaws.{still_open}
 use Rattle.nb_session.specs.declared.stop.Stop.{Stop}
+use Rattle.nb_session.specs.declared.told.Told.{Told}
 use Rattle.nb_session.specs.Acts.{AreKept, Acts}
 use Rattle.nb_session.specs.Ready.{IsReady, IsApart}
 use Rattle.nb_session.specs.Replies.{HasEnded, has_only_told, only_told}
 use Rattle.nb_session.specs.Says.{FrontSaid, SaysLine}
 use Rattle.nb_session.specs.Stops.{StopLeft, PlayedOut, Plays}
+use Rattle.nb_session.specs.Told.{told_reply as told_as, told_turns, told_line, told_status}
 use Rattle.nb_session.proofs.GiftLaws.{given_nothing, given_joined}
 use Rattle.nb_session.proofs.ReadyLaws.{apart_files, ready_then}
+use Rattle.nb_session.proofs.ToldLaws.{told_one, told_none, told_status_is, told_only, output_told, status_told}
 
 -- what holds where a call ended with a value or a refusal
 pub ended : {T P : Type 0} (answer : Result T Fault) → HasEnded answer → WhereEnded answer P → P
@@ -211,12 +213,12 @@ module _ (old mid new : World) (e0 e1 : Held) (t : Trail) (now : Now) (session :
         unchanged = λ all. absurd (unsaid event quiet (one_told event all));
       })
 
-      module _ (r : Reply) (is_said : told ≡ Some r) {S E : Type 0} (line_said : Result S E) (says : SaysLine line_said mid new (line_text session r)) where
+      module _ {S E : Type 0} (line_said : Result S E) (says : SaysLine line_said mid new (told_line session told)) where
         abbrev line : List ℕ
-        line = line_text session r
+        line = told_line session told
 
         output_is : output (event ∷ []) ≡ line
-        output_is = output_one event r is_said
+        output_is = output_told event told refl
 
         all_steps : after_steps t (steps_in event) ≡ after_steps t (take (length (steps_of (event ∷ []))) (steps_of (event ∷ [])))
         all_steps = trail_is ∙ ap (after_steps t) (sym (take_all (length (steps_of (event ∷ []))) (steps_of (event ∷ [])) (omega arith)))
@@ -243,52 +245,62 @@ module _ (old mid new : World) (e0 e1 : Held) (t : Trail) (now : Now) (session :
         whole : AtEachMoment old new Left
         whole = joined old mid new _ _ _ during says.moments (λ fs said is. is) saying
 
-        -- its line wasn't said whole
+        -- what is told wasn't said whole
         pub told_unsaid : (e : Stop) → Plays (Err e) old new e0 e1 t now one files
         told_unsaid e = plays_with (Err e) new whole says.still tt
 
         -- it was
-        pub told_said : (refused : Bool) → new.said ≡ mid.said ++ line → status_after r ≡ (if refused then 1 else 0) → (only_told event ≡ true → only_told (event_of session u here) ≡ true)
+        pub told_said : (refused : Bool) → new.said ≡ mid.said ++ line → told_status told ≡ (if refused then 1 else 0) → (only_told event ≡ true → only_told (event_of session u here) ≡ true)
             → Plays (Ok refused) old new e0 e1 t now one files
         told_said refused said status only = plays_with (Ok refused) new whole says.still (record {
           ready = ready_at new says.still;
           said = said ∙ ap (λ (l : List ℕ). l ++ line) acts.left.said ∙ ap (λ (l : List ℕ). old.said ++ l) (sym output_is);
-          status = status_one event r is_said ∙ status;
+          status = status_told event told refl ∙ status;
           given = given_joined old mid new now.given here.given one.1.given (ended result has acts.given) (given_nothing mid new here.given one.1.given says.gave given_then);
           kept = kept_still mid new (files_made (event ∷ [])) says.still kept_mid;
           unchanged = λ all. says.still.files ∙ ended result has acts.unchanged (only (one_told event all));
         })
 
--- The event as the turn has it.
-module _ (old mid new : World) (e0 e1 : Held) (t : Trail) (now : Now) (session : ℕ) (u : Turn) (tail more : List Turn) where
+-- The event of the turn, and what is told of it.
+module _ (how : Told) (old mid new : World) (e0 e1 : Held) (t : Trail) (now : Now) (session : ℕ) (u : Turn) (tail more : List Turn) where
   abbrev turn_done : Outcome
   turn_done = outcome session u now
 
   abbrev turn_files : List MadeFile
   turn_files = making (base_now now).frozen (u ∷ tail)
 
-  abbrev pub played : Played
-  played = take_turn session (u ∷ (tail ++ more)) now
+  abbrev turn_told : Option Reply
+  turn_told = told_as how turn_done.reply
 
-  as_played : (result : Result Bool Stop) (w : World) → Plays result old w e0 e1 t now (one old mid new e0 e1 t now session u tail more turn_done.reply) turn_files → Plays result old w e0 e1 t now played turn_files
+  abbrev pub played : Played
+  played = told_turns how (take_turn session (u ∷ (tail ++ more)) now)
+
+  as_played : (result : Result Bool Stop) (w : World) → Plays result old w e0 e1 t now (one old mid new e0 e1 t now session u tail more turn_told) turn_files → Plays result old w e0 e1 t now played turn_files
   unfolding take_turn
-  as_played result w plays = plays
+  as_played result w plays =
+      subst (λ (es : List Event). Plays result old w e0 e1 t now (es, stands_then session (tail ++ more) turn_done now) turn_files) (sym (told_one how (event_of session u turn_done))) plays
 
   module _ {T : Type 0} (result : Result T Fault) (reply : T → Option Reply) (acts : Acts reply result old mid e0 e1 t now session u turn_files) (marks : Marks old mid e0 turn_files) where
     -- the turn failed
     pub event_failed : (e : Stop) → Plays (Err e) old mid e0 e1 t now played turn_files
-    event_failed e = as_played (Err e) mid (told_failed old mid new e0 e1 t now session u tail more turn_done.reply result reply acts marks e)
+    event_failed e = as_played (Err e) mid (told_failed old mid new e0 e1 t now session u tail more turn_told result reply acts marks e)
 
     module _ (has : HasEnded result) (place : slice_index_or now.todo (session - 1) [] ≡ u ∷ (tail ++ more)) (ready : IsReady old e0 t now) (makes : IsMaking now) where
       -- it has nothing to say
       pub event_quiet : turn_done.reply ≡ None → Plays (Ok false) old mid e0 e1 t now played turn_files
-      event_quiet quiet = as_played (Ok false) mid (told_quiet old mid new e0 e1 t now session u tail more turn_done.reply result reply acts marks has place ready makes quiet)
+      event_quiet quiet = as_played (Ok false) mid (told_quiet old mid new e0 e1 t now session u tail more turn_told result reply acts marks has place ready makes (told_none how turn_done.reply quiet))
 
-      module _ (r : Reply) (is_said : turn_done.reply ≡ Some r) {S E : Type 0} (line_said : Result S E) (says : SaysLine line_said mid new (line_text session r)) where
-        -- its line wasn't said whole
+      module _ (r : Reply) (is_said : turn_done.reply ≡ Some r) {S E : Type 0} (line_said : Result S E) (says : SaysLine line_said mid new (told_line session (told_as how (Some r)))) where
+        says_it : SaysLine line_said mid new (told_line session turn_told)
+        says_it = subst (λ (reply : Option Reply). SaysLine line_said mid new (told_line session (told_as how reply))) (sym is_said) says
+
+        -- what is told wasn't said whole
         pub event_unsaid : (e : Stop) → Plays (Err e) old new e0 e1 t now played turn_files
-        event_unsaid e = as_played (Err e) new (told_unsaid old mid new e0 e1 t now session u tail more turn_done.reply result reply acts marks has place ready makes r is_said line_said says e)
+        event_unsaid e = as_played (Err e) new (told_unsaid old mid new e0 e1 t now session u tail more turn_told result reply acts marks has place ready makes line_said says_it e)
 
         -- it was
-        pub event_said : (refused : Bool) → new.said ≡ mid.said ++ line_text session r → status_after r ≡ (if refused then 1 else 0) → Plays (Ok refused) old new e0 e1 t now played turn_files
-        event_said refused said status = as_played (Ok refused) new (told_said old mid new e0 e1 t now session u tail more turn_done.reply result reply acts marks has place ready makes r is_said line_said says refused said status (λ told. told))
+        pub event_said : (refused : Bool) → new.said ≡ mid.said ++ told_line session (told_as how (Some r)) → status_after r ≡ (if refused then 1 else 0) → Plays (Ok refused) old new e0 e1 t now played turn_files
+        event_said refused said status =
+            as_played (Ok refused) new (told_said old mid new e0 e1 t now session u tail more turn_told result reply acts marks has place ready makes line_said says_it refused
+            (said ∙ ap (λ (reply : Option Reply). mid.said ++ told_line session (told_as how reply)) (sym is_said))
+            (ap (λ (reply : Option Reply). told_status (told_as how reply)) is_said ∙ told_status_is how r ∙ status) (λ only. told_only how (event_of session u turn_done) only))

@@ -21,10 +21,12 @@ use Rattle.nb_copy.specs.Starting.{Backed, IsBackingUp}
 use Rattle.nb_state.specs.Open.{Held, name_of}
 use Rattle.nb_session.specs.declared.task.Task.{Task}
 use Rattle.nb_session.specs.declared.task.Task.TheVariants.{Backup, Copy, End, Merge}
+use Rattle.nb_session.specs.declared.told.Told.{Told}
 use Rattle.nb_session.specs.Acts.{Touched}
 use Rattle.nb_session.specs.Askers.{Asker, task_first, task_rest, task_todo, HasTodo}
 use Rattle.nb_session.specs.Ready.{IsReady, IsApart, TaskGoes}
 use Rattle.nb_session.specs.Stops.{Plays}
+use Rattle.nb_session.specs.Told.{told_turns}
 use Rattle.nb_session.proofs.UnderWayLaws.{IsCopyTurn, first_copies, copy_runs, none_making}
 
 -- What touches other files keeps a copy.
@@ -67,8 +69,8 @@ apart_other held name apart (inl (inr delta)) = no_main (name_of held) name apar
 apart_other held name apart (inr made) = omega (arith, made.1.1)
 
 -- A turn of another session.
-module _ (session : ℕ) (asker : Asker) (off : session - 1 ≢ asker.number - 1) (refused : Bool) (old new : World) (before after : Held) (t : Trail) (now : Now) (ready : IsReady old before t now) (makes : IsMaking now) (has : HasTodo asker now)
-    (plays : Plays (Ok refused) old new before after t now (one_turn session now) (making_by session now)) where
+module _ (session : ℕ) (asker : Asker) (off : session - 1 ≢ asker.number - 1) (how : Told) (refused : Bool) (old new : World) (before after : Held) (t : Trail) (now : Now) (ready : IsReady old before t now) (makes : IsMaking now) (has : HasTodo asker now)
+    (plays : Plays (Ok refused) old new before after t now (told_turns how (one_turn session now)) (making_by session now)) where
   abbrev then : Now
   then = (one_turn session now).1
 

@@ -6,9 +6,9 @@ pub mod StopLaws
 pub mod PlayLaws
 pub mod MakesLaws
 pub mod ReadyLaws
+pub mod ToldLaws
 pub mod EventLaws
 pub mod TurnLaws
-pub mod SizedLaws
 pub mod KeepLaws
 pub mod ActLaws
 pub mod WayLaws

@@ -22,16 +22,19 @@ use Rattle.nb_script.specs.Fits.{IsSession}
 use Rattle.nb_state.specs.Open.{Held}
 use Rattle.nb_session.specs.declared.task.Task.{Task}
 use Rattle.nb_session.specs.declared.task.Task.TheVariants.{Backup, Copy, End, Merge}
+use Rattle.nb_session.specs.declared.told.Told.{Told}
 use Rattle.nb_session.specs.Acts.{AreSixteen, Grows}
 use Rattle.nb_session.specs.Askers.{Asker, task_todo, task_left, todo_of, HasTodo, left_of, IsFit, any_refused}
 use Rattle.nb_session.specs.Ready.{IsReady, TaskGoes}
 use Rattle.nb_session.specs.Steps.{as_played, Steps, TakesNext}
 use Rattle.nb_session.specs.Stops.{Plays}
+use Rattle.nb_session.specs.Told.{told_turns}
 use Rattle.nb_session.proofs.GiftLaws.{foretold_first, foretold_then, foretold_itself, grows_none, grows_joined}
 use Rattle.nb_session.proofs.GoesLaws.{goes_on}
 use Rattle.nb_session.proofs.MadeLaws.{none_among}
 use Rattle.nb_session.proofs.NextLaws.{keeps_todo, play_more, giving, making_giving, next_once, next_others, next_among, next_has}
 use Rattle.nb_session.proofs.PlayLaws.{behind, trail_after, no_made, plays_none, plays_then}
+use Rattle.nb_session.proofs.ToldLaws.{told_nothing, told_append, told_among, told_others}
 
 -- the sessions of a script as agents
 abbrev pub sessions_kind : {H : Type 0} (tells : Bool) (world : H → World) (faults : H → ℕ) → Kind Asker H Held
@@ -84,7 +87,7 @@ agent_some askers (suc place) low high = there askers place (omega arith)
     there (x ∷ xs) zero within = (x, refl)
     there (x ∷ xs) (suc i) within = there xs i (omega arith)
 
-module _ {H : Type 0} (tells : Bool) (told : IsTrue tells) (world : H → World) (faults : H → ℕ) (old : H) (before : Held) (t : Trail) (now : Now) (order : List ℕ)
+module _ {H : Type 0} (tells : Bool) (told : IsTrue tells) (world : H → World) (faults : H → ℕ) (old : H) (before : Held) (t : Trail) (how : Told) (now : Now) (order : List ℕ)
     (numbers : AllByRecursion IsSession order) (making : IsMaking now) where
   -- where the outside gives these
   abbrev from : Given → Now
@@ -94,7 +97,7 @@ module _ {H : Type 0} (tells : Bool) (told : IsTrue tells) (world : H → World)
   -- since all that are whole are among these, and those of copies that are under way may be.
   pub record IsSoFar (front : List ℕ) (s : Scene Asker H Held) (given : Given) : Type 0 where
     pub made : List MadeFile
-    pub plays : Plays (Ok (any_refused s.agents)) (world old) (world s.host) before s.shared t (from given) (play front (from given)) made
+    pub plays : Plays (Ok (any_refused s.agents)) (world old) (world s.host) before s.shared t (from given) (told_turns how (play front (from given))) made
     pub among : AreAmong made (files_made (play front (from given)).0 ++ under_way (play front (from given)).1)
     pub has : AreAmong (files_made (play front (from given)).0) made
     pub todo : (session : ℕ) (asker : Asker) → agent_of s.agents session ≡ Some asker → HasTodo asker (play front (from given)).1
@@ -105,6 +108,7 @@ module _ {H : Type 0} (tells : Bool) (told : IsTrue tells) (world : H → World)
     pub grown : Grows (world old) (world s.host)
     pub sixteen : length s.agents ≡ 16
     pub placed : (session : ℕ) (asker : Asker) → agent_of s.agents session ≡ Some asker → asker.number ≡ session
+    pub telling : (session : ℕ) (asker : Asker) → agent_of s.agents session ≡ Some asker → asker.told ≡ how
     pub so_far : (given : Given) → AreSixteen given.guids → Foretells given (world old) (world s.host) → IsSoFar front s given
 
   abbrev pub Holds : List ℕ → Scene Asker H Held → Type 0
@@ -126,7 +130,7 @@ module _ {H : Type 0} (tells : Bool) (told : IsTrue tells) (world : H → World)
       play_more front session (from given) ∙ ap (λ (q : Played). (p.0 ++ q.0, q.1)) idle ∙ ap (λ (es : List Event). (es, p.1)) (append-nil p.0) in
       record {
         made = far.made;
-        plays = subst (λ (q : Played). Plays (Ok (any_refused s.agents)) (world old) (world s.host) before s.shared t (from given) q far.made) (sym same) far.plays;
+        plays = subst (λ (q : Played). Plays (Ok (any_refused s.agents)) (world old) (world s.host) before s.shared t (from given) (told_turns how q) far.made) (sym same) far.plays;
         among = subst (λ (q : Played). AreAmong far.made (files_made q.0 ++ under_way q.1)) (sym same) far.among;
         has = subst (λ (q : Played). AreAmong (files_made q.0) far.made) (sym same) far.has;
         todo = λ n asker there. subst (λ (q : Played). HasTodo asker q.1) (sym same) (far.todo n asker there);
@@ -143,6 +147,7 @@ module _ {H : Type 0} (tells : Bool) (told : IsTrue tells) (world : H → World)
         grown = here.grown;
         sixteen = here.sixteen;
         placed = here.placed;
+        telling = here.telling;
         so_far = λ given sixteen foretold.
             let far = here.so_far given sixteen foretold in
             let todo : List (List Turn) = (play front (from given)).1.todo in
@@ -160,11 +165,11 @@ module _ {H : Type 0} (tells : Bool) (told : IsTrue tells) (world : H → World)
     module _ (answer : Result (Unit {0}) Fault) (made : Steps tells answer (world s.host) (world s'.host) (faults s.host) (faults s'.host) s.shared s'.shared asker moved) where
       -- what it did, where this was given so far
       pub took : (given : Given) → AreSixteen given.guids → Foretells given (world old) (world s.host)
-          → TakesNext made.refused answer (world s.host) (world s'.host) s.shared s'.shared (trail_after t (play front (from given))) (play front (from given)).1 asker moved
+          → TakesNext made.refused answer (world s.host) (world s'.host) s.shared s'.shared (trail_after t (told_turns how (play front (from given)))) (play front (from given)).1 asker moved
       took given sixteen foretold =
           let far = here.so_far given sixteen foretold in
           let ready = far.plays.done.ready in
-          made.takes (play front (from given)).1 (trail_after t (play front (from given))) told ready (making_play front (from given) (making_giving now given sixteen making)) (far.todo session asker there)
+          made.takes (play front (from given)).1 (trail_after t (told_turns how (play front (from given)))) told ready (making_play front (from given) (making_giving now given sixteen making)) (far.todo session asker there)
           (subst (λ (b : Base). TaskGoes asker.number (world s.host) s.shared b.frozen asker.task) (sym ready.base) (far.goes session asker there))
 
       pub turn_grows : Grows (world s.host) (world s'.host)
@@ -179,12 +184,14 @@ module _ {H : Type 0} (tells : Bool) (told : IsTrue tells) (world : H → World)
           foretold_then (world old) (world s.host) (world s'.host) given (play front (from given)).1.given (here.so_far given sixteen (told_first given foretold)).plays.done.given turn_grows foretold
 
       pub turn_plays : (given : Given) → AreSixteen given.guids → Foretells given (world old) (world s'.host)
-          → Plays (as_played (λ done. made.refused) answer) (world s.host) (world s'.host) s.shared s'.shared (trail_after t (play front (from given))) (play front (from given)).1
-          (one_turn session (play front (from given)).1) (making_by session (play front (from given)).1)
+          → Plays (as_played (λ done. made.refused) answer) (world s.host) (world s'.host) s.shared s'.shared (trail_after t (told_turns how (play front (from given)))) (play front (from given)).1
+          (told_turns how (one_turn session (play front (from given)).1)) (making_by session (play front (from given)).1)
       turn_plays given sixteen foretold =
-          subst (λ (n : ℕ). Plays (as_played (λ done. made.refused) answer) (world s.host) (world s'.host) s.shared s'.shared (trail_after t (play front (from given))) (play front (from given)).1
-          (one_turn n (play front (from given)).1) (making_by n (play front (from given)).1)) mine
-          ((took given sixteen (told_first given foretold)).plays (told_then given sixteen foretold))
+          subst (λ (h : Told). Plays (as_played (λ done. made.refused) answer) (world s.host) (world s'.host) s.shared s'.shared (trail_after t (told_turns how (play front (from given)))) (play front (from given)).1
+          (told_turns h (one_turn session (play front (from given)).1)) (making_by session (play front (from given)).1)) (here.telling session asker there)
+          (subst (λ (n : ℕ). Plays (as_played (λ done. made.refused) answer) (world s.host) (world s'.host) s.shared s'.shared (trail_after t (told_turns how (play front (from given)))) (play front (from given)).1
+          (told_turns asker.told (one_turn n (play front (from given)).1)) (making_by n (play front (from given)).1)) mine
+          ((took given sixteen (told_first given foretold)).plays (told_then given sixteen foretold)))
 
     module _ (made : Steps tells (Ok tt) (world s.host) (world s'.host) (faults s.host) (faults s'.host) s.shared s'.shared asker moved)
         (placed : (n : ℕ) (a : Asker) → agent_of s'.agents n ≡ Some a → a.number ≡ n) (given : Given) (sixteen : AreSixteen given.guids) (foretold : Foretells given (world old) (world s'.host)) where
@@ -194,7 +201,7 @@ module _ {H : Type 0} (tells : Bool) (told : IsTrue tells) (world : H → World)
       far : IsSoFar front s given
       far = here.so_far given sixteen (told_first (Ok tt) made given foretold)
 
-      next_is : TakesNext made.refused (Ok tt) (world s.host) (world s'.host) s.shared s'.shared (trail_after t p) p.1 asker moved
+      next_is : TakesNext made.refused (Ok tt) (world s.host) (world s'.host) s.shared s'.shared (trail_after t (told_turns how p)) p.1 asker moved
       next_is = took (Ok tt) made given sixteen (told_first (Ok tt) made given foretold)
 
       low : 0 < session
@@ -218,7 +225,7 @@ module _ {H : Type 0} (tells : Bool) (told : IsTrue tells) (world : H → World)
       goes_then = each_then (λ a. TaskGoes a.number (world s'.host) s'.shared (base_now (one_turn session p.1).1).frozen a.task)
           (subst (λ (k : ℕ). TaskGoes k (world s'.host) s'.shared (base_now (one_turn session p.1).1).frozen moved.task) (sym same)
           (subst (λ (k : ℕ). TaskGoes asker.number (world s'.host) s'.shared (base_now (one_turn k p.1).1).frozen moved.task) mine (next_is.goes (told_then (Ok tt) made given sixteen foretold))))
-          (λ n a at off. goes_on session a off made.refused (world s.host) (world s'.host) s.shared s'.shared (trail_after t p) p.1 far.plays.done.ready (making_play front (from given) (making_giving now given sixteen making))
+          (λ n a at off. goes_on session a off how made.refused (world s.host) (world s'.host) s.shared s'.shared (trail_after t (told_turns how p)) p.1 far.plays.done.ready (making_play front (from given) (making_giving now given sixteen making))
           (far.todo n a at) (turn_plays (Ok tt) made given sixteen foretold) a.task refl (far.goes n a at))
 
       turn_far : IsSoFar (front ++ session ∷ []) s' given
@@ -232,16 +239,23 @@ module _ {H : Type 0} (tells : Bool) (told : IsTrue tells) (world : H → World)
           ap any_refused agents ∙ any_set s.agents (session - 1) asker moved made.refused (agent_there s.agents session asker there).1 made.noted in
           record {
             made = files;
-            plays = subst (λ (r : Played). Plays (Ok (any_refused s'.agents)) (world old) (world s'.host) before s'.shared t n r files) (sym more)
-                (subst (λ (r : Bool). Plays (Ok r) (world old) (world s'.host) before s'.shared t n q files) (sym refused)
-                (plays_then (world old) (world s.host) (world s'.host) before s.shared s'.shared t n p (one_turn session p.1) far.made (making_by session p.1)
-                (next_once n given_making front session far.made far.among) far.has (next_others n given_making front session)
-                (any_refused s.agents) made.refused far.plays (turn_plays (Ok tt) made given sixteen foretold)));
+            plays = subst (λ (r : Played). Plays (Ok (any_refused s'.agents)) (world old) (world s'.host) before s'.shared t n (told_turns how r) files) (sym more)
+                (subst (λ (r : Bool). Plays (Ok r) (world old) (world s'.host) before s'.shared t n (told_turns how q) files) (sym refused)
+                (subst (λ (es : List Event). Plays (Ok (any_refused s.agents || made.refused)) (world old) (world s'.host) before s'.shared t n (es, q.1) files) (sym (told_append how p.0 (one_turn session p.1).0))
+                (plays_then (world old) (world s.host) (world s'.host) before s.shared s'.shared t n (told_turns how p) (told_turns how (one_turn session p.1)) far.made (making_by session p.1)
+                (next_once n given_making front session far.made far.among) (told_among how p.0 far.made far.has) (told_others how p.0 (making_by session p.1) (next_others n given_making front session))
+                (any_refused s.agents) made.refused far.plays (turn_plays (Ok tt) made given sixteen foretold))));
             among = subst (λ (r : Played). AreAmong files (files_made r.0 ++ under_way r.1)) (sym more) (next_among n given_making front session far.made far.among);
             has = subst (λ (r : Played). AreAmong (files_made r.0) files) (sym more) (next_has n given_making front session far.made far.among far.has);
             todo = λ k a at. subst (λ (r : Played). HasTodo a r.1) (sym more) (todo_then k a at);
             goes = λ k a at. subst (λ (r : Played). TaskGoes a.number (world s'.host) s'.shared (base_now r.1).frozen a.task) (sym more) (goes_then k a at);
           }
+
+    telling_then : moved.told ≡ asker.told → (n : ℕ) (a : Asker) → agent_of s'.agents n ≡ Some a → a.told ≡ how
+    telling_then kept n a at = elim (agent_of_set s.agents session n moved a (omega (arith, number.0)) (subst (λ (list : List Asker). agent_of list n ≡ Some a) agents at)) [
+      | inl this ↦ ap (λ (x : Asker). x.told) this.1 ∙ kept ∙ here.telling session asker there
+      | inr other ↦ here.telling n a other.1
+    ]
 
     turn_holds : (made : Steps tells (Ok tt) (world s.host) (world s'.host) (faults s.host) (faults s'.host) s.shared s'.shared asker moved) → ((n : ℕ) (a : Asker) → agent_of s'.agents n ≡ Some a → a.number ≡ n)
         → HoldsAt (front ++ session ∷ []) s'
@@ -249,6 +263,7 @@ module _ {H : Type 0} (tells : Bool) (told : IsTrue tells) (world : H → World)
       grown = grows_joined (world old) (world s.host) (world s'.host) here.grown (turn_grows (Ok tt) made);
       sixteen = ap length agents ∙ length-set s.agents (session - 1) moved ∙ here.sixteen;
       placed = placed;
+      telling = telling_then made.told;
       so_far = λ given sixteen foretold. turn_far made placed given sixteen foretold;
     }
 
@@ -259,17 +274,19 @@ module _ {H : Type 0} (tells : Bool) (told : IsTrue tells) (world : H → World)
 
   -- before the first turn nothing is under way
   pub none_hold : (agents : List Asker) → IsTimely (world old) → IsReady (world old) before t now → length agents ≡ 16 → any_refused agents ≡ false
-      → ((session : ℕ) (asker : Asker) → agent_of agents session ≡ Some asker → asker.number ≡ session)
+      → ((session : ℕ) (asker : Asker) → agent_of agents session ≡ Some asker → asker.number ≡ session) → ((session : ℕ) (asker : Asker) → agent_of agents session ≡ Some asker → asker.told ≡ how)
       → ((session : ℕ) (asker : Asker) → agent_of agents session ≡ Some asker → HasTodo asker now × (asker.task ≡ None)) → Holds [] (scene agents old before)
   unfolding play
-  none_hold agents timely ready sixteen none placed fresh rest is = record {
+  none_hold agents timely ready sixteen none placed telling fresh rest is = record {
     grown = grows_none (world old) (world old) (record { guids = refl; times = refl });
     sixteen = sixteen;
     placed = placed;
+    telling = telling;
     so_far = λ given guids foretold. record {
       made = [];
-      plays = subst (λ (r : Bool). Plays (Ok r) (world old) (world old) before before t (from given) ([], from given) []) (sym none)
-          (plays_none (world old) before t (from given) timely (record { opened = ready.opened; base = ready.base; there = ready.there; named = ready.named; running = ready.running; known = ready.known }));
+      plays = subst (λ (r : Bool). Plays (Ok r) (world old) (world old) before before t (from given) (told_turns how ([], from given)) []) (sym none)
+          (subst (λ (es : List Event). Plays (Ok false) (world old) (world old) before before t (from given) (es, from given) []) (sym (told_nothing how))
+          (plays_none (world old) before t (from given) timely (record { opened = ready.opened; base = ready.base; there = ready.there; named = ready.named; running = ready.running; known = ready.known })));
       among = none_among (files_made [] ++ under_way (from given));
       has = λ file there. absurd (no_made 0 file.0 file.1 there);
       todo = λ session asker there. (fresh session asker there).0;

@@ -23,10 +23,12 @@ use Rattle.nb_state.specs.Open.{Held}
 use Rattle.nb_session.specs.declared.stop.Stop.{Stop}
 use Rattle.nb_session.specs.declared.task.Task.{Task}
 use Rattle.nb_session.specs.declared.task.Taken.{Taken}
+use Rattle.nb_session.specs.declared.told.Told.{Told}
 use Rattle.nb_session.specs.Askers.{Asker, task_first, task_rest, task_todo, task_left, left_of, todo_of, HasTodo, KeepsOthers}
 use Rattle.nb_session.specs.Ready.{IsReady, TaskGoes}
 use Rattle.nb_session.specs.Steps.{as_played, Turns, TakesNext, Steps}
 use Rattle.nb_session.specs.Stops.{Plays}
+use Rattle.nb_session.specs.Told.{told_turns}
 use Rattle.nb_session.proofs.UnderWayLaws.{making_append, making_begins}
 
 -- a session takes the first turn that it has to do
@@ -74,15 +76,15 @@ module _ (old new : World) (a b : Held) (t : Trail) (now : Now) (asker moved : A
       ap (making (base_now now).frozen) (has ∙ here) ∙ making_append (base_now now).frozen (turn ∷ tail) more
       ∙ ap (λ (files : List MadeFile). making (base_now now).frozen (turn ∷ tail) ++ files) (making_begins (base_now now).frozen rest) ∙ append-nil (making (base_now now).frozen (turn ∷ tail))
 
-  plays_one : (result : Result Bool Stop) → Plays result old new a b t now (take_turn asker.number (turn ∷ (tail ++ more)) now) (making (base_now now).frozen (turn ∷ tail))
-      → Plays result old new a b t now (one_turn asker.number now) (making_by asker.number now)
+  plays_one : (result : Result Bool Stop) → Plays result old new a b t now (told_turns asker.told (take_turn asker.number (turn ∷ (tail ++ more)) now)) (making (base_now now).frozen (turn ∷ tail))
+      → Plays result old new a b t now (told_turns asker.told (one_turn asker.number now)) (making_by asker.number now)
   plays_one result plays =
-      subst (λ (p : Played). Plays result old new a b t now p (making_by asker.number now)) (sym one_is)
-      (subst (Plays result old new a b t now (take_turn asker.number (turn ∷ (tail ++ more)) now)) (sym made_is) plays)
+      subst (λ (p : Played). Plays result old new a b t now (told_turns asker.told p) (making_by asker.number now)) (sym one_is)
+      (subst (Plays result old new a b t now (told_turns asker.told (take_turn asker.number (turn ∷ (tail ++ more)) now))) (sym made_is) plays)
 
   -- the turn was taken
-  takes_turn : (taken : Taken) (noted : Bool) → moved ≡ record { number = asker.number; statements = rest; task = taken.task; refused = noted }
-      → Turns (λ (x : Taken). x.refused) (λ (x : Taken). x.task) (Ok taken) old new a b t now asker.number turn tail more → TakesNext taken.refused (Ok tt) old new a b t now asker moved
+  takes_turn : (taken : Taken) (noted : Bool) → moved ≡ record { number = asker.number; told = asker.told; statements = rest; task = taken.task; refused = noted }
+      → Turns asker.told (λ (x : Taken). x.refused) (λ (x : Taken). x.task) (Ok taken) old new a b t now asker.number turn tail more → TakesNext taken.refused (Ok tt) old new a b t now asker moved
   takes_turn taken noted same turns = record {
     grows = turns.grows;
     plays = λ told. plays_one (Ok taken.refused) (turns.plays told);
@@ -97,12 +99,12 @@ module _ (old new : World) (a b : Held) (t : Trail) (now : Now) (asker moved : A
 
   -- it ended early
   takes_none : (fault : Fault) (answer : Result (Unit {0}) Fault) (refused : Bool) → IsErr answer × IsErrAnd answer (λ e. e ≡ fault)
-      → Turns (λ (x : Taken). x.refused) (λ (x : Taken). x.task) (Err fault) old new a b t now asker.number turn tail more → TakesNext refused answer old new a b t now asker moved
+      → Turns asker.told (λ (x : Taken). x.refused) (λ (x : Taken). x.task) (Err fault) old new a b t now asker.number turn tail more → TakesNext refused answer old new a b t now asker moved
   takes_none fault (Ok done) refused is turns = absurd is.1
   takes_none fault (Err e) refused is turns = record {
     grows = turns.grows;
-    plays = λ told. subst (λ (f : Fault). Plays (as_played {T = Unit {0}} (λ done. refused) (Err f)) old new a b t now (one_turn asker.number now) (making_by asker.number now)) (sym is.1)
-        (plays_err {S = Unit {0}} (λ (x : Taken). x.refused) (λ done. refused) fault old new a b t now (one_turn asker.number now) (making_by asker.number now)
+    plays = λ told. subst (λ (f : Fault). Plays (as_played {T = Unit {0}} (λ done. refused) (Err f)) old new a b t now (told_turns asker.told (one_turn asker.number now)) (making_by asker.number now)) (sym is.1)
+        (plays_err {S = Unit {0}} (λ (x : Taken). x.refused) (λ done. refused) fault old new a b t now (told_turns asker.told (one_turn asker.number now)) (making_by asker.number now)
         (plays_one (as_played (λ (x : Taken). x.refused) (Err fault)) (turns.plays told)));
     todo = λ told. tt;
     goes = λ told. tt;
@@ -128,17 +130,17 @@ module _ {S : Type 0} (fault : Fault) where
       by Memory is = is
 
 -- A statement of one turn, of which it is known whether it was refused, as what it left.
-module _ (old new : World) (a b : Held) (t : Trail) (now : Now) (session : ℕ) (turn : Turn) (tail more : List Turn) where
-  pub turns_left : (refused : Bool) → Turns (λ (r : Bool). r) (λ r. None) (Ok refused) old new a b t now session turn tail more
-      → Turns (λ (x : Taken). x.refused) (λ (x : Taken). x.task) (Ok (record { task = None; refused = refused })) old new a b t now session turn tail more
+module _ (how : Told) (old new : World) (a b : Held) (t : Trail) (now : Now) (session : ℕ) (turn : Turn) (tail more : List Turn) where
+  pub turns_left : (refused : Bool) → Turns how (λ (r : Bool). r) (λ r. None) (Ok refused) old new a b t now session turn tail more
+      → Turns how (λ (x : Taken). x.refused) (λ (x : Taken). x.task) (Ok (record { task = None; refused = refused })) old new a b t now session turn tail more
   turns_left refused turns = record { grows = turns.grows; plays = turns.plays; behind = turns.behind }
 
-  pub turns_handed : (fault : Fault) (answer : Result Taken Fault) → IsErr answer × IsErrAnd answer (λ e. e ≡ fault) → Turns (λ (r : Bool). r) (λ r. None) (Err fault) old new a b t now session turn tail more
-      → Turns (λ (x : Taken). x.refused) (λ (x : Taken). x.task) answer old new a b t now session turn tail more
+  pub turns_handed : (fault : Fault) (answer : Result Taken Fault) → IsErr answer × IsErrAnd answer (λ e. e ≡ fault) → Turns how (λ (r : Bool). r) (λ r. None) (Err fault) old new a b t now session turn tail more
+      → Turns how (λ (x : Taken). x.refused) (λ (x : Taken). x.task) answer old new a b t now session turn tail more
   turns_handed fault (Ok taken) is turns = absurd is.1
   turns_handed fault (Err e) is turns = record {
     grows = turns.grows;
-    plays = λ told. subst (λ (f : Fault). Plays (as_played (λ (x : Taken). x.refused) (Err f)) old new a b t now (take_turn session (turn ∷ (tail ++ more)) now) (making (base_now now).frozen (turn ∷ tail))) (sym is.1)
+    plays = λ told. subst (λ (f : Fault). Plays (as_played (λ (x : Taken). x.refused) (Err f)) old new a b t now (told_turns how (take_turn session (turn ∷ (tail ++ more)) now)) (making (base_now now).frozen (turn ∷ tail))) (sym is.1)
         (plays_err (λ (r : Bool). r) (λ (x : Taken). x.refused) fault old new a b t now _ _ (turns.plays told));
     behind = λ told. tt;
   }
@@ -151,18 +153,19 @@ going_on asker task is = ap (λ (x : Option Task). task_todo x ++ map Begins ask
 beginning : (asker : Asker) (statement : Statement) (rest : List Statement) → asker.task ≡ None → asker.statements ≡ statement ∷ rest → todo_of asker ≡ Begins statement ∷ ([] ++ map Begins rest)
 beginning asker statement rest is first = ap (λ (x : Option Task). task_todo x ++ map Begins asker.statements) is ∙ ap (map Begins) first
 
-module _ (tells : Bool) (old new : World) (faults faults' : ℕ) (a b : Held) (asker moved : Asker) (others : KeepsOthers asker.number a b) where
+module _ (tells : Bool) (old new : World) (faults faults' : ℕ) (a b : Held) (asker moved : Asker) (others : KeepsOthers asker.number a b) (kept : moved.told ≡ asker.told) where
   module _ (turn : Turn) (tail : List Turn) (rest : List Statement) (here : todo_of asker ≡ turn ∷ (tail ++ map Begins rest)) where
     -- what the turn did, where the session comes to it
     abbrev Turned : Result Taken Fault → Type 0
     Turned result = (now : Now) (t : Trail) → IsTrue tells → IsReady old a t now → IsMaking now → slice_index_or now.todo (asker.number - 1) [] ≡ turn ∷ (tail ++ map Begins rest) → TaskGoes asker.number old a t.base.frozen asker.task
-        → Turns (λ (x : Taken). x.refused) (λ (x : Taken). x.task) result old new a b t now asker.number turn tail (map Begins rest)
+        → Turns asker.told (λ (x : Taken). x.refused) (λ (x : Taken). x.task) result old new a b t now asker.number turn tail (map Begins rest)
 
     step_failed : (fault : Fault) (answer : Result (Unit {0}) Fault) → IsErr answer × IsErrAnd answer (λ e. e ≡ fault) → Turned (Err fault) → CountsDevice {T = Taken} (Err fault) faults faults' → IsNoRefusal fault
         → Steps tells answer old new faults faults' a b asker moved
     step_failed fault answer handed turned counts none = record {
       refused = false;
       noted = on_handed answer handed;
+      told = kept;
       takes = λ now t told ready going has goes. takes_none old new a b t now asker moved turn tail rest here has fault answer false handed (turned now t told ready going (has ∙ here) goes);
       others = others;
       cause = counts_handed fault Taken answer faults faults' handed counts;
@@ -173,11 +176,12 @@ module _ (tells : Bool) (old new : World) (faults faults' : ℕ) (a b : Held) (a
         on_handed (Ok done) is = absurd is.1
         on_handed (Err e) is = tt
 
-    step_taken : (taken : Taken) → moved ≡ record { number = asker.number; statements = rest; task = taken.task; refused = asker.refused || taken.refused } → Turned (Ok taken) → faults' ≡ faults
+    step_taken : (taken : Taken) → moved ≡ record { number = asker.number; told = asker.told; statements = rest; task = taken.task; refused = asker.refused || taken.refused } → Turned (Ok taken) → faults' ≡ faults
         → Steps tells (Ok tt) old new faults faults' a b asker moved
     step_taken taken same turned counts = record {
       refused = taken.refused;
       noted = ap (λ (x : Asker). x.refused) same;
+      told = kept;
       takes = λ now t told ready going has goes.
           takes_turn old new a b t now asker moved turn tail rest here has taken (asker.refused || taken.refused) same (turned now t told ready going (has ∙ here) goes);
       others = others;
@@ -189,7 +193,7 @@ module _ (tells : Bool) (old new : World) (faults faults' : ℕ) (a b : Held) (a
   module _ (task : Task) (is : asker.task ≡ Some task) where
     abbrev Went : Result Taken Fault → Type 0
     Went result = (now : Now) (t : Trail) (more : List Turn) → IsTrue tells → IsReady old a t now → IsMaking now → slice_index_or now.todo (asker.number - 1) [] ≡ task_first task ∷ (task_rest task ++ more)
-        → TaskGoes asker.number old a t.base.frozen (Some task) → Turns (λ (x : Taken). x.refused) (λ (x : Taken). x.task) result old new a b t now asker.number (task_first task) (task_rest task) more
+        → TaskGoes asker.number old a t.base.frozen (Some task) → Turns asker.told (λ (x : Taken). x.refused) (λ (x : Taken). x.task) result old new a b t now asker.number (task_first task) (task_rest task) more
 
     came : (result : Result Taken Fault) → Went result → Turned (task_first task) (task_rest task) asker.statements (going_on asker task is) result
     came result went now t told ready going at goes = went now t (map Begins asker.statements) told ready going at (subst (TaskGoes asker.number old a t.base.frozen) is goes)
@@ -199,7 +203,7 @@ module _ (tells : Bool) (old new : World) (faults faults' : ℕ) (a b : Held) (a
     went_failed fault answer handed went counts none =
         step_failed (task_first task) (task_rest task) asker.statements (going_on asker task is) fault answer handed (came (Err fault) went) counts none
 
-    pub went_taken : (taken : Taken) → moved ≡ record { number = asker.number; statements = asker.statements; task = taken.task; refused = asker.refused || taken.refused } → Went (Ok taken) → faults' ≡ faults
+    pub went_taken : (taken : Taken) → moved ≡ record { number = asker.number; told = asker.told; statements = asker.statements; task = taken.task; refused = asker.refused || taken.refused } → Went (Ok taken) → faults' ≡ faults
         → Steps tells (Ok tt) old new faults faults' a b asker moved
     went_taken taken same went counts = step_taken (task_first task) (task_rest task) asker.statements (going_on asker task is) taken same (came (Ok taken) went) counts
 
@@ -207,14 +211,14 @@ module _ (tells : Bool) (old new : World) (faults faults' : ℕ) (a b : Held) (a
   module _ (statement : Statement) (rest : List Statement) (is : asker.task ≡ None) (first : asker.statements ≡ statement ∷ rest) where
     abbrev Began : Result Taken Fault → Type 0
     Began result = (now : Now) (t : Trail) (more : List Turn) → IsTrue tells → IsReady old a t now → IsMaking now → slice_index_or now.todo (asker.number - 1) [] ≡ Begins statement ∷ more
-        → Turns (λ (x : Taken). x.refused) (λ (x : Taken). x.task) result old new a b t now asker.number (Begins statement) [] more
+        → Turns asker.told (λ (x : Taken). x.refused) (λ (x : Taken). x.task) result old new a b t now asker.number (Begins statement) [] more
 
     pub began_failed : (fault : Fault) (answer : Result (Unit {0}) Fault) → IsErr answer × IsErrAnd answer (λ e. e ≡ fault) → Began (Err fault) → CountsDevice {T = Taken} (Err fault) faults faults' → IsNoRefusal fault
         → Steps tells answer old new faults faults' a b asker moved
     began_failed fault answer handed began counts none =
         step_failed (Begins statement) [] rest (beginning asker statement rest is first) fault answer handed (λ now t told ready going at goes. began now t (map Begins rest) told ready going at) counts none
 
-    pub began_taken : (taken : Taken) → moved ≡ record { number = asker.number; statements = rest; task = taken.task; refused = asker.refused || taken.refused } → Began (Ok taken) → faults' ≡ faults
+    pub began_taken : (taken : Taken) → moved ≡ record { number = asker.number; told = asker.told; statements = rest; task = taken.task; refused = asker.refused || taken.refused } → Began (Ok taken) → faults' ≡ faults
         → Steps tells (Ok tt) old new faults faults' a b asker moved
     began_taken taken same began counts =
         step_taken (Begins statement) [] rest (beginning asker statement rest is first) taken same (λ now t told ready going at goes. began now t (map Begins rest) told ready going at) counts

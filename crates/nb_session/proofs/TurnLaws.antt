@@ -29,14 +29,18 @@ use Rattle.nb_session.specs.declared.stop.Stop.{Stop}
 use Rattle.nb_session.specs.declared.stop.Stop.TheVariants.{Device as DeviceStop, Memory as MemoryStop}
 use Rattle.nb_session.specs.declared.task.Task.{Task}
 use Rattle.nb_session.specs.declared.task.Taken.{Taken}
+use Rattle.nb_session.specs.declared.told.Told.{Told}
 use Rattle.nb_session.specs.Acts.{Says, Grows, Acts, MayAct}
 use Rattle.nb_session.specs.Ready.{IsReady}
 use Rattle.nb_session.specs.Replies.{HasEnded, is_refusal}
 use Rattle.nb_session.specs.Says.{SaysLine}
 use Rattle.nb_session.specs.Steps.{as_played, IsBehind, Turns}
 use Rattle.nb_session.specs.Stops.{Plays}
+use Rattle.nb_session.specs.Told.{told_line, told_reply, told_turns}
 use Rattle.nb_session.proofs.EventLaws.{Marks, event_failed, event_quiet, event_unsaid, event_said}
 use Rattle.nb_session.proofs.GiftLaws.{foretold_still, grows_joined, grows_none}
+use Rattle.nb_session.proofs.SaysLaws.{says_other}
+use Rattle.nb_session.proofs.ToldLaws.{refusal_line}
 
 -- a result that is a failure
 pub plays_err : {T : Type 0} (refused : T → Bool) (result : Result T Fault) (old new : World) (before after : Held) (t : Trail) (now : Now) (p : Played) (files : List MadeFile) → IsErr result
@@ -51,11 +55,11 @@ err_none (Ok value) P is = absurd (cc (is))
 err_none (Err e) P is = tt
 
 -- A turn of the session that has it to do next, and `tail` and `more` behind it.
-module _ {T S : Type 0} (reply : T → Option Reply) (result : Result T Fault) (refused : S → Bool) (task : S → Option Task) (old mid new : World) (e0 e1 : Held) (t : Trail) (now : Now) (session : ℕ)
+module _ {T S : Type 0} (how : Told) (reply : T → Option Reply) (result : Result T Fault) (refused : S → Bool) (task : S → Option Task) (old mid new : World) (e0 e1 : Held) (t : Trail) (now : Now) (session : ℕ)
     (u : Turn) (tail more : List Turn) (files : List MadeFile) (files_are : files ≡ making (base_now now).frozen (u ∷ tail)) (makes : IsMaking now) (place : slice_index_or now.todo (session - 1) [] ≡ u ∷ (tail ++ more))
     (may : MayAct reply result old mid e0 e1 t now session u files) (mark : Acts reply result old mid e0 e1 t now session u files → Marks old mid e0 files) where
   abbrev played : Played
-  played = take_turn session (u ∷ (tail ++ more)) now
+  played = told_turns how (take_turn session (u ∷ (tail ++ more)) now)
 
   acting : Foretells now.given old mid → Acts reply result old mid e0 e1 t now session u (making (base_now now).frozen (u ∷ tail))
   acting told = subst (Acts reply result old mid e0 e1 t now session u) files_are (may.acts told)
@@ -64,26 +68,26 @@ module _ {T S : Type 0} (reply : T → Option Reply) (result : Result T Fault) (
   marks told = subst (Marks old mid e0) files_are (mark (may.acts told))
 
   -- it failed before it was to say anything
-  pub turns_failed : (answer : Result S Fault) → IsErr answer → Turns refused task answer old mid e0 e1 t now session u tail more
+  pub turns_failed : (answer : Result S Fault) → IsErr answer → Turns how refused task answer old mid e0 e1 t now session u tail more
   turns_failed answer failed = record {
     grows = may.grows;
-    plays = λ told. plays_err refused answer old mid e0 e1 t now played (making (base_now now).frozen (u ∷ tail)) failed (event_failed old mid mid e0 e1 t now session u tail more result reply (acting told) (marks told));
+    plays = λ told. plays_err refused answer old mid e0 e1 t now played (making (base_now now).frozen (u ∷ tail)) failed (event_failed how old mid mid e0 e1 t now session u tail more result reply (acting told) (marks told));
     behind = λ told. err_none answer _ failed;
   }
 
   -- it has nothing to say
   pub turns_quiet : (value : S) → HasEnded result → refused value ≡ false → IsReady old e0 t now → ((said : Option Reply) → Says reply result said → said ≡ None)
-      → (Foretells now.given old mid → IsBehind mid e1 session u tail now (task value)) → Turns refused task (Ok value) old mid e0 e1 t now session u tail more
+      → (Foretells now.given old mid → IsBehind mid e1 session u tail now (task value)) → Turns how refused task (Ok value) old mid e0 e1 t now session u tail more
   turns_quiet value has not_refused ready quiet behind = record {
     grows = may.grows;
     plays = λ told.
         let acts = acting told in
         subst (λ (b : Bool). Plays (Ok b) old mid e0 e1 t now played (making (base_now now).frozen (u ∷ tail))) (sym not_refused)
-        (event_quiet old mid mid e0 e1 t now session u tail more result reply acts (marks told) has place ready makes (quiet _ acts.says));
+        (event_quiet how old mid mid e0 e1 t now session u tail more result reply acts (marks told) has place ready makes (quiet _ acts.says));
     behind = behind;
   }
 
-  module _ (has : HasEnded result) (r : Reply) (is_said : (said : Option Reply) → Says reply result said → said ≡ Some r) {V E : Type 0} (told_line : Result V E) (says : SaysLine told_line mid new (line_text session r)) (ready : IsReady old e0 t now) where
+  module _ (has : HasEnded result) (r : Reply) (is_said : (said : Option Reply) → Says reply result said → said ≡ Some r) {V E : Type 0} (line_said : Result V E) (says : SaysLine line_said mid new (told_line session (told_reply how (Some r)))) (ready : IsReady old e0 t now) where
     before : Foretells now.given old new → Foretells now.given old mid
     before told = foretold_still old mid new now.given may.grows says.gave told
 
@@ -91,32 +95,32 @@ module _ {T S : Type 0} (reply : T → Option Reply) (result : Result T Fault) (
     grown = grows_joined old mid new may.grows (grows_none mid new says.gave)
 
     -- its line wasn't said whole
-    pub turns_unsaid : (answer : Result S Fault) → IsErr answer → Turns refused task answer old new e0 e1 t now session u tail more
+    pub turns_unsaid : (answer : Result S Fault) → IsErr answer → Turns how refused task answer old new e0 e1 t now session u tail more
     turns_unsaid answer failed = record {
       grows = grown;
       plays = λ told.
           let acts = acting (before told) in
           plays_err refused answer old new e0 e1 t now played (making (base_now now).frozen (u ∷ tail)) failed
-          (event_unsaid old mid new e0 e1 t now session u tail more result reply acts (marks (before told)) has place ready makes r (is_said _ acts.says) told_line says);
+          (event_unsaid how old mid new e0 e1 t now session u tail more result reply acts (marks (before told)) has place ready makes r (is_said _ acts.says) line_said says);
       behind = λ told. err_none answer _ failed;
     }
 
     -- it was
-    pub turns_said : (value : S) → new.said ≡ mid.said ++ line_text session r → ((outcome session u now).reply ≡ Some r → status_after r ≡ (if refused value then 1 else 0))
-        → (Foretells now.given old mid → IsBehind new e1 session u tail now (task value)) → Turns refused task (Ok value) old new e0 e1 t now session u tail more
+    pub turns_said : (value : S) → new.said ≡ mid.said ++ told_line session (told_reply how (Some r)) → ((outcome session u now).reply ≡ Some r → status_after r ≡ (if refused value then 1 else 0))
+        → (Foretells now.given old mid → IsBehind new e1 session u tail now (task value)) → Turns how refused task (Ok value) old new e0 e1 t now session u tail more
     turns_said value said status behind = record {
       grows = grown;
       plays = λ told.
           let acts = acting (before told) in
           let reply_is = is_said _ acts.says in
-          event_said old mid new e0 e1 t now session u tail more result reply acts (marks (before told)) has place ready makes r reply_is told_line says (refused value) said (status reply_is);
+          event_said how old mid new e0 e1 t now session u tail more result reply acts (marks (before told)) has place ready makes r reply_is line_said says (refused value) said (status reply_is);
       behind = λ told. behind (before told);
     }
 
 -- what doesn't come
-pub turns_never : {S : Type 0} (refused : S → Bool) (task : S → Option Task) (answer : Result S Fault) (old new : World) (a b : Held) (t : Trail) (now : Now) (session : ℕ) (u : Turn) (tail more : List Turn) → ⊥
-    → Turns refused task answer old new a b t now session u tail more
-turns_never refused task answer old new a b t now session u tail more never = absurd never
+pub turns_never : {S : Type 0} (how : Told) (refused : S → Bool) (task : S → Option Task) (answer : Result S Fault) (old new : World) (a b : Held) (t : Trail) (now : Now) (session : ℕ) (u : Turn) (tail more : List Turn) → ⊥
+    → Turns how refused task answer old new a b t now session u tail more
+turns_never how refused task answer old new a b t now session u tail more never = absurd never
 
 -- what a turn sees
 abbrev pub seen_now : Now → Seen
@@ -144,19 +148,20 @@ single_behind w held session statement now single =
     record { next = append-nil (outcome session (Begins statement) now).next ∙ ap (λ o. o.next) (outcome_is session statement now) ∙ single (seen_now now) session; goes = tt }
 
 -- A turn that was refused, and whose refusal is said.
-module _ {T : Type 0} (reply : T → Option Reply) (refusal : Refusal) (old mid new : World) (e0 e1 : Held) (t : Trail) (now : Now) (session : ℕ) (u : Turn) (tail more : List Turn)
+module _ {T : Type 0} (how : Told) (reply : T → Option Reply) (refusal : Refusal) (old mid new : World) (e0 e1 : Held) (t : Trail) (now : Now) (session : ℕ) (u : Turn) (tail more : List Turn)
     (files : List MadeFile) (files_are : files ≡ making (base_now now).frozen (u ∷ tail)) (makes : IsMaking now) (place : slice_index_or now.todo (session - 1) [] ≡ u ∷ (tail ++ more))
     (may : MayAct reply (Err (Refused refusal)) old mid e0 e1 t now session u files) (mark : Acts reply (Err (Refused refusal)) old mid e0 e1 t now session u files → Marks old mid e0 files) (ready : IsReady old e0 t now) where
   pub turns_refused : (answer : Result Taken Fault) → SaysLine answer mid new (line_text session (RefusedBy refusal)) → IfOk answer (λ taken. taken ≡ record { task = None; refused = true })
       → ((outcome session u now).reply ≡ Some (RefusedBy refusal) → status_after (RefusedBy refusal) ≡ 1) → (Foretells now.given old mid → IsBehind new e1 session u tail now None)
-      → Turns (λ taken. taken.refused) (λ taken. taken.task) answer old new e0 e1 t now session u tail more
+      → Turns how (λ taken. taken.refused) (λ taken. taken.task) answer old new e0 e1 t now session u tail more
   turns_refused (Ok taken) says is status behind =
-      turns_said reply (Err (Refused refusal)) (λ (x : Taken). x.refused) (λ (x : Taken). x.task) old mid new e0 e1 t now session u tail more files files_are makes place may mark tt (RefusedBy refusal) (λ said s. s) (Ok taken) says ready
-      taken says.said
+      turns_said how reply (Err (Refused refusal)) (λ (x : Taken). x.refused) (λ (x : Taken). x.task) old mid new e0 e1 t now session u tail more files files_are makes place may mark tt (RefusedBy refusal) (λ said s. s) (Ok taken)
+      (says_other (Ok taken) mid new _ _ (refusal_line how session refusal) says) ready taken (says.said ∙ ap (λ (l : List ℕ). mid.said ++ l) (refusal_line how session refusal))
       (λ replied. status replied ∙ ap (λ (x : Taken). if x.refused then 1 else 0) (sym is))
       (λ told. subst (λ (x : Taken). IsBehind new e1 session u tail now x.task) (sym is) (behind told))
   turns_refused (Err fault) says is status behind =
-      turns_unsaid reply (Err (Refused refusal)) (λ (x : Taken). x.refused) (λ (x : Taken). x.task) old mid new e0 e1 t now session u tail more files files_are makes place may mark tt (RefusedBy refusal) (λ said s. s) (Err fault) says ready
+      turns_unsaid how reply (Err (Refused refusal)) (λ (x : Taken). x.refused) (λ (x : Taken). x.task) old mid new e0 e1 t now session u tail more files files_are makes place may mark tt (RefusedBy refusal) (λ said s. s) (Err fault)
+      (says_other (Err fault) mid new _ _ (refusal_line how session refusal) says) ready
       (Err fault) refl
 
 -- which value would have come says nothing of a failure
@@ -172,12 +177,12 @@ counts_err S T Memory m n is = is
 
 -- A failure is handed on.
 module _ (fault : Fault) (answer : Result Taken Fault) (handed : IsErr answer × IsErrAnd answer (λ e. e ≡ fault)) where
-  pub handed_turns : {T : Type 0} (refused : T → Bool) (task : T → Option Task) (old new : World) (a b : Held) (t : Trail) (now : Now) (session : ℕ) (u : Turn) (tail more : List Turn)
-      → Turns refused task (Err fault) old new a b t now session u tail more → Turns (λ taken. taken.refused) (λ taken. taken.task) answer old new a b t now session u tail more
-  handed_turns refused task old new a b t now session u tail more turns =
-      subst (λ (r : Result Taken Fault). Turns (λ taken. taken.refused) (λ taken. taken.task) r old new a b t now session u tail more) (sym (passed_on answer fault handed)) (record {
+  pub handed_turns : {T : Type 0} (how : Told) (refused : T → Bool) (task : T → Option Task) (old new : World) (a b : Held) (t : Trail) (now : Now) (session : ℕ) (u : Turn) (tail more : List Turn)
+      → Turns how refused task (Err fault) old new a b t now session u tail more → Turns how (λ taken. taken.refused) (λ taken. taken.task) answer old new a b t now session u tail more
+  handed_turns how refused task old new a b t now session u tail more turns =
+      subst (λ (r : Result Taken Fault). Turns how (λ taken. taken.refused) (λ taken. taken.task) r old new a b t now session u tail more) (sym (passed_on answer fault handed)) (record {
         grows = turns.grows;
-        plays = λ told. subst (λ (r : Result Bool Stop). Plays r old new a b t now (take_turn session (u ∷ (tail ++ more)) now) (making (base_now now).frozen (u ∷ tail))) (played_err refused (λ (x : Taken). x.refused) fault) (turns.plays told);
+        plays = λ told. subst (λ (r : Result Bool Stop). Plays r old new a b t now (told_turns how (take_turn session (u ∷ (tail ++ more)) now)) (making (base_now now).frozen (u ∷ tail))) (played_err refused (λ (x : Taken). x.refused) fault) (turns.plays told);
         behind = λ told. tt;
       })
 

@@ -17,7 +17,7 @@ use Rattle.nb_model.specs.Gifts.{Foretells}
 use Rattle.nb_model.specs.Going.{IsMaking}
 use Rattle.nb_model.specs.Making.{MadeFile, making_by, under_way, AreAmong}
 use Rattle.nb_model.specs.Outcomes.{Turn, Begins}
-use Rattle.nb_model.specs.Run.{Now, Played, one_turn, play, rounds, all_sessions, files_made, AreFinished, begun}
+use Rattle.nb_model.specs.Run.{Event, Now, Played, one_turn, play, rounds, all_sessions, files_made, AreFinished, begun}
 use Rattle.nb_model.specs.Trail.{Trail}
 use Rattle.nb_model.proofs.GoingLaws.{own_in_use}
 use Rattle.nb_model.proofs.MakingLaws.{free_play, made_once}
@@ -30,12 +30,14 @@ use Rattle.nb_script.specs.Fits.{IsSession}
 use Rattle.nb_script.specs.Scripts.{Plan}
 use Rattle.nb_state.specs.Open.{Held, name_of}
 use Rattle.nb_session.specs.declared.stop.Stop.{Stop}
+use Rattle.nb_session.specs.declared.told.Told.{Told}
 use Rattle.nb_session.specs.Acts.{Grows}
 use Rattle.nb_session.specs.Askers.{Asker, HasTodo, left_of, IsFit, any_refused, fresh_asker, first_askers}
 use Rattle.nb_session.specs.Ready.{IsReady}
 use Rattle.nb_session.specs.Stops.{Plays}
 use Rattle.nb_session.specs.Steps.{as_played}
 use Rattle.nb_session.specs.Todo.{PlaysWhole}
+use Rattle.nb_session.specs.Told.{told_events, told_turns}
 use Rattle.nb_session.proofs.AllLaws.{all_append}
 use Rattle.nb_session.proofs.EndLaws.{turns_end}
 use Rattle.nb_session.proofs.GiftLaws.{foretold_first, grows_joined}
@@ -45,6 +47,7 @@ use Rattle.nb_session.proofs.NextLaws.{play_length, play_more, all_among, next_o
 use Rattle.nb_session.proofs.PlayLaws.{behind, trail_after, plays_wider, plays_failed, plays_cut}
 use Rattle.nb_session.proofs.SceneLaws.{sessions_kind, done_todo, agent_some, Holds, HoldsAt, rests_hold, moves_hold, none_hold, turn_plays, turn_grows, at_place}
 use Rattle.nb_session.proofs.StopLaws.{AreApart}
+use Rattle.nb_session.proofs.ToldLaws.{told_append, told_among, told_others}
 
 -- the numbers of sessions
 in_range : (first n : ℕ) → 1 ≤ first → first + n ≤ 17 → AllByRecursion IsSession (range_with_len first n)
@@ -65,19 +68,22 @@ agent_from f first zero i asker there = absurd cc
 agent_from f first (suc n) zero asker there = let here : asker ≡ f first = cc in let same : first ≡ first + 0 = omega arith in here ∙ ap f same
 agent_from f first (suc n) (suc i) asker there = let same : first + 1 + i ≡ first + suc i = omega arith in agent_from f (first + 1) n i asker there ∙ ap f same
 
-pub first_agent : (plan : Plan) (session : ℕ) (asker : Asker) → agent_of (first_askers plan) session ≡ Some asker → asker ≡ fresh_asker plan session
-first_agent plan zero asker there = absurd cc
-first_agent plan (suc place) asker there = let same : 1 + place ≡ suc place = omega arith in agent_from (fresh_asker plan) 1 16 place asker there ∙ ap (fresh_asker plan) same
+pub first_agent : (how : Told) (plan : Plan) (session : ℕ) (asker : Asker) → agent_of (first_askers how plan) session ≡ Some asker → asker ≡ fresh_asker how plan session
+first_agent how plan zero asker there = absurd cc
+first_agent how plan (suc place) asker there = let same : 1 + place ≡ suc place = omega arith in agent_from (fresh_asker how plan) 1 16 place asker there ∙ ap (fresh_asker how plan) same
 
-pub first_number : (plan : Plan) (session : ℕ) (asker : Asker) → agent_of (first_askers plan) session ≡ Some asker → asker.number ≡ session
-first_number plan session asker there = ap (λ (a : Asker). a.number) (first_agent plan session asker there)
+pub first_number : (how : Told) (plan : Plan) (session : ℕ) (asker : Asker) → agent_of (first_askers how plan) session ≡ Some asker → asker.number ≡ session
+first_number how plan session asker there = ap (λ (a : Asker). a.number) (first_agent how plan session asker there)
 
-pub first_task : (plan : Plan) (session : ℕ) (asker : Asker) → agent_of (first_askers plan) session ≡ Some asker → asker.task ≡ None
-first_task plan session asker there = ap (λ (a : Asker). a.task) (first_agent plan session asker there)
+pub first_told : (how : Told) (plan : Plan) (session : ℕ) (asker : Asker) → agent_of (first_askers how plan) session ≡ Some asker → asker.told ≡ how
+first_told how plan session asker there = ap (λ (a : Asker). a.told) (first_agent how plan session asker there)
 
-pub first_todo : (plan : Plan) (now : Now) (session : ℕ) (asker : Asker) → now.todo ≡ begun plan.sessions → agent_of (first_askers plan) session ≡ Some asker → HasTodo asker now
-first_todo plan now session asker begins there =
-    subst (λ (a : Asker). HasTodo a now) (sym (first_agent plan session asker there))
+pub first_task : (how : Told) (plan : Plan) (session : ℕ) (asker : Asker) → agent_of (first_askers how plan) session ≡ Some asker → asker.task ≡ None
+first_task how plan session asker there = ap (λ (a : Asker). a.task) (first_agent how plan session asker there)
+
+pub first_todo : (how : Told) (plan : Plan) (now : Now) (session : ℕ) (asker : Asker) → now.todo ≡ begun plan.sessions → agent_of (first_askers how plan) session ≡ Some asker → HasTodo asker now
+first_todo how plan now session asker begins there =
+    subst (λ (a : Asker). HasTodo a now) (sym (first_agent how plan session asker there))
     (ap (λ (todo : List (List Turn)). slice_index_or todo (session - 1) []) begins ∙ get_or-map (map Begins) plan.sessions (session - 1) [])
 
 -- where no place has a turn all have finished
@@ -92,7 +98,7 @@ made_apart w held t now ready making plain order n bytes there (inl own) =
     (free_play order now making.named making.going (n, bytes) (among_left (files_made (play order now).0) (under_way (play order now).1) (n, bytes) there)))
 made_apart w held t now ready making plain order n bytes there (inr delta) = no_main (name_of held) n (made_named (λ name. is_delta name ≡ false) order now making.named making.going plain (n, bytes) there) (sym delta)
 
-module _ {H : Type 0} (tells : Bool) (told : IsTrue tells) (world : H → World) (faults : H → ℕ) (old : H) (before : Held) (t : Trail) (now : Now) (plan : Plan) (askable : IsAskable plan) (how_often : ℕ)
+module _ {H : Type 0} (tells : Bool) (told : IsTrue tells) (world : H → World) (faults : H → ℕ) (old : H) (before : Held) (t : Trail) (how : Told) (now : Now) (plan : Plan) (askable : IsAskable plan) (how_often : ℕ)
     (making : IsMaking now) (timely : IsTimely (world old)) (ready : IsReady (world old) before t now) (begins : now.todo ≡ begun plan.sessions) where
   abbrev order : List ℕ
   order = plan.schedule ++ rounds how_often
@@ -101,18 +107,18 @@ module _ {H : Type 0} (tells : Bool) (told : IsTrue tells) (world : H → World)
   numbers = numbers_fit plan.schedule how_often askable.order.each
 
   abbrev start : Scene Asker H Held
-  start = scene (first_askers plan) old before
+  start = scene (first_askers how plan) old before
 
-  begun_holds : Holds tells told world faults old before t now order numbers making [] start
-  begun_holds = none_hold tells told world faults old before t now order numbers making (first_askers plan) timely ready refl refl (first_number plan)
-      (λ session asker there. (first_todo plan now session asker begins there, first_task plan session asker there))
+  begun_holds : Holds tells told world faults old before t how now order numbers making [] start
+  begun_holds = none_hold tells told world faults old before t how now order numbers making (first_askers how plan) timely ready refl refl (first_number how plan) (first_told how plan)
+      (λ session asker there. (first_todo how plan now session asker begins there, first_task how plan session asker there))
 
   ends : (after : Scene Asker H Held) (answer : Result (Unit {0}) Fault) → TakesTurns (sessions_kind tells world faults) order start answer after
-      → EndsWith (sessions_kind tells world faults) (Holds tells told world faults old before t now order numbers making) order answer after
+      → EndsWith (sessions_kind tells world faults) (Holds tells told world faults old before t how now order numbers making) order answer after
   ends after answer turns =
-      turns_hold (sessions_kind tells world faults) (Holds tells told world faults old before t now order numbers making)
-      (λ front session s holds rests. rests_hold tells told world faults old before t now order numbers making front session s holds rests)
-      (λ front session s s' holds move. moves_hold tells told world faults old before t now order numbers making front session s s' holds move)
+      turns_hold (sessions_kind tells world faults) (Holds tells told world faults old before t how now order numbers making)
+      (λ front session s holds rests. rests_hold tells told world faults old before t how now order numbers making front session s holds rests)
+      (λ front session s s' holds move. moves_hold tells told world faults old before t how now order numbers making front session s s' holds move)
       order start after answer begun_holds turns
 
   todo_length : length (play order now).1.todo ≡ 16
@@ -120,14 +126,14 @@ module _ {H : Type 0} (tells : Bool) (told : IsTrue tells) (world : H → World)
 
   -- once all have finished what was made is whole
   made_whole : (result : Result Bool Stop) (new : World) (held : Held) (xs : List ℕ) (made : List MadeFile) → AreFinished (play xs now).1.todo → AreAmong made (files_made (play xs now).0 ++ under_way (play xs now).1)
-      → Plays result (world old) new before held t now (play xs now) made → Plays result (world old) new before held t now (play xs now) (files_made (play xs now).0)
+      → Plays result (world old) new before held t now (told_turns how (play xs now)) made → Plays result (world old) new before held t now (told_turns how (play xs now)) (files_made (play xs now).0)
   made_whole result new held xs made finished among =
-      plays_wider result (world old) new before held t now (play xs now) made (files_made (play xs now).0) (λ file there. finished_among (play xs now).0 (play xs now).1 finished file (among file there))
+      plays_wider result (world old) new before held t now (told_turns how (play xs now)) made (files_made (play xs now).0) (λ file there. finished_among (play xs now).0 (play xs now).1 finished file (among file there))
       (made_once xs now making) (made_apart (world old) before t now ready making (begun_plain plan askable now begins) xs)
 
   -- to their end
   pub whole_played : (after : Scene Asker H Held) → TakesTurns (sessions_kind tells world faults) order start (Ok tt) after → AllDone left_of after.agents → Foretells now.given (world old) (world after.host)
-      → PlaysWhole (Ok (any_refused after.agents)) (world old) (world after.host) before after.shared t now plan.schedule
+      → PlaysWhole (Ok (any_refused after.agents)) (world old) (world after.host) before after.shared t how now plan.schedule
   whole_played after turns done foretold =
       let here = ends after (Ok tt) turns [] (append-nil order) in
       let far = here.so_far now.given making.going.sixteen foretold in
@@ -146,25 +152,29 @@ module _ {H : Type 0} (tells : Bool) (told : IsTrue tells) (world : H → World)
 
   -- A turn ended early, and these would have come behind it.
   failed : (front rest whole : List ℕ) (session : ℕ) (mid new : World) (e1 e2 : Held) (r : Bool) (e : Stop) (made : List MadeFile) → whole ≡ front ++ (session ∷ rest)
-      → AreAmong made (files_made (play front now).0 ++ under_way (play front now).1) → AreAmong (files_made (play front now).0) made → Plays (Ok r) (world old) mid before e1 t now (play front now) made
-      → Plays (Err e) mid new e1 e2 (trail_after t (play front now)) (play front now).1 (one_turn session (play front now).1) (making_by session (play front now).1)
-      → Plays (Err e) (world old) new before e2 t now (play whole now) (made ++ making_by session (play front now).1)
+      → AreAmong made (files_made (play front now).0 ++ under_way (play front now).1) → AreAmong (files_made (play front now).0) made → Plays (Ok r) (world old) mid before e1 t now (told_turns how (play front now)) made
+      → Plays (Err e) mid new e1 e2 (trail_after t (told_turns how (play front now))) (play front now).1 (told_turns how (one_turn session (play front now).1)) (making_by session (play front now).1)
+      → Plays (Err e) (world old) new before e2 t now (told_turns how (play whole now)) (made ++ making_by session (play front now).1)
   failed front rest whole session mid new e1 e2 r e made is among has first second =
       let p : Played = play front now in
       let two : Played = play (front ++ session ∷ []) now in
       let files : List MadeFile = made ++ making_by session p.1 in
       let more : two ≡ behind p (one_turn session p.1) = play_more front session now in
-      let both = plays_failed (world old) mid new before e1 e2 t now p (one_turn session p.1) made (making_by session p.1) (next_once now making front session made among) has (next_others now making front session) r e first second in
-      let cut = plays_cut (world old) new before e2 t now two (play rest two.1).0 (play rest two.1).1 files e (subst (λ (q : Played). Plays (Err e) (world old) new before e2 t now q files) (sym more) both) in
-      subst (λ (q : Played). Plays (Err e) (world old) new before e2 t now q files)
-      (sym (play-append (front ++ session ∷ []) rest now) ∙ ap (λ (xs : List ℕ). play xs now) (append_assoc front (session ∷ []) rest ∙ sym is)) cut
+      let both = plays_failed (world old) mid new before e1 e2 t now (told_turns how p) (told_turns how (one_turn session p.1)) made (making_by session p.1) (next_once now making front session made among)
+      (told_among how p.0 made has) (told_others how p.0 (making_by session p.1) (next_others now making front session)) r e first second in
+      let joined = subst (λ (es : List Event). Plays (Err e) (world old) new before e2 t now (es, (one_turn session p.1).1) files) (sym (told_append how p.0 (one_turn session p.1).0)) both in
+      let cut = plays_cut (world old) new before e2 t now (told_turns how two) (told_events how (play rest two.1).0) (play rest two.1).1 files e
+      (subst (λ (q : Played). Plays (Err e) (world old) new before e2 t now (told_turns how q) files) (sym more) joined) in
+      subst (λ (q : Played). Plays (Err e) (world old) new before e2 t now (told_turns how q) files)
+      (sym (play-append (front ++ session ∷ []) rest now) ∙ ap (λ (xs : List ℕ). play xs now) (append_assoc front (session ∷ []) rest ∙ sym is))
+      (subst (λ (es : List Event). Plays (Err e) (world old) new before e2 t now (es, (play rest two.1).1) files) (sym (told_append how two.0 (play rest two.1).0)) cut)
 
   -- where one turn ended early
   module _ (after : Scene Asker H Held) (fault : Fault) (turns : TakesTurns (sessions_kind tells world faults) order start (Err fault) after) where
-    abbrev e : FailsBehind (sessions_kind tells world faults) (Holds tells told world faults old before t now order numbers making) order fault after
+    abbrev e : FailsBehind (sessions_kind tells world faults) (Holds tells told world faults old before t how now order numbers making) order fault after
     e = ends after (Err fault) turns
 
-    before_it : HoldsAt tells told world faults old before t now order numbers making e.front e.last
+    before_it : HoldsAt tells told world faults old before t how now order numbers making e.front e.last
     before_it = e.holds (e.session ∷ e.rest) (sym e.is)
 
     number : IsSession e.session
@@ -172,19 +182,19 @@ module _ {H : Type 0} (tells : Bool) (told : IsTrue tells) (world : H → World)
 
     last_grows : Grows (world e.last.host) (world after.host)
     last_grows =
-        turn_grows tells told world faults old before t now order numbers making e.front e.rest e.session e.last after (sym e.is) before_it number e.move.agent e.move.moved e.move.there e.move.agents e.move.same_session (Err fault) e.move.made
+        turn_grows tells told world faults old before t how now order numbers making e.front e.rest e.session e.last after (sym e.is) before_it number e.move.agent e.move.moved e.move.there e.move.agents e.move.same_session (Err fault) e.move.made
 
     all_grow : Grows (world old) (world after.host)
     all_grow = grows_joined (world old) (world e.last.host) (world after.host) before_it.grown last_grows
 
     -- or until one ended early
     pub whole_failed : (stop : Stop) → ((refused : Unit {0} → Bool) → as_played refused (Err fault) ≡ Err stop) → Foretells now.given (world old) (world after.host)
-        → PlaysWhole (Err stop) (world old) (world after.host) before after.shared t now plan.schedule
+        → PlaysWhole (Err stop) (world old) (world after.host) before after.shared t how now plan.schedule
     whole_failed stop same foretold =
         let end = turns_end plan askable now making.going begins how_often in
         let whole : List ℕ = plan.schedule ++ rounds end.how_often in
         let is : whole ≡ e.front ++ (e.session ∷ (e.rest ++ end.more)) = end.is ∙ ap (λ (xs : List ℕ). xs ++ end.more) e.is ∙ append_assoc e.front (e.session ∷ e.rest) end.more in
-        let plays = turn_plays tells told world faults old before t now order numbers making e.front e.rest e.session e.last after (sym e.is) before_it number e.move.agent e.move.moved e.move.there e.move.agents e.move.same_session
+        let plays = turn_plays tells told world faults old before t how now order numbers making e.front e.rest e.session e.last after (sym e.is) before_it number e.move.agent e.move.moved e.move.there e.move.agents e.move.same_session
         (Err fault) e.move.made now.given making.going.sixteen foretold in
         let far = before_it.so_far now.given making.going.sixteen (foretold_first (world old) (world e.last.host) (world after.host) now.given before_it.grown last_grows foretold) in
         let p : Played = play e.front now in
@@ -196,7 +206,7 @@ module _ {H : Type 0} (tells : Bool) (told : IsTrue tells) (world : H → World)
           how_often = end.how_often;
           plays = made_whole (Err stop) (world after.host) after.shared whole files end.finished among
               (failed e.front (e.rest ++ end.more) whole e.session (world e.last.host) (world after.host) e.last.shared after.shared _ stop far.made is far.among far.has far.plays
-              (subst (λ (r : Result Bool Stop). Plays r (world e.last.host) (world after.host) e.last.shared after.shared (trail_after t p) p.1 (one_turn e.session p.1) (making_by e.session p.1)) (same (λ done. e.move.made.refused)) plays));
+              (subst (λ (r : Result Bool Stop). Plays r (world e.last.host) (world after.host) e.last.shared after.shared (trail_after t (told_turns how p)) p.1 (told_turns how (one_turn e.session p.1)) (making_by e.session p.1)) (same (λ done. e.move.made.refused)) plays));
           finished = end.finished;
         }
 
@@ -215,12 +225,12 @@ turns_as tells world faults schedule other agents others n host held answer said
     (subst (λ (list : List Asker). TakesTurns (sessions_kind tells world faults) (other ++ rounds n) (scene list host held) said after) these turns))
 
 -- before their first turns the sessions stand in their places, and have what they need
-pub first_ready : {H : Type 0} (tells : Bool) (world : H → World) (faults : H → ℕ) (plan : Plan) → IsAskable plan → (agents : List Asker) (host : H) (held : Held) → agents ≡ first_askers plan
+pub first_ready : {H : Type 0} (tells : Bool) (world : H → World) (faults : H → ℕ) (how : Told) (plan : Plan) → IsAskable plan → (agents : List Asker) (host : H) (held : Held) → agents ≡ first_askers how plan
     → AreReady (sessions_kind tells world faults) (scene agents host held)
-first_ready tells world faults plan askable agents host held first = record {
-  placed = λ session asker there. first_number plan session asker (subst (λ (list : List Asker). agent_of list session ≡ Some asker) first there);
+first_ready tells world faults how plan askable agents host held first = record {
+  placed = λ session asker there. first_number how plan session asker (subst (λ (list : List Asker). agent_of list session ≡ Some asker) first there);
   fit = λ session asker there.
-      subst (λ (a : Asker). IsFit a held) (sym (first_agent plan session asker (subst (λ (list : List Asker). agent_of list session ≡ Some asker) first there)))
+      subst (λ (a : Asker). IsFit a held) (sym (first_agent how plan session asker (subst (λ (list : List Asker). agent_of list session ≡ Some asker) first there)))
       (record { asks = askable.further session; task = tt });
 }
 

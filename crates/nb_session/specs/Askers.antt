@@ -12,6 +12,7 @@ use Rattle.nb_script.specs.Scripts.{Plan, statements_of}
 use Rattle.nb_state.specs.Open.{Held}
 use Rattle.nb_session.specs.Replies.{is_refusal}
 use Rattle.nb_session.specs.declared.task.Task.{Task}
+use Rattle.nb_session.specs.declared.told.Told.{Told}
 use Rattle.nb_session.specs.declared.task.Task.TheVariants.{Backup, Copy, End, Merge}
 
 -- the statement is done in one turn
@@ -37,6 +38,8 @@ file_asked other = []
 -- What a contract sees of a session.
 pub record Asker : Type 0 where
   pub number : ℕ
+  -- how much of its replies is said
+  pub told : Told
   -- the statements that it has not begun
   pub statements : List Statement
   -- its statement of many turns that is under way
@@ -136,12 +139,12 @@ keeps_fit session other before after apart keeps fit = record { asks = fit.asks;
     by (Some (Merge m)) is = (keeps.merging other.number m.left apart is.0, is.1)
 
 -- a session that has all of its statements to do
-abbrev pub fresh_asker : Plan → (session : ℕ) → Asker
-fresh_asker plan session = record { number = session; statements = statements_of plan session; task = None; refused = false }
+abbrev pub fresh_asker : Told → Plan → (session : ℕ) → Asker
+fresh_asker told plan session = record { number = session; told = told; statements = statements_of plan session; task = None; refused = false }
 
 -- the sessions of a script before their first turns
-abbrev pub first_askers : Plan → List Asker
-first_askers plan = map (fresh_asker plan) all_sessions
+abbrev pub first_askers : Told → Plan → List Asker
+first_askers told plan = map (fresh_asker told plan) all_sessions
 
 -- whether a statement of one of the sessions was refused
 abbrev pub any_refused : List Asker → Bool

@@ -2,7 +2,7 @@ pub mod Causes
 pub mod Ready
 pub mod Stops
 pub mod Todo
-pub mod Sized
+pub mod Told
 pub mod Replies
 pub mod Says
 pub mod Askers

@@ -17,9 +17,11 @@ use Rattle.nb_session.specs.declared.stop.Stop.{Stop}
 use Rattle.nb_session.specs.declared.stop.Stop.TheVariants.{Device as DeviceStop, Memory as MemoryStop}
 use Rattle.nb_session.specs.Acts.{Grows}
 use Rattle.nb_session.specs.declared.task.Task.{Task}
+use Rattle.nb_session.specs.declared.told.Told.{Told}
 use Rattle.nb_session.specs.Askers.{Asker, HasTodo, KeepsOthers, task_todo}
 use Rattle.nb_session.specs.Ready.{IsReady, TaskGoes}
 use Rattle.nb_session.specs.Stops.{Plays}
+use Rattle.nb_session.specs.Told.{told_turns}
 
 -- an answer as that of turns: whether a statement was refused, or why they ended early
 abbrev pub as_played : {T : Type 0} → (T → Bool) → Result T Fault → Result Bool Stop
@@ -33,18 +35,18 @@ pub record IsBehind (w : World) (held : Held) (session : ℕ) (turn : Turn) (tai
   pub next : (outcome session turn now).next ++ tail ≡ task_todo task
   pub goes : TaskGoes session w held (base_after (base_now now) (outcome session turn now).strokes).frozen task
 
--- A turn was taken, and its line said, where the outside gave what it may give. `tail` is what its statement has to do behind it, and `more`
+-- A turn was taken, and what is told of it said, where the outside gave what it may give. `tail` is what its statement has to do behind it, and `more`
 -- what its session has behind that.
-pub record Turns {T : Type 0} (refused : T → Bool) (task : T → Option Task) (result : Result T Fault) (old new : World) (before after : Held) (t : Trail) (now : Now) (session : ℕ) (turn : Turn) (tail more : List Turn) : Type 0 where
+pub record Turns {T : Type 0} (told : Told) (refused : T → Bool) (task : T → Option Task) (result : Result T Fault) (old new : World) (before after : Held) (t : Trail) (now : Now) (session : ℕ) (turn : Turn) (tail more : List Turn) : Type 0 where
   pub grows : Grows old new
   pub plays : Foretells now.given old new
-      → Plays (as_played refused result) old new before after t now (take_turn session (turn ∷ (tail ++ more)) now) (making (base_now now).frozen (turn ∷ tail))
+      → Plays (as_played refused result) old new before after t now (told_turns told (take_turn session (turn ∷ (tail ++ more)) now)) (making (base_now now).frozen (turn ∷ tail))
   pub behind : Foretells now.given old new → IfOk result (λ value. IsBehind new after session turn tail now (task value))
 
 -- The next turn of a session was taken, what it has to do then is left, and what is under way of it goes on.
 pub record TakesNext (refused : Bool) (result : Result (Unit {0}) Fault) (old new : World) (before after : Held) (t : Trail) (now : Now) (asker moved : Asker) : Type 0 where
   pub grows : Grows old new
-  pub plays : Foretells now.given old new → Plays (as_played (λ done. refused) result) old new before after t now (one_turn asker.number now) (making_by asker.number now)
+  pub plays : Foretells now.given old new → Plays (as_played (λ done. refused) result) old new before after t now (told_turns asker.told (one_turn asker.number now)) (making_by asker.number now)
   pub todo : Foretells now.given old new → OnOk result (HasTodo moved (one_turn asker.number now).1)
   pub goes : Foretells now.given old new → OnOk result (TaskGoes asker.number new after (base_now (one_turn asker.number now).1).frozen moved.task)
 
@@ -53,6 +55,7 @@ pub record TakesNext (refused : Bool) (result : Result (Unit {0}) Fault) (old ne
 pub record Steps (tells : Bool) (result : Result (Unit {0}) Fault) (old new : World) (faults faults' : ℕ) (before after : Held) (asker moved : Asker) : Type 0 where
   pub refused : Bool
   pub noted : OnOk result (moved.refused ≡ (asker.refused || refused))
+  pub told : moved.told ≡ asker.told
   pub takes : (now : Now) (t : Trail) → IsTrue tells → IsReady old before t now → IsMaking now → HasTodo asker now → TaskGoes asker.number old before t.base.frozen asker.task
       → TakesNext refused result old new before after t now asker moved
   pub others : KeepsOthers asker.number before after

@@ -5,11 +5,13 @@ use Rattle.nb_model.specs.Trail.{Trail}
 use Rattle.nb_host.specs.World.{World}
 use Rattle.nb_state.specs.Open.{Held}
 use Rattle.nb_session.specs.declared.stop.Stop.{Stop}
+use Rattle.nb_session.specs.declared.told.Told.{Told}
 use Rattle.nb_session.specs.Stops.{Plays}
+use Rattle.nb_session.specs.Told.{told_turns}
 
--- The turns of a schedule were taken, and then rounds until every session had finished, or some of these until a call of the host failed
+-- The turns of a schedule were taken and told, and then rounds until every session had finished, or some of these until a call of the host failed
 -- or memory ran out. All files that they make are among these.
-pub record PlaysWhole (result : Result Bool Stop) (old new : World) (before after : Held) (t : Trail) (now : Now) (schedule : List ℕ) : Type 0 where
+pub record PlaysWhole (result : Result Bool Stop) (old new : World) (before after : Held) (t : Trail) (told : Told) (now : Now) (schedule : List ℕ) : Type 0 where
   pub how_often : ℕ
-  pub plays : Plays result old new before after t now (play (schedule ++ rounds how_often) now) (files_made (play (schedule ++ rounds how_often) now).0)
+  pub plays : Plays result old new before after t now (told_turns told (play (schedule ++ rounds how_often) now)) (files_made (play (schedule ++ rounds how_often) now).0)
   pub finished : AreFinished (play (schedule ++ rounds how_often) now).1.todo

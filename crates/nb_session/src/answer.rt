@@ -1,5 +1,5 @@
 // A statement and the line of its reply.
-ghost use Rattle.std.specs.Prelude.{◌≡◌, ℕ, ◌-◌, List, [], ◌∷◌, None, IsTrue, IfErr};
+ghost use Rattle.std.specs.Prelude.{◌≡◌, ℕ, ◌-◌, List, [], ◌∷◌, None, Some, IsTrue, IfErr};
 ghost use Rattle.std.specs.List.{slice_index_or};
 ghost use Rattle.nb_change.specs.Counts.{CountsDevice};
 ghost use Rattle.nb_change.specs.Gave.{GaveNothing};
@@ -15,8 +15,10 @@ ghost use Rattle.nb_session.specs.Ready.{IsReady};
 ghost use Rattle.nb_session.specs.Replies.{is_refusal};
 ghost use Rattle.nb_session.specs.Says.{SaysLine};
 ghost use Rattle.nb_session.specs.Steps.{Turns};
+ghost use Rattle.nb_session.specs.Told.{told_line, told_reply};
 
 use crate::statement::{do_statement, reply_to};
+use crate::told::Told;
 use nb_engine::Engine;
 use nb_host::{Fault, Host};
 use nb_lines::render;
@@ -38,6 +40,25 @@ pub fn say<H: Host>(alloc: Global, host: &mut H, session: u32, reply: &Reply) ->
     Ok(())
 }
 
+/// Says what is told of a reply, if anything is.
+pub(crate) fn tell<H: Host>(
+    alloc: Global,
+    host: &mut H,
+    session: u32,
+    told: Told,
+    reply: Reply,
+) -> Result<(), Fault>
+    ensures line { IsTrue H.tells → SaysLine result (H.world host.old) (H.world host.new) (told_line session (told_reply told (Some reply))) }
+    ensures gave { GaveNothing (H.world host.old) (H.world host.new) }
+    ensures cause { CountsDevice result (H.faults host.old) (H.faults host.new) }
+    ensures not_refused { IfErr result IsNoRefusal }
+{
+    match told.of(reply) {
+        Some(reply) => say(alloc, host, session, &reply),
+        None => Ok(()),
+    }
+}
+
 /// Whether the reply is a refusal.
 pub(crate) fn is_refusal(reply: &Reply) -> bool
     ensures { result ≡ is_refusal reply.now }
@@ -48,24 +69,26 @@ pub(crate) fn is_refusal(reply: &Reply) -> bool
     }
 }
 
-/// Does a statement in one turn and says its reply, and answers whether it was refused.
+/// Does a statement in one turn and says what is told of its reply, and answers whether it was refused.
 pub fn answer<H: Host>(
     alloc: Global,
     host: &mut H,
     engine: &mut Engine,
     session: u32,
+    told: Told,
     statement: &Statement,
 ) -> Result<bool, Fault>
     requires asked { IsFurther statement.now }
     requires single { IsOneTurn statement.now }
     ensures turn { (now : Now) (t : Trail) (more : List Turn) → IsTrue H.tells → IsReady (H.world host.old) engine.old t now → IsMaking now
         → slice_index_or now.todo (session - 1) [] ≡ Begins statement.now ∷ more
-        → Turns (λ refused. refused) (λ refused. None) result (H.world host.old) (H.world host.new) engine.old engine.new t now session (Begins statement.now) [] more }
+        → Turns told (λ refused. refused) (λ refused. None) result (H.world host.old) (H.world host.new) engine.old engine.new t now session (Begins statement.now) [] more }
     ensures others { (number : ℕ) → KeepsOthers number engine.old engine.new }
     ensures cause { CountsDevice result (H.faults host.old) (H.faults host.new) }
     ensures not_refused { IfErr result IsNoRefusal }
 {
     let reply = reply_to(do_statement(alloc, host, engine, statement))?;
-    say(alloc, host, session, &reply)?;
-    Ok(is_refusal(&reply))
+    let refused = is_refusal(&reply);
+    tell(alloc, host, session, told, reply)?;
+    Ok(refused)
 }

@@ -17,12 +17,14 @@ ghost use Rattle.nb_state.specs.Turns.{GaveAtMost};
 ghost use Rattle.nb_copy.specs.Starting.{KnowsFree, StartsBackup};
 ghost use Rattle.nb_session.specs.Askers.{IsBackup, file_asked, KeepsOthers, TaskFits, task_first, task_rest, task_left};
 ghost use Rattle.nb_session.specs.declared.task.Task.TheVariants.{Backup, Copy};
+ghost use Rattle.nb_session.specs.declared.told.Told.{Told};
 ghost use Rattle.nb_session.specs.Ready.{IsReady, TaskGoes};
 ghost use Rattle.nb_session.specs.Steps.{Turns};
 
-use crate::answer::say;
+use crate::answer::tell;
 use crate::merges::say_refused;
 use crate::task::{Taken, Task};
+use crate::told::Told;
 use nb_copy::{Copier, FileCopier};
 use nb_engine::Engine;
 use nb_host::{Fault, Host, Name};
@@ -91,9 +93,9 @@ pub fn begin_backup<H: Host>(
 ) -> Result<Taken, Fault>
     requires asked { IsFurther statement.now }
     requires backup { IsBackup statement.now }
-    ensures turn { (now : Now) (t : Trail) (more : List Turn) → IsTrue H.tells → IsReady (H.world host.old) engine.old t now → IsMaking now
+    ensures turn { (told : Told) (now : Now) (t : Trail) (more : List Turn) → IsTrue H.tells → IsReady (H.world host.old) engine.old t now → IsMaking now
         → slice_index_or now.todo (session - 1) [] ≡ Begins statement.now ∷ more
-        → Turns (λ taken. taken.refused) (λ taken. taken.task) result (H.world host.old) (H.world host.new) engine.old engine.new t now session (Begins statement.now) [] more }
+        → Turns told (λ taken. taken.refused) (λ taken. taken.task) result (H.world host.old) (H.world host.new) engine.old engine.new t now session (Begins statement.now) [] more }
     ensures fits { IfOk result (λ taken. TaskFits session taken.task engine.new) }
     ensures others { KeepsOthers session engine.old engine.new }
     ensures cause { CountsDevice result (H.faults host.old) (H.faults host.new) }
@@ -116,9 +118,9 @@ pub fn begin_copy<H: Host>(
     name: &Name,
 ) -> Result<Taken, Fault>
     requires plain { is_delta name.now ≡ false }
-    ensures turn { (now : Now) (t : Trail) (more : List Turn) → IsTrue H.tells → IsReady (H.world host.old) engine.old t now → IsMaking now
+    ensures turn { (told : Told) (now : Now) (t : Trail) (more : List Turn) → IsTrue H.tells → IsReady (H.world host.old) engine.old t now → IsMaking now
         → slice_index_or now.todo (session - 1) [] ≡ Begins (CopyTo name.now) ∷ more
-        → Turns (λ taken. taken.refused) (λ taken. taken.task) result (H.world host.old) (H.world host.new) engine.old engine.new t now session (Begins (CopyTo name.now)) [] more }
+        → Turns told (λ taken. taken.refused) (λ taken. taken.task) result (H.world host.old) (H.world host.new) engine.old engine.new t now session (Begins (CopyTo name.now)) [] more }
     ensures fits { IfOk result (λ taken. TaskFits session taken.task engine.new) }
     ensures others { KeepsOthers session engine.old engine.new }
     ensures cause { CountsDevice result (H.faults host.old) (H.faults host.new) }
@@ -141,9 +143,9 @@ pub fn back_up_on<H: Host>(
     copier: Copier,
 ) -> Result<Taken, Fault>
     requires fits { TaskFits session (Some (Backup copier)) engine.old }
-    ensures turn { (now : Now) (t : Trail) (more : List Turn) → IsTrue H.tells → IsReady (H.world host.old) engine.old t now → IsMaking now
+    ensures turn { (told : Told) (now : Now) (t : Trail) (more : List Turn) → IsTrue H.tells → IsReady (H.world host.old) engine.old t now → IsMaking now
         → slice_index_or now.todo (session - 1) [] ≡ task_first (Backup copier) ∷ (task_rest (Backup copier) ++ more) → TaskGoes session (H.world host.old) engine.old t.base.frozen (Some (Backup copier))
-        → Turns (λ taken. taken.refused) (λ taken. taken.task) result (H.world host.old) (H.world host.new) engine.old engine.new t now session (task_first (Backup copier)) (task_rest (Backup copier)) more }
+        → Turns told (λ taken. taken.refused) (λ taken. taken.task) result (H.world host.old) (H.world host.new) engine.old engine.new t now session (task_first (Backup copier)) (task_rest (Backup copier)) more }
     ensures falls { IfOk result (λ taken. task_left taken.task < task_left (Some (Backup copier))) }
     ensures fits { IfOk result (λ taken. TaskFits session taken.task engine.new) }
     ensures others { KeepsOthers session engine.old engine.new }
@@ -168,18 +170,19 @@ pub fn back_up_on<H: Host>(
     }
 }
 
-/// A further turn of a copy of the frozen file. In the last one it is said how many pages it has.
+/// A further turn of a copy of the frozen file. In the last one it is told how many pages it has.
 pub fn copy_on<H: Host>(
     alloc: Global,
     host: &mut H,
     engine: &mut Engine,
     session: u32,
+    told: Told,
     copier: FileCopier,
 ) -> Result<Taken, Fault>
     requires fits { TaskFits session (Some (Copy copier)) engine.old }
     ensures turn { (now : Now) (t : Trail) (more : List Turn) → IsTrue H.tells → IsReady (H.world host.old) engine.old t now → IsMaking now
         → slice_index_or now.todo (session - 1) [] ≡ task_first (Copy copier) ∷ (task_rest (Copy copier) ++ more) → TaskGoes session (H.world host.old) engine.old t.base.frozen (Some (Copy copier))
-        → Turns (λ taken. taken.refused) (λ taken. taken.task) result (H.world host.old) (H.world host.new) engine.old engine.new t now session (task_first (Copy copier)) (task_rest (Copy copier)) more }
+        → Turns told (λ taken. taken.refused) (λ taken. taken.task) result (H.world host.old) (H.world host.new) engine.old engine.new t now session (task_first (Copy copier)) (task_rest (Copy copier)) more }
     ensures falls { IfOk result (λ taken. task_left taken.task < task_left (Some (Copy copier))) }
     ensures fits { IfOk result (λ taken. TaskFits session taken.task engine.new) }
     ensures others { KeepsOthers session engine.old engine.new }
@@ -191,11 +194,12 @@ pub fn copy_on<H: Host>(
         Progress::More => Ok(under_way(Task::Copy(copier))),
         Progress::Finished => {
             stop_running(engine, session);
-            say(
+            tell(
                 alloc,
                 host,
                 session,
-                &Reply::Pages {
+                told,
+                Reply::Pages {
                     pages: copier.written(),
                 },
             )?;

@@ -10,15 +10,15 @@ mod copies;
 mod merges;
 mod session;
 mod sessions;
-mod sized;
 mod statement;
 mod stop;
 mod task;
+mod told;
 
 pub use answer::say;
 pub use sessions::take_turns;
-pub use sized::begin_sized;
 pub use stop::Stop;
+pub use told::Told;
 
 #[cfg(test)]
 mod tests;

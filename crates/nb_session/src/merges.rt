@@ -13,12 +13,14 @@ ghost use Rattle.nb_model.specs.Trail.{Trail};
 ghost use Rattle.nb_base.specs.Takes.{IsNoRefusal};
 ghost use Rattle.nb_session.specs.Askers.{KeepsOthers, TaskFits, task_first, task_rest, task_left};
 ghost use Rattle.nb_session.specs.declared.task.Task.TheVariants.{End, Merge};
+ghost use Rattle.nb_session.specs.declared.told.Told.{Told};
 ghost use Rattle.nb_session.specs.Ready.{IsReady, TaskGoes};
 ghost use Rattle.nb_session.specs.Says.{SaysLine};
 ghost use Rattle.nb_session.specs.Steps.{Turns};
 
-use crate::answer::say;
+use crate::answer::{say, tell};
 use crate::task::{Merging, Taken, Task};
+use crate::told::Told;
 use nb_engine::Engine;
 use nb_host::{Fault, Host, Refusal};
 use nb_model::Reply;
@@ -65,9 +67,9 @@ pub fn begin_merge<H: Host>(
     engine: &mut Engine,
     session: u32,
 ) -> Result<Taken, Fault>
-    ensures turn { (now : Now) (t : Trail) (more : List Turn) → IsTrue H.tells → IsReady (H.world host.old) engine.old t now → IsMaking now
+    ensures turn { (told : Told) (now : Now) (t : Trail) (more : List Turn) → IsTrue H.tells → IsReady (H.world host.old) engine.old t now → IsMaking now
         → slice_index_or now.todo (session - 1) [] ≡ Begins EndBackup ∷ more
-        → Turns (λ taken. taken.refused) (λ taken. taken.task) result (H.world host.old) (H.world host.new) engine.old engine.new t now session (Begins EndBackup) [] more }
+        → Turns told (λ taken. taken.refused) (λ taken. taken.task) result (H.world host.old) (H.world host.new) engine.old engine.new t now session (Begins EndBackup) [] more }
     ensures fits { IfOk result (λ taken. TaskFits session taken.task engine.new) }
     ensures others { KeepsOthers session engine.old engine.new }
     ensures cause { CountsDevice result (H.faults host.old) (H.faults host.new) }
@@ -90,9 +92,9 @@ pub fn end_backup<H: Host>(
     reply: Reply,
 ) -> Result<Taken, Fault>
     requires fits { TaskFits session (Some (End reply)) engine.old }
-    ensures turn { (now : Now) (t : Trail) (more : List Turn) → IsTrue H.tells → IsReady (H.world host.old) engine.old t now → IsMaking now
+    ensures turn { (told : Told) (now : Now) (t : Trail) (more : List Turn) → IsTrue H.tells → IsReady (H.world host.old) engine.old t now → IsMaking now
         → slice_index_or now.todo (session - 1) [] ≡ task_first (End reply) ∷ (task_rest (End reply) ++ more) → TaskGoes session (H.world host.old) engine.old t.base.frozen (Some (End reply))
-        → Turns (λ taken. taken.refused) (λ taken. taken.task) result (H.world host.old) (H.world host.new) engine.old engine.new t now session (task_first (End reply)) (task_rest (End reply)) more }
+        → Turns told (λ taken. taken.refused) (λ taken. taken.task) result (H.world host.old) (H.world host.new) engine.old engine.new t now session (task_first (End reply)) (task_rest (End reply)) more }
     ensures falls { IfOk result (λ taken. task_left taken.task < task_left (Some (End reply))) }
     ensures fits { IfOk result (λ taken. TaskFits session taken.task engine.new) }
     ensures others { KeepsOthers session engine.old engine.new }
@@ -107,18 +109,19 @@ pub fn end_backup<H: Host>(
     }
 }
 
-/// A further turn of a merge. In the last one its reply is said.
+/// A further turn of a merge. In the last one its reply is told.
 pub fn merge_on<H: Host>(
     alloc: Global,
     host: &mut H,
     engine: &mut Engine,
     session: u32,
+    told: Told,
     merging: Merging,
 ) -> Result<Taken, Fault>
     requires fits { TaskFits session (Some (Merge merging)) engine.old }
     ensures turn { (now : Now) (t : Trail) (more : List Turn) → IsTrue H.tells → IsReady (H.world host.old) engine.old t now → IsMaking now
         → slice_index_or now.todo (session - 1) [] ≡ task_first (Merge merging) ∷ (task_rest (Merge merging) ++ more)
-        → Turns (λ taken. taken.refused) (λ taken. taken.task) result (H.world host.old) (H.world host.new) engine.old engine.new t now session (task_first (Merge merging)) (task_rest (Merge merging)) more }
+        → Turns told (λ taken. taken.refused) (λ taken. taken.task) result (H.world host.old) (H.world host.new) engine.old engine.new t now session (task_first (Merge merging)) (task_rest (Merge merging)) more }
     ensures falls { IfOk result (λ taken. task_left taken.task < task_left (Some (Merge merging))) }
     ensures fits { IfOk result (λ taken. TaskFits session taken.task engine.new) }
     ensures others { KeepsOthers session engine.old engine.new }
@@ -134,7 +137,7 @@ pub fn merge_on<H: Host>(
             refused: false,
         }),
         Progress::Finished => {
-            say(alloc, host, session, &merging.reply)?;
+            tell(alloc, host, session, told, merging.reply)?;
             Ok(Taken {
                 task: None,
                 refused: false,

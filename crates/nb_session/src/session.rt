@@ -16,6 +16,7 @@ use crate::answer::answer;
 use crate::copies::{back_up_on, begin_backup, begin_copy, copy_on};
 use crate::merges::{begin_merge, end_backup, merge_on};
 use crate::task::{Taken, Task};
+use crate::told::Told;
 use nb_engine::Engine;
 use nb_host::{Fault, Host};
 use nb_model::Statement;
@@ -23,11 +24,13 @@ use nb_sched::Agent;
 use std::alloc::Global;
 use std::marker::Model;
 
-/// A session: its statements, how far it has come, what is under way, and whether a statement of it was refused.
+/// A session: how much of its replies is said, its statements, how far it has come, what is under way, and whether a statement of it was
+/// refused.
 #[derive(Drop)]
 pub struct Session<'a> {
     alloc: Global,
     number: u32,
+    told: Told,
     statements: &'a [Statement],
     next: usize,
     task: Option<Task>,
@@ -40,7 +43,7 @@ impl<'a> Model for Session<'a> {
 
     ghost Value = { Asker };
 
-    ghost view = { λ s. record { number = s.number; statements = drop s.next s.statements.now; task = s.task; refused = s.refused } };
+    ghost view = { λ s. record { number = s.number; told = s.told; statements = drop s.next s.statements.now; task = s.task; refused = s.refused } };
 
     ghost invariant = { λ s. s.next ≤ length s.statements.now };
 }
@@ -51,12 +54,13 @@ fn begin_statement<H: Host>(
     host: &mut H,
     engine: &mut Engine,
     session: u32,
+    told: Told,
     statement: &Statement,
 ) -> Result<Taken, Fault>
     requires asked { IsFurther statement.now }
     ensures turn { (now : Now) (t : Trail) (more : List Turn) → IsTrue H.tells → IsReady (H.world host.old) engine.old t now → IsMaking now
         → slice_index_or now.todo (session - 1) [] ≡ Begins statement.now ∷ more
-        → Turns (λ taken. taken.refused) (λ taken. taken.task) result (H.world host.old) (H.world host.new) engine.old engine.new t now session (Begins statement.now) [] more }
+        → Turns told (λ taken. taken.refused) (λ taken. taken.task) result (H.world host.old) (H.world host.new) engine.old engine.new t now session (Begins statement.now) [] more }
     ensures fits { IfOk result (λ taken. TaskFits session taken.task engine.new) }
     ensures others { KeepsOthers session engine.old engine.new }
     ensures cause { CountsDevice result (H.faults host.old) (H.faults host.new) }
@@ -69,7 +73,7 @@ fn begin_statement<H: Host>(
         }
         Statement::CopyTo { name } => begin_copy(alloc, host, engine, session, name),
         _ => {
-            let refused = answer(alloc, host, engine, session, statement)?;
+            let refused = answer(alloc, host, engine, session, told, statement)?;
             Ok(Taken {
                 task: None,
                 refused,
@@ -84,12 +88,13 @@ fn go_on<H: Host>(
     host: &mut H,
     engine: &mut Engine,
     session: u32,
+    told: Told,
     task: Task,
 ) -> Result<Taken, Fault>
     requires fits { TaskFits session (Some task) engine.old }
     ensures turn { (now : Now) (t : Trail) (more : List Turn) → IsTrue H.tells → IsReady (H.world host.old) engine.old t now → IsMaking now
         → slice_index_or now.todo (session - 1) [] ≡ task_first task ∷ (task_rest task ++ more) → TaskGoes session (H.world host.old) engine.old t.base.frozen (Some task)
-        → Turns (λ taken. taken.refused) (λ taken. taken.task) result (H.world host.old) (H.world host.new) engine.old engine.new t now session (task_first task) (task_rest task) more }
+        → Turns told (λ taken. taken.refused) (λ taken. taken.task) result (H.world host.old) (H.world host.new) engine.old engine.new t now session (task_first task) (task_rest task) more }
     ensures falls { IfOk result (λ taken. task_left taken.task < task_left (Some task)) }
     ensures fits { IfOk result (λ taken. TaskFits session taken.task engine.new) }
     ensures others { KeepsOthers session engine.old engine.new }
@@ -98,20 +103,21 @@ fn go_on<H: Host>(
 {
     match task {
         Task::Backup(copier) => back_up_on(alloc, host, engine, session, copier),
-        Task::Copy(copier) => copy_on(alloc, host, engine, session, copier),
+        Task::Copy(copier) => copy_on(alloc, host, engine, session, told, copier),
         Task::End(reply) => end_backup(alloc, host, engine, session, reply),
-        Task::Merge(merging) => merge_on(alloc, host, engine, session, merging),
+        Task::Merge(merging) => merge_on(alloc, host, engine, session, told, merging),
     }
 }
 
 impl<'a> Session<'a> {
     /// A session that has all of its statements to do.
-    pub fn new(alloc: Global, number: u32, statements: &'a [Statement]) -> Session<'a>
-        ensures { result ≡ record { number = number; statements = statements.now; task = None; refused = false } }
+    pub fn new(alloc: Global, number: u32, told: Told, statements: &'a [Statement]) -> Session<'a>
+        ensures { result ≡ record { number = number; told = told; statements = statements.now; task = None; refused = false } }
     {
         Session {
             alloc,
             number,
+            told,
             statements,
             next: 0,
             task: None,
@@ -144,14 +150,21 @@ impl<'a, H: Host> Agent<H, Engine> for Session<'a> {
     fn turn(&mut self, host: &mut H, engine: &mut Engine) -> Result<(), Fault> {
         match self.task.take() {
             Some(task) => {
-                let taken = go_on(self.alloc, host, engine, self.number, task)?;
+                let taken = go_on(self.alloc, host, engine, self.number, self.told, task)?;
                 self.task = taken.task;
                 self.refused |= taken.refused;
                 Ok(())
             }
             None => {
                 let statement = &self.statements[self.next];
-                let taken = begin_statement(self.alloc, host, engine, self.number, statement)?;
+                let taken = begin_statement(
+                    self.alloc,
+                    host,
+                    engine,
+                    self.number,
+                    self.told,
+                    statement,
+                )?;
                 self.next += 1;
                 self.task = taken.task;
                 self.refused |= taken.refused;

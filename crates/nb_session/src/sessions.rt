@@ -13,32 +13,33 @@ ghost use Rattle.nb_session.specs.Todo.{PlaysWhole};
 
 use crate::Stop;
 use crate::session::Session;
+use crate::told::Told;
 use nb_engine::Engine;
 use nb_host::{Fault, Host};
 use nb_script::Script;
 use std::alloc::Global;
 
 /// All sessions of a script, the first of which is session 1.
-fn sessions_of<'a>(alloc: Global, script: &'a Script) -> [Session<'a>; 16]
-    ensures { result ≡ first_askers script.now }
+fn sessions_of<'a>(alloc: Global, script: &'a Script, told: Told) -> [Session<'a>; 16]
+    ensures { result ≡ first_askers told script.now }
 {
     [
-        Session::new(alloc, 1, script.statements(1)),
-        Session::new(alloc, 2, script.statements(2)),
-        Session::new(alloc, 3, script.statements(3)),
-        Session::new(alloc, 4, script.statements(4)),
-        Session::new(alloc, 5, script.statements(5)),
-        Session::new(alloc, 6, script.statements(6)),
-        Session::new(alloc, 7, script.statements(7)),
-        Session::new(alloc, 8, script.statements(8)),
-        Session::new(alloc, 9, script.statements(9)),
-        Session::new(alloc, 10, script.statements(10)),
-        Session::new(alloc, 11, script.statements(11)),
-        Session::new(alloc, 12, script.statements(12)),
-        Session::new(alloc, 13, script.statements(13)),
-        Session::new(alloc, 14, script.statements(14)),
-        Session::new(alloc, 15, script.statements(15)),
-        Session::new(alloc, 16, script.statements(16)),
+        Session::new(alloc, 1, told, script.statements(1)),
+        Session::new(alloc, 2, told, script.statements(2)),
+        Session::new(alloc, 3, told, script.statements(3)),
+        Session::new(alloc, 4, told, script.statements(4)),
+        Session::new(alloc, 5, told, script.statements(5)),
+        Session::new(alloc, 6, told, script.statements(6)),
+        Session::new(alloc, 7, told, script.statements(7)),
+        Session::new(alloc, 8, told, script.statements(8)),
+        Session::new(alloc, 9, told, script.statements(9)),
+        Session::new(alloc, 10, told, script.statements(10)),
+        Session::new(alloc, 11, told, script.statements(11)),
+        Session::new(alloc, 12, told, script.statements(12)),
+        Session::new(alloc, 13, told, script.statements(13)),
+        Session::new(alloc, 14, told, script.statements(14)),
+        Session::new(alloc, 15, told, script.statements(15)),
+        Session::new(alloc, 16, told, script.statements(16)),
     ]
 }
 
@@ -53,23 +54,24 @@ fn any_refused<'a>(sessions: &[Session<'a>]) -> bool
     any
 }
 
-/// Plays a script on the open database, all but its first statement, to the end of every session. Answers whether a statement was
-/// refused. Where a call of the host fails or memory runs out, it ends at once.
+/// Plays a script on the open database, all but its first statement, to the end of every session, and says so much of it. Answers whether a
+/// statement was refused. Where a call of the host fails or memory runs out, it ends at once.
 pub fn take_turns<H: Host>(
     alloc: Global,
     host: &mut H,
     engine: &mut Engine,
     script: &Script,
+    told: Told,
 ) -> Result<bool, Stop>
     requires askable { IsAskable script.now }
     ensures plays { (now : Now) (t : Trail) → IsTrue H.tells → IsReady (H.world host.old) engine.old t now → now.todo ≡ begun script.now.sessions → IsMaking now
         → Foretells now.given (H.world host.old) (H.world host.new)
-        → PlaysWhole result (H.world host.old) (H.world host.new) engine.old engine.new t now script.now.schedule }
+        → PlaysWhole result (H.world host.old) (H.world host.new) engine.old engine.new t told now script.now.schedule }
     ensures grows { (now : Now) (t : Trail) → IsTrue H.tells → IsReady (H.world host.old) engine.old t now → now.todo ≡ begun script.now.sessions → IsMaking now
         → Grows (H.world host.old) (H.world host.new) }
     ensures cause { CountsStop result (H.faults host.old) (H.faults host.new) }
 {
-    let mut all = sessions_of(alloc, script);
+    let mut all = sessions_of(alloc, script, told);
     let sessions: &mut [Session<'_>] = &mut all;
     match nb_sched::take_turns(sessions, host, engine, script.schedule()) {
         Ok(()) => Ok(any_refused(sessions)),

@@ -30,7 +30,7 @@ use Rattle.nb_session.specs.Stops.{StopLeft}
 use Rattle.nb_top.specs.declared.status.Status.{Status}
 use Rattle.nb_top.specs.Performed.{RunLeft, RunsTo, Finished, HasSmallScn, IsEnded, IsPerformed, PlaysOpened, Target, begins_refused, first_event, seen_after, pages_first, target_named, target_of, told_first, told_later, number_of, only_opens}
 use Rattle.nb_top.specs.declared.telling.Telling.{Telling}
-use Rattle.nb_top.specs.declared.telling.Telling.TheVariants.{All, Quietly, WithSize}
+use Rattle.nb_top.specs.declared.telling.Telling.TheVariants.{All, Quietly, WithSize, Sparingly}
 use Rattle.nb_top.specs.Requests.{ToRun}
 use Rattle.nb_session.proofs.PlayLaws.{both_true}
 use Rattle.nb_session.proofs.StopLaws.{AreApart}
@@ -53,6 +53,7 @@ told_strokes : (telling : Telling) (e : Event) → (told_first telling e).stroke
 told_strokes All e = refl
 told_strokes Quietly e = refl
 told_strokes WithSize e = refl
+told_strokes Sparingly e = refl
 
 module _ (old : World) (account : Account) (given : Given) (plan : Plan) (telling : Telling) (askable : IsAskable plan) (first : First account given plan) where
   abbrev pub first_one : Event

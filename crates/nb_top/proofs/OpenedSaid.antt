@@ -1,5 +1,5 @@
 -- The first reply of a run is said, if it says one, and then turns are taken.
-use Rattle.std.proofs.Common.{◌≡◌, ◌≢◌, ◌⊎◌, inl, inr, ℕ, List, [], ◌∷◌, ◌++◌, Bool, false, length, take, refl, sym, ap, subst, ◌∙◌, arith}
+use Rattle.std.proofs.Common.{◌≡◌, ℕ, List, [], ◌∷◌, ◌++◌, Bool, false, length, take, refl, sym, ap, subst, ◌∙◌, arith}
 use Rattle.std.specs.Prelude.{None, Result, Ok, Err, IfOk}
 use Rattle.std.specs.Result.{IsErr}
 use Rattle.std.proofs.lemmas.List.{take_all}
@@ -12,7 +12,7 @@ use Rattle.nb_model.specs.Account.{Base}
 use Rattle.nb_model.specs.Going.{IsMaking}
 use Rattle.nb_model.specs.Making.{MadeFile, NamesOnce}
 use Rattle.nb_model.specs.Output.{output, status_of}
-use Rattle.nb_model.specs.Run.{Event, Now, Played, base_now, begun, replies_of, files_made, rounds}
+use Rattle.nb_model.specs.Run.{Event, Now, Played, base_now, begun, replies_of, files_made, play, rounds}
 use Rattle.nb_model.specs.Steps.{after_steps, steps_in, steps_of, acked_turns}
 use Rattle.nb_model.specs.Trail.{Trail, StandsIn, settled}
 use Rattle.nb_model.proofs.MakingLaws.{made_once}
@@ -22,18 +22,18 @@ use Rattle.nb_state.proofs.TurnLaws.{still_open}
 use Rattle.nb_script.specs.Asked.{IsAskable}
 use Rattle.nb_script.specs.Scripts.{Plan}
 use Rattle.nb_session.specs.declared.stop.Stop.{Stop}
+use Rattle.nb_session.specs.declared.told.Told.{Told}
 use Rattle.nb_session.specs.Ready.{IsReady}
 use Rattle.nb_session.specs.Says.{FrontSaid, SaysLine}
 use Rattle.nb_session.specs.Stops.{StopLeft, PlayedOut, Plays}
-use Rattle.nb_session.specs.Sized.{PlaysSized}
 use Rattle.nb_session.specs.Todo.{PlaysWhole}
+use Rattle.nb_session.specs.Told.{told_events}
 use Rattle.nb_session.proofs.GiftLaws.{given_nothing}
 use Rattle.nb_session.proofs.PlayLaws.{plays_then, plays_failed, plays_cut, plays_wider}
 use Rattle.nb_session.proofs.StopLaws.{AreApart}
 use Rattle.nb_session.proofs.EndLaws.{HasEnd, turns_end}
 use Rattle.nb_top.specs.declared.telling.Telling.{Telling}
-use Rattle.nb_top.specs.declared.telling.Telling.TheVariants.{All, Quietly, WithSize}
-use Rattle.nb_top.specs.Performed.{PlaysOpened, PlaysTold, played_behind, told_turns}
+use Rattle.nb_top.specs.Performed.{PlaysOpened, PlaysTold, played_behind, told_later, told_turns}
 use Rattle.nb_top.proofs.FirstLaws.{turns}
 use Rattle.nb_top.proofs.FirstReady.{apart_play}
 use Rattle.nb_top.proofs.MadeRuns.{no_file, none_front, none_made}
@@ -160,23 +160,13 @@ module _ (old mid new : World) (held after : Held) (start : Base) (now : Now) (p
         unchanged = tt;
       }
 
--- Turns that are told as they are, and a begin that is told with the number of pages.
-pub told_whole : (result : Result Bool Stop) (old new : World) (before after : Held) (t : Trail) (telling : Telling) (pages : ℕ) (now : Now) (schedule : List ℕ) → telling ≢ WithSize
-    → PlaysWhole result old new before after t now schedule → PlaysTold result old new before after t telling pages now schedule
-told_whole result old new before after t All pages now schedule other whole = record { how_often = whole.how_often; plays = whole.plays; finished = whole.finished }
-told_whole result old new before after t Quietly pages now schedule other whole = record { how_often = whole.how_often; plays = whole.plays; finished = whole.finished }
-told_whole result old new before after t WithSize pages now schedule other whole = absurd (other refl)
-
-sized_apart : (telling : Telling) → telling ≡ WithSize → (telling ≡ All) ⊎ (telling ≡ Quietly) → ⊥
-sized_apart All is either = cc
-sized_apart Quietly is either = cc
-sized_apart WithSize is (inl all) = cc
-sized_apart WithSize is (inr quietly) = cc
-
-pub told_either : (telling : Telling) → (telling ≡ All) ⊎ (telling ≡ Quietly) → telling ≢ WithSize
-told_either telling either is = sized_apart telling is either
-
-pub told_sized : (result : Result Bool Stop) (old new : World) (before after : Held) (t : Trail) (pages : ℕ) (now : Now) (schedule : List ℕ) → schedule ≡ []
-    → PlaysSized result old new before after t now pages → PlaysTold result old new before after t WithSize pages now schedule
-told_sized result old new before after t pages now schedule none sized =
-    subst (PlaysTold result old new before after t WithSize pages now) (sym none) (record { how_often = sized.how_often; plays = sized.plays; finished = sized.finished })
+-- Turns that sessions told are told so.
+pub told_as : (result : Result Bool Stop) (old new : World) (before after : Held) (t : Trail) (how : Told) (telling : Telling) (pages : ℕ) (now : Now) (schedule : List ℕ)
+    → ((events : List Event) → told_events how events ≡ told_later telling pages events) → PlaysWhole result old new before after t how now schedule → PlaysTold result old new before after t telling pages now schedule
+told_as result old new before after t how telling pages now schedule same whole =
+    let played : Played = play (schedule ++ rounds whole.how_often) now in
+    record {
+      how_often = whole.how_often;
+      plays = subst (λ (events : List Event). Plays result old new before after t now (events, played.1) (files_made played.0)) (same played.0) whole.plays;
+      finished = whole.finished;
+    }

@@ -19,7 +19,6 @@ use Rattle.nb_script.specs.Asked.{IsFurther, IsAskable}
 use Rattle.nb_script.specs.Fits.{IsBase, IsFile}
 use Rattle.nb_script.specs.Scripts.{Plan}
 use Rattle.nb_script.proofs.AskedLemmas.{answer_is_askable}
-use Rattle.nb_top.specs.Performed.{BeginsAlone}
 use Rattle.nb_top.specs.declared.telling.Telling.TheVariants.{All, Quietly, WithSize}
 use Rattle.nb_top.specs.Requests.{Request, ToRun, ToRestore, ToFix, FitsJob, is_job_built, built_job, job_asked, script_in, to_run, plan_of, request_of, request_asked}
 
@@ -184,12 +183,6 @@ end_askable db is = plan_askable db (EndBackup ∷ []) is (record { is_built = r
 pub stat_askable : (db : List ℕ) → is_database db ≡ true → IsAskable (plan_of db (ShowHeader ∷ ShowPages ∷ []))
 stat_askable db is =
     plan_askable db (ShowHeader ∷ ShowPages ∷ []) is (record { is_built = refl; opens_none = refl; fits = tt }, (record { is_built = refl; opens_none = refl; fits = tt }, tt)) (omega arith)
-
-pub begins_alone_in : (db : List ℕ) (script : Plan) (statement : Statement) → script ≡ plan_of db (statement ∷ []) → statement ≡ BeginBackup → BeginsAlone script
-begins_alone_in db script statement same is = record {
-  schedule = ap (λ (plan : Plan). plan.schedule) same;
-  sessions = ap (λ (plan : Plan). plan.sessions) same ∙ ap (λ (s : Statement). (s ∷ []) ∷ replicate 15 []) is;
-}
 
 -- a name of a file has 100 bytes at most
 file_given : (name : List ℕ) → is_file name ≡ true → IsFile name

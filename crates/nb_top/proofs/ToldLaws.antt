@@ -6,10 +6,11 @@ use Rattle.nb_host.specs.World.{World}
 use Rattle.nb_host.specs.Moments.{IsTimely}
 use Rattle.nb_host.specs.declared.refusals.Refusal.{Refusal}
 use Rattle.nb_model.specs.declared.reply.Reply.{Reply}
-use Rattle.nb_model.specs.declared.reply.Reply.TheVariants.{Refused}
+use Rattle.nb_model.specs.declared.reply.Reply.TheVariants.{PagesShown, Refused}
 use Rattle.nb_model.specs.declared.statement.Statement.{Statement}
 use Rattle.nb_model.specs.declared.statement.Statement.TheVariants.{OpenDb}
 use Rattle.nb_model.specs.Account.{Account}
+use Rattle.nb_model.specs.Generated.{last_or_refusal, said_by_generated}
 use Rattle.nb_model.specs.Jobs.{all_sized, quiet, refusal_in, sized}
 use Rattle.nb_model.specs.Making.{MadeFile}
 use Rattle.nb_model.specs.Lines.{line_text}
@@ -22,9 +23,11 @@ use Rattle.nb_model.proofs.OutputLaws.{output_one, status_one, output-quiet}
 use Rattle.nb_script.specs.Scripts.{Plan}
 use Rattle.nb_session.specs.Replies.{is_refusal}
 use Rattle.nb_session.specs.Says.{SaysLine}
+use Rattle.nb_session.specs.declared.told.Told.TheVariants.{Sparingly as SparinglyTold}
 use Rattle.nb_session.proofs.SaysLaws.{says_nothing}
+use Rattle.nb_session.proofs.ToldLaws.{told_steps as later_steps, told_files as files_as}
 use Rattle.nb_top.specs.declared.telling.Telling.{Telling}
-use Rattle.nb_top.specs.declared.telling.Telling.TheVariants.{All, Quietly, WithSize}
+use Rattle.nb_top.specs.declared.telling.Telling.TheVariants.{All, Quietly, WithSize, Sparingly}
 use Rattle.nb_top.specs.Performed.{IsScriptRun, begins_refused, first_event, is_all, opened_reply, pages_first, refused_at, told, told_first, told_later}
 
 -- the run of a script to these events
@@ -55,10 +58,16 @@ unfolding files_made all_sized
 sized_files pages [] = refl
 sized_files pages (e ∷ es) = ap (λ (files : List MadeFile). elim e.made as (λ z. List MadeFile) [ Some file ↦ file ∷ files | None ↦ files ]) (sized_files pages es)
 
+sparing_strokes : (es : List Event) → strokes_of (said_by_generated es) ≡ strokes_of es
+unfolding strokes_of said_by_generated
+sparing_strokes [] = refl
+sparing_strokes (e ∷ es) = ap (λ (ss : List Stroke). e.strokes ++ ss) (sparing_strokes es)
+
 pub told_cons : (telling : Telling) (pages : ℕ) (e : Event) (es : List Event) → told_first telling e ∷ told_later telling pages es ≡ told telling pages (e ∷ es)
-unfolding all_sized
+unfolding all_sized said_by_generated
 told_cons All pages e es = refl
 told_cons Quietly pages e es = refl
+told_cons Sparingly pages e es = refl
 told_cons WithSize pages e es = ap (λ (r : Option Reply). record e { reply = r } ∷ all_sized pages es) (sized_refusal pages e.reply)
 
 -- The events that are told have the steps and the strokes of the whole.
@@ -81,33 +90,39 @@ pub told_steps : (telling : Telling) (pages : ℕ) (es : List Event) → steps_o
 told_steps All pages es = refl
 told_steps Quietly pages es = quiet_steps es
 told_steps WithSize pages es = sized_steps pages (quiet es) ∙ quiet_steps es
+told_steps Sparingly pages es = later_steps SparinglyTold es
 
 pub told_strokes : (telling : Telling) (pages : ℕ) (es : List Event) → strokes_of (told telling pages es) ≡ strokes_of es
 told_strokes All pages es = refl
 told_strokes Quietly pages es = quiet_strokes es
 told_strokes WithSize pages es = sized_strokes pages (quiet es) ∙ quiet_strokes es
+told_strokes Sparingly pages es = sparing_strokes es
 
 -- and make the same files
 pub told_files : (telling : Telling) (pages : ℕ) (es : List Event) → files_made (told telling pages es) ≡ files_made es
 told_files All pages es = refl
 told_files Quietly pages es = quiet_files es
 told_files WithSize pages es = sized_files pages (quiet es) ∙ quiet_files es
+told_files Sparingly pages es = files_as SparinglyTold es
 
 pub later_files : (telling : Telling) (pages : ℕ) (es : List Event) → files_made (told_later telling pages es) ≡ files_made es
 later_files All pages es = refl
 later_files Quietly pages es = refl
 later_files WithSize pages es = sized_files pages es
+later_files Sparingly pages es = files_as SparinglyTold es
 
 pub told_first_steps : (telling : Telling) (e : Event) → steps_in (told_first telling e) ≡ steps_in e
 told_first_steps All e = refl
 told_first_steps Quietly e = refl
 told_first_steps WithSize e = refl
+told_first_steps Sparingly e = refl
 
 -- and the first makes the same file, if it makes one
 pub told_first_made : (telling : Telling) (e : Event) → (told_first telling e).made ≡ e.made
 told_first_made All e = refl
 told_first_made Quietly e = refl
 told_first_made WithSize e = refl
+told_first_made Sparingly e = refl
 
 -- a refusal is told
 refused_reply : (reply : Reply) → elim (refusal_in (Some reply)) as (λ z. Bool) [ None ↦ false | Some r ↦ is_refusal r ] ≡ is_refusal reply
@@ -118,20 +133,32 @@ refused_in : (reply : Option Reply) → elim (refusal_in reply) as (λ z. Bool) 
 refused_in None = refl
 refused_in (Some reply) = refused_reply reply
 
+last_in : (reply : Option Reply) → elim (last_or_refusal reply) as (λ z. Bool) [ None ↦ false | Some r ↦ is_refusal r ] ≡ elim reply as (λ z. Bool) [ None ↦ false | Some r ↦ is_refusal r ]
+last_in None = refl
+last_in (Some reply) = by reply
+  where
+    by : (reply : Reply) → elim (last_or_refusal (Some reply)) as (λ z. Bool) [ None ↦ false | Some r ↦ is_refusal r ] ≡ is_refusal reply
+    by (Refused refusal) = refl
+    by (PagesShown header inventory scn rows raw others free) = refl
+    by other = refl
+
 pub told_begins : (telling : Telling) (pages : ℕ) (es : List Event) → begins_refused (told telling pages es) ≡ begins_refused es
-unfolding all_sized
+unfolding all_sized said_by_generated
 told_begins All pages es = refl
 told_begins Quietly pages [] = refl
 told_begins Quietly pages (e ∷ es) = refused_in e.reply
+told_begins Sparingly pages [] = refl
+told_begins Sparingly pages (e ∷ es) = last_in e.reply
 told_begins WithSize pages [] = refl
 told_begins WithSize pages (e ∷ es) =
     ap (λ (r : Option Reply). elim r as (λ z. Bool) [ None ↦ false | Some reply ↦ is_refusal reply ]) (sym (sized_refusal pages e.reply)) ∙ refused_in e.reply
 
 pub told_refusal : (telling : Telling) (pages session : ℕ) (refusal : Refusal) → refused_at session refusal ≡ told telling pages (refused_at session refusal)
-unfolding all_sized
+unfolding all_sized said_by_generated
 told_refusal All pages session refusal = refl
 told_refusal Quietly pages session refusal = refl
 told_refusal WithSize pages session refusal = refl
+told_refusal Sparingly pages session refusal = refl
 
 -- what is asked for is done
 pub performed_told : (telling : Telling) (plan : Plan) (account : Account) (given : Given) (e : Event) (es : List Event) (last : Account) (left : Given) → Ran account given plan (e ∷ es) last left
@@ -151,6 +178,10 @@ opened_fine other pages state = refl
 untold : (first : Statement) (pages state : ℕ) → refusal_in (Some (opened_reply first pages state)) ≡ None
 untold (OpenDb name cache) pages state = refl
 untold other pages state = refl
+
+unshown : (first : Statement) (pages state : ℕ) → last_or_refusal (Some (opened_reply first pages state)) ≡ None
+unshown (OpenDb name cache) pages state = refl
+unshown other pages state = refl
 
 none_said : output [] ≡ []
 unfolding text_of replies_of
@@ -177,11 +208,13 @@ module _ (session : ℕ) (strokes : List Stroke) (first : Statement) (pages stat
   told_output All = output_one (first_event session strokes reply) reply refl
   told_output Quietly = output-quiet (told_first Quietly (first_event session strokes reply)) [] (untold first pages state) ∙ none_said
   told_output WithSize = output-quiet (told_first WithSize (first_event session strokes reply)) [] (untold first pages state) ∙ none_said
+  told_output Sparingly = output-quiet (told_first Sparingly (first_event session strokes reply)) [] (unshown first pages state) ∙ none_said
 
   pub told_status : (telling : Telling) → status_of (replies_of (told_first telling (first_event session strokes reply) ∷ [])) ≡ 0
   told_status All = status_one (first_event session strokes reply) reply refl ∙ opened_fine first pages state
   told_status Quietly = quiet_status (told_first Quietly (first_event session strokes reply)) (untold first pages state)
   told_status WithSize = quiet_status (told_first WithSize (first_event session strokes reply)) (untold first pages state)
+  told_status Sparingly = quiet_status (told_first Sparingly (first_event session strokes reply)) (unshown first pages state)
 
 -- saying nothing
 pub says_none : {T E : Type 0} (value : T) (old : World) → IsTimely old → SaysLine {T = T} {E = E} (Ok value) old old []

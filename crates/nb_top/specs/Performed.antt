@@ -33,6 +33,7 @@ use Rattle.nb_model.specs.Causes.{is_free_entry}
 use Rattle.nb_model.specs.Gifts.{WasGiven}
 use Rattle.nb_model.specs.Image.{image_in, image_scn}
 use Rattle.nb_model.specs.NewGuids.{AreNew, guids_in}
+use Rattle.nb_model.specs.Generated.{last_or_refusal, said_by_generated}
 use Rattle.nb_model.specs.Jobs.{all_sized, quiet, refusal_in, restore_turn, fixup_turn, account_behind}
 use Rattle.nb_model.specs.Outcomes.{Given}
 use Rattle.nb_model.specs.Output.{output, status_of}
@@ -53,12 +54,11 @@ use Rattle.nb_script.specs.Scripts.{Plan}
 use Rattle.nb_session.specs.declared.stop.Stop.{Stop}
 use Rattle.nb_session.specs.Replies.{is_refusal, only_tells, only_told}
 use Rattle.nb_session.specs.Acts.{MadeLeft, AreKept as AreFilesKept}
-use Rattle.nb_session.specs.Sized.{begins_alone}
 use Rattle.nb_session.specs.Stops.{IsSaid, IsFront, AreWhole, Plays}
 use Rattle.nb_top.specs.declared.status.Status.{Status}
 use Rattle.nb_top.specs.declared.status.Status.TheVariants.{Done, Refused as RefusedStatus, Usage as UsageStatus, Device, Memory}
 use Rattle.nb_top.specs.declared.telling.Telling.{Telling}
-use Rattle.nb_top.specs.declared.telling.Telling.TheVariants.{All, Quietly, WithSize}
+use Rattle.nb_top.specs.declared.telling.Telling.TheVariants.{All, Quietly, WithSize, Sparingly}
 use Rattle.nb_top.specs.Requests.{Request, ToRun, ToRestore, ToFix, script_in}
 
 -- what the first statement of a run did, or what is said in place of a run
@@ -79,28 +79,33 @@ pages_first before (CreateDb name page_size raw cache) = fresh_count page_size r
 pages_first before (OpenDb name cache) = length (base_in (before.entry name)).image
 pages_first before other = 0
 
--- What is told of events: all, or of the first one only why it is refused, or the same and with each begin so many pages.
+-- What is told of events: all, or of the first one only why it is refused, or the same and with each begin so many pages, or only refusals
+-- and the pages by kind.
 abbrev pub told : Telling → (pages : ℕ) → List Event → List Event
 told All pages whole = whole
 told Quietly pages whole = quiet whole
 told WithSize pages whole = all_sized pages (quiet whole)
+told Sparingly pages whole = said_by_generated whole
 
 -- every reply is told
 abbrev pub is_all : Telling → Bool
 is_all All = true
 is_all Quietly = false
 is_all WithSize = false
+is_all Sparingly = false
 
 -- the first event as a run tells it, and those behind it
 abbrev pub told_first : Telling → Event → Event
 told_first All e = e
 told_first Quietly e = record e { reply = refusal_in e.reply }
 told_first WithSize e = record e { reply = refusal_in e.reply }
+told_first Sparingly e = record e { reply = last_or_refusal e.reply }
 
 abbrev pub told_later : Telling → (pages : ℕ) → List Event → List Event
 told_later All pages es = es
 told_later Quietly pages es = es
 told_later WithSize pages es = all_sized pages es
+told_later Sparingly pages es = said_by_generated es
 
 -- The run of a script, with what is told of it.
 pub record IsScriptRun (plan : Plan) (telling : Telling) (before : Account) (given : Given) (events : List Event) (last : Account) (left : Given) : Type 0 where
@@ -353,11 +358,6 @@ played_behind event played = (event ∷ played.0, played.1)
 -- turns as a run tells them
 abbrev pub told_turns : Telling → (pages : ℕ) → Played → Played
 told_turns telling pages played = (told_later telling pages played.0, played.1)
-
--- the script begins a backup in session 1 and does nothing else
-pub record BeginsAlone (plan : Plan) : Type 0 where
-  pub schedule : plan.schedule ≡ []
-  pub sessions : plan.sessions ≡ begins_alone
 
 -- The script's turns were taken to their end and told, or some of them.
 pub record PlaysTold (result : Result Bool Stop) (old new : World) (before after : Held) (t : Trail) (telling : Telling) (pages : ℕ) (now : Now) (schedule : List ℕ) : Type 0 where

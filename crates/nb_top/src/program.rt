@@ -51,7 +51,6 @@ fn run_asking<H: Host>(
     telling: Telling,
 ) -> Result<Status, Stop>
     requires askable { IsAskable (plan_of db.now (statement ∷ [])) }
-    requires sized { telling ≡ Telling.WithSize → statement ≡ BeginBackup }
     ensures runs { (account : Account) (given : Given) → IsTrue H.tells → Knows (H.world host.old).files account (Ok (ToRun (plan_of db.now (statement ∷ [])) telling)) → MayBeGiven given → Foretells given (H.world host.old) (H.world host.new)
         → RunsTo result (H.world host.old) (H.world host.new) (Ok (ToRun (plan_of db.now (statement ∷ [])) telling)) account given }
     ensures grows { (account : Account) → IsTrue H.tells → Knows (H.world host.old).files account (Ok (ToRun (plan_of db.now (statement ∷ [])) telling)) → Grows (H.world host.old) (H.world host.new) }

@@ -10,7 +10,7 @@ ghost use Rattle.nb_model.specs.Gifts.{Foretells};
 ghost use Rattle.nb_model.specs.Going.{IsMaking};
 ghost use Rattle.nb_model.specs.Lines.{line_text};
 ghost use Rattle.nb_model.specs.Outcomes.{Given};
-ghost use Rattle.nb_model.specs.Run.{Now, base_now, begun};
+ghost use Rattle.nb_model.specs.Run.{Event, Now, base_now, begun};
 ghost use Rattle.nb_model.specs.Steps.{after_steps, steps_in};
 ghost use Rattle.nb_model.specs.Strokes.{Stroke};
 ghost use Rattle.nb_model.specs.Trail.{Trail, settled as settled_trail};
@@ -22,7 +22,8 @@ ghost use Rattle.nb_session.specs.Acts.{Grows};
 ghost use Rattle.nb_session.specs.Causes.{CountsStop};
 ghost use Rattle.nb_session.specs.Ready.{IsReady};
 ghost use Rattle.nb_session.specs.Says.{SaysLine};
-ghost use Rattle.nb_top.specs.Performed.{BeginsAlone, Knows, MayBeGiven, RunsTo, PlaysOpened, PlaysTold, first_event, is_all, opened_reply, told_first, number_of};
+ghost use Rattle.nb_session.specs.Told.{told_events};
+ghost use Rattle.nb_top.specs.Performed.{Knows, MayBeGiven, RunsTo, PlaysOpened, PlaysTold, first_event, is_all, opened_reply, told_first, told_later, number_of};
 ghost use Rattle.nb_top.specs.Requests.{ToRun};
 
 use crate::Status;
@@ -31,7 +32,7 @@ use nb_engine::Engine;
 use nb_host::{Fault, Host, Refusal};
 use nb_model::{Reply, Statement};
 use nb_script::Script;
-use nb_session::{Stop, begin_sized, say, take_turns};
+use nb_session::{Stop, Told, say, take_turns};
 use std::alloc::Global;
 
 /// What was answered: a value or a refusal; otherwise the run ends.
@@ -127,7 +128,7 @@ fn say_opened<H: Host>(
     ensures cause { CountsStop result (H.faults host.old) (H.faults host.new) }
 {
     match telling {
-        Telling::Quietly | Telling::WithSize => Ok(()),
+        Telling::Quietly | Telling::WithSize | Telling::Sparingly => Ok(()),
         Telling::All => {
             let reply = first_reply(script.first(), engine.count(), engine.store().state());
             say_line(alloc, host, script.first_session(), &reply)
@@ -135,8 +136,18 @@ fn say_opened<H: Host>(
     }
 }
 
-/// The sessions take their turns. Where a begin is told with the number of pages, it is all that the script does. Answers whether a statement
-/// was refused.
+/// How much of their replies the sessions say, on a database of so many pages.
+fn told_by(telling: Telling, pages: u32) -> Told
+    ensures { (events : List Event) → told_events result events ≡ told_later telling pages events }
+{
+    match telling {
+        Telling::All | Telling::Quietly => Told::Whole,
+        Telling::WithSize => Told::WithPages { pages },
+        Telling::Sparingly => Told::Sparingly,
+    }
+}
+
+/// The sessions take their turns, and say so much of them. Answers whether a statement was refused.
 fn take_told<H: Host>(
     alloc: Global,
     host: &mut H,
@@ -145,7 +156,6 @@ fn take_told<H: Host>(
     telling: Telling,
 ) -> Result<bool, Stop>
     requires askable { IsAskable script.now }
-    requires sized { telling ≡ Telling.WithSize → BeginsAlone script.now }
     ensures plays { (now : Now) (t : Trail) → IsTrue H.tells → IsReady (H.world host.old) engine.old t now → now.todo ≡ begun script.now.sessions → IsMaking now
         → Foretells now.given (H.world host.old) (H.world host.new)
         → PlaysTold result (H.world host.old) (H.world host.new) engine.old engine.new t telling engine.old.files.count now script.now.schedule }
@@ -153,10 +163,8 @@ fn take_told<H: Host>(
         → Grows (H.world host.old) (H.world host.new) }
     ensures cause { CountsStop result (H.faults host.old) (H.faults host.new) }
 {
-    match telling {
-        Telling::WithSize => begin_sized(alloc, host, engine),
-        Telling::All | Telling::Quietly => take_turns(alloc, host, engine, script),
-    }
+    let told = told_by(telling, engine.count());
+    take_turns(alloc, host, engine, script, told)
 }
 
 /// Says the reply of the first statement, where every reply is told, and then the sessions take their turns. Answers whether a statement
@@ -169,7 +177,6 @@ fn run_opened<H: Host>(
     telling: Telling,
 ) -> Result<bool, Stop>
     requires askable { IsAskable script.now }
-    requires sized { telling ≡ Telling.WithSize → BeginsAlone script.now }
     ensures plays { (now : Now) (start : Base) (strokes : List Stroke) → IsTrue H.tells → IsReady (H.world host.old) engine.old (settled_trail (base_now now)) now → now.todo ≡ begun script.now.sessions
         → IsMaking now → Foretells now.given (H.world host.old) (H.world host.new)
         → after_steps (settled_trail start) (steps_in (first_event script.now.first_session strokes (opened_reply script.now.first engine.old.files.count engine.old.files.state))) ≡ settled_trail (base_now now)
@@ -204,7 +211,6 @@ pub fn run_script<H: Host>(
     telling: Telling,
 ) -> Result<Status, Stop>
     requires askable { IsAskable script.now }
-    requires sized { telling ≡ Telling.WithSize → BeginsAlone script.now }
     ensures runs { (account : Account) (given : Given) → IsTrue H.tells → Knows (H.world host.old).files account (Ok (ToRun script.now telling)) → MayBeGiven given → Foretells given (H.world host.old) (H.world host.new)
         → RunsTo result (H.world host.old) (H.world host.new) (Ok (ToRun script.now telling)) account given }
     ensures grows { (account : Account) → IsTrue H.tells → Knows (H.world host.old).files account (Ok (ToRun script.now telling)) → Grows (H.world host.old) (H.world host.new) }

@@ -7,4 +7,6 @@ pub enum Telling {
     Quietly,
     /// The same, and of a begin also how many pages the database has.
     WithSize,
+    /// Only refusals, and the pages by kind.
+    Sparingly,
 }

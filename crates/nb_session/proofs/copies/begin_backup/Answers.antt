@@ -20,7 +20,7 @@ use Rattle.nb_session.proofs.TurnLaws.{turns_failed, turns_quiet, turns_refused,
 use Rattle.nb_session.proofs.copies.begin_backup.Goals as goal
 
 pub returns-in-Ok-clause-turn : goal.returns-in-Ok-clause-turn
-returns-in-Ok-clause-turn g c now t more tells ready makes here =
+returns-in-Ok-clause-turn g c how now t more tells ready makes here =
     let old = g.H.Host.world c.args.host.now in
     let mid = g.H.Host.world c.start.new.host in
     let a = c.args.engine.now in
@@ -32,14 +32,14 @@ returns-in-Ok-clause-turn g c now t more tells ready makes here =
     let sound = subst (λ (x : Base). IsSoundImage x.image) (sym ready.base) makes.going.sound in
     let asked = c.in-Ok.ensures.asks t tells ready.opened in
     let starts = λ (given : Given) (most : GaveAtMost old mid (next_guid given)). c.in-Ok.ensures.turn (seen_with now given) t tells ready.base ready.running ready.opened sound (knows_free old a t now (file_asked it) ready makes.going plain) most in
-    turns_quiet (λ copier. None) (Ok c.in-Ok.copier) (λ (taken : Taken). taken.refused) (λ (taken : Taken). taken.task) old mid mid a b t now session (Begins it) [] more [] (begins_make (base_now now).frozen it) makes here
+    turns_quiet how (λ copier. None) (Ok c.in-Ok.copier) (λ (taken : Taken). taken.refused) (λ (taken : Taken). taken.task) old mid mid a b t now session (Begins it) [] more [] (begins_make (base_now now).frozen it) makes here
     (start_acts old mid a b t now session it asks ready (Ok c.in-Ok.copier) starts asked.0 asked.2 asked.1) (λ acts. marks_none old mid a)
     c.under_way.result tt (ap (λ (x : Taken). x.refused) c.under_way.ensures) ready (λ said is. is)
     (λ told. subst (λ (x : Taken). IsBehind mid b session (Begins it) [] now x.task) (sym c.under_way.ensures)
     (start_behind old mid a b t now session it asks ready c.in-Ok.copier (next_guid now.given) plain (starts_told old mid a b t now session it asks ready (Ok c.in-Ok.copier) starts asked.0 asked.2 told)))
 
 pub returns-in-Err-Refused-clause-turn : goal.returns-in-Err-Refused-clause-turn
-returns-in-Err-Refused-clause-turn g c now t more tells ready makes here =
+returns-in-Err-Refused-clause-turn g c how now t more tells ready makes here =
     let old = g.H.Host.world c.args.host.now in
     let mid = g.H.Host.world c.start.new.host in
     let new = g.H.Host.world c.say_refused.new.host in
@@ -55,13 +55,13 @@ returns-in-Err-Refused-clause-turn g c now t more tells ready makes here =
     let starts = λ (given : Given) (most : GaveAtMost old mid (next_guid given)).
     subst (λ (f : Fault). StartsBackup (Err f) old mid a b t (next_guid given) (first_turn (seen_with now given) session it)) c.in-Err-Refused.field-0-is
     (c.in-Err-Refused.ensures.turn (seen_with now given) t tells ready.base ready.running ready.opened sound (knows_free old a t now (file_asked it) ready makes.going plain) most) in
-    turns_refused (λ copier. None) refusal old mid new a b t now session (Begins it) [] more [] (begins_make (base_now now).frozen it) makes here
+    turns_refused how (λ copier. None) refusal old mid new a b t now session (Begins it) [] more [] (begins_make (base_now now).frozen it) makes here
     (start_acts old mid a b t now session it asks ready (Err (Refused refusal)) starts asked.0 asked.2 asked.1) (λ acts. marks_none old mid a) ready c.say_refused.result (c.say_refused.ensures.line tells) c.say_refused.ensures.taken
     (λ is. status_told session it now (RefusedBy refusal) c.requires.asked.is_built is)
     (λ told. start_refused old mid a b t now session it asks ready refusal (next_guid now.given) (starts_told old mid a b t now session it asks ready (Err (Refused refusal)) starts asked.0 asked.2 told) new)
 
 pub returns-in-Err-Device-clause-turn : goal.returns-in-Err-Device-clause-turn
-returns-in-Err-Device-clause-turn g c now t more tells ready makes here =
+returns-in-Err-Device-clause-turn g c how now t more tells ready makes here =
     let old = g.H.Host.world c.args.host.now in
     let mid = g.H.Host.world c.start.new.host in
     let a = c.args.engine.now in
@@ -75,11 +75,11 @@ returns-in-Err-Device-clause-turn g c now t more tells ready makes here =
     let starts = λ (given : Given) (most : GaveAtMost old mid (next_guid given)).
     subst (λ (f : Fault). StartsBackup (Err f) old mid a b t (next_guid given) (first_turn (seen_with now given) session it)) c.in-Err-Device.field-0-is
     (c.in-Err-Device.ensures.turn (seen_with now given) t tells ready.base ready.running ready.opened sound (knows_free old a t now (file_asked it) ready makes.going plain) most) in
-    turns_failed (λ copier. None) (Err Device) (λ (taken : Taken). taken.refused) (λ (taken : Taken). taken.task) old mid mid a b t now session (Begins it) [] more [] (begins_make (base_now now).frozen it) makes here
+    turns_failed how (λ copier. None) (Err Device) (λ (taken : Taken). taken.refused) (λ (taken : Taken). taken.task) old mid mid a b t now session (Begins it) [] more [] (begins_make (base_now now).frozen it) makes here
     (start_acts old mid a b t now session it asks ready (Err Device) starts asked.0 asked.2 asked.1) (λ acts. marks_none old mid a) (Err Device) refl
 
 pub returns-in-Err-Memory-clause-turn : goal.returns-in-Err-Memory-clause-turn
-returns-in-Err-Memory-clause-turn g c now t more tells ready makes here =
+returns-in-Err-Memory-clause-turn g c how now t more tells ready makes here =
     let old = g.H.Host.world c.args.host.now in
     let mid = g.H.Host.world c.start.new.host in
     let a = c.args.engine.now in
@@ -93,5 +93,5 @@ returns-in-Err-Memory-clause-turn g c now t more tells ready makes here =
     let starts = λ (given : Given) (most : GaveAtMost old mid (next_guid given)).
     subst (λ (f : Fault). StartsBackup (Err f) old mid a b t (next_guid given) (first_turn (seen_with now given) session it)) c.in-Err-Memory.field-0-is
     (c.in-Err-Memory.ensures.turn (seen_with now given) t tells ready.base ready.running ready.opened sound (knows_free old a t now (file_asked it) ready makes.going plain) most) in
-    turns_failed (λ copier. None) (Err Memory) (λ (taken : Taken). taken.refused) (λ (taken : Taken). taken.task) old mid mid a b t now session (Begins it) [] more [] (begins_make (base_now now).frozen it) makes here
+    turns_failed how (λ copier. None) (Err Memory) (λ (taken : Taken). taken.refused) (λ (taken : Taken). taken.task) old mid mid a b t now session (Begins it) [] more [] (begins_make (base_now now).frozen it) makes here
     (start_acts old mid a b t now session it asks ready (Err Memory) starts asked.0 asked.2 asked.1) (λ acts. marks_none old mid a) (Err Memory) refl

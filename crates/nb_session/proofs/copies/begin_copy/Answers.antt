@@ -18,7 +18,7 @@ use Rattle.nb_session.proofs.TurnLaws.{seen_now, turns_failed, turns_quiet, turn
 use Rattle.nb_session.proofs.copies.begin_copy.Goals as goal
 
 pub returns-in-Ok-clause-turn : goal.returns-in-Ok-clause-turn
-returns-in-Ok-clause-turn g c now t more tells ready makes here =
+returns-in-Ok-clause-turn g c how now t more tells ready makes here =
     let old = g.H.Host.world c.args.host.now in
     let mid = g.H.Host.world c.start.new.host in
     let a = c.args.engine.now in
@@ -27,13 +27,13 @@ returns-in-Ok-clause-turn g c now t more tells ready makes here =
     let copier = c.in-Ok.copier in
     let named : name_of b ≡ name_of a = name_kept (record a { running = Some c.args.session }) b c.in-Ok.ensures.held in
     let starts = c.in-Ok.ensures.turn (seen_now now) t tells ready.base ready.running ready.opened (knows_unused old a t now name ready makes.going c.requires.plain) in
-    turns_quiet (λ copy. None) (Ok copier) (λ (taken : Taken). taken.refused) (λ (taken : Taken). taken.task) old mid mid a b t now c.args.session (Begins (CopyTo name)) [] more [] (begins_make (base_now now).frozen (CopyTo name)) makes here
+    turns_quiet how (λ copy. None) (Ok copier) (λ (taken : Taken). taken.refused) (λ (taken : Taken). taken.task) old mid mid a b t now c.args.session (Begins (CopyTo name)) [] more [] (begins_make (base_now now).frozen (CopyTo name)) makes here
     (begin_acts old mid a b t now c.args.session name ready named (Ok copier) starts) (λ acts. marks_none old mid a)
     c.under_way.result tt (ap (λ (x : Taken). x.refused) c.under_way.ensures) ready (λ said is. is)
     (λ told. subst (λ (x : Taken). IsBehind mid b c.args.session (Begins (CopyTo name)) [] now x.task) (sym c.under_way.ensures) (begin_behind old mid a b t now c.args.session name ready named copier c.requires.plain starts))
 
 pub returns-in-Err-Refused-clause-turn : goal.returns-in-Err-Refused-clause-turn
-returns-in-Err-Refused-clause-turn g c now t more tells ready makes here =
+returns-in-Err-Refused-clause-turn g c how now t more tells ready makes here =
     let old = g.H.Host.world c.args.host.now in
     let mid = g.H.Host.world c.start.new.host in
     let new = g.H.Host.world c.say_refused.new.host in
@@ -44,12 +44,12 @@ returns-in-Err-Refused-clause-turn g c now t more tells ready makes here =
     let named : name_of b ≡ name_of a = name_kept a b c.in-Err-Refused.ensures.stays in
     let starts = subst (λ (f : Fault). StartsCopy (Err f) old mid a b t name (copy_turn (seen_now now) c.args.session name)) c.in-Err-Refused.field-0-is
     (c.in-Err-Refused.ensures.turn (seen_now now) t tells ready.base ready.running ready.opened (knows_unused old a t now name ready makes.going c.requires.plain)) in
-    turns_refused (λ copy. None) refusal old mid new a b t now c.args.session (Begins (CopyTo name)) [] more [] (begins_make (base_now now).frozen (CopyTo name)) makes here
+    turns_refused how (λ copy. None) refusal old mid new a b t now c.args.session (Begins (CopyTo name)) [] more [] (begins_make (base_now now).frozen (CopyTo name)) makes here
     (begin_acts old mid a b t now c.args.session name ready named (Err (Refused refusal)) starts) (λ acts. marks_none old mid a) ready c.say_refused.result (c.say_refused.ensures.line tells) c.say_refused.ensures.taken
     (λ is. status_told c.args.session (CopyTo name) now (RefusedBy refusal) refl is) (λ told. begin_refused old mid a b t now c.args.session name ready named refusal starts new)
 
 pub returns-in-Err-Device-clause-turn : goal.returns-in-Err-Device-clause-turn
-returns-in-Err-Device-clause-turn g c now t more tells ready makes here =
+returns-in-Err-Device-clause-turn g c how now t more tells ready makes here =
     let old = g.H.Host.world c.args.host.now in
     let mid = g.H.Host.world c.start.new.host in
     let a = c.args.engine.now in
@@ -58,11 +58,11 @@ returns-in-Err-Device-clause-turn g c now t more tells ready makes here =
     let named : name_of b ≡ name_of a = name_kept a b c.in-Err-Device.ensures.stays in
     let starts = subst (λ (f : Fault). StartsCopy (Err f) old mid a b t name (copy_turn (seen_now now) c.args.session name)) c.in-Err-Device.field-0-is
     (c.in-Err-Device.ensures.turn (seen_now now) t tells ready.base ready.running ready.opened (knows_unused old a t now name ready makes.going c.requires.plain)) in
-    turns_failed (λ copy. None) (Err Device) (λ (taken : Taken). taken.refused) (λ (taken : Taken). taken.task) old mid mid a b t now c.args.session (Begins (CopyTo name)) [] more [] (begins_make (base_now now).frozen (CopyTo name)) makes here
+    turns_failed how (λ copy. None) (Err Device) (λ (taken : Taken). taken.refused) (λ (taken : Taken). taken.task) old mid mid a b t now c.args.session (Begins (CopyTo name)) [] more [] (begins_make (base_now now).frozen (CopyTo name)) makes here
     (begin_acts old mid a b t now c.args.session name ready named (Err Device) starts) (λ acts. marks_none old mid a) (Err Device) refl
 
 pub returns-in-Err-Memory-clause-turn : goal.returns-in-Err-Memory-clause-turn
-returns-in-Err-Memory-clause-turn g c now t more tells ready makes here =
+returns-in-Err-Memory-clause-turn g c how now t more tells ready makes here =
     let old = g.H.Host.world c.args.host.now in
     let mid = g.H.Host.world c.start.new.host in
     let a = c.args.engine.now in
@@ -71,5 +71,5 @@ returns-in-Err-Memory-clause-turn g c now t more tells ready makes here =
     let named : name_of b ≡ name_of a = name_kept a b c.in-Err-Memory.ensures.stays in
     let starts = subst (λ (f : Fault). StartsCopy (Err f) old mid a b t name (copy_turn (seen_now now) c.args.session name)) c.in-Err-Memory.field-0-is
     (c.in-Err-Memory.ensures.turn (seen_now now) t tells ready.base ready.running ready.opened (knows_unused old a t now name ready makes.going c.requires.plain)) in
-    turns_failed (λ copy. None) (Err Memory) (λ (taken : Taken). taken.refused) (λ (taken : Taken). taken.task) old mid mid a b t now c.args.session (Begins (CopyTo name)) [] more [] (begins_make (base_now now).frozen (CopyTo name)) makes here
+    turns_failed how (λ copy. None) (Err Memory) (λ (taken : Taken). taken.refused) (λ (taken : Taken). taken.task) old mid mid a b t now c.args.session (Begins (CopyTo name)) [] more [] (begins_make (base_now now).frozen (CopyTo name)) makes here
     (begin_acts old mid a b t now c.args.session name ready named (Err Memory) starts) (λ acts. marks_none old mid a) (Err Memory) refl

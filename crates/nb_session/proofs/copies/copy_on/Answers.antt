@@ -30,7 +30,7 @@ returns-in_err-turn-clause-turn g c now t more tells ready makes here goes =
     let stalled : a.files.state ≡ 1 = copying_stalled old a t now c.args.session left copy.name more ready makes.going here in
     let copies = c.in_err-turn.ensures.turn t tells ready.opened stalled goes.0 (apart_files a copy.name goes.1) in
     let reads = g.met.H.Host.reads_left c.args.host.now tells copy.name in
-    turns_failed (copy_said 0) (Err Device) (λ (taken : Taken). taken.refused) (λ (taken : Taken). taken.task) old mid mid a b t now c.args.session (copy_first left (ClosesCopy copy.name)) (copy_rest left (ClosesCopy copy.name)) more _
+    turns_failed c.args.told (copy_said 0) (Err Device) (λ (taken : Taken). taken.refused) (λ (taken : Taken). taken.task) old mid mid a b t now c.args.session (copy_first left (ClosesCopy copy.name)) (copy_rest left (ClosesCopy copy.name)) more _
     (copy_files old mid a b t now c.args.session copy later 0 ready goes.1 reads left) makes here
     (copy_fails old mid a b t now c.args.session copy later 0 ready goes.1 reads copies.left copies.gave left copies.same)
     (marks_made (copy_said 0) (Err Device) old mid a b t now c.args.session (copy_first left (ClosesCopy copy.name)) _ (apart_one a copy.name _ goes.1) (λ m. g.met.H.Host.reads_left c.turn.new.host tells m))
@@ -51,7 +51,7 @@ returns-in-More-clause-turn g c now t more tells ready makes here goes =
     let some : 1 ≤ left = omega (arith, counts.0) in
     let rest : later.count - later.next ≡ left - 1 = omega (arith, counts.0, ap (λ (x : Copying). x.count) counts.1, ap (λ (x : Copying). x.next) counts.1) in
     let reads = g.met.H.Host.reads_left c.args.host.now tells copy.name in
-    turns_quiet (copy_said 0) (Ok More) (λ (taken : Taken). taken.refused) (λ (taken : Taken). taken.task) old mid mid a b t now c.args.session (copy_first left (ClosesCopy copy.name)) (copy_rest left (ClosesCopy copy.name)) more _
+    turns_quiet c.args.told (copy_said 0) (Ok More) (λ (taken : Taken). taken.refused) (λ (taken : Taken). taken.task) old mid mid a b t now c.args.session (copy_first left (ClosesCopy copy.name)) (copy_rest left (ClosesCopy copy.name)) more _
     (copy_files old mid a b t now c.args.session copy later 0 ready goes.1 reads left) makes here
     (copy_more old mid a b t now c.args.session copy later 0 ready goes.1 reads copies.left copies.gave left some copies.same (subst (λ (h : Held). IsOpen mid h t) refl copies.opened))
     (marks_made (copy_said 0) (Ok More) old mid a b t now c.args.session (copy_first left (ClosesCopy copy.name)) _ (apart_one a copy.name _ goes.1) (λ m. g.met.H.Host.reads_left c.turn.new.host tells m))
@@ -59,11 +59,11 @@ returns-in-More-clause-turn g c now t more tells ready makes here goes =
     (λ told. subst (λ (x : Taken). IsBehind mid b c.args.session (copy_first left (ClosesCopy copy.name)) (copy_rest left (ClosesCopy copy.name)) now x.task) (sym c.under_way.ensures)
     (more_behind old mid a b t now c.args.session copy later 0 ready goes.1 reads left some rest (ap (λ (x : Copying). x.name) counts.1) copies.same copies.answer goes.2))
 
-pub returns-in_err-say-in-Finished-clause-turn : goal.returns-in_err-say-in-Finished-clause-turn
-returns-in_err-say-in-Finished-clause-turn g c now t more tells ready makes here goes =
+pub returns-in_err-tell-in-Finished-clause-turn : goal.returns-in_err-tell-in-Finished-clause-turn
+returns-in_err-tell-in-Finished-clause-turn g c now t more tells ready makes here goes =
     let old = g.H.Host.world c.args.host.now in
     let mid = g.H.Host.world c.turn.new.host in
-    let new = g.H.Host.world c.say.new.host in
+    let new = g.H.Host.world c.tell.new.host in
     let a = c.args.engine.now in
     let b = c.turn.new.engine in
     let d = c.stop_running.new.engine in
@@ -78,17 +78,17 @@ returns-in_err-say-in-Finished-clause-turn g c now t more tells ready makes here
     let all = c.written.ensures ∙ ap (λ (x : Copying). x.next) counts.1 ∙ counts.0 ∙ sym goes.0.of.long in
     let stopped : d ≡ record a { running = None } = stopped_is a b d c.args.session copies.same goes.2 c.stop_running.ensures.own in
     let reads = g.met.H.Host.reads_left c.args.host.now tells copy.name in
-    turns_unsaid (copy_said pages) (Ok Finished) (λ (taken : Taken). taken.refused) (λ (taken : Taken). taken.task) old mid new a d t now c.args.session (copy_first left (ClosesCopy copy.name)) (copy_rest left (ClosesCopy copy.name)) more _
+    turns_unsaid c.args.told (copy_said pages) (Ok Finished) (λ (taken : Taken). taken.refused) (λ (taken : Taken). taken.task) old mid new a d t now c.args.session (copy_first left (ClosesCopy copy.name)) (copy_rest left (ClosesCopy copy.name)) more _
     (copy_files old mid a d t now c.args.session copy later pages ready goes.1 reads left) makes here
     (copy_ends old mid a d t now c.args.session copy later pages ready goes.1 reads copies.left copies.gave left none stopped (subst (λ (h : Held). IsOpen mid h t) copies.same copies.opened) all copies.answer)
     (marks_made (copy_said pages) (Ok Finished) old mid a d t now c.args.session (copy_first left (ClosesCopy copy.name)) _ (apart_one a copy.name _ goes.1) (λ m. g.met.H.Host.reads_left c.turn.new.host tells m))
-    tt (Pages pages) (said_pages pages Finished) c.say.result (c.say.ensures.line tells) ready c.from_residual-in_err-say-in-Finished.result c.from_residual-in_err-say-in-Finished.ensures.0
+    tt (Pages pages) (said_pages pages Finished) c.tell.result (c.tell.ensures.line tells) ready c.from_residual-in_err-tell-in-Finished.result c.from_residual-in_err-tell-in-Finished.ensures.0
 
-pub returns-in_ok-say-in-Finished-clause-turn : goal.returns-in_ok-say-in-Finished-clause-turn
-returns-in_ok-say-in-Finished-clause-turn g c now t more tells ready makes here goes =
+pub returns-in_ok-tell-in-Finished-clause-turn : goal.returns-in_ok-tell-in-Finished-clause-turn
+returns-in_ok-tell-in-Finished-clause-turn g c now t more tells ready makes here goes =
     let old = g.H.Host.world c.args.host.now in
     let mid = g.H.Host.world c.turn.new.host in
-    let new = g.H.Host.world c.say.new.host in
+    let new = g.H.Host.world c.tell.new.host in
     let a = c.args.engine.now in
     let b = c.turn.new.engine in
     let d = c.stop_running.new.engine in
@@ -103,9 +103,9 @@ returns-in_ok-say-in-Finished-clause-turn g c now t more tells ready makes here 
     let all = c.written.ensures ∙ ap (λ (x : Copying). x.next) counts.1 ∙ counts.0 ∙ sym goes.0.of.long in
     let stopped : d ≡ record a { running = None } = stopped_is a b d c.args.session copies.same goes.2 c.stop_running.ensures.own in
     let reads = g.met.H.Host.reads_left c.args.host.now tells copy.name in
-    turns_said (copy_said pages) (Ok Finished) (λ (taken : Taken). taken.refused) (λ (taken : Taken). taken.task) old mid new a d t now c.args.session (copy_first left (ClosesCopy copy.name)) (copy_rest left (ClosesCopy copy.name)) more _
+    turns_said c.args.told (copy_said pages) (Ok Finished) (λ (taken : Taken). taken.refused) (λ (taken : Taken). taken.task) old mid new a d t now c.args.session (copy_first left (ClosesCopy copy.name)) (copy_rest left (ClosesCopy copy.name)) more _
     (copy_files old mid a d t now c.args.session copy later pages ready goes.1 reads left) makes here
     (copy_ends old mid a d t now c.args.session copy later pages ready goes.1 reads copies.left copies.gave left none stopped (subst (λ (h : Held). IsOpen mid h t) copies.same copies.opened) all copies.answer)
     (marks_made (copy_said pages) (Ok Finished) old mid a d t now c.args.session (copy_first left (ClosesCopy copy.name)) _ (apart_one a copy.name _ goes.1) (λ m. g.met.H.Host.reads_left c.turn.new.host tells m))
-    tt (Pages pages) (said_pages pages Finished) c.say.result (c.say.ensures.line tells) ready _ (c.in_ok-say-in-Finished.ensures.line tells).said (λ is. refl)
+    tt (Pages pages) (said_pages pages Finished) c.tell.result (c.tell.ensures.line tells) ready _ (c.in_ok-tell-in-Finished.ensures.line tells).said (λ is. refl)
     (λ told. end_behind old mid a d t now c.args.session copy later pages ready goes.1 reads new left none)

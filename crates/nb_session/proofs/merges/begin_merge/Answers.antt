@@ -17,19 +17,19 @@ use Rattle.nb_session.proofs.TurnLaws.{seen_now, turns_failed, turns_quiet, turn
 use Rattle.nb_session.proofs.merges.begin_merge.Goals as goal
 
 pub returns-in-Ok-clause-turn : goal.returns-in-Ok-clause-turn
-returns-in-Ok-clause-turn g c now t more tells ready makes here =
+returns-in-Ok-clause-turn g c how now t more tells ready makes here =
     let old = g.H.Host.world c.args.host.now in
     let mid = g.H.Host.world c.end.new.host in
     let a = c.args.engine.now in
     let b = c.end.new.self in
     let does = c.in-Ok.ensures.turn (seen_now now) t tells ready.base ready.running ready.opened in
-    turns_quiet (λ scn. None) (Ok c.in-Ok.scn) (λ (taken : Taken). taken.refused) (λ (taken : Taken). taken.task) old mid mid a b t now c.args.session _ [] more [] (begins_make (base_now now).frozen EndBackup) makes here
+    turns_quiet how (λ scn. None) (Ok c.in-Ok.scn) (λ (taken : Taken). taken.refused) (λ (taken : Taken). taken.task) old mid mid a b t now c.args.session _ [] more [] (begins_make (base_now now).frozen EndBackup) makes here
     (end_acts old mid a b t now c.args.session ready (Ok c.in-Ok.scn) does) (λ acts. marks_none old mid a)
     c.merge_of.result tt (ap (λ (x : Taken). x.refused) c.merge_of.ensures) ready (λ said is. is)
     (λ told. subst (λ (x : Taken). IsBehind mid b c.args.session (Begins EndBackup) [] now x.task) (sym c.merge_of.ensures) (end_behind old mid a b t now c.args.session ready (length b.files.entries) refl c.in-Ok.scn does))
 
 pub returns-in-Err-Refused-clause-turn : goal.returns-in-Err-Refused-clause-turn
-returns-in-Err-Refused-clause-turn g c now t more tells ready makes here =
+returns-in-Err-Refused-clause-turn g c how now t more tells ready makes here =
     let old = g.H.Host.world c.args.host.now in
     let mid = g.H.Host.world c.end.new.host in
     let new = g.H.Host.world c.say_refused.new.host in
@@ -37,26 +37,26 @@ returns-in-Err-Refused-clause-turn g c now t more tells ready makes here =
     let b = c.end.new.self in
     let refusal = c.in-Err-Refused.refusal in
     let does = subst (λ (f : Fault). DoesEnd (Err f) old mid a b t (end_scn t.base.image) (end_turn (seen_now now) c.args.session)) c.in-Err-Refused.field-0-is (c.in-Err-Refused.ensures.turn (seen_now now) t tells ready.base ready.running ready.opened) in
-    turns_refused (λ scn. None) refusal old mid new a b t now c.args.session _ [] more [] (begins_make (base_now now).frozen EndBackup) makes here
+    turns_refused how (λ scn. None) refusal old mid new a b t now c.args.session _ [] more [] (begins_make (base_now now).frozen EndBackup) makes here
     (end_acts old mid a b t now c.args.session ready (Err (Refused refusal)) does) (λ acts. marks_none old mid a) ready c.say_refused.result (c.say_refused.ensures.line tells) c.say_refused.ensures.taken
     (λ is. status_told c.args.session EndBackup now (RefusedBy refusal) refl is) (λ told. end_refused old mid a b t now c.args.session ready refusal does new)
 
 pub returns-in-Err-Device-clause-turn : goal.returns-in-Err-Device-clause-turn
-returns-in-Err-Device-clause-turn g c now t more tells ready makes here =
+returns-in-Err-Device-clause-turn g c how now t more tells ready makes here =
     let old = g.H.Host.world c.args.host.now in
     let mid = g.H.Host.world c.end.new.host in
     let a = c.args.engine.now in
     let b = c.end.new.self in
     let does = subst (λ (f : Fault). DoesEnd (Err f) old mid a b t (end_scn t.base.image) (end_turn (seen_now now) c.args.session)) c.in-Err-Device.field-0-is (c.in-Err-Device.ensures.turn (seen_now now) t tells ready.base ready.running ready.opened) in
-    turns_failed (λ scn. None) (Err Device) (λ (taken : Taken). taken.refused) (λ (taken : Taken). taken.task) old mid mid a b t now c.args.session _ [] more [] (begins_make (base_now now).frozen EndBackup) makes here
+    turns_failed how (λ scn. None) (Err Device) (λ (taken : Taken). taken.refused) (λ (taken : Taken). taken.task) old mid mid a b t now c.args.session _ [] more [] (begins_make (base_now now).frozen EndBackup) makes here
     (end_acts old mid a b t now c.args.session ready (Err Device) does) (λ acts. marks_none old mid a) (Err Device) refl
 
 pub returns-in-Err-Memory-clause-turn : goal.returns-in-Err-Memory-clause-turn
-returns-in-Err-Memory-clause-turn g c now t more tells ready makes here =
+returns-in-Err-Memory-clause-turn g c how now t more tells ready makes here =
     let old = g.H.Host.world c.args.host.now in
     let mid = g.H.Host.world c.end.new.host in
     let a = c.args.engine.now in
     let b = c.end.new.self in
     let does = subst (λ (f : Fault). DoesEnd (Err f) old mid a b t (end_scn t.base.image) (end_turn (seen_now now) c.args.session)) c.in-Err-Memory.field-0-is (c.in-Err-Memory.ensures.turn (seen_now now) t tells ready.base ready.running ready.opened) in
-    turns_failed (λ scn. None) (Err Memory) (λ (taken : Taken). taken.refused) (λ (taken : Taken). taken.task) old mid mid a b t now c.args.session _ [] more [] (begins_make (base_now now).frozen EndBackup) makes here
+    turns_failed how (λ scn. None) (Err Memory) (λ (taken : Taken). taken.refused) (λ (taken : Taken). taken.task) old mid mid a b t now c.args.session _ [] more [] (begins_make (base_now now).frozen EndBackup) makes here
     (end_acts old mid a b t now c.args.session ready (Err Memory) does) (λ acts. marks_none old mid a) (Err Memory) refl

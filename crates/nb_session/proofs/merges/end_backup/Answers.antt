@@ -15,46 +15,46 @@ use Rattle.nb_session.proofs.TurnLaws.{seen_now, turns_failed, turns_quiet, turn
 use Rattle.nb_session.proofs.merges.end_backup.Goals as goal
 
 pub returns-in-Ok-clause-turn : goal.returns-in-Ok-clause-turn
-returns-in-Ok-clause-turn g c now t more tells ready makes here runs =
+returns-in-Ok-clause-turn g c how now t more tells ready makes here runs =
     let old = g.H.Host.world c.args.host.now in
     let mid = g.H.Host.world c.end.new.host in
     let a = c.args.engine.now in
     let b = c.end.new.self in
     let quiet = ends_quiet old a t now c.args.session ready makes.going c.args.reply more here runs in
     let does = c.in-Ok.ensures.turn (seen_now now) t tells ready.base ready.running ready.opened in
-    turns_quiet (λ scn. None) (Ok c.in-Ok.field-0) (λ (taken : Taken). taken.refused) (λ (taken : Taken). taken.task) old mid mid a b t now c.args.session (Ends c.args.reply) [] more [] (ends_make (base_now now).frozen c.args.reply) makes here
+    turns_quiet how (λ scn. None) (Ok c.in-Ok.field-0) (λ (taken : Taken). taken.refused) (λ (taken : Taken). taken.task) old mid mid a b t now c.args.session (Ends c.args.reply) [] more [] (ends_make (base_now now).frozen c.args.reply) makes here
     (ends_acts old mid a b t now c.args.session ready c.args.reply quiet (Ok c.in-Ok.field-0) does) (λ acts. marks_none old mid a)
     c.merge_of.result tt (ap (λ (x : Taken). x.refused) c.merge_of.ensures) ready (λ said is. is)
     (λ told. subst (λ (x : Taken). IsBehind mid b c.args.session (Ends c.args.reply) [] now x.task) (sym c.merge_of.ensures) (ends_behind old mid a b t now c.args.session ready (length b.files.entries) refl c.in-Ok.field-0 does c.args.reply))
 
 pub returns-in-Err-Refused-clause-turn : goal.returns-in-Err-Refused-clause-turn
-returns-in-Err-Refused-clause-turn g c now t more tells ready makes here runs =
+returns-in-Err-Refused-clause-turn g c how now t more tells ready makes here runs =
     let old = g.H.Host.world c.args.host.now in
     let mid = g.H.Host.world c.end.new.host in
     let a = c.args.engine.now in
     let b = c.end.new.self in
     let does = subst (λ (f : Fault). DoesEnd (Err f) old mid a b t (end_scn t.base.image) (end_turn (seen_now now) c.args.session)) c.in-Err-Refused.field-0-is (c.in-Err-Refused.ensures.turn (seen_now now) t tells ready.base ready.running ready.opened) in
-    turns_never (λ (taken : Taken). taken.refused) (λ (taken : Taken). taken.task) c.say_refused.result old (g.H.Host.world c.say_refused.new.host) a b t now c.args.session (Ends c.args.reply) [] more
+    turns_never how (λ (taken : Taken). taken.refused) (λ (taken : Taken). taken.task) c.say_refused.result old (g.H.Host.world c.say_refused.new.host) a b t now c.args.session (Ends c.args.reply) [] more
     (ends_unrefused old mid a b t now c.args.session ready makes.going c.args.reply more here runs c.in-Err-Refused.refusal does)
 
 pub returns-in-Err-Device-clause-turn : goal.returns-in-Err-Device-clause-turn
-returns-in-Err-Device-clause-turn g c now t more tells ready makes here runs =
+returns-in-Err-Device-clause-turn g c how now t more tells ready makes here runs =
     let old = g.H.Host.world c.args.host.now in
     let mid = g.H.Host.world c.end.new.host in
     let a = c.args.engine.now in
     let b = c.end.new.self in
     let quiet = ends_quiet old a t now c.args.session ready makes.going c.args.reply more here runs in
     let does = subst (λ (f : Fault). DoesEnd (Err f) old mid a b t (end_scn t.base.image) (end_turn (seen_now now) c.args.session)) c.in-Err-Device.field-0-is (c.in-Err-Device.ensures.turn (seen_now now) t tells ready.base ready.running ready.opened) in
-    turns_failed (λ scn. None) (Err Device) (λ (taken : Taken). taken.refused) (λ (taken : Taken). taken.task) old mid mid a b t now c.args.session (Ends c.args.reply) [] more [] (ends_make (base_now now).frozen c.args.reply) makes here
+    turns_failed how (λ scn. None) (Err Device) (λ (taken : Taken). taken.refused) (λ (taken : Taken). taken.task) old mid mid a b t now c.args.session (Ends c.args.reply) [] more [] (ends_make (base_now now).frozen c.args.reply) makes here
     (ends_acts old mid a b t now c.args.session ready c.args.reply quiet (Err Device) does) (λ acts. marks_none old mid a) (Err Device) refl
 
 pub returns-clause-turn : goal.returns-clause-turn
-returns-clause-turn g c now t more tells ready makes here runs =
+returns-clause-turn g c how now t more tells ready makes here runs =
     let old = g.H.Host.world c.args.host.now in
     let mid = g.H.Host.world c.end.new.host in
     let a = c.args.engine.now in
     let b = c.end.new.self in
     let quiet = ends_quiet old a t now c.args.session ready makes.going c.args.reply more here runs in
     let does = subst (λ (f : Fault). DoesEnd (Err f) old mid a b t (end_scn t.base.image) (end_turn (seen_now now) c.args.session)) c.in-Err-Memory.field-0-is (c.in-Err-Memory.ensures.turn (seen_now now) t tells ready.base ready.running ready.opened) in
-    turns_failed (λ scn. None) (Err Memory) (λ (taken : Taken). taken.refused) (λ (taken : Taken). taken.task) old mid mid a b t now c.args.session (Ends c.args.reply) [] more [] (ends_make (base_now now).frozen c.args.reply) makes here
+    turns_failed how (λ scn. None) (Err Memory) (λ (taken : Taken). taken.refused) (λ (taken : Taken). taken.task) old mid mid a b t now c.args.session (Ends c.args.reply) [] more [] (ends_make (base_now now).frozen c.args.reply) makes here
     (ends_acts old mid a b t now c.args.session ready c.args.reply quiet (Err Memory) does) (λ acts. marks_none old mid a) (Err Memory) refl

@@ -9,23 +9,27 @@ use Rattle.nb_model.specs.Run.{Now}
 use Rattle.nb_model.specs.Trail.{Trail}
 use Rattle.nb_state.specs.Open.{Held}
 use Rattle.nb_session.specs.declared.task.Taken.{Taken}
+use Rattle.nb_session.specs.declared.told.Told.{Told}
 use Rattle.nb_session.specs.Askers.{TaskFits}
 use Rattle.nb_session.specs.Steps.{Turns}
 use Rattle.nb_session.proofs.TurnLaws.{handed_turns, handed_none, handed_counts, handed_failure}
 use Rattle.nb_session.proofs.session.begin_statement.Goals as goal
 
 -- the first turn of a statement
-abbrev Begun : (answer : Result Taken Fault) (old new : World) (a b : Held) (t : Trail) (now : Now) (session : ℕ) (more : List Turn) → Statement → Type 0
-Begun answer old new a b t now session more statement =
-    slice_index_or now.todo (session - 1) [] ≡ Begins statement ∷ more → Turns (λ taken. taken.refused) (λ taken. taken.task) answer old new a b t now session (Begins statement) [] more
+abbrev Begun : (told : Told) (answer : Result Taken Fault) (old new : World) (a b : Held) (t : Trail) (now : Now) (session : ℕ) (more : List Turn) → Statement → Type 0
+Begun told answer old new a b t now session more statement =
+    slice_index_or now.todo (session - 1) [] ≡ Begins statement ∷ more → Turns told (λ taken. taken.refused) (λ taken. taken.task) answer old new a b t now session (Begins statement) [] more
 
 pub returns-in-EndBackup-clause-turn : goal.returns-in-EndBackup-clause-turn
 returns-in-EndBackup-clause-turn g c now t more tells ready makes =
-    subst (Begun c.begin_merge.result (g.H.Host.world c.args.host.now) (g.H.Host.world c.begin_merge.new.host) c.args.engine.now c.begin_merge.new.engine t now c.args.session more) (sym c.in-EndBackup.is) (c.begin_merge.ensures.turn now t more tells ready makes)
+    subst (Begun c.args.told c.begin_merge.result (g.H.Host.world c.args.host.now) (g.H.Host.world c.begin_merge.new.host) c.args.engine.now c.begin_merge.new.engine t now c.args.session more) (sym c.in-EndBackup.is) (c.begin_merge.ensures.turn c.args.told now t more tells ready makes)
+
+pub returns-in-Backup-clause-turn : goal.returns-in-Backup-clause-turn
+returns-in-Backup-clause-turn g c now t more tells ready makes here = c.begin_backup.ensures.turn c.args.told now t more tells ready makes here
 
 pub returns-in-CopyTo-clause-turn : goal.returns-in-CopyTo-clause-turn
 returns-in-CopyTo-clause-turn g c now t more tells ready makes =
-    subst (Begun c.begin_copy.result (g.H.Host.world c.args.host.now) (g.H.Host.world c.begin_copy.new.host) c.args.engine.now c.begin_copy.new.engine t now c.args.session more) (sym c.in-CopyTo.is) (c.begin_copy.ensures.turn now t more tells ready makes)
+    subst (Begun c.args.told c.begin_copy.result (g.H.Host.world c.args.host.now) (g.H.Host.world c.begin_copy.new.host) c.args.engine.now c.begin_copy.new.engine t now c.args.session more) (sym c.in-CopyTo.is) (c.begin_copy.ensures.turn c.args.told now t more tells ready makes)
 
 pub returns-in_err-refused-in_default : goal.returns-in_err-refused-in_default
 returns-in_err-refused-in_default g c =
@@ -34,7 +38,7 @@ returns-in_err-refused-in_default g c =
     let handed = c.from_residual.ensures in
     record {
       turn = λ now t more tells ready makes here.
-          handed_turns fault answer handed (λ (refused : Bool). refused) (λ (refused : Bool). None) (g.H.Host.world c.args.host.now) (g.H.Host.world c.answer.new.host) c.args.engine.now c.answer.new.engine t now c.args.session (Begins c.args.statement.now) [] more
+          handed_turns fault answer handed c.args.told (λ (refused : Bool). refused) (λ (refused : Bool). None) (g.H.Host.world c.args.host.now) (g.H.Host.world c.answer.new.host) c.args.engine.now c.answer.new.engine t now c.args.session (Begins c.args.statement.now) [] more
           (c.in_err-refused-in_default.ensures.turn now t more tells ready makes here);
       fits = handed_none fault answer handed (λ (taken : Taken). TaskFits c.args.session taken.task c.answer.new.engine);
       others = c.answer.ensures.others c.args.session;

@@ -4,7 +4,6 @@ use Rattle.nb_page.proofs.QuietLemmas.{quiet_begun}
 use Rattle.nb_session.proofs.GiftLaws.{grows_none}
 use Rattle.nb_top.specs.Performed.{RunsTo, Knows}
 use Rattle.nb_top.specs.Requests.{ToRun, plan_of}
-use Rattle.nb_top.proofs.RequestLaws.{begins_alone_in}
 use Rattle.nb_top.proofs.QuietRuns.{quiet_gave}
 use Rattle.nb_top.proofs.ScriptRuns.{runs_err, settled_value, script_unbegun}
 use Rattle.nb_top.proofs.program.run_asking.Goals as goal
@@ -38,10 +37,3 @@ returns-clause-grows g c account tells knows =
     let is = settled_value c.in_ok-script.field-0 c.in-Ok.script (λ value. c.script_asking.result ≡ Ok value) c.in-Ok.is c.in_ok-script.ensures.value in
     let same : c.in-Ok.script ≡ plan = subst (λ r. IfOk r (λ script. script ≡ plan)) is c.script_asking.ensures.script in
     c.run_script.ensures.grows account tells (subst (λ p. Knows old.files account (Ok (ToRun p c.args.telling))) (sym same) knows)
-
-pub run_script-requires-clause-sized : goal.run_script-requires-clause-sized
-run_script-requires-clause-sized g c is_sized =
-    let plan = plan_of c.args.db.now (c.args.statement ∷ []) in
-    let is = settled_value c.in_ok-script.field-0 c.in-Ok.script (λ value. c.script_asking.result ≡ Ok value) c.in-Ok.is c.in_ok-script.ensures.value in
-    let same : c.in-Ok.script ≡ plan = subst (λ r. IfOk r (λ script. script ≡ plan)) is c.script_asking.ensures.script in
-    begins_alone_in c.args.db.now c.in-Ok.script c.args.statement same (c.requires.sized is_sized)
