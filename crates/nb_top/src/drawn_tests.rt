@@ -11,11 +11,12 @@ use std::test::Fail;
 type Table = Option<BTreeMap<u64, u64>>;
 
 /// Numbers that look random.
-struct Draw {
+#[derive(Drop)]
+struct Numbers {
     state: u64,
 }
 
-impl Draw {
+impl Numbers {
     /// The next one, below `most`.
     fn below(&mut self, most: u64) -> u64
         requires { 0 < most }
@@ -31,11 +32,16 @@ impl Draw {
     /// One of 24 keys: half of them differ in their high bits alone.
     fn key(&mut self) -> u64 {
         let key = self.below(24);
-        if key < 12 { key } else { key.wrapping_mul(1 << 59) }
+        if key < 12 {
+            key
+        } else {
+            key.wrapping_mul(1 << 59)
+        }
     }
 }
 
 /// What session 2 asks, and what it must be answered.
+#[derive(Drop)]
 struct Drawn {
     alloc: Global,
     script: String,
@@ -131,9 +137,9 @@ fn deleted(alloc: Global, table: &mut Table, key: u64) -> Result<String, Fail> {
 }
 
 /// A statement of that number on the table of that name: of 64, so many are of each kind.
-fn draw(
+fn draw_one(
     drawn: &mut Drawn,
-    numbers: &mut Draw,
+    numbers: &mut Numbers,
     name: char,
     table: &mut Table,
     number: u64,
@@ -149,10 +155,7 @@ fn draw(
             format!(in alloc; "create table {name}")?,
             String::from_str(alloc, created(alloc, table))?,
         ),
-        7..=9 => (
-            format!(in alloc; "scan {name}")?,
-            scanned(alloc, table)?,
-        ),
+        7..=9 => (format!(in alloc; "scan {name}")?, scanned(alloc, table)?),
         10..=15 => (
             format!(in alloc; "get {name} {key}")?,
             got(alloc, table, key)?,
@@ -198,7 +201,7 @@ fn drawn_by(alloc: Global, seed: u64) -> Result<(Drawn, String), Fail> {
         script: first_lines(alloc)?,
         lines: String::from_str(alloc, "1: ok pages 13\n")?,
     };
-    let mut numbers = Draw { state: seed };
+    let mut numbers = Numbers { state: seed };
     let mut a: Table = None;
     let mut b: Table = None;
     for number in 0..3 * IN_EACH_STATE {
@@ -206,9 +209,9 @@ fn drawn_by(alloc: Global, seed: u64) -> Result<(Drawn, String), Fail> {
             drawn.lines.push_str("1: ok scn 2\n")?;
         }
         if numbers.below(2) == 0 {
-            draw(&mut drawn, &mut numbers, 'a', &mut a, number)?;
+            draw_one(&mut drawn, &mut numbers, 'a', &mut a, number)?;
         } else {
-            draw(&mut drawn, &mut numbers, 'b', &mut b, number)?;
+            draw_one(&mut drawn, &mut numbers, 'b', &mut b, number)?;
         }
     }
     drawn.lines.push_str("1: ok scn 3\n")?;

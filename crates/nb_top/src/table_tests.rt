@@ -13,7 +13,12 @@ fn file<'a>(host: &'a MemHost, name: &str) -> Option<&'a [u8]> {
 }
 
 /// What `scan` says of a table in the database that these words restore.
-fn restored(alloc: Global, host: &mut MemHost, texts: &[&str], table: &str) -> Result<Vec<u8>, Fail> {
+fn restored(
+    alloc: Global,
+    host: &mut MemHost,
+    texts: &[&str],
+    table: &str,
+) -> Result<Vec<u8>, Fail> {
     run_words(alloc, host, texts)?;
     let db = texts.get(1).ok_or("no database")?;
     let script = format!(in alloc; "1: open '{db}'\n1: scan {table}\n")?;
@@ -46,8 +51,8 @@ fn are_backed_up(alloc: Global, host: &mut MemHost) -> Result<bool, Fail> {
     run_words(alloc, host, &["-B", "1", "s.db", "s.1"])?;
     let both = restored(alloc, host, &["-R", "q.db", "s.0", "s.1"], "t")?;
     Ok(
-        first.as_slice() == b"1: ok pages 8 state 0\n1: ok rows 1 1 'a'\n"
-            && both.as_slice() == b"1: ok pages 8 state 0\n1: ok rows 2 1 'a' 2 'b'\n",
+        first.as_slice() == "1: ok pages 8 state 0\n1: ok rows 1 1 'a'\n".as_bytes()
+            && both.as_slice() == "1: ok pages 8 state 0\n1: ok rows 2 1 'a' 2 'b'\n".as_bytes(),
     )
 }
 
@@ -108,7 +113,7 @@ fn is_day_backed_up(alloc: Global, host: &mut MemHost) -> Result<bool, Fail> {
     let words = ["-R", "back.db", "day.0", "day.1", "day.2"];
     let rows = restored(alloc, host, &words, "a")?;
     Ok(
-        rows.as_slice() == b"1: ok pages 2003 state 0\n1: ok rows 2 1 'uno' 2 'two'\n"
+        rows.as_slice() == "1: ok pages 2003 state 0\n1: ok rows 2 1 'uno' 2 'two'\n".as_bytes()
             && has_five_pages(file(host, "day.1"))
             && has_five_pages(file(host, "day.2")),
     )
@@ -355,10 +360,12 @@ const NEXT_OF_14: usize = 14 * 1024 + 16;
 /// The catalogue leads to itself; the table does from its first page, and from its second. The page is named that is one too many for a
 /// database of 15 pages.
 fn are_rings_refused(alloc: Global) -> Result<bool, Fail> {
-    Ok(names(alloc, NEXT_OF_3, b"\x03", 3)?
-        && names(alloc, NEXT_OF_13, b"\x0d", 13)?
-        && names(alloc, NEXT_OF_14, b"\x0d", 14)?
-        && names(alloc, NEXT_OF_14, b"\x0e", 14)?)
+    Ok(
+        names(alloc, NEXT_OF_3, b"\x03", 3)?
+            && names(alloc, NEXT_OF_13, b"\x0d", 13)?
+            && names(alloc, NEXT_OF_14, b"\x0d", 14)?
+            && names(alloc, NEXT_OF_14, b"\x0e", 14)?,
+    )
 }
 
 #[test]
@@ -370,12 +377,14 @@ fn chain_into_itself(rt: HostRuntime) -> Result<(), Fail> {
 /// A chain leads past the end, to a raw page, or to a page of the history; or a slot says something else than that it is free or used, a
 /// text of 201 bytes, or a name that begins with a digit.
 fn are_forms_refused(alloc: Global) -> Result<bool, Fail> {
-    Ok(names(alloc, NEXT_OF_14, b"\x0f", 15)?
-        && names(alloc, NEXT_OF_14, b"\x06", 6)?
-        && names(alloc, NEXT_OF_13, b"\x04", 4)?
-        && names(alloc, 14 * 1024 + 32, b"\x02", 14)?
-        && names(alloc, 13 * 1024 + 34, b"\xc9", 13)?
-        && names(alloc, 3 * 1024 + 48, b"1", 3)?)
+    Ok(
+        names(alloc, NEXT_OF_14, b"\x0f", 15)?
+            && names(alloc, NEXT_OF_14, b"\x06", 6)?
+            && names(alloc, NEXT_OF_13, b"\x04", 4)?
+            && names(alloc, 14 * 1024 + 32, b"\x02", 14)?
+            && names(alloc, 13 * 1024 + 34, b"\xc9", 13)?
+            && names(alloc, 3 * 1024 + 48, b"1", 3)?,
+    )
 }
 
 #[test]
