@@ -1,7 +1,9 @@
 // Tables: what their statements say, beside a backup, in every backup state, on files that break the form, and what a stop leaves of them.
 use crate::backup_tests::{with_part, wrong_part};
 use crate::restore_tests::run_words;
-use crate::tests::{FIRST_RUN, database, host_after, lines_of, replies_of, run_text, says};
+use crate::tests::{
+    FIRST_RUN, database, host_after, letters, lines_of, replies_of, run_text, says,
+};
 use nb_host::Name;
 use nb_mem::MemHost;
 use std::alloc::Global;
@@ -181,9 +183,9 @@ fn wrong_pick(alloc: Global, host: &MemHost) -> Result<Option<u64>, Fail> {
     Ok(None)
 }
 
-/// The first host call at which a stop leaves something wrong.
+/// The first host call at which a stop leaves something wrong. Behind the last one nothing is stopped.
 fn wrong_stop(alloc: Global) -> Result<Option<u64>, Fail> {
-    for call in 1..=calls_of_insert(alloc)? + 1 {
+    for call in 1..=calls_of_insert(alloc)?.saturating_add(1) {
         let mut host = MemHost::fused(alloc, call)?;
         run_grown(alloc, &mut host)?;
         if wrong_pick(alloc, &host)?.is_some() {
@@ -267,8 +269,8 @@ const CLOSED: &str = "1: create database 'a.db' page_size 1024 raw 8
 1: access read_only
 ";
 
-/// What is refused of it. Where several refusals apply, the first of their order decides: read-only, no such table, a text that is too long, and
-/// then the key. What only reads is done.
+/// What is refused of it. Where several refusals apply, the first of their order decides: read-only, no such table, a text that is too
+/// long, and then the key. What only reads is done.
 const IN_ORDER: [(&str, &str); 12] = [
     ("create table t", "refused 20 Access 1"),
     ("drop table no", "refused 20 Access 1"),
@@ -283,15 +285,6 @@ const IN_ORDER: [(&str, &str); 12] = [
     ("update t 2 '#'", "refused 21 TextLong 201"),
     ("delete t 2", "refused 25 NoKey 2"),
 ];
-
-/// So many letters.
-fn letters(alloc: Global, count: u32) -> Result<String, Fail> {
-    let mut text = String::new(alloc);
-    for _ in 0..count {
-        text.push('x')?;
-    }
-    Ok(text)
-}
 
 /// Whether these are refused in their order. A `#` stands for a text of 201 letters.
 fn are_in_order(alloc: Global) -> Result<bool, Fail> {
@@ -313,7 +306,7 @@ fn refusals_in_order(rt: HostRuntime) -> Result<(), Fail> {
     Ok(())
 }
 
-/// A table of two pages, 13 and 14. The last two rows stand in the second one.
+/// A table of two pages, 13 and 14. Its last row stands in the second one.
 const TWO_PAGES: &str = "1: create database 'a.db' page_size 1024 raw 8
 1: create table t
 1: insert t 1 'a'
