@@ -87,6 +87,21 @@ def second_table(folder):
     return len(whole(folder, "a.db.delta")) == 264192
 
 
+def is_day(folder):
+    """Level 0 has 2003 pages; each further level the pages 0, 2, 4, 1016 and 2000, each a run by itself."""
+    runs = [pages_in_level(folder, name) for name in ("day.1", "day.2")]
+    return len(whole(folder, "day.0")) == 2003 * 4096 and runs == [[0, 2, 4, 1016, 2000]] * 2
+
+
+def pages_in_level(folder, name):
+    """The first pages of the five runs of a level file that has five runs of one page of 4096 bytes each, and nothing where it has others."""
+    level = whole(folder, name)
+    heads = [level[at : at + 8] for at in range(52, len(level) - 8, 4104)]
+    if len(level) != 52 + 5 * 4104 + 8 or any(head[4:] != b"\1\0\0\0" for head in heads):
+        return None
+    return [int.from_bytes(head[:4], "little") for head in heads]
+
+
 HEADER = "1: ok size 1024 pages 13 state 1 scn 2 guid G1 forced 1 access 0 delta 2"
 
 CASES = [
@@ -251,6 +266,72 @@ CASES = [
         ],
         "create, write, read",
     ),
+    Case(
+        "rows under a backup",
+        [
+            (
+                script(
+                    "1: create database 's.db' page_size 1024 raw 2", "schedule 2 2 1 2 3 2", "1: backup 0 to 's.0'", "2: create table t", "2: insert t 1 'a'",
+                    "2: insert t 2 'b'", "2: scan t", "3: scan t",
+                ),
+                "1: ok pages 7|2: ok|2: ok|2: ok|3: ok rows 2 1 'a' 2 'b'|2: ok rows 2 1 'a' 2 'b'|1: ok level 0 scn 1 pages 8 guid G1",
+                0,
+            ),
+            (words("-R r.db s.0"), "1: ok pages 8", 0),
+            (script("1: open 'r.db'", "1: scan t"), "1: ok pages 8 state 0|1: ok rows 1 1 'a'", 0),
+            (words("-B 1 s.db s.1"), "1: ok level 1 scn 3 pages 4 guid G2", 0),
+            (words("-R q.db s.0 s.1"), "1: ok pages 8", 0),
+            (script("1: open 'q.db'", "1: scan t"), "1: ok pages 8 state 0|1: ok rows 2 1 'a' 2 'b'", 0),
+        ],
+    ),
+    Case(
+        "a day",
+        [
+            (
+                script(
+                    "1: create database 'day.db' page_size 4096 raw 1994", "1: create table a", "1: create table b", "1: create table c", "1: insert a 1 'one'",
+                    "1: backup 0 to 'day.0'", "1: insert a 2 'two'", "1: backup 1 to 'day.1'", "1: update a 1 'uno'", "1: backup 2 to 'day.2'", "1: delete a 2", "1: scan a",
+                ),
+                "1: ok pages 2000|1: ok|1: ok|1: ok|1: ok|1: ok level 0 scn 1 pages 2003 guid G1|1: ok|1: ok level 1 scn 3 pages 5 guid G2|1: ok"
+                "|1: ok level 2 scn 5 pages 5 guid G3|1: ok|1: ok rows 1 1 'uno'",
+                0,
+            ),
+            (words("-R back.db day.0 day.1 day.2"), "1: ok pages 2003", 0),
+            (script("1: open 'back.db'", "1: scan a"), "1: ok pages 2003 state 0|1: ok rows 2 1 'uno' 2 'two'", 0),
+        ],
+        check=is_day,
+    ),
+    Case(
+        "a table's second page",
+        [
+            (
+                script("1: create database 'a.db' page_size 1024 raw 0", "1: create table t", "1: insert t 1 'a'", "1: insert t 2 'b'", "1: insert t 3 'c'"),
+                "1: ok pages 5|1: ok|1: ok|1: ok|1: ok",
+                0,
+            ),
+            (script(OPEN, "1: get t 4", "1: insert t 4 'd'", "1: get t 4"), "1: ok pages 6 state 0|1: refused 25 NoKey 4|1: ok|1: ok 'd'", 1),
+            (
+                script(OPEN, "1: get t 4", "1: get t 1", "1: scan t"),
+                "1: ok pages 7 state 0|1: ok 'd'|1: ok 'a'|1: ok rows 4 1 'a' 2 'b' 3 'c' 4 'd'",
+                0,
+            ),
+        ],
+    ),
+    Case(
+        "refusals of tables",
+        [
+            (
+                script(
+                    OPEN, "1: scan t", "1: create table t", "1: create table t", "1: insert t 18446744073709551615 ''", "1: insert t 18446744073709551615 ''",
+                    "1: update t 5 'x'", "1: scan t", *[f"1: create table t{number}" for number in range(1, 13)], "1: drop table t", "1: scan t",
+                ),
+                "1: ok pages 13 state 0|1: refused 22 NoTable|1: ok|1: refused 23 TableExists|1: ok|1: refused 24 KeyExists 18446744073709551615"
+                "|1: refused 25 NoKey 5|1: ok rows 1 18446744073709551615 ''|" + "1: ok|" * 11 + "1: refused 26 TooManyTables|1: ok|1: refused 22 NoTable",
+                1,
+            )
+        ],
+        "create, write, read",
+    ),
 ]
 
 
@@ -271,7 +352,7 @@ def write_at(name, at, data):
     return change
 
 
-# Files that something else has changed, each from the files of a session: the change, the words or script, and the one line that they say.
+# Files that something else has changed, each from the files of a session: the change, the words or script, and what they say.
 HOSTILE = [
     ("level 1", cut("a.1", 4187), words("-R c.db a.0 a.1"), "1: refused 15 BadLevel a.1 4187"),
     ("level 1", cut("a.1", 4180), words("-R c.db a.0 a.1"), "1: refused 15 BadLevel a.1 4180"),
@@ -281,6 +362,7 @@ HOSTILE = [
     ("create, write, read", write_at("a.db", 13312, b"x"), script(OPEN), "1: refused 5 NotDatabase 13"),
     ("a write while stalled", write_at("a.db.delta", 0, b"\0\1"), script(OPEN), "1: refused 7 BadDelta 0"),
     ("a write while stalled", write_at("a.db.delta", 8, b"\2"), script(OPEN), "1: refused 7 BadDelta 0"),
+    ("a table's second page", write_at("a.db", 5 * 1024 + 16, b"\5"), script(OPEN, "1: scan t"), "1: ok pages 7 state 0|1: refused 5 NotDatabase 5"),
     ("a write while stalled", cut("a.db.delta", 2048), script(OPEN), "1: refused 7 BadDelta 2"),
     ("a write while stalled", lambda folder: os.remove(folder.file("a.db.delta")), script(OPEN), "1: refused 3 NoFile a.db.delta"),
 ]

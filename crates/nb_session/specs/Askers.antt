@@ -3,7 +3,7 @@ use Rattle.std.proofs.Common.{sym, ◌∙◌}
 use Rattle.std.specs.Prelude.{◌≡◌, ◌≢◌, ℕ, zero, suc, ◌+◌, ◌-◌, Bool, false, List, [], ◌∷◌, ◌++◌, length, map, replicate, Option, Some, None}
 use Rattle.std.specs.List.{AllByRecursion, list_any, slice_index_or}
 use Rattle.nb_model.specs.declared.statement.Statement.{Statement}
-use Rattle.nb_model.specs.declared.statement.Statement.TheVariants.{EndBackup, Backup as BackupTo, BackupSince, CopyTo}
+use Rattle.nb_model.specs.declared.statement.Statement.TheVariants.{EndBackup, Backup as BackupTo, BackupSince, CopyTo, CreateTable, DropTable, Insert, Update, Delete, Get, Scan}
 use Rattle.nb_model.specs.Outcomes.{Turn, Begins, Copies, ClosesBackup, ClosesCopy, Ends, Merges, Finishes}
 use Rattle.nb_model.specs.Run.{Now, all_sessions}
 use Rattle.nb_copy.specs.FileCopying.{file_count, file_next}
@@ -22,6 +22,17 @@ IsOneTurn (BackupTo level name) = ⊥
 IsOneTurn (BackupSince guid name) = ⊥
 IsOneTurn (CopyTo name) = ⊥
 IsOneTurn other = Unit {0}
+
+-- the statement is one on tables
+abbrev pub IsOnTables : Statement → Type 0
+IsOnTables (CreateTable table) = Unit {0}
+IsOnTables (DropTable table) = Unit {0}
+IsOnTables (Insert table key text) = Unit {0}
+IsOnTables (Update table key text) = Unit {0}
+IsOnTables (Delete table key) = Unit {0}
+IsOnTables (Get table key) = Unit {0}
+IsOnTables (Scan table) = Unit {0}
+IsOnTables other = ⊥
 
 -- the statement asks for a backup
 abbrev pub IsBackup : Statement → Type 0

@@ -17,6 +17,7 @@ ghost use Rattle.nb_session.specs.Askers.{IsOneTurn, KeepsOthers};
 ghost use Rattle.nb_session.specs.Ready.{IsReady};
 ghost use Rattle.nb_session.specs.Replies.{some_said, HasEnded, header_of};
 
+use crate::tables::do_on_tables;
 use nb_engine::Engine;
 use nb_host::{Fault, Host};
 use nb_model::{Reply, Statement, Text};
@@ -118,6 +119,13 @@ pub fn do_statement<H: Host>(
                 sha256,
             })
         }
+        Statement::CreateTable { .. }
+        | Statement::DropTable { .. }
+        | Statement::Insert { .. }
+        | Statement::Update { .. }
+        | Statement::Delete { .. }
+        | Statement::Get { .. }
+        | Statement::Scan { .. } => do_on_tables(alloc, host, engine, statement),
         _ => unreachable!(),
     }
 }

@@ -35,7 +35,7 @@ fn has_part(bytes: &[u8], at: usize, part: &[u8]) -> bool {
 }
 
 /// The place of the first of these parts that the bytes don't have.
-fn wrong_part(bytes: &[u8], parts: &[(usize, &[u8])]) -> Option<usize> {
+pub(crate) fn wrong_part(bytes: &[u8], parts: &[(usize, &[u8])]) -> Option<usize> {
     for (at, part) in parts {
         if !has_part(bytes, *at, part) {
             return Some(*at);

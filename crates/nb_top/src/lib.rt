@@ -7,6 +7,8 @@
 
 #[cfg(test)]
 mod backup_tests;
+#[cfg(test)]
+mod drawn_tests;
 mod fixing;
 #[cfg(test)]
 mod fixup_tests;
@@ -29,6 +31,8 @@ mod shown_tests;
 mod status;
 #[cfg(test)]
 mod stop_tests;
+#[cfg(test)]
+mod table_tests;
 mod telling;
 #[cfg(test)]
 mod tests;

@@ -248,6 +248,51 @@ fn opened_and_failing(rt: HostRuntime) -> Result<(), Fail> {
     Ok(())
 }
 
+/// A table is made, its rows are changed under a backup, and it is dropped.
+const TABLES: Case = Case {
+    before: "",
+    script: "1: create database 'a.db' page_size 1024 raw 6
+1: create table t
+1: insert t 1 'a'
+1: alter database begin backup
+1: insert t 2 'b'
+1: update t 1 'c'
+1: delete t 2
+1: drop table t
+1: alter database end backup
+",
+    look: "1: open 'a.db'\n1: get t 1\n1: get t 2\n",
+    rows: "0|1: ok pages 11 state 0|1: refused 22 NoTable|1: refused 22 NoTable|
+1|1: ok pages 11 state 0|1: refused 22 NoTable|1: refused 22 NoTable|
+1|1: ok pages 12 state 0|1: refused 22 NoTable|1: refused 22 NoTable|
+1|1: ok pages 12 state 0|1: refused 25 NoKey 1|1: refused 25 NoKey 2|
+2|1: ok pages 12 state 0|1: refused 25 NoKey 1|1: refused 25 NoKey 2|
+2|1: ok pages 12 state 0|1: ok 'a'|1: refused 25 NoKey 2|
+3|1: ok pages 12 state 0|1: ok 'a'|1: refused 25 NoKey 2|
+3|1: ok pages 12 state 1|1: ok 'a'|1: refused 25 NoKey 2|
+4|1: ok pages 12 state 1|1: ok 'a'|1: refused 25 NoKey 2|
+4|1: ok pages 12 state 1|1: ok 'a'|1: ok 'b'|
+5|1: ok pages 12 state 1|1: ok 'a'|1: ok 'b'|
+5|1: ok pages 12 state 1|1: ok 'c'|1: ok 'b'|
+6|1: ok pages 12 state 1|1: ok 'c'|1: ok 'b'|
+6|1: ok pages 12 state 1|1: ok 'c'|1: refused 25 NoKey 2|
+7|1: ok pages 12 state 1|1: ok 'c'|1: refused 25 NoKey 2|
+7|1: ok pages 12 state 1|1: refused 22 NoTable|1: refused 22 NoTable|
+8|1: ok pages 12 state 1|1: refused 22 NoTable|1: refused 22 NoTable|
+8|1: ok pages 12 state 2|1: refused 22 NoTable|1: refused 22 NoTable|
+8|1: ok pages 12 state 0|1: refused 22 NoTable|1: refused 22 NoTable|
+9|1: ok pages 12 state 0|1: refused 22 NoTable|1: refused 22 NoTable|
+",
+    picks: 4,
+};
+
+/// Each statement on tables is done or not, wherever it is stopped.
+#[test]
+fn tables_stopped(rt: HostRuntime) -> Result<(), Fail> {
+    assert_eq!(rt; wrong_stop(rt.alloc(), TABLES)?, None);
+    Ok(())
+}
+
 /// A second session writes a page that the first has merged already.
 const MERGE: Case = Case {
     before: "",

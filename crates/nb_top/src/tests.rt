@@ -212,7 +212,7 @@ fn first_call_fails(rt: HostRuntime) -> Result<(), Fail> {
 }
 
 /// So many letters.
-fn letters(alloc: Global, count: u32) -> Result<String, Fail> {
+pub(crate) fn letters(alloc: Global, count: u32) -> Result<String, Fail> {
     let mut text = String::new(alloc);
     for _ in 0..count {
         text.push('x')?;

@@ -1,0 +1,67 @@
+// A statement on tables, which is done in one turn.
+ghost use Rattle.std.specs.Prelude.{◌≡◌, ℕ, [], IsTrue};
+ghost use Rattle.nb_change.specs.Counts.{CountsDevice};
+ghost use Rattle.nb_model.specs.Outcomes.{Begins};
+ghost use Rattle.nb_model.specs.Run.{Now};
+ghost use Rattle.nb_model.specs.Sound.{IsSoundImage};
+ghost use Rattle.nb_model.specs.Trail.{Trail};
+ghost use Rattle.nb_script.specs.Asked.{IsFurther};
+ghost use Rattle.nb_session.specs.Acts.{MayAct};
+ghost use Rattle.nb_session.specs.Askers.{IsOnTables, KeepsOthers};
+ghost use Rattle.nb_session.specs.Ready.{IsReady};
+ghost use Rattle.nb_session.specs.Replies.{some_said};
+
+use nb_engine::Engine;
+use nb_host::{Fault, Host};
+use nb_model::{Reply, Statement, Text};
+use nb_table::{create, delete, drop_table, get, insert, scan, update};
+use std::alloc::Global;
+
+/// Does one statement on tables, in one turn.
+pub(crate) fn do_on_tables<H: Host>(
+    alloc: Global,
+    host: &mut H,
+    engine: &mut Engine,
+    statement: &Statement,
+) -> Result<Reply, Fault>
+    requires asked { IsFurther statement.now }
+    requires tables { IsOnTables statement.now }
+    ensures turn { (now : Now) (t : Trail) (session : ℕ) → IsTrue H.tells → IsReady (H.world host.old) engine.old t now → IsSoundImage t.base.image
+        → MayAct some_said result (H.world host.old) (H.world host.new) engine.old engine.new t now session (Begins statement.now) [] }
+    ensures others { (session : ℕ) → KeepsOthers session engine.old engine.new }
+    ensures cause { CountsDevice result (H.faults host.old) (H.faults host.new) }
+{
+    match statement {
+        Statement::CreateTable { table } => {
+            create(host, engine, table)?;
+            Ok(Reply::Done)
+        }
+        Statement::DropTable { table } => {
+            drop_table(host, engine, table)?;
+            Ok(Reply::Done)
+        }
+        Statement::Insert { table, key, text } => {
+            insert(host, engine, table, *key, text.as_slice())?;
+            Ok(Reply::Done)
+        }
+        Statement::Update { table, key, text } => {
+            update(host, engine, table, *key, text.as_slice())?;
+            Ok(Reply::Done)
+        }
+        Statement::Delete { table, key } => {
+            delete(host, engine, table, *key)?;
+            Ok(Reply::Done)
+        }
+        Statement::Get { table, key } => {
+            let text = get(host, engine, table, *key)?;
+            Ok(Reply::Value {
+                text: Text::new(alloc, text.as_slice())?,
+            })
+        }
+        Statement::Scan { table } => {
+            let rows = scan(alloc, host, engine, table)?;
+            Ok(Reply::Rows { rows })
+        }
+        _ => unreachable!(),
+    }
+}
