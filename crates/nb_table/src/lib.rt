@@ -24,11 +24,7 @@ pub use dropping::drop_table;
 pub use read::{get, scan};
 
 #[cfg(test)]
-mod change_tests;
-#[cfg(test)]
-mod creating_tests;
-#[cfg(test)]
-mod read_tests;
+mod tests;
 
 /// The most bytes that a page has.
 const LARGEST_PAGE: usize = 32768;

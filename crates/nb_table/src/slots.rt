@@ -1,10 +1,10 @@
 // Slots of rows and of tables, as their bytes hold them.
 ghost use Rattle.std.specs.Prelude.{◌≡◌, ◌+◌, ◌-◌, ◌*◌, ◌/◌, ◌≤◌, ◌&&◌, IsTrue, nat_le, slice_index, length, IfSome, IfNone, IsUtf8};
-ghost use Rattle.nb_fields.specs.Bytes.{part, with_part};
+ghost use Rattle.nb_fields.specs.Bytes.{part};
 ghost use Rattle.nb_fields.specs.Places.{is_page_size};
 ghost use Rattle.nb_host.specs.Names.{same_name};
 ghost use Rattle.nb_model.specs.TableNames.{is_table_name};
-ghost use Rattle.nb_model.specs.Chains.{length_in, key_of, text_in, table_of, first_in, row_slot, table_slot, free_slot};
+ghost use Rattle.nb_model.specs.Chains.{length_in, key_of, text_in, table_of, first_in, row_slot, table_slot};
 
 use crate::look::SLOT;
 use nb_fields::layouts::{catalogue, data, row};
@@ -162,32 +162,4 @@ pub(crate) fn table_bytes(table: &TableName, first: u32) -> [u8; SLOT]
     let mut slot = [0; SLOT];
     fill_table(&mut slot, table, first);
     slot
-}
-
-/// Writes a row into slot `slot` of a page, of a text of at most 200 bytes.
-pub(crate) fn put_row(page: &mut [u8], slot: u32, key: u64, text: &[u8])
-    requires inside { 288 + 256 * slot ≤ length page.old }
-    requires text { length text.now ≤ 200 }
-    ensures { page.new ≡ with_part (32 + 256 * slot) (row_slot key text.now) page.old }
-{
-    let from = data::SLOTS_AT + data::SLOT * slot as usize;
-    fill_row(&mut page[from..from + data::SLOT], key, text);
-}
-
-/// Writes a table's name and its first page into slot `slot` of a page.
-pub(crate) fn put_table(page: &mut [u8], slot: u32, table: &TableName, first: u32)
-    requires { 288 + 256 * slot ≤ length page.old }
-    ensures { page.new ≡ with_part (32 + 256 * slot) (table_slot table.now first) page.old }
-{
-    let from = data::SLOTS_AT + data::SLOT * slot as usize;
-    fill_table(&mut page[from..from + data::SLOT], table, first);
-}
-
-/// Makes slot `slot` of a page free.
-pub(crate) fn put_free(page: &mut [u8], slot: u32)
-    requires { 288 + 256 * slot ≤ length page.old }
-    ensures { page.new ≡ with_part (32 + 256 * slot) free_slot page.old }
-{
-    let from = data::SLOTS_AT + data::SLOT * slot as usize;
-    page[from..from + data::SLOT].fill(0);
 }
