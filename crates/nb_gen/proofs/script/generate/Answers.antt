@@ -1,4 +1,4 @@
-use Rattle.std.proofs.Common.{◌∙◌, ℕ, List, ◌++◌, ◌∷◌, [], ap, codes}
+use Rattle.std.proofs.Common.{◌∙◌, ℕ, List, ◌++◌, ap, codes}
 use Rattle.std.specs.Fmt.{decimal}
 use Rattle.nb_model.specs.Generated.{ended, generated, lines_from}
 use Rattle.nb_gen.proofs.LineLaws.{all_parts}

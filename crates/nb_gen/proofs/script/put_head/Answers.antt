@@ -1,4 +1,4 @@
-use Rattle.std.proofs.Common.{◌∙◌, ℕ, List, ◌++◌, ◌∷◌, [], ap, codes}
+use Rattle.std.proofs.Common.{◌∙◌, ℕ, List, ◌++◌, ap, codes}
 use Rattle.std.specs.Fmt.{decimal}
 use Rattle.nb_gen.proofs.LineLaws.{with_number}
 use Rattle.nb_gen.proofs.script.put_head.Goals as goal
