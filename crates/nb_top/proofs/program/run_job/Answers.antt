@@ -49,12 +49,12 @@ returns-in-Fixup-clause-runs g c account given tells knows may told =
 pub returns-in-Fixup-clause-grows : goal.returns-in-Fixup-clause-grows
 returns-in-Fixup-clause-grows g c account tells knows = grows_none (g.H.Host.world c.args.host.now) (g.H.Host.world c.run_fix.new.host) (c.run_fix.ensures.gave tells)
 
-pub run_asking-requires-clause-askable : goal.run_asking-requires-clause-askable
-run_asking-requires-clause-askable g c =
+pub run_asking-requires : goal.run_asking-requires
+run_asking-requires g c =
     let level = c.in-Backup.level in
     let db = c.in-Backup.db in
     let file = c.in-Backup.file in
-    subst (λ name. IsAskable (plan_of db (Backup level name ∷ []))) (sym c.copied-name.ensures) (backup_askable level db file (subst FitsJob c.in-Backup.is c.requires.fits))
+    record { askable = subst (λ name. IsAskable (plan_of db (Backup level name ∷ []))) (sym c.copied-name.ensures) (backup_askable level db file (subst FitsJob c.in-Backup.is c.requires.fits)) }
 
 pub returns-in-Backup-clause-runs : goal.returns-in-Backup-clause-runs
 returns-in-Backup-clause-runs g c account given tells knows may told =
@@ -121,12 +121,12 @@ returns-in-Stat-clause-grows g c account tells knows =
     let old = g.H.Host.world c.args.host.now in
     c.run_stat.ensures.grows account tells (subst (λ job. Knows old.files account (request_of old.files job)) c.in-Stat.is knows)
 
-pub run_asking-requires-in-BackupSince-clause-askable : goal.run_asking-requires-in-BackupSince-clause-askable
-run_asking-requires-in-BackupSince-clause-askable g c =
+pub run_asking-requires-in-BackupSince : goal.run_asking-requires-in-BackupSince
+run_asking-requires-in-BackupSince g c =
     let guid = c.in-BackupSince.guid in
     let db = c.in-BackupSince.db in
     let file = c.in-BackupSince.file in
-    subst (λ name. IsAskable (plan_of db (BackupOf guid name ∷ []))) (sym c.copied-name-in-BackupSince.ensures) (since_askable guid db file (subst FitsJob c.in-BackupSince.is c.requires.fits))
+    record { askable = subst (λ name. IsAskable (plan_of db (BackupOf guid name ∷ []))) (sym c.copied-name-in-BackupSince.ensures) (since_askable guid db file (subst FitsJob c.in-BackupSince.is c.requires.fits)) }
 
 pub returns-in-BackupSince-clause-runs : goal.returns-in-BackupSince-clause-runs
 returns-in-BackupSince-clause-runs g c account given tells knows may told =
