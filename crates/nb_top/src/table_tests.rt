@@ -14,6 +14,14 @@ fn file<'a>(host: &'a MemHost, name: &str) -> Option<&'a [u8]> {
     host.file(&Name::read(name)?)
 }
 
+/// What these words say.
+fn said_by(alloc: Global, host: &mut MemHost, texts: &[&str]) -> Result<Vec<u8>, Fail> {
+    let said = host.output().len();
+    run_words(alloc, host, texts)?;
+    let lines = host.output().get(said..).ok_or("less was said")?;
+    Ok(lines.to_vec(alloc)?)
+}
+
 /// What `scan` says of a table in the database that these words restore.
 fn restored(
     alloc: Global,
@@ -47,14 +55,21 @@ const UNDER_LINES: &str = "1: ok pages 7
 1: ok level 0 scn 1 pages 8 guid 00000000-0000-0000-0000-000000000001
 ";
 
-/// Whether the backup has the row that stood when it began, and one that goes on from it both.
+const LEVEL_1: &str = "1: ok level 1 scn 3 pages 4 guid 00000000-0000-0000-0000-000000000002\n";
+
+const FIRST_ROW: &str = "1: ok pages 8 state 0\n1: ok rows 1 1 'a'\n";
+
+const BOTH_ROWS: &str = "1: ok pages 8 state 0\n1: ok rows 2 1 'a' 2 'b'\n";
+
+/// Whether the backup has the row that stood when it began, and one that goes on from it, of the pages 0, 2, 4 and 7, both.
 fn are_backed_up(alloc: Global, host: &mut MemHost) -> Result<bool, Fail> {
     let first = restored(alloc, host, &["-R", "r.db", "s.0"], "t")?;
-    run_words(alloc, host, &["-B", "1", "s.db", "s.1"])?;
+    let level = said_by(alloc, host, &["-B", "1", "s.db", "s.1"])?;
     let both = restored(alloc, host, &["-R", "q.db", "s.0", "s.1"], "t")?;
     Ok(
-        first.as_slice() == "1: ok pages 8 state 0\n1: ok rows 1 1 'a'\n".as_bytes()
-            && both.as_slice() == "1: ok pages 8 state 0\n1: ok rows 2 1 'a' 2 'b'\n".as_bytes(),
+        first.as_slice() == FIRST_ROW.as_bytes()
+            && level.as_slice() == LEVEL_1.as_bytes()
+            && both.as_slice() == BOTH_ROWS.as_bytes(),
     )
 }
 
