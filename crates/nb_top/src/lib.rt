@@ -10,6 +10,7 @@ mod backup_tests;
 mod fixing;
 #[cfg(test)]
 mod fixup_tests;
+mod generating;
 pub mod laws;
 #[cfg(test)]
 mod level_tests;
@@ -33,6 +34,7 @@ mod telling;
 #[cfg(test)]
 mod tests;
 
+pub use nb_gen::generate;
 pub use nb_lines::render;
 pub use nb_shown::image_digest;
 pub use program::run;
