@@ -311,13 +311,43 @@ fn levels_stopped(rt: HostRuntime) -> Result<(), Fail> {
     Ok(())
 }
 
-/// What page 6 may be after so many replies of SHARED: the text that was acknowledged last, or the next.
-fn texts_after(replies: usize) -> (&'static str, &'static str) {
-    match replies {
-        0 => ("", ""),
-        1 => ("", "hello"),
-        2 => ("hello", "later"),
-        _ => ("later", "later"),
+/// A backup beside which a second session writes page 6: the words that restore it, after how many replies it is acknowledged, and which two
+/// texts the page may have after each number of replies. After more it has the last one.
+#[derive(Clone, Copy)]
+struct Shared {
+    script: &'static str,
+    words: &'static [&'static str],
+    replies: usize,
+    texts: &'static [(&'static str, &'static str)],
+}
+
+/// A level 0.
+const SHARED_0: Shared = Shared {
+    script: SHARED,
+    words: &["-R", "b.db", "a.0"],
+    replies: 8,
+    texts: &[("", ""), ("", "hello"), ("hello", "later")],
+};
+
+/// A level 1, in the second turn of which the session comes.
+const SHARED_1: Shared = Shared {
+    script: "1: create database 'a.db' page_size 1024 raw 8
+schedule 1 1 1 1 1 1 1 1 1 1 1 1 1 1 1 1 1 1 1 1 1 1 2
+1: backup 0 to 'a.0'
+1: write 6 'hello'
+1: backup 1 to 'a.1'
+2: write 6 'later'
+",
+    words: &["-R", "b.db", "a.0", "a.1"],
+    replies: 5,
+    texts: &[("", ""), ("", ""), ("", "hello"), ("hello", "later")],
+};
+
+/// What page 6 may be after so many replies.
+fn texts_after(case: Shared, replies: usize) -> (&'static str, &'static str) {
+    match case.texts.get(replies) {
+        Some(texts) => *texts,
+        None => ("later", "later"),
     }
 }
 
@@ -331,33 +361,32 @@ fn has_one(alloc: Global, host: &mut MemHost, texts: (&str, &str)) -> Result<boo
     Ok(lines.as_slice() == first.as_bytes() || lines.as_slice() == second.as_bytes())
 }
 
-/// Whether what a stop now leaves of SHARED by this pick is right: the backup, without what the other session wrote beside it, and the
-/// database, with it. Before the first reply there may be none.
-fn is_shared_right(alloc: Global, host: &MemHost, pick: u64) -> Result<bool, Fail> {
+/// Whether what a stop now leaves by this pick is right: the backup, without what the other session wrote beside it, and the database, with
+/// it. Before the first reply there may be none.
+fn is_shared_right(alloc: Global, host: &MemHost, case: Shared, pick: u64) -> Result<bool, Fail> {
     let mut left = host.left(pick)?;
     let replies = replies_of(host);
-    let words = ["-R", "b.db", "a.0"];
-    let copied = replies < 8 && is_refused(alloc, &mut left, &words)?
-        || gives(alloc, &mut left, &words, "hello")?;
-    Ok(copied && (replies == 0 || has_one(alloc, &mut left, texts_after(replies))?))
+    let copied = replies < case.replies && is_refused(alloc, &mut left, case.words)?
+        || gives(alloc, &mut left, case.words, "hello")?;
+    Ok(copied && (replies == 0 || has_one(alloc, &mut left, texts_after(case, replies))?))
 }
 
-/// The first of the picks 0 and 1 by which a stop at this call of SHARED leaves something wrong.
-fn wrong_shared_pick(alloc: Global, call: u64) -> Result<Option<u64>, Fail> {
-    let host = stopped_at(alloc, SHARED, call)?;
+/// The first of the picks 0 and 1 by which a stop at this call leaves something wrong.
+fn wrong_shared_pick(alloc: Global, case: Shared, call: u64) -> Result<Option<u64>, Fail> {
+    let host = stopped_at(alloc, case.script, call)?;
     for pick in 0..2 {
-        if !is_shared_right(alloc, &host, pick)? {
+        if !is_shared_right(alloc, &host, case, pick)? {
             return Ok(Some(pick));
         }
     }
     Ok(None)
 }
 
-/// The first host call of SHARED at which a stop leaves something wrong.
-fn wrong_shared_stop(alloc: Global) -> Result<Option<u64>, Fail> {
-    let whole = host_after(alloc, SHARED)?;
+/// The first host call at which a stop leaves something wrong.
+fn wrong_shared_stop(alloc: Global, case: Shared) -> Result<Option<u64>, Fail> {
+    let whole = host_after(alloc, case.script)?;
     for call in 1..=whole.calls() {
-        if wrong_shared_pick(alloc, call)?.is_some() {
+        if wrong_shared_pick(alloc, case, call)?.is_some() {
             return Ok(Some(call));
         }
     }
@@ -366,6 +395,12 @@ fn wrong_shared_stop(alloc: Global) -> Result<Option<u64>, Fail> {
 
 #[test]
 fn a_shared_backup_stopped(rt: HostRuntime) -> Result<(), Fail> {
-    assert_eq!(rt; wrong_shared_stop(rt.alloc())?, None);
+    assert_eq!(rt; wrong_shared_stop(rt.alloc(), SHARED_0)?, None);
+    Ok(())
+}
+
+#[test]
+fn a_shared_level_stopped(rt: HostRuntime) -> Result<(), Fail> {
+    assert_eq!(rt; wrong_shared_stop(rt.alloc(), SHARED_1)?, None);
     Ok(())
 }
