@@ -2,7 +2,8 @@
 
 Each case makes one call of the system fail: the output by /dev/full, a write by a limit on the size of files, syncs by
 strace, which answers them with an error and does not make them, the rest by what stands under a name. No reply comes after a
-failed sync or write of its page.
+failed sync or write of its page. Then scripts that break their form end the run with status 1, and one line on the standard error
+has the number and the text of the first line that does.
 """
 
 import fcntl
@@ -17,6 +18,15 @@ import sys
 from common import CREATE, PAGE_SIZE, Folder, program, report, write_line, writes
 
 COUNT = 20
+
+# Scripts that break their form: the number of the first line that does, and what is shown of it.
+BROKEN = [
+    (b"# a comment\n1: open 'x.db'\n1: reed 5\n1: raed 6\n", 3, "1: reed 5"),
+    (b"1: open 'x.db'\r\n1: read 5\r\n", 1, r"1: open 'x.db'\x0d"),
+    (b"1: open 'x.db'\n1: write 5 '\x1b[2J\xff'\n", 2, r"1: write 5 '\x1b[2J\xff'"),
+    (b"x" * 201 + b"\n", 1, "x" * 200 + "..."),
+    (b"# a comment\n", 2, "there is no first statement"),
+]
 
 
 def run(folder, words, output=subprocess.PIPE, prepare=None):
@@ -77,6 +87,17 @@ def two_runs(folder, path):
     return ran, 0, r"x\.db is in use"
 
 
+def broken_scripts(path):
+    """What is wrong with what is said of scripts that break their form."""
+    with Folder() as folder:
+        for script, line, shown in BROKEN:
+            with open(folder.file("script"), "wb") as file:
+                file.write(script)
+            ran = run(folder, [path, "run", "script"])
+            if ran != (1, [f"0: refused 2 BadScript {line}"], f"nehumiro: script:{line}: {shown}\n"):
+                yield f"{ran} for line {line}: {shown}"
+
+
 def main():
     path = program()
     if not shutil.which("strace"):
@@ -90,7 +111,14 @@ def main():
             (status, replies, said), wanted, line = case(folder, path)
             if status != 3 or len(replies) != wanted or not re.fullmatch(f"nehumiro: {line}\n", said):
                 wrong.append(f"status {status}, {len(replies)} replies for {wanted}, {said!r} for {line!r}")
-    report("faults", not wrong, f"{len(cases) - len(wrong)} of {len(cases)} failures end the run and are said{''.join(' ' + text for text in wrong[:3])}")
+    failed = len(wrong)
+    wrong += broken_scripts(path)
+    report(
+        "faults",
+        not wrong,
+        f"{len(cases) - failed} of {len(cases)} failures end the run and are said, {len(BROKEN) + failed - len(wrong)} of {len(BROKEN)} broken scripts are shown"
+        f"{''.join(' ' + text for text in wrong[:3])}",
+    )
 
 
 if __name__ == "__main__":

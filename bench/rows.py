@@ -1,6 +1,6 @@
 """Sessions on real files, with every line that they must say, how they end, and what their files then have.
 
-The same sessions run over a host in memory in the tests of `nb_top`. GUIDs are drawn anew on real files: the k-th that is said stands for `Gk`,
+The same sessions run over a host in memory in `nb_run_tests`. GUIDs are drawn anew on real files: the k-th that is said stands for `Gk`,
 here as there. Each session begins in a folder of its own, or goes on from the files of the one that it names.
 """
 
@@ -91,6 +91,13 @@ def is_day(folder):
     """Level 0 has 2003 pages; each further level the pages 0, 2, 4, 1016 and 2000, each a run by itself."""
     runs = [pages_in_level(folder, name) for name in ("day.1", "day.2")]
     return len(whole(folder, "day.0")) == 2003 * 4096 and runs == [[0, 2, 4, 1016, 2000]] * 2
+
+
+def is_generated(folder):
+    """Two scripts are in their files, of which the second was refused its database, and three backups."""
+    seven, eight = [whole(folder, name).split(b"\n") for name in ("g.s", "h.s")]
+    written = (seven[1], seven[3], eight[1]) == (b"seed 7", b"3: read 97", b"seed 8")
+    return written and all(whole(folder, f"gen.{level}") for level in range(3))
 
 
 def pages_in_level(folder, name):
@@ -331,6 +338,15 @@ CASES = [
             )
         ],
         "create, write, read",
+    ),
+    Case(
+        "a generated script",
+        [
+            (words("gen 7 g.s"), "1: ok header 1 inventory 1 scn 1 data 24 raw 100 other 0 free 0", 0),
+            (words("gen 7 g.s"), "1: refused 4 FileExists g.s", 1),
+            (words("gen 8 h.s"), "1: refused 4 FileExists gen.db", 1),
+        ],
+        check=is_generated,
     ),
 ]
 

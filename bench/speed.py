@@ -223,16 +223,24 @@ def acknowledged_rows(base):
 
 
 def make_firebird(folder, mib, page_size):
-    """A database of Firebird with one row to a page."""
+    """A database of Firebird of about that size, with one row to a page; a seventh of its pages are others."""
     length = page_size * 3 // 4
     with open(folder.file("make.sql"), "w", encoding="ascii") as script:
         script.write(
             f"create database '{folder.file('f.fdb')}' page_size {page_size};\n"
             f"create table t (id integer, text varchar({length}) character set octets);\ncommit;\nset term ^;\n"
-            f"execute block as declare i integer = 0; begin while (i < {(mib << 20) // page_size - 300}) do begin\n"
+            f"execute block as declare i integer = 0; begin while (i < {(mib << 20) // page_size * 6 // 7}) do begin\n"
             f"insert into t values (:i, rpad(gen_uuid(), {length}, gen_uuid())); i = i + 1; end end^\nset term ;^\ncommit;\n"
         )
     subprocess.run(["isql-fb", "-q", "-user", "SYSDBA", "-i", "make.sql"], cwd=folder.path, check=True, stdout=subprocess.DEVNULL)
+
+
+def change_firebird(folder, page_size, every):
+    """Changes one row in so many."""
+    length = page_size * 3 // 4
+    change = f"update t set text = rpad(gen_uuid(), {length}, gen_uuid()) where mod(id, {every}) = 3; commit;"
+    words = ["isql-fb", "-q", "-user", "SYSDBA", folder.file("f.fdb")]
+    subprocess.run(words, input=change, text=True, cwd=folder.path, check=True, stdout=subprocess.DEVNULL)
 
 
 def nbackup(folder, target, *words):
@@ -245,20 +253,26 @@ def nbackup(folder, target, *words):
 
 
 def firebird_rows(folder, mib, page_size):
+    """The jobs of real nbackup, each time with the sync of its file, as ratios to `cp` and `fsync` of its own database."""
     make_firebird(folder, mib, page_size)
-    found = {name: [] for name in ("cp and fsync", "level 0", "restore of level 0", "merge of 10 %")}
-    database = folder.file("f.fdb")
-    change = f"update t set text = rpad(gen_uuid(), {page_size * 3 // 4}, gen_uuid()) where mod(id, 10) = 3; commit;"
+    names = ("cp and fsync", "lock", "merge of 10 %", "level 0", "level 1, 1 % changed", "restore of level 0", "restore of levels 0, 1")
+    found = {name: [] for name in names}
+    database, restored = folder.file("f.fdb"), folder.file("g.fdb")
     for _ in range(ROUNDS):
-        for name in ("f.copy", "f.0", "f.1", "g.fdb"):
+        for name in ("f.copy", "f.0", "f.1"):
             if os.path.exists(folder.file(name)):
                 os.remove(folder.file(name))
         found["cp and fsync"].append(copied(folder, "f.fdb", "f.copy")["seconds"])
-        found["level 0"].append(nbackup(folder, "f.0", "-B", "0", database, "f.0"))
-        found["restore of level 0"].append(nbackup(folder, "g.fdb", "-R", folder.file("g.fdb"), "f.0"))
-        nbackup(folder, "f.fdb", "-L", database)
-        subprocess.run(["isql-fb", "-q", "-user", "SYSDBA", database], input=change, text=True, cwd=folder.path, check=True, stdout=subprocess.DEVNULL)
+        found["lock"].append(nbackup(folder, "f.fdb", "-L", database))
+        change_firebird(folder, page_size, 10)
         found["merge of 10 %"].append(nbackup(folder, "f.fdb", "-N", database))
+        found["level 0"].append(nbackup(folder, "f.0", "-B", "0", database, "f.0"))
+        change_firebird(folder, page_size, 100)
+        found["level 1, 1 % changed"].append(nbackup(folder, "f.1", "-B", "1", database, "f.1"))
+        found["restore of level 0"].append(nbackup(folder, "g.fdb", "-R", restored, "f.0"))
+        os.remove(restored)
+        found["restore of levels 0, 1"].append(nbackup(folder, "g.fdb", "-R", restored, "f.0", "f.1"))
+        os.remove(restored)
     whole = statistics.median(found["cp and fsync"])
     print(f"\n| Real nbackup, {os.path.getsize(database) >> 20} MiB | Seconds | Of `cp` and `fsync` |\n|---|---|---|")
     for name, took in found.items():

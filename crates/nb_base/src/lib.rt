@@ -15,8 +15,3 @@ mod sync;
 mod writes;
 
 pub use files::TwoFiles;
-
-#[cfg(test)]
-mod tests;
-#[cfg(test)]
-mod write_tests;

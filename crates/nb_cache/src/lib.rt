@@ -13,7 +13,5 @@ mod index;
 mod next;
 mod places;
 mod search;
-#[cfg(test)]
-mod tests;
 
 pub use cache::Cache;

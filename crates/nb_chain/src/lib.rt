@@ -18,6 +18,3 @@ mod tip;
 pub use checking::{Chain, check};
 pub use first_file::{First, read_first};
 pub use level_file::whole;
-
-#[cfg(test)]
-mod tests;

@@ -1,7 +1,8 @@
 //! The program: the words of the command line, real files, and the exit status.
 //!
 //! It rests on `nb_top`, whose `run` is the whole program, and on `nb_file` for the outside. On the standard output it says nothing
-//! itself, and on the standard error which words there are, where those that it was given name no job.
+//! itself. On the standard error it says which words there are, where those that it was given name no job, and the line of a script that
+//! breaks its form.
 #![tactic(auto)]
 
 ghost use Rattle.std.specs.Prelude.{◌≡◌, ◌≢◌, ◌⊎◌, None, map, string_bytes, IsTrue, IfOk, IfErr};
@@ -15,6 +16,11 @@ ghost use Rattle.nb_top.specs.Performed.{Knows, MayBeGiven, Performs};
 ghost use Rattle.nb_top.specs.Requests.{job_asked, request_asked};
 ghost use Rattle.nb_cli.specs.Exit.{number_of};
 
+mod broken;
+#[cfg(test)]
+mod tests;
+
+use broken::{broken_line, script_of};
 use nb_file::FileHost;
 use nb_host::Host;
 use nb_top::{Status, run};
@@ -36,6 +42,7 @@ usage: nehumiro run SCRIPT          runs the statements of a script
        nehumiro -B GUID DB FILE     backs up what changed since the backup of that GUID
        nehumiro -R DB FILE..        restores a new database from a chain of backup files, that of level 0 first
        nehumiro -F FILE             makes a copy of a locked database a database of its own
+       nehumiro gen N SCRIPT        writes the script of the number N to a new file, and runs it: for trials
 ";
 
 /// The words of the command line, without the program's own name.
@@ -95,10 +102,21 @@ fn main(rt: HostRuntime) -> ExitCode {
     if wants_progress(&rt) {
         host.show_progress();
     }
+    let script = match &words {
+        Ok(words) => script_of(alloc, words.as_slice()),
+        Err(_) => Ok(None),
+    };
     let status = status_of(alloc, words, &mut host);
+    // Nothing is left to do where the standard error fails.
     if matches!(status, Status::Usage) {
-        // Nothing is left to do where the standard error fails.
         let _ = eprint!(rt; "{USAGE}");
+    }
+    if matches!(status, Status::Refused) {
+        if let Ok(Some(script)) = &script {
+            if let Ok(Some(broken)) = broken_line(alloc, &mut host, script) {
+                let _ = eprintln!(rt; "nehumiro: {script}:{}: {}", broken.line, broken.text);
+            }
+        }
     }
     exit_code(status)
 }

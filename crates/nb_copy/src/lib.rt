@@ -22,10 +22,3 @@ pub use copier::Copier;
 pub use file_copier::FileCopier;
 pub use level_copy::LevelCopy;
 pub use page_copy::PageCopy;
-
-#[cfg(test)]
-mod copier_tests;
-#[cfg(test)]
-mod file_copier_tests;
-#[cfg(test)]
-mod tests;

@@ -15,6 +15,3 @@ mod waiting;
 mod writing;
 
 pub use delta::Delta;
-
-#[cfg(test)]
-mod tests;

@@ -34,10 +34,3 @@ mod write;
 pub use engine::Engine;
 pub use rows::HistoryRow;
 pub use walk::Room;
-
-#[cfg(test)]
-mod data_tests;
-#[cfg(test)]
-mod history_tests;
-#[cfg(test)]
-mod tests;

@@ -25,6 +25,3 @@ mod waiting;
 
 pub use disk::{Disk, Sharing};
 pub use host::FileHost;
-
-#[cfg(test)]
-mod tests;

@@ -11,6 +11,3 @@ mod fixing;
 pub mod laws;
 
 pub use fixing::fix_up;
-
-#[cfg(test)]
-mod tests;

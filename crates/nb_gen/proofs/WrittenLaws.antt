@@ -1,8 +1,9 @@
 -- A text is written to a new file.
 use Rattle.std.proofs.Common.{◌≡◌, ◌⊎◌, inl, inr, ⊎_elim, ℕ, suc, List, [], ◌∷◌, ◌++◌, length, refl, sym, ap, subst, ◌∙◌}
-use Rattle.std.specs.Prelude.{Bool, false, nat_le, IsTrue, Some, Result, Ok}
-use Rattle.nb_fields.specs.Bytes.{number_in, number_of}
-use Rattle.nb_fields.specs.Header.{is_header, is_marked}
+use Rattle.std.specs.Prelude.{Bool, false, ◌&&◌, ◌==◌, nat_le, IsTrue, Some, Result, Ok}
+use Rattle.nb_fields.specs.Bytes.{is_zeros, number_in, number_of}
+use Rattle.nb_fields.specs.Free.{is_free_file}
+use Rattle.nb_fields.specs.Header.{is_header, is_marked, pending_of, state_of}
 use Rattle.nb_host.specs.Files.{File, Files, bytes_of, with_bytes}
 use Rattle.nb_host.specs.World.{World}
 use Rattle.nb_host.specs.Crash.{AppendLeft}
@@ -33,13 +34,22 @@ begins_no_level : (b : ℕ) (bs : List ℕ) → (b ≡ 49) ⊎ (b ≡ 0) → beg
 unfolding begins_level
 begins_no_level b bs is = ⊎_elim (λ e. rw e refl) (λ e. rw e refl) is
 
+-- a script's name isn't free
+pub text_in_use : (bytes : List ℕ) → IsScriptText bytes → is_free_file (Some bytes) ≡ false
+unfolding is_free_file
+text_in_use bytes text = subst (λ (bs : List ℕ). is_free_file (Some bs) ≡ false) (sym text.is) (ap (λ (h : Bool). h && state_of (49 ∷ text.behind) == 3 && is_zeros (pending_of (49 ∷ text.behind))) (begins_no_header 49 text.behind (inl refl)))
+
 no_backup : (b : ℕ) (bs : List ℕ) → (b ≡ 49) ⊎ (b ≡ 0) → IsNoBackup (Some (b ∷ bs))
 no_backup b bs is = record {
   no_level = λ c reads. no_value 0 c (sym (not_level (b ∷ bs) (begins_no_level b bs is)) ∙ reads);
   no_header = begins_no_header b bs is;
 }
 
--- whatever of a script's text is lost
+-- so the text of a script is none,
+pub text_no_backup : (bytes : List ℕ) → IsScriptText bytes → IsNoBackup (Some bytes)
+text_no_backup bytes text = subst (λ (bs : List ℕ). IsNoBackup (Some bs)) (sym text.is) (no_backup 49 text.behind (inl refl))
+
+-- whatever of it is lost
 torn_script : (bytes ts : List ℕ) → IsScriptText bytes → Torn bytes ts → IsUnfinished (Some ts)
 torn_script bytes ts text torn = by ts (subst (λ (bs : List ℕ). Torn bs ts) text.is torn)
   where

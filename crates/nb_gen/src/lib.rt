@@ -13,6 +13,3 @@ mod writing;
 
 pub use script::generate;
 pub use writing::write_script;
-
-#[cfg(test)]
-mod tests;

@@ -20,6 +20,3 @@ pub use item::Item;
 pub use reader::LevelReader;
 pub use start::begins_level;
 pub use writing::{write_end, write_head, write_page_at, write_run};
-
-#[cfg(test)]
-mod tests;

@@ -19,6 +19,3 @@ mod reads;
 mod slots;
 
 pub use host::MemHost;
-
-#[cfg(test)]
-mod tests;

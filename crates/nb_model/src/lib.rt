@@ -27,6 +27,3 @@ pub use rows::RowList;
 pub use statement::Statement;
 pub use table_name::{MOST_TABLE_NAME, TableName};
 pub use text::Text;
-
-#[cfg(test)]
-mod tests;

@@ -8,7 +8,5 @@
 mod beginnings;
 mod pair;
 mod states;
-#[cfg(test)]
-mod tests;
 
 pub use pair::Pair;

@@ -14,6 +14,3 @@ mod restoring;
 mod target;
 
 pub use restoring::restore;
-
-#[cfg(test)]
-mod tests;

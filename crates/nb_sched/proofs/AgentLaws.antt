@@ -1,12 +1,11 @@
 -- Agents in a list, by their sessions.
-use Rattle.std.proofs.Common.{◌≡◌, ◌≢◌, ◌<◌, ◌≤◌, ◌+◌, ◌-◌, ◌*◌, ◌^◌, ℕ, zero, suc, List, [], ◌∷◌, length, get_or, ◌⊎◌, inl, inr, Some, Result, Ok, Err, OnOk, slice_get, slice_set, refl, ap, sym, ◌∙◌, subst, arith, add-one}
+use Rattle.std.proofs.Common.{◌≡◌, ◌≢◌, ◌<◌, ◌≤◌, ◌+◌, ◌-◌, ◌*◌, ◌^◌, ℕ, zero, suc, List, [], ◌∷◌, length, take, drop, get_or, ◌⊎◌, inl, inr, Some, Result, Ok, Err, OnOk, slice_get, slice_set, refl, ap, sym, ◌∙◌, subst, arith, add-one}
 use Rattle.std.specs.List.{AllByRecursion, range_with_len}
 use Rattle.std.proofs.lemmas.Bool.{cases_lt}
 use Rattle.std.proofs.lemmas.List.Sums.{sum_by-set}
 use Rattle.std.proofs.lemmas.Option.{slice_get-get_or, slice_get_read, slice_get_within, get_or_from_slice_get}
 use Rattle.nb_host.specs.declared.faults.Fault.{Fault}
-use Rattle.nb_model.specs.Run.{all_sessions}
-use Rattle.nb_sched.specs.Turns.{scene, Kind, agent_of, IsDone, IsLower, Rests, AllDone, IsReady, total}
+use Rattle.nb_sched.specs.Turns.{scene, Kind, agent_of, IsDone, IsLower, Rests, IsReady, total}
 
 -- an agent has the session after its place
 pub agent_there : {A : Type 0} (agents : List A) (session : ℕ) (agent : A) → agent_of agents session ≡ Some agent → (0 < session) × (slice_get agents (session - 1) ≡ Some agent)
@@ -54,34 +53,10 @@ module _ {A : Type 0} (left : A → ℕ × ℕ) where
   rests_past agents zero past agent there = absurd cc
   rests_past agents (suc place) past agent there = let within = slice_get_within agents place agent there in absurd (omega arith)
 
-  -- one session more rests
-  pub rests_more : (agents : List A) (last : ℕ) → ((session : ℕ) → session ≤ last → Rests left agents session) → Rests left agents (last + 1) → (session : ℕ) → session ≤ last + 1 → Rests left agents session
-  rests_more agents last all here session within = elim (cases_lt last session) [
-    | inl past ↦ (let same : last + 1 ≡ session = omega arith in subst (Rests left agents) same here)
-    | inr upto ↦ all session upto
-  ]
-
-  -- all have finished where each up to the last one has
-  pub done_all : (agents : List A) (n : ℕ) → length agents ≤ n → ((session : ℕ) → session ≤ n → Rests left agents session) → AllDone left agents
-  done_all agents n whole all session = elim (cases_lt n session) [
-    | inl past ↦ rests_past agents session (omega arith)
-    | inr upto ↦ all session upto
-  ]
-
-  -- each in a range of sessions rests
-  rests_in : (agents : List A) (first n : ℕ) → AllByRecursion (Rests left agents) (range_with_len first n) → (session : ℕ) → first ≤ session → session < first + n → Rests left agents session
-  rests_in agents first zero all session from below = absurd (omega arith)
-  rests_in agents first (suc n) all session from below = elim (cases_lt first session) [
-    | inl past ↦ rests_in agents (first + 1) n all.1 session (omega arith) (omega arith)
-    | inr upto ↦ (let same : first ≡ session = omega arith in subst (Rests left agents) same all.0)
-  ]
-
-  -- of at most 16 agents all have finished where each session of a round rests
-  pub done_round : (agents : List A) → length agents ≤ 16 → AllByRecursion (Rests left agents) all_sessions → AllDone left agents
-  done_round agents few all zero agent there = absurd cc
-  done_round agents few all (suc place) agent there =
-      let within = slice_get_within agents place agent there in
-      rests_in agents 1 16 all (suc place) (omega arith) (omega arith) agent there
+  -- each behind some rests, where those up to a number do and those past it
+  pub rests_behind : (agents : List A) (count most : ℕ) → ((session : ℕ) → most < session → Rests left agents session) → ((session : ℕ) → count < session → session ≤ most → Rests left agents session)
+      → (session : ℕ) → count < session → Rests left agents session
+  rests_behind agents count most past upto session from = elim (cases_lt most session) [ inl beyond ↦ past session beyond | inr within ↦ upto session from within ]
 
   -- where less is left to one agent, less is left to all
   pub total_falls : (agents : List A) (session : ℕ) (agent moved : A) → agent_of agents session ≡ Some agent → IsLower (left moved) (left agent) → total left (slice_set agents (session - 1) moved) < total left agents
@@ -92,6 +67,22 @@ module _ {A : Type 0} (left : A → ℕ × ℕ) where
       let old = ap weight (get_or_from_slice_get agents (session - 1) agent agent there) in
       let range = lower.in_range in
       elim lower.falls [ inl first ↦ omega (arith, sums, old, range, first) | inr second ↦ omega (arith, sums, old, range, second.0, second.1) ]
+
+-- What is said of each number of a range, of those behind some, and of the last of the first ones.
+module _ (P : ℕ → Type 0) where
+  all_in : (first n : ℕ) → ((m : ℕ) → first ≤ m → P m) → AllByRecursion P (range_with_len first n)
+  all_in first zero all = tt
+  all_in first (suc n) all = (all first (omega arith), all_in (first + 1) n (λ m from. all m (omega arith)))
+
+  pub all_behind : (first n count : ℕ) → ((m : ℕ) → first + count ≤ m → P m) → AllByRecursion P (drop count (range_with_len first n))
+  all_behind first n zero all = all_in first n (λ m from. all m (omega arith))
+  all_behind first zero (suc count) all = tt
+  all_behind first (suc n) (suc count) all = all_behind (first + 1) n count (λ m from. all m (omega arith))
+
+  pub last_of : (first n count : ℕ) → count < n → AllByRecursion P (take (suc count) (range_with_len first n)) → P (first + count)
+  last_of first zero count within all = absurd (omega arith)
+  last_of first (suc n) zero within all = let same : first ≡ first + 0 = omega arith in subst P same all.0
+  last_of first (suc n) (suc count) within all = let same : first + 1 + count ≡ first + suc count = omega arith in subst P same (last_of (first + 1) n count (omega arith) all.1)
 
 module _ {A H C : Type 0} (of : Kind A H C)
     (keeps_others : (mover other : A) (host : H) (shared : C) (moved : A) (host' : H) (shared' : C)

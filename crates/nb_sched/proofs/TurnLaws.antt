@@ -1,12 +1,12 @@
 -- Turns behind turns, and what holds while they are taken.
-use Rattle.std.proofs.Common.{◌≡◌, ◌<◌, ◌+◌, ℕ, List, [], ◌∷◌, ◌++◌, ◌⊎◌, inl, inr, Result, Ok, Err, IsErrAnd, refl, sym, subst, arith, append_assoc, length, take, drop, get_or, take-append-drop}
+use Rattle.std.proofs.Common.{◌≡◌, ◌<◌, ◌≤◌, ◌+◌, ℕ, zero, suc, List, [], ◌∷◌, ◌++◌, ◌⊎◌, inl, inr, Some, Result, Ok, Err, IsErrAnd, refl, sym, subst, arith, append_assoc, length, take, drop, get_or, take-append-drop}
 use Rattle.std.specs.List.{AllByRecursion}
 use Rattle.std.proofs.lemmas.List.{append-nil, take_more}
 use Rattle.nb_host.specs.declared.faults.Fault.{Fault}
 use Rattle.nb_model.specs.Run.{rounds, all_sessions}
 use Rattle.nb_model.proofs.TodoLaws.{rounds_more}
-use Rattle.nb_sched.specs.Turns.{Scene, Kind, Rests, IsReady, Moves, TakesTurns, EndsWith, total}
-use Rattle.nb_sched.proofs.AgentLaws.{total_falls}
+use Rattle.nb_sched.specs.Turns.{Scene, Kind, agent_of, Rests, IsReady, Moves, TakesTurns, EndsWith, total}
+use Rattle.nb_sched.proofs.AgentLaws.{agent_of_set, all_behind, last_of, total_falls}
 
 module _ {A H C : Type 0} (of : Kind A H C) where
   -- one turn
@@ -73,6 +73,48 @@ module _ {A H C : Type 0} (of : Kind A H C) where
         | inr less ↦ inr (omega arith)
       ]
   turns_fall (x ∷ order) before after (inr (inr stop)) = absurd (cc (stop.0))
+
+  -- a session that rests still does after turns of others
+  moved_rests : (session other : ℕ) (before after : Scene A H C) → Rests of.left before.agents session → Moves of other before (Ok tt) after → Rests of.left after.agents session
+  moved_rests session zero before after rests move agent there = absurd (cc (move.there))
+  moved_rests session (suc place) before after rests move agent there =
+      elim (agent_of_set before.agents (suc place) session move.moved agent (omega arith) (subst (λ (agents : List A). agent_of agents session ≡ Some agent) move.agents there)) [
+        | inl here ↦ absurd (move.unfinished (rests move.agent (subst (λ (n : ℕ). agent_of before.agents n ≡ Some move.agent) (sym here.0) move.there)))
+        | inr apart ↦ rests agent apart.1
+      ]
+
+  pub rests_kept : (session : ℕ) (order : List ℕ) (before after : Scene A H C) → Rests of.left before.agents session → TakesTurns of order before (Ok tt) after → Rests of.left after.agents session
+  rests_kept session order before after =
+      turns_hold (λ front s. Rests of.left s.agents session) (λ front other s rests also. rests) (λ front other s t rests move. moved_rests session other s t rests move) order before after (Ok tt)
+
+  -- nothing is done over an order at which all rest
+  turns_rest : (order : List ℕ) (s : Scene A H C) → AllByRecursion (Rests of.left s.agents) order → TakesTurns of order s (Ok tt) s
+  turns_rest [] s all = (refl, refl)
+  turns_rest (x ∷ order) s all = inl (all.0, turns_rest order s all.1)
+
+  -- a round is one of the first sessions, where those behind them rest
+  pub round_of : (count : ℕ) (before after : Scene A H C) → ((session : ℕ) → count < session → Rests of.left before.agents session) → TakesTurns of (take count all_sessions) before (Ok tt) after
+      → TakesTurns of all_sessions before (Ok tt) after
+  round_of count before after rest turns =
+      let cut : take count all_sessions ++ drop count all_sessions ≡ all_sessions = take-append-drop count all_sessions in
+      subst (λ (xs : List ℕ). TakesTurns of xs before (Ok tt) after) cut (turns_then (take count all_sessions) (drop count all_sessions) before after after (Ok tt) turns
+      (turns_rest (drop count all_sessions) after
+      (all_behind (Rests of.left after.agents) 1 16 count (λ session from. rests_kept session (take count all_sessions) before after (rest session (omega arith)) turns))))
+
+  -- and an error among them ends it
+  pub round_stops : (count : ℕ) (before after : Scene A H C) (fault : Fault) → TakesTurns of (take count all_sessions) before (Err fault) after → TakesTurns of all_sessions before (Err fault) after
+  round_stops count before after fault turns =
+      let cut : take count all_sessions ++ drop count all_sessions ≡ all_sessions = take-append-drop count all_sessions in
+      subst (λ (xs : List ℕ). TakesTurns of xs before (Err fault) after) cut (turns_stop (take count all_sessions) (drop count all_sessions) before after fault turns)
+
+  -- less is left after it, where the last of them had not finished
+  pub round_falls : (count : ℕ) (before after : Scene A H C) → 0 < count → count ≤ 16 → ¬ Rests of.left before.agents count → TakesTurns of (take count all_sessions) before (Ok tt) after
+      → total of.left after.agents < total of.left before.agents
+  round_falls zero before after some few busy turns = absurd (omega arith)
+  round_falls (suc count) before after some few busy turns = elim (turns_fall (take (suc count) all_sessions) before after turns) [
+    | inl all ↦ (let same : 1 + count ≡ suc count = omega arith in absurd (busy (subst (Rests of.left before.agents) same (last_of (Rests of.left before.agents) 1 16 count (omega arith) all.0))))
+    | inr less ↦ less
+  ]
 
   -- one number more of an order
   pub turns_more : (order : List ℕ) (i : ℕ) (before mid after : Scene A H C) → i < length order → TakesTurns of (take i order) before (Ok tt) mid

@@ -11,6 +11,3 @@ mod turns;
 
 pub use agent::Agent;
 pub use turns::take_turns;
-
-#[cfg(test)]
-mod tests;

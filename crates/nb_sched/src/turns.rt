@@ -1,6 +1,6 @@
-ghost use Rattle.std.specs.Prelude.{◌≡◌, ◌≤◌, ◌∷◌, ◌++◌, ◌↔◌, [], ℕ, length, IsTrue, OnOk};
+ghost use Rattle.std.specs.Prelude.{◌≡◌, ◌≤◌, ◌<◌, ◌∷◌, ◌++◌, [], ℕ, length, OnOk};
 ghost use Rattle.nb_model.specs.Run.{rounds};
-ghost use Rattle.nb_sched.specs.Turns.{kind, scene, IsReady, AllDone, TakesTurns};
+ghost use Rattle.nb_sched.specs.Turns.{kind, scene, IsReady, AllDone, Rests, TakesTurns};
 
 use crate::Agent;
 use nb_host::Fault;
@@ -45,16 +45,18 @@ fn take_order<H, C, A: Agent<H, C>>(
     Ok(())
 }
 
-/// Whether every agent has finished.
-fn all_finished<H, C, A: Agent<H, C>>(agents: &[A]) -> bool
-    ensures { IsTrue result ↔ AllDone A.left agents.now }
+/// How many of the first `count` agents there are up to the last that has not finished.
+fn unfinished<H, C, A: Agent<H, C>>(agents: &[A], count: usize) -> usize
+    requires within { count ≤ length agents.now }
+    ensures fewer { result ≤ count }
+    ensures behind { (session : ℕ) → result < session → session ≤ count → Rests A.left agents.now session }
+    ensures last { 0 < result → ¬ Rests A.left agents.now result }
 {
-    for agent in agents {
-        if !agent.finished() {
-            return false;
-        }
+    let mut count = count;
+    while count > 0 && agents[count - 1].finished() {
+        count -= 1;
     }
-    true
+    count
 }
 
 /// Takes turns, at most 16 agents, of which the one in place i (from 0) is session i + 1. Each number of the schedule gives its
@@ -75,8 +77,11 @@ pub fn take_turns<H, C, A: Agent<H, C>>(
     ensures finished { OnOk result (AllDone A.left agents.new) }
 {
     take_order(agents, host, shared, schedule)?;
-    while !all_finished(agents) {
-        take_order(agents, host, shared, &ROUND)?;
+    // One that has finished has no turn any more, so those behind the last that has not are asked no further.
+    let mut count = unfinished(agents, agents.len());
+    while count > 0 {
+        take_order(agents, host, shared, &ROUND[..count])?;
+        count = unfinished(agents, count);
     }
     Ok(())
 }

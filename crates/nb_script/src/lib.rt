@@ -19,6 +19,3 @@ mod words;
 pub use printing::print;
 pub use reading::{MOST_BYTES, MOST_STATEMENTS, parse};
 pub use script::Script;
-
-#[cfg(test)]
-mod tests;

@@ -1,6 +1,6 @@
 -- A turn of a session is the next that it has to do.
-use Rattle.std.proofs.Common.{◌≡◌, inl, inr, ℕ, zero, suc, ◌-◌, ◌<◌, List, [], ◌∷◌, ◌++◌, length, map, drop, get_or, sym, ap, subst, ◌∙◌, arith, append_assoc, get_or-set_same, drop_of_length-le}
-use Rattle.std.specs.Prelude.{Bool, false, ◌||◌, IsTrue, Result, Ok, Err, IsErr, IsErrAnd, IfOk, IfErr, OnOk, Option, Some, None}
+use Rattle.std.proofs.Common.{◌≡◌, inl, inr, ℕ, zero, suc, ◌-◌, ◌<◌, List, [], ◌∷◌, ◌++◌, length, map, drop, get_or, refl, sym, ap, subst, ◌∙◌, arith, append_assoc, get_or-set_same, drop_of_length-le}
+use Rattle.std.specs.Prelude.{Bool, true, false, ◌||◌, IsTrue, Result, Ok, Err, IsErr, IsErrAnd, IfOk, IfErr, OnOk, Option, Some, None}
 use Rattle.std.specs.List.{slice_index_or}
 use Rattle.std.proofs.lemmas.Bool.{cases_lt}
 use Rattle.std.proofs.lemmas.List.{append-nil}
@@ -22,11 +22,12 @@ use Rattle.nb_model.proofs.RunLaws.{turn_stands}
 use Rattle.nb_state.specs.Open.{Held}
 use Rattle.nb_session.specs.declared.stop.Stop.{Stop}
 use Rattle.nb_session.specs.declared.task.Task.{Task}
+use Rattle.nb_session.specs.declared.task.Left.{Left}
+use Rattle.nb_session.specs.declared.task.Left.TheVariants.{Same, Other}
 use Rattle.nb_session.specs.declared.task.Taken.{Taken}
-use Rattle.nb_session.specs.declared.told.Told.{Told}
-use Rattle.nb_session.specs.Askers.{Asker, task_first, task_rest, task_todo, task_left, left_of, todo_of, HasTodo, KeepsOthers}
+use Rattle.nb_session.specs.Askers.{Asker, task_first, task_rest, task_todo, task_left, left_of, left_refused, left_task, todo_of, HasTodo, KeepsOthers}
 use Rattle.nb_session.specs.Ready.{IsReady, TaskGoes}
-use Rattle.nb_session.specs.Steps.{as_played, Turns, TakesNext, Steps}
+use Rattle.nb_session.specs.Steps.{as_played, GoesFurther, Turns, TakesNext, Steps}
 use Rattle.nb_session.specs.Stops.{Plays}
 use Rattle.nb_session.specs.Told.{told_turns}
 use Rattle.nb_session.proofs.UnderWayLaws.{making_append, making_begins}
@@ -63,8 +64,8 @@ plays_err f g (Refused refusal) old new before after t now p made plays = plays
 plays_err f g Device old new before after t now p made plays = plays
 plays_err f g Memory old new before after t now p made plays = plays
 
--- The next turn of a session: `tail` is what its statement has to do behind it, and these statements it has not begun then.
-module _ (old new : World) (a b : Held) (t : Trail) (now : Now) (asker moved : Asker) (turn : Turn) (tail : List Turn) (rest : List Statement) (here : todo_of asker ≡ turn ∷ (tail ++ map Begins rest)) (has : HasTodo asker now) where
+-- The next turn of a session, whose value tells whether its statement was refused and what is under way then: `tail` is what its statement has to do behind it, and these statements it has not begun then.
+module _ {T : Type 0} (refused : T → Bool) (task : T → Option Task) (old new : World) (a b : Held) (t : Trail) (now : Now) (asker moved : Asker) (turn : Turn) (tail : List Turn) (rest : List Statement) (here : todo_of asker ≡ turn ∷ (tail ++ map Begins rest)) (has : HasTodo asker now) where
   abbrev more : List Turn
   more = map Begins rest
 
@@ -83,29 +84,29 @@ module _ (old new : World) (a b : Held) (t : Trail) (now : Now) (asker moved : A
       (subst (Plays result old new a b t now (told_turns asker.told (take_turn asker.number (turn ∷ (tail ++ more)) now))) (sym made_is) plays)
 
   -- the turn was taken
-  takes_turn : (taken : Taken) (noted : Bool) → moved ≡ record { number = asker.number; told = asker.told; statements = rest; task = taken.task; refused = noted }
-      → Turns asker.told (λ (x : Taken). x.refused) (λ (x : Taken). x.task) (Ok taken) old new a b t now asker.number turn tail more → TakesNext taken.refused (Ok tt) old new a b t now asker moved
-  takes_turn taken noted same turns = record {
+  takes_turn : (value : T) (noted : Bool) → moved ≡ record { number = asker.number; told = asker.told; statements = rest; task = task value; refused = noted }
+      → Turns asker.told refused task (Ok value) old new a b t now asker.number turn tail more → TakesNext (refused value) (Ok tt) old new a b t now asker moved
+  takes_turn value noted same turns = record {
     grows = turns.grows;
-    plays = λ told. plays_one (Ok taken.refused) (turns.plays told);
+    plays = λ told. plays_one (Ok (refused value)) (turns.plays told);
     todo = λ told.
         ap (λ (x : Asker). slice_index_or (one_turn asker.number now).1.todo (x.number - 1) []) same
         ∙ ap (λ (p : Played). slice_index_or p.1.todo (asker.number - 1) []) one_is ∙ taken_todo asker.number now turn (tail ++ more) (has ∙ here)
         ∙ sym (append_assoc (outcome asker.number turn now).next tail more) ∙ ap (λ (ts : List Turn). ts ++ more) (turns.behind told).next ∙ sym (ap todo_of same);
     goes = λ told.
         subst (λ (x : Asker). TaskGoes asker.number new b (base_now (one_turn asker.number now).1).frozen x.task) (sym same)
-        (subst (λ (base : Base). TaskGoes asker.number new b base.frozen taken.task) (sym (ap (λ (p : Played). base_now p.1) one_is ∙ taken_base asker.number now turn (tail ++ more))) (turns.behind told).goes);
+        (subst (λ (base : Base). TaskGoes asker.number new b base.frozen (task value)) (sym (ap (λ (p : Played). base_now p.1) one_is ∙ taken_base asker.number now turn (tail ++ more))) (turns.behind told).goes);
   }
 
   -- it ended early
-  takes_none : (fault : Fault) (answer : Result (Unit {0}) Fault) (refused : Bool) → IsErr answer × IsErrAnd answer (λ e. e ≡ fault)
-      → Turns asker.told (λ (x : Taken). x.refused) (λ (x : Taken). x.task) (Err fault) old new a b t now asker.number turn tail more → TakesNext refused answer old new a b t now asker moved
-  takes_none fault (Ok done) refused is turns = absurd is.1
-  takes_none fault (Err e) refused is turns = record {
+  takes_none : (fault : Fault) (answer : Result (Unit {0}) Fault) (which : Bool) → IsErr answer × IsErrAnd answer (λ e. e ≡ fault)
+      → Turns asker.told refused task (Err fault) old new a b t now asker.number turn tail more → TakesNext which answer old new a b t now asker moved
+  takes_none fault (Ok done) which is turns = absurd is.1
+  takes_none fault (Err e) which is turns = record {
     grows = turns.grows;
-    plays = λ told. subst (λ (f : Fault). Plays (as_played {T = Unit {0}} (λ done. refused) (Err f)) old new a b t now (told_turns asker.told (one_turn asker.number now)) (making_by asker.number now)) (sym is.1)
-        (plays_err {S = Unit {0}} (λ (x : Taken). x.refused) (λ done. refused) fault old new a b t now (told_turns asker.told (one_turn asker.number now)) (making_by asker.number now)
-        (plays_one (as_played (λ (x : Taken). x.refused) (Err fault)) (turns.plays told)));
+    plays = λ told. subst (λ (f : Fault). Plays (as_played {T = Unit {0}} (λ done. which) (Err f)) old new a b t now (told_turns asker.told (one_turn asker.number now)) (making_by asker.number now)) (sym is.1)
+        (plays_err {S = Unit {0}} refused (λ done. which) fault old new a b t now (told_turns asker.told (one_turn asker.number now)) (making_by asker.number now)
+        (plays_one (as_played refused (Err fault)) (turns.plays told)));
     todo = λ told. tt;
     goes = λ told. tt;
   }
@@ -129,22 +130,6 @@ module _ {S : Type 0} (fault : Fault) where
       by Device is = is
       by Memory is = is
 
--- A statement of one turn, of which it is known whether it was refused, as what it left.
-module _ (how : Told) (old new : World) (a b : Held) (t : Trail) (now : Now) (session : ℕ) (turn : Turn) (tail more : List Turn) where
-  pub turns_left : (refused : Bool) → Turns how (λ (r : Bool). r) (λ r. None) (Ok refused) old new a b t now session turn tail more
-      → Turns how (λ (x : Taken). x.refused) (λ (x : Taken). x.task) (Ok (record { task = None; refused = refused })) old new a b t now session turn tail more
-  turns_left refused turns = record { grows = turns.grows; plays = turns.plays; behind = turns.behind }
-
-  pub turns_handed : (fault : Fault) (answer : Result Taken Fault) → IsErr answer × IsErrAnd answer (λ e. e ≡ fault) → Turns how (λ (r : Bool). r) (λ r. None) (Err fault) old new a b t now session turn tail more
-      → Turns how (λ (x : Taken). x.refused) (λ (x : Taken). x.task) answer old new a b t now session turn tail more
-  turns_handed fault (Ok taken) is turns = absurd is.1
-  turns_handed fault (Err e) is turns = record {
-    grows = turns.grows;
-    plays = λ told. subst (λ (f : Fault). Plays (as_played (λ (x : Taken). x.refused) (Err f)) old new a b t now (told_turns how (take_turn session (turn ∷ (tail ++ more)) now)) (making (base_now now).frozen (turn ∷ tail))) (sym is.1)
-        (plays_err (λ (r : Bool). r) (λ (x : Taken). x.refused) fault old new a b t now _ _ (turns.plays told));
-    behind = λ told. tt;
-  }
-
 -- what is under way comes first
 going_on : (asker : Asker) (task : Task) → asker.task ≡ Some task → todo_of asker ≡ task_first task ∷ (task_rest task ++ map Begins asker.statements)
 going_on asker task is = ap (λ (x : Option Task). task_todo x ++ map Begins asker.statements) is
@@ -154,21 +139,21 @@ beginning : (asker : Asker) (statement : Statement) (rest : List Statement) → 
 beginning asker statement rest is first = ap (λ (x : Option Task). task_todo x ++ map Begins asker.statements) is ∙ ap (map Begins) first
 
 module _ (tells : Bool) (old new : World) (faults faults' : ℕ) (a b : Held) (asker moved : Asker) (others : KeepsOthers asker.number a b) (kept : moved.told ≡ asker.told) where
-  module _ (turn : Turn) (tail : List Turn) (rest : List Statement) (here : todo_of asker ≡ turn ∷ (tail ++ map Begins rest)) where
+  module _ {T : Type 0} (refused : T → Bool) (task : T → Option Task) (turn : Turn) (tail : List Turn) (rest : List Statement) (here : todo_of asker ≡ turn ∷ (tail ++ map Begins rest)) where
     -- what the turn did, where the session comes to it
-    abbrev Turned : Result Taken Fault → Type 0
+    abbrev Turned : Result T Fault → Type 0
     Turned result = (now : Now) (t : Trail) → IsTrue tells → IsReady old a t now → IsMaking now → slice_index_or now.todo (asker.number - 1) [] ≡ turn ∷ (tail ++ map Begins rest) → TaskGoes asker.number old a t.base.frozen asker.task
-        → Turns asker.told (λ (x : Taken). x.refused) (λ (x : Taken). x.task) result old new a b t now asker.number turn tail (map Begins rest)
+        → Turns asker.told refused task result old new a b t now asker.number turn tail (map Begins rest)
 
-    step_failed : (fault : Fault) (answer : Result (Unit {0}) Fault) → IsErr answer × IsErrAnd answer (λ e. e ≡ fault) → Turned (Err fault) → CountsDevice {T = Taken} (Err fault) faults faults' → IsNoRefusal fault
+    step_failed : (fault : Fault) (answer : Result (Unit {0}) Fault) → IsErr answer × IsErrAnd answer (λ e. e ≡ fault) → Turned (Err fault) → CountsDevice {T = T} (Err fault) faults faults' → IsNoRefusal fault
         → Steps tells answer old new faults faults' a b asker moved
     step_failed fault answer handed turned counts none = record {
       refused = false;
       noted = on_handed answer handed;
       told = kept;
-      takes = λ now t told ready going has goes. takes_none old new a b t now asker moved turn tail rest here has fault answer false handed (turned now t told ready going (has ∙ here) goes);
+      takes = λ now t told ready going has goes. takes_none refused task old new a b t now asker moved turn tail rest here has fault answer false handed (turned now t told ready going (has ∙ here) goes);
       others = others;
-      cause = counts_handed fault Taken answer faults faults' handed counts;
+      cause = counts_handed fault T answer faults faults' handed counts;
       not_refused = none_handed fault answer handed none;
     }
       where
@@ -176,36 +161,59 @@ module _ (tells : Bool) (old new : World) (faults faults' : ℕ) (a b : Held) (a
         on_handed (Ok done) is = absurd is.1
         on_handed (Err e) is = tt
 
-    step_taken : (taken : Taken) → moved ≡ record { number = asker.number; told = asker.told; statements = rest; task = taken.task; refused = asker.refused || taken.refused } → Turned (Ok taken) → faults' ≡ faults
+    step_taken : (value : T) → moved ≡ record { number = asker.number; told = asker.told; statements = rest; task = task value; refused = asker.refused || refused value } → Turned (Ok value) → faults' ≡ faults
         → Steps tells (Ok tt) old new faults faults' a b asker moved
-    step_taken taken same turned counts = record {
-      refused = taken.refused;
+    step_taken value same turned counts = record {
+      refused = refused value;
       noted = ap (λ (x : Asker). x.refused) same;
       told = kept;
       takes = λ now t told ready going has goes.
-          takes_turn old new a b t now asker moved turn tail rest here has taken (asker.refused || taken.refused) same (turned now t told ready going (has ∙ here) goes);
+          takes_turn refused task old new a b t now asker moved turn tail rest here has value (asker.refused || refused value) same (turned now t told ready going (has ∙ here) goes);
       others = others;
       cause = counts;
       not_refused = tt;
     }
 
-  -- a further turn of what is under way
-  module _ (task : Task) (is : asker.task ≡ Some task) where
-    abbrev Went : Result Taken Fault → Type 0
-    Went result = (now : Now) (t : Trail) (more : List Turn) → IsTrue tells → IsReady old a t now → IsMaking now → slice_index_or now.todo (asker.number - 1) [] ≡ task_first task ∷ (task_rest task ++ more)
-        → TaskGoes asker.number old a t.base.frozen (Some task) → Turns asker.told (λ (x : Taken). x.refused) (λ (x : Taken). x.task) result old new a b t now asker.number (task_first task) (task_rest task) more
+  -- a further turn of what is under way, which is `now_task` then where it goes on
+  module _ (task : Task) (is : asker.task ≡ Some task) (now_task : Option Task) where
+    abbrev Went : Result Left Fault → Type 0
+    Went result = (now : Now) (t : Trail) (more : List Turn) → IsTrue tells → IsReady old a t now → IsMaking now → GoesFurther asker.told asker.task now_task result old new a b t now asker.number more
 
-    came : (result : Result Taken Fault) → Went result → Turned (task_first task) (task_rest task) asker.statements (going_on asker task is) result
-    came result went now t told ready going at goes = went now t (map Begins asker.statements) told ready going at (subst (TaskGoes asker.number old a t.base.frozen) is goes)
+    came : (result : Result Left Fault) → Went result → Turned left_refused (left_task now_task) (task_first task) (task_rest task) asker.statements (going_on asker task is) result
+    came result went now t told ready going at goes =
+        subst (λ (x : Option Task). GoesFurther asker.told x now_task result old new a b t now asker.number (map Begins asker.statements)) is (went now t (map Begins asker.statements) told ready going) at
+        (subst (TaskGoes asker.number old a t.base.frozen) is goes)
 
-    pub went_failed : (fault : Fault) (answer : Result (Unit {0}) Fault) → IsErr answer × IsErrAnd answer (λ e. e ≡ fault) → Went (Err fault) → CountsDevice {T = Taken} (Err fault) faults faults' → IsNoRefusal fault
+    pub went_failed : (fault : Fault) (answer : Result (Unit {0}) Fault) → IsErr answer × IsErrAnd answer (λ e. e ≡ fault) → Went (Err fault) → CountsDevice {T = Left} (Err fault) faults faults' → IsNoRefusal fault
         → Steps tells answer old new faults faults' a b asker moved
     went_failed fault answer handed went counts none =
-        step_failed (task_first task) (task_rest task) asker.statements (going_on asker task is) fault answer handed (came (Err fault) went) counts none
+        step_failed left_refused (left_task now_task) (task_first task) (task_rest task) asker.statements (going_on asker task is) fault answer handed (came (Err fault) went) counts none
 
-    pub went_taken : (taken : Taken) → moved ≡ record { number = asker.number; told = asker.told; statements = asker.statements; task = taken.task; refused = asker.refused || taken.refused } → Went (Ok taken) → faults' ≡ faults
+    went_taken : (left : Left) → moved ≡ record { number = asker.number; told = asker.told; statements = asker.statements; task = left_task now_task left; refused = asker.refused || left_refused left } → Went (Ok left) → faults' ≡ faults
         → Steps tells (Ok tt) old new faults faults' a b asker moved
-    went_taken taken same went counts = step_taken (task_first task) (task_rest task) asker.statements (going_on asker task is) taken same (came (Ok taken) went) counts
+    went_taken left same went counts = step_taken left_refused (left_task now_task) (task_first task) (task_rest task) asker.statements (going_on asker task is) left same (came (Ok left) went) counts
+
+    -- the same is under way: nothing more is noted
+    pub went_same : (left : Left) → left ≡ Same → moved ≡ record { number = asker.number; told = asker.told; statements = asker.statements; task = now_task; refused = asker.refused } → Went (Ok left) → faults' ≡ faults
+        → Steps tells (Ok tt) old new faults faults' a b asker moved
+    went_same left is same went counts =
+        went_taken left (same ∙ ap {A = Bool} {B = Asker} (λ noted. record { number = asker.number; told = asker.told; statements = asker.statements; task = now_task; refused = noted }) (or_false asker.refused) ∙ of_left (sym is)) went counts
+      where
+        or_false : (b : Bool) → b ≡ (b || false)
+        or_false true = refl
+        or_false false = refl
+
+        of_left : {x y : Left} → x ≡ y → ◌≡◌ {A = Asker} (record { number = asker.number; told = asker.told; statements = asker.statements; task = left_task now_task x; refused = asker.refused || left_refused x })
+            (record { number = asker.number; told = asker.told; statements = asker.statements; task = left_task now_task y; refused = asker.refused || left_refused y })
+        of_left e = ap {A = Left} {B = Asker} (λ l. record { number = asker.number; told = asker.told; statements = asker.statements; task = left_task now_task l; refused = asker.refused || left_refused l }) e
+
+    -- or something else is
+    pub went_other : (left : Left) (taken : Taken) → left ≡ Other taken → moved ≡ record { number = asker.number; told = asker.told; statements = asker.statements; task = taken.task; refused = asker.refused || taken.refused } → Went (Ok left)
+        → faults' ≡ faults → Steps tells (Ok tt) old new faults faults' a b asker moved
+    went_other left taken is same went counts =
+        went_taken left
+        (same ∙ ap {A = Left} {B = Asker} (λ l. record { number = asker.number; told = asker.told; statements = asker.statements; task = left_task now_task l; refused = asker.refused || left_refused l }) (sym is))
+        went counts
 
   -- the first turn of a statement
   module _ (statement : Statement) (rest : List Statement) (is : asker.task ≡ None) (first : asker.statements ≡ statement ∷ rest) where
@@ -216,12 +224,12 @@ module _ (tells : Bool) (old new : World) (faults faults' : ℕ) (a b : Held) (a
     pub began_failed : (fault : Fault) (answer : Result (Unit {0}) Fault) → IsErr answer × IsErrAnd answer (λ e. e ≡ fault) → Began (Err fault) → CountsDevice {T = Taken} (Err fault) faults faults' → IsNoRefusal fault
         → Steps tells answer old new faults faults' a b asker moved
     began_failed fault answer handed began counts none =
-        step_failed (Begins statement) [] rest (beginning asker statement rest is first) fault answer handed (λ now t told ready going at goes. began now t (map Begins rest) told ready going at) counts none
+        step_failed (λ (x : Taken). x.refused) (λ (x : Taken). x.task) (Begins statement) [] rest (beginning asker statement rest is first) fault answer handed (λ now t told ready going at goes. began now t (map Begins rest) told ready going at) counts none
 
     pub began_taken : (taken : Taken) → moved ≡ record { number = asker.number; told = asker.told; statements = rest; task = taken.task; refused = asker.refused || taken.refused } → Began (Ok taken) → faults' ≡ faults
         → Steps tells (Ok tt) old new faults faults' a b asker moved
     began_taken taken same began counts =
-        step_taken (Begins statement) [] rest (beginning asker statement rest is first) taken same (λ now t told ready going at goes. began now t (map Begins rest) told ready going at) counts
+        step_taken (λ (x : Taken). x.refused) (λ (x : Taken). x.task) (Begins statement) [] rest (beginning asker statement rest is first) taken same (λ now t told ready going at goes. began now t (map Begins rest) told ready going at) counts
 
 -- a session that has not finished, with nothing under way, has a statement left
 pub begun_within : (asker : Asker) (all : List Statement) (next : ℕ) → (IsDone (left_of asker) → ⊥) → asker.statements ≡ drop next all → asker.task ≡ None → next < length all

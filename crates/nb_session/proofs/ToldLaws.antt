@@ -9,14 +9,14 @@ use Rattle.nb_model.specs.Jobs.{sized, all_sized}
 use Rattle.nb_model.specs.Lines.{line_text}
 use Rattle.nb_model.specs.Making.{MadeFile, AreAmong, IsNoneOf}
 use Rattle.nb_model.specs.Output.{output, status_of, status_after}
-use Rattle.nb_model.specs.Run.{Event, Played, files_made, replies_of}
+use Rattle.nb_model.specs.Run.{Event, files_made, replies_of}
 use Rattle.nb_model.specs.Steps.{Step, steps_in, steps_of}
 use Rattle.nb_model.specs.Strokes.{Stroke}
 use Rattle.nb_model.proofs.OutputLaws.{output_one, status_one, output-quiet, output_no_event, status_no_event}
 use Rattle.nb_session.specs.declared.told.Told.{Told}
 use Rattle.nb_session.specs.declared.told.Told.TheVariants.{Whole, WithPages, Sparingly}
 use Rattle.nb_session.specs.Replies.{has_only_told, only_told}
-use Rattle.nb_session.specs.Told.{told_reply, told_events, told_turns, told_line, told_status}
+use Rattle.nb_session.specs.Told.{told_reply, told_events, told_line, told_status}
 
 pub told_nothing : (how : Told) → told_events how [] ≡ []
 unfolding all_sized said_by_generated

@@ -27,6 +27,7 @@ use Rattle.nb_state.specs.Open.{Held}
 use Rattle.nb_state.proofs.MakesLaws.{passed_on}
 use Rattle.nb_session.specs.declared.stop.Stop.{Stop}
 use Rattle.nb_session.specs.declared.stop.Stop.TheVariants.{Device as DeviceStop, Memory as MemoryStop}
+use Rattle.nb_session.specs.declared.task.Left.{Left}
 use Rattle.nb_session.specs.declared.task.Task.{Task}
 use Rattle.nb_session.specs.declared.task.Taken.{Taken}
 use Rattle.nb_session.specs.declared.told.Told.{Told}
@@ -34,7 +35,7 @@ use Rattle.nb_session.specs.Acts.{Says, Grows, Acts, MayAct}
 use Rattle.nb_session.specs.Ready.{IsReady}
 use Rattle.nb_session.specs.Replies.{HasEnded, is_refusal}
 use Rattle.nb_session.specs.Says.{SaysLine}
-use Rattle.nb_session.specs.Steps.{as_played, IsBehind, Turns}
+use Rattle.nb_session.specs.Steps.{as_played, GoesFurther, IsBehind, Turns}
 use Rattle.nb_session.specs.Stops.{Plays}
 use Rattle.nb_session.specs.Told.{told_line, told_reply, told_turns}
 use Rattle.nb_session.proofs.EventLaws.{Marks, event_failed, event_quiet, event_unsaid, event_said}
@@ -121,6 +122,14 @@ module _ {T S : Type 0} (how : Told) (reply : T → Option Reply) (result : Resu
 pub turns_never : {S : Type 0} (how : Told) (refused : S → Bool) (task : S → Option Task) (answer : Result S Fault) (old new : World) (a b : Held) (t : Trail) (now : Now) (session : ℕ) (u : Turn) (tail more : List Turn) → ⊥
     → Turns how refused task answer old new a b t now session u tail more
 turns_never how refused task answer old new a b t now session u tail more never = absurd never
+
+-- what is said of the task that is under way
+pub under_is : {under : Option Task} {field task : Task} → under ≡ Some field → field ≡ task → under ≡ Some task
+under_is is same = is ∙ ap Some same
+
+pub further : {how : Told} {under now_task : Option Task} {task : Task} {result : Result Left Fault} {old new : World} {a b : Held} {t : Trail} {now : Now} {session : ℕ} {more : List Turn} → under ≡ Some task
+    → GoesFurther how (Some task) now_task result old new a b t now session more → GoesFurther how under now_task result old new a b t now session more
+further {how} {under} {now_task} {task} {result} {old} {new} {a} {b} {t} {now} {session} {more} is goes = subst (λ (x : Option Task). GoesFurther how x now_task result old new a b t now session more) (sym is) goes
 
 -- what a turn sees
 abbrev pub seen_now : Now → Seen

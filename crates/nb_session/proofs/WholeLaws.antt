@@ -231,7 +231,7 @@ first_ready tells world faults how plan askable agents host held first = record 
   placed = λ session asker there. first_number how plan session asker (subst (λ (list : List Asker). agent_of list session ≡ Some asker) first there);
   fit = λ session asker there.
       subst (λ (a : Asker). IsFit a held) (sym (first_agent how plan session asker (subst (λ (list : List Asker). agent_of list session ≡ Some asker) first there)))
-      (record { asks = askable.further session; task = tt });
+      (record { asks = askable.further session; task = tt; in_range = omega arith });
 }
 
 -- The count of faults, and refusals.

@@ -1,6 +1,6 @@
 -- A session of a script between two of its turns.
 use Rattle.std.proofs.Common.{sym, ◌∙◌}
-use Rattle.std.specs.Prelude.{◌≡◌, ◌≢◌, ℕ, zero, suc, ◌+◌, ◌-◌, Bool, false, List, [], ◌∷◌, ◌++◌, length, map, replicate, Option, Some, None}
+use Rattle.std.specs.Prelude.{◌≡◌, ◌≢◌, ◌<◌, ◌^◌, ℕ, zero, suc, ◌+◌, ◌-◌, Bool, false, List, [], ◌∷◌, ◌++◌, length, map, replicate, Option, Some, None}
 use Rattle.std.specs.List.{AllByRecursion, list_any, slice_index_or}
 use Rattle.nb_model.specs.declared.statement.Statement.{Statement}
 use Rattle.nb_model.specs.declared.statement.Statement.TheVariants.{EndBackup, Backup as BackupTo, BackupSince, CopyTo, CreateTable, DropTable, Insert, Update, Delete, Get, Scan}
@@ -11,6 +11,8 @@ use Rattle.nb_script.specs.Asked.{IsFurther}
 use Rattle.nb_script.specs.Scripts.{Plan, statements_of}
 use Rattle.nb_state.specs.Open.{Held}
 use Rattle.nb_session.specs.Replies.{is_refusal}
+use Rattle.nb_session.specs.declared.task.Left.{Left}
+use Rattle.nb_session.specs.declared.task.Left.TheVariants.{Same, Other}
 use Rattle.nb_session.specs.declared.task.Task.{Task}
 use Rattle.nb_session.specs.declared.told.Told.{Told}
 use Rattle.nb_session.specs.declared.task.Task.TheVariants.{Backup, Copy, End, Merge}
@@ -109,6 +111,16 @@ task_left (Some (Copy c)) = 17179869184 + (c.count - c.next)
 task_left (Some (End reply)) = 8589934592
 task_left (Some (Merge m)) = m.left + 1
 
+-- what a turn left of what was under way and is `task` now
+abbrev pub left_task : (task : Option Task) → Left → Option Task
+left_task task Same = task
+left_task task (Other taken) = taken.task
+
+-- and whether its statement was refused
+abbrev pub left_refused : Left → Bool
+left_refused Same = false
+left_refused (Other taken) = taken.refused
+
 -- its statements that are left, and then that
 abbrev pub left_of : Asker → ℕ × ℕ
 left_of asker = (length asker.statements, task_left asker.task)
@@ -128,10 +140,11 @@ TaskFits session (Some (Copy c)) held = c.size ≡ held.files.page_size
 TaskFits session (Some (End reply)) held = is_refusal reply ≡ false
 TaskFits session (Some (Merge m)) held = IsMerging session m.left held × (is_refusal m.reply ≡ false)
 
--- What a session needs: its statements can be asked, and what is under way of it fits.
+-- What a session needs: its statements can be asked, and what is under way of it fits. How much is left of it is a number of 64 bits.
 pub record IsFit (asker : Asker) (held : Held) : Type 0 where
   pub asks : AllByRecursion IsFurther asker.statements
   pub task : TaskFits asker.number asker.task held
+  pub in_range : task_left asker.task < 2 ^ 64
 
 -- The page size stays, and a merge of another session that is under way stays as it is.
 pub record KeepsOthers (session : ℕ) (before after : Held) : Type 0 where
@@ -140,7 +153,7 @@ pub record KeepsOthers (session : ℕ) (before after : Held) : Type 0 where
 
 -- so each other session has what it needs
 pub keeps_fit : (session : ℕ) (other : Asker) (before after : Held) → other.number ≢ session → KeepsOthers session before after → IsFit other before → IsFit other after
-keeps_fit session other before after apart keeps fit = record { asks = fit.asks; task = by other.task fit.task }
+keeps_fit session other before after apart keeps fit = record { asks = fit.asks; task = by other.task fit.task; in_range = fit.in_range }
   where
     by : (task : Option Task) → TaskFits other.number task before → TaskFits other.number task after
     by None is = tt

@@ -1,5 +1,6 @@
 -- What one turn of a session does.
-use Rattle.std.specs.Prelude.{◌≡◌, ℕ, List, ◌∷◌, ◌++◌, ◌||◌, Bool, IsTrue, Option, Result, Ok, Err, OnOk, IfOk, IfErr}
+use Rattle.std.specs.Prelude.{◌≡◌, ℕ, ◌-◌, List, [], ◌∷◌, ◌++◌, ◌||◌, Bool, IsTrue, Option, Some, None, Result, Ok, Err, OnOk, IfOk, IfErr}
+use Rattle.std.specs.List.{slice_index_or}
 use Rattle.nb_host.specs.World.{World}
 use Rattle.nb_host.specs.declared.faults.Fault.{Fault}
 use Rattle.nb_host.specs.declared.faults.Fault.TheVariants.{Refused, Device, Memory}
@@ -16,9 +17,10 @@ use Rattle.nb_state.specs.Open.{Held}
 use Rattle.nb_session.specs.declared.stop.Stop.{Stop}
 use Rattle.nb_session.specs.declared.stop.Stop.TheVariants.{Device as DeviceStop, Memory as MemoryStop}
 use Rattle.nb_session.specs.Acts.{Grows}
+use Rattle.nb_session.specs.declared.task.Left.{Left}
 use Rattle.nb_session.specs.declared.task.Task.{Task}
 use Rattle.nb_session.specs.declared.told.Told.{Told}
-use Rattle.nb_session.specs.Askers.{Asker, HasTodo, KeepsOthers, task_todo}
+use Rattle.nb_session.specs.Askers.{Asker, HasTodo, KeepsOthers, left_refused, left_task, task_first, task_rest, task_todo}
 use Rattle.nb_session.specs.Ready.{IsReady, TaskGoes}
 use Rattle.nb_session.specs.Stops.{Plays}
 use Rattle.nb_session.specs.Told.{told_turns}
@@ -42,6 +44,13 @@ pub record Turns {T : Type 0} (told : Told) (refused : T → Bool) (task : T →
   pub plays : Foretells now.given old new
       → Plays (as_played refused result) old new before after t now (told_turns told (take_turn session (turn ∷ (tail ++ more)) now)) (making (base_now now).frozen (turn ∷ tail))
   pub behind : Foretells now.given old new → IfOk result (λ value. IsBehind new after session turn tail now (task value))
+
+-- What is under way took its next turn, where the session has that to do and it goes on from where it is. It is `now_task` then, where it goes on.
+abbrev pub GoesFurther : (told : Told) (task now_task : Option Task) (result : Result Left Fault) (old new : World) (before after : Held) (t : Trail) (now : Now) (session : ℕ) (more : List Turn) → Type 0
+GoesFurther told None now_task result old new before after t now session more = Unit {0}
+GoesFurther told (Some task) now_task result old new before after t now session more =
+    slice_index_or now.todo (session - 1) [] ≡ task_first task ∷ (task_rest task ++ more) → TaskGoes session old before t.base.frozen (Some task)
+    → Turns told left_refused (left_task now_task) result old new before after t now session (task_first task) (task_rest task) more
 
 -- The next turn of a session was taken, what it has to do then is left, and what is under way of it goes on.
 pub record TakesNext (refused : Bool) (result : Result (Unit {0}) Fault) (old new : World) (before after : Held) (t : Trail) (now : Now) (asker moved : Asker) : Type 0 where

@@ -15,7 +15,7 @@ ghost use Rattle.nb_script.specs.Asked.{IsFurther};
 ghost use Rattle.nb_state.specs.Open.{IsOpen};
 ghost use Rattle.nb_state.specs.Turns.{GaveAtMost};
 ghost use Rattle.nb_copy.specs.Starting.{KnowsFree, StartsBackup};
-ghost use Rattle.nb_session.specs.Askers.{IsBackup, file_asked, KeepsOthers, TaskFits, task_first, task_rest, task_left};
+ghost use Rattle.nb_session.specs.Askers.{IsBackup, file_asked, KeepsOthers, TaskFits, left_refused, left_task, task_first, task_rest, task_left};
 ghost use Rattle.nb_session.specs.declared.task.Task.TheVariants.{Backup, Copy};
 ghost use Rattle.nb_session.specs.declared.told.Told.{Told};
 ghost use Rattle.nb_session.specs.Ready.{IsReady, TaskGoes};
@@ -23,7 +23,7 @@ ghost use Rattle.nb_session.specs.Steps.{Turns};
 
 use crate::answer::tell;
 use crate::merges::say_refused;
-use crate::task::{Taken, Task};
+use crate::task::{Left, Taken, Task};
 use crate::told::Told;
 use nb_copy::{Copier, FileCopier};
 use nb_engine::Engine;
@@ -134,64 +134,62 @@ pub fn begin_copy<H: Host>(
     }
 }
 
-/// A further turn of a backup. Once its row is written the stalled state is to end.
+/// A further turn of a backup, which is changed in its place. Once its row is written the stalled state is to end.
 pub fn back_up_on<H: Host>(
     alloc: Global,
     host: &mut H,
     engine: &mut Engine,
     session: u32,
-    copier: Copier,
-) -> Result<Taken, Fault>
-    requires fits { TaskFits session (Some (Backup copier)) engine.old }
+    copier: &mut Copier,
+) -> Result<Left, Fault>
+    requires fits { TaskFits session (Some (Backup copier.old)) engine.old }
     ensures turn { (told : Told) (now : Now) (t : Trail) (more : List Turn) → IsTrue H.tells → IsReady (H.world host.old) engine.old t now → IsMaking now
-        → slice_index_or now.todo (session - 1) [] ≡ task_first (Backup copier) ∷ (task_rest (Backup copier) ++ more) → TaskGoes session (H.world host.old) engine.old t.base.frozen (Some (Backup copier))
-        → Turns told (λ taken. taken.refused) (λ taken. taken.task) result (H.world host.old) (H.world host.new) engine.old engine.new t now session (task_first (Backup copier)) (task_rest (Backup copier)) more }
-    ensures falls { IfOk result (λ taken. task_left taken.task < task_left (Some (Backup copier))) }
-    ensures fits { IfOk result (λ taken. TaskFits session taken.task engine.new) }
+        → slice_index_or now.todo (session - 1) [] ≡ task_first (Backup copier.old) ∷ (task_rest (Backup copier.old) ++ more) → TaskGoes session (H.world host.old) engine.old t.base.frozen (Some (Backup copier.old))
+        → Turns told left_refused (left_task (Some (Backup copier.new))) result (H.world host.old) (H.world host.new) engine.old engine.new t now session (task_first (Backup copier.old)) (task_rest (Backup copier.old)) more }
+    ensures falls { IfOk result (λ left. task_left (left_task (Some (Backup copier.new)) left) < task_left (Some (Backup copier.old))) }
+    ensures fits { IfOk result (λ left. TaskFits session (left_task (Some (Backup copier.new)) left) engine.new) }
     ensures others { KeepsOthers session engine.old engine.new }
     ensures cause { CountsDevice result (H.faults host.old) (H.faults host.new) }
     ensures not_refused { IfErr result IsNoRefusal }
 {
-    let mut copier = copier;
     match copier.turn(host, engine) {
-        Ok(Progress::More) => Ok(under_way(Task::Backup(copier))),
-        Ok(Progress::Finished) => Ok(under_way(Task::End(Reply::Level {
+        Ok(Progress::More) => Ok(Left::Same),
+        Ok(Progress::Finished) => Ok(Left::Other(under_way(Task::End(Reply::Level {
             level: copier.level(),
             scn: copier.scn(),
             pages: copier.written(),
             guid: copier.guid(),
-        }))),
+        })))),
         Err(Fault::Refused(refusal)) => {
             stop_running(engine, session);
-            say_refused(alloc, host, session, refusal)
+            Ok(Left::Other(say_refused(alloc, host, session, refusal)?))
         }
         Err(Fault::Device) => Err(Fault::Device),
         Err(Fault::Memory) => Err(Fault::Memory),
     }
 }
 
-/// A further turn of a copy of the frozen file. In the last one it is told how many pages it has.
+/// A further turn of a copy of the frozen file, which is changed in its place. In the last one it is told how many pages it has.
 pub fn copy_on<H: Host>(
     alloc: Global,
     host: &mut H,
     engine: &mut Engine,
     session: u32,
     told: Told,
-    copier: FileCopier,
-) -> Result<Taken, Fault>
-    requires fits { TaskFits session (Some (Copy copier)) engine.old }
+    copier: &mut FileCopier,
+) -> Result<Left, Fault>
+    requires fits { TaskFits session (Some (Copy copier.old)) engine.old }
     ensures turn { (now : Now) (t : Trail) (more : List Turn) → IsTrue H.tells → IsReady (H.world host.old) engine.old t now → IsMaking now
-        → slice_index_or now.todo (session - 1) [] ≡ task_first (Copy copier) ∷ (task_rest (Copy copier) ++ more) → TaskGoes session (H.world host.old) engine.old t.base.frozen (Some (Copy copier))
-        → Turns told (λ taken. taken.refused) (λ taken. taken.task) result (H.world host.old) (H.world host.new) engine.old engine.new t now session (task_first (Copy copier)) (task_rest (Copy copier)) more }
-    ensures falls { IfOk result (λ taken. task_left taken.task < task_left (Some (Copy copier))) }
-    ensures fits { IfOk result (λ taken. TaskFits session taken.task engine.new) }
+        → slice_index_or now.todo (session - 1) [] ≡ task_first (Copy copier.old) ∷ (task_rest (Copy copier.old) ++ more) → TaskGoes session (H.world host.old) engine.old t.base.frozen (Some (Copy copier.old))
+        → Turns told left_refused (left_task (Some (Copy copier.new))) result (H.world host.old) (H.world host.new) engine.old engine.new t now session (task_first (Copy copier.old)) (task_rest (Copy copier.old)) more }
+    ensures falls { IfOk result (λ left. task_left (left_task (Some (Copy copier.new)) left) < task_left (Some (Copy copier.old))) }
+    ensures fits { IfOk result (λ left. TaskFits session (left_task (Some (Copy copier.new)) left) engine.new) }
     ensures others { KeepsOthers session engine.old engine.new }
     ensures cause { CountsDevice result (H.faults host.old) (H.faults host.new) }
     ensures not_refused { IfErr result IsNoRefusal }
 {
-    let mut copier = copier;
     match copier.turn(host, engine)? {
-        Progress::More => Ok(under_way(Task::Copy(copier))),
+        Progress::More => Ok(Left::Same),
         Progress::Finished => {
             stop_running(engine, session);
             tell(
@@ -203,10 +201,10 @@ pub fn copy_on<H: Host>(
                     pages: copier.written(),
                 },
             )?;
-            Ok(Taken {
+            Ok(Left::Other(Taken {
                 task: None,
                 refused: false,
-            })
+            }))
         }
     }
 }

@@ -21,6 +21,3 @@ pub use answer::say;
 pub use sessions::take_turns;
 pub use stop::Stop;
 pub use told::Told;
-
-#[cfg(test)]
-mod tests;

@@ -11,7 +11,7 @@ ghost use Rattle.nb_model.specs.Outcomes.{Begins, Turn};
 ghost use Rattle.nb_model.specs.Run.{Now};
 ghost use Rattle.nb_model.specs.Trail.{Trail};
 ghost use Rattle.nb_base.specs.Takes.{IsNoRefusal};
-ghost use Rattle.nb_session.specs.Askers.{KeepsOthers, TaskFits, task_first, task_rest, task_left};
+ghost use Rattle.nb_session.specs.Askers.{KeepsOthers, TaskFits, left_refused, left_task, task_first, task_rest, task_left};
 ghost use Rattle.nb_session.specs.declared.task.Task.TheVariants.{End, Merge};
 ghost use Rattle.nb_session.specs.declared.told.Told.{Told};
 ghost use Rattle.nb_session.specs.Ready.{IsReady, TaskGoes};
@@ -19,13 +19,14 @@ ghost use Rattle.nb_session.specs.Says.{SaysLine};
 ghost use Rattle.nb_session.specs.Steps.{Turns};
 
 use crate::answer::{say, tell};
-use crate::task::{Merging, Taken, Task};
+use crate::task::{Left, Merging, Taken, Task};
 use crate::told::Told;
 use nb_engine::Engine;
 use nb_host::{Fault, Host, Refusal};
 use nb_model::Reply;
 use nb_state::Progress;
 use std::alloc::Global;
+use std::mem;
 
 /// A merge of all that the difference file holds. This is said once all is merged.
 fn merge_of(engine: &Engine, reply: Reply) -> Taken
@@ -89,59 +90,62 @@ pub fn end_backup<H: Host>(
     host: &mut H,
     engine: &mut Engine,
     session: u32,
-    reply: Reply,
-) -> Result<Taken, Fault>
-    requires fits { TaskFits session (Some (End reply)) engine.old }
+    reply: &mut Reply,
+) -> Result<Left, Fault>
+    requires fits { TaskFits session (Some (End reply.old)) engine.old }
     ensures turn { (told : Told) (now : Now) (t : Trail) (more : List Turn) → IsTrue H.tells → IsReady (H.world host.old) engine.old t now → IsMaking now
-        → slice_index_or now.todo (session - 1) [] ≡ task_first (End reply) ∷ (task_rest (End reply) ++ more) → TaskGoes session (H.world host.old) engine.old t.base.frozen (Some (End reply))
-        → Turns told (λ taken. taken.refused) (λ taken. taken.task) result (H.world host.old) (H.world host.new) engine.old engine.new t now session (task_first (End reply)) (task_rest (End reply)) more }
-    ensures falls { IfOk result (λ taken. task_left taken.task < task_left (Some (End reply))) }
-    ensures fits { IfOk result (λ taken. TaskFits session taken.task engine.new) }
+        → slice_index_or now.todo (session - 1) [] ≡ task_first (End reply.old) ∷ (task_rest (End reply.old) ++ more) → TaskGoes session (H.world host.old) engine.old t.base.frozen (Some (End reply.old))
+        → Turns told left_refused (left_task (Some (End reply.new))) result (H.world host.old) (H.world host.new) engine.old engine.new t now session (task_first (End reply.old)) (task_rest (End reply.old)) more }
+    ensures falls { IfOk result (λ left. task_left (left_task (Some (End reply.new)) left) < task_left (Some (End reply.old))) }
+    ensures fits { IfOk result (λ left. TaskFits session (left_task (Some (End reply.new)) left) engine.new) }
     ensures others { KeepsOthers session engine.old engine.new }
     ensures cause { CountsDevice result (H.faults host.old) (H.faults host.new) }
     ensures not_refused { IfErr result IsNoRefusal }
 {
     match engine.end(host, session) {
-        Ok(_) => Ok(merge_of(engine, reply)),
-        Err(Fault::Refused(refusal)) => say_refused(alloc, host, session, refusal),
+        Ok(_) => {
+            let reply = mem::replace(reply, Reply::Done);
+            Ok(Left::Other(merge_of(engine, reply)))
+        }
+        Err(Fault::Refused(refusal)) => {
+            Ok(Left::Other(say_refused(alloc, host, session, refusal)?))
+        }
         Err(Fault::Device) => Err(Fault::Device),
         Err(Fault::Memory) => Err(Fault::Memory),
     }
 }
 
-/// A further turn of a merge. In the last one its reply is told.
+/// A further turn of a merge, which is changed in its place. In the last one its reply is told.
 pub fn merge_on<H: Host>(
     alloc: Global,
     host: &mut H,
     engine: &mut Engine,
     session: u32,
     told: Told,
-    merging: Merging,
-) -> Result<Taken, Fault>
-    requires fits { TaskFits session (Some (Merge merging)) engine.old }
+    merging: &mut Merging,
+) -> Result<Left, Fault>
+    requires fits { TaskFits session (Some (Merge merging.old)) engine.old }
     ensures turn { (now : Now) (t : Trail) (more : List Turn) → IsTrue H.tells → IsReady (H.world host.old) engine.old t now → IsMaking now
-        → slice_index_or now.todo (session - 1) [] ≡ task_first (Merge merging) ∷ (task_rest (Merge merging) ++ more)
-        → Turns told (λ taken. taken.refused) (λ taken. taken.task) result (H.world host.old) (H.world host.new) engine.old engine.new t now session (task_first (Merge merging)) (task_rest (Merge merging)) more }
-    ensures falls { IfOk result (λ taken. task_left taken.task < task_left (Some (Merge merging))) }
-    ensures fits { IfOk result (λ taken. TaskFits session taken.task engine.new) }
+        → slice_index_or now.todo (session - 1) [] ≡ task_first (Merge merging.old) ∷ (task_rest (Merge merging.old) ++ more)
+        → Turns told left_refused (left_task (Some (Merge merging.new))) result (H.world host.old) (H.world host.new) engine.old engine.new t now session (task_first (Merge merging.old)) (task_rest (Merge merging.old)) more }
+    ensures falls { IfOk result (λ left. task_left (left_task (Some (Merge merging.new)) left) < task_left (Some (Merge merging.old))) }
+    ensures fits { IfOk result (λ left. TaskFits session (left_task (Some (Merge merging.new)) left) engine.new) }
     ensures others { KeepsOthers session engine.old engine.new }
     ensures cause { CountsDevice result (H.faults host.old) (H.faults host.new) }
     ensures not_refused { IfErr result IsNoRefusal }
 {
     match engine.merge_turn(host)? {
-        Progress::More => Ok(Taken {
-            task: Some(Task::Merge(Merging {
-                left: merging.left - 1,
-                reply: merging.reply,
-            })),
-            refused: false,
-        }),
+        Progress::More => {
+            merging.left -= 1;
+            Ok(Left::Same)
+        }
         Progress::Finished => {
-            tell(alloc, host, session, told, merging.reply)?;
-            Ok(Taken {
+            let reply = mem::replace(&mut merging.reply, Reply::Done);
+            tell(alloc, host, session, told, reply)?;
+            Ok(Left::Other(Taken {
                 task: None,
                 refused: false,
-            })
+            }))
         }
     }
 }

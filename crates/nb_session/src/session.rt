@@ -1,5 +1,5 @@
 // One session of a script.
-ghost use Rattle.std.specs.Prelude.{◌≡◌, ◌<◌, ℕ, ◌-◌, List, [], ◌∷◌, ◌++◌, IsTrue, IfOk, IfErr, None, Some, false};
+ghost use Rattle.std.specs.Prelude.{◌≡◌, ◌≢◌, ◌<◌, ℕ, ◌-◌, List, [], ◌∷◌, IsTrue, IfOk, IfErr, None, false};
 ghost use Rattle.std.specs.List.{slice_index_or};
 ghost use Rattle.nb_change.specs.Counts.{CountsDevice};
 ghost use Rattle.nb_model.specs.Going.{IsMaking};
@@ -8,14 +8,14 @@ ghost use Rattle.nb_model.specs.Run.{Now};
 ghost use Rattle.nb_model.specs.Trail.{Trail};
 ghost use Rattle.nb_base.specs.Takes.{IsNoRefusal};
 ghost use Rattle.nb_script.specs.Asked.{IsFurther};
-ghost use Rattle.nb_session.specs.Askers.{TaskFits, KeepsOthers, task_first, task_rest, task_left};
-ghost use Rattle.nb_session.specs.Ready.{IsReady, TaskGoes};
-ghost use Rattle.nb_session.specs.Steps.{Turns};
+ghost use Rattle.nb_session.specs.Askers.{TaskFits, KeepsOthers, left_task, task_left};
+ghost use Rattle.nb_session.specs.Ready.{IsReady};
+ghost use Rattle.nb_session.specs.Steps.{GoesFurther, Turns};
 
 use crate::answer::answer;
 use crate::copies::{back_up_on, begin_backup, begin_copy, copy_on};
 use crate::merges::{begin_merge, end_backup, merge_on};
-use crate::task::{Taken, Task};
+use crate::task::{Left, Taken, Task};
 use crate::told::Told;
 use nb_engine::Engine;
 use nb_host::{Fault, Host};
@@ -82,30 +82,31 @@ fn begin_statement<H: Host>(
     }
 }
 
-/// A further turn of a statement of many turns.
+/// A further turn of a statement of many turns. What is under way of it is changed in its place, where it goes on.
 fn go_on<H: Host>(
     alloc: Global,
     host: &mut H,
     engine: &mut Engine,
     session: u32,
     told: Told,
-    task: Task,
-) -> Result<Taken, Fault>
-    requires fits { TaskFits session (Some task) engine.old }
+    task: &mut Option<Task>,
+) -> Result<Left, Fault>
+    requires under_way { task.old ≢ None }
+    requires fits { TaskFits session task.old engine.old }
     ensures turn { (now : Now) (t : Trail) (more : List Turn) → IsTrue H.tells → IsReady (H.world host.old) engine.old t now → IsMaking now
-        → slice_index_or now.todo (session - 1) [] ≡ task_first task ∷ (task_rest task ++ more) → TaskGoes session (H.world host.old) engine.old t.base.frozen (Some task)
-        → Turns told (λ taken. taken.refused) (λ taken. taken.task) result (H.world host.old) (H.world host.new) engine.old engine.new t now session (task_first task) (task_rest task) more }
-    ensures falls { IfOk result (λ taken. task_left taken.task < task_left (Some task)) }
-    ensures fits { IfOk result (λ taken. TaskFits session taken.task engine.new) }
+        → GoesFurther told task.old task.new result (H.world host.old) (H.world host.new) engine.old engine.new t now session more }
+    ensures falls { IfOk result (λ left. task_left (left_task task.new left) < task_left task.old) }
+    ensures fits { IfOk result (λ left. TaskFits session (left_task task.new left) engine.new) }
     ensures others { KeepsOthers session engine.old engine.new }
     ensures cause { CountsDevice result (H.faults host.old) (H.faults host.new) }
     ensures not_refused { IfErr result IsNoRefusal }
 {
     match task {
-        Task::Backup(copier) => back_up_on(alloc, host, engine, session, copier),
-        Task::Copy(copier) => copy_on(alloc, host, engine, session, told, copier),
-        Task::End(reply) => end_backup(alloc, host, engine, session, reply),
-        Task::Merge(merging) => merge_on(alloc, host, engine, session, told, merging),
+        Some(Task::Backup(copier)) => back_up_on(alloc, host, engine, session, copier),
+        Some(Task::Copy(copier)) => copy_on(alloc, host, engine, session, told, copier),
+        Some(Task::End(reply)) => end_backup(alloc, host, engine, session, reply),
+        Some(Task::Merge(merging)) => merge_on(alloc, host, engine, session, told, merging),
+        None => unreachable!(),
     }
 }
 
@@ -148,23 +149,19 @@ impl<'a, H: Host> Agent<H, Engine> for Session<'a> {
     ghost keeps_others = { λ mover other host engine moved host' engine' apart fits also made. keeps_fit mover.number other engine engine' apart made.others also };
 
     fn turn(&mut self, host: &mut H, engine: &mut Engine) -> Result<(), Fault> {
-        match self.task.take() {
-            Some(task) => {
-                let taken = go_on(self.alloc, host, engine, self.number, self.told, task)?;
-                self.task = taken.task;
-                self.refused |= taken.refused;
-                Ok(())
-            }
+        let (alloc, session, told) = (self.alloc, self.number, self.told);
+        match self.task {
+            Some(_) => match go_on(alloc, host, engine, session, told, &mut self.task)? {
+                Left::Same => Ok(()),
+                Left::Other(taken) => {
+                    self.task = taken.task;
+                    self.refused |= taken.refused;
+                    Ok(())
+                }
+            },
             None => {
                 let statement = &self.statements[self.next];
-                let taken = begin_statement(
-                    self.alloc,
-                    host,
-                    engine,
-                    self.number,
-                    self.told,
-                    statement,
-                )?;
+                let taken = begin_statement(alloc, host, engine, session, told, statement)?;
                 self.next += 1;
                 self.task = taken.task;
                 self.refused |= taken.refused;

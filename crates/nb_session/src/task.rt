@@ -45,9 +45,18 @@ impl Task {
     }
 }
 
-/// What a turn left: what is under way of its statement, and whether that was refused.
+/// What is under way of a statement behind a turn, if anything is, and whether it was refused.
 #[derive(Drop)]
 pub struct Taken {
     pub task: Option<Task>,
     pub refused: bool,
+}
+
+/// What a turn left of a statement that was under way.
+#[derive(Drop)]
+pub enum Left {
+    /// The same, changed in its place.
+    Same,
+    /// Something else, or nothing.
+    Other(Taken),
 }

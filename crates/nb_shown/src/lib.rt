@@ -14,8 +14,5 @@ pub use counts::PageCounts;
 pub use digest::image_digest;
 pub use pages::count_pages;
 
-#[cfg(test)]
-mod tests;
-
 /// The most bytes that a page has.
 pub(crate) const LARGEST_PAGE: usize = 32768;

@@ -9,8 +9,6 @@
 mod beginnings;
 mod front;
 mod store;
-#[cfg(test)]
-mod tests;
 mod turns;
 
 pub use store::Store;

@@ -23,8 +23,5 @@ pub use creating::create;
 pub use dropping::drop_table;
 pub use read::{get, scan};
 
-#[cfg(test)]
-mod tests;
-
 /// The most bytes that a page has.
 const LARGEST_PAGE: usize = 32768;

@@ -42,11 +42,16 @@ use Rattle.nb_top.proofs.ToldLaws.{later_files, told_begins, told_cons, told_fir
 
 -- it makes no stroke
 opens_without : (e : Event) → only_opens e ≡ true → e.strokes ≡ []
-opens_without e only = by e.strokes only
+opens_without e only = by_made e.made only
   where
     by : (ss : List Stroke) → elim ss as (λ z. Bool) [ [] ↦ elim e.reply as (λ z. Bool) [ None ↦ true | Some reply ↦ only_tells reply ] | s ∷ rest ↦ false ] ≡ true → ss ≡ []
     by [] is = refl
     by (s ∷ ss) is = absurd (true≢false (sym is))
+
+    by_made : (file : Option MadeFile)
+        → elim file as (λ z. Bool) [ Some f ↦ false | None ↦ elim e.strokes as (λ z. Bool) [ [] ↦ elim e.reply as (λ z. Bool) [ None ↦ true | Some reply ↦ only_tells reply ] | s ∷ rest ↦ false ] ] ≡ true → e.strokes ≡ []
+    by_made None is = by e.strokes is
+    by_made (Some f) is = absurd (true≢false (sym is))
 
 -- what is told of it says nothing of its strokes
 told_strokes : (telling : Telling) (e : Event) → (told_first telling e).strokes ≡ e.strokes

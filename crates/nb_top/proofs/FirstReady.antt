@@ -69,7 +69,7 @@ in_use files name b shows =
     (ap is_free_file main.there ∙ opened_in_use name main.bytes (files (delta_name name)) b (ap (λ (f : File). owner name f (files (delta_name name))) (sym main.there) ∙ shows))
 
 -- whether a name is free, by its two files
-free_same : (one two : Files) (m : List ℕ) → two m ≡ one m → two (delta_name m) ≡ one (delta_name m) → is_free_name two m ≡ is_free_name one m
+pub free_same : (one two : Files) (m : List ℕ) → two m ≡ one m → two (delta_name m) ≡ one (delta_name m) → is_free_name two m ≡ is_free_name one m
 unfolding is_free_name has_delta
 free_same one two m main beside =
     ap (λ (f : File). is_free_file f && not (nat_le (length m) 94 && is_some (two (delta_name m)))) main ∙ ap (λ (f : File). is_free_file (one m) && not (nat_le (length m) 94 && is_some f)) beside

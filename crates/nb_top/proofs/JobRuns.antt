@@ -26,8 +26,10 @@ use Rattle.nb_top.specs.declared.status.Status.{Status}
 use Rattle.nb_top.specs.declared.status.Status.TheVariants.{Refused as RefusedStatus, Usage as UsageStatus, Device, Memory}
 use Rattle.nb_top.specs.Performed.{HasSmallScn, HoldsKept, RunLeft, RunStands, RunsTo, Performs, Finished, IsPerformed, IsSure, IsUndone, Knows, MayBeGiven, RestoresKept, StandsFor, kept_after, target_of, number_of, first_event, refused_job}
 use Rattle.nb_top.specs.declared.telling.Telling.TheVariants.{All}
-use Rattle.nb_top.specs.Requests.{Request, ToRun, ToRestore, ToFix, request_asked, script_in, to_run}
+use Rattle.nb_top.specs.Requests.{Request, ToRun, ToGenerate, ToRestore, ToFix, request_asked, script_in, to_run}
 use Rattle.nb_top.proofs.FixedRuns.{fix_left, fix_end, fixes_kept}
+use Rattle.nb_top.proofs.GeneratedRuns.{generated_unbegun}
+use Rattle.nb_top.proofs.GeneratedSure.{generated_left, generated_end}
 use Rattle.nb_top.proofs.LeftLaws.{left_first, first_count}
 use Rattle.nb_top.proofs.MadeRuns.{none_alone}
 use Rattle.nb_top.proofs.QuietRuns.{left_quietly}
@@ -70,6 +72,7 @@ module _ (old : World) (account : Account) (given : Given) (e : Stop) (quiet : Q
 
   request_unasked : (r : Request) → CanBeAsked r → Knows old.files account (Ok r) → RunsTo (Err e) old old (Ok r) account given
   request_unasked (ToRun plan telling) can knows = script_unbegun old account given plan telling can knows old e quiet
+  request_unasked (ToGenerate number name) can knows = generated_unbegun old number name account given can knows old e quiet
   request_unasked (ToRestore db names) can knows = record {
     events = restore_turn old.files account db names ∷ [];
     last = account_behind db (restore_turn old.files account db names) account;
@@ -122,6 +125,8 @@ module _ (old : World) (account : Account) (given : Given) (sixteen : MayBeGiven
       → (files : Files) (said : List ℕ) (l : RunLeft old account (target_of asked events) events files said) → HoldsKept files (kept_after account (target_of asked events) (take l.count (steps_of events)))
   sure_left (Err refusal) allowed performed sure small files said l = sure.stands.left files (λ m. l.others m tt (none_refused events refusal performed.0 m))
   sure_left (Ok (ToRun plan telling)) allowed performed sure small files said l = script_left old plan telling (allowed (ToRun plan telling) refl) account given before events last left performed sixteen sure small files said l
+  sure_left (Ok (ToGenerate number name)) allowed performed sure small files said l =
+      generated_left old number name account given (allowed (ToGenerate number name) refl) before sixteen events last left performed sure files said l
   sure_left (Ok (ToRestore db names)) allowed performed sure small files said l = restored_left old db names account given (allowed (ToRestore db names) refl) before events last left performed sure files said l
   sure_left (Ok (ToFix db)) allowed performed sure small files said l = fix_left old db account given (allowed (ToFix db) refl) before events last left performed sure files said l
 
@@ -135,6 +140,8 @@ module _ (old : World) (account : Account) (given : Given) (sixteen : MayBeGiven
       (λ files leaves m. (stops.each files new.said (timely.counts_now old.moment files stops.later leaves)).others m tt (none_refused events refusal performed.0 m)))
   sure_end (Ok (ToRun plan telling)) allowed performed sure small new timely reads stops status done =
       script_end old plan telling (allowed (ToRun plan telling) refl) account given before events last left performed sixteen sure small new timely reads stops status done
+  sure_end (Ok (ToGenerate number name)) allowed performed sure small new timely reads stops status done =
+      generated_end old number name account given (allowed (ToGenerate number name) refl) before sixteen events last left performed sure new timely reads stops status done
   sure_end (Ok (ToRestore db names)) allowed performed sure small new timely reads stops status done =
       restored_end old db names account given (allowed (ToRestore db names) refl) before events last left performed sure new timely reads status stops done
   sure_end (Ok (ToFix db)) allowed performed sure small new timely reads stops status done = fix_end old db account given (allowed (ToFix db) refl) before events last left performed sure new timely reads status stops done
@@ -143,6 +150,7 @@ module _ (old : World) (account : Account) (given : Given) (sixteen : MayBeGiven
   sure_kept : (asked : Result Request Refusal) → ((r : Request) → asked ≡ Ok r → CanBeAsked r) → IsSure old account asked events → RestoresKept old.files account.kept asked
   sure_kept (Err refusal) allowed sure = tt
   sure_kept (Ok (ToRun plan telling)) allowed sure = tt
+  sure_kept (Ok (ToGenerate number name)) allowed sure = tt
   sure_kept (Ok (ToRestore db names)) allowed sure = restores_kept old db names account (allowed (ToRestore db names) refl) events sure
   sure_kept (Ok (ToFix db)) allowed sure = fixes_kept old db account (allowed (ToFix db) refl) events sure
 

@@ -10,7 +10,7 @@ use Rattle.nb_host.specs.declared.refusals.Refusal.{Refusal}
 use Rattle.nb_host.specs.declared.refusals.Refusal.TheVariants.{Usage}
 use Rattle.nb_page.specs.Free.{has_delta, is_free_name}
 use Rattle.nb_model.specs.declared.job.Job.{Job}
-use Rattle.nb_model.specs.declared.job.Job.TheVariants.{Run, Stat, Backup, BackupSince, Restore, Lock, LockWithSize, Unlock, Fixup}
+use Rattle.nb_model.specs.declared.job.Job.TheVariants.{Run, Stat, Gen, Backup, BackupSince, Restore, Lock, LockWithSize, Unlock, Fixup}
 use Rattle.nb_model.specs.declared.statement.Statement.{Statement}
 use Rattle.nb_model.specs.declared.statement.Statement.TheVariants.{OpenDb}
 use Rattle.nb_model.specs.Account.{Account}
@@ -74,6 +74,7 @@ module _ (files : Files) (names : HaveNames files) (account : Account) (stands :
   known_job (Lock db) fits = known_first (OpenDb db usual_cache) (begin_askable db fits).first.fits
   known_job (LockWithSize db) fits = known_first (OpenDb db usual_cache) (begin_askable db fits).first.fits
   known_job (Unlock db) fits = known_first (OpenDb db usual_cache) (end_askable db fits).first.fits
+  known_job (Gen number name) fits = known_names
   known_job (Fixup db) fits = stands.same_image db (plain_file db (and_parts (is_file db) (nat_le (length db) 94) fits).0)
   known_job (Restore db names) fits = known_names db (plain_file db (and_parts (is_file db) (nat_le (length db) 94) fits.0).0)
   known_job other fits = tt

@@ -18,6 +18,8 @@ pub mod CopyLaws
 pub mod MemoryLaws
 pub mod AsWas
 pub mod MadeStand
+pub mod MadeWhole
+pub mod MadeEnds
 pub mod SureLaws
 pub mod WellRuns
 pub mod SureFiles
@@ -36,3 +38,6 @@ pub mod SureTargets
 pub mod FixTurns
 pub mod FixingRuns
 pub mod FixedRuns
+pub mod GeneratedRuns
+pub mod GeneratedEvents
+pub mod GeneratedSure

@@ -1,5 +1,5 @@
--- Events that make no file.
-use Rattle.std.proofs.Common.{◌≡◌, ℕ, zero, suc, List, [], ◌∷◌, take, ap, subst, arith}
+-- The files that events make, and events that make none.
+use Rattle.std.proofs.Common.{◌≡◌, ◌⊎◌, inl, inr, ℕ, zero, suc, List, [], ◌∷◌, take, sym, ap, subst, arith}
 use Rattle.std.specs.Prelude.{Contains, Option, Some, None}
 use Rattle.nb_model.specs.Making.{MadeFile, IsNoneOf}
 use Rattle.nb_model.specs.Run.{Event, files_made}
@@ -8,6 +8,11 @@ use Rattle.nb_model.proofs.StepsLaws.{turns_before}
 
 pub no_file : (file : MadeFile) → Contains {X = MadeFile} [] file → ⊥
 no_file file there = omega (arith, there.1)
+
+-- a file is the first one or one of the others
+pub first_or : (file f : MadeFile) (files : List MadeFile) → Contains (file ∷ files) f → (f ≡ file) ⊎ Contains files f
+first_or file f files (zero, low, is) = inl (sym is)
+first_or file f files (suc k, low, is) = inr (k, omega (arith, low), is)
 
 -- before the others it makes no more than they
 pub made_behind : (e : Event) (es : List Event) → e.made ≡ None → files_made (e ∷ es) ≡ files_made es

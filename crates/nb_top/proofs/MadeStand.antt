@@ -1,15 +1,16 @@
 -- While files are made beside what stood, what a stop leaves stands for an account.
 use Rattle.std.proofs.Common.{◌≡◌, ◌≢◌, ◌⊎◌, inl, inr, ⊎_elim, ℕ, zero, suc, List, [], ◌∷◌, map, true, false, refl, sym, ap, subst, ◌∙◌, arith}
 use Rattle.std.specs.Prelude.{not, Some, None, is_some, Contains}
-use Rattle.std.proofs.lemmas.Bool.{and_parts}
+use Rattle.std.proofs.lemmas.Bool.{and_parts, true≢false}
 use Rattle.nb_fields.specs.Free.{is_free_file}
 use Rattle.nb_fields.specs.Header.{is_header}
-use Rattle.nb_host.specs.Files.{File, Files, bytes_of}
+use Rattle.nb_host.specs.Files.{File, Files, bytes_of, with_file}
 use Rattle.nb_host.specs.Names.{is_delta}
 use Rattle.nb_host.specs.World.{World}
 use Rattle.nb_host.specs.Crash.{Leaves, LeavesAll}
 use Rattle.nb_change.specs.Changes.{Remade}
-use Rattle.nb_change.proofs.NameLaws.{decide}
+use Rattle.nb_change.proofs.ChangesLaws.{left_with}
+use Rattle.nb_change.proofs.NameLaws.{decide, with_file-same}
 use Rattle.nb_model.specs.Account.{Kept, Account}
 use Rattle.nb_model.specs.Causes.{is_free_entry}
 use Rattle.nb_model.specs.Levels.{read_level}
@@ -22,6 +23,7 @@ use Rattle.nb_model.specs.Trail.{Trail}
 use Rattle.nb_model.proofs.GrownLaws.{new_unused, stands_along}
 use Rattle.nb_model.proofs.MadeLaws.{IsWholeFile, IsInMaking, is_free, unfinished, whole, with_those, those_kept, stands_those}
 use Rattle.nb_model.proofs.OpeningLaws.{free_entry}
+use Rattle.nb_model.proofs.StandsLaws.{delta_named}
 use Rattle.nb_model.proofs.SteadyLaws.{WellAlong, kept_along}
 use Rattle.nb_copy.specs.Making.{IsUnfinishedOr}
 use Rattle.nb_session.specs.Acts.{MadeLeft}
@@ -34,6 +36,10 @@ pub record IsNewFile (account : Account) (file : MadeFile) : Type 0 where
   pub plain : is_delta file.0 ≡ false
   pub free : is_free_entry (account.entry file.0) ≡ true
 
+-- no difference file is made
+pub none_delta : (account : Account) (made : List MadeFile) → ((f : MadeFile) → Contains made f → IsNewFile account f) → (n : List ℕ) → IsNoneOf made (delta_name n)
+none_delta account made new n bytes there = true≢false (sym (delta_named n) ∙ (new (delta_name n, bytes) there).plain)
+
 first_there : (f : MadeFile) (fs : List MadeFile) → Contains (f ∷ fs) f
 first_there f fs = (0, omega arith, refl)
 
@@ -45,7 +51,7 @@ none_then f fs m off none bytes (zero, low, is) = off (sym (ap (λ (g : MadeFile
 none_then f fs m off none bytes (suc k, low, is) = none bytes (k, omega (arith, low), is)
 
 -- a name is that of one of them or not
-pub none_or_one : (fs : List MadeFile) (m : List ℕ) → IsNoneOf fs m ⊎ ((bytes : List ℕ) × Contains fs (m, bytes))
+none_or_one : (fs : List MadeFile) (m : List ℕ) → IsNoneOf fs m ⊎ ((bytes : List ℕ) × Contains fs (m, bytes))
 none_or_one [] m = inl (λ bytes there. no_file (m, bytes) there)
 none_or_one (f ∷ fs) m = elim (decide m f.0) [
   | inl same ↦ inr (f.1, (0, omega arith, ap (λ (n : List ℕ). (n, f.1)) (sym same)))
@@ -107,13 +113,27 @@ not_some : (file : File) → not (is_some file) ≡ true → file ≡ None
 not_some None h = refl
 not_some (Some bytes) h = cc
 
-module _ (old : World) (account : Account) (stands : StandsFor old account) (reads : (m : List ℕ) → Leaves old m (old.files m)) where
+module _ (old : World) (account : Account) (stands : StandsFor old account) where
   -- beside a free name no difference file stands, and a stop brings none back
   pub free_name : (f : MadeFile) → IsNewFile account f → (is_free_file (old.files f.0) ≡ true) × (old.files (delta_name f.0) ≡ None)
   free_name f new =
       let both = and_parts (is_free_file (old.files f.0)) (not (is_some (old.files (delta_name f.0)))) (sym (free_entry old.files account f.0 stands.now.same_image stands.now.no_stray new.plain) ∙ new.free) in
       (both.0, not_some (old.files (delta_name f.0)) both.1)
 
+  -- So it is at the end of a run that made these files: a name that is free then was free before.
+  module _ (made : List MadeFile) (new : (f : MadeFile) → Contains made f → IsNewFile account f) (end : World) (reads : (m : List ℕ) → Leaves end m (end.files m))
+      (n : List ℕ) (same : IsNoneOf made n → end.files n ≡ old.files n) (same_delta : end.files (delta_name n) ≡ old.files (delta_name n)) where
+    free_before : is_free_file (end.files n) ≡ true → end.files (delta_name n) ≡ None → (is_free_file (old.files n) ≡ true) × (old.files (delta_name n) ≡ None)
+    free_before free alone = ⊎_elim (λ none. (ap is_free_file (sym (same none)) ∙ free, sym same_delta ∙ alone)) (λ one. free_name (n, one.0) (new (n, one.0) one.1)) (none_or_one made n)
+
+    pub free_left : is_delta n ≡ false → ((files : Files) → LeavesAll end files → Leaves old (delta_name n) (files (delta_name n))) → is_free_file (end.files n) ≡ true → end.files (delta_name n) ≡ None
+        → (d : File) → Leaves end (delta_name n) d → d ≡ None
+    free_left plain left free alone d is =
+        let was = free_before free alone in
+        let files : Files = with_file end.files (delta_name n) d in
+        stands.free n plain was.0 was.1 d (subst (Leaves old (delta_name n)) (with_file-same end.files (delta_name n) d) (left files (left_with end (delta_name n) end.files d (λ m other. reads m) is)))
+
+module _ (old : World) (account : Account) (stands : StandsFor old account) (reads : (m : List ℕ) → Leaves old m (old.files m)) where
   module _ (made : List MadeFile) (new : (f : MadeFile) → Contains made f → IsNewFile account f) (files : Files) (left : MadeLeft old made files)
       (others : (m : List ℕ) → IsNoneOf made m → Leaves old m (files m)) where
     abbrev now : Changed old made files
@@ -142,7 +162,7 @@ module _ (old : World) (account : Account) (stands : StandsFor old account) (rea
       stands = stands_those files now.those before (with_records kept) s
           (λ f there.
           let one : Contains made f = now.among f there in
-          let free = free_name f (new f one) in
+          let free = free_name old account stands f (new f one) in
           record {
             plain = (new f one).plain;
             alone = stands.free f.0 (new f one).plain free.0 free.1 (before (delta_name f.0)) (before_left (delta_name f.0));

@@ -1,5 +1,5 @@
 -- What the words ask for can be asked.
-use Rattle.std.proofs.Common.{◌≡◌, ◌⊎◌, ⊎_elim, ℕ, zero, suc, ◌-◌, ◌≤◌, List, [], ◌∷◌, length, get_or, true, false, refl, ap, subst, ◌∙◌, arith}
+use Rattle.std.proofs.Common.{◌≡◌, ◌⊎◌, ⊎_elim, ℕ, zero, suc, ◌-◌, ◌≤◌, List, [], ◌∷◌, length, get_or, true, false, refl, ap, subst, arith}
 use Rattle.std.specs.Prelude.{Bool, ◌&&◌, ◌==◌, not, nat_le, slice_index, codes, Option, Some, None, Result, Ok, Err, IfOk, IfErr, replicate}
 use Rattle.std.specs.List.{AllByRecursion, list_all}
 use Rattle.std.proofs.lemmas.Bool.{and_parts, leb-true, le-leb}
@@ -20,12 +20,13 @@ use Rattle.nb_script.specs.Fits.{IsBase, IsFile}
 use Rattle.nb_script.specs.Scripts.{Plan}
 use Rattle.nb_script.proofs.AskedLemmas.{answer_is_askable}
 use Rattle.nb_top.specs.declared.telling.Telling.TheVariants.{All, Quietly, WithSize}
-use Rattle.nb_top.specs.Requests.{Request, ToRun, ToRestore, ToFix, FitsJob, is_job_built, built_job, job_asked, script_in, to_run, plan_of, request_of, request_asked}
+use Rattle.nb_top.specs.Requests.{Request, ToRun, ToGenerate, ToRestore, ToFix, FitsJob, is_job_built, built_job, job_asked, script_in, to_run, plan_of, request_of, request_asked}
 
--- The statements of a script can be asked today. The names of a restore and of a fixup are none that a difference file may have, and a restore has a
--- first file.
+-- The statements of a script can be asked today. The names of a script that is written, of a restore and of a fixup are none that a difference
+-- file may have, and a restore has a first file.
 abbrev pub CanBeAsked : Request → Type 0
 CanBeAsked (ToRun plan telling) = IsAskable plan
+CanBeAsked (ToGenerate number name) = is_delta name ≡ false
 CanBeAsked (ToFix db) = is_delta db ≡ false
 CanBeAsked (ToRestore db names) = (is_delta db ≡ false) × AllByRecursion (λ (name : List ℕ). is_delta name ≡ false) names × (1 ≤ length names)
 
@@ -109,7 +110,7 @@ plain_fits (verb ∷ number ∷ name ∷ []) = by (number_in_word number)
   where
     by : (n : Option ℕ) → IfJob (elim n as (λ z. Option Job) [ None ↦ None | Some k ↦ job_if (same_name verb (codes "gen") && is_file name) (Gen k name) ])
     by None = tt
-    by (Some k) = if_fits (same_name verb (codes "gen") && is_file name) (Gen k name) (λ is. tt)
+    by (Some k) = if_fits (same_name verb (codes "gen") && is_file name) (Gen k name) (λ is. (and_parts (same_name verb (codes "gen")) (is_file name) is).1)
 plain_fits (verb ∷ number ∷ name ∷ w ∷ ws) = tt
 
 flags_fit : (flags : List ℕ) (rows : List (List ℕ × Option Job)) → AllByRecursion (λ (row : List ℕ × Option Job). IfJob row.1) rows → IfJob (job_of_flags flags rows)
@@ -251,6 +252,7 @@ module _ (files : Files) (r : Request) where
   job_can (Lock db) fits e = this_asked (ToRun (plan_of db (BeginBackup ∷ [])) Quietly) (begin_askable db fits) e
   job_can (LockWithSize db) fits e = this_asked (ToRun (plan_of db (BeginBackup ∷ [])) WithSize) (begin_askable db fits) e
   job_can (Unlock db) fits e = this_asked (ToRun (plan_of db (EndBackup ∷ [])) Quietly) (end_askable db fits) e
+  job_can (Gen number name) fits e = this_asked (ToGenerate number name) (plain_file name fits) e
   job_can (Fixup db) fits e = this_asked (ToFix db) (plain_file db (and_parts (is_file db) (nat_le (length db) 94) fits).0) e
   job_can (Restore db names) fits e = this_asked (ToRestore db names) (restore_asked db names fits) e
   job_can other fits e = none_asked Usage e

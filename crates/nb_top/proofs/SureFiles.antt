@@ -4,12 +4,12 @@ use Rattle.std.specs.Prelude.{Ok, Option, Some, None, Contains}
 use Rattle.std.proofs.lemmas.Bool.{true≢false}
 use Rattle.std.proofs.lemmas.List.{append-nil}
 use Rattle.nb_fields.specs.Free.{is_free_file}
-use Rattle.nb_host.specs.Files.{File, Files, with_file}
+use Rattle.nb_host.specs.Files.{File, Files}
 use Rattle.nb_host.specs.Names.{is_delta}
 use Rattle.nb_host.specs.World.{World}
 use Rattle.nb_host.specs.Crash.{Leaves, LeavesAll}
 use Rattle.nb_change.specs.Changes.{Other}
-use Rattle.nb_change.proofs.NameLaws.{decide, with_file-same, with_file-other}
+use Rattle.nb_change.proofs.NameLaws.{decide}
 use Rattle.nb_model.specs.Account.{Kept, IsBase, Account, with_entry}
 use Rattle.nb_model.specs.Causes.{is_free_entry}
 use Rattle.nb_model.specs.Making.{MadeFile, IsNoneOf, with_files}
@@ -26,17 +26,18 @@ use Rattle.nb_model.proofs.AccountLaws.{stands_grown, files_kept}
 use Rattle.nb_model.proofs.FreeLaws.{stands_files}
 use Rattle.nb_model.proofs.GrownLaws.{new_unused, stands_along}
 use Rattle.nb_model.proofs.GuidLaws.{strokes_in_steps, last_steps_new, front_new}
-use Rattle.nb_model.proofs.MadeLaws.{IsWholeFile, whole_among, stands_with_files}
+use Rattle.nb_model.proofs.MadeLaws.{IsWholeFile, whole_among}
 use Rattle.nb_model.proofs.OpenedLaws.{stands_with_well_in}
 use Rattle.nb_model.proofs.OpeningLaws.{opened_in_use}
 use Rattle.nb_model.proofs.SteadyLaws.{WellAlong, along_front, along_last, kept_along, kept_is}
-use Rattle.nb_model.proofs.StandsLaws.{delta_named, delta_same, no_main}
+use Rattle.nb_model.proofs.StandsLaws.{delta_same, no_main}
 use Rattle.nb_base.specs.Open.{OfFiles}
-use Rattle.nb_copy.specs.Making.{IsKept}
 use Rattle.nb_session.specs.Acts.{MadeLeft, AreKept}
 use Rattle.nb_top.specs.Performed.{HoldsKept, IsEnded, IsUnbegun, StandsFor, Target, kept_after, seen_after}
 use Rattle.nb_top.proofs.AsWas.{as_was, was_has}
-use Rattle.nb_top.proofs.MadeStand.{IsNewFile, free_name, none_or_one, made_holds}
+use Rattle.nb_top.proofs.MadeStand.{IsNewFile, none_delta, free_name, free_left, made_holds}
+use Rattle.nb_top.proofs.MadeRuns.{no_file}
+use Rattle.nb_top.proofs.MadeWhole.{none_whole, stands_with_whole}
 use Rattle.nb_top.proofs.OpenLaws.{none_shown}
 use Rattle.nb_top.proofs.SureLaws.{both, beside, holds_along, holds_free}
 use Rattle.nb_top.proofs.WellRuns.{IsWellRun, kept_first, kept_front, seen_behind, kept_behind, cut_is}
@@ -78,7 +79,7 @@ module _ (old : World) (account : Account) (stands : StandsFor old account) (rea
 
   -- so each file that it makes is whole where some of them are kept.
   whole_with : (some : List Kept) → ((r : Kept) → Contains some r → Contains kept r) → (f : MadeFile) → Contains made f → IsWholeFile some f.1
-  whole_with some among f there = whole_among old.files grown grown_stands some among f.1 (run.made f there).of_kept
+  whole_with some among f there = ⊎_elim (whole_among old.files grown grown_stands some among f.1) (none_whole some f.1) (run.made f there).whole
 
   -- what a stop leaves of the files that are made, and of others
   abbrev Left : Files → Type 0
@@ -126,7 +127,7 @@ module _ (old : World) (account : Account) (stands : StandsFor old account) (rea
 
       creating : is_free_entry (account.entry name) ≡ true → is_free_file (files name) ≡ true → HoldsKept files account.kept
       creating was now_free =
-          let free = free_name old account stands reads (name, []) (record { plain = plain; free = was }) in
+          let free = free_name old account stands (name, []) (record { plain = plain; free = was }) in
           holds_free old account stands reads name plain made new_file apart files left.0 left.1 are_whole now_free (stands.free name plain free.0 free.1 (files (delta_name name)) delta)
 
   -- At its end.
@@ -149,11 +150,15 @@ module _ (old : World) (account : Account) (stands : StandsFor old account) (rea
     mid = as_was old.files (both name) end.files
 
     mid_stands : Stands mid (with_files made grown)
-    mid_stands = stands_with_files old.files mid made grown grown_stands
+    mid_stands = stands_with_whole old.files mid made grown grown_stands
         (λ f there.
         let one : IsNewFile account f = new_file f there in
-        let whole : IsKept end f.0 f.1 = are_kept f.0 f.1 there in
-        (one.plain, (free_name old account stands reads f one).1, beside name old.files end.files f.0 (apart f there) (λ same. no_main name f.0 one.plain (sym same)) ∙ whole.reads, (run.made f there).of_kept))
+        record {
+          plain = one.plain;
+          alone = (free_name old account stands f one).1;
+          there = beside name old.files end.files f.0 (apart f there) (λ same. no_main name f.0 one.plain (sym same)) ∙ (are_kept f.0 f.1 there).reads;
+          is = whole_with kept (λ r one_of. one_of) f there;
+        })
         (λ m none. was_has old.files (λ (file : File). file ≡ old.files m) (both name) end.files m refl (λ off. read m (λ one. ⊎_elim off.0 off.1.0 one) none))
 
     now_stands : Stands end.files last
@@ -167,31 +172,15 @@ module _ (old : World) (account : Account) (stands : StandsFor old account) (rea
     left_holds files leaves =
         subst (HoldsKept files) (sym last_kept) (behind_holds run.further run.along further_new (λ r there. there) files (left files leaves) (subst (λ (t : Trail). StandsIn name t files) trail_is (ended.left files leaves)))
 
-    -- a file that a stop may leave alone
-    with_one : (n : List ℕ) (d : File) → Leaves end n d → LeavesAll end (with_file end.files n d)
-    with_one n d is m = elim (decide m n) [
-      | inl same ↦ subst (λ (k : List ℕ). Leaves end k (with_file end.files n d k)) (sym same) (subst (Leaves end n) (sym (with_file-same end.files n d)) is)
-      | inr other ↦ subst (Leaves end m) (sym (with_file-other end.files n d m other)) (reads_end m)
-    ]
-
-    -- a name of another kind that is free now was free, and so was that of each file that is made
-    free_before : (n : List ℕ) → is_delta n ≡ false → Other (OfFiles name) n → Other (OfFiles name) (delta_name n) → IsNoneOf made (delta_name n) → is_free_file (end.files n) ≡ true → end.files (delta_name n) ≡ None
-        → (is_free_file (old.files n) ≡ true) × (old.files (delta_name n) ≡ None)
-    free_before n plain_n other other_delta none_delta free alone = elim (none_or_one made n) [
-      | inl none ↦ (ap is_free_file (sym (read n other none)) ∙ free, sym (read (delta_name n) other_delta none_delta) ∙ alone)
-      | inr one ↦ free_name old account stands reads (n, one.0) (new_file (n, one.0) one.1)
-    ]
-
+    -- a name that is free isn't that of the database
     free_then : (n : List ℕ) → is_delta n ≡ false → is_free_file (end.files n) ≡ true → end.files (delta_name n) ≡ None → (d : File) → Leaves end (delta_name n) d → d ≡ None
     free_then n plain_n free alone d is = elim (decide n name) [
       | inl same ↦ absurd (in_use (end.files name) refl (ap (λ (k : List ℕ). is_free_file (end.files k)) (sym same) ∙ free))
       | inr off ↦
           let other : Other (OfFiles name) n = λ one. ⊎_elim off (λ e. no_main name n plain_n (sym e)) one in
           let other_delta : Other (OfFiles name) (delta_name n) = λ one. ⊎_elim (λ e. no_main n name plain e) (λ e. off (delta_same n name e)) one in
-          let none_delta : IsNoneOf made (delta_name n) = λ bytes there. true≢false (sym (delta_named n) ∙ (new_file (delta_name n, bytes) there).plain) in
-          let was = free_before n plain_n other other_delta none_delta free alone in
-          stands.free n plain_n was.0 was.1 d
-          (subst (Leaves old (delta_name n)) (with_file-same end.files (delta_name n) d) ((left (with_file end.files (delta_name n) d) (with_one (delta_name n) d is)).1 (delta_name n) other_delta none_delta))
+          let none : IsNoneOf made (delta_name n) = none_delta account made new_file n in
+          free_left old account stands made new_file end reads_end n (read n other) (read (delta_name n) other_delta none) plain_n (λ files leaves. (left files leaves).1 (delta_name n) other_delta none) free alone d is
     ]
       where
         in_use : (file : File) → end.files name ≡ file → is_free_file (end.files name) ≡ true → ⊥
@@ -205,17 +194,9 @@ module _ (old : World) (account : Account) (stands : StandsFor old account) (rea
 -- Nothing was done to any file.
 module _ (old new : World) (account : Account) (stands : StandsFor old account) (reads : (m : List ℕ) → Leaves new m (new.files m)) (read : (m : List ℕ) → new.files m ≡ old.files m)
     (left : (files : Files) → LeavesAll new files → LeavesAll old files) where
-  with_that : (n : List ℕ) (d : File) → Leaves new n d → LeavesAll new (with_file new.files n d)
-  with_that n d is m = elim (decide m n) [
-    | inl same ↦ subst (λ (k : List ℕ). Leaves new k (with_file new.files n d k)) (sym same) (subst (Leaves new n) (sym (with_file-same new.files n d)) is)
-    | inr other ↦ subst (Leaves new m) (sym (with_file-other new.files n d m other)) (reads m)
-  ]
-
   pub still_stands : StandsFor new account
   still_stands = record {
     now = stands_files old.files new.files account stands.now read;
     left = λ files leaves. stands.left files (left files leaves);
-    free = λ n plain free alone d is.
-        stands.free n plain (ap is_free_file (sym (read n)) ∙ free) (sym (read (delta_name n)) ∙ alone) d
-        (subst (Leaves old (delta_name n)) (with_file-same new.files (delta_name n) d) (left (with_file new.files (delta_name n) d) (with_that (delta_name n) d is) (delta_name n)));
+    free = λ n plain. free_left old account stands [] (λ f there. absurd (no_file f there)) new reads n (λ none. read n) (read (delta_name n)) plain (λ files leaves. left files leaves (delta_name n));
   }

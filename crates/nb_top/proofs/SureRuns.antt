@@ -84,8 +84,7 @@ none_keeps : (b : Base) → records_after b (strokes_in []) ≡ []
 unfolding strokes_in records_after
 none_keeps b = refl
 
-module _ (old : World) (account : Account) (given : Given) (plan : Plan) (askable : IsAskable plan) (events : List Event) (last : Account) (left : Given) (stands : StandsFor old account)
-    (sixteen : MayBeGiven given) (not_refused : begins_refused events ≡ false) where
+module _ (account : Account) (given : Given) (plan : Plan) (askable : IsAskable plan) (events : List Event) (last : Account) (left : Given) (sixteen : MayBeGiven given) (not_refused : begins_refused events ≡ false) where
   -- it creates its database
   module _ (name : List ℕ) (size raw cache : ℕ) (first_is : plan.first ≡ CreateDb name size raw cache) (runs : IsRun account given plan.first_session (CreateDb name size raw cache) plan.schedule plan.sessions events last left) where
     abbrev o : Opening
@@ -139,10 +138,12 @@ module _ (old : World) (account : Account) (given : Given) (plan : Plan) (askabl
         (settled_shows name (base_in (account.entry name)) (files name) (files (delta_name name)) (subst (λ (t : Trail). StandsIn name t files) (none_seen (settled (base_in (account.entry name)))) s)))
     begun (suc n) files s = omega arith
 
-    creating_sure : IsSureRun account (record { name = name; creates = true }) events last
+    pub creating_sure : IsSureRun account (record { name = name; creates = true }) events last
     unfolding run
     creating_sure = record { plain = (base_name name fits.0).plain; free = λ e. was_free; run = run; begun = begun }
 
+module _ (old : World) (account : Account) (given : Given) (plan : Plan) (askable : IsAskable plan) (events : List Event) (last : Account) (left : Given) (stands : StandsFor old account)
+    (sixteen : MayBeGiven given) (not_refused : begins_refused events ≡ false) where
   -- it opens it
   module _ (name : List ℕ) (cache : ℕ) (first_is : plan.first ≡ OpenDb name cache) (runs : IsRun account given plan.first_session (OpenDb name cache) plan.schedule plan.sessions events last left)
       (small : image_scn (base_in (account.entry name)).image < 4294967296) where
@@ -216,7 +217,8 @@ module _ (old : World) (account : Account) (given : Given) (plan : Plan) (askabl
 
       by : Opens plan.first → IsSureRun account target events last
       by (creates name size raw cache is) =
-          subst (λ (d : Target). IsSureRun account d events last) (same (record { name = name; creates = true }) target (ap target_named (sym is) ∙ named)) (creating_sure name size raw cache is (subst Runs is runs))
+          subst (λ (d : Target). IsSureRun account d events last) (same (record { name = name; creates = true }) target (ap target_named (sym is) ∙ named))
+          (creating_sure account given plan askable events last left sixteen not_refused name size raw cache is (subst Runs is runs))
       by (opens name cache is) =
           let its : record { name = name; creates = false } ≡ target = same (record { name = name; creates = false }) target (ap target_named (sym is) ∙ named) in
           subst (λ (d : Target). IsSureRun account d events last) its (opening_sure name cache is (subst Runs is runs) (subst (λ (d : Target). HasSmallScn account (Some d)) (sym its) small refl))
@@ -229,31 +231,33 @@ refused_last schedule session reply o account given events rest last left refuse
     let ends = subst (λ (x : Opening). IsRest schedule x given rest last left) refused is in
     (files_behind events rest o.event first (ap (λ (x : Opening). x.event.made) refused) ∙ ap files_made ends.0, ends.1)
 
-module _ (old : World) (account : Account) (given : Given) (plan : Plan) (askable : IsAskable plan) (events : List Event) (last : Account) (left : Given) (stands : StandsFor old account) (refused : begins_refused events ≡ true) where
-  abbrev LeavesAsWas : Type 0
-  LeavesAsWas = (files_made events ≡ []) × (last ≡ account)
+-- it makes no file, and leaves the account
+abbrev pub LeavesAsWas : Account → List Event → (last : Account) → Type 0
+LeavesAsWas account events last = (files_made events ≡ []) × (last ≡ account)
 
-  refused_leaves : IsRun account given plan.first_session plan.first plan.schedule plan.sessions events last left → LeavesAsWas
+pub refused_creating : (account : Account) (given : Given) (plan : Plan) (events : List Event) (last : Account) (left : Given) → begins_refused events ≡ true → (name : List ℕ) (size raw cache : ℕ)
+    → IsRun account given plan.first_session (CreateDb name size raw cache) plan.schedule plan.sessions events last left → LeavesAsWas account events last
+refused_creating account given plan events last left refused name size raw cache is = by_free (is_free_entry (account.entry name)) refl
+  where
+    by_free : (t : Bool) → is_free_entry (account.entry name) ≡ t → LeavesAsWas account events last
+    by_free true free =
+        let one = created account given plan.sessions plan.first_session name size raw cache free in
+        absurd (false_true (sym (ap begins_refused (is.is ∙ ap (λ (e : Event). e ∷ is.rest) one.event)) ∙ refused))
+    by_free false taken =
+        refused_last plan.schedule plan.first_session _ (opening account given plan.sessions plan.first_session (CreateDb name size raw cache)) account given events is.rest last left
+        (not_created account given plan.sessions plan.first_session name size raw cache taken) is.is is.goes_on
+
+module _ (old : World) (account : Account) (given : Given) (plan : Plan) (askable : IsAskable plan) (events : List Event) (last : Account) (left : Given) (stands : StandsFor old account) (refused : begins_refused events ≡ true) where
+  refused_leaves : IsRun account given plan.first_session plan.first plan.schedule plan.sessions events last left → LeavesAsWas account events last
   refused_leaves runs = by (first_opens plan.first askable.first)
     where
       Runs : Statement → Type 0
       Runs first = IsRun account given plan.first_session first plan.schedule plan.sessions events last left
 
-      creating : (name : List ℕ) (size raw cache : ℕ) → Runs (CreateDb name size raw cache) → LeavesAsWas
-      creating name size raw cache is = by_free (is_free_entry (account.entry name)) refl
-        where
-          by_free : (t : Bool) → is_free_entry (account.entry name) ≡ t → LeavesAsWas
-          by_free true free =
-              let one = created account given plan.sessions plan.first_session name size raw cache free in
-              absurd (false_true (sym (ap begins_refused (is.is ∙ ap (λ (e : Event). e ∷ is.rest) one.event)) ∙ refused))
-          by_free false taken =
-              refused_last plan.schedule plan.first_session _ (opening account given plan.sessions plan.first_session (CreateDb name size raw cache)) account given events is.rest last left
-              (not_created account given plan.sessions plan.first_session name size raw cache taken) is.is is.goes_on
-
-      opening_it : (name : List ℕ) (cache : ℕ) → is_delta name ≡ false → Runs (OpenDb name cache) → LeavesAsWas
+      opening_it : (name : List ℕ) (cache : ℕ) → is_delta name ≡ false → Runs (OpenDb name cache) → LeavesAsWas account events last
       opening_it name cache plain is = by_owner (owner name (old.files name) (old.files (delta_name name))) refl
         where
-          by_owner : (answer : Result Base Refusal) → owner name (old.files name) (old.files (delta_name name)) ≡ answer → LeavesAsWas
+          by_owner : (answer : Result Base Refusal) → owner name (old.files name) (old.files (delta_name name)) ≡ answer → LeavesAsWas account events last
           by_owner (Ok b) shows =
               let again = reopened account given plan.sessions plan.first_session name cache b (stands.now.same_image name plain ∙ shown_entry old.files name b shows) in
               absurd (false_true (sym (ap begins_refused (is.is ∙ ap (λ (e : Event). e ∷ is.rest) again.event)) ∙ refused))
@@ -261,12 +265,12 @@ module _ (old : World) (account : Account) (given : Given) (plan : Plan) (askabl
               refused_last plan.schedule plan.first_session _ (opening account given plan.sessions plan.first_session (OpenDb name cache)) account given events is.rest last left
               (not_reopened account given plan.sessions plan.first_session name cache r (ap (not_opened name) (stands.now.same_image name plain) ∙ refused_entry name (old.files name) (old.files (delta_name name)) r why)) is.is is.goes_on
 
-      by : Opens plan.first → LeavesAsWas
-      by (creates name size raw cache is) = creating name size raw cache (subst Runs is runs)
+      by : Opens plan.first → LeavesAsWas account events last
+      by (creates name size raw cache is) = refused_creating account given plan events last left refused name size raw cache (subst Runs is runs)
       by (opens name cache is) = opening_it name cache (base_name name (subst FitsFirst is askable.first.fits).0).plain (subst Runs is runs)
 
 -- So it is of what is told of the run, which has the same steps and files.
-told_sure : (account : Account) (target : Target) (whole events : List Event) (last : Account) → steps_of whole ≡ steps_of events → files_made whole ≡ files_made events → IsSureRun account target whole last → IsSureRun account target events last
+pub told_sure : (account : Account) (target : Target) (whole events : List Event) (last : Account) → steps_of whole ≡ steps_of events → files_made whole ≡ files_made events → IsSureRun account target whole last → IsSureRun account target events last
 told_sure account target whole events last same files known = record {
   plain = known.plain;
   free = known.free;

@@ -1,5 +1,5 @@
 -- A run is well behind its first strokes: what was seen of its database is well along all further steps.
-use Rattle.std.proofs.Common.{◌≡◌, ◌≢◌, ℕ, ◌-◌, ◌+◌, ◌≤◌, List, [], ◌∷◌, ◌++◌, length, take, drop, true, sym, ap, subst, ◌∙◌, arith, take-append-drop}
+use Rattle.std.proofs.Common.{◌≡◌, ◌≢◌, ◌⊎◌, inl, ℕ, ◌-◌, ◌+◌, ◌≤◌, List, [], ◌∷◌, ◌++◌, length, take, drop, true, sym, ap, subst, ◌∙◌, arith, take-append-drop}
 use Rattle.std.specs.Prelude.{Option, Some, Contains}
 use Rattle.std.proofs.Math.Seq.{take-append-add}
 use Rattle.std.proofs.lemmas.List.Elements.{Contains-append_left}
@@ -8,7 +8,7 @@ use Rattle.nb_model.specs.Account.{Kept, Base, IsBase, Account}
 use Rattle.nb_model.specs.Causes.{is_free_entry}
 use Rattle.nb_model.specs.Going.{IsMaking}
 use Rattle.nb_model.specs.Image.{first_page, image_state}
-use Rattle.nb_model.specs.Making.{MadeFile, IsOfKept, under_way}
+use Rattle.nb_model.specs.Making.{MadeFile, IsOfKept, IsNoBackup, under_way}
 use Rattle.nb_model.specs.Outcomes.{Given}
 use Rattle.nb_model.specs.Run.{Now, Event, Played, Opening, IsRest, base_now, begun, play, rounds, strokes_of, files_made}
 use Rattle.nb_model.specs.Sound.{HasHeader, IsSoundImage}
@@ -33,15 +33,19 @@ use Rattle.nb_top.specs.Performed.{MayBeGiven, seen_after}
 use Rattle.nb_top.proofs.FirstReady.{begins_making, plain_play}
 use Rattle.nb_top.proofs.MadeStand.{IsNewFile}
 
--- A file that a run makes is none of its database, its name was free before the run, and whole it is that of a record.
+-- the bytes are those of a record, or no job takes them for a backup
+abbrev pub IsKeptOrNone : (kept : List Kept) (bytes : List ℕ) → Type 0
+IsKeptOrNone kept bytes = IsOfKept kept bytes ⊎ IsNoBackup bytes
+
+-- A file that a run makes is none of its database, its name was free before the run, and whole it is that of a record, or no backup.
 pub record IsOfRun (account : Account) (name : List ℕ) (kept : List Kept) (file : MadeFile) : Type 0 where
   pub new : IsNewFile account file
   pub apart : file.0 ≢ name
-  pub of_kept : IsOfKept kept file.1
+  pub whole : IsKeptOrNone kept file.1
 
 -- The first steps keep no record and leave a database, settled. Along all further steps what was seen is well, the files that are made are
--- of the records that are kept behind them, and the account after is the one before with the database that is seen then, these files and
--- the records of the backups that have begun.
+-- of the records that are kept behind them, or no backups, and the account after is the one before with the database that is seen then,
+-- these files and the records of the backups that have begun.
 pub record IsWellRun (account : Account) (name : List ℕ) (events : List Event) (last : Account) : Type 0 where
   pub first : List Step
   pub further : List Step
@@ -122,7 +126,7 @@ module _ (account : Account) (plan : Plan) (askable : IsAskable plan) (o : Openi
       record {
         new = record { plain = plain_play plan askable now todo making order file there; free = sym (ap is_free_entry (ap (λ (a : Account). a.entry file.0) account_is ∙ others file.0 apart)) ∙ free };
         apart = apart;
-        of_kept = play_of_kept order account.kept (settled b) now (sym base) well making.going making.named recorded file there;
+        whole = inl (play_of_kept order account.kept (settled b) now (sym base) well making.going making.named recorded file there);
       }
 
   played_well : (order : List ℕ) → IsWellBehind account name b (play order now).0 (play order now).1.account

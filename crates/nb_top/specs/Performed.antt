@@ -1,11 +1,11 @@
 -- What a run promises, from the words of the command line to its last reply.
 --
--- The words ask for the run of a script, for a restore, for a fixup, or for a refusal. Each tells the events of the run one by one: whose
--- turn, which strokes, which reply.
+-- The words ask for the run of a script, which may be written first, for a restore, for a fixup, or for a refusal. Each tells the events of
+-- the run one by one: whose turn, which strokes, which reply.
 -- Whatever stops the run, at each moment a front of its lines was said, and both files of its database can be opened and hold what may be
--- left behind a front of its steps, with each acknowledged one among them. A file that a backup or a copy makes is as it was, unfinished or
--- whole, and whole once that is acknowledged. No other file changes. At its end all lines were said, all steps stand, and all files are
--- whole. Where the files stood for an account with the records of its backups, and the GUIDs that the outside gives are new, they stand for
+-- left behind a front of its steps, with each acknowledged one among them. A file that a backup or a copy makes, or that of a script which
+-- is written, is as it was, unfinished or whole, and whole once that is acknowledged. No other file changes. At its end all lines were said,
+-- all steps stand, and all files are whole. Where the files stood for an account with the records of its backups, and the GUIDs that the outside gives are new, they stand for
 -- one at each moment, with the records of the backups that have begun by then.
 use Rattle.std.specs.Prelude.{◌≡◌, ◌≢◌, ◌⊎◌, ℕ, ◌<◌, List, [], ◌∷◌, ◌++◌, length, take, Bool, true, false, ◌&&◌, Option, None, Some, Result, Ok, Err, IfOk}
 use Rattle.std.specs.Global.{Vec}
@@ -28,12 +28,12 @@ use Rattle.nb_model.specs.declared.reply.Reply.{Reply}
 use Rattle.nb_model.specs.declared.reply.Reply.TheVariants.{Refused, Pages, Opened as OpenedReply}
 use Rattle.nb_model.specs.declared.statement.Statement.{Statement}
 use Rattle.nb_model.specs.declared.statement.Statement.TheVariants.{CreateDb, OpenDb}
-use Rattle.nb_model.specs.Account.{Kept, Base, IsBase, Account}
-use Rattle.nb_model.specs.Causes.{is_free_entry}
+use Rattle.nb_model.specs.Account.{Kept, Base, IsBase, Plain, Account, with_entry}
+use Rattle.nb_model.specs.Causes.{is_free_entry, not_free}
 use Rattle.nb_model.specs.Gifts.{WasGiven}
 use Rattle.nb_model.specs.Image.{image_in, image_scn}
 use Rattle.nb_model.specs.NewGuids.{AreNew, guids_in}
-use Rattle.nb_model.specs.Generated.{last_or_refusal, said_by_generated}
+use Rattle.nb_model.specs.Generated.{generated, last_or_refusal, said_by_generated}
 use Rattle.nb_model.specs.Jobs.{all_sized, quiet, refusal_in, restore_turn, fixup_turn, account_behind}
 use Rattle.nb_model.specs.Outcomes.{Given}
 use Rattle.nb_model.specs.Output.{output, status_of}
@@ -49,8 +49,9 @@ use Rattle.nb_model.specs.Trail.{Trail, StandsIn, ShowsIn, settled}
 use Rattle.nb_base.specs.Open.{OfFiles}
 use Rattle.nb_state.specs.Open.{Held}
 use Rattle.nb_fixup.specs.Fixup.{IsFixable}
+use Rattle.nb_gen.specs.Texts.{generated_first}
 use Rattle.nb_restore.specs.Kept.{AreKept, GivesKept}
-use Rattle.nb_script.specs.Scripts.{Plan}
+use Rattle.nb_script.specs.Scripts.{Plan, script_of}
 use Rattle.nb_session.specs.declared.stop.Stop.{Stop}
 use Rattle.nb_session.specs.Replies.{is_refusal, only_tells, only_told}
 use Rattle.nb_session.specs.Acts.{MadeLeft, AreKept as AreFilesKept}
@@ -59,7 +60,7 @@ use Rattle.nb_top.specs.declared.status.Status.{Status}
 use Rattle.nb_top.specs.declared.status.Status.TheVariants.{Done, Refused as RefusedStatus, Usage as UsageStatus, Device, Memory}
 use Rattle.nb_top.specs.declared.telling.Telling.{Telling}
 use Rattle.nb_top.specs.declared.telling.Telling.TheVariants.{All, Quietly, WithSize, Sparingly}
-use Rattle.nb_top.specs.Requests.{Request, ToRun, ToRestore, ToFix, script_in}
+use Rattle.nb_top.specs.Requests.{Request, ToRun, ToGenerate, ToRestore, ToFix, script_in}
 
 -- what the first statement of a run did, or what is said in place of a run
 abbrev pub first_event : (session : ℕ) → List Stroke → Reply → Event
@@ -113,11 +114,30 @@ pub record IsScriptRun (plan : Plan) (telling : Telling) (before : Account) (giv
   pub run : IsRun before given plan.first_session plan.first plan.schedule plan.sessions whole last left
   pub said : events ≡ told telling (pages_first before plan.first) whole
 
--- What is asked for is done: the run of a script, the one turn of a restore or of a fixup, or one refusal. `left` is what it leaves of
--- what may be given.
+-- The run of a script as it is read, or why there is none, which is said to session 0.
+abbrev pub IsReadRun : Result Plan Refusal → Telling → (before : Account) → Given → List Event → (last : Account) → (left : Given) → Type 0
+IsReadRun (Err refusal) telling before given events last left = (events ≡ refused_job refusal) × (last ≡ before) × (left ≡ given)
+IsReadRun (Ok plan) telling before given events last left = IsScriptRun plan telling before given events last left
+
+-- the file of a script is made, of which nothing is said
+abbrev pub script_made : (name bytes : List ℕ) → Event
+script_made name bytes = record { session = 1; strokes = []; reply = None; made = Some (name, bytes); syncs = false }
+
+-- The file of a script is made, and then the script is run on the account that has the file.
+pub record IsWrittenRun (name bytes : List ℕ) (before : Account) (given : Given) (events : List Event) (last : Account) (left : Given) : Type 0 where
+  pub rest : List Event
+  pub is : events ≡ script_made name bytes ∷ rest
+  pub run : IsReadRun (script_of bytes) Sparingly (with_entry name (Plain bytes None) before) given rest last left
+
+-- What is asked for is done: the run of a script, that of one which is written under a free name first, the one turn of a restore or of a
+-- fixup, or one refusal. `left` is what it leaves of what may be given.
 abbrev pub IsPerformed : Files → Result Request Refusal → (before : Account) → Given → List Event → (last : Account) → (left : Given) → Type 0
 IsPerformed files (Err refusal) before given events last left = (events ≡ refused_job refusal) × (last ≡ before) × (left ≡ given)
 IsPerformed files (Ok (ToRun plan telling)) before given events last left = IsScriptRun plan telling before given events last left
+IsPerformed files (Ok (ToGenerate number name)) before given events last left = elim (not_free name (before.entry name)) as (λ cause. Type 0) [
+  | Some refusal ↦ (events ≡ refused_at 1 refusal) × (last ≡ before) × (left ≡ given)
+  | None ↦ IsWrittenRun name (generated number) before given events last left
+]
 IsPerformed files (Ok (ToRestore db names)) before given events last left =
     let turn : Event = restore_turn files before db names in
     (events ≡ turn ∷ []) × (last ≡ account_behind db turn before) × (left ≡ given)
@@ -143,13 +163,26 @@ begins_refused (e ∷ es) = elim e.reply [ None ↦ false | Some reply ↦ is_re
 -- the database that is asked for
 abbrev pub target_asked : Request → Option Target
 target_asked (ToRun plan telling) = target_named plan.first
+target_asked (ToGenerate number name) = target_named generated_first
 target_asked (ToRestore db names) = Some (record { name = db; creates = true })
 target_asked (ToFix db) = Some (record { name = db; creates = false })
+
+-- the events behind the file of a script that is made first
+abbrev pub behind_file : List Event → List Event
+behind_file [] = []
+behind_file (e ∷ es) = elim e.made [ None ↦ e ∷ es | Some file ↦ es ]
+
+-- the events of the run, without that file's
+abbrev pub run_in : Request → List Event → List Event
+run_in (ToRun plan telling) events = events
+run_in (ToGenerate number name) events = behind_file events
+run_in (ToRestore db names) events = events
+run_in (ToFix db) events = events
 
 -- the database of a run, if it isn't refused at once
 abbrev pub target_of : Result Request Refusal → List Event → Option Target
 target_of (Err refusal) events = None
-target_of (Ok request) events = elim (begins_refused events) [ true ↦ None | false ↦ target_asked request ]
+target_of (Ok request) events = elim (begins_refused (run_in request events)) [ true ↦ None | false ↦ target_asked request ]
 
 -- The account has under the name what the files hold there, and the inventories of a database agree with its pages.
 pub record HoldsUnder (files : Files) (account : Account) (name : List ℕ) : Type 0 where
@@ -170,6 +203,7 @@ KnowsOpened files account other = Unit {0}
 abbrev pub Knows : Files → Account → Result Request Refusal → Type 0
 Knows files account (Err refusal) = Unit {0}
 Knows files account (Ok (ToRun plan telling)) = KnowsNames files account × KnowsOpened files account plan.first
+Knows files account (Ok (ToGenerate number name)) = KnowsNames files account
 Knows files account (Ok (ToRestore db names)) = is_free_name files db ≡ is_free_entry (account.entry db)
 Knows files account (Ok (ToFix db)) = account.entry db ≡ entry_in files db
 
@@ -230,6 +264,7 @@ pub record StandsFor (w : World) (account : Account) : Type 0 where
 abbrev pub HasKeptChain : Files → List Kept → Result Request Refusal → Type 0
 HasKeptChain files kept (Err refusal) = Unit {0}
 HasKeptChain files kept (Ok (ToRun plan telling)) = Unit {0}
+HasKeptChain files kept (Ok (ToGenerate number name)) = Unit {0}
 HasKeptChain files kept (Ok (ToRestore db names)) = (links : List Link) → verdict files names ≡ Ok links → AreKept kept links
 HasKeptChain files kept (Ok (ToFix db)) = (bytes : List ℕ) → IsFixable files db bytes → (r : Kept) × IsKeptAs kept (guid_of bytes) r
 
@@ -251,6 +286,7 @@ pub record HasKeptImage (kept : List Kept) (bytes : List ℕ) : Type 0 where
 abbrev pub RestoresKept : Files → List Kept → Result Request Refusal → Type 0
 RestoresKept files kept (Err refusal) = Unit {0}
 RestoresKept files kept (Ok (ToRun plan telling)) = Unit {0}
+RestoresKept files kept (Ok (ToGenerate number name)) = Unit {0}
 RestoresKept files kept (Ok (ToRestore db names)) = (links : List Link) → verdict files names ≡ Ok links → GivesKept kept links
 RestoresKept files kept (Ok (ToFix db)) = (bytes : List ℕ) → IsFixable files db bytes → HasKeptImage kept bytes
 
@@ -278,9 +314,9 @@ abbrev pub EndsIn : (new : World) → Account → Option Target → List Event �
 EndsIn new account None events = Unit {0}
 EndsIn new account (Some target) events = IsEnded new target.name (seen_after account target.name (steps_of events))
 
--- a first turn that makes no stroke, and of which nothing is told, or what only tells something
+-- a first turn that makes no file and no stroke, and of which nothing is told, or what only tells something
 abbrev pub only_opens : Event → Bool
-only_opens e = elim e.strokes [ [] ↦ elim e.reply [ None ↦ true | Some reply ↦ only_tells reply ] | s ∷ ss ↦ false ]
+only_opens e = elim e.made [ Some file ↦ false | None ↦ elim e.strokes [ [] ↦ elim e.reply [ None ↦ true | Some reply ↦ only_tells reply ] | s ∷ ss ↦ false ] ]
 
 -- the turns of a run only tell something: they open, they read, or they are refused
 abbrev pub only_tell : List Event → Bool

@@ -18,7 +18,7 @@ use Rattle.nb_top.specs.declared.telling.Telling.TheVariants.{All, Quietly, With
 abbrev pub is_job_built : Job → Bool
 is_job_built (Run script) = true
 is_job_built (Stat db) = true
-is_job_built (Gen number script) = false
+is_job_built (Gen number script) = true
 is_job_built (Backup level db file) = true
 is_job_built (BackupSince guid db file) = true
 is_job_built (Restore db files) = true
@@ -31,6 +31,7 @@ is_job_built (Fixup db) = true
 -- the names of such a job are those that words may give
 abbrev pub FitsJob : Job → Type 0
 FitsJob (Stat db) = is_database db ≡ true
+FitsJob (Gen number script) = is_file script ≡ true
 FitsJob (Lock db) = is_database db ≡ true
 FitsJob (LockWithSize db) = is_database db ≡ true
 FitsJob (Backup level db file) = (level ≤ 9) × (is_database db ≡ true) × (is_file file ≡ true)
@@ -52,6 +53,8 @@ job_asked words = built_job (job_of words)
 pub data Request : Type 0 where
   -- the run of a script, and what is told of it
   ToRun : (plan : Plan) (telling : Telling) → Request
+  -- the script of a number, which is written under a name and then run, and of which only refusals and the pages by kind are told
+  ToGenerate : (number : ℕ) (name : List ℕ) → Request
   -- a database that the files of a chain give
   ToRestore : (db : List ℕ) (names : List (List ℕ)) → Request
   -- a copy of a stalled database that becomes a database, in place
@@ -80,6 +83,7 @@ request_of files (Stat db) = Ok (ToRun (plan_of db (ShowHeader ∷ ShowPages ∷
 request_of files (Lock db) = Ok (ToRun (plan_of db (BeginBackup ∷ [])) Quietly)
 request_of files (LockWithSize db) = Ok (ToRun (plan_of db (BeginBackup ∷ [])) WithSize)
 request_of files (Unlock db) = Ok (ToRun (plan_of db (EndBackup ∷ [])) Quietly)
+request_of files (Gen number script) = Ok (ToGenerate number script)
 request_of files (Restore db names) = Ok (ToRestore db names)
 request_of files (Fixup db) = Ok (ToFix db)
 request_of files other = Err Usage

@@ -5,38 +5,18 @@
 //! shows from which hosts a run begins with all that is promised of it.
 #![tactic(auto)]
 
-#[cfg(test)]
-mod backup_tests;
-#[cfg(test)]
-mod drawn_tests;
 mod fixing;
-#[cfg(test)]
-mod fixup_tests;
+mod generating;
 pub mod laws;
-#[cfg(test)]
-mod level_tests;
-#[cfg(test)]
-mod lock_tests;
-#[cfg(test)]
-mod page_tests;
 mod program;
 mod reading;
 mod request;
-#[cfg(test)]
-mod restore_tests;
 mod restoring;
 mod script;
-#[cfg(test)]
-mod shown_tests;
 mod status;
-#[cfg(test)]
-mod stop_tests;
-#[cfg(test)]
-mod table_tests;
 mod telling;
-#[cfg(test)]
-mod tests;
 
+pub use nb_gen::generate;
 pub use nb_lines::render;
 pub use nb_shown::image_digest;
 pub use program::run;

@@ -18,6 +18,7 @@ ghost use Rattle.nb_top.specs.Requests.{FitsJob, ToRun, is_job_built, job_asked,
 
 use crate::Status;
 use crate::fixing::run_fix;
+use crate::generating::run_generated;
 use crate::reading::read_script;
 use crate::request::{read_built, script_asking, script_showing};
 use crate::restoring::run_restore;
@@ -91,6 +92,7 @@ fn run_job<H: Host>(alloc: Global, host: &mut H, job: &Job) -> Result<Status, St
 {
     match job {
         Job::Run { script } => run_file(alloc, host, script),
+        Job::Gen { number, script } => run_generated(alloc, host, *number, script),
         Job::Restore { db, files } => run_restore(alloc, host, db, files.as_slice()),
         Job::Fixup { db } => run_fix(alloc, host, db),
         Job::Backup { level, db, file } => {

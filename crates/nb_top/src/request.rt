@@ -20,6 +20,7 @@ fn is_built(job: &Job) -> bool
     matches!(
         job,
         Job::Run { .. }
+            | Job::Gen { .. }
             | Job::Backup { .. }
             | Job::BackupSince { .. }
             | Job::Restore { .. }

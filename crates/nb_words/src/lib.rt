@@ -9,8 +9,6 @@ mod choice;
 mod jobs;
 mod line;
 mod reading;
-#[cfg(test)]
-mod tests;
 mod word;
 
 pub use reading::read_job;

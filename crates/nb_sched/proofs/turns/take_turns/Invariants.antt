@@ -1,13 +1,15 @@
-use Rattle.std.proofs.Common.{ℕ, ◌++◌, Ok}
+use Rattle.std.proofs.Common.{ℕ, ◌≤◌, ◌<◌, ◌++◌, Ok, length}
 use Rattle.nb_model.specs.Run.{rounds}
-use Rattle.nb_sched.specs.Turns.{kind, scene, TakesTurns, total}
+use Rattle.nb_sched.specs.Turns.{kind, scene, Rests, TakesTurns, total}
 use Rattle.nb_sched.proofs.turns.take_turns.Given as goal
 
-abbrev pub invariant-loop-agents : goal.invariant-loop-agents
-invariant-loop-agents g l =
+abbrev pub invariant-loop-count : goal.invariant-loop-count
+invariant-loop-count g l =
     let a = g.A.Agent in
-    (how_often : ℕ) × TakesTurns (kind a.left a.session a.fits a.step) (l.schedule ++ rounds how_often) (scene l.fn.agents l.fn.host l.fn.shared) (Ok tt)
-    (scene l.agents l.host l.shared)
+    ((how_often : ℕ) × TakesTurns (kind a.left a.session a.fits a.step) (l.schedule ++ rounds how_often) (scene l.fn.agents l.fn.host l.fn.shared) (Ok tt) (scene l.agents l.host l.shared))
+    × (l.count ≤ length l.agents)
+    × ((session : ℕ) → l.count < session → Rests a.left l.agents session)
+    × (0 < l.count → Rests a.left l.agents l.count → ⊥)
 
-abbrev pub decreases-loop-agents : goal.decreases-loop-agents
-decreases-loop-agents g l = total g.A.Agent.left l.agents
+abbrev pub decreases-loop-count : goal.decreases-loop-count
+decreases-loop-count g l = total g.A.Agent.left l.agents

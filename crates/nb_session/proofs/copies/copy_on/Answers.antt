@@ -9,9 +9,8 @@ use Rattle.nb_state.specs.declared.turns.Progress.TheVariants.{More, Finished}
 use Rattle.nb_copy.specs.Copying.{Copying}
 use Rattle.nb_copy.specs.FileCopies.{CopiesFile}
 use Rattle.nb_copy.specs.Turns.{CopyCounts}
-use Rattle.nb_session.specs.declared.task.Taken.{Taken}
-use Rattle.nb_session.specs.Askers.{copy_first, copy_rest}
-use Rattle.nb_session.specs.Steps.{IsBehind}
+use Rattle.nb_session.specs.declared.task.Left.TheVariants.{Same}
+use Rattle.nb_session.specs.Askers.{copy_first, copy_rest, left_refused, left_task}
 use Rattle.nb_session.proofs.CopyLaws.{stopped_is, copy_said, said_pages, copy_files, copy_fails, copy_more, copy_ends, more_behind, end_behind, copying_stalled, apart_one}
 use Rattle.nb_session.proofs.EventLaws.{marks_made}
 use Rattle.nb_session.proofs.ReadyLaws.{apart_files}
@@ -24,13 +23,13 @@ returns-in_err-turn-clause-turn g c now t more tells ready makes here goes =
     let mid = g.H.Host.world c.turn.new.host in
     let a = c.args.engine.now in
     let b = c.turn.new.engine in
-    let copy : Copying = c.args.copier in
+    let copy : Copying = c.args.copier.now in
     let later : Copying = c.turn.new.self in
     let left : ℕ = copy.count - copy.next in
     let stalled : a.files.state ≡ 1 = copying_stalled old a t now c.args.session left copy.name more ready makes.going here in
     let copies = c.in_err-turn.ensures.turn t tells ready.opened stalled goes.0 (apart_files a copy.name goes.1) in
     let reads = g.met.H.Host.reads_left c.args.host.now tells copy.name in
-    turns_failed c.args.told (copy_said 0) (Err Device) (λ (taken : Taken). taken.refused) (λ (taken : Taken). taken.task) old mid mid a b t now c.args.session (copy_first left (ClosesCopy copy.name)) (copy_rest left (ClosesCopy copy.name)) more _
+    turns_failed c.args.told (copy_said 0) (Err Device) left_refused (left_task _) old mid mid a b t now c.args.session (copy_first left (ClosesCopy copy.name)) (copy_rest left (ClosesCopy copy.name)) more _
     (copy_files old mid a b t now c.args.session copy later 0 ready goes.1 reads left) makes here
     (copy_fails old mid a b t now c.args.session copy later 0 ready goes.1 reads copies.left copies.gave left copies.same)
     (marks_made (copy_said 0) (Err Device) old mid a b t now c.args.session (copy_first left (ClosesCopy copy.name)) _ (apart_one a copy.name _ goes.1) (λ m. g.met.H.Host.reads_left c.turn.new.host tells m))
@@ -42,7 +41,7 @@ returns-in-More-clause-turn g c now t more tells ready makes here goes =
     let mid = g.H.Host.world c.turn.new.host in
     let a = c.args.engine.now in
     let b = c.turn.new.engine in
-    let copy : Copying = c.args.copier in
+    let copy : Copying = c.args.copier.now in
     let later : Copying = c.turn.new.self in
     let left : ℕ = copy.count - copy.next in
     let stalled : a.files.state ≡ 1 = copying_stalled old a t now c.args.session left copy.name more ready makes.going here in
@@ -51,13 +50,12 @@ returns-in-More-clause-turn g c now t more tells ready makes here goes =
     let some : 1 ≤ left = omega (arith, counts.0) in
     let rest : later.count - later.next ≡ left - 1 = omega (arith, counts.0, ap (λ (x : Copying). x.count) counts.1, ap (λ (x : Copying). x.next) counts.1) in
     let reads = g.met.H.Host.reads_left c.args.host.now tells copy.name in
-    turns_quiet c.args.told (copy_said 0) (Ok More) (λ (taken : Taken). taken.refused) (λ (taken : Taken). taken.task) old mid mid a b t now c.args.session (copy_first left (ClosesCopy copy.name)) (copy_rest left (ClosesCopy copy.name)) more _
+    turns_quiet c.args.told (copy_said 0) (Ok More) left_refused (left_task _) old mid mid a b t now c.args.session (copy_first left (ClosesCopy copy.name)) (copy_rest left (ClosesCopy copy.name)) more _
     (copy_files old mid a b t now c.args.session copy later 0 ready goes.1 reads left) makes here
     (copy_more old mid a b t now c.args.session copy later 0 ready goes.1 reads copies.left copies.gave left some copies.same (subst (λ (h : Held). IsOpen mid h t) refl copies.opened))
     (marks_made (copy_said 0) (Ok More) old mid a b t now c.args.session (copy_first left (ClosesCopy copy.name)) _ (apart_one a copy.name _ goes.1) (λ m. g.met.H.Host.reads_left c.turn.new.host tells m))
-    c.under_way.result tt (ap (λ (x : Taken). x.refused) c.under_way.ensures) ready (said_pages 0 More)
-    (λ told. subst (λ (x : Taken). IsBehind mid b c.args.session (copy_first left (ClosesCopy copy.name)) (copy_rest left (ClosesCopy copy.name)) now x.task) (sym c.under_way.ensures)
-    (more_behind old mid a b t now c.args.session copy later 0 ready goes.1 reads left some rest (ap (λ (x : Copying). x.name) counts.1) copies.same copies.answer goes.2))
+    Same tt refl ready (said_pages 0 More)
+    (λ told. more_behind old mid a b t now c.args.session copy later 0 ready goes.1 reads left some rest (ap (λ (x : Copying). x.name) counts.1) copies.same copies.answer goes.2)
 
 pub returns-in_err-tell-in-Finished-clause-turn : goal.returns-in_err-tell-in-Finished-clause-turn
 returns-in_err-tell-in-Finished-clause-turn g c now t more tells ready makes here goes =
@@ -67,7 +65,7 @@ returns-in_err-tell-in-Finished-clause-turn g c now t more tells ready makes her
     let a = c.args.engine.now in
     let b = c.turn.new.engine in
     let d = c.stop_running.new.engine in
-    let copy : Copying = c.args.copier in
+    let copy : Copying = c.args.copier.now in
     let later : Copying = c.turn.new.self in
     let left : ℕ = copy.count - copy.next in
     let pages : ℕ = c.written.result in
@@ -78,7 +76,7 @@ returns-in_err-tell-in-Finished-clause-turn g c now t more tells ready makes her
     let all = c.written.ensures ∙ ap (λ (x : Copying). x.next) counts.1 ∙ counts.0 ∙ sym goes.0.of.long in
     let stopped : d ≡ record a { running = None } = stopped_is a b d c.args.session copies.same goes.2 c.stop_running.ensures.own in
     let reads = g.met.H.Host.reads_left c.args.host.now tells copy.name in
-    turns_unsaid c.args.told (copy_said pages) (Ok Finished) (λ (taken : Taken). taken.refused) (λ (taken : Taken). taken.task) old mid new a d t now c.args.session (copy_first left (ClosesCopy copy.name)) (copy_rest left (ClosesCopy copy.name)) more _
+    turns_unsaid c.args.told (copy_said pages) (Ok Finished) left_refused (left_task _) old mid new a d t now c.args.session (copy_first left (ClosesCopy copy.name)) (copy_rest left (ClosesCopy copy.name)) more _
     (copy_files old mid a d t now c.args.session copy later pages ready goes.1 reads left) makes here
     (copy_ends old mid a d t now c.args.session copy later pages ready goes.1 reads copies.left copies.gave left none stopped (subst (λ (h : Held). IsOpen mid h t) copies.same copies.opened) all copies.answer)
     (marks_made (copy_said pages) (Ok Finished) old mid a d t now c.args.session (copy_first left (ClosesCopy copy.name)) _ (apart_one a copy.name _ goes.1) (λ m. g.met.H.Host.reads_left c.turn.new.host tells m))
@@ -92,7 +90,7 @@ returns-in_ok-tell-in-Finished-clause-turn g c now t more tells ready makes here
     let a = c.args.engine.now in
     let b = c.turn.new.engine in
     let d = c.stop_running.new.engine in
-    let copy : Copying = c.args.copier in
+    let copy : Copying = c.args.copier.now in
     let later : Copying = c.turn.new.self in
     let left : ℕ = copy.count - copy.next in
     let pages : ℕ = c.written.result in
@@ -103,7 +101,7 @@ returns-in_ok-tell-in-Finished-clause-turn g c now t more tells ready makes here
     let all = c.written.ensures ∙ ap (λ (x : Copying). x.next) counts.1 ∙ counts.0 ∙ sym goes.0.of.long in
     let stopped : d ≡ record a { running = None } = stopped_is a b d c.args.session copies.same goes.2 c.stop_running.ensures.own in
     let reads = g.met.H.Host.reads_left c.args.host.now tells copy.name in
-    turns_said c.args.told (copy_said pages) (Ok Finished) (λ (taken : Taken). taken.refused) (λ (taken : Taken). taken.task) old mid new a d t now c.args.session (copy_first left (ClosesCopy copy.name)) (copy_rest left (ClosesCopy copy.name)) more _
+    turns_said c.args.told (copy_said pages) (Ok Finished) left_refused (left_task _) old mid new a d t now c.args.session (copy_first left (ClosesCopy copy.name)) (copy_rest left (ClosesCopy copy.name)) more _
     (copy_files old mid a d t now c.args.session copy later pages ready goes.1 reads left) makes here
     (copy_ends old mid a d t now c.args.session copy later pages ready goes.1 reads copies.left copies.gave left none stopped (subst (λ (h : Held). IsOpen mid h t) copies.same copies.opened) all copies.answer)
     (marks_made (copy_said pages) (Ok Finished) old mid a d t now c.args.session (copy_first left (ClosesCopy copy.name)) _ (apart_one a copy.name _ goes.1) (λ m. g.met.H.Host.reads_left c.turn.new.host tells m))

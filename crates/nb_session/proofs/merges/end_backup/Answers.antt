@@ -1,11 +1,15 @@
 use Rattle.std.proofs.Common.{[], length, refl, sym, ap, subst}
-use Rattle.std.specs.Prelude.{Ok, Err, None}
+use Rattle.std.specs.Prelude.{Ok, Err, Some, None}
 use Rattle.nb_host.specs.declared.faults.Fault.{Fault}
 use Rattle.nb_host.specs.declared.faults.Fault.TheVariants.{Device, Memory}
+use Rattle.nb_model.specs.declared.reply.Reply.{Reply}
 use Rattle.nb_model.specs.Outcomes.{Ends}
 use Rattle.nb_model.specs.Pages.{end_turn, end_scn}
 use Rattle.nb_model.specs.Run.{base_now}
 use Rattle.nb_engine.specs.Turns.{DoesEnd}
+use Rattle.nb_session.specs.Askers.{left_refused, left_task}
+use Rattle.nb_session.specs.declared.task.Left.TheVariants.{Other}
+use Rattle.nb_session.specs.declared.task.Task.TheVariants.{Merge}
 use Rattle.nb_session.specs.declared.task.Taken.{Taken}
 use Rattle.nb_session.specs.Steps.{IsBehind}
 use Rattle.nb_session.proofs.EventLaws.{marks_none}
@@ -20,22 +24,34 @@ returns-in-Ok-clause-turn g c how now t more tells ready makes here runs =
     let mid = g.H.Host.world c.end.new.host in
     let a = c.args.engine.now in
     let b = c.end.new.self in
-    let quiet = ends_quiet old a t now c.args.session ready makes.going c.args.reply more here runs in
+    let quiet = ends_quiet old a t now c.args.session ready makes.going c.args.reply.now more here runs in
     let does = c.in-Ok.ensures.turn (seen_now now) t tells ready.base ready.running ready.opened in
-    turns_quiet how (λ scn. None) (Ok c.in-Ok.field-0) (λ (taken : Taken). taken.refused) (λ (taken : Taken). taken.task) old mid mid a b t now c.args.session (Ends c.args.reply) [] more [] (ends_make (base_now now).frozen c.args.reply) makes here
-    (ends_acts old mid a b t now c.args.session ready c.args.reply quiet (Ok c.in-Ok.field-0) does) (λ acts. marks_none old mid a)
-    c.merge_of.result tt (ap (λ (x : Taken). x.refused) c.merge_of.ensures) ready (λ said is. is)
-    (λ told. subst (λ (x : Taken). IsBehind mid b c.args.session (Ends c.args.reply) [] now x.task) (sym c.merge_of.ensures) (ends_behind old mid a b t now c.args.session ready (length b.files.entries) refl c.in-Ok.field-0 does c.args.reply))
+    turns_quiet how (λ scn. None) (Ok c.in-Ok.field-0) left_refused (left_task _) old mid mid a b t now c.args.session (Ends c.args.reply.now) [] more [] (ends_make (base_now now).frozen c.args.reply.now) makes here
+    (ends_acts old mid a b t now c.args.session ready c.args.reply.now quiet (Ok c.in-Ok.field-0) does) (λ acts. marks_none old mid a)
+    (Other c.merge_of.result) tt (ap (λ (x : Taken). x.refused) c.merge_of.ensures) ready (λ said is. is)
+    (λ told. subst (λ (x : Taken). IsBehind mid b c.args.session (Ends c.args.reply.now) [] now x.task) (sym c.merge_of.ensures)
+    (subst (λ (r : Reply). IsBehind mid b c.args.session (Ends c.args.reply.now) [] now (Some (Merge (record { left = length b.files.entries; reply = r })))) (sym c.replace-reply.ensures.value)
+    (ends_behind old mid a b t now c.args.session ready (length b.files.entries) refl c.in-Ok.field-0 does c.args.reply.now)))
 
-pub returns-in-Err-Refused-clause-turn : goal.returns-in-Err-Refused-clause-turn
-returns-in-Err-Refused-clause-turn g c how now t more tells ready makes here runs =
+pub returns-in_err-say_refused-in-Err-Refused-clause-turn : goal.returns-in_err-say_refused-in-Err-Refused-clause-turn
+returns-in_err-say_refused-in-Err-Refused-clause-turn g c how now t more tells ready makes here runs =
     let old = g.H.Host.world c.args.host.now in
     let mid = g.H.Host.world c.end.new.host in
     let a = c.args.engine.now in
     let b = c.end.new.self in
     let does = subst (λ (f : Fault). DoesEnd (Err f) old mid a b t (end_scn t.base.image) (end_turn (seen_now now) c.args.session)) c.in-Err-Refused.field-0-is (c.in-Err-Refused.ensures.turn (seen_now now) t tells ready.base ready.running ready.opened) in
-    turns_never how (λ (taken : Taken). taken.refused) (λ (taken : Taken). taken.task) c.say_refused.result old (g.H.Host.world c.say_refused.new.host) a b t now c.args.session (Ends c.args.reply) [] more
-    (ends_unrefused old mid a b t now c.args.session ready makes.going c.args.reply more here runs c.in-Err-Refused.refusal does)
+    turns_never how left_refused (left_task _) _ old (g.H.Host.world c.say_refused.new.host) a b t now c.args.session (Ends c.args.reply.now) [] more
+    (ends_unrefused old mid a b t now c.args.session ready makes.going c.args.reply.now more here runs c.in-Err-Refused.refusal does)
+
+pub returns-in_ok-say_refused-in-Err-Refused-clause-turn : goal.returns-in_ok-say_refused-in-Err-Refused-clause-turn
+returns-in_ok-say_refused-in-Err-Refused-clause-turn g c how now t more tells ready makes here runs =
+    let old = g.H.Host.world c.args.host.now in
+    let mid = g.H.Host.world c.end.new.host in
+    let a = c.args.engine.now in
+    let b = c.end.new.self in
+    let does = subst (λ (f : Fault). DoesEnd (Err f) old mid a b t (end_scn t.base.image) (end_turn (seen_now now) c.args.session)) c.in-Err-Refused.field-0-is (c.in-Err-Refused.ensures.turn (seen_now now) t tells ready.base ready.running ready.opened) in
+    turns_never how left_refused (left_task _) _ old (g.H.Host.world c.say_refused.new.host) a b t now c.args.session (Ends c.args.reply.now) [] more
+    (ends_unrefused old mid a b t now c.args.session ready makes.going c.args.reply.now more here runs c.in-Err-Refused.refusal does)
 
 pub returns-in-Err-Device-clause-turn : goal.returns-in-Err-Device-clause-turn
 returns-in-Err-Device-clause-turn g c how now t more tells ready makes here runs =
@@ -43,18 +59,18 @@ returns-in-Err-Device-clause-turn g c how now t more tells ready makes here runs
     let mid = g.H.Host.world c.end.new.host in
     let a = c.args.engine.now in
     let b = c.end.new.self in
-    let quiet = ends_quiet old a t now c.args.session ready makes.going c.args.reply more here runs in
+    let quiet = ends_quiet old a t now c.args.session ready makes.going c.args.reply.now more here runs in
     let does = subst (λ (f : Fault). DoesEnd (Err f) old mid a b t (end_scn t.base.image) (end_turn (seen_now now) c.args.session)) c.in-Err-Device.field-0-is (c.in-Err-Device.ensures.turn (seen_now now) t tells ready.base ready.running ready.opened) in
-    turns_failed how (λ scn. None) (Err Device) (λ (taken : Taken). taken.refused) (λ (taken : Taken). taken.task) old mid mid a b t now c.args.session (Ends c.args.reply) [] more [] (ends_make (base_now now).frozen c.args.reply) makes here
-    (ends_acts old mid a b t now c.args.session ready c.args.reply quiet (Err Device) does) (λ acts. marks_none old mid a) (Err Device) refl
+    turns_failed how (λ scn. None) (Err Device) left_refused (left_task _) old mid mid a b t now c.args.session (Ends c.args.reply.now) [] more [] (ends_make (base_now now).frozen c.args.reply.now) makes here
+    (ends_acts old mid a b t now c.args.session ready c.args.reply.now quiet (Err Device) does) (λ acts. marks_none old mid a) (Err Device) refl
 
-pub returns-clause-turn : goal.returns-clause-turn
-returns-clause-turn g c how now t more tells ready makes here runs =
+pub returns-in-Err-Memory-clause-turn : goal.returns-in-Err-Memory-clause-turn
+returns-in-Err-Memory-clause-turn g c how now t more tells ready makes here runs =
     let old = g.H.Host.world c.args.host.now in
     let mid = g.H.Host.world c.end.new.host in
     let a = c.args.engine.now in
     let b = c.end.new.self in
-    let quiet = ends_quiet old a t now c.args.session ready makes.going c.args.reply more here runs in
+    let quiet = ends_quiet old a t now c.args.session ready makes.going c.args.reply.now more here runs in
     let does = subst (λ (f : Fault). DoesEnd (Err f) old mid a b t (end_scn t.base.image) (end_turn (seen_now now) c.args.session)) c.in-Err-Memory.field-0-is (c.in-Err-Memory.ensures.turn (seen_now now) t tells ready.base ready.running ready.opened) in
-    turns_failed how (λ scn. None) (Err Memory) (λ (taken : Taken). taken.refused) (λ (taken : Taken). taken.task) old mid mid a b t now c.args.session (Ends c.args.reply) [] more [] (ends_make (base_now now).frozen c.args.reply) makes here
-    (ends_acts old mid a b t now c.args.session ready c.args.reply quiet (Err Memory) does) (λ acts. marks_none old mid a) (Err Memory) refl
+    turns_failed how (λ scn. None) (Err Memory) left_refused (left_task _) old mid mid a b t now c.args.session (Ends c.args.reply.now) [] more [] (ends_make (base_now now).frozen c.args.reply.now) makes here
+    (ends_acts old mid a b t now c.args.session ready c.args.reply.now quiet (Err Memory) does) (λ acts. marks_none old mid a) (Err Memory) refl

@@ -1,0 +1,85 @@
+// The line of a script that breaks its form, for a reader.
+ghost use Rattle.std.specs.Prelude.{◌≡◌, Some, map, string_bytes, IfOk, IfSome};
+ghost use Rattle.nb_model.specs.Words.{job_of};
+ghost use Rattle.nb_model.specs.declared.job.Job.TheVariants.{Run};
+
+use nb_host::{Fault, Host, Name, Refusal};
+use nb_model::Job;
+use nb_script::{MOST_BYTES, parse};
+use nb_words::read_job;
+use std::alloc::{AllocError, Global};
+
+/// How many bytes of a line are shown at most.
+const MOST_SHOWN: usize = 200;
+
+/// A line that breaks the form of its script.
+#[derive(Drop)]
+pub struct Broken {
+    /// Its number, from 1.
+    pub line: u32,
+    /// What is shown of it.
+    pub text: String,
+}
+
+/// The script that the words ask to run, if that is what they ask.
+pub fn script_of(alloc: Global, words: &[String]) -> Result<Option<Name>, Fault>
+    ensures { IfOk result (λ script. IfSome script (λ name. job_of (map string_bytes words.now) ≡ Some (Run name))) }
+{
+    let job = read_job(alloc, words)?;
+    match &job {
+        Job::Run { script } => Ok(Some(script.copied())),
+        _ => Ok(None),
+    }
+}
+
+/// The bytes of a line for a reader: what isn't printable as its number, and at most 200 bytes of it, behind which dots stand for the rest.
+fn shown(alloc: Global, line: &[u8]) -> Result<String, AllocError> {
+    let mut text = String::new(alloc);
+    for byte in line.iter().take(MOST_SHOWN) {
+        if *byte == b' ' || byte.is_ascii_graphic() {
+            text.push(char::from(*byte))?;
+        } else {
+            text.push_str(&format!(in alloc; "\\x{byte:02x}")?)?;
+        }
+    }
+    if line.len() > MOST_SHOWN {
+        text.push_str("...")?;
+    }
+    Ok(text)
+}
+
+/// What is shown of the line of that number, from 1, of these bytes.
+fn text_of(alloc: Global, bytes: &[u8], line: u32) -> Result<String, AllocError> {
+    match bytes
+        .split(|byte| *byte == b'\n')
+        .nth(line.saturating_sub(1) as usize)
+    {
+        Some(line) if !line.is_empty() => shown(alloc, line),
+        // A line without bytes is skipped, so only one behind the last breaks the form.
+        _ => String::from_str(alloc, "there is no first statement"),
+    }
+}
+
+/// The line that breaks the form of a script, none where the file spells one or isn't read for its length. It is read once more.
+pub fn broken_line<H: Host>(
+    alloc: Global,
+    host: &mut H,
+    script: &Name,
+) -> Result<Option<Broken>, Fault> {
+    let Some(size) = host.size(script)? else {
+        return Ok(None);
+    };
+    if size > MOST_BYTES as u64 {
+        return Ok(None);
+    }
+    let mut bytes = vec![in alloc; 0; size as usize]?;
+    let count = host.read_at(script, 0, &mut bytes)?;
+    bytes.truncate(count);
+    match parse(alloc, &bytes) {
+        Err(Fault::Refused(Refusal::BadScript { line })) => {
+            let text = text_of(alloc, &bytes, line)?;
+            Ok(Some(Broken { line, text }))
+        }
+        _ => Ok(None),
+    }
+}

@@ -1,0 +1,29 @@
+//! The tests of the crates below the store: of the hosts, of pages in memory, of the files of a backup, and of scripts and words.
+//!
+//! They stand in a crate of their own, over the crates that they test, since a crate with tests is proved twice.
+#![tactic(auto)]
+
+#[cfg(test)]
+mod cache_tests;
+#[cfg(test)]
+mod chain_tests;
+#[cfg(test)]
+mod delta_tests;
+#[cfg(test)]
+mod file_tests;
+#[cfg(test)]
+mod fixup_tests;
+#[cfg(test)]
+mod level_tests;
+#[cfg(test)]
+mod mem_tests;
+#[cfg(test)]
+mod model_tests;
+#[cfg(test)]
+mod restore_tests;
+#[cfg(test)]
+mod sample;
+#[cfg(test)]
+mod script_tests;
+#[cfg(test)]
+mod words_tests;

@@ -1,0 +1,50 @@
+// The script of a number is written to a file, and run.
+ghost use Rattle.std.specs.Prelude.{◌≡◌, ◌⊎◌, false, Ok, IsTrue, IfOk};
+ghost use Rattle.nb_host.specs.Names.{is_delta};
+ghost use Rattle.nb_model.specs.Account.{Account};
+ghost use Rattle.nb_model.specs.Gifts.{Foretells};
+ghost use Rattle.nb_model.specs.Outcomes.{Given};
+ghost use Rattle.nb_session.specs.Acts.{Grows};
+ghost use Rattle.nb_session.specs.Causes.{CountsStop};
+ghost use Rattle.nb_top.specs.Performed.{Knows, MayBeGiven, RunsTo};
+ghost use Rattle.nb_top.specs.Requests.{ToGenerate};
+
+use crate::Status;
+use crate::script::{refuse, run_script, settled};
+use crate::telling::Telling;
+use nb_gen::{generate, write_script};
+use nb_host::{Host, Name, Refusal};
+use nb_page::is_free;
+use nb_script::parse;
+use nb_session::Stop;
+use std::alloc::Global;
+
+/// Writes the script of that number to a new file and runs it, and tells only refusals and the pages by kind. All memory that the script
+/// needs is taken before its file is made.
+pub(crate) fn run_generated<H: Host>(
+    alloc: Global,
+    host: &mut H,
+    number: u64,
+    name: &Name,
+) -> Result<Status, Stop>
+    requires { is_delta name.now ≡ false }
+    ensures runs { (account : Account) (given : Given) → IsTrue H.tells → Knows (H.world host.old).files account (Ok (ToGenerate number name.now)) → MayBeGiven given
+        → Foretells given (H.world host.old) (H.world host.new) → RunsTo result (H.world host.old) (H.world host.new) (Ok (ToGenerate number name.now)) account given }
+    ensures grows { (account : Account) → IsTrue H.tells → Knows (H.world host.old).files account (Ok (ToGenerate number name.now)) → Grows (H.world host.old) (H.world host.new) }
+    ensures done { IfOk result (λ status. (status ≡ Status.Done) ⊎ (status ≡ Status.Refused)) }
+    ensures cause { CountsStop result (H.faults host.old) (H.faults host.new) }
+{
+    if !is_free(host, name)? {
+        let name = name.copied();
+        return refuse(alloc, host, 1, Refusal::FileExists { name });
+    }
+    let Ok(bytes) = generate(alloc, number) else {
+        return Err(Stop::Memory);
+    };
+    let script = settled(parse(alloc, &bytes))?;
+    write_script(host, name, &bytes)?;
+    match script {
+        Ok(script) => run_script(alloc, host, &script, Telling::Sparingly),
+        Err(refusal) => refuse(alloc, host, 0, refusal),
+    }
+}
