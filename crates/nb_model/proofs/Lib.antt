@@ -111,3 +111,4 @@ pub mod FreshNeat
 pub mod TablePaged
 pub mod GoingLaws
 pub mod MakingLaws
+pub mod CourseLaws

@@ -42,3 +42,5 @@ pub mod Worked
 pub mod Seeds
 pub mod Generated
 pub mod Opened
+pub mod Course
+pub mod Behind

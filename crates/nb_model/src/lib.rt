@@ -16,6 +16,9 @@ mod reply;
 mod rows;
 mod statement;
 pub mod table_laws;
+
+/// Laws of pages that wait.
+pub mod waiting_laws;
 mod table_name;
 mod text;
 pub mod worked;
