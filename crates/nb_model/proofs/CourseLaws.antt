@@ -102,18 +102,19 @@ module _ (c : Course) (b : Base) (steps : AreInStep (bases_of c)) (long : length
     pub covered_entries : HasEntries b.image
     covered_entries = record { there = there; no_lower = lower; no_later = later }
 
--- What is raised stays so for the first entries, where those are current.
-pub raised_front : (now b : Base) (rest : List ℕ) → image_size b.image ≡ image_size now.image → now.diverted ≡ b.diverted ++ rest → IsRaised now.image now.diverted
-    → ((p k : ℕ) → entry_for p b.diverted ≡ Some k → has_entry b.image p ≡ true → scn_entry b.image p ≡ image_scn b.image) → IsRaised b.image b.diverted
-raised_front now b rest size split raised current = record { behind = behind; current = current }
-  where
-    behind : (p k : ℕ) → entry_for p b.diverted ≡ Some k → has_entry b.image p ≡ true → (j : ℕ) × (entry_for (scn_page_of b.image p) b.diverted ≡ Some j) × (j < k)
-    behind p k e has =
-        let whole : entry_for p now.diverted ≡ Some k = ap (entry_for p) split ∙ for_front p k b.diverted rest e in
-        let old = raised.behind p k whole (sym (has_same b.image now.image size p) ∙ has) in
-        let there : entry_for (scn_page_of now.image p) (b.diverted ++ rest) ≡ Some old.0 = sym (ap (entry_for (scn_page_of now.image p)) split) ∙ old.1 in
-        let kept : entry_for (scn_page_of now.image p) b.diverted ≡ Some old.0 = for_back (scn_page_of now.image p) old.0 b.diverted rest there (omega (arith, old.2, for_below p k b.diverted e)) in
-        (old.0, ap (λ (n : ℕ). entry_for n b.diverted) (scn_page_same b.image now.image size p) ∙ kept, old.2)
+-- What is raised stays so for the first entries: the SCN page of a page that one of them names stands before it,
+module _ (now b : Base) (rest : List ℕ) (size : image_size b.image ≡ image_size now.image) (split : now.diverted ≡ b.diverted ++ rest) (raised : IsRaised now.image now.diverted) where
+  pub behind_front : (p k : ℕ) → entry_for p b.diverted ≡ Some k → has_entry b.image p ≡ true → (j : ℕ) × (entry_for (scn_page_of b.image p) b.diverted ≡ Some j) × (j < k)
+  behind_front p k e has =
+      let whole : entry_for p now.diverted ≡ Some k = ap (entry_for p) split ∙ for_front p k b.diverted rest e in
+      let old = raised.behind p k whole (sym (has_same b.image now.image size p) ∙ has) in
+      let there : entry_for (scn_page_of now.image p) (b.diverted ++ rest) ≡ Some old.0 = sym (ap (entry_for (scn_page_of now.image p)) split) ∙ old.1 in
+      let kept : entry_for (scn_page_of now.image p) b.diverted ≡ Some old.0 = for_back (scn_page_of now.image p) old.0 b.diverted rest there (omega (arith, old.2, for_below p k b.diverted e)) in
+      (old.0, ap (λ (n : ℕ). entry_for n b.diverted) (scn_page_same b.image now.image size p) ∙ kept, old.2)
+
+  -- and the entry is to be current.
+  pub raised_front : ((p k : ℕ) → entry_for p b.diverted ≡ Some k → has_entry b.image p ≡ true → scn_entry b.image p ≡ image_scn b.image) → IsRaised b.image b.diverted
+  raised_front current = record { behind = behind_front; current = current }
 
 -- What is left where no SCN page waits.
 module _ (c : Course) (b : Base) (left : LeavesFirm c b) where

@@ -112,3 +112,4 @@ pub mod TablePaged
 pub mod GoingLaws
 pub mod MakingLaws
 pub mod CourseLaws
+pub mod BehindLaws

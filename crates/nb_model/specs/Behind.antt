@@ -32,6 +32,7 @@ pub record IsOnTheWay (f c : Course) (b : Base) : Type 0 where
   pub first : first_page b.image ≡ first_page c.base.image
   pub scn_pages : (p : ℕ) → p < length b.image → is_scn_place (image_size c.base.image) p ≡ true → (page_at b.image p ≡ page_at f.base.image p) ⊎ (page_at b.image p ≡ page_at c.base.image p)
   pub others : (p : ℕ) → p < length b.image → is_scn_place (image_size c.base.image) p ≡ false → HasPage (bases_of f) p (page_at b.image p) ⊎ IsRewritten c b p
+  pub below : (p k : ℕ) → entry_for p b.diverted ≡ Some k → p < length b.image
   pub frozen : b.frozen ≡ f.base.frozen
   pub diverted : (rest : List ℕ) × (f.base.diverted ≡ b.diverted ++ rest)
   pub merging : image_state c.base.image ≡ 2 → b.diverted ≡ f.base.diverted
