@@ -111,5 +111,5 @@ pub mod FreshNeat
 pub mod TablePaged
 pub mod GoingLaws
 pub mod MakingLaws
-pub mod CourseLaws
+pub mod CoveredLaws
 pub mod BehindLaws

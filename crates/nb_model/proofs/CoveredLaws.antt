@@ -1,4 +1,4 @@
--- Laws of courses: databases in step, and when what is left of them is covered.
+-- Databases in step, and when what is left of them is covered.
 use Rattle.std.proofs.Common.{◌≡◌, ℕ, zero, suc, ◌+◌, ◌/◌, ◌%◌, ◌<◌, ◌≤◌, List, [], ◌∷◌, ◌++◌, length, take, refl, sym, ap, subst, ◌∙◌, arith}
 use Rattle.std.specs.Prelude.{true, false, Some, Contains, IsTrue}
 use Rattle.std.specs.List.{AllByRecursion}
@@ -13,12 +13,23 @@ use Rattle.nb_model.specs.Forms.{scn_page_of, scn_entry, has_entry}
 use Rattle.nb_model.specs.Owner.{entry_for}
 use Rattle.nb_model.specs.Sound.{HasEntries}
 use Rattle.nb_model.specs.Stands.{IsRaised}
-use Rattle.nb_model.specs.Earlier.{IsEarlier}
-use Rattle.nb_model.specs.Course.{Course, bases_of, IsCovered, AreInStep, HasPage, IsMixture, IsRest, MayLeave, LeavesFirm}
+use Rattle.nb_model.specs.Earlier.{IsEarlier, IsCovered, AreInStep}
+use Rattle.nb_model.specs.Pagewise.{AgreesWith}
+use Rattle.nb_model.specs.Trail.{Trail, bases_of, HasPage, IsMixture, IsLeft, IsFirm}
 use Rattle.nb_model.proofs.SoundLaws.{scn_page_there}
 use Rattle.nb_model.proofs.MixtureLaws.{has_same, scn_page_same, entry_same}
-use Rattle.nb_model.proofs.EarlierLaws.{earlier_itself}
 use Rattle.nb_model.proofs.EntryLaws.{for_front, for_back, for_below}
+
+pub earlier_itself : (a : Image) → IsEarlier a a
+earlier_itself a = record { long = omega arith; size = refl; scn = omega arith; entries = λ p low has. omega arith }
+
+pub earlier_joins : (a b c : Image) → IsEarlier a b → IsEarlier b c → IsEarlier a c
+earlier_joins a b c ab bc = record {
+  long = omega (arith, ab.long, bc.long);
+  size = ab.size ∙ bc.size;
+  scn = omega (arith, ab.scn, bc.scn);
+  entries = λ p low has. omega (arith, ab.entries p low has, bc.entries p (omega (arith, low, ab.long)) (sym (has_same a b ab.size p) ∙ has));
+}
 
 -- What holds of all holds of a front, and of the last one.
 all_front : (P : Base → Type 0) (xs ys : List Base) → AllByRecursion P (xs ++ ys) → AllByRecursion P xs
@@ -32,7 +43,7 @@ all_last P (x ∷ xs) now all = all_last P xs now all.1
 -- databases in step are so in each part of them
 pub steps_front : (xs ys : List Base) → AreInStep (xs ++ ys) → AreInStep xs
 steps_front [] ys steps = tt
-steps_front (x ∷ xs) ys steps = (steps.0, all_front (λ c. IsEarlier x.image c.image) xs ys steps.1, steps_front xs ys steps.2)
+steps_front (x ∷ xs) ys steps = (steps.0, all_front (λ t. IsEarlier x.image t.image) xs ys steps.1, steps_front xs ys steps.2)
 
 pub steps_back : (xs ys : List Base) → AreInStep (xs ++ ys) → AreInStep ys
 steps_back [] ys steps = steps
@@ -48,12 +59,21 @@ steps_covered (x ∷ xs) m steps (suc k, low, is) = steps_covered xs m steps.2 (
 pub steps_before : (xs : List Base) (now m : Base) → AreInStep (xs ++ now ∷ []) → Contains (xs ++ now ∷ []) m → IsEarlier m.image now.image
 steps_before [] now m steps (zero, low, is) = subst (λ (b : Base). IsEarlier b.image now.image) is (earlier_itself now.image)
 steps_before [] now m steps (suc k, low, is) = absurd (omega (arith, low))
-steps_before (x ∷ xs) now m steps (zero, low, is) = subst (λ (b : Base). IsEarlier b.image now.image) is (all_last (λ c. IsEarlier x.image c.image) xs now steps.1)
+steps_before (x ∷ xs) now m steps (zero, low, is) = subst (λ (b : Base). IsEarlier b.image now.image) is (all_last (λ t. IsEarlier x.image t.image) xs now steps.1)
 steps_before (x ∷ xs) now m steps (suc k, low, is) = steps_before xs now m steps.2 (k, omega (arith, low), is)
 
+-- One more goes on from the last one.
+pub steps_more : (xs : List Base) (now next : Base) → AreInStep (xs ++ now ∷ []) → IsEarlier now.image next.image → IsCovered next → AreInStep ((xs ++ now ∷ []) ++ next ∷ [])
+steps_more [] now next steps earlier covered = (steps.0, (earlier, tt), (covered, tt, tt))
+steps_more (x ∷ xs) now next steps earlier covered = (steps.0, all_more xs steps.1, steps_more xs now next steps.2 earlier covered)
+  where
+    all_more : (ys : List Base) → AllByRecursion (λ b. IsEarlier x.image b.image) (ys ++ now ∷ []) → AllByRecursion (λ b. IsEarlier x.image b.image) ((ys ++ now ∷ []) ++ next ∷ [])
+    all_more [] all = (all.0, (earlier_joins x.image now.image next.image all.0 earlier, tt))
+    all_more (y ∷ ys) all = (all.0, all_more ys all.1)
+
 -- the last of them is there
-pub now_there : (c : Course) → Contains (bases_of c) c.base
-now_there c = Contains-append_right c.earlier (c.base ∷ []) c.base (0, omega arith, refl)
+pub now_there : (t : Trail) → Contains (bases_of t) t.base
+now_there t = Contains-append_right t.earlier (t.base ∷ []) t.base (0, omega arith, refl)
 
 -- A page of one of the databases, whose entry is no lower where it is left.
 pub record IsFrom (bases : List Base) (b : Base) (p : ℕ) : Type 0 where
@@ -61,43 +81,43 @@ pub record IsFrom (bases : List Base) (b : Base) (p : ℕ) : Type 0 where
   pub entry : scn_entry has.base.image p ≤ scn_entry b.image p
 
 -- Whatever has its pages from databases in step, and entries no lower than theirs, is covered.
-module _ (c : Course) (b : Base) (steps : AreInStep (bases_of c)) (long : length b.image ≡ length c.base.image) (first : first_page b.image ≡ first_page c.base.image) where
-  now_covered : IsCovered c.base
-  now_covered = steps_covered (bases_of c) c.base steps (now_there c)
+module _ (t : Trail) (b : Base) (steps : AreInStep (bases_of t)) (long : length b.image ≡ length t.base.image) (first : first_page b.image ≡ first_page t.base.image) where
+  now_covered : IsCovered t.base
+  now_covered = steps_covered (bases_of t) t.base steps (now_there t)
 
-  before : (m : Base) → Contains (bases_of c) m → IsEarlier m.image c.base.image
-  before m there = steps_before c.earlier c.base m steps there
+  before : (m : Base) → Contains (bases_of t) m → IsEarlier m.image t.base.image
+  before m there = steps_before t.earlier t.base m steps there
 
-  size : image_size b.image ≡ image_size c.base.image
+  size : image_size b.image ≡ image_size t.base.image
   size = ap size_of first
 
-  scn : image_scn b.image ≡ image_scn c.base.image
+  scn : image_scn b.image ≡ image_scn t.base.image
   scn = ap scn_of first
 
-  module _ (from : (p : ℕ) → p < length b.image → has_entry b.image p ≡ true → IsFrom (bases_of c) b p)
-      (scn_pages : (p : ℕ) → p < length b.image → is_scn_place (image_size c.base.image) p ≡ true → HasPage (bases_of c) p (page_at b.image p)) where
+  module _ (from : (p : ℕ) → p < length b.image → has_entry b.image p ≡ true → IsFrom (bases_of t) b p)
+      (scn_pages : (p : ℕ) → p < length b.image → is_scn_place (image_size t.base.image) p ≡ true → HasPage (bases_of t) p (page_at b.image p)) where
     there : (p : ℕ) → p < length b.image → has_entry b.image p ≡ true → scn_page_of b.image p < length b.image
     there p low has =
-        omega (arith, scn_page_same b.image c.base.image size p, long, now_covered.entries.there p (omega (arith, low, long)) (sym (has_same b.image c.base.image size p) ∙ has))
+        omega (arith, scn_page_same b.image t.base.image size p, long, now_covered.entries.there p (omega (arith, low, long)) (sym (has_same b.image t.base.image size p) ∙ has))
 
     lower : (p : ℕ) → p < length b.image → has_entry b.image p ≡ true → stamp_of (page_at b.image p) ≤ scn_entry b.image p
     lower p low has =
-        let one : IsFrom (bases_of c) b p = from p low has in
+        let one : IsFrom (bases_of t) b p = from p low has in
         let m : Base = one.has.base in
         let size_m : image_size m.image ≡ image_size b.image = (before m one.has.there).size ∙ sym size in
-        omega (arith, ap stamp_of one.has.same, (steps_covered (bases_of c) m steps one.has.there).entries.no_lower p one.has.below (has_same m.image b.image size_m p ∙ has), one.entry)
+        omega (arith, ap stamp_of one.has.same, (steps_covered (bases_of t) m steps one.has.there).entries.no_lower p one.has.below (has_same m.image b.image size_m p ∙ has), one.entry)
 
     later : (p : ℕ) → scn_page_of b.image p < length b.image → has_entry b.image p ≡ true → scn_entry b.image p ≤ image_scn b.image
     later p low has =
         let q : ℕ = scn_page_of b.image p in
-        let place : scn_page_of b.image p ≡ scn_page_of c.base.image p = scn_page_same b.image c.base.image size p in
-        let at : is_scn_place (image_size c.base.image) (scn_page_of b.image p) ≡ true = ap (is_scn_place (image_size c.base.image)) place ∙ scn_page_there (image_size c.base.image) (p / entries_in (image_size c.base.image)) now_covered.size in
-        let one : HasPage (bases_of c) (scn_page_of b.image p) (page_at b.image (scn_page_of b.image p)) = scn_pages (scn_page_of b.image p) low at in
+        let place : scn_page_of b.image p ≡ scn_page_of t.base.image p = scn_page_same b.image t.base.image size p in
+        let at : is_scn_place (image_size t.base.image) (scn_page_of b.image p) ≡ true = ap (is_scn_place (image_size t.base.image)) place ∙ scn_page_there (image_size t.base.image) (p / entries_in (image_size t.base.image)) now_covered.size in
+        let one : HasPage (bases_of t) (scn_page_of b.image p) (page_at b.image (scn_page_of b.image p)) = scn_pages (scn_page_of b.image p) low at in
         let m : Base = one.base in
         let size_m : image_size m.image ≡ image_size b.image = (before m one.there).size ∙ sym size in
         let entry : scn_entry m.image p ≡ scn_entry b.image p = entry_same m.image b.image size_m p (sym one.same) in
         let below : scn_page_of m.image p < length m.image = omega (arith, scn_page_same m.image b.image size_m p, one.below) in
-        omega (arith, entry, (steps_covered (bases_of c) m steps one.there).entries.no_later p below (has_same m.image b.image size_m p ∙ has), (before m one.there).scn, scn)
+        omega (arith, entry, (steps_covered (bases_of t) m steps one.there).entries.no_later p below (has_same m.image b.image size_m p ∙ has), (before m one.there).scn, scn)
 
     pub covered_entries : HasEntries b.image
     covered_entries = record { there = there; no_lower = lower; no_later = later }
@@ -117,43 +137,38 @@ module _ (now b : Base) (rest : List ℕ) (size : image_size b.image ≡ image_s
   raised_front current = record { behind = behind_front; current = current }
 
 -- What is left where no SCN page waits.
-module _ (c : Course) (b : Base) (left : LeavesFirm c b) where
-  firm_size : image_size b.image ≡ image_size c.base.image
+module _ (t : Trail) (b : Base) (left : IsFirm t b) where
+  firm_size : image_size b.image ≡ image_size t.base.image
   firm_size = ap size_of left.mixed.first
 
   -- each entry is that which is seen
-  pub firm_entry : IsTrue (is_page_size (image_size c.base.image)) → (p : ℕ) → scn_entry b.image p ≡ scn_entry c.base.image p
-  firm_entry wide p = entry_same b.image c.base.image firm_size p (left.kept (scn_page_of c.base.image p) (scn_page_there (image_size c.base.image) (p / entries_in (image_size c.base.image)) wide))
+  pub firm_entry : IsTrue (is_page_size (image_size t.base.image)) → (p : ℕ) → scn_entry b.image p ≡ scn_entry t.base.image p
+  firm_entry wide p = entry_same b.image t.base.image firm_size p (left.kept (scn_page_of t.base.image p) (scn_page_there (image_size t.base.image) (p / entries_in (image_size t.base.image)) wide))
 
-  pub firm_covered : AreInStep (bases_of c) → IsCovered b
+  pub firm_covered : AreInStep (bases_of t) → IsCovered b
   firm_covered steps =
-      let now : IsCovered c.base = steps_covered (bases_of c) c.base steps (now_there c) in
+      let now : IsCovered t.base = steps_covered (bases_of t) t.base steps (now_there t) in
       record {
         size = subst (λ (n : ℕ). IsTrue (is_page_size n)) (sym firm_size) now.size;
-        entries = covered_entries c b steps left.mixed.long left.mixed.first
+        entries = covered_entries t b steps left.mixed.long left.mixed.first
             (λ p low has.
-            let one : HasPage (bases_of c) p (page_at b.image p) = left.mixed.each p low in
-            let old : IsEarlier one.base.image c.base.image = steps_before c.earlier c.base one.base steps one.there in
+            let one : HasPage (bases_of t) p (page_at b.image p) = left.mixed.each p low in
+            let old : IsEarlier one.base.image t.base.image = steps_before t.earlier t.base one.base steps one.there in
             record {
               has = one;
               entry = omega (arith, old.entries p one.below (has_same one.base.image b.image (old.size ∙ sym firm_size) p ∙ has), firm_entry now.size p);
             })
             (λ p low at. left.mixed.each p low);
         raised = λ stalled.
-            let raised : IsRaised c.base.image c.base.diverted = now.raised (sym (ap state_of left.mixed.first) ∙ stalled) in
-            raised_front c.base b left.rest.diverted.0 firm_size left.rest.diverted.1 raised
+            let raised : IsRaised t.base.image t.base.diverted = now.raised (sym (ap state_of left.mixed.first) ∙ stalled) in
+            raised_front t.base b left.rest.diverted.0 firm_size left.rest.diverted.1 raised
             (λ p k e has.
-            firm_entry now.size p ∙ raised.current p k (ap (entry_for p) left.rest.diverted.1 ∙ for_front p k b.diverted left.rest.diverted.0 e) (sym (has_same b.image c.base.image firm_size p) ∙ has)
+            firm_entry now.size p ∙ raised.current p k (ap (entry_for p) left.rest.diverted.1 ∙ for_front p k b.diverted left.rest.diverted.0 e) (sym (has_same b.image t.base.image firm_size p) ∙ has)
             ∙ sym (ap scn_of left.mixed.first));
       }
 
-  pub firm_may : MayLeave c b
-  firm_may = record { mixed = left.mixed; covered = firm_covered; rest = left.rest }
+  pub firm_agrees : AgreesWith b.image t.base.image
+  firm_agrees = record { long = left.mixed.long; scn = ap scn_of left.mixed.first; scn_pages = λ p low at. left.kept p (ap (λ (n : ℕ). is_scn_place n p) (sym firm_size) ∙ at) }
 
--- what was seen last may be left
-pub itself_firm : (c : Course) → LeavesFirm c c.base
-itself_firm c = record {
-  mixed = record { long = refl; first = refl; each = λ p low. record { base = c.base; there = now_there c; below = low; same = refl } };
-  kept = λ p at. refl;
-  rest = record { frozen = refl; diverted = ([], sym (append-nil c.base.diverted)); merging = λ is. refl; whole = λ none. refl };
-}
+  pub firm_left : IsLeft t b
+  firm_left = record { mixed = left.mixed; covered = firm_covered; rest = left.rest }
