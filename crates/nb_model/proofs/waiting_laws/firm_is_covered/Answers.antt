@@ -1,4 +1,5 @@
-use Rattle.nb_model.proofs.CoveredLaws.{firm_covered, firm_left, itself_firm}
+use Rattle.nb_model.proofs.CoveredLaws.{firm_covered, firm_left}
+use Rattle.nb_model.proofs.TrailLaws.{itself_firm}
 use Rattle.nb_model.proofs.waiting_laws.firm_is_covered.Goals as goal
 
 pub returns-clause-covered : goal.returns-clause-covered
