@@ -1,3 +1,4 @@
+pub mod Firm
 pub mod Open
 pub mod Seen
 pub mod Takes
