@@ -18,7 +18,8 @@ use Rattle.nb_model.specs.Trail.{Trail, after_stroke, bases_of}
 use Rattle.nb_base.specs.Firm.{StandsFirmOn, StandsFirm}
 use Rattle.nb_model.proofs.HeaderLaws.{header-room}
 use Rattle.nb_model.proofs.MixtureLaws.{mixed_state}
-use Rattle.nb_model.proofs.TrailLaws.{shows_stands, trail_base}
+use Rattle.nb_model.proofs.TrailLaws.{trail_base}
+use Rattle.nb_base.proofs.FirmLaws.{last_firm}
 use Rattle.nb_base.specs.Control.{in_state, HasRoom, HasImage, IsImageOf, ControlLeft}
 use Rattle.nb_base.specs.Open.{Held, OfFiles, Agrees, IsOpen, AreMerged}
 use Rattle.nb_base.specs.Seen.{IsSeen}
@@ -97,7 +98,7 @@ module _ (old : World) (held : Held) (t : Trail) (is : IsOpen old held t) (reads
 
       stays : (files : Files) → ((m : List ℕ) → m ≢ held.name → Leaves mid m (files m)) → HasImage g0.main (files held.name) → StandsFirm held.name t files
       stays files others was =
-          shows_stands held.name t files (ap (owner held.name (files held.name)) (beside files others) ∙ shows held.name t.base (files held.name) d0 (same_main t.base m0 d0 (files held.name) g0 (to_main g0.main (files held.name) was)))
+          last_firm held.name t files (ap (owner held.name (files held.name)) (beside files others) ∙ shows held.name t.base (files held.name) d0 (same_main t.base m0 d0 (files held.name) g0 (to_main g0.main (files held.name) was)))
 
       goes : (files : Files) → ((m : List ℕ) → m ≢ held.name → Leaves mid m (files m)) → HasImage (in_state 2 None g0.main) (files held.name) → Holds (on_base ends t.base) (files held.name) (files (delta_name held.name))
       goes files others put = subst (λ (d : File). Holds (on_base ends t.base) (files held.name) d) (sym (beside files others)) (ended_holds t.base m0 d0 g0 one (files held.name) put)

@@ -1,3 +1,4 @@
+pub mod FirmLaws
 pub mod AgreeLaws
 pub mod AttachLaws
 pub mod BlockLaws

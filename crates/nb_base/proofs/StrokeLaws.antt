@@ -18,7 +18,8 @@ use Rattle.nb_model.specs.Strokes.{Stroke, begin, ends, finish, on_base}
 use Rattle.nb_model.specs.Owner.{delta_name}
 use Rattle.nb_model.specs.Trail.{Trail, settles_at, after_stroke}
 use Rattle.nb_base.specs.Firm.{StandsFirmOn, StandsFirm}
-use Rattle.nb_model.proofs.TrailLaws.{shows_stands, shows_settled, settles_after, trail_base}
+use Rattle.nb_model.proofs.TrailLaws.{settles_after, trail_base}
+use Rattle.nb_base.proofs.FirmLaws.{last_firm, shows_firm}
 use Rattle.nb_model.proofs.HeaderLaws.{same-number}
 use Rattle.nb_base.specs.Control.{in_state, HasRoom, HasImage, IsImageOf, ControlLeft}
 use Rattle.nb_base.specs.Open.{Held, OfFiles, Agrees, IsOpen}
@@ -44,7 +45,7 @@ finish-settles t = refl
 
 -- files that hold the database after a stroke that settles
 pub stands_after : (name : List ℕ) (s : Stroke) (t : Trail) (m d : File) → settles_at t s ≡ true → Holds (on_base s t.base) m d → StandsFirmOn name (after_stroke s t) m d
-stands_after name s t m d settles h = subst (λ (x : Trail). StandsFirmOn name x m d) (sym (settles_after s t settles)) (shows_settled name (on_base s t.base) m d (shows name (on_base s t.base) m d h))
+stands_after name s t m d settles h = subst (λ (x : Trail). StandsFirmOn name x m d) (sym (settles_after s t settles)) (shows_firm name (on_base s t.base) m d (shows name (on_base s t.base) m d h))
 
 -- The files while nothing is changed yet, also where a sync failed.
 pub waits : (old new : World) (held : Held) (t : Trail) → IsOpen old held t → IsTimely old → IsStill old new → new.said ≡ old.said → Passes old new → Changes old new (OfFiles held.name) (StandsFirm held.name t)
@@ -118,7 +119,7 @@ module _ (old : World) (held : Held) (t : Trail) (is : IsOpen old held t) where
     -- in the normal state the main file alone shows it
     stays : (files : Files) → HasImage h0.main (files held.name) → StandsFirm held.name t files
     stays files was =
-        shows_stands held.name t files (shows held.name t.base (files held.name) (files (delta_name held.name))
+        last_firm held.name t files (shows held.name t.base (files held.name) (files (delta_name held.name))
         (holds_whatever t.base (files held.name) d0 (files (delta_name held.name)) (same_main t.base m0 d0 (files held.name) h0 (to_main h0.main (files held.name) was)) zero))
 
     -- the difference file was made, also where that failed

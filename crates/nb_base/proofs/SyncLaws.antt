@@ -10,7 +10,7 @@ use Rattle.nb_model.specs.Image.{image_size, image_state}
 use Rattle.nb_model.specs.Account.{Base}
 use Rattle.nb_model.specs.Owner.{delta_name, owned, owner}
 use Rattle.nb_model.specs.Trail.{Trail, settled, ShowsIn}
-use Rattle.nb_model.proofs.TrailLaws.{shows_settled}
+use Rattle.nb_base.proofs.FirmLaws.{shows_firm}
 use Rattle.nb_base.specs.Open.{Held, IsOpen}
 use Rattle.nb_base.proofs.OwnedLaws.{Holds, holds, shows, base-state, owned-alone}
 
@@ -32,7 +32,7 @@ pub both_settled : (old new : World) (held : Held) (t : Trail) → IsStill old n
 both_settled old new held t still o main delta = record {
   left = λ files all.
       let m : files held.name ≡ new.files held.name = durable_is new held.name (new.files held.name) main (files held.name) (all held.name) in
-      shows_settled held.name t.base (files held.name) (files (delta_name held.name)) (ap (λ (x : File). owner held.name x (files (delta_name held.name))) m ∙ any (files (delta_name held.name)) (λ ne. durable_is new _ _ (delta ne) _ (all (delta_name held.name))));
+      shows_firm held.name t.base (files held.name) (files (delta_name held.name)) (ap (λ (x : File). owner held.name x (files (delta_name held.name))) m ∙ any (files (delta_name held.name)) (λ ne. durable_is new _ _ (delta ne) _ (all (delta_name held.name))));
   shows = shown;
   agrees = o.agrees;
 }
