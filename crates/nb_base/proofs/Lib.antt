@@ -22,3 +22,4 @@ pub mod SyncLaws
 pub mod WriteLaws
 pub mod WrittenLaws
 pub mod MergingLaws
+pub mod PutLaws

@@ -5,3 +5,4 @@ pub mod Takes
 pub mod Beginnings
 pub mod Attach
 pub mod Control
+pub mod Put

@@ -7,12 +7,12 @@ ghost use Rattle.nb_host.specs.Causes.{CountsFault};
 ghost use Rattle.nb_change.specs.Counts.{CountsDevice};
 ghost use Rattle.nb_change.specs.Gave.{GaveNothing};
 ghost use Rattle.nb_page.specs.Quiet.{Quiet};
-ghost use Rattle.nb_model.specs.Account.{Ask};
+ghost use Rattle.nb_model.specs.Account.{Ask, Base};
 ghost use Rattle.nb_model.specs.Image.{page_at, image_scn, is_forced};
 ghost use Rattle.nb_model.specs.Strokes.{page as page_stroke, begin as begin_stroke, ends, finish as finish_stroke};
-ghost use Rattle.nb_model.specs.Trail.{Trail, settled};
+ghost use Rattle.nb_model.specs.Trail.{Trail, settled, ShowsIn};
 ghost use Rattle.nb_base.specs.Firm.{must_sync};
-ghost use Rattle.nb_base.specs.Open.{IsOpen, Fits, AreMerged};
+ghost use Rattle.nb_base.specs.Open.{IsOpen, Agrees, Fits, AreMerged};
 ghost use Rattle.nb_base.specs.Seen.{IsSeen, IsWrite, noted_in};
 ghost use Rattle.nb_base.specs.Takes.{TakesFirm, IsNoRefusal};
 ghost use Rattle.nb_base.specs.Beginnings.{Attaches, Creates};
@@ -185,6 +185,7 @@ impl TwoFiles {
     pub fn sync<H: Host>(&mut self, host: &mut H) -> Result<(), HostFault>
         ensures open { (t : Trail) → IsTrue H.tells → IsOpen (H.world host.old) self.old t → IsOpen (H.world host.new) self.new t }
         ensures settled { (t : Trail) → IsTrue H.tells → IsOpen (H.world host.old) self.old t → OnOk result (IsOpen (H.world host.new) self.new (settled t.base)) }
+        ensures kept { (b : Base) → IsTrue H.tells → Agrees self.old b → ShowsIn self.old.name b (H.world host.old).files → OnOk result (IsOpen (H.world host.new) self.new (settled b)) }
         ensures merged { (k : ℕ) → AreMerged (H.world host.old) self.old k → AreMerged (H.world host.new) self.new k }
         ensures same { self.new ≡ self.old }
         ensures quiet { Quiet (H.world host.old) (H.world host.new) }
