@@ -31,7 +31,7 @@ module _ (f t : Trail) (is : IsBehind f t) where
   from_part : (p : ℕ) (page : Page) → HasPage (bases_of f) p page → HasPage (bases_of t) p page
   from_part p page has = record { base = has.base; there = there_part has.base has.there; below = has.below; same = has.same }
 
-  f_there : Contains (bases_of t) f.base
+  pub f_there : Contains (bases_of t) f.base
   f_there = there_part f.base (now_there f)
 
   -- databases in step are so as far as the files have seen them
@@ -209,7 +209,7 @@ module _ (f t : Trail) (is : IsBehind f t) where
           current : image_state t.base.image ≡ 1 → (p k : ℕ) → entry_for p b.diverted ≡ Some k → has_entry b.image p ≡ true → scn_entry b.image p ≡ image_scn b.image
           current seen p k e has =
               let in_c : entry_for p t.base.diverted ≡ Some k = ap (entry_for p) all.1 ∙ for_front p k b.diverted all.0 e in
-              entry_current steps way.first seen way.diverted p k e has (either p (way.below p k e) has)
+              entry_current steps way.first seen way.diverted p k e has (either p (way.below seen p k e) has)
 
       pub way_left : IsLeft t b
       way_left = record {

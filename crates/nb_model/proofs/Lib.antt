@@ -113,3 +113,4 @@ pub mod GoingLaws
 pub mod MakingLaws
 pub mod CoveredLaws
 pub mod BehindLaws
+pub mod WayLaws

@@ -1,5 +1,5 @@
 -- Files that are behind what is seen, and the way on which the pages that wait go out into them.
-use Rattle.std.specs.Prelude.{◌≡◌, ◌≢◌, ◌⊎◌, ℕ, ◌<◌, ◌≤◌, List, ◌++◌, length, true, false, Some, None}
+use Rattle.std.specs.Prelude.{◌≡◌, ◌≢◌, ◌⊎◌, ℕ, ◌<◌, ◌≤◌, List, ◌++◌, length, Bool, true, false, Some, None}
 use Rattle.nb_fields.specs.Places.{is_scn_place}
 use Rattle.nb_model.specs.Image.{Page, Image, page_at, first_page, image_size, image_state}
 use Rattle.nb_model.specs.Account.{Base}
@@ -32,7 +32,7 @@ pub record IsOnTheWay (f t : Trail) (b : Base) : Type 0 where
   pub first : first_page b.image ≡ first_page t.base.image
   pub scn_pages : (p : ℕ) → p < length b.image → is_scn_place (image_size t.base.image) p ≡ true → (page_at b.image p ≡ page_at f.base.image p) ⊎ (page_at b.image p ≡ page_at t.base.image p)
   pub others : (p : ℕ) → p < length b.image → is_scn_place (image_size t.base.image) p ≡ false → HasPage (bases_of f) p (page_at b.image p) ⊎ IsRewritten t b p
-  pub below : (p k : ℕ) → entry_for p b.diverted ≡ Some k → p < length b.image
+  pub below : image_state t.base.image ≡ 1 → (p k : ℕ) → entry_for p b.diverted ≡ Some k → p < length b.image
   pub frozen : b.frozen ≡ f.base.frozen
   pub diverted : (rest : List ℕ) × (f.base.diverted ≡ b.diverted ++ rest)
   pub merging : image_state t.base.image ≡ 2 → b.diverted ≡ f.base.diverted
@@ -48,3 +48,12 @@ pub record IsEntering (f t : Trail) (b : Base) : Type 0 where
   pub frozen : b.frozen ≡ f.base.frozen
   pub front : (entered : List ℕ) × (b.diverted ≡ f.base.diverted ++ entered)
   pub diverted : (rest : List ℕ) × (t.base.diverted ≡ b.diverted ++ rest)
+
+-- What reads on the way: the pages that still wait as the files had them, every other as it is seen.
+pub record IsRead (f t : Trail) (waits : ℕ → Bool) (r : Base) : Type 0 where
+  pub long : length r.image ≡ length t.base.image
+  pub first : first_page r.image ≡ first_page t.base.image
+  pub waiting : (p : ℕ) → waits p ≡ true → page_at r.image p ≡ page_at f.base.image p
+  pub others : (p : ℕ) → waits p ≡ false → page_at r.image p ≡ page_at t.base.image p
+  pub frozen : r.frozen ≡ t.base.frozen
+  pub diverted : r.diverted ≡ t.base.diverted

@@ -1,10 +1,11 @@
 // Laws of pages that wait in memory: what a stop leaves while they do, and on their way into the files.
-ghost use Rattle.std.specs.Prelude.{◌≡◌, ◌≢◌, ◌<◌, ◌≤◌, ℕ, List, [], Contains, IsTrue, true, false};
+ghost use Rattle.std.specs.Prelude.{◌≡◌, ◌≢◌, ◌<◌, ◌≤◌, ℕ, [], Bool, length, true, false};
 ghost use Rattle.nb_model.specs.Account.{Base};
 ghost use Rattle.nb_fields.specs.Places.{is_scn_place};
-ghost use Rattle.nb_model.specs.Behind.{IsBehind, IsEntering, IsOnTheWay};
-ghost use Rattle.nb_model.specs.Image.{Image, page_at, image_size};
+ghost use Rattle.nb_model.specs.Behind.{IsBehind, IsEntering, IsOnTheWay, IsRead};
+ghost use Rattle.nb_model.specs.Image.{page_at, image_size, image_state};
 ghost use Rattle.nb_model.specs.Earlier.{AreInStep, IsCovered};
+ghost use Rattle.nb_model.specs.Strokes.{on_base, page as page_stroke};
 ghost use Rattle.nb_model.specs.Trail.{IsFirm, IsLeft, Trail, bases_of};
 
 /// Where no SCN page waits, what is left of databases in step is covered, and it is what may be left.
@@ -21,4 +22,16 @@ pub fn files_may_be_behind()
     ensures firm { (f t : Trail) (b : Base) → IsBehind f t → ((p : ℕ) → is_scn_place (image_size t.base.image) p ≡ true → page_at f.base.image p ≡ page_at t.base.image p) → IsFirm f b → IsFirm t b }
     ensures on_the_way { (f t : Trail) (b : Base) → IsBehind f t → t.earlier ≢ [] → IsOnTheWay f t b → IsLeft t b }
     ensures entering { (f t : Trail) (b : Base) → IsBehind f t → t.earlier ≢ [] → IsEntering f t b → IsLeft t b }
+{}
+
+/// While pages that wait go out one by one, what is left stays on the way: SCN pages first, and then each other page. What reads has the
+/// pages that are out as they are seen, and once none waits it is what is seen.
+pub fn pages_go_out()
+    ensures start { (f t : Trail) (b : Base) → IsBehind f t → image_state t.base.image ≢ 1 → IsFirm f b → IsOnTheWay f t b }
+    ensures scn_page { (f t : Trail) (b : Base) (p : ℕ) → 1 ≤ p → p < length t.base.image → image_state t.base.image ≢ 1 → is_scn_place (image_size t.base.image) p ≡ true → IsOnTheWay f t b
+        → IsOnTheWay f t (on_base (page_stroke p (page_at t.base.image p)) b) }
+    ensures other { (t : Trail) (b : Base) (p : ℕ) → 1 ≤ p → p < length t.base.image → image_state t.base.image ≢ 1 → is_scn_place (image_size t.base.image) p ≡ false → t.earlier ≢ [] → IsFirm t b
+        → IsFirm t (on_base (page_stroke p (page_at t.base.image p)) b) }
+    ensures reads { (f t : Trail) (waits : ℕ → Bool) (r : Base) → IsBehind f t → t.earlier ≢ [] → IsRead f t waits r → ((p : ℕ) → is_scn_place (image_size t.base.image) p ≡ true → waits p ≡ false) → IsFirm t r }
+    ensures done { (f t : Trail) (waits : ℕ → Bool) (r : Base) → IsRead f t waits r → ((p : ℕ) → waits p ≡ false) → r ≡ t.base }
 {}
