@@ -1,19 +1,20 @@
 -- The pages that wait go out one by one: what is left and what reads behind each of them.
-use Rattle.std.proofs.Common.{◌≡◌, ◌≢◌, ◌⊎◌, inl, inr, ⊎_elim, ℕ, zero, suc, ◌+◌, ◌<◌, ◌≤◌, List, [], ◌∷◌, ◌++◌, length, refl, sym, ap, subst, ◌∙◌, arith}
-use Rattle.std.specs.Prelude.{Bool, true, false, max}
+use Rattle.std.proofs.Common.{◌≡◌, ◌≢◌, ◌⊎◌, inl, inr, ⊎_elim, ℕ, zero, suc, ◌+◌, ◌<◌, ◌≤◌, List, [], ◌∷◌, ◌++◌, length, refl, sym, ap, subst, ◌∙◌, arith, append_assoc, length-append}
+use Rattle.std.specs.Prelude.{Bool, true, false, ◌==◌, ◌||◌, nat_eq, nat_le, max}
+use Rattle.std.specs.List.{list_any}
 use Rattle.std.proofs.lemmas.Bool.{true≢false}
 use Rattle.std.proofs.lemmas.List.{append-nil}
-use Rattle.std.proofs.lemmas.Bool.Decides.{eqb_tells}
+use Rattle.std.proofs.lemmas.Bool.Decides.{eqb_tells, leb_tells}
 use Rattle.nb_fields.specs.Places.{is_scn_place}
 use Rattle.nb_fields.specs.Header.{state_of, size_of}
-use Rattle.nb_model.specs.Image.{Page, Image, page_at, first_page, image_size, image_state, with_page}
+use Rattle.nb_model.specs.Image.{Page, Image, page_at, first_page, image_size, image_state, is_forced, with_page}
 use Rattle.nb_model.specs.Account.{Base}
 use Rattle.nb_model.specs.Strokes.{page, noted, on_base}
-use Rattle.nb_model.specs.Trail.{Trail, bases_of, HasPage, IsFirm}
+use Rattle.nb_model.specs.Trail.{Trail, bases_of, settles_at, after_stroke, HasPage, IsFirm}
 use Rattle.nb_model.specs.Behind.{IsBehind, IsRewritten, IsOnTheWay, IsRead}
 use Rattle.nb_model.proofs.SoundLaws.{with_page_length}
 use Rattle.nb_model.proofs.StrokeLaws.{with_page_same, with_page_other, whole_page, stroke_page}
-use Rattle.nb_model.proofs.TrailLaws.{last_there}
+use Rattle.nb_model.proofs.TrailLaws.{last_there, waits_after}
 use Rattle.nb_model.proofs.BehindLaws.{f_there}
 
 -- images with the same pages are the same
@@ -23,8 +24,8 @@ same_pages [] (y ∷ ys) long same = absurd (omega arith)
 same_pages (x ∷ xs) [] long same = absurd (omega arith)
 same_pages (x ∷ xs) (y ∷ ys) long same = ap (λ (z : Page). z ∷ xs) (same 0) ∙ ap (λ (zs : Image). y ∷ zs) (same_pages xs ys (omega arith) (λ p. same (suc p)))
 
--- A page behind page 0 is written outside the stalled state.
-module _ (b : Base) (p : ℕ) (bytes : Page) (some : 1 ≤ p) (low : p < length b.image) (main : image_state b.image ≢ 1) where
+-- A page behind page 0 is written.
+module _ (b : Base) (p : ℕ) (bytes : Page) (some : 1 ≤ p) (low : p < length b.image) where
   abbrev new : Base
   new = on_base (page p bytes) b
 
@@ -47,12 +48,23 @@ module _ (b : Base) (p : ℕ) (bytes : Page) (some : 1 ≤ p) (low : p < length 
   unfolding on_base
   put_frozen = refl
 
-  pub put_diverted : (on_base (page p bytes) b).diverted ≡ b.diverted
+  -- outside the stalled state no entry is noted
+  pub put_diverted : image_state b.image ≢ 1 → (on_base (page p bytes) b).diverted ≡ b.diverted
   unfolding on_base
-  put_diverted = elim (eqb_tells (image_state b.image) 1) [
+  put_diverted main = elim (eqb_tells (image_state b.image) 1) [
     | inl w ↦ absurd (main w.1)
     | inr w ↦ ap (λ (t : Bool). elim t as (λ z. List ℕ) [ true ↦ noted p b.diverted | false ↦ b.diverted ]) w.0
   ]
+
+  -- and in it one more at most
+  pub put_longer : (more : List ℕ) × ((on_base (page p bytes) b).diverted ≡ b.diverted ++ more)
+  unfolding on_base noted
+  put_longer = by (image_state b.image == 1) (list_any (nat_eq p) b.diverted)
+    where
+      by : (stalled any : Bool) → (more : List ℕ) × ((elim stalled as (λ z. List ℕ) [ true ↦ elim any as (λ z. List ℕ) [ true ↦ b.diverted | false ↦ b.diverted ++ p ∷ [] ] | false ↦ b.diverted ]) ≡ b.diverted ++ more)
+      by true true = ([], sym (append-nil b.diverted))
+      by true false = (p ∷ [], refl)
+      by false any = ([], sym (append-nil b.diverted))
 
 -- It is the page that is seen.
 module _ (t : Trail) (p : ℕ) (some : 1 ≤ p) (low : p < length t.base.image) (main : image_state t.base.image ≢ 1) where
@@ -71,17 +83,17 @@ module _ (t : Trail) (p : ℕ) (some : 1 ≤ p) (low : p < length t.base.image) 
     put = on_base (page p own) b
 
     long_put : length (on_base (page p own) b).image ≡ length t.base.image
-    long_put = put_long b p own some inside main_b ∙ long
+    long_put = put_long b p own some inside ∙ long
 
     first_put : first_page (on_base (page p own) b).image ≡ first_page t.base.image
-    first_put = put_first b p own some inside main_b ∙ first
+    first_put = put_first b p own some inside ∙ first
 
     -- its page is the one that is seen, and every other as it was
     here : (q : ℕ) → q ≡ p → page_at (on_base (page p own) b).image q ≡ page_at t.base.image q
-    here q e = ap (page_at (on_base (page p own) b).image) e ∙ put_same b p own some inside main_b ∙ sym (ap (page_at t.base.image) e)
+    here q e = ap (page_at (on_base (page p own) b).image) e ∙ put_same b p own some inside ∙ sym (ap (page_at t.base.image) e)
 
     there : (q : ℕ) → q ≢ p → page_at (on_base (page p own) b).image q ≡ page_at b.image q
-    there = put_other b p own some inside main_b
+    there = put_other b p own some inside
 
   -- An SCN page goes out.
   pub way_put : (f : Trail) (b : Base) → is_scn_place (image_size t.base.image) p ≡ true → IsOnTheWay f t b → IsOnTheWay f t (on_base (page p (page_at t.base.image p)) b)
@@ -100,7 +112,7 @@ module _ (t : Trail) (p : ℕ) (some : 1 ≤ p) (low : p < length t.base.image) 
           (way.others q (below q inside_q) plain)
     ];
     below = λ stalled. absurd (main stalled);
-    frozen = put_frozen b p own some (inside b way.long way.first) (main_b b way.long way.first) ∙ way.frozen;
+    frozen = put_frozen b p own some (inside b way.long way.first) ∙ way.frozen;
     diverted = (way.diverted.0, way.diverted.1 ∙ ap (λ (x : List ℕ). x ++ way.diverted.0) (sym same_table));
     merging = λ m. same_table ∙ way.merging m;
   }
@@ -127,7 +139,7 @@ module _ (t : Trail) (p : ℕ) (some : 1 ≤ p) (low : p < length t.base.image) 
       | inr w ↦ there b left.mixed.long left.mixed.first q w.1 ∙ left.kept q at
     ];
     rest = record {
-      frozen = put_frozen b p own some (inside b left.mixed.long left.mixed.first) (main_b b left.mixed.long left.mixed.first) ∙ left.rest.frozen;
+      frozen = put_frozen b p own some (inside b left.mixed.long left.mixed.first) ∙ left.rest.frozen;
       diverted = (left.rest.diverted.0, left.rest.diverted.1 ∙ ap (λ (x : List ℕ). x ++ left.rest.diverted.0) (sym same_table));
       merging = λ m. same_table ∙ left.rest.merging m;
       whole = λ none. absurd (unsettled none);
@@ -150,7 +162,7 @@ module _ (t : Trail) (p : ℕ) (some : 1 ≤ p) (low : p < length t.base.image) 
       | inl w ↦ here r is.long is.first q w.1
       | inr w ↦ there r is.long is.first q w.1 ∙ is.others q (sym (as_before q w.1) ∙ none)
     ];
-    frozen = put_frozen r p own some (inside r is.long is.first) (main_b r is.long is.first) ∙ is.frozen;
+    frozen = put_frozen r p own some (inside r is.long is.first) ∙ is.frozen;
     diverted = put_diverted r p own some (inside r is.long is.first) (main_b r is.long is.first) ∙ is.diverted;
   }
 
@@ -192,3 +204,63 @@ pub read_done : (f t : Trail) (waits : ℕ → Bool) (r : Base) → IsRead f t w
 read_done f t waits r is none =
     let image : r.image ≡ t.base.image = same_pages r.image t.base.image is.long (λ p. is.others p (none p)) in
     λ i. record { image = image i; frozen = is.frozen i; diverted = is.diverted i }
+
+-- A page waits: the files stay behind.
+module _ (f t : Trail) (p : ℕ) (bytes : Page) (is : IsBehind f t) (some : 1 ≤ p) (low : p < length t.base.image) (loose : is_forced t.base.image ≡ false) where
+  not_settled : settles_at t (page p bytes) ≡ false
+  unfolding settles_at
+  not_settled = by t.earlier (is_forced t.base.image) (p == 0) (nat_le (length t.base.image) p) loose (some_page p some) (elim (leb_tells (length t.base.image) p) [ inl w ↦ absurd (omega (arith, w.1, low)) | inr w ↦ w.0 ])
+    where
+      some_page : (p : ℕ) → 1 ≤ p → (p == 0) ≡ false
+      some_page p some = elim (eqb_tells p 0) [ inl w ↦ absurd (omega (arith, some, w.1)) | inr w ↦ w.0 ]
+
+      by : (bases : List Base) (forced first longer : Bool) → forced ≡ false → first ≡ false → longer ≡ false
+          → elim (elim bases as (λ z. Bool) [ [] ↦ true | b ∷ bs ↦ false ]) as (λ z. Bool) [ true ↦ forced || (first || longer) | false ↦ false ] ≡ false
+      by [] forced first longer e0 e1 e2 = ap (λ (x : Bool). x || (first || longer)) e0 ∙ ap (λ (x : Bool). x || longer) e1 ∙ e2
+      by (b ∷ bs) forced first longer e0 e1 e2 = refl
+
+  pub waits_is : after_stroke (page p bytes) t ≡ record { base = on_base (page p bytes) t.base; earlier = bases_of t }
+  waits_is = waits_after (page p bytes) t not_settled
+
+  pub wait_behind : IsBehind f (after_stroke (page p bytes) t)
+  wait_behind = subst (IsBehind f) (sym waits_is) (record {
+    before = is.before;
+    behind = is.behind ++ new ∷ [];
+    part = ap (λ (bs : List Base). bs ++ new ∷ []) is.part ∙ append_assoc is.before (bases_of f ++ is.behind) (new ∷ []) ∙ ap (λ (bs : List Base). is.before ++ bs) (append_assoc (bases_of f) is.behind (new ∷ []));
+    long = is.long ∙ sym (put_long t.base p bytes some low);
+    first = is.first ∙ sym first;
+    frozen = is.frozen ∙ sym (put_frozen t.base p bytes some low);
+    diverted = (
+      is.diverted.0 ++ longer.0,
+      longer.1 ∙ ap (λ (x : List ℕ). x ++ longer.0) is.diverted.1 ∙ append_assoc f.base.diverted is.diverted.0 longer.0,
+    );
+    merging = λ m.
+        let merges : image_state t.base.image ≡ 2 = sym (ap state_of first) ∙ m in
+        is.merging merges ∙ sym (put_diverted t.base p bytes some low (λ stalled. absurd (omega (arith, stalled, merges))));
+  })
+    where
+      new : Base
+      new = on_base (page p bytes) t.base
+
+      first : first_page (on_base (page p bytes) t.base).image ≡ first_page t.base.image
+      first = put_first t.base p bytes some low
+
+      longer : (more : List ℕ) × ((on_base (page p bytes) t.base).diverted ≡ t.base.diverted ++ more)
+      longer = put_longer t.base p bytes some low
+
+  -- it isn't settled then
+  pub wait_unsettled : (after_stroke (page p bytes) t).earlier ≢ []
+  wait_unsettled none = absurd (omega (arith, ap length (sym (ap (λ (u : Trail). u.earlier) waits_is) ∙ none), length-append t.earlier (t.base ∷ [])))
+
+-- the files are not behind themselves
+pub behind_itself : (t : Trail) → IsBehind t t
+behind_itself t = record {
+  before = [];
+  behind = [];
+  part = sym (append-nil (bases_of t));
+  long = refl;
+  first = refl;
+  frozen = refl;
+  diverted = ([], sym (append-nil t.base.diverted));
+  merging = λ m. refl;
+}

@@ -3,10 +3,10 @@ ghost use Rattle.std.specs.Prelude.{◌≡◌, ◌≢◌, ◌<◌, ◌≤◌, �
 ghost use Rattle.nb_model.specs.Account.{Base};
 ghost use Rattle.nb_fields.specs.Places.{is_scn_place};
 ghost use Rattle.nb_model.specs.Behind.{IsBehind, IsEntering, IsOnTheWay, IsRead};
-ghost use Rattle.nb_model.specs.Image.{page_at, image_size, image_state};
+ghost use Rattle.nb_model.specs.Image.{Page, page_at, image_size, image_state, is_forced};
 ghost use Rattle.nb_model.specs.Earlier.{AreInStep, IsCovered};
 ghost use Rattle.nb_model.specs.Strokes.{on_base, page as page_stroke};
-ghost use Rattle.nb_model.specs.Trail.{IsFirm, IsLeft, Trail, bases_of};
+ghost use Rattle.nb_model.specs.Trail.{IsFirm, IsLeft, Trail, after_stroke, bases_of};
 
 /// Where no SCN page waits, what is left of databases in step is covered, and it is what may be left.
 pub fn firm_is_covered()
@@ -34,4 +34,11 @@ pub fn pages_go_out()
         → IsFirm t (on_base (page_stroke p (page_at t.base.image p)) b) }
     ensures reads { (f t : Trail) (waits : ℕ → Bool) (r : Base) → IsBehind f t → t.earlier ≢ [] → IsRead f t waits r → ((p : ℕ) → is_scn_place (image_size t.base.image) p ≡ true → waits p ≡ false) → IsFirm t r }
     ensures done { (f t : Trail) (waits : ℕ → Bool) (r : Base) → IsRead f t waits r → ((p : ℕ) → waits p ≡ false) → r ≡ t.base }
+{}
+
+/// A page that waits is seen at once, and the files are behind then. They are not behind where nothing waits.
+pub fn a_page_waits()
+    ensures itself { (t : Trail) → IsBehind t t }
+    ensures one { (f t : Trail) (p : ℕ) (bytes : Page) → IsBehind f t → 1 ≤ p → p < length t.base.image → is_forced t.base.image ≡ false → IsBehind f (after_stroke (page_stroke p bytes) t) }
+    ensures unsettled { (f t : Trail) (p : ℕ) (bytes : Page) → IsBehind f t → 1 ≤ p → p < length t.base.image → is_forced t.base.image ≡ false → (after_stroke (page_stroke p bytes) t).earlier ≢ [] }
 {}
