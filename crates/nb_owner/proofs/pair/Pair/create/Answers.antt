@@ -1,5 +1,0 @@
-use Rattle.nb_owner.proofs.OpenLaws.{valid_blank}
-use Rattle.nb_owner.proofs.pair.Pair.create.Goals as goal
-
-pub invariant_of-result : goal.invariant_of-result
-invariant_of-result g c = valid_blank c.in_ok-cache.cache _ _ _ c.in_ok-cache.ensures.ok c.in_ok-files.ensures.page_size
