@@ -1,5 +1,5 @@
 -- What is in memory is what was seen last, behind each call.
-use Rattle.std.proofs.Common.{◌≡◌, ℕ, zero, suc, ◌+◌, ◌-◌, ◌<◌, ◌≤◌, Bool, nat_eq, true, false, List, [], ◌∷◌, length, take, map, Option, Some, None, refl, sym, ap, subst, ◌∙◌, arith}
+use Rattle.std.proofs.Common.{◌≡◌, ◌⊎◌, inl, inr, ⊎_elim, ℕ, zero, suc, ◌+◌, ◌-◌, ◌<◌, ◌≤◌, Bool, nat_eq, true, false, List, [], ◌∷◌, length, take, map, Option, Some, None, refl, sym, ap, subst, ◌∙◌, arith}
 use Rattle.std.specs.Prelude.{is_some, slice_get, MatchOption, Result, Ok, Err, OnErr, if◌then◌else◌}
 use Rattle.std.specs.Option.{option_and_then, option_map, option_map_or}
 use Rattle.std.specs.List.{IsDistinct}
@@ -15,10 +15,10 @@ use Rattle.nb_model.proofs.TrailLaws.{trail_base}
 use Rattle.nb_base.specs.Open.{Fits}
 use Rattle.nb_base.proofs.ControlLaws.{with_control-behind}
 use Rattle.nb_base.proofs.LeftLaws.{merged_fits, stroke-image}
-use Rattle.nb_cache.specs.Held.{Slot, slot_of, rank_of, dropped, NoneWaits}
+use Rattle.nb_cache.specs.Held.{Slot, slot_of, rank_of, with_rank, dropped, NoneWaits, IsNoLater, GoesFirst}
 use Rattle.nb_owner.specs.Open.{Pages, AreOf, IsValid, bare, used, behind_first}
 use Rattle.nb_owner.proofs.UsedLaws.{All-dropped, All-put, All-found, once_put, once_removed, promoted_put, promoted_absent}
-use Rattle.nb_owner.proofs.RankLaws.{none_found}
+use Rattle.nb_owner.proofs.RankLaws.{none_found, marked_keys, marked_long, found_rank}
 
 -- the pages once this one is first, with that rank
 abbrev pub put_first : Pages → (cap p : ℕ) → Slot → Pages
@@ -171,6 +171,15 @@ module _ (cache after : Rattle.nb_cache.specs.Held.Held) (before size : ℕ) (va
       most = put_long p cache.cap v cache.pages valid.some valid.most;
     })
 
+  -- a page is marked
+  pub valid_marked : (p : ℕ) (rank : Option ℕ) → after ≡ record cache { pages = with_rank p rank cache.pages } → IsValid after size
+  valid_marked p rank marked = subst (λ (h : Rattle.nb_cache.specs.Held.Held). IsValid h size) (sym marked) (record {
+    wide = valid.wide ∙ sym same;
+    once = subst (λ (ks : List ℕ). IsDistinct nat_eq ks) (sym (marked_keys p rank cache.pages)) valid.once;
+    some = valid.some;
+    most = let long = marked_long p rank cache.pages in omega (arith, long, valid.most);
+  })
+
   -- page 0 is dropped
   module _ (gone : after ≡ record cache { pages = behind_first cache.pages }) where
     pub gone_behind : after.pages ≡ behind_first cache.pages
@@ -226,3 +235,29 @@ valid_blank cache pages made size is same some = subst (λ (h : Rattle.nb_cache.
 pub on_err : {T E : Type 0} (result : Result T E) (P : Type 0) → P → OnErr result P
 on_err (Ok value) P is = tt
 on_err (Err e) P is = is
+
+-- a page that is kept with the rank that it had lets none wait where none did
+pub none_waits_kept : (pages : Pages) → IsDistinct nat_eq (keys_of pages) → (cap p : ℕ) (bytes : List ℕ) → NoneWaits pages → NoneWaits (put_first pages cap p (record { bytes = bytes; rank = rank_of pages p }))
+none_waits_kept pages once cap p bytes none = All-put p pages once cap _ (λ e. e.1.rank ≡ None) (λ e. e.1.rank ≡ None) (λ e apart waits. waits) (none_found pages none p) none
+
+-- A page that waits is in memory as it is seen.
+pub peeked : (image : Image) (pages : Pages) (p rank : ℕ) (into old : List ℕ) → rank_of pages p ≡ Some rank → AreOf image pages → MatchOption (slot_of pages p) (into ≡ old) (λ slot. into ≡ slot.bytes) → into ≡ page_at image p
+peeked image pages p rank into old waiting all filled = by (slot_of pages p) refl waiting filled
+  where
+    by : (o : Option Slot) → slot_of pages p ≡ o → option_and_then (λ slot. slot.rank) o ≡ Some rank → MatchOption o (into ≡ old) (λ slot. into ≡ slot.bytes) → into ≡ page_at image p
+    by None is waits is_old = absurd (let h : None ≡ Some rank = waits in cc)
+    by (Some slot) is waits same = same ∙ found_page image pages p slot is all
+
+-- the page that goes out first
+module _ (pages : Pages) (once : IsDistinct nat_eq (keys_of pages)) (p rank : ℕ) (goes : GoesFirst pages p rank) where
+  pub first_waits : rank_of pages p ≡ Some rank
+  first_waits = found_rank pages once p (record { bytes = goes.waits.0; rank = Some rank }) goes.waits.1
+
+  -- every other has no lower rank
+  pub first_lowest : (q r : ℕ) → rank_of pages q ≡ Some r → rank ≤ r
+  first_lowest q r is = by (slot_of pages q) refl is
+    where
+      by : (o : Option Slot) → slot_of pages q ≡ o → option_and_then (λ slot. slot.rank) o ≡ Some r → rank ≤ r
+      by None there e = absurd (let h : None ≡ Some r = e in cc)
+      by (Some slot) there e =
+          ⊎_elim (λ (lower : rank < r). omega arith) (λ (same : (rank ≡ r) × (p ≤ q)). omega (arith, same.0)) (All-found q pages slot there (IsNoLater p rank) goes.first r e)

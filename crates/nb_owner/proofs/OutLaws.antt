@@ -8,8 +8,9 @@ use Rattle.nb_fields.specs.Header.{state_of, size_of}
 use Rattle.nb_host.specs.Files.{Files}
 use Rattle.nb_host.specs.World.{World}
 use Rattle.nb_host.specs.Crash.{LeavesAll}
+use Rattle.nb_host.specs.Moments.{IsTimely}
 use Rattle.nb_change.specs.Changes.{Changes}
-use Rattle.nb_change.proofs.ChangesLaws.{composed}
+use Rattle.nb_change.proofs.ChangesLaws.{begun, composed}
 use Rattle.nb_model.specs.Image.{Page, Image, page_at, first_page, image_size, image_state}
 use Rattle.nb_model.specs.Account.{Base}
 use Rattle.nb_model.specs.Strokes.{page, on_base}
@@ -178,3 +179,67 @@ none_scn t pages each high p at = by (rank_of pages p) refl
     by : (o : Option ℕ) → rank_of pages p ≡ o → waits pages p ≡ false
     by None is = ap is_some is
     by (Some rank) is = absurd (true≢false (sym at ∙ high_rank t p rank (each p rank is) (high p rank is)))
+
+-- While SCN pages go out,
+module _ (w : World) (held : Held) (f t : Trail) (out : GoesOut w held f t (IsOnTheWay f t)) (unsettled : t.earlier ≢ []) where
+  way_stands : (files : Files) → StandsAs held.files.name (IsOnTheWay f t) files → StandsIn held.files.name t files
+  way_stands files s = record { base = s.base; opens = s.opens; left = way_left f t out.behind s.base unsettled s.is }
+
+  pub way_begun : IsTimely w → Changes w w (OfFiles held.files.name) (StandsIn held.files.name t)
+  way_begun timely = begun w (OfFiles held.files.name) (StandsIn held.files.name t) timely (λ files all. way_stands files (out.left files all))
+
+  module _ (new : World) (p rank : ℕ) (at : rank_of held.pages p ≡ Some rank) (low : rank ≤ 2) (size : length (page_at t.base.image p) ≡ held.files.page_size)
+      (by : Changes w new (OfFiles held.files.name) (PutLeft w held.files.name p (page_at t.base.image p))) where
+    waiting : IsWaiting t p rank
+    waiting = out.each p rank at
+
+    same : (b : Base) → IsOnTheWay f t b → (length b.image ≡ length t.base.image) × (first_page b.image ≡ first_page t.base.image)
+    same b way = (way.long, way.first)
+
+    put_scn : (b : Base) → IsOnTheWay f t b → IsOnTheWay f t (on_base (page p (page_at t.base.image p)) b)
+    put_scn b way = way_put t p waiting.some waiting.low (λ stalled. absurd (omega (arith, stalled, waiting.normal))) f b (low_rank t p rank waiting low) way
+
+    pub way_changes : (old : World) → Changes old w (OfFiles held.files.name) (StandsIn held.files.name t) → Changes old new (OfFiles held.files.name) (StandsIn held.files.name t)
+    way_changes old before = put_changes held f t (IsOnTheWay f t) same p rank waiting (size ∙ out.agrees.page_size) put_scn w new out.left (λ b way. way_left f t out.behind b unsettled way) old before by
+
+    pub way_more : ((b : Base) → ShowsIn held.files.name b w.files → MayPut b p (page_at t.base.image p) → ShowsIn held.files.name (on_base (page p (page_at t.base.image p)) b) new.files)
+        → GoesOut new (record held { pages = with_rank p None held.pages }) f t (IsOnTheWay f t)
+    way_more reads = put_out held f t (IsOnTheWay f t) same p rank waiting (size ∙ out.agrees.page_size) put_scn w new out at by reads
+
+-- and while the others do.
+module _ (w : World) (held : Held) (f t : Trail) (out : GoesOut w held f t (IsFirm t)) (none : NoScnWaits t held.pages) where
+  pub firm_begun : IsTimely w → Changes w w (OfFiles held.files.name) (StandsIn held.files.name t)
+  firm_begun timely = begun w (OfFiles held.files.name) (StandsIn held.files.name t) timely
+      (λ files all. let s : StandsAs held.files.name (IsFirm t) files = out.left files all in record { base = s.base; opens = s.opens; left = firm_left t s.base s.is })
+
+  module _ (new : World) (p rank : ℕ) (at : rank_of held.pages p ≡ Some rank) (size : length (page_at t.base.image p) ≡ held.files.page_size)
+      (by : Changes w new (OfFiles held.files.name) (PutLeft w held.files.name p (page_at t.base.image p))) where
+    waits_p : IsWaiting t p rank
+    waits_p = out.each p rank at
+
+    plain : is_scn_place (image_size t.base.image) p ≡ false
+    plain = by_place (is_scn_place (image_size t.base.image) p) refl
+      where
+        by_place : (u : Bool) → is_scn_place (image_size t.base.image) p ≡ u → is_scn_place (image_size t.base.image) p ≡ false
+        by_place false e = e
+        by_place true e = absurd (true≢false (sym (ap is_some at) ∙ none p e))
+
+    same_firm : (b : Base) → IsFirm t b → (length b.image ≡ length t.base.image) × (first_page b.image ≡ first_page t.base.image)
+    same_firm b left = (left.mixed.long, left.mixed.first)
+
+    put_other : (b : Base) → IsFirm t b → IsFirm t (on_base (page p (page_at t.base.image p)) b)
+    put_other b left = firm_put t p waits_p.some waits_p.low (λ stalled. absurd (omega (arith, stalled, waits_p.normal))) b plain waits_p.unsettled left
+
+    pub firm_changes : (old : World) → Changes old w (OfFiles held.files.name) (StandsIn held.files.name t) → Changes old new (OfFiles held.files.name) (StandsIn held.files.name t)
+    firm_changes old before = put_changes held f t (IsFirm t) same_firm p rank waits_p (size ∙ out.agrees.page_size) put_other w new out.left (firm_left t) old before by
+
+    pub firm_more : ((b : Base) → ShowsIn held.files.name b w.files → MayPut b p (page_at t.base.image p) → ShowsIn held.files.name (on_base (page p (page_at t.base.image p)) b) new.files)
+        → GoesOut new (record held { pages = with_rank p None held.pages }) f t (IsFirm t)
+    firm_more reads = put_out held f t (IsFirm t) same_firm p rank waits_p (size ∙ out.agrees.page_size) put_other w new out at by reads
+
+    -- no SCN page waits then either
+    pub none_more : NoScnWaits t (with_rank p None held.pages)
+    none_more q at_q = elim (eqb_tells q p) [
+      | inl e ↦ ap is_some (ap (rank_of (with_rank p None held.pages)) e.1 ∙ rank_marked p None held.pages (waits_there p rank held.pages at))
+      | inr e ↦ ap is_some (rank_marked_other p q None held.pages e.1) ∙ none q at_q
+    ]

@@ -6,6 +6,7 @@ use Rattle.std.specs.Option.{option_and_then, option_map, option_map_or}
 use Rattle.std.specs.Map.{keys_of, lookup, lookup_entry, remove_entry}
 use Rattle.std.proofs.lemmas.Bool.{true≢false, eqb-true}
 use Rattle.std.proofs.lemmas.Bool.Decides.{eqb_tells}
+use Rattle.std.proofs.lemmas.Map.Keys.{IsDistinct-head, IsDistinct-tail}
 use Rattle.lru.specs.LruCache.{lru_cache, promoted, put_entries}
 use Rattle.lru.proofs.CallerLemmas.{Contains-lookup_entry}
 use Rattle.lru.proofs.Pairs.{lookup-lookup_entry}
@@ -195,3 +196,19 @@ marked_none p (e ∷ es) none = (elim (nat_eq p e.0) as (λ b. nat_eq p e.0 ≡ 
   | true ↦ λ is. rw is (refl, none.1)
   | false ↦ λ is. rw is (none.0, marked_none p es none.1)
 ]) refl
+
+-- no page is there twice, so the rank of one that is there is found
+pub found_rank : (es : Pages) → IsDistinct nat_eq (keys_of es) → (p : ℕ) (slot : Slot) → Contains es (p, slot) → rank_of es p ≡ slot.rank
+found_rank [] once p slot (k, low, is) = absurd (omega (arith, low))
+found_rank (e ∷ es) once p slot (zero, low, is) = rank_here p e es (ap (λ (x : ℕ × Slot). nat_eq p x.0) is ∙ own_true p) ∙ ap (λ (x : ℕ × Slot). x.1.rank) is
+found_rank (e ∷ es) once p slot (suc k, low, is) =
+    let there : Contains es (p, slot) = (k, omega (arith, low), is) in
+    rank_next p e es (eq_sym e.0 p (apart (λ n. nat_eq e.0 n ≡ false) es (p, slot) (IsDistinct-head nat_eq e.0 (keys_of es) once) there)) ∙ found_rank es (IsDistinct-tail nat_eq e.0 (keys_of es) once) p slot there
+  where
+    eq_sym : (a b : ℕ) → nat_eq a b ≡ false → nat_eq b a ≡ false
+    eq_sym a b ne = other_false b a (λ same. absurd (true≢false (sym (own_true a) ∙ subst (λ (n : ℕ). nat_eq a n ≡ false) same ne)))
+
+    apart : (P : ℕ → Type 0) (xs : Pages) (x : ℕ × Slot) → AllByRecursion P (keys_of xs) → Contains xs x → P x.0
+    apart P [] x all (k, low, is) = absurd (omega (arith, low))
+    apart P (y ∷ ys) x all (zero, low, is) = subst (λ (z : ℕ × Slot). P z.0) is all.0
+    apart P (y ∷ ys) x all (suc k, low, is) = apart P ys x all.1 (k, omega (arith, low), is)
