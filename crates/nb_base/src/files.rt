@@ -189,6 +189,7 @@ impl TwoFiles {
         ensures merged { (k : ℕ) → AreMerged (H.world host.old) self.old k → AreMerged (H.world host.new) self.new k }
         ensures same { self.new ≡ self.old }
         ensures quiet { Quiet (H.world host.old) (H.world host.new) }
+        ensures reads { (H.world host.new).reads ≡ (H.world host.old).reads }
         ensures cause { CountsFault result (H.faults host.old) (H.faults host.new) }
     {
         sync_both(host, &self.name, &self.name.delta(), self.state != 0)?;

@@ -9,8 +9,9 @@ use Rattle.nb_host.specs.Files.{Files}
 use Rattle.nb_host.specs.World.{World}
 use Rattle.nb_host.specs.Crash.{LeavesAll}
 use Rattle.nb_host.specs.Moments.{IsTimely}
-use Rattle.nb_change.specs.Changes.{Changes}
-use Rattle.nb_change.proofs.ChangesLaws.{begun, composed}
+use Rattle.nb_change.specs.Changes.{Names, Changes}
+use Rattle.nb_change.proofs.ChangesLaws.{begun, rested, composed}
+use Rattle.nb_page.specs.Quiet.{Quiet}
 use Rattle.nb_model.specs.Image.{Page, Image, page_at, first_page, image_size, image_state}
 use Rattle.nb_model.specs.Account.{Base}
 use Rattle.nb_model.specs.Strokes.{page, on_base}
@@ -27,6 +28,11 @@ use Rattle.nb_cache.specs.Held.{rank_of, with_rank, NoneWaits}
 use Rattle.nb_owner.specs.Open.{Held, Pages, AreOf, waits, IsWaiting, Waits, IsOpen, NoScnWaits, StandsAs, GoesOut}
 use Rattle.nb_owner.proofs.RankLaws.{rank_marked, rank_marked_other, waits_there, none_found, marked_of}
 use Rattle.nb_owner.proofs.WaitLaws.{agrees_same}
+
+-- Calls that change nothing come behind.
+pub quiet_more : (old mid new : World) (names : Names) (P : Files → Type 0) → Changes old mid names P → Quiet mid new → Changes old new names P
+quiet_more old mid new names P before quiet =
+    composed old mid new names P P P before (rested mid new names P quiet.still quiet.said quiet.moments before.now) (λ files is. is) (λ files is. is)
 
 -- One page goes out, while P holds of what is left.
 module _ (held : Held) (f t : Trail) (P : Base → Type 0) (same : (b : Base) → P b → (length b.image ≡ length t.base.image) × (first_page b.image ≡ first_page t.base.image))

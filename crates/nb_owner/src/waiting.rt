@@ -155,17 +155,19 @@ impl Pair {
         ensures reads { (H.world host.new).reads ≡ (H.world host.old).reads }
         ensures cause { CountsFault result (H.faults host.old) (H.faults host.new) }
     {
-        if self.next_scn_page().is_none() {
-            return Ok(());
+        match self.next_scn_page() {
+            Some(_) => {
+                self.put_scn_pages(host)?;
+                self.files.sync(host)?;
+                Ok(())
+            }
+            None => Ok(()),
         }
-        self.put_scn_pages(host)?;
-        self.files.sync(host)?;
-        Ok(())
     }
 
     /// Writes all that waits, where something does.
     fn put_all<H: Host>(&mut self, host: &mut H) -> Result<(), HostFault>
-        requires some { NoneWaits self.old.pages → IsTrue false }
+        requires some { (p rank : ℕ) × (rank_of self.old.pages p ≡ Some rank) }
         ensures takes { (t : Trail) → IsTrue H.tells → IsOpen (H.world host.old) self.old t
             → Takes result (H.world host.old) (H.world host.new) self.old.files.name (IsOpen (H.world host.new) self.new) t [] }
         ensures none { OnOk result (NoneWaits self.new.pages) }
@@ -195,10 +197,12 @@ impl Pair {
         ensures reads { (H.world host.new).reads ≡ (H.world host.old).reads }
         ensures cause { CountsFault result (H.faults host.old) (H.faults host.new) }
     {
-        if self.next_page().is_none() {
-            return Ok(());
+        match self.next_page() {
+            Some(_) => {
+                self.put_all(host)?;
+                Ok(())
+            }
+            None => Ok(()),
         }
-        self.put_all(host)?;
-        Ok(())
     }
 }
