@@ -1,10 +1,10 @@
 -- What is open while pages wait, and that one more waits.
-use Rattle.std.proofs.Common.{◌≡◌, ◌≢◌, inl, inr, ℕ, ◌<◌, ◌≤◌, List, [], ◌∷◌, length, refl, sym, ap, subst, ◌∙◌, arith}
-use Rattle.std.specs.Prelude.{Bool, true, false, ◌==◌, nat_eq, Option, Some, None, is_some}
+use Rattle.std.proofs.Common.{◌≡◌, ◌≢◌, inl, inr, ℕ, suc, ◌+◌, ◌<◌, ◌≤◌, List, [], ◌∷◌, length, refl, sym, ap, subst, ◌∙◌, arith}
+use Rattle.std.specs.Prelude.{Bool, true, false, ◌==◌, ◌&&◌, not, nat_eq, nat_lt, Option, Some, None, is_some}
 use Rattle.std.specs.List.{AllByRecursion, IsDistinct}
 use Rattle.std.specs.Map.{keys_of}
 use Rattle.std.proofs.lemmas.Bool.{true≢false}
-use Rattle.std.proofs.lemmas.Bool.Decides.{eqb_tells}
+use Rattle.std.proofs.lemmas.Bool.Decides.{eqb_tells, leb_tells}
 use Rattle.lru.specs.LruCache.{lru_cache, put_entries}
 use Rattle.nb_fields.specs.Bytes.{is_zeros}
 use Rattle.nb_fields.specs.Places.{is_scn_place}
@@ -12,6 +12,9 @@ use Rattle.nb_fields.specs.Header.{is_header, state_of, size_of}
 use Rattle.nb_host.specs.Files.{Files}
 use Rattle.nb_host.specs.World.{World}
 use Rattle.nb_host.specs.Crash.{LeavesAll}
+use Rattle.std.specs.Option.{option_and_then}
+use Rattle.nb_page.specs.Quiet.{Quiet}
+use Rattle.nb_change.proofs.ChangesLaws.{all_before}
 use Rattle.nb_model.specs.Image.{Page, Image, page_at, first_page, image_size, image_state, is_forced}
 use Rattle.nb_model.specs.Account.{Base}
 use Rattle.nb_model.specs.Owner.{delta_name}
@@ -25,7 +28,7 @@ use Rattle.nb_model.proofs.WayLaws.{same_pages, put_same, put_other, put_first, 
 use Rattle.nb_base.specs.Open.{IsOpen as AreOpen, Agrees}
 use Rattle.nb_base.specs.Firm.{StandsFirm}
 use Rattle.nb_cache.specs.Held.{Slot, slot_of, rank_of, with_rank, dropped, NoneWaits}
-use Rattle.nb_owner.specs.Open.{Held, Pages, AreOf, waits, IsWaiting, Waits, IsOpen, IsValid, cache_of}
+use Rattle.nb_owner.specs.Open.{Held, Pages, AreOf, waits, IsWaiting, Waits, IsOpen, IsValid, may_wait, cache_of}
 use Rattle.nb_owner.proofs.UsedLaws.{All-put}
 use Rattle.nb_owner.proofs.RankLaws.{rank_kept, rank_kept_other, rank_marked, rank_marked_other, none_found, own_true, slot_kept, marked_of}
 
@@ -84,6 +87,77 @@ files_open w held t none is = record {
 
     same : is.sees.base ≡ t.base
     same = λ i. record { image = image i; frozen = is.waits.behind.frozen i; diverted = is.waits.table i }
+
+-- Calls that change nothing leave it open.
+pub files_quiet : (old new : World) (held : Rattle.nb_base.specs.Open.Held) (t : Trail) → Quiet old new → AreOpen old held t → AreOpen new held t
+files_quiet old new held t quiet is = record {
+  left = λ files all. is.left files (all_before old new quiet.still.left files all);
+  shows = subst (λ (f : Files). ShowsIn held.name t.base f) (sym quiet.still.files) is.shows;
+  agrees = is.agrees;
+}
+
+pub quiet_open : (old new : World) (held : Held) (t : Trail) → Quiet old new → IsOpen old held t → IsOpen new held t
+quiet_open old new held t quiet is = open_of new held is.sees t (files_quiet old new held.files is.sees quiet is.files) is.waits is.pages
+
+-- Other pages in memory, of which the same wait.
+pub waits_same : (es after : Pages) (f t : Trail) → ((q : ℕ) → rank_of after q ≡ rank_of es q) → Waits es f t → Waits after f t
+waits_same es after f t same is = record {
+  behind = is.behind;
+  table = is.table;
+  clean = λ p clean. is.clean p (ap is_some (sym (same p)) ∙ clean);
+  each = λ p rank at. is.each p rank (sym (same p) ∙ at);
+}
+
+pub open_with : (w : World) (held : Held) (t : Trail) (after : Pages) → IsOpen w held t → ((q : ℕ) → rank_of after q ≡ rank_of held.pages q) → AreOf t.base.image after → IsOpen w (record held { pages = after }) t
+open_with w held t after is same pages = open_of w (record held { pages = after }) is.sees t is.files (waits_same held.pages after is.sees t same is.waits) pages
+
+-- a page that isn't in memory doesn't wait, so the files have it as it is seen
+pub absent_waits : (es : Pages) (p : ℕ) → slot_of es p ≡ None → rank_of es p ≡ None
+absent_waits es p none = ap (λ (o : Option Slot). option_and_then (λ slot. slot.rank) o) none
+
+pub absent_page : (w : World) (held : Held) (t : Trail) (is : IsOpen w held t) (p : ℕ) → slot_of held.pages p ≡ None → page_at is.sees.base.image p ≡ page_at t.base.image p
+absent_page w held t is p none = is.waits.clean p (ap is_some (absent_waits held.pages p none))
+
+-- A page that was read is kept.
+module _ (w : World) (held : Held) (t : Trail) (is : IsOpen w held t) (valid : IsValid (cache_of held) held.files.page_size) (p : ℕ) (bytes : Page) (absent : slot_of held.pages p ≡ None)
+    (drops_none : dropped (cache_of held) p ≡ None) (same : bytes ≡ page_at t.base.image p) where
+  pub read_open : IsOpen w (record held { pages = put_entries nat_eq (lru_cache held.pages held.cap) p (record { bytes = bytes; rank = None }) }) t
+  read_open = open_with w held t (put_entries nat_eq (lru_cache held.pages held.cap) p (record { bytes = bytes; rank = None })) is
+      (λ q. elim (eqb_tells q p) [
+        | inl e ↦ ap (rank_of (put_entries nat_eq (lru_cache held.pages held.cap) p (record { bytes = bytes; rank = None }))) e.1
+            ∙ rank_kept (cache_of held) p (record { bytes = bytes; rank = None }) valid.some valid.most drops_none ∙ sym (ap (rank_of held.pages) e.1 ∙ absent_waits held.pages p absent)
+        | inr e ↦ rank_kept_other (cache_of held) p (record { bytes = bytes; rank = None }) valid.some valid.most drops_none q e.1
+      ])
+      (All-put p held.pages valid.once held.cap (record { bytes = bytes; rank = None }) (λ e. e.1.bytes ≡ page_at t.base.image e.0) (λ e. e.1.bytes ≡ page_at t.base.image e.0) (λ e apart of. of) same is.pages)
+
+-- why a write may wait
+and_parts : (a b : Bool) → (a && b) ≡ true → (a ≡ true) × (b ≡ true)
+and_parts true b e = (refl, e)
+and_parts false b e = absurd (true≢false (sym e))
+
+not_true : (a : Bool) → not a ≡ true → a ≡ false
+not_true true e = absurd (true≢false (sym e))
+not_true false e = refl
+
+pub may_wait_parts : (held : Held) (p : ℕ) (forced : Bool) → may_wait held p forced ≡ true → (forced ≡ false) × (held.files.state ≡ 0) × (1 ≤ p) × (p < held.files.count) × (dropped (cache_of held) p ≡ None)
+may_wait_parts held p forced is =
+    let a = and_parts (not forced) (held.files.state == 0 && (not (p == 0) && (nat_lt p held.files.count && not (is_some (dropped (cache_of held) p))))) is in
+    let b = and_parts (held.files.state == 0) (not (p == 0) && (nat_lt p held.files.count && not (is_some (dropped (cache_of held) p)))) a.1 in
+    let c = and_parts (not (p == 0)) (nat_lt p held.files.count && not (is_some (dropped (cache_of held) p))) b.1 in
+    let d = and_parts (nat_lt p held.files.count) (not (is_some (dropped (cache_of held) p))) c.1 in (
+      not_true forced a.0,
+      elim (eqb_tells held.files.state 0) [ inl w ↦ w.1 | inr w ↦ absurd (true≢false (sym b.0 ∙ w.0)) ],
+      elim (eqb_tells p 0) [ inl w ↦ absurd (true≢false (sym (sym (not_true (p == 0) c.0) ∙ w.0))) | inr w ↦ some p w.1 ],
+      elim (leb_tells (suc p) held.files.count) [ inl w ↦ omega (arith, w.1) | inr w ↦ absurd (true≢false (sym d.0 ∙ w.0)) ],
+      gone (dropped (cache_of held) p) (not_true (is_some (dropped (cache_of held) p)) d.1),
+    )
+  where
+    some : (p : ℕ) → p ≢ 0 → 1 ≤ p
+    some p ne = omega (arith, ne)
+
+    gone : (o : Option ℕ) → is_some o ≡ false → o ≡ None
+    gone None e = refl
+    gone (Some x) e = absurd (true≢false e)
 
 -- The rank goes by page 0.
 rank_same : (a b : Image) (p : ℕ) → first_page a ≡ first_page b → rank_for a p ≡ rank_for b p

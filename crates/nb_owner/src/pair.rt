@@ -1,5 +1,5 @@
 // Pages are read and written, in memory and in the files.
-ghost use Rattle.std.specs.Prelude.{◌≡◌, ◌≢◌, ◌<◌, ◌≤◌, ◌+◌, ℕ, List, [], ◌∷◌, length, IsTrue, IsSome, IsOk, IfErr, OnOk, OnErr, Option, None, true, false, nat_eq};
+ghost use Rattle.std.specs.Prelude.{◌≡◌, ◌≢◌, ◌⊎◌, ◌<◌, ◌≤◌, ◌+◌, ℕ, List, [], ◌∷◌, length, IsTrue, IsSome, IsOk, IfErr, OnOk, OnErr, Option, None, true, false, nat_eq};
 ghost use Rattle.nb_fields.specs.Bytes.{is_zeros};
 ghost use Rattle.nb_fields.specs.Places.{is_page_size};
 ghost use Rattle.nb_host.specs.Causes.{CountsFault};
@@ -158,7 +158,8 @@ impl Pair {
         ensures used { number < self.old.files.count → dropped (cache_of self.old) number ≡ None
             → self.new ≡ record self.old { pages = put_entries nat_eq (lru_cache self.old.pages self.old.cap) number (record { bytes = page.now; rank = None }) } }
         ensures full { IsSome (dropped (cache_of self.old) number) → self.new ≡ self.old }
-        ensures past { self.old.files.count ≤ number → self.new ≡ self.old }
+        ensures either { (self.new ≡ self.old)
+            ⊎ ((number < self.old.files.count) × (dropped (cache_of self.old) number ≡ None) × (self.new ≡ record self.old { pages = put_entries nat_eq (lru_cache self.old.pages self.old.cap) number (record { bytes = page.now; rank = None }) })) }
     {
         if number < self.files.count() && self.cache.would_drop(number).is_none() {
             self.cache.keep(number, page);

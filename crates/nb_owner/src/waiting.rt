@@ -75,7 +75,8 @@ impl Pair {
 
     /// The page that goes out next, where one waits.
     fn next_page(&self) -> Option<u32>
-        ensures { MatchOption result (NoneWaits self.now.pages) (λ p. (rank : ℕ) × (rank_of self.now.pages p ≡ Some rank)) }
+        ensures next { MatchOption result (NoneWaits self.now.pages) (λ p. (rank : ℕ) × (rank_of self.now.pages p ≡ Some rank)) }
+        ensures outside { self.now.files.state ≢ 0 → result ≡ None }
     {
         match self.cache.next_dirty() {
             Some((number, _)) => Some(number),
@@ -190,6 +191,7 @@ impl Pair {
             → Takes result (H.world host.old) (H.world host.new) self.old.files.name (IsOpen (H.world host.new) self.new) t [] }
         ensures none { OnOk result (NoneWaits self.new.pages) }
         ensures idle { NoneWaits self.old.pages → IsOk result × (self.new ≡ self.old) × (host.new ≡ host.old) }
+        ensures outside { self.old.files.state ≢ 0 → IsOk result × (self.new ≡ self.old) × (host.new ≡ host.old) }
         ensures files { self.new.files ≡ self.old.files }
         ensures bare { bare self.new.pages ≡ bare self.old.pages }
         ensures cap { self.new.cap ≡ self.old.cap }

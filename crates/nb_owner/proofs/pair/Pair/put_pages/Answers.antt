@@ -23,7 +23,7 @@ loop-number-init g c = record {
 pub loop-number-smaller : goal.loop-number-smaller
 loop-number-smaller g c =
     subst (λ (h : Held). waiting_count h.pages < waiting_count c.loop-number.self.pages) (sym c.in_ok-put_next.ensures.done)
-    (fewer_wait c.in-Some.number c.in-Some.ensures.0 c.loop-number.self.pages c.in-Some.ensures.1)
+    (fewer_wait c.in-Some.number c.in-Some.ensures.next.0 c.loop-number.self.pages c.in-Some.ensures.next.1)
 
 pub loop-number-preserved : goal.loop-number-preserved
 loop-number-preserved g c =
@@ -45,10 +45,10 @@ loop-number-preserved g c =
           let by = c.put_next.ensures.left t tells so.1.pages in
           let size = c.put_next.ensures.long t so.1.pages in (
             subst (λ (n : List ℕ). Changes old new (OfFiles n) (StandsIn n t)) name
-            (firm_changes mid c.loop-number.self f t so.1 so.2 new c.in-Some.number c.in-Some.ensures.0 c.in-Some.ensures.1 size by old (subst (λ (n : List ℕ). Changes old mid (OfFiles n) (StandsIn n t)) (sym name) so.0)),
+            (firm_changes mid c.loop-number.self f t so.1 so.2 new c.in-Some.number c.in-Some.ensures.next.0 c.in-Some.ensures.next.1 size by old (subst (λ (n : List ℕ). Changes old mid (OfFiles n) (StandsIn n t)) (sym name) so.0)),
             subst (λ (h : Held). GoesOut new h f t (IsFirm t)) (sym ok.done)
-            (firm_more mid c.loop-number.self f t so.1 so.2 new c.in-Some.number c.in-Some.ensures.0 c.in-Some.ensures.1 size by (λ b shows may. ok.put t b tells so.1.pages shows may)),
-            subst (λ (h : Held). NoScnWaits t h.pages) (sym ok.done) (none_more mid c.loop-number.self f t so.1 so.2 new c.in-Some.number c.in-Some.ensures.0 c.in-Some.ensures.1 size by),
+            (firm_more mid c.loop-number.self f t so.1 so.2 new c.in-Some.number c.in-Some.ensures.next.0 c.in-Some.ensures.next.1 size by (λ b shows may. ok.put t b tells so.1.pages shows may)),
+            subst (λ (h : Held). NoScnWaits t h.pages) (sym ok.done) (none_more mid c.loop-number.self f t so.1 so.2 new c.in-Some.number c.in-Some.ensures.next.0 c.in-Some.ensures.next.1 size by),
           );
     }
 
@@ -61,7 +61,7 @@ returns-in_err-put_next-clause-left g c f t tells given cond =
     let name = ap (λ f. f.name) loop.files in
     let so = loop.out f t tells given cond in
     subst (λ (n : List ℕ). Changes old new (OfFiles n) (StandsIn n t)) name
-    (firm_changes mid c.loop-number.self f t so.1 so.2 new c.in-Some.number c.in-Some.ensures.0 c.in-Some.ensures.1 (c.put_next.ensures.long t so.1.pages) (c.put_next.ensures.left t tells so.1.pages) old
+    (firm_changes mid c.loop-number.self f t so.1 so.2 new c.in-Some.number c.in-Some.ensures.next.0 c.in-Some.ensures.next.1 (c.put_next.ensures.long t so.1.pages) (c.put_next.ensures.left t tells so.1.pages) old
     (subst (λ (n : List ℕ). Changes old mid (OfFiles n) (StandsIn n t)) (sym name) so.0))
 
 pub returns-clause-left : goal.returns-clause-left
@@ -70,4 +70,4 @@ returns-clause-left g c f t tells given cond = (c.loop-number.invariant.out f t 
 pub returns-clause-out : goal.returns-clause-out
 returns-clause-out g c f t tells given cond =
     let so = c.loop-number.invariant.out f t tells given cond in
-    open_settled (g.H.Host.world c.loop-number.host) c.loop-number.self t c.in_default.ensures (out_open (g.H.Host.world c.loop-number.host) c.loop-number.self f t so.1 c.in_default.ensures) so.1.pages
+    open_settled (g.H.Host.world c.loop-number.host) c.loop-number.self t c.in_default.ensures.next (out_open (g.H.Host.world c.loop-number.host) c.loop-number.self f t so.1 c.in_default.ensures.next) so.1.pages
