@@ -30,9 +30,9 @@ module _ (pages : Pages) (once : IsDistinct nat_eq (keys_of pages)) where
   of_read image cap p v is all = All-put p pages once cap _ (λ e. e.1.bytes ≡ page_at image e.0) (λ e. e.1.bytes ≡ page_at image e.0) (λ e apart of. of) is all
 
   -- a page as it was written
-  pub of_written : (t : Trail) (cap p : ℕ) (bytes : Page) → Fits p bytes t.base.image → AreOf t.base.image pages → AreOf (after_stroke (page p bytes) t).base.image (put_first pages cap p (record { bytes = bytes; rank = None }))
-  of_written t cap p bytes fits all =
-      subst (λ (image : Image). AreOf image (put_first pages cap p (record { bytes = bytes; rank = None }))) (sym written)
+  pub of_written : (t : Trail) (cap p : ℕ) (bytes : Page) (rank : Option ℕ) → Fits p bytes t.base.image → AreOf t.base.image pages → AreOf (after_stroke (page p bytes) t).base.image (put_first pages cap p (record { bytes = bytes; rank = rank }))
+  of_written t cap p bytes rank fits all =
+      subst (λ (image : Image). AreOf image (put_first pages cap p (record { bytes = bytes; rank = rank }))) (sym written)
       (All-put p pages once cap _ (λ e. e.1.bytes ≡ page_at t.base.image e.0) (λ e. e.1.bytes ≡ page_at (with_page p bytes t.base.image) e.0)
       (λ e apart of. of ∙ sym (with_page_other p e.0 bytes t.base.image fits.low (λ same. eqb-false p e.0 apart (sym same)))) (sym (with_page_same p bytes t.base.image fits.low)) all)
     where
