@@ -4,7 +4,7 @@ use Rattle.std.specs.Prelude.{is_some, slice_get, MatchOption, Result, Ok, Err, 
 use Rattle.std.specs.Option.{option_and_then, option_map, option_map_or}
 use Rattle.std.specs.List.{IsDistinct}
 use Rattle.std.specs.Map.{keys_of, lookup, lookup_entry, remove_entry}
-use Rattle.std.proofs.lemmas.Bool.{eqb-false}
+use Rattle.std.proofs.lemmas.Bool.{true≢false, eqb-false}
 use Rattle.lru.specs.LruCache.{lru_cache, promoted, put_entries}
 use Rattle.nb_model.specs.Image.{Page, Image, page_at, image_scn, image_guid, with_page}
 use Rattle.nb_model.specs.Account.{Ask, Base}
@@ -261,3 +261,21 @@ module _ (pages : Pages) (once : IsDistinct nat_eq (keys_of pages)) (p rank : �
       by None there e = absurd (let h : None ≡ Some r = e in cc)
       by (Some slot) there e =
           ⊎_elim (λ (lower : rank < r). omega arith) (λ (same : (rank ≡ r) × (p ≤ q)). omega (arith, same.0)) (All-found q pages slot there (IsNoLater p rank) goes.first r e)
+
+-- a page that is looked for lets none wait where none did
+pub looked_none : (cache after : Rattle.nb_cache.specs.Held.Held) (p : ℕ) → after ≡ record cache { pages = promoted (nat_eq p) cache.pages } → IsDistinct nat_eq (keys_of cache.pages) → NoneWaits cache.pages → NoneWaits after.pages
+looked_none cache after p looked once none = by (slot_of cache.pages p) refl
+  where
+    moved : after.pages ≡ promoted (nat_eq p) cache.pages
+    moved = ap (λ (h : Rattle.nb_cache.specs.Held.Held). h.pages) looked
+
+    by : (o : Option Slot) → slot_of cache.pages p ≡ o → NoneWaits after.pages
+    by None is = subst (λ (ps : Pages). NoneWaits ps) (sym (moved ∙ promoted_absent p cache.pages is)) none
+    by (Some slot) is =
+        subst (λ (ps : Pages). NoneWaits ps) (sym (moved ∙ promoted_put p cache.pages slot is cache.cap))
+        (All-put p cache.pages once cache.cap slot (λ e. e.1.rank ≡ None) (λ e. e.1.rank ≡ None) (λ e apart waits. waits) (All-found p cache.pages slot is (λ e. e.1.rank ≡ None) none) none)
+
+-- a page that is in memory drops none
+pub kept_drops : (held : Rattle.nb_cache.specs.Held.Held) (p : ℕ) (slot : Slot) → slot_of held.pages p ≡ Some slot → is_some (dropped held p) ≡ true → ⊥
+kept_drops held p slot there some =
+    true≢false (sym some ∙ ap (λ (b : Bool). is_some (option_and_then (λ (e : ℕ × Slot). option_map (λ _. e.0) e.1.rank) (if b then None else slice_get held.pages (held.cap - 1)))) (ap is_some there))
