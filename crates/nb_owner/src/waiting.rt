@@ -15,7 +15,7 @@ ghost use Rattle.nb_base.specs.Put.{MayPut, PutLeft};
 ghost use Rattle.nb_base.specs.Takes.{Takes};
 ghost use Rattle.nb_cache.specs.Held.{rank_of, with_rank, dropped, NoneWaits};
 ghost use Rattle.lru.specs.LruCache.{lru_cache, put_entries};
-ghost use Rattle.nb_owner.specs.Open.{IsOpen, AreOf, GoesOut, NoScnWaits, may_wait, cache_of, bare};
+ghost use Rattle.nb_owner.specs.Open.{IsOpen, AreOf, GoesOut, IsValid, NoScnWaits, may_wait, cache_of, bare};
 
 use crate::Pair;
 use nb_fields::is_scn_place;
@@ -29,7 +29,8 @@ const OTHER_PAGE: u8 = 3;
 impl Pair {
     /// Whether a write of page `number` waits.
     pub(crate) fn may_wait(&self, number: u32, forced: bool) -> bool
-        ensures { result ≡ may_wait self.now number forced }
+        ensures value { result ≡ may_wait self.now number forced }
+        ensures valid { IsValid (cache_of self.now) self.now.files.page_size }
     {
         !forced
             && self.files.state() == 0

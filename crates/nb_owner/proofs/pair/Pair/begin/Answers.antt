@@ -1,0 +1,45 @@
+use Rattle.std.proofs.Common.{List, ℕ, [], ◌∷◌, inl, sym, subst, ap, ◌∙◌}
+use Rattle.nb_change.proofs.ChangesLaws.{weaker_has}
+use Rattle.nb_change.proofs.ReachedLaws.{strokes_composed}
+use Rattle.nb_model.specs.Strokes.{begin}
+use Rattle.nb_model.specs.Trail.{StandsIn, after_stroke}
+use Rattle.nb_base.specs.Open.{OfFiles}
+use Rattle.nb_base.specs.Takes.{Strikes}
+use Rattle.nb_base.proofs.WriteLaws.{not_done}
+use Rattle.nb_owner.proofs.pair.Pair.begin.Goals as goal
+
+pub returns-in_err-write_out-clause-takes : goal.returns-in_err-write_out-clause-takes
+returns-in_err-write_out-clause-takes g c t ask tells is low = record {
+  left = weaker_has (g.H.Host.world c.args.host.now) (g.H.Host.world c.write_out.new.host) (OfFiles c.args.self.now.files.name) _ _ (c.write_out.ensures.takes t tells is).left (λ files so. inl so);
+  done = not_done c.from_residual.result _ c.from_residual.ensures.0;
+}
+
+pub begin_files-requires-clause-normal : goal.begin_files-requires-clause-normal
+begin_files-requires-clause-normal g c = ap (λ f. f.state) c.write_out.ensures.files ∙ c.requires
+
+pub returns-in_err-begin_files-clause-takes : goal.returns-in_err-begin_files-clause-takes
+returns-in_err-begin_files-clause-takes g c t ask tells is low =
+    let old = g.H.Host.world c.args.host.now in
+    let mid = g.H.Host.world c.write_out.new.host in
+    let new = g.H.Host.world c.begin_files.new.host in
+    let name = c.args.self.now.files.name in
+    let first = c.in_ok-write_out.ensures.takes t tells is in
+    record {
+      left = strokes_composed after_stroke (StandsIn name) (OfFiles name) old mid new t [] (begin c.args.guid.now ask ∷ []) first.left
+          (subst (λ (n : List ℕ). Strikes mid new n t (begin c.args.guid.now ask ∷ [])) (ap (λ f. f.name) c.write_out.ensures.files) (c.begin_files.ensures.takes t ask tells first.done low).left);
+      done = not_done c.from_residual-in_err-begin_files.result _ c.from_residual-in_err-begin_files.ensures.0;
+    }
+
+pub returns-clause-takes : goal.returns-clause-takes
+returns-clause-takes g c t ask tells is low =
+    let old = g.H.Host.world c.args.host.now in
+    let mid = g.H.Host.world c.write_out.new.host in
+    let new = g.H.Host.world c.begin_files.new.host in
+    let name = c.args.self.now.files.name in
+    let first = c.in_ok-write_out.ensures.takes t tells is in
+    let second = c.in_ok-begin_files.ensures.takes t ask tells first.done low in
+    record {
+      left = strokes_composed after_stroke (StandsIn name) (OfFiles name) old mid new t [] (begin c.args.guid.now ask ∷ []) first.left
+          (subst (λ (n : List ℕ). Strikes mid new n t (begin c.args.guid.now ask ∷ [])) (ap (λ f. f.name) c.write_out.ensures.files) second.left);
+      done = second.done;
+    }
