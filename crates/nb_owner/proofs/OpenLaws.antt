@@ -129,7 +129,7 @@ bare_taken zero es = refl
 bare_taken (suc n) [] = refl
 bare_taken (suc n) (e ∷ es) = ap (λ (xs : List (ℕ × List ℕ)). (e.0, e.1.bytes) ∷ xs) (bare_taken n es)
 
-bare_removed : (p : ℕ) (es : Pages) → bare (remove_entry (nat_eq p) es) ≡ remove_entry (nat_eq p) (bare es)
+pub bare_removed : (p : ℕ) (es : Pages) → bare (remove_entry (nat_eq p) es) ≡ remove_entry (nat_eq p) (bare es)
 bare_removed p [] = refl
 bare_removed p (e ∷ es) = (elim (nat_eq p e.0) as (λ b. nat_eq p e.0 ≡ b → bare (remove_entry (nat_eq p) (e ∷ es)) ≡ remove_entry (nat_eq p) (bare (e ∷ es))) [
   | true ↦ λ is. rw is refl

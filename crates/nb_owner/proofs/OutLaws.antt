@@ -153,16 +153,18 @@ out_open w held f t out none = record {
   agrees = out.agrees;
 }
 
+-- in the normal state the rank goes by whether it is an SCN page
+pub rank_normal : (image : Image) (p : ℕ) → image_state image ≡ 0 → rank_for image p ≡ elim (is_scn_place (image_size image) p) as (λ z. ℕ) [ true ↦ 2 | false ↦ 3 ]
+unfolding rank_for
+rank_normal image p normal = elim (eqb_tells (image_state image) 1) [
+  | inl w ↦ absurd (omega (arith, w.1, normal))
+  | inr w ↦ ap (λ (u : Bool). elim u as (λ z. ℕ) [ true ↦ 0 | false ↦ elim (is_scn_place (image_size image) p) as (λ z. ℕ) [ true ↦ 2 | false ↦ 3 ] ]) w.0
+]
+
 -- The rank of a page that waits tells whether it is an SCN page.
 module _ (t : Trail) (p rank : ℕ) (waiting : IsWaiting t p rank) where
   rank_is : rank ≡ elim (is_scn_place (image_size t.base.image) p) as (λ z. ℕ) [ true ↦ 2 | false ↦ 3 ]
-  unfolding rank_for
-  rank_is =
-      waiting.ranked
-      ∙ (elim (eqb_tells (image_state t.base.image) 1) [
-        | inl w ↦ absurd (omega (arith, w.1, waiting.normal))
-        | inr w ↦ ap (λ (u : Bool). elim u as (λ z. ℕ) [ true ↦ 0 | false ↦ elim (is_scn_place (image_size t.base.image) p) as (λ z. ℕ) [ true ↦ 2 | false ↦ 3 ] ]) w.0
-      ])
+  rank_is = waiting.ranked ∙ rank_normal t.base.image p waiting.normal
 
   pub low_rank : rank ≤ 2 → is_scn_place (image_size t.base.image) p ≡ true
   low_rank low = by (is_scn_place (image_size t.base.image) p) refl

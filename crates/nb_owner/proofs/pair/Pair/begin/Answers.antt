@@ -6,6 +6,10 @@ use Rattle.nb_model.specs.Trail.{StandsIn, after_stroke}
 use Rattle.nb_base.specs.Open.{OfFiles}
 use Rattle.nb_base.specs.Takes.{Strikes}
 use Rattle.nb_base.proofs.WriteLaws.{not_done}
+use Rattle.std.specs.Prelude.{nat_eq}
+use Rattle.std.specs.Map.{remove_entry}
+use Rattle.nb_owner.specs.Open.{Pages, bare}
+use Rattle.nb_owner.proofs.OpenLaws.{bare_removed}
 use Rattle.nb_owner.proofs.pair.Pair.begin.Goals as goal
 
 pub returns-in_err-write_out-clause-takes : goal.returns-in_err-write_out-clause-takes
@@ -15,7 +19,7 @@ returns-in_err-write_out-clause-takes g c t ask tells is low = record {
 }
 
 pub begin_files-requires-clause-normal : goal.begin_files-requires-clause-normal
-begin_files-requires-clause-normal g c = ap (λ f. f.state) c.write_out.ensures.files ∙ c.requires
+begin_files-requires-clause-normal g c = ap (λ f. f.state) c.write_out.ensures.files ∙ c.requires.normal
 
 pub returns-in_err-begin_files-clause-takes : goal.returns-in_err-begin_files-clause-takes
 returns-in_err-begin_files-clause-takes g c t ask tells is low =
@@ -43,3 +47,7 @@ returns-clause-takes g c t ask tells is low =
           (subst (λ (n : List ℕ). Strikes mid new n t (begin c.args.guid.now ask ∷ [])) (ap (λ f. f.name) c.write_out.ensures.files) second.left);
       done = second.done;
     }
+
+pub returns-clause-others : goal.returns-clause-others
+returns-clause-others g c =
+    ap (λ (ps : Pages). bare ps) c.in_ok-begin_files.ensures.others ∙ bare_removed 0 c.write_out.new.self.pages ∙ ap (remove_entry (nat_eq 0)) c.write_out.ensures.bare ∙ sym (bare_removed 0 c.args.self.now.pages)
