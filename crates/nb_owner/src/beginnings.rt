@@ -33,8 +33,9 @@ impl Pair {
         ensures cause { CountsDevice result (H.faults host.old) (H.faults host.new) }
     {
         let files = TwoFiles::attach(alloc, host, name)?;
-        let cache = Cache::new(alloc, cache_pages, files.page_size())?;
-        let page = vec![in alloc; 0u8; files.page_size() as usize]?;
+        let page_size = files.page_size();
+        let cache = Cache::new(alloc, cache_pages, page_size)?;
+        let page = vec![in alloc; 0u8; page_size as usize]?;
         Ok(Pair { files, cache, page })
     }
 

@@ -271,6 +271,7 @@ impl Pair {
         ensures merged { (k : ℕ) → AreMerged (H.world host.old) self.old.files k → AreMerged (H.world host.new) self.new.files k }
         ensures same { self.new ≡ self.old }
         ensures quiet { Quiet (H.world host.old) (H.world host.new) }
+        ensures reads { (H.world host.new).reads ≡ (H.world host.old).reads }
         ensures cause { CountsFault result (H.faults host.old) (H.faults host.new) }
     {
         self.files.sync(host)?;

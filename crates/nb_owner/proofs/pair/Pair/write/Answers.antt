@@ -1,5 +1,6 @@
 use Rattle.std.proofs.Common.{◌≡◌, ◌<◌, ℕ, List, [], ◌∷◌, inl, inr, ⊎_elim, length, refl, sym, subst, ap, ◌∙◌, arith}
-use Rattle.std.specs.Prelude.{true, false, None, Some, is_some, nat_eq}
+use Rattle.std.specs.Prelude.{true, false, None, Some, is_some, nat_eq, Result, Ok, Err, IsErr, IsErrAnd}
+use Rattle.nb_host.specs.declared.faults.Fault.{Fault}
 use Rattle.std.proofs.lemmas.Bool.{true≢false}
 use Rattle.lru.specs.LruCache.{lru_cache, put_entries}
 use Rattle.nb_fields.specs.Places.{is_scn_place}
@@ -112,3 +113,17 @@ pub returns-clause-used : goal.returns-clause-used
 returns-clause-used g c =
     c.in_ok-write_through.ensures.used ∙ ap (λ ps. used ps c.write_out.new.self.cap c.args.number c.args.page.now) c.write_out.ensures.bare
     ∙ ap (λ cap. used (bare c.args.self.now.pages) cap c.args.number c.args.page.now) c.write_out.ensures.cap
+
+-- what `?` passes on
+passed_on : {T : Type 0} (result : Result T Fault) (fault : Fault) → IsErr result × IsErrAnd result (λ f. f ≡ fault) → result ≡ Err fault
+passed_on (Ok value) fault is = absurd is.1
+passed_on (Err e) fault is = ap Err is.1
+
+pub returns-in_err-write_through-clause-on_memory : goal.returns-in_err-write_through-clause-on_memory
+returns-in_err-write_through-clause-on_memory g c t tells is memory =
+    let old = g.H.Host.world c.args.host.now in
+    let first = c.in_ok-write_out.ensures.takes t tells is in
+    let same = c.in_err-write_through.ensures.on_memory (sym (passed_on c.from_residual-in_err-write_through.result _ c.from_residual-in_err-write_through.ensures) ∙ memory) in (
+      subst (λ host. Strikes old (g.H.Host.world host) c.args.self.now.files.name t []) (sym same.1) first.left,
+      subst (λ (h : Held). IsOpen (g.H.Host.world c.write_through.new.host) h t) (sym same.0) (subst (λ host. IsOpen (g.H.Host.world host) c.write_out.new.self t) (sym same.1) first.done),
+    )
