@@ -9,8 +9,8 @@
 mod beginnings;
 mod pair;
 mod states;
-mod waiting;
 #[cfg(test)]
 mod tests;
+mod waiting;
 
 pub use pair::Pair;

@@ -46,8 +46,9 @@ impl Pair {
         requires normal { self.old.files.state ≡ 0 }
         requires drops_none { dropped (cache_of self.old) number ≡ None }
         ensures held { self.new ≡ record self.old {
-            pages = with_rank number (Some (elim (is_scn_place self.old.files.page_size number) [ true ↦ 2 | false ↦ 3 ]))
-                (put_entries nat_eq (lru_cache self.old.pages self.old.cap) number (record { bytes = page.now; rank = rank_of self.old.pages number })) } }
+          pages = with_rank number (Some (elim (is_scn_place self.old.files.page_size number) [ true ↦ 2 | false ↦ 3 ]))
+              (put_entries nat_eq (lru_cache self.old.pages self.old.cap) number (record { bytes = page.now; rank = rank_of self.old.pages number }));
+        } }
     {
         let rank = if is_scn_place(self.files.page_size(), number) {
             SCN_PAGE
@@ -63,13 +64,7 @@ impl Pair {
         ensures { MatchOption result ((p rank : ℕ) → rank_of self.now.pages p ≡ Some rank → 2 < rank) (λ p. (rank : ℕ) × (rank_of self.now.pages p ≡ Some rank) × (rank ≤ 2)) }
     {
         match self.cache.next_dirty() {
-            Some((number, rank)) => {
-                if rank <= SCN_PAGE {
-                    Some(number)
-                } else {
-                    None
-                }
-            }
+            Some((number, rank)) => { if rank <= SCN_PAGE { Some(number) } else { None } }
             None => None,
         }
     }

@@ -33,7 +33,7 @@ invariant_of-self-2 g c =
       valid_gone c.self.inside.cache c.drop_page.new.self c.self.inside.files.page_size c.begin.new.self.page_size c.self.invariant.0 c.begin.ensures.page_size c.drop_page.ensures,
       c.self.invariant.1 ∙ sym c.begin.ensures.page_size,
       (λ stalled. subst (λ (ps : Pages). NoneWaits ps) (sym (gone_behind c.self.inside.cache c.drop_page.new.self c.self.inside.files.page_size c.self.inside.files.page_size c.self.invariant.0 refl c.drop_page.ensures))
-      (none_waits_dropped c.self.inside.cache.pages c.self.invariant.0.once none)),
+          (none_waits_dropped c.self.inside.cache.pages c.self.invariant.0.once none)),
     )
 
 pub returns-clause-takes : goal.returns-clause-takes

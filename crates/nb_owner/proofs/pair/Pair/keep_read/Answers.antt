@@ -9,5 +9,5 @@ invariant_of-self c = (
   valid_kept c.self.inside.cache c.keep.new.self c.self.inside.files.page_size c.self.inside.files.page_size c.self.invariant.0 refl c.args.number _ c.keep.ensures,
   c.self.invariant.1,
   (λ stalled. subst (λ (ps : Pages). NoneWaits ps) (sym (kept_pages c.self.inside.cache c.keep.new.self c.self.inside.files.page_size c.self.inside.files.page_size c.self.invariant.0 refl c.args.number _ c.keep.ensures))
-  (none_waits_kept c.self.inside.cache.pages c.self.invariant.0.once c.self.inside.cache.cap c.args.number c.args.page.now (c.self.invariant.2 stalled))),
+      (none_waits_kept c.self.inside.cache.pages c.self.invariant.0.once c.self.inside.cache.cap c.args.number c.args.page.now (c.self.invariant.2 stalled))),
 )

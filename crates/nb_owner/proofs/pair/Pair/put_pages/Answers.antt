@@ -45,9 +45,9 @@ loop-number-preserved g c =
           let by = c.put_next.ensures.left t tells so.1.pages in
           let size = c.put_next.ensures.long t so.1.pages in (
             subst (λ (n : List ℕ). Changes old new (OfFiles n) (StandsIn n t)) name
-            (firm_changes mid c.loop-number.self f t so.1 so.2 new c.in-Some.number c.in-Some.ensures.next.0 c.in-Some.ensures.next.1 size by old (subst (λ (n : List ℕ). Changes old mid (OfFiles n) (StandsIn n t)) (sym name) so.0)),
+                (firm_changes mid c.loop-number.self f t so.1 so.2 new c.in-Some.number c.in-Some.ensures.next.0 c.in-Some.ensures.next.1 size by old (subst (λ (n : List ℕ). Changes old mid (OfFiles n) (StandsIn n t)) (sym name) so.0)),
             subst (λ (h : Held). GoesOut new h f t (IsFirm t)) (sym ok.done)
-            (firm_more mid c.loop-number.self f t so.1 so.2 new c.in-Some.number c.in-Some.ensures.next.0 c.in-Some.ensures.next.1 size by (λ b shows may. ok.put t b tells so.1.pages shows may)),
+                (firm_more mid c.loop-number.self f t so.1 so.2 new c.in-Some.number c.in-Some.ensures.next.0 c.in-Some.ensures.next.1 size by (λ b shows may. ok.put t b tells so.1.pages shows may)),
             subst (λ (h : Held). NoScnWaits t h.pages) (sym ok.done) (none_more mid c.loop-number.self f t so.1 so.2 new c.in-Some.number c.in-Some.ensures.next.0 c.in-Some.ensures.next.1 size by),
           );
     }

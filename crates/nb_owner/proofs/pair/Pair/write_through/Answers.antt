@@ -32,7 +32,7 @@ invariant_of-self-2 g c =
       valid_kept c.self.inside.cache c.keep.new.self c.self.inside.files.page_size c.write.new.self.page_size c.self.invariant.0 c.write.ensures.page_size c.args.number _ c.keep.ensures,
       c.self.invariant.1 ∙ sym c.write.ensures.page_size,
       (λ stalled. subst (λ (ps : Pages). NoneWaits ps) (sym (kept_pages c.self.inside.cache c.keep.new.self c.self.inside.files.page_size c.self.inside.files.page_size c.self.invariant.0 refl c.args.number _ c.keep.ensures))
-      (none_waits_kept c.self.inside.cache.pages c.self.invariant.0.once c.self.inside.cache.cap c.args.number c.args.page.now none)),
+          (none_waits_kept c.self.inside.cache.pages c.self.invariant.0.once c.self.inside.cache.cap c.args.number c.args.page.now none)),
     )
 
 pub returns-clause-takes : goal.returns-clause-takes
