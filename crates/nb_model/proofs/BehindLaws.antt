@@ -201,8 +201,12 @@ module _ (f t : Trail) (is : IsBehind f t) where
                   let low_c : p < length t.base.image = omega (arith, low, way.long) in
                   record {
                     has = record { base = t.base; there = now_there t; below = low_c; same = r.same };
-                    entry = omega (arith, now.entries.no_later p (now.entries.there p low_c (has_now p has)) (has_now p has),
-                        entry_current steps way.first r.stalled way.diverted p r.entry r.named has (either p low has), ap scn_of way.first);
+                    entry = omega (
+                      arith,
+                      now.entries.no_later p (now.entries.there p low_c (has_now p has)) (has_now p has),
+                      entry_current steps way.first r.stalled way.diverted p r.entry r.named has (either p low has),
+                      ap scn_of way.first,
+                    );
                   }
 
           -- an entry of the table that is left names a page of the image

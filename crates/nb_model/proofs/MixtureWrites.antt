@@ -37,11 +37,11 @@ module _ (bases : List Base) (now image : Image) (mixed : IsMixture bases now im
     ];
     each = λ q inside. elim (eqb_tells q p) [
       | inl w ↦ record {
-          base = new;
-          there = last_there bases new;
-          below = omega (arith, w.1, long);
-          same = ap (page_at (with_page p bytes image)) w.1 ∙ with_page_same p bytes image low_mixed ∙ sym new_same ∙ sym (ap (page_at new.image) w.1);
-        }
+        base = new;
+        there = last_there bases new;
+        below = omega (arith, w.1, long);
+        same = ap (page_at (with_page p bytes image)) w.1 ∙ with_page_same p bytes image low_mixed ∙ sym new_same ∙ sym (ap (page_at new.image) w.1);
+      }
       | inr w ↦
           subst (HasPage (bases ++ new ∷ []) q) (sym (with_page_other p q bytes image low_mixed w.1))
           (one_more bases new q (page_at image q) (mixed.each q (omega (arith, inside, w.1, low_mixed, with_page_length p bytes image low_mixed))))
