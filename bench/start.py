@@ -17,7 +17,7 @@ RUNS, MOST = 200, 2.0
 def milliseconds(folder, words):
     """The time until the first line of output, or until the end where there is none."""
     began = time.perf_counter()
-    running = folder.start(words)
+    running = folder.start(words, stderr=subprocess.DEVNULL)
     running.stdout.readline()
     took = (time.perf_counter() - began) * 1000
     running.stdout.read()
