@@ -4,13 +4,14 @@ use Rattle.std.specs.Prelude.{Bool, ◌||◌, nat_le, max, Result}
 use Rattle.nb_model.specs.Image.{Page, Image, first_page, image_size, image_state, is_forced}
 use Rattle.nb_model.specs.Account.{Base}
 use Rattle.nb_model.specs.Strokes.{Stroke, page, on_base}
-use Rattle.nb_model.specs.Trail.{Trail, is_kept_place, is_synced, after_stroke}
+use Rattle.nb_model.specs.Trail.{Trail, after_stroke}
+use Rattle.nb_base.specs.Firm.{is_kept_place, must_sync}
 use Rattle.nb_model.proofs.HeaderLaws.{same-header}
 use Rattle.nb_model.proofs.TrailLaws.{trail_base}
 use Rattle.nb_host.specs.World.{World}
 use Rattle.nb_base.specs.Open.{Held, Agrees, Fits, IsOpen}
 use Rattle.nb_base.specs.Seen.{IsSeen, noted_in}
-use Rattle.nb_base.specs.Takes.{Takes}
+use Rattle.nb_base.specs.Takes.{TakesFirm}
 use Rattle.nb_base.proofs.LeftLaws.{later_size, later_state, later_length, later_front, later_frozen}
 
 -- what a page write makes of what is held
@@ -41,12 +42,12 @@ seen_open w held t seen agrees = record { left = seen.left; shows = seen.shows; 
 
 -- which write is synced
 pub synced_is : (held : Held) (b : Base) (p : ℕ) (forced : Bool) → Agrees held b → forced ≡ is_forced b.image
-    → (forced || is_kept_place held.page_size p || nat_le held.count p) ≡ is_synced b.image p
+    → (forced || is_kept_place held.page_size p || nat_le held.count p) ≡ must_sync b.image p
 synced_is held b p forced a is =
     ap (λ (f : Bool). f || is_kept_place held.page_size p || nat_le held.count p) is
     ∙ ap (λ n. is_forced b.image || is_kept_place n p || nat_le held.count p) a.page_size
     ∙ ap (λ n. is_forced b.image || is_kept_place (image_size b.image) p || nat_le n p) a.count
 
 -- what a call took, under another word for the name
-pub takes_named : {T E : Type 0} (result : Result T E) (old new : World) (a b : Held) (t : Trail) (strokes : List Stroke) → a ≡ b → Takes result old new a.name (IsSeen new a.name) t strokes → Takes result old new b.name (IsSeen new b.name) t strokes
-takes_named result old new a b t strokes same takes = subst (λ (h : Held). Takes result old new h.name (IsSeen new h.name) t strokes) same takes
+pub takes_named : {T E : Type 0} (result : Result T E) (old new : World) (a b : Held) (t : Trail) (strokes : List Stroke) → a ≡ b → TakesFirm result old new a.name (IsSeen new a.name) t strokes → TakesFirm result old new b.name (IsSeen new b.name) t strokes
+takes_named result old new a b t strokes same takes = subst (λ (h : Held). TakesFirm result old new h.name (IsSeen new h.name) t strokes) same takes

@@ -20,7 +20,7 @@ use Rattle.nb_model.specs.Account.{base_of}
 use Rattle.nb_model.specs.Owner.{delta_name}
 use Rattle.nb_model.proofs.FreshImageLaws.{fresh_main, fresh_size, fresh_state}
 use Rattle.nb_model.proofs.MainLaws.{main_facts}
-use Rattle.nb_model.proofs.TrailLaws.{shows_settled}
+use Rattle.nb_base.proofs.FirmLaws.{shows_firm}
 use Rattle.nb_base.specs.Open.{Held}
 use Rattle.nb_base.specs.Beginnings.{CreateLeft, CreatesFile, Creates, IsSettled}
 
@@ -64,7 +64,7 @@ created size raw is few long same old new name held named sized normal none file
         makes.answer.0,
         named,
         record {
-          left = λ files left. shows_settled held.name (base_of image) (files held.name) (files (delta_name held.name)) (ready.left files left);
+          left = λ files left. shows_firm held.name (base_of image) (files held.name) (files (delta_name held.name)) (ready.left files left);
           shows = ready.shows;
           agrees = record {
             header = (main_facts image _ (fresh_main size raw is few)).header;

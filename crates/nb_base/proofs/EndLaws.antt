@@ -14,14 +14,16 @@ use Rattle.nb_model.specs.Account.{Base}
 use Rattle.nb_model.specs.Sound.{HasNoZeros}
 use Rattle.nb_model.specs.Strokes.{ends, finish, on_base}
 use Rattle.nb_model.specs.Owner.{delta_name, owner}
-use Rattle.nb_model.specs.Trail.{Trail, after_stroke, images_of, StandsOn, StandsIn}
+use Rattle.nb_model.specs.Trail.{Trail, after_stroke, bases_of}
+use Rattle.nb_base.specs.Firm.{StandsFirmOn, StandsFirm}
 use Rattle.nb_model.proofs.HeaderLaws.{header-room}
 use Rattle.nb_model.proofs.MixtureLaws.{mixed_state}
-use Rattle.nb_model.proofs.TrailLaws.{shows_stands, trail_base}
+use Rattle.nb_model.proofs.TrailLaws.{trail_base}
+use Rattle.nb_base.proofs.FirmLaws.{last_firm}
 use Rattle.nb_base.specs.Control.{in_state, HasRoom, HasImage, IsImageOf, ControlLeft}
 use Rattle.nb_base.specs.Open.{Held, OfFiles, Agrees, IsOpen, AreMerged}
 use Rattle.nb_base.specs.Seen.{IsSeen}
-use Rattle.nb_base.specs.Takes.{Strikes}
+use Rattle.nb_base.specs.Takes.{StrikesFirm}
 use Rattle.nb_base.proofs.BlockLaws.{to_main, of_main}
 use Rattle.nb_base.proofs.ControlLaws.{with_control-length}
 use Rattle.nb_base.proofs.MergeLaws.{merged_alone}
@@ -72,12 +74,12 @@ module _ (old : World) (held : Held) (t : Trail) (is : IsOpen old held t) (reads
     one = state ∙ stalled
 
     -- the main file is frozen, whatever a stop leaves
-    frozen_main : (m d : File) → StandsOn held.name t m d → HasImage g0.main m
+    frozen_main : (m d : File) → StandsFirmOn held.name t m d → HasImage g0.main m
     frozen_main m d o =
         let h : Holds o.base m d = holds held.name o.base m d o.opens in
         let state : image_state h.main ≡ 1 =
-        sym (base-state o.base m d h) ∙ mixed_state (images_of t) t.base.image o.base.image o.left.mixed ∙ base-state t.base m0 d0 g0 ∙ one in
-        let same : h.main ≡ g0.main = sym (h.frozen.stalled state) ∙ o.left.frozen ∙ g0.frozen.stalled one in
+        sym (base-state o.base m d h) ∙ mixed_state (bases_of t) t.base o.base.image o.left.mixed ∙ base-state t.base m0 d0 g0 ∙ one in
+        let same : h.main ≡ g0.main = sym (h.frozen.stalled state) ∙ o.left.rest.frozen ∙ g0.frozen.stalled one in
         subst (λ (x : Image). HasImage x m) same (of_main h.main m h.has)
 
     pub end_image : (mid : World) → IsStill old mid → IsImageOf mid held.name (h0 old held t is).main
@@ -89,19 +91,19 @@ module _ (old : World) (held : Held) (t : Trail) (is : IsOpen old held t) (reads
     pub end_room : HasRoom 2 (image_scn (h0 old held t is).main)
     end_room = record { stalled = λ e. absurd (omega (arith, e)); other = λ some. header-room _ g0.has.laid.header one }
 
-    module _ (mid new : World) (so_far : Changes old mid (OfFiles held.name) (StandsIn held.name t)) (durable : IsDurable mid (delta_name held.name) (old.files (delta_name held.name)))
+    module _ (mid new : World) (so_far : Changes old mid (OfFiles held.name) (StandsFirm held.name t)) (durable : IsDurable mid (delta_name held.name) (old.files (delta_name held.name)))
         (block : Changes mid new (Only held.name) (ControlLeft held.name (h0 old held t is).main (in_state 2 None (h0 old held t is).main))) where
       beside : (files : Files) → ((m : List ℕ) → m ≢ held.name → Leaves mid m (files m)) → files (delta_name held.name) ≡ d0
       beside files others = durable_is mid (delta_name held.name) d0 durable (files (delta_name held.name)) (others (delta_name held.name) (delta_apart held.name))
 
-      stays : (files : Files) → ((m : List ℕ) → m ≢ held.name → Leaves mid m (files m)) → HasImage g0.main (files held.name) → StandsIn held.name t files
+      stays : (files : Files) → ((m : List ℕ) → m ≢ held.name → Leaves mid m (files m)) → HasImage g0.main (files held.name) → StandsFirm held.name t files
       stays files others was =
-          shows_stands held.name t files (ap (owner held.name (files held.name)) (beside files others) ∙ shows held.name t.base (files held.name) d0 (same_main t.base m0 d0 (files held.name) g0 (to_main g0.main (files held.name) was)))
+          last_firm held.name t files (ap (owner held.name (files held.name)) (beside files others) ∙ shows held.name t.base (files held.name) d0 (same_main t.base m0 d0 (files held.name) g0 (to_main g0.main (files held.name) was)))
 
       goes : (files : Files) → ((m : List ℕ) → m ≢ held.name → Leaves mid m (files m)) → HasImage (in_state 2 None g0.main) (files held.name) → Holds (on_base ends t.base) (files held.name) (files (delta_name held.name))
       goes files others put = subst (λ (d : File). Holds (on_base ends t.base) (files held.name) d) (sym (beside files others)) (ended_holds t.base m0 d0 g0 one (files held.name) put)
 
-      pub end_struck : Strikes old new held.name t (ends ∷ [])
+      pub end_struck : StrikesFirm old new held.name t (ends ∷ [])
       end_struck = struck old mid new held.name t ends g0.main (in_state 2 None g0.main) so_far block stays goes (ends-settles t)
 
       pub end_open : IsImageOf new held.name (in_state 2 None (h0 old held t is).main) → ((m : List ℕ) → Leaves mid m (mid.files m)) → (now : Held) → now.name ≡ held.name → now.page_size ≡ held.page_size → now.state ≡ 2
@@ -124,15 +126,15 @@ module _ (old : World) (held : Held) (t : Trail) (is : IsOpen old held t) (reads
     finish_room = record { stalled = λ e. absurd (omega (arith, e)); other = λ some. absurd (omega (arith, some)) }
 
     -- another file with the main file's image, beside what may be left of the difference file
-    stood : (m d : File) → StandsOn held.name t m0 d → HasImage g0.main m → StandsOn held.name t m d
+    stood : (m d : File) → StandsFirmOn held.name t m0 d → HasImage g0.main m → StandsFirmOn held.name t m d
     stood m d o was =
         let h : Holds o.base m0 d = holds held.name o.base m0 d o.opens in
         let same : g0.main ≡ h.main = one_main g0.main h.main m0 g0.has h.has in
         record { base = o.base; opens = shows held.name o.base m d (same_main o.base m0 d m h (subst (λ (x : Image). HasMain x m) same (to_main g0.main m was))); left = o.left }
 
-    module _ (mid new : World) (so_far : Changes old mid (OfFiles held.name) (StandsIn held.name t)) (still : IsStill old mid)
+    module _ (mid new : World) (so_far : Changes old mid (OfFiles held.name) (StandsFirm held.name t)) (still : IsStill old mid)
         (block : Changes mid new (Only held.name) (ControlLeft held.name (h0 old held t is).main (in_state 0 None (h0 old held t is).main))) where
-      rests : (files : Files) → ((m : List ℕ) → m ≢ held.name → Leaves mid m (files m)) → HasImage g0.main (files held.name) → StandsIn held.name t files
+      rests : (files : Files) → ((m : List ℕ) → m ≢ held.name → Leaves mid m (files m)) → HasImage g0.main (files held.name) → StandsFirm held.name t files
       rests files others was =
           let d : File = files (delta_name held.name) in
           stood (files held.name) d (with_delta old reads held.name t seen d (left_before old mid _ still.left (delta_name held.name) d tt (others (delta_name held.name) (delta_apart held.name)))) was
@@ -140,12 +142,12 @@ module _ (old : World) (held : Held) (t : Trail) (is : IsOpen old held t) (reads
       ends_in : (files : Files) → HasImage (in_state 0 None g0.main) (files held.name) → Holds (on_base finish t.base) (files held.name) (files (delta_name held.name))
       ends_in files put = finished_holds t.base m0 d0 g0 two alone (files held.name) (files (delta_name held.name)) put
 
-      pub finish_struck : Strikes old new held.name t (finish ∷ [])
+      pub finish_struck : StrikesFirm old new held.name t (finish ∷ [])
       finish_struck = struck old mid new held.name t finish g0.main (in_state 0 None g0.main) so_far block rests (λ files others put. ends_in files put) (finish-settles t)
 
       -- then the difference file goes
       module _ (last : World) (image : IsImageOf new held.name (in_state 0 None (h0 old held t is).main)) (gone : File → Type 0) (removed : Changes new last (Only (delta_name held.name)) (Remade new (delta_name held.name) gone)) where
-        pub removed_struck : Strikes old last held.name t (finish ∷ [])
+        pub removed_struck : StrikesFirm old last held.name t (finish ∷ [])
         removed_struck =
             composed_within old new last (OfFiles held.name) (Only (delta_name held.name)) (OfFiles held.name) _ _ _ finish_struck removed (λ m one. one) (λ m is. inr is) (λ files others r. r)
             (λ files others r. inr (stands_after held.name finish t (files held.name) (files (delta_name held.name)) (finish-settles t) (ends_in files (image.left (files held.name) (others held.name (main_apart held.name))))))

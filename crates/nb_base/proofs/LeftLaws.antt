@@ -1,21 +1,24 @@
 -- What a stop may leave goes on by a page write: by itself, and where the write is lost.
 use Rattle.std.proofs.Common.{◌≡◌, ◌≢◌, ◌⊎◌, inl, inr, ⊎_elim, ℕ, zero, suc, ◌+◌, ◌<◌, ◌≤◌, List, [], ◌∷◌, ◌++◌, length, take, drop, refl, sym, ap, subst, ◌∙◌, arith, append_assoc, length-append}
-use Rattle.std.specs.Prelude.{Bool, true, false, ◌||◌, nat_eq, nat_le, Option, Some, None, max}
+use Rattle.std.specs.Prelude.{Bool, true, false, ◌||◌, ◌==◌, nat_eq, nat_le, Option, Some, None, max}
 use Rattle.std.specs.List.{list_any}
 use Rattle.std.proofs.lemmas.Bool.{true≢false}
 use Rattle.std.proofs.lemmas.Bool.Decides.{eqb_tells, leb_tells}
 use Rattle.std.proofs.lemmas.List.{take-append-drop, append-nil}
 use Rattle.std.proofs.lemmas.List.Elements.{Contains-append_left}
+use Rattle.nb_fields.specs.Places.{is_scn_place}
 use Rattle.nb_fields.specs.Header.{state_of, size_of}
 use Rattle.nb_model.specs.Image.{Page, Image, page_at, first_page, image_size, image_state, is_forced, with_page}
 use Rattle.nb_model.specs.Account.{Base}
 use Rattle.nb_model.specs.Strokes.{Stroke, page, on_base, merged_page, noted}
 use Rattle.nb_model.specs.Owner.{entry_for}
-use Rattle.nb_model.specs.Trail.{Trail, images_of, is_kept_place, is_synced, settles_at, after_stroke, HasPage, IsMixture, IsLeft}
+use Rattle.nb_model.specs.Trail.{Trail, bases_of, is_synced, settles_at, after_stroke, IsMixture, IsFirm}
+use Rattle.nb_base.specs.Firm.{must_sync}
 use Rattle.nb_model.proofs.HeaderLaws.{same-number}
 use Rattle.nb_model.proofs.SoundLaws.{with_page_length}
 use Rattle.nb_model.proofs.StrokeLaws.{with_page_same, with_page_other}
-use Rattle.nb_model.proofs.TrailLaws.{last_there, left_itself, trail_base, waits_after}
+use Rattle.nb_model.proofs.MixtureWrites.{mixture_put, mixture_lost}
+use Rattle.nb_model.proofs.TrailLaws.{itself_firm, trail_base, waits_after}
 use Rattle.nb_base.specs.Open.{Fits}
 use Rattle.nb_base.proofs.OwnedLaws.{entry-front}
 
@@ -93,60 +96,14 @@ noted-longer p table = by (list_any (nat_eq p) table)
     by true = ([], sym (append-nil table))
     by false = (p ∷ [], refl)
 
--- A page is put into an image and into a mixture of images.
-module _ (images : List Image) (now image : Image) (p : ℕ) (bytes : Page) (low : p ≤ length now) (front : p ≡ 0 → take 64 bytes ≡ take 64 (first_page now)) (mixed : IsMixture images now image) where
-  put_front : take 64 (first_page (with_page p bytes now)) ≡ take 64 (first_page now)
-  put_front = elim (eqb_tells p 0) [
-    | inl w ↦ ap (λ (n : ℕ). take 64 (first_page (with_page n bytes now))) w.1 ∙ ap (take 64) (with_page_same 0 bytes now (omega arith)) ∙ front w.1
-    | inr w ↦ ap (take 64) (with_page_other p 0 bytes now low (λ (e : 0 ≡ p). w.1 (sym e)))
-  ]
-
-  put_size : image_size (with_page p bytes now) ≡ image_size now
-  put_size = same-number (first_page (with_page p bytes now)) (first_page now) put_front 24 4 (omega arith)
-
-  low_mixed : p ≤ length image
-  low_mixed = omega (arith, low, mixed.long)
-
-  more : (q : ℕ) (bytes_ : Page) → HasPage images q bytes_ → HasPage (images ++ with_page p bytes now ∷ []) q bytes_
-  more q bytes_ has = record { image = has.image; there = Contains-append_left images (with_page p bytes now ∷ []) has.image has.there; below = has.below; same = has.same }
-
-  here : (q : ℕ) → q ≡ p → page_at (with_page p bytes image) q ≡ page_at (with_page p bytes now) q
-  here q e = ap (page_at (with_page p bytes image)) e ∙ with_page_same p bytes image low_mixed ∙ sym (with_page_same p bytes now low) ∙ sym (ap (page_at (with_page p bytes now)) e)
-
-  -- the write may be kept ..
-  pub mixture_put : IsMixture (images ++ with_page p bytes now ∷ []) (with_page p bytes now) (with_page p bytes image)
-  mixture_put = record {
-    long = with_page_length p bytes image low_mixed ∙ ap (λ (n : ℕ). max n (p + 1)) mixed.long ∙ sym (with_page_length p bytes now low);
-    kept = λ q is. elim (eqb_tells q p) [
-      | inl w ↦ here q w.1
-      | inr w ↦ with_page_other p q bytes image low_mixed w.1 ∙ mixed.kept q (ap (λ (n : ℕ). is_kept_place n q) (sym put_size) ∙ is) ∙ sym (with_page_other p q bytes now low w.1)
-    ];
-    each = λ q below. elim (eqb_tells q p) [
-      | inl w ↦ record { image = with_page p bytes now; there = last_there images (with_page p bytes now); below = omega (arith, w.1, with_page_length p bytes now low); same = here q w.1 }
-      | inr w ↦ subst (HasPage (images ++ with_page p bytes now ∷ []) q) (sym (with_page_other p q bytes image low_mixed w.1))
-          (more q (page_at image q) (mixed.each q (omega (arith, below, w.1, low_mixed, with_page_length p bytes image low_mixed))))
-    ];
-  }
-
-  -- .. or lost, where it changes neither the length nor a page that never waits
-  pub mixture_stays : p < length now → is_kept_place (image_size now) p ≡ false → IsMixture (images ++ with_page p bytes now ∷ []) (with_page p bytes now) image
-  mixture_stays below plain = record {
-    long = omega (arith, mixed.long, with_page_length p bytes now low, below);
-    kept = λ q is. elim (eqb_tells q p) [
-      | inl w ↦ absurd (true≢false (sym (ap (λ (n : ℕ). is_kept_place n q) (sym put_size) ∙ is) ∙ ap (λ (n : ℕ). is_kept_place (image_size now) n) w.1 ∙ plain))
-      | inr w ↦ mixed.kept q (ap (λ (n : ℕ). is_kept_place n q) (sym put_size) ∙ is) ∙ sym (with_page_other p q bytes now low w.1)
-    ];
-    each = λ q inside. more q (page_at image q) (mixed.each q inside);
-  }
-
 -- A stroke that settles has nothing waiting before it, and one that isn't synced doesn't.
-settled_none : (images : List Image) (x : Bool) → elim (elim images as (λ z. Bool) [ [] ↦ true | image ∷ rest ↦ false ]) as (λ z. Bool) [ true ↦ x | false ↦ false ] ≡ true → images ≡ []
+settled_none : (bases : List Base) (x : Bool) → elim (elim bases as (λ z. Bool) [ [] ↦ true | b ∷ bs ↦ false ]) as (λ z. Bool) [ true ↦ x | false ↦ false ] ≡ true → bases ≡ []
 settled_none [] x e = refl
-settled_none (i ∷ is) x e = absurd (true≢false (sym e))
+settled_none (b ∷ bs) x e = absurd (true≢false (sym e))
 
-waiting_false : (images : List Image) (x : Bool) → x ≡ false → elim (elim images as (λ z. Bool) [ [] ↦ true | image ∷ rest ↦ false ]) as (λ z. Bool) [ true ↦ x | false ↦ false ] ≡ false
+waiting_false : (bases : List Base) (x : Bool) → x ≡ false → elim (elim bases as (λ z. Bool) [ [] ↦ true | b ∷ bs ↦ false ]) as (λ z. Bool) [ true ↦ x | false ↦ false ] ≡ false
 waiting_false [] x e = e
-waiting_false (i ∷ is) x e = refl
+waiting_false (b ∷ bs) x e = refl
 
 pub settles_none : (t : Trail) (p : ℕ) (bytes : Page) → settles_at t (page p bytes) ≡ true → t.earlier ≡ []
 unfolding settles_at
@@ -156,14 +113,15 @@ waits_none : (t : Trail) (p : ℕ) (bytes : Page) → is_synced t.base.image p �
 unfolding settles_at
 waits_none t p bytes e = waiting_false t.earlier (is_synced t.base.image p) e
 
--- a write that isn't synced is of a page below the length that may wait
-may_wait : (a b c : Bool) → (a || b || c) ≡ false → (b ≡ false) × (c ≡ false)
-may_wait true b c e = absurd (true≢false e)
-may_wait false true c e = absurd (true≢false e)
-may_wait false false c e = (refl, e)
+-- a write that isn't synced is of a page below the length, and neither of page 0 nor of an SCN page
+may_stay : (forced first scn longer : Bool) → (forced || (first || scn) || longer) ≡ false → ((forced || (first || longer)) ≡ false) × (first ≡ false) × (scn ≡ false) × (longer ≡ false)
+may_stay true first scn longer e = absurd (true≢false e)
+may_stay false true scn longer e = absurd (true≢false e)
+may_stay false false true longer e = absurd (true≢false e)
+may_stay false false false longer e = (e, refl, refl, e)
 
-some_image : (xs : List Image) (x : Image) → xs ++ x ∷ [] ≡ [] → ⊥
-some_image xs x e = absurd (omega (arith, ap length e, length-append xs (x ∷ [])))
+some_base : (xs : List Base) (x : Base) → xs ++ x ∷ [] ≡ [] → ⊥
+some_base xs x e = absurd (omega (arith, ap length e, length-append xs (x ∷ [])))
 
 inside_length : (n p : ℕ) → nat_le n p ≡ false → p < n
 inside_length n p e = elim (leb_tells n p) [ inl w ↦ absurd (true≢false (sym w.0 ∙ e)) | inr w ↦ w.1 ]
@@ -208,18 +166,18 @@ module _ (t : Trail) (p : ℕ) (bytes : Page) (fits : Fits p bytes t.base.image)
   later_frozen = ap (λ (b : Base). b.frozen) (trail_base s t) ∙ stroke-frozen t.base p bytes
 
   -- The outcome has that page too. In the stalled state its entry is there, or no entry is missing.
-  module _ (b : Base) (left : IsLeft t b) where
+  module _ (b : Base) (left : IsFirm t b) where
     abbrev first_same : first_page b.image ≡ first_page now
-    first_same = left.mixed.kept 0 refl
+    first_same = left.mixed.first
 
     pub fits_left : Fits p bytes b.image
-    fits_left = record { low = omega (arith, fits.low, left.mixed.long); front = λ e. fits.front e ∙ ap (take 64) (sym (left.mixed.kept 0 refl)) }
+    fits_left = record { low = omega (arith, fits.low, left.mixed.long); front = λ e. fits.front e ∙ ap (take 64) (sym (left.mixed.first)) }
 
     pub state_left : image_state b.image ≡ image_state now
-    state_left = ap state_of (left.mixed.kept 0 refl)
+    state_left = ap state_of (left.mixed.first)
 
     pub size_left : image_size b.image ≡ image_size now
-    size_left = ap size_of (left.mixed.kept 0 refl)
+    size_left = ap size_of (left.mixed.first)
 
     -- the image of the outcome's stroke
     pub put_is : (on_base s b).image ≡ with_page p bytes b.image
@@ -227,6 +185,23 @@ module _ (t : Trail) (p : ℕ) (bytes : Page) (fits : Fits p bytes t.base.image)
 
     base_is : (on_base s t.base).image ≡ with_page p bytes now
     base_is = stroke-image t.base p bytes ∙ ap (λ (x : Page). with_page p x now) (merged_fits p bytes now fits.front)
+
+    -- the image behind the stroke, of what was seen and of the outcome
+    stroke_size : image_size (on_base s t.base).image ≡ image_size now
+    stroke_size = ap (λ (x : Base). image_size x.image) (sym (trail_base s t)) ∙ later_size
+
+    stroke_other : (q : ℕ) → q ≢ p → page_at (on_base s t.base).image q ≡ page_at now q
+    stroke_other q ne = ap (λ (x : Image). page_at x q) base_is ∙ with_page_other p q bytes now fits.low ne
+
+    put_kept : (q : ℕ) → is_scn_place (image_size (on_base s t.base).image) q ≡ true → page_at (on_base s b).image q ≡ page_at (on_base s t.base).image q
+    put_kept q at = elim (eqb_tells q p) [
+      | inl w ↦
+          ap (λ (x : Image). page_at x q) put_is ∙ ap (page_at (with_page p bytes b.image)) w.1 ∙ with_page_same p bytes b.image fits_left.low ∙ sym (with_page_same p bytes now fits.low)
+          ∙ sym (ap (page_at (with_page p bytes now)) w.1) ∙ sym (ap (λ (x : Image). page_at x q) base_is)
+      | inr w ↦
+          ap (λ (x : Image). page_at x q) put_is ∙ with_page_other p q bytes b.image fits_left.low w.1 ∙ left.kept q (ap (λ (n : ℕ). is_scn_place n q) (sym stroke_size) ∙ at)
+          ∙ sym (stroke_other q w.1)
+    ]
 
     abbrev Keeps : Type 0
     Keeps = image_state now ≡ 1 → ((k : ℕ) × (entry_for p b.diverted ≡ Some k)) ⊎ (b.diverted ≡ t.base.diverted)
@@ -239,57 +214,68 @@ module _ (t : Trail) (p : ℕ) (bytes : Page) (fits : Fits p bytes t.base.image)
           let of_b : (on_base s b).diverted ≡ noted p b.diverted = stroke-stalled b p bytes (state_left ∙ w.1) in
           ⊎_elim
           (λ (has : (k : ℕ) × (entry_for p b.diverted ≡ Some k)).
-          let there : entry_for p t.base.diverted ≡ Some has.0 = ap (entry_for p) left.diverted.1 ∙ entry-front p b.diverted left.diverted.0 has.0 has.1 in
-          (left.diverted.0, of_t ∙ noted-there p t.base.diverted has.0 there ∙ left.diverted.1 ∙ ap (λ (x : List ℕ). x ++ left.diverted.0) (sym (of_b ∙ noted-there p b.diverted has.0 has.1))))
+          let there : entry_for p t.base.diverted ≡ Some has.0 = ap (entry_for p) left.rest.diverted.1 ∙ entry-front p b.diverted left.rest.diverted.0 has.0 has.1 in
+          (left.rest.diverted.0, of_t ∙ noted-there p t.base.diverted has.0 there ∙ left.rest.diverted.1 ∙ ap (λ (x : List ℕ). x ++ left.rest.diverted.0) (sym (of_b ∙ noted-there p b.diverted has.0 has.1))))
           (λ (same : b.diverted ≡ t.base.diverted). ([], of_t ∙ ap (noted p) (sym same) ∙ sym of_b ∙ sym (append-nil (on_base s b).diverted)))
           (keeps w.1)
       | inr w ↦
           let of_t : (on_base s t.base).diverted ≡ t.base.diverted = stroke-other t.base p bytes w.1 in
           let of_b : (on_base s b).diverted ≡ b.diverted = stroke-other b p bytes (λ e. w.1 (sym state_left ∙ e)) in
-          (left.diverted.0, of_t ∙ left.diverted.1 ∙ ap (λ (x : List ℕ). x ++ left.diverted.0) (sym of_b))
+          (left.rest.diverted.0, of_t ∙ left.rest.diverted.1 ∙ ap (λ (x : List ℕ). x ++ left.rest.diverted.0) (sym of_b))
     ]
 
-    pub put_left : Keeps → IsLeft (after_stroke s t) (on_base s b)
+    pub put_left : Keeps → IsFirm (after_stroke s t) (on_base s b)
     put_left keeps = by (settles_at t s) refl
       where
-        by : (u : Bool) → settles_at t s ≡ u → IsLeft (after_stroke s t) (on_base s b)
+        by : (u : Bool) → settles_at t s ≡ u → IsFirm (after_stroke s t) (on_base s b)
         by true is =
-            let same : later.base ≡ on_base s b = trail_base s t ∙ ap (on_base s) (sym (left.whole (settles_none t p bytes is))) in
-            subst (λ (x : Base). IsLeft later x) same (left_itself later)
+            let same : later.base ≡ on_base s b = trail_base s t ∙ ap (on_base s) (sym (left.rest.whole (settles_none t p bytes is))) in
+            subst (λ (x : Base). IsFirm later x) same (itself_firm later)
         by false is =
-            let mixed : IsMixture (images_of t ++ new ∷ []) new (with_page p bytes b.image) = mixture_put (images_of t) now b.image p bytes fits.low fits.front left.mixed in
-            let mixed_ : IsMixture (images_of t ++ (on_base s t.base).image ∷ []) (on_base s t.base).image (on_base s b).image =
-            subst (λ (x : Image). IsMixture (images_of t ++ (on_base s t.base).image ∷ []) (on_base s t.base).image x) (sym put_is)
-            (subst (λ (x : Image). IsMixture (images_of t ++ x ∷ []) x (with_page p bytes b.image)) (sym base_is) mixed) in
-            subst (λ (x : Trail). IsLeft x (on_base s b)) (sym (waits_after s t is)) (record {
-              mixed = mixed_;
-              frozen = stroke-frozen b p bytes ∙ left.frozen ∙ sym (stroke-frozen t.base p bytes);
-              diverted = put_diverted keeps;
-              merging = λ m.
-                  let merges : image_state now ≡ 2 = sym later_state ∙ ap (λ (x : Base). image_state x.image) (trail_base s t) ∙ m in
-                  stroke-other b p bytes (λ e. absurd (omega (arith, e, merges, state_left))) ∙ left.merging merges ∙ sym (stroke-other t.base p bytes (λ e. absurd (omega (arith, e, merges))));
-              whole = λ none. absurd (some_image t.earlier now none);
+            let mixed : IsMixture (bases_of t ++ on_base s t.base ∷ []) (on_base s t.base).image (with_page p bytes b.image) = mixture_put (bases_of t) now b.image left.mixed p bytes fits.low (on_base s t.base) base_is in
+            subst (λ (x : Trail). IsFirm x (on_base s b)) (sym (waits_after s t is)) (record {
+              mixed = subst (IsMixture (bases_of t ++ on_base s t.base ∷ []) (on_base s t.base).image) (sym put_is) mixed;
+              kept = put_kept;
+              rest = record {
+                frozen = stroke-frozen b p bytes ∙ left.rest.frozen ∙ sym (stroke-frozen t.base p bytes);
+                diverted = put_diverted keeps;
+                merging = λ m.
+                    let merges : image_state now ≡ 2 = sym later_state ∙ ap (λ (x : Base). image_state x.image) (trail_base s t) ∙ m in
+                    stroke-other b p bytes (λ e. absurd (omega (arith, e, merges, state_left))) ∙ left.rest.merging merges ∙ sym (stroke-other t.base p bytes (λ e. absurd (omega (arith, e, merges))));
+                whole = λ none. absurd (some_base t.earlier t.base none);
+              };
             })
 
     -- The outcome lost it, where it wasn't synced.
-    pub stay_left : is_synced now p ≡ false → IsLeft (after_stroke s t) b
+    pub stay_left : must_sync now p ≡ false → IsFirm (after_stroke s t) b
     stay_left waits =
-        let parts : (is_kept_place (image_size now) p ≡ false) × (nat_le (length now) p ≡ false) = may_wait (is_forced now) (is_kept_place (image_size now) p) (nat_le (length now) p) waits in
-        let mixed : IsMixture (images_of t ++ new ∷ []) new b.image = mixture_stays (images_of t) now b.image p bytes fits.low fits.front left.mixed (inside_length (length now) p parts.1) parts.0 in
-        subst (λ (x : Trail). IsLeft x b) (sym (waits_after s t (waits_none t p bytes waits))) (record {
-          mixed = subst (λ (x : Image). IsMixture (images_of t ++ x ∷ []) x b.image) (sym base_is) mixed;
-          frozen = left.frozen ∙ sym (stroke-frozen t.base p bytes);
-          diverted = stays_diverted;
-          merging = λ m.
-              let merges : image_state now ≡ 2 = sym later_state ∙ ap (λ (x : Base). image_state x.image) (trail_base s t) ∙ m in
-              left.merging merges ∙ sym (stroke-other t.base p bytes (λ e. absurd (omega (arith, e, merges))));
-          whole = λ none. absurd (some_image t.earlier now none);
+        let parts : ((is_forced now || (p == 0 || nat_le (length now) p)) ≡ false) × ((p == 0) ≡ false) × (is_scn_place (image_size now) p ≡ false) × (nat_le (length now) p ≡ false) =
+        may_stay (is_forced now) (p == 0) (is_scn_place (image_size now) p) (nat_le (length now) p) waits in
+        let mixed : IsMixture (bases_of t ++ on_base s t.base ∷ []) (on_base s t.base).image b.image =
+        mixture_lost (bases_of t) now b.image left.mixed p bytes fits.low (on_base s t.base) base_is (inside_length (length now) p parts.3) (some_page p parts.1) in
+        subst (λ (x : Trail). IsFirm x b) (sym (waits_after s t (waits_none t p bytes parts.0))) (record {
+          mixed = mixed;
+          kept = λ q at.
+              let at_now : is_scn_place (image_size now) q ≡ true = ap (λ (n : ℕ). is_scn_place n q) (sym stroke_size) ∙ at in
+              left.kept q at_now ∙ sym (stroke_other q (λ same. absurd (true≢false (sym at_now ∙ ap (is_scn_place (image_size now)) same ∙ parts.2))));
+          rest = record {
+            frozen = left.rest.frozen ∙ sym (stroke-frozen t.base p bytes);
+            diverted = stays_diverted;
+            merging = λ m.
+                let merges : image_state now ≡ 2 = sym later_state ∙ ap (λ (x : Base). image_state x.image) (trail_base s t) ∙ m in
+                left.rest.merging merges ∙ sym (stroke-other t.base p bytes (λ e. absurd (omega (arith, e, merges))));
+            whole = λ none. absurd (some_base t.earlier t.base none);
+          };
         })
       where
+        some_page : (q : ℕ) → (q == 0) ≡ false → q ≢ 0
+        some_page zero e same = true≢false e
+        some_page (suc q) e same = absurd (omega (arith, same))
+
         stays_diverted : (rest : List ℕ) × ((on_base s t.base).diverted ≡ b.diverted ++ rest)
         stays_diverted = elim (eqb_tells (image_state now) 1) [
           | inl w ↦
               let more_ : (more : List ℕ) × (noted p t.base.diverted ≡ t.base.diverted ++ more) = noted-longer p t.base.diverted in
-              (left.diverted.0 ++ more_.0, stroke-stalled t.base p bytes w.1 ∙ more_.1 ∙ ap (λ (x : List ℕ). x ++ more_.0) left.diverted.1 ∙ append_assoc b.diverted left.diverted.0 more_.0)
-          | inr w ↦ (left.diverted.0, stroke-other t.base p bytes w.1 ∙ left.diverted.1)
+              (left.rest.diverted.0 ++ more_.0, stroke-stalled t.base p bytes w.1 ∙ more_.1 ∙ ap (λ (x : List ℕ). x ++ more_.0) left.rest.diverted.1 ∙ append_assoc b.diverted left.rest.diverted.0 more_.0)
+          | inr w ↦ (left.rest.diverted.0, stroke-other t.base p bytes w.1 ∙ left.rest.diverted.1)
         ]

@@ -1,3 +1,4 @@
+pub mod FirmLaws
 pub mod AgreeLaws
 pub mod AttachLaws
 pub mod BlockLaws
@@ -21,3 +22,4 @@ pub mod SyncLaws
 pub mod WriteLaws
 pub mod WrittenLaws
 pub mod MergingLaws
+pub mod PutLaws

@@ -15,7 +15,7 @@ use Rattle.nb_delta.proofs.TellLemmas.{table_read}
 use Rattle.nb_model.specs.Image.{Page, Image, page_at, image_size, image_state, image_in, written_at}
 use Rattle.nb_model.specs.Owner.{delta_name, entry_for}
 use Rattle.nb_model.specs.Trail.{Trail}
-use Rattle.nb_model.proofs.TrailLaws.{left_itself}
+use Rattle.nb_model.proofs.TrailLaws.{itself_firm}
 use Rattle.nb_model.proofs.MainLaws.{some_page}
 use Rattle.nb_model.proofs.OwnerLaws.{main_here, other_page, written_length}
 use Rattle.nb_base.specs.Open.{Held, IsMerged, AreMerged}
@@ -113,7 +113,7 @@ module _ (old new : World) (held : Held) (t : Trail) (p : ℕ) (bytes : Page) (i
 
   pub plain_merged : entry_for p held.entries ≡ None → new.files (delta_name held.name) ≡ old.files (delta_name held.name) → (k : ℕ) → AreMerged old held k → AreMerged new held k
   plain_merged none beside k merged j low inside =
-      other_merged held old.files new.files h.main p bytes h.has (may t p bytes is t.base (left_itself t) (old.files held.name) (old.files (delta_name held.name)) h) size_is put j
+      other_merged held old.files new.files h.main p bytes h.has (may t p bytes is t.base (itself_firm t) (old.files held.name) (old.files (delta_name held.name)) h) size_is put j
       (λ same. none_some (sym none ∙ ap (λ n. entry_for n held.entries) (sym same) ∙ own_entry held.entries j apart inside))
       (ap (λ (f : File). slot_page held.page_size f j) beside) (merged j low inside)
 
@@ -121,10 +121,10 @@ module _ (old new : World) (held : Held) (t : Trail) (p : ℕ) (bytes : Page) (i
   both_merged i at slot k merged j low inside = elim (eqb_tells (slice_index held.entries j) p) [
     | inl w ↦
         let same : j ≡ i = some_same (sym (own_entry held.entries j apart inside) ∙ ap (λ n. entry_for n held.entries) w.1 ∙ at) in
-        own_merged held old.files new.files h.main p bytes h.has (may t p bytes is t.base (left_itself t) (old.files held.name) (old.files (delta_name held.name)) h) size_is put j w.1
+        own_merged held old.files new.files h.main p bytes h.has (may t p bytes is t.base (itself_firm t) (old.files held.name) (old.files (delta_name held.name)) h) size_is put j w.1
         (ap (slot_page held.page_size (new.files (delta_name held.name))) same ∙ slot.slot)
     | inr w ↦
-        other_merged held old.files new.files h.main p bytes h.has (may t p bytes is t.base (left_itself t) (old.files held.name) (old.files (delta_name held.name)) h) size_is put j w.1
+        other_merged held old.files new.files h.main p bytes h.has (may t p bytes is t.base (itself_firm t) (old.files held.name) (old.files (delta_name held.name)) h) size_is put j w.1
         (slot.others j (λ same. w.1 (ap (λ n. slice_index held.entries n) same ∙ named i at))) (merged j low inside)
   ]
     where

@@ -19,13 +19,14 @@ use Rattle.nb_model.specs.Image.{Page, Image, page_at, image_size, image_state, 
 use Rattle.nb_model.specs.Causes.{not_database}
 use Rattle.nb_model.specs.Sound.{HasNoZeros}
 use Rattle.nb_model.specs.Owner.{delta_name, entry_for, slot_page, main_page, owned_page}
-use Rattle.nb_model.specs.Trail.{Trail, StandsIn, ShowsIn}
+use Rattle.nb_model.specs.Trail.{Trail, ShowsIn}
+use Rattle.nb_base.specs.Firm.{StandsFirm}
 use Rattle.nb_model.proofs.OwnerLaws.{named, main_here, other_page, written_length}
 use Rattle.nb_model.proofs.SoundLaws.{all_at}
-use Rattle.nb_model.proofs.TrailLaws.{left_itself}
+use Rattle.nb_model.proofs.TrailLaws.{itself_firm}
 use Rattle.nb_base.specs.Open.{Held, OfFiles, IsOpen, IsMerged, AreMerged}
 use Rattle.nb_base.specs.Seen.{IsSeen, IsWrite}
-use Rattle.nb_base.specs.Takes.{Strikes}
+use Rattle.nb_base.specs.Takes.{StrikesFirm}
 use Rattle.nb_base.proofs.MergeLaws.{page_in-main}
 use Rattle.nb_base.proofs.OwnedLaws.{Holds, entry-first, entry-later, later, owned-entry, base-length, base-page, base-size, bytes-size, main-some, main-long}
 use Rattle.nb_base.proofs.StepLaws.{may, main-size}
@@ -53,11 +54,11 @@ seen_quiet old new name t quiet seen = record {
   shows = subst (λ (f : Files). ShowsIn name t.base f) (sym quiet.still.files) seen.shows;
 }
 
-pub struck_quiet : (old new : World) (name : List ℕ) (t : Trail) → Quiet old new → IsSeen old name t → Strikes old new name t []
-struck_quiet old new name t quiet seen = rested old new (OfFiles name) (StandsIn name t) quiet.still quiet.said quiet.moments seen.left
+pub struck_quiet : (old new : World) (name : List ℕ) (t : Trail) → Quiet old new → IsSeen old name t → StrikesFirm old new name t []
+struck_quiet old new name t quiet seen = rested old new (OfFiles name) (StandsFirm name t) quiet.still quiet.said quiet.moments seen.left
 
-pub struck_joined : (old mid new : World) (name : List ℕ) (t : Trail) → Strikes old mid name t [] → Strikes mid new name t [] → Strikes old new name t []
-struck_joined old mid new name t first second = composed old mid new (OfFiles name) (StandsIn name t) (StandsIn name t) (StandsIn name t) first second (λ files stands. stands) (λ files stands. stands)
+pub struck_joined : (old mid new : World) (name : List ℕ) (t : Trail) → StrikesFirm old mid name t [] → StrikesFirm mid new name t [] → StrikesFirm old new name t []
+struck_joined old mid new name t first second = composed old mid new (OfFiles name) (StandsFirm name t) (StandsFirm name t) (StandsFirm name t) first second (λ files stands. stands) (λ files stands. stands)
 
 -- An entry of a database that is open, in the merge state.
 module _ (old : World) (held : Held) (t : Trail) (is : IsOpen old held t) (merges : held.state ≡ 2) (full : HasNoZeros t.base.image) (k : ℕ) (inside : k < length held.entries) (are : AreEntries held.entries)
@@ -107,7 +108,7 @@ module _ (old : World) (held : Held) (t : Trail) (is : IsOpen old held t) (merge
     slot = read ∙ ap (λ (l : List ℕ). owned_page (image_size g.main) g.main delta l number) is.agrees.entries ∙ owned-entry (image_size g.main) g.main delta t.base.diverted number k its_entry
 
     size : held.page_size ≡ image_size g.main
-    size = is.agrees.page_size ∙ sym (main-size t number page its_write t.base (left_itself t) _ _ g)
+    size = is.agrees.page_size ∙ sym (main-size t number page its_write t.base (itself_firm t) _ _ g)
 
     -- what the main file's bytes have then
     module _ (new : Files) (put : new ≡ with_file old.files held.name (with_page_at (old.files held.name) (number * length page) page)) where
@@ -115,7 +116,7 @@ module _ (old : World) (held : Held) (t : Trail) (is : IsOpen old held t) (merge
       after = written_at (image_size g.main) (number, page) g.main
 
       has : HasMain after (new held.name)
-      has = main_put g.main (old.files held.name) (new held.name) number page g.has (may t number page its_write t.base (left_itself t) _ _ g) (ap (λ (f : Files). f held.name) put ∙ with_file-same old.files held.name _)
+      has = main_put g.main (old.files held.name) (new held.name) number page g.has (may t number page its_write t.base (itself_firm t) _ _ g) (ap (λ (f : Files). f held.name) put ∙ with_file-same old.files held.name _)
 
       beside : new (delta_name held.name) ≡ old.files (delta_name held.name)
       beside = ap (λ (f : Files). f (delta_name held.name)) put ∙ with_file-other old.files held.name _ (delta_name held.name) (delta_apart held.name)
@@ -128,7 +129,7 @@ module _ (old : World) (held : Held) (t : Trail) (is : IsOpen old held t) (merge
 
       later_size : image_size (written_at (image_size g.main) (number, page) g.main) ≡ image_size g.main
       later_size = elim (eqb_tells number 0) [
-        | inl w ↦ ap (λ n. size_of (page_at (written_at (image_size g.main) (number, page) g.main) n)) (sym w.1) ∙ ap size_of (written_same (image_size g.main) number page g.main) ∙ (may t number page its_write t.base (left_itself t) _ _ g).size w.1
+        | inl w ↦ ap (λ n. size_of (page_at (written_at (image_size g.main) (number, page) g.main) n)) (sym w.1) ∙ ap size_of (written_same (image_size g.main) number page g.main) ∙ (may t number page its_write t.base (itself_firm t) _ _ g).size w.1
         | inr w ↦ ap size_of (sym (main_here (image_size g.main) after 0 longer) ∙ other_page (image_size g.main) number page g.main 0 (λ e. w.1 (sym e)) ∙ main_here (image_size g.main) g.main 0 some)
       ]
 

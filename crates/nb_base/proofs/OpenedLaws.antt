@@ -20,7 +20,7 @@ use Rattle.nb_model.specs.Causes.{Cause, not_database}
 use Rattle.nb_model.specs.Owner.{delta_name, owned, behind_entries, owner_with, owner_in, owner}
 use Rattle.nb_model.specs.Trail.{ShowsIn, settled}
 use Rattle.nb_model.proofs.MainLaws.{laid, owner-none, owner-formed, owner-refused}
-use Rattle.nb_model.proofs.TrailLaws.{shows_settled}
+use Rattle.nb_base.proofs.FirmLaws.{shows_firm}
 use Rattle.nb_base.specs.declared.attach.Start.{Start}
 use Rattle.nb_base.specs.Attach.{Tested, main_cause, IsStart, AttachesFor}
 use Rattle.nb_base.specs.Open.{Held, Agrees, IsOpen}
@@ -187,7 +187,7 @@ module _ (name bytes : List ℕ) (start : Start) (is : IsStart bytes start) wher
 
         opened_as : IsOpen new (record held { name = name }) (settled read_base)
         opened_as = record {
-          left = λ files left. shows_settled name read_base (files name) (files (delta_name name)) (each files left start.state refl);
+          left = λ files left. shows_firm name read_base (files name) (files (delta_name name)) (each files left start.state refl);
           shows = ap (λ (f : Files). owner name (f name) (f (delta_name name))) still ∙ ap (owner name (old.files name)) beside ∙ shows name read_base (old.files name) d (read_holds (old.files name) there);
           agrees = read_agrees (record held { name = name }) sized stated count main_count entries;
         }

@@ -9,8 +9,9 @@ use Rattle.nb_model.specs.Image.{Page, Image, image_size, image_state, with_page
 use Rattle.nb_model.specs.Account.{Base}
 use Rattle.nb_model.specs.Strokes.{Stroke, page, on_base, merged_page}
 use Rattle.nb_model.specs.Owner.{entry_for, owned, owner}
-use Rattle.nb_model.specs.Trail.{Trail, after_stroke, is_synced, IsLeft, StandsOn}
-use Rattle.nb_model.proofs.TrailLaws.{left_itself, trail_base}
+use Rattle.nb_model.specs.Trail.{Trail, after_stroke, IsFirm}
+use Rattle.nb_base.specs.Firm.{must_sync, StandsFirmOn}
+use Rattle.nb_model.proofs.TrailLaws.{itself_firm, trail_base}
 use Rattle.nb_base.specs.Seen.{IsWrite}
 use Rattle.nb_base.proofs.OwnedLaws.{Holds, holds, shows, main-some, main-long, base-state, base-size, entry_shows, entry-front, entry-behind}
 use Rattle.nb_base.proofs.LeftLaws.{stroke-image, stroke-frozen, stroke-stalled, noted-new, later_size, later_length, later_front, put_left, stay_left}
@@ -38,8 +39,8 @@ module _ (name : List ℕ) (t : Trail) (p : ℕ) (bytes : Page) (is : IsWrite t 
   later = after_stroke s t
 
   -- the database after the stroke has what may be left after it
-  later_left : IsLeft (after_stroke s t) (on_base s t.base)
-  later_left = subst (λ (x : Base). IsLeft later x) (trail_base s t) (left_itself later)
+  later_left : IsFirm (after_stroke s t) (on_base s t.base)
+  later_left = subst (λ (x : Base). IsFirm later x) (trail_base s t) (itself_firm later)
 
   -- the page may be written again
   pub write_later : IsWrite (after_stroke s t) p bytes
@@ -51,25 +52,25 @@ module _ (name : List ℕ) (t : Trail) (p : ℕ) (bytes : Page) (is : IsWrite t 
   }
 
   -- An outcome that lost a write that isn't synced stands.
-  pub stands_stays : (m d : File) → is_synced now p ≡ false → StandsOn name t m d → StandsOn name (after_stroke s t) m d
+  pub stands_stays : (m d : File) → must_sync now p ≡ false → StandsFirmOn name t m d → StandsFirmOn name (after_stroke s t) m d
   stands_stays m d waits o = record { base = o.base; opens = o.opens; left = stay_left t p bytes is.fits o.base o.left waits }
 
   -- as it stands where its files hold the same
-  stands_same : (o_base : Base) → IsLeft t o_base → (m d : File) → Holds o_base m d → StandsOn name t m d
+  stands_same : (o_base : Base) → IsFirm t o_base → (m d : File) → Holds o_base m d → StandsFirmOn name t m d
   stands_same b left m d h = record { base = b; opens = shows name b m d h; left = left }
 
-  stands_later : (b : Base) (left : IsLeft t b) → (image_state now ≡ 1 → ((k : ℕ) × (entry_for p b.diverted ≡ Some k)) ⊎ (b.diverted ≡ t.base.diverted)) → (m d : File) → Holds (on_base s b) m d → StandsOn name (after_stroke s t) m d
+  stands_later : (b : Base) (left : IsFirm t b) → (image_state now ≡ 1 → ((k : ℕ) × (entry_for p b.diverted ≡ Some k)) ⊎ (b.diverted ≡ t.base.diverted)) → (m d : File) → Holds (on_base s b) m d → StandsFirmOn name (after_stroke s t) m d
   stands_later b left keeps m d h = record { base = on_base s b; opens = shows name (on_base s b) m d h; left = put_left t p bytes is.fits b left keeps }
 
   -- The page is written into the main file, and no entry names it.
   module _ (other : image_state now ≢ 1) (none : entry_for p t.base.diverted ≡ None) (m d c : File) where
-    pub stands_main : StandsOn name t m d → PageLeft (p * length bytes) bytes m c → StandsOn name t c d ⊎ StandsOn name (after_stroke s t) c d
+    pub stands_main : StandsFirmOn name t m d → PageLeft (p * length bytes) bytes m c → StandsFirmOn name t c d ⊎ StandsFirmOn name (after_stroke s t) c d
     stands_main o step =
         let h : Holds o.base m d = holds name o.base m d o.opens in
         ⊎_elim (λ same. inl (stands_same o.base o.left c d same)) (λ next. inr (stands_later o.base o.left (λ e. absurd (other e)) c d next))
         (left_main t p bytes is o.base o.left m d h other (none_left t p bytes is o.base o.left m d h none) c step)
 
-    pub stands_main_put : StandsOn name t m d → c ≡ with_page_at m (p * length bytes) bytes → StandsOn name (after_stroke s t) c d
+    pub stands_main_put : StandsFirmOn name t m d → c ≡ with_page_at m (p * length bytes) bytes → StandsFirmOn name (after_stroke s t) c d
     stands_main_put o put =
         let h : Holds o.base m d = holds name o.base m d o.opens in
         stands_later o.base o.left (λ e. absurd (other e)) c d (holds_main t p bytes is o.base o.left m d h other (none_left t p bytes is o.base o.left m d h none) c put)
@@ -77,25 +78,25 @@ module _ (name : List ℕ) (t : Trail) (p : ℕ) (bytes : Page) (is : IsWrite t 
     pub shows_main_put : owner name m d ≡ Ok t.base → c ≡ with_page_at m (p * length bytes) bytes → owner name c d ≡ Ok (after_stroke s t).base
     shows_main_put o put =
         let h : Holds t.base m d = holds name t.base m d o in
-        shows name (on_base s t.base) c d (holds_main t p bytes is t.base (left_itself t) m d h other none c put) ∙ ap (λ (x : Base). Ok x) (sym (trail_base s t))
+        shows name (on_base s t.base) c d (holds_main t p bytes is t.base (itself_firm t) m d h other none c put) ∙ ap (λ (x : Base). Ok x) (sym (trail_base s t))
 
   -- It is written there, and its entry hides it.
   module _ (merges : image_state now ≡ 2) (k : ℕ) (at : entry_for p t.base.diverted ≡ Some k) (m d c : File) where
     not_stalled : image_state now ≢ 1
     not_stalled e = absurd (omega (arith, e, merges))
 
-    pub stands_hidden : StandsOn name t m d → PageLeft (p * length bytes) bytes m c → StandsOn name t c d
+    pub stands_hidden : StandsFirmOn name t m d → PageLeft (p * length bytes) bytes m c → StandsFirmOn name t c d
     stands_hidden o step =
         let h : Holds o.base m d = holds name o.base m d o.opens in
-        stands_same o.base o.left c d (hidden_main t p bytes is o.base o.left m d h not_stalled k (ap (entry_for p) (o.left.merging merges) ∙ at) c step)
+        stands_same o.base o.left c d (hidden_main t p bytes is o.base o.left m d h not_stalled k (ap (entry_for p) (o.left.rest.merging merges) ∙ at) c step)
 
     pub shows_hidden : owner name m d ≡ Ok t.base → PageLeft (p * length bytes) bytes m c → owner name c d ≡ Ok t.base
     shows_hidden o step =
         let h : Holds t.base m d = holds name t.base m d o in
-        shows name t.base c d (hidden_main t p bytes is t.base (left_itself t) m d h not_stalled k at c step)
+        shows name t.base c d (hidden_main t p bytes is t.base (itself_firm t) m d h not_stalled k at c step)
 
   -- With this difference file no entry is missing, whatever the main file.
-  pub all_entries : 0 < image_state now → (m n d : File) (o : StandsOn name t m d) → owner name n d ≡ Ok t.base → o.base.diverted ≡ t.base.diverted
+  pub all_entries : 0 < image_state now → (m n d : File) (o : StandsFirmOn name t m d) → owner name n d ≡ Ok t.base → o.base.diverted ≡ t.base.diverted
   all_entries diverts m n d o seen =
       let h : Holds o.base m d = holds name o.base m d o.opens in
       let i : Holds t.base n d = holds name t.base n d seen in
@@ -108,10 +109,10 @@ module _ (name : List ℕ) (t : Trail) (p : ℕ) (bytes : Page) (is : IsWrite t 
   -- The slot of the page's entry is written.
   module _ (diverts : 0 < image_state now) (k : ℕ) (at : entry_for p t.base.diverted ≡ Some k) (m d c : File) where
     -- the entries of an outcome
-    has_entries : (b : Base) (left : IsLeft t b) → Holds b m d → HasTable (image_size now) d b.diverted
+    has_entries : (b : Base) (left : IsFirm t b) → Holds b m d → HasTable (image_size now) d b.diverted
     has_entries b left h = subst (λ n. HasTable n d b.diverted) (main-size t p bytes is b left m d h) (h.entries.some (omega (arith, main-state t p bytes is b left m d h, diverts)))
 
-    pub stands_slot : StandsOn name t m d → SlotStep (image_size now) k bytes d c → StandsOn name t m c ⊎ StandsOn name (after_stroke s t) m c
+    pub stands_slot : StandsFirmOn name t m d → SlotStep (image_size now) k bytes d c → StandsFirmOn name t m c ⊎ StandsFirmOn name (after_stroke s t) m c
     stands_slot o step = by (entry_for p o.base.diverted) refl
       where
         h : Holds o.base m d
@@ -120,37 +121,37 @@ module _ (name : List ℕ) (t : Trail) (p : ℕ) (bytes : Page) (is : IsWrite t 
         table : HasTable (image_size now) c o.base.diverted
         table = step.table o.base.diverted (has_entries o.base o.left h)
 
-        by : (x : Option ℕ) → entry_for p o.base.diverted ≡ x → StandsOn name t m c ⊎ StandsOn name (after_stroke s t) m c
+        by : (x : Option ℕ) → entry_for p o.base.diverted ≡ x → StandsFirmOn name t m c ⊎ StandsFirmOn name (after_stroke s t) m c
         by (Some j) e =
-            let same : j ≡ k = some_same (sym (entry-front p o.base.diverted o.left.diverted.0 j e) ∙ ap (entry_for p) (sym o.left.diverted.1) ∙ at) in
+            let same : j ≡ k = some_same (sym (entry-front p o.base.diverted o.left.rest.diverted.0 j e) ∙ ap (entry_for p) (sym o.left.rest.diverted.1) ∙ at) in
             let here : entry_for p o.base.diverted ≡ Some k = e ∙ ap (λ n. Some n) same in
             ⊎_elim
             (λ kept. inl (stands_same o.base o.left m c (holds_slots t p bytes is o.base o.left m d h diverts c table (λ i low. ⊎_elim (λ (w : i ≡ k). ap (slot_page (image_size now) c) w ∙ kept ∙ ap (slot_page (image_size now) d) (sym w)) (λ ne. step.others i ne) (Rattle.std.proofs.lemmas.Bool.cases_eq i k)))))
             (λ new. inr (stands_later o.base o.left (λ e. inl (k, here)) m c (holds_slot t p bytes is o.base o.left m d h diverts k here c table new (λ i low ne. step.others i ne))))
             step.slot
         by None e =
-            let past : length o.base.diverted ≤ k = entry-behind p o.base.diverted o.left.diverted.0 k e (ap (entry_for p) (sym o.left.diverted.1) ∙ at) in
+            let past : length o.base.diverted ≤ k = entry-behind p o.base.diverted o.left.rest.diverted.0 k e (ap (entry_for p) (sym o.left.rest.diverted.1) ∙ at) in
             inl (stands_same o.base o.left m c (holds_slots t p bytes is o.base o.left m d h diverts c table (λ i low. step.others i (λ same. absurd (omega (arith, same, low, past))))))
 
-    put_holds : (b : Base) (left : IsLeft t b) → b.diverted ≡ t.base.diverted → Holds b m d → SlotPut (image_size now) k bytes d c → Holds (on_base s b) m c
+    put_holds : (b : Base) (left : IsFirm t b) → b.diverted ≡ t.base.diverted → Holds b m d → SlotPut (image_size now) k bytes d c → Holds (on_base s b) m c
     put_holds b left same h put =
         holds_slot t p bytes is b left m d h diverts k (ap (entry_for p) same ∙ at) c (put.table b.diverted (has_entries b left h)) put.slot (λ i low ne. put.others i ne)
 
-    pub stands_slot_put : (o : StandsOn name t m d) → o.base.diverted ≡ t.base.diverted → SlotPut (image_size now) k bytes d c → StandsOn name (after_stroke s t) m c
+    pub stands_slot_put : (o : StandsFirmOn name t m d) → o.base.diverted ≡ t.base.diverted → SlotPut (image_size now) k bytes d c → StandsFirmOn name (after_stroke s t) m c
     stands_slot_put o same put = stands_later o.base o.left (λ e. inr same) m c (put_holds o.base o.left same (holds name o.base m d o.opens) put)
 
     pub shows_slot_put : owner name m d ≡ Ok t.base → SlotPut (image_size now) k bytes d c → owner name m c ≡ Ok (after_stroke s t).base
-    shows_slot_put o put = shows name (on_base s t.base) m c (put_holds t.base (left_itself t) refl (holds name t.base m d o) put) ∙ ap (λ (x : Base). Ok x) (sym (trail_base s t))
+    shows_slot_put o put = shows name (on_base s t.base) m c (put_holds t.base (itself_firm t) refl (holds name t.base m d o) put) ∙ ap (λ (x : Base). Ok x) (sym (trail_base s t))
 
   -- An entry is added. Of the main file each outcome holds the frozen image.
   module _ (stalled : image_state now ≡ 1) (none : entry_for p t.base.diverted ≡ None) (seen reads : File) (shown : owner name seen reads ≡ Ok t.base) (m d c : File) where
-    added_holds : StandsOn name t m d → Adds (image_size now) t.base.diverted p bytes reads c → Holds (on_base s t.base) m c
+    added_holds : StandsFirmOn name t m d → Adds (image_size now) t.base.diverted p bytes reads c → Holds (on_base s t.base) m c
     added_holds o adds =
         let h : Holds o.base m d = holds name o.base m d o.opens in
         let i : Holds t.base seen reads = holds name t.base seen reads shown in
         let state : image_state h.main ≡ 1 = main-state t p bytes is o.base o.left m d h ∙ stalled in
         let state_i : image_state i.main ≡ 1 = sym (base-state t.base seen reads i) ∙ stalled in
-        let same : i.main ≡ h.main = sym (i.frozen.stalled state_i) ∙ sym o.left.frozen ∙ h.frozen.stalled state in
+        let same : i.main ≡ h.main = sym (i.frozen.stalled state_i) ∙ sym o.left.rest.frozen ∙ h.frozen.stalled state in
         let size : image_size h.main ≡ image_size now = main-size t p bytes is o.base o.left m d h in
         let image : t.base.image ≡ owned (image_size h.main) h.main (bytes_of reads) t.base.diverted = i.image ∙ ap (λ (x : Image). owned (image_size x) x (bytes_of reads) t.base.diverted) same in
         let entries : (on_base s t.base).diverted ≡ t.base.diverted ++ p ∷ [] = stroke-stalled t.base p bytes stalled ∙ noted-new p t.base.diverted none in
@@ -165,20 +166,20 @@ module _ (name : List ℕ) (t : Trail) (p : ℕ) (bytes : Page) (is : IsWrite t 
               (subst (λ n. page_in n (bytes_of c) (slot_place n (length t.base.diverted)) ≡ bytes) (sym size) adds.slot)
               (λ j below. subst (λ n. page_in n (bytes_of c) (slot_place n j) ≡ page_in n (bytes_of reads) (slot_place n j)) (sym size) (adds.others j below)))
               ∙ ap (λ (x : List ℕ). owned (image_size h.main) h.main (bytes_of c) x) (sym entries);
-          frozen = record { stalled = λ e. stroke-frozen t.base p bytes ∙ sym o.left.frozen ∙ h.frozen.stalled e; other = λ ne. absurd (ne state) };
+          frozen = record { stalled = λ e. stroke-frozen t.base p bytes ∙ sym o.left.rest.frozen ∙ h.frozen.stalled e; other = λ ne. absurd (ne state) };
         }
 
-    pub stands_added : StandsOn name t m d → Adds (image_size now) t.base.diverted p bytes reads c → StandsOn name (after_stroke s t) m c
+    pub stands_added : StandsFirmOn name t m d → Adds (image_size now) t.base.diverted p bytes reads c → StandsFirmOn name (after_stroke s t) m c
     stands_added o adds = record { base = on_base s t.base; opens = shows name (on_base s t.base) m c (added_holds o adds); left = later_left }
 
-    pub stands_add : StandsOn name t m d → AddStep (image_size now) t.base.diverted p bytes reads d c → StandsOn name t m c ⊎ StandsOn name (after_stroke s t) m c
+    pub stands_add : StandsFirmOn name t m d → AddStep (image_size now) t.base.diverted p bytes reads d c → StandsFirmOn name t m c ⊎ StandsFirmOn name (after_stroke s t) m c
     stands_add o (inl keeps) =
         let h : Holds o.base m d = holds name o.base m d o.opens in
-        let few : length o.base.diverted ≤ length t.base.diverted = omega (arith, ap length o.left.diverted.1, length-append o.base.diverted o.left.diverted.0) in
+        let few : length o.base.diverted ≤ length t.base.diverted = omega (arith, ap length o.left.rest.diverted.1, length-append o.base.diverted o.left.rest.diverted.0) in
         let diverts : 0 < image_state now = omega (arith, stalled) in
         let table : HasTable (image_size now) d o.base.diverted = subst (λ n. HasTable n d o.base.diverted) (main-size t p bytes is o.base o.left m d h) (h.entries.some (omega (arith, main-state t p bytes is o.base o.left m d h, diverts))) in
         inl (stands_same o.base o.left m c (holds_slots t p bytes is o.base o.left m d h diverts c (keeps.table o.base.diverted few table) (λ k low. keeps.slots k (omega (arith, low, few)))))
     stands_add o (inr adds) = inr (stands_added o adds)
 
-    pub shows_added : StandsOn name t m d → Adds (image_size now) t.base.diverted p bytes reads c → owner name m c ≡ Ok (after_stroke s t).base
+    pub shows_added : StandsFirmOn name t m d → Adds (image_size now) t.base.diverted p bytes reads c → owner name m c ≡ Ok (after_stroke s t).base
     shows_added o adds = shows name (on_base s t.base) m c (added_holds o adds) ∙ ap (λ (x : Base). Ok x) (sym (trail_base s t))

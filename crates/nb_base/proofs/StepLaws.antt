@@ -9,7 +9,7 @@ use Rattle.nb_model.specs.Image.{Page, Image, page_at, first_page, image_size, i
 use Rattle.nb_model.specs.Account.{Base}
 use Rattle.nb_model.specs.Strokes.{Stroke, page, on_base, merged_page}
 use Rattle.nb_model.specs.Owner.{entry_for, owned}
-use Rattle.nb_model.specs.Trail.{Trail, IsLeft}
+use Rattle.nb_model.specs.Trail.{Trail, IsFirm}
 use Rattle.nb_model.proofs.HeaderLaws.{same-header, same-number}
 use Rattle.nb_base.specs.Seen.{IsWrite}
 use Rattle.nb_base.proofs.WrittenLaws.{HasMain, MayWrite, main_put, main_written}
@@ -60,7 +60,7 @@ module _ (t : Trail) (p : ℕ) (bytes : Page) (is : IsWrite t p bytes) where
   now = t.base.image
 
   -- What one outcome holds.
-  module _ (b : Base) (left : IsLeft t b) (m d : File) (h : Holds b m d) where
+  module _ (b : Base) (left : IsFirm t b) (m d : File) (h : Holds b m d) where
     pub main-state : image_state h.main ≡ image_state now
     main-state = sym (base-state b m d h) ∙ state_left t p bytes is.fits b left
 
@@ -147,4 +147,4 @@ module _ (t : Trail) (p : ℕ) (bytes : Page) (is : IsWrite t p bytes) where
       where
         by : (x : Option ℕ) → entry_for p b.diverted ≡ x → entry_for p b.diverted ≡ None
         by None e = e
-        by (Some k) e = absurd (none_some (sym none ∙ ap (entry_for p) left.diverted.1 ∙ entry-front p b.diverted left.diverted.0 k e))
+        by (Some k) e = absurd (none_some (sym none ∙ ap (entry_for p) left.rest.diverted.1 ∙ entry-front p b.diverted left.rest.diverted.0 k e))

@@ -16,12 +16,14 @@ use Rattle.nb_model.specs.Image.{Image, image_size, image_state, image_scn}
 use Rattle.nb_model.specs.Account.{Ask, Base}
 use Rattle.nb_model.specs.Strokes.{Stroke, begin, ends, finish, on_base}
 use Rattle.nb_model.specs.Owner.{delta_name}
-use Rattle.nb_model.specs.Trail.{Trail, settles_at, after_stroke, StandsOn, StandsIn}
-use Rattle.nb_model.proofs.TrailLaws.{shows_stands, shows_settled, settles_after, trail_base}
+use Rattle.nb_model.specs.Trail.{Trail, settles_at, after_stroke}
+use Rattle.nb_base.specs.Firm.{StandsFirmOn, StandsFirm}
+use Rattle.nb_model.proofs.TrailLaws.{settles_after, trail_base}
+use Rattle.nb_base.proofs.FirmLaws.{last_firm, shows_firm}
 use Rattle.nb_model.proofs.HeaderLaws.{same-number}
 use Rattle.nb_base.specs.Control.{in_state, HasRoom, HasImage, IsImageOf, ControlLeft}
 use Rattle.nb_base.specs.Open.{Held, OfFiles, Agrees, IsOpen}
-use Rattle.nb_base.specs.Takes.{Strikes}
+use Rattle.nb_base.specs.Takes.{StrikesFirm}
 use Rattle.nb_base.proofs.BlockLaws.{to_main, of_main}
 use Rattle.nb_base.proofs.OpenedLaws.{holds_whatever}
 use Rattle.nb_base.proofs.OwnedLaws.{Holds, holds, shows, base-front, base-state, base-size}
@@ -42,23 +44,23 @@ unfolding settles_at
 finish-settles t = refl
 
 -- files that hold the database after a stroke that settles
-pub stands_after : (name : List ℕ) (s : Stroke) (t : Trail) (m d : File) → settles_at t s ≡ true → Holds (on_base s t.base) m d → StandsOn name (after_stroke s t) m d
-stands_after name s t m d settles h = subst (λ (x : Trail). StandsOn name x m d) (sym (settles_after s t settles)) (shows_settled name (on_base s t.base) m d (shows name (on_base s t.base) m d h))
+pub stands_after : (name : List ℕ) (s : Stroke) (t : Trail) (m d : File) → settles_at t s ≡ true → Holds (on_base s t.base) m d → StandsFirmOn name (after_stroke s t) m d
+stands_after name s t m d settles h = subst (λ (x : Trail). StandsFirmOn name x m d) (sym (settles_after s t settles)) (shows_firm name (on_base s t.base) m d (shows name (on_base s t.base) m d h))
 
 -- The files while nothing is changed yet, also where a sync failed.
-pub waits : (old new : World) (held : Held) (t : Trail) → IsOpen old held t → IsTimely old → IsStill old new → new.said ≡ old.said → Passes old new → Changes old new (OfFiles held.name) (StandsIn held.name t)
-waits old new held t is timely still silent time = still_alone old new (OfFiles held.name) (StandsIn held.name t) timely still silent time is.left
+pub waits : (old new : World) (held : Held) (t : Trail) → IsOpen old held t → IsTimely old → IsStill old new → new.said ≡ old.said → Passes old new → Changes old new (OfFiles held.name) (StandsFirm held.name t)
+waits old new held t is timely still silent time = still_alone old new (OfFiles held.name) (StandsFirm held.name t) timely still silent time is.left
 
-pub not_struck : (old new : World) (name : List ℕ) (t : Trail) (s : Stroke) → Changes old new (OfFiles name) (StandsIn name t) → Strikes old new name t (s ∷ [])
-not_struck old new name t s so_far = weaker_has old new (OfFiles name) (StandsIn name t) _ so_far (λ files stands. inl stands)
+pub not_struck : (old new : World) (name : List ℕ) (t : Trail) (s : Stroke) → Changes old new (OfFiles name) (StandsFirm name t) → StrikesFirm old new name t (s ∷ [])
+not_struck old new name t s so_far = weaker_has old new (OfFiles name) (StandsFirm name t) _ so_far (λ files stands. inl stands)
 
 -- A control block is written behind calls that changed no database.
-module _ (old mid new : World) (name : List ℕ) (t : Trail) (s : Stroke) (before after : Image) (so_far : Changes old mid (OfFiles name) (StandsIn name t)) (block : Changes mid new (Only name) (ControlLeft name before after))
-    (stay : (files : Files) → ((m : List ℕ) → m ≢ name → Leaves mid m (files m)) → HasImage before (files name) → StandsIn name t files)
+module _ (old mid new : World) (name : List ℕ) (t : Trail) (s : Stroke) (before after : Image) (so_far : Changes old mid (OfFiles name) (StandsFirm name t)) (block : Changes mid new (Only name) (ControlLeft name before after))
+    (stay : (files : Files) → ((m : List ℕ) → m ≢ name → Leaves mid m (files m)) → HasImage before (files name) → StandsFirm name t files)
     (go : (files : Files) → ((m : List ℕ) → m ≢ name → Leaves mid m (files m)) → HasImage after (files name) → Holds (on_base s t.base) (files name) (files (delta_name name))) (settles : settles_at t s ≡ true) where
-  pub struck : Strikes old new name t (s ∷ [])
+  pub struck : StrikesFirm old new name t (s ∷ [])
   struck =
-      composed_within old mid new (OfFiles name) (Only name) (OfFiles name) (StandsIn name t) (ControlLeft name before after) _ so_far block (λ m one. one) (λ m is. inl is)
+      composed_within old mid new (OfFiles name) (Only name) (OfFiles name) (StandsFirm name t) (ControlLeft name before after) _ so_far block (λ m one. one) (λ m is. inl is)
       (λ files others stands. inl stands)
       (λ files others. ⊎_elim (λ was. inl (stay files others was)) (λ put. inr (stands_after name s t (files name) (files (delta_name name)) settles (go files others put))))
 
@@ -115,16 +117,16 @@ module _ (old : World) (held : Held) (t : Trail) (is : IsOpen old held t) where
     frozen = in_state 1 (Some guid) h0.main
 
     -- in the normal state the main file alone shows it
-    stays : (files : Files) → HasImage h0.main (files held.name) → StandsIn held.name t files
+    stays : (files : Files) → HasImage h0.main (files held.name) → StandsFirm held.name t files
     stays files was =
-        shows_stands held.name t files (shows held.name t.base (files held.name) (files (delta_name held.name))
+        last_firm held.name t files (shows held.name t.base (files held.name) (files (delta_name held.name))
         (holds_whatever t.base (files held.name) d0 (files (delta_name held.name)) (same_main t.base m0 d0 (files held.name) h0 (to_main h0.main (files held.name) was)) zero))
 
     -- the difference file was made, also where that failed
-    pub begin_made : (mid new : World) → Changes old mid (OfFiles held.name) (StandsIn held.name t) → IsImageOf mid held.name h0.main → (blank : File → Type 0) → Changes mid new (Only (delta_name held.name)) (Remade mid (delta_name held.name) blank)
-        → Changes old new (OfFiles held.name) (StandsIn held.name t)
+    pub begin_made : (mid new : World) → Changes old mid (OfFiles held.name) (StandsFirm held.name t) → IsImageOf mid held.name h0.main → (blank : File → Type 0) → Changes mid new (Only (delta_name held.name)) (Remade mid (delta_name held.name) blank)
+        → Changes old new (OfFiles held.name) (StandsFirm held.name t)
     begin_made mid new so_far is blank made =
-        composed_within old mid new (OfFiles held.name) (Only (delta_name held.name)) (OfFiles held.name) _ _ (StandsIn held.name t) so_far made (λ m one. one) (λ m is. inr is) (λ files others stands. stands)
+        composed_within old mid new (OfFiles held.name) (Only (delta_name held.name)) (OfFiles held.name) _ _ (StandsFirm held.name t) so_far made (λ m one. one) (λ m is. inr is) (λ files others stands. stands)
         (λ files others remade. stays files (is.left (files held.name) (others held.name (main_apart held.name))))
 
     pub begin_image : (mid new : World) → IsImageOf mid held.name h0.main → (blank : File → Type 0) → Changes mid new (Only (delta_name held.name)) (Remade mid (delta_name held.name) blank) → IsImageOf new held.name h0.main
@@ -140,7 +142,7 @@ module _ (old : World) (held : Held) (t : Trail) (is : IsOpen old held t) where
     begin_size = is.agrees.page_size ∙ base-size t.base m0 d0 h0
 
     -- and then the control block
-    module _ (mid new : World) (so_far : Changes old mid (OfFiles held.name) (StandsIn held.name t)) (empty : HasTable held.page_size (mid.files (delta_name held.name)) []) (durable : IsDurable mid (delta_name held.name) (mid.files (delta_name held.name)))
+    module _ (mid new : World) (so_far : Changes old mid (OfFiles held.name) (StandsFirm held.name t)) (empty : HasTable held.page_size (mid.files (delta_name held.name)) []) (durable : IsDurable mid (delta_name held.name) (mid.files (delta_name held.name)))
         (block : Changes mid new (Only held.name) (ControlLeft held.name h0.main (in_state 1 (Some guid) h0.main))) where
       goes : (files : Files) → ((m : List ℕ) → m ≢ held.name → Leaves mid m (files m)) → HasImage (in_state 1 (Some guid) h0.main) (files held.name) → Holds (on_base (begin guid ask) t.base) (files held.name) (files (delta_name held.name))
       goes files others put =
@@ -148,7 +150,7 @@ module _ (old : World) (held : Held) (t : Trail) (is : IsOpen old held t) where
           begun_holds t.base m0 d0 h0 guid ask sixteen zero (files held.name) (files (delta_name held.name)) put
           (subst (λ n. HasTable n (files (delta_name held.name)) []) begin_size (subst (λ (f : File). HasTable held.page_size f []) (sym beside) empty))
 
-      pub begin_struck : Strikes old new held.name t (begin guid ask ∷ [])
+      pub begin_struck : StrikesFirm old new held.name t (begin guid ask ∷ [])
       begin_struck = struck old mid new held.name t (begin guid ask) h0.main frozen so_far block (λ files others was. stays files was) goes (begin-settles t guid ask)
 
       begun_image : (on_base (begin guid ask) t.base).image ≡ in_state 1 (Some guid) h0.main

@@ -9,9 +9,9 @@ use Rattle.nb_change.proofs.SettledLaws.{durable_is}
 use Rattle.nb_model.specs.Image.{image_size, image_state}
 use Rattle.nb_model.specs.Account.{Base}
 use Rattle.nb_model.specs.Owner.{delta_name, owned, owner}
-use Rattle.nb_model.specs.Trail.{Trail, settled, ShowsIn}
-use Rattle.nb_model.proofs.TrailLaws.{shows_settled}
-use Rattle.nb_base.specs.Open.{Held, IsOpen}
+use Rattle.nb_model.specs.Trail.{settled, ShowsIn}
+use Rattle.nb_base.proofs.FirmLaws.{shows_firm}
+use Rattle.nb_base.specs.Open.{Held, Agrees, IsOpen}
 use Rattle.nb_base.proofs.OwnedLaws.{Holds, holds, shows, base-state, owned-alone}
 
 -- in the normal state the difference file isn't looked at
@@ -27,25 +27,25 @@ normal_any b m d c h normal = record {
 }
 
 -- the main file is durable, and the difference file where it is looked at
-pub both_settled : (old new : World) (held : Held) (t : Trail) → IsStill old new → IsOpen old held t → IsDurable new held.name (new.files held.name)
-    → (held.state ≢ 0 → IsDurable new (delta_name held.name) (new.files (delta_name held.name))) → IsOpen new held (settled t.base)
-both_settled old new held t still o main delta = record {
+pub both_settled : (old new : World) (held : Held) (b : Base) → IsStill old new → Agrees held b → ShowsIn held.name b old.files → IsDurable new held.name (new.files held.name)
+    → (held.state ≢ 0 → IsDurable new (delta_name held.name) (new.files (delta_name held.name))) → IsOpen new held (settled b)
+both_settled old new held b still agrees reads main delta = record {
   left = λ files all.
       let m : files held.name ≡ new.files held.name = durable_is new held.name (new.files held.name) main (files held.name) (all held.name) in
-      shows_settled held.name t.base (files held.name) (files (delta_name held.name)) (ap (λ (x : File). owner held.name x (files (delta_name held.name))) m ∙ any (files (delta_name held.name)) (λ ne. durable_is new _ _ (delta ne) _ (all (delta_name held.name))));
+      shows_firm held.name b (files held.name) (files (delta_name held.name)) (ap (λ (x : File). owner held.name x (files (delta_name held.name))) m ∙ any (files (delta_name held.name)) (λ ne. durable_is new _ _ (delta ne) _ (all (delta_name held.name))));
   shows = shown;
-  agrees = o.agrees;
+  agrees = agrees;
 }
   where
-    shown : ShowsIn held.name t.base new.files
-    shown = subst (λ (f : Files). ShowsIn held.name t.base f) (sym still.files) o.shows
+    shown : ShowsIn held.name b new.files
+    shown = subst (λ (f : Files). ShowsIn held.name b f) (sym still.files) reads
 
-    any : (d : File) → (held.state ≢ 0 → d ≡ new.files (delta_name held.name)) → owner held.name (new.files held.name) d ≡ Ok t.base
+    any : (d : File) → (held.state ≢ 0 → d ≡ new.files (delta_name held.name)) → owner held.name (new.files held.name) d ≡ Ok b
     any d is =
-        let h : Holds t.base (new.files held.name) (new.files (delta_name held.name)) = holds held.name t.base (new.files held.name) (new.files (delta_name held.name)) shown in
+        let h : Holds b (new.files held.name) (new.files (delta_name held.name)) = holds held.name b (new.files held.name) (new.files (delta_name held.name)) shown in
         by held.state refl h
       where
-        by : (s : ℕ) → held.state ≡ s → (h : Holds t.base (new.files held.name) (new.files (delta_name held.name))) → owner held.name (new.files held.name) d ≡ Ok t.base
+        by : (s : ℕ) → held.state ≡ s → (h : Holds b (new.files held.name) (new.files (delta_name held.name))) → owner held.name (new.files held.name) d ≡ Ok b
         by zero e h =
-            shows held.name t.base (new.files held.name) d (normal_any t.base (new.files held.name) (new.files (delta_name held.name)) d h (sym (base-state t.base (new.files held.name) (new.files (delta_name held.name)) h) ∙ sym o.agrees.state ∙ e))
+            shows held.name b (new.files held.name) d (normal_any b (new.files held.name) (new.files (delta_name held.name)) d h (sym (base-state b (new.files held.name) (new.files (delta_name held.name)) h) ∙ sym agrees.state ∙ e))
         by (suc s) e h = ap (owner held.name (new.files held.name)) (is (λ z. absurd (omega (arith, z, e)))) ∙ shown

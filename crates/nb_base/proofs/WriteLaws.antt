@@ -18,10 +18,11 @@ use Rattle.nb_model.specs.Image.{Page, image_size, image_state}
 use Rattle.nb_model.specs.Account.{Base}
 use Rattle.nb_model.specs.Strokes.{Stroke, page}
 use Rattle.nb_model.specs.Owner.{delta_name, entry_for, owner}
-use Rattle.nb_model.specs.Trail.{Trail, after_stroke, is_synced, StandsOn, StandsIn, ShowsIn}
+use Rattle.nb_model.specs.Trail.{Trail, after_stroke, ShowsIn}
+use Rattle.nb_base.specs.Firm.{must_sync, StandsFirmOn, StandsFirm}
 use Rattle.nb_base.specs.Open.{OfFiles}
 use Rattle.nb_base.specs.Seen.{IsSeen, IsWrite}
-use Rattle.nb_base.specs.Takes.{Strikes, Takes}
+use Rattle.nb_base.specs.Takes.{StrikesFirm, TakesFirm}
 use Rattle.nb_delta.specs.Entries.{place_of}
 use Rattle.nb_model.proofs.TrailLaws.{trail_base}
 use Rattle.nb_base.proofs.OwnedLaws.{Holds, holds, base-state, base-size}
@@ -46,17 +47,17 @@ not_done (Err e) X is = tt
 
 -- One of the two files as it reads, and an outcome of the other.
 module _ (w : World) (reads : (n : List ℕ) → Leaves w n (w.files n)) (name : List ℕ) (t : Trail) (seen : IsSeen w name t) where
-  pub with_delta : (d : File) → Leaves w (delta_name name) d → StandsOn name t (w.files name) d
+  pub with_delta : (d : File) → Leaves w (delta_name name) d → StandsFirmOn name t (w.files name) d
   with_delta d left =
       let files : Files = with_file w.files (delta_name name) d in
-      let stands : StandsIn name t files = seen.left files (left_with w (delta_name name) w.files d (λ m other. reads m) left) in
-      subst (λ (x : File). StandsOn name t x d) (with_file-other w.files (delta_name name) d name (main_apart name)) (subst (λ (x : File). StandsOn name t (files name) x) (with_file-same w.files (delta_name name) d) stands)
+      let stands : StandsFirm name t files = seen.left files (left_with w (delta_name name) w.files d (λ m other. reads m) left) in
+      subst (λ (x : File). StandsFirmOn name t x d) (with_file-other w.files (delta_name name) d name (main_apart name)) (subst (λ (x : File). StandsFirmOn name t (files name) x) (with_file-same w.files (delta_name name) d) stands)
 
-  pub with_main : (m : File) → Leaves w name m → StandsOn name t m (w.files (delta_name name))
+  pub with_main : (m : File) → Leaves w name m → StandsFirmOn name t m (w.files (delta_name name))
   with_main m left =
       let files : Files = with_file w.files name m in
-      let stands : StandsIn name t files = seen.left files (left_with w name w.files m (λ n other. reads n) left) in
-      subst (λ (x : File). StandsOn name t x (w.files (delta_name name))) (with_file-same w.files name m) (subst (λ (x : File). StandsOn name t (files name) x) (with_file-other w.files name m (delta_name name) (delta_apart name)) stands)
+      let stands : StandsFirm name t files = seen.left files (left_with w name w.files m (λ n other. reads n) left) in
+      subst (λ (x : File). StandsFirmOn name t x (w.files (delta_name name))) (with_file-same w.files name m) (subst (λ (x : File). StandsFirmOn name t (files name) x) (with_file-other w.files name m (delta_name name) (delta_apart name)) stands)
 
 module _ (name : List ℕ) (t : Trail) (p : ℕ) (bytes : Page) (is : IsWrite t p bytes) (old : World) (timely : IsTimely old) (reads : (n : List ℕ) → Leaves old n (old.files n)) (seen : IsSeen old name t) where
   abbrev s : Stroke
@@ -66,16 +67,16 @@ module _ (name : List ℕ) (t : Trail) (p : ℕ) (bytes : Page) (is : IsWrite t 
   later = after_stroke s t
 
   abbrev Before : Files → Type 0
-  Before = StandsIn name t
+  Before = StandsFirm name t
 
   abbrev After : Files → Type 0
-  After = Reached after_stroke (StandsIn name) t (s ∷ [])
+  After = Reached after_stroke (StandsFirm name) t (s ∷ [])
 
-  start : Changes old old (OfFiles name) (StandsIn name t)
+  start : Changes old old (OfFiles name) (StandsFirm name t)
   start = begun old (OfFiles name) Before timely seen.left
 
   -- what stood of a write that isn't synced stands
-  pub stays_seen : (new : World) → is_synced t.base.image p ≡ false → Strikes old new name t (page p bytes ∷ []) → ShowsIn name (after_stroke (page p bytes) t).base new.files → IsSeen new name (after_stroke (page p bytes) t)
+  pub stays_seen : (new : World) → must_sync t.base.image p ≡ false → StrikesFirm old new name t (page p bytes ∷ []) → ShowsIn name (after_stroke (page p bytes) t).base new.files → IsSeen new name (after_stroke (page p bytes) t)
   stays_seen new waits left shows = record {
     left = λ files all. ⊎_elim (stands_stays name t p bytes is (files name) (files (delta_name name)) waits) (λ o. o) (left.now files all);
     shows = shows;
@@ -83,11 +84,11 @@ module _ (name : List ℕ) (t : Trail) (p : ℕ) (bytes : Page) (is : IsWrite t 
 
   -- The main file is written.
   module _ (mid : World) (other : image_state t.base.image ≢ 1) (none : entry_for p t.base.diverted ≡ None) where
-    pub struck_main : {T E : Type 0} (tells : Bool) (result : Result T E) → IsTrue tells → WritesPage tells result old mid name (p * length bytes) bytes → mid.said ≡ old.said → Passes old mid → Strikes old mid name t (page p bytes ∷ [])
+    pub struck_main : {T E : Type 0} (tells : Bool) (result : Result T E) → IsTrue tells → WritesPage tells result old mid name (p * length bytes) bytes → mid.said ≡ old.said → Passes old mid → StrikesFirm old mid name t (page p bytes ∷ [])
     struck_main tells result told writes silent time =
         page_more tells result old old mid (OfFiles name) Before After name (p * length bytes) bytes told start (inl refl) writes silent time (λ files o. inl o)
         (λ before files all o step others.
-        ⊎_elim inl inr (stands_main name t p bytes is other none (before name) (files (delta_name name)) (files name) (subst (λ (x : File). StandsOn name t (before name) x) (sym (others (delta_name name) (delta_apart name))) o) step))
+        ⊎_elim inl inr (stands_main name t p bytes is other none (before name) (files (delta_name name)) (files name) (subst (λ (x : File). StandsFirmOn name t (before name) x) (sym (others (delta_name name) (delta_apart name))) o) step))
 
     module _ (put : mid.files ≡ with_file old.files name (with_page_at (old.files name) (p * length bytes) bytes)) where
       here : mid.files name ≡ with_page_at (old.files name) (p * length bytes) bytes
@@ -110,13 +111,13 @@ module _ (name : List ℕ) (t : Trail) (p : ℕ) (bytes : Page) (is : IsWrite t 
 
   -- The main file is written, where an entry hides the page.
   module _ (mid : World) (merges : image_state t.base.image ≡ 2) (k : ℕ) (at : entry_for p t.base.diverted ≡ Some k) where
-    pub struck_hidden : {T E : Type 0} (tells : Bool) (result : Result T E) → IsTrue tells → WritesPage tells result old mid name (p * length bytes) bytes → mid.said ≡ old.said → Passes old mid → Strikes old mid name t []
+    pub struck_hidden : {T E : Type 0} (tells : Bool) (result : Result T E) → IsTrue tells → WritesPage tells result old mid name (p * length bytes) bytes → mid.said ≡ old.said → Passes old mid → StrikesFirm old mid name t []
     struck_hidden tells result told writes silent time =
         page_more tells result old old mid (OfFiles name) Before Before name (p * length bytes) bytes told start (inl refl) writes silent time (λ files o. o)
         (λ before files all o step others.
-        stands_hidden name t p bytes is merges k at (before name) (files (delta_name name)) (files name) (subst (λ (x : File). StandsOn name t (before name) x) (sym (others (delta_name name) (delta_apart name))) o) step)
+        stands_hidden name t p bytes is merges k at (before name) (files (delta_name name)) (files name) (subst (λ (x : File). StandsFirmOn name t (before name) x) (sym (others (delta_name name) (delta_apart name))) o) step)
 
-    pub hidden_seen : mid.files ≡ with_file old.files name (with_page_at (old.files name) (p * length bytes) bytes) → Strikes old mid name t [] → IsSeen mid name t
+    pub hidden_seen : mid.files ≡ with_file old.files name (with_page_at (old.files name) (p * length bytes) bytes) → StrikesFirm old mid name t [] → IsSeen mid name t
     hidden_seen put left =
         let here : mid.files name ≡ with_page_at (old.files name) (p * length bytes) bytes = ap (λ (f : Files). f name) put ∙ with_file-same old.files name _ in
         let beside : mid.files (delta_name name) ≡ old.files (delta_name name) = ap (λ (f : Files). f (delta_name name)) put ∙ with_file-other old.files name _ (delta_name name) (delta_apart name) in
@@ -128,11 +129,11 @@ module _ (name : List ℕ) (t : Trail) (p : ℕ) (bytes : Page) (is : IsWrite t 
   -- The slot of the page's entry is written.
   module _ (new : World) (diverts : 0 < image_state t.base.image) (k : ℕ) (at : entry_for p t.base.diverted ≡ Some k)
       (changes : Changes old new (Only (delta_name name)) (Moved old (delta_name name) (SlotStep (image_size t.base.image) k bytes))) where
-    pub struck_slot : Strikes old new name t (page p bytes ∷ [])
+    pub struck_slot : StrikesFirm old new name t (page p bytes ∷ [])
     struck_slot =
         moved_on old old new (OfFiles name) Before After (delta_name name) (SlotStep (image_size t.base.image) k bytes) start changes (inr refl) (λ files o. inl o)
         (λ before files all o step others.
-        ⊎_elim inl inr (stands_slot name t p bytes is diverts k at (files name) (before (delta_name name)) (files (delta_name name)) (subst (λ (x : File). StandsOn name t x (before (delta_name name))) (sym (others name (main_apart name))) o) step))
+        ⊎_elim inl inr (stands_slot name t p bytes is diverts k at (files name) (before (delta_name name)) (files (delta_name name)) (subst (λ (x : File). StandsFirmOn name t x (before (delta_name name))) (sym (others name (main_apart name))) o) step))
 
     slot_main : new.files name ≡ old.files name
     slot_main = changes.others_read name (main_apart name)
@@ -147,8 +148,8 @@ module _ (name : List ℕ) (t : Trail) (p : ℕ) (bytes : Page) (is : IsWrite t 
         left = λ files all.
             let delta : files (delta_name name) ≡ new.files (delta_name name) = durable_is new (delta_name name) (new.files (delta_name name)) durable (files (delta_name name)) (all (delta_name name)) in
             let main : Leaves old name (files name) = left_before old new _ changes.others name (files name) (main_apart name) (all name) in
-            let o : StandsOn name t (files name) (old.files (delta_name name)) = with_main old reads name t seen (files name) main in
-            subst (λ (x : File). StandsOn name later (files name) x) (sym delta)
+            let o : StandsFirmOn name t (files name) (old.files (delta_name name)) = with_main old reads name t seen (files name) main in
+            subst (λ (x : File). StandsFirmOn name later (files name) x) (sym delta)
             (stands_slot_put name t p bytes is diverts k at (files name) (old.files (delta_name name)) (new.files (delta_name name)) o (all_entries name t p bytes is diverts (files name) (old.files name) (old.files (delta_name name)) o seen.shows) put);
         shows = slot_shown;
       }
@@ -156,12 +157,12 @@ module _ (name : List ℕ) (t : Trail) (p : ℕ) (bytes : Page) (is : IsWrite t 
   -- An entry is added.
   module _ (new : World) (stalled : image_state t.base.image ≡ 1) (none : entry_for p t.base.diverted ≡ None)
       (changes : Changes old new (Only (delta_name name)) (Moved old (delta_name name) (AddStep (image_size t.base.image) t.base.diverted p bytes (old.files (delta_name name))))) where
-    pub struck_add : Strikes old new name t (page p bytes ∷ [])
+    pub struck_add : StrikesFirm old new name t (page p bytes ∷ [])
     struck_add =
         moved_on old old new (OfFiles name) Before After (delta_name name) (AddStep (image_size t.base.image) t.base.diverted p bytes (old.files (delta_name name))) start changes (inr refl) (λ files o. inl o)
         (λ before files all o step others.
         ⊎_elim inl inr (stands_add name t p bytes is stalled none (old.files name) (old.files (delta_name name)) seen.shows (files name) (before (delta_name name)) (files (delta_name name))
-        (subst (λ (x : File). StandsOn name t x (before (delta_name name))) (sym (others name (main_apart name))) o) step))
+        (subst (λ (x : File). StandsFirmOn name t x (before (delta_name name))) (sym (others name (main_apart name))) o) step))
 
     add_main : new.files name ≡ old.files name
     add_main = changes.others_read name (main_apart name)
@@ -177,7 +178,7 @@ module _ (name : List ℕ) (t : Trail) (p : ℕ) (bytes : Page) (is : IsWrite t 
         left = λ files all.
             let delta : files (delta_name name) ≡ new.files (delta_name name) = durable_is new (delta_name name) (new.files (delta_name name)) durable (files (delta_name name)) (all (delta_name name)) in
             let main : Leaves old name (files name) = left_before old new _ changes.others name (files name) (main_apart name) (all name) in
-            subst (λ (x : File). StandsOn name later (files name) x) (sym delta)
+            subst (λ (x : File). StandsFirmOn name later (files name) x) (sym delta)
             (stands_added name t p bytes is stalled none (old.files name) (old.files (delta_name name)) seen.shows (files name) (old.files (delta_name name)) (new.files (delta_name name)) (with_main old reads name t seen (files name) main) adds);
         shows = add_shown;
       }
@@ -185,7 +186,7 @@ module _ (name : List ℕ) (t : Trail) (p : ℕ) (bytes : Page) (is : IsWrite t 
 -- The same by what the object of the difference file knows.
 module _ (name : List ℕ) (t : Trail) (p : ℕ) (bytes : Page) (is : IsWrite t p bytes) (old : World) (timely : IsTimely old) (reads : (n : List ℕ) → Leaves old n (old.files n)) (seen : IsSeen old name t) where
   -- where a sync was wanted the file is durable, and otherwise the write waits
-  synced_or : (synced : Bool) (file : List ℕ) (new : World) → synced ≡ is_synced t.base.image p → (IsTrue synced → IsDurable new file (new.files file)) → (is_synced t.base.image p ≡ false) ⊎ IsDurable new file (new.files file)
+  synced_or : (synced : Bool) (file : List ℕ) (new : World) → synced ≡ must_sync t.base.image p → (IsTrue synced → IsDurable new file (new.files file)) → (must_sync t.base.image p ≡ false) ⊎ IsDurable new file (new.files file)
   synced_or true file new must durable = inr (durable refl)
   synced_or false file new must durable = inl (sym must)
 
@@ -193,11 +194,11 @@ module _ (name : List ℕ) (t : Trail) (p : ℕ) (bytes : Page) (is : IsWrite t 
     of_slot : Changes old new (Only delta) (Moved old delta (SlotStep size k bytes)) → Changes old new (Only (delta_name name)) (Moved old (delta_name name) (SlotStep (image_size t.base.image) k bytes))
     of_slot changes = subst (λ n. Changes old new (Only (delta_name name)) (Moved old (delta_name name) (SlotStep n k bytes))) size_is (subst (λ (d : List ℕ). Changes old new (Only d) (Moved old d (SlotStep size k bytes))) named changes)
 
-    pub slot_strikes : Changes old new (Only delta) (Moved old delta (SlotStep size k bytes)) → Strikes old new name t (page p bytes ∷ [])
+    pub slot_strikes : Changes old new (Only delta) (Moved old delta (SlotStep size k bytes)) → StrikesFirm old new name t (page p bytes ∷ [])
     slot_strikes changes = struck_slot name t p bytes is old timely reads seen new diverts k at (of_slot changes)
 
-    pub slot_seen : Changes old new (Only delta) (Moved old delta (SlotStep size k bytes)) → Strikes old new name t (page p bytes ∷ []) → SlotPut size k bytes (old.files delta) (new.files delta)
-        → (synced : Bool) → synced ≡ is_synced t.base.image p → (IsTrue synced → IsDurable new delta (new.files delta)) → IsSeen new name (after_stroke (page p bytes) t)
+    pub slot_seen : Changes old new (Only delta) (Moved old delta (SlotStep size k bytes)) → StrikesFirm old new name t (page p bytes ∷ []) → SlotPut size k bytes (old.files delta) (new.files delta)
+        → (synced : Bool) → synced ≡ must_sync t.base.image p → (IsTrue synced → IsDurable new delta (new.files delta)) → IsSeen new name (after_stroke (page p bytes) t)
     slot_seen changes left put synced must durable =
         let put_ : SlotPut (image_size t.base.image) k bytes (old.files (delta_name name)) (new.files (delta_name name)) =
         subst (λ n. SlotPut n k bytes (old.files (delta_name name)) (new.files (delta_name name))) size_is (subst (λ (d : List ℕ). SlotPut size k bytes (old.files d) (new.files d)) named put) in
@@ -228,11 +229,11 @@ module _ (name : List ℕ) (t : Trail) (p : ℕ) (bytes : Page) (is : IsWrite t 
         (subst (λ (x : List ℕ). Changes old new (Only (delta_name name)) (Moved old (delta_name name) (AddStep size x p bytes (old.files (delta_name name))))) (sym entries_are)
         (subst (λ (d : List ℕ). Changes old new (Only d) (Moved old d (AddStep size entries p bytes (old.files d)))) named changes))
 
-    pub struck_entry : Changes old new (Only delta) (Moved old delta (AddStep size entries p bytes (old.files delta))) → Strikes old new name t (page p bytes ∷ [])
+    pub struck_entry : Changes old new (Only delta) (Moved old delta (AddStep size entries p bytes (old.files delta))) → StrikesFirm old new name t (page p bytes ∷ [])
     struck_entry changes = struck_add name t p bytes is old timely reads seen new stalled no_entry (of_entry changes)
 
-    pub entry_seen : Changes old new (Only delta) (Moved old delta (AddStep size entries p bytes (old.files delta))) → Strikes old new name t (page p bytes ∷ []) → Adds size entries p bytes (old.files delta) (new.files delta)
-        → (synced : Bool) → synced ≡ is_synced t.base.image p → (IsTrue synced → IsDurable new delta (new.files delta)) → IsSeen new name (after_stroke (page p bytes) t)
+    pub entry_seen : Changes old new (Only delta) (Moved old delta (AddStep size entries p bytes (old.files delta))) → StrikesFirm old new name t (page p bytes ∷ []) → Adds size entries p bytes (old.files delta) (new.files delta)
+        → (synced : Bool) → synced ≡ must_sync t.base.image p → (IsTrue synced → IsDurable new delta (new.files delta)) → IsSeen new name (after_stroke (page p bytes) t)
     entry_seen changes left adds synced must durable =
         let adds_ : Adds (image_size t.base.image) t.base.diverted p bytes (old.files (delta_name name)) (new.files (delta_name name)) =
         subst (λ n. Adds n t.base.diverted p bytes (old.files (delta_name name)) (new.files (delta_name name))) size_is
@@ -252,16 +253,16 @@ module _ (t : Trail) (p : ℕ) (bytes : Page) where
 
 -- What a call took, passed on as a failure, and from a world that is the same.
 pub takes_passed : {T E U F : Type 0} (result : Result T E) (passed : Result U F) (old mid new : World) (name : List ℕ) (opened other : Trail → Type 0) (t : Trail) (strokes : List Stroke)
-    → mid ≡ old → Takes result mid new name opened t strokes → IsErr passed → Takes passed old new name other t strokes
+    → mid ≡ old → TakesFirm result mid new name opened t strokes → IsErr passed → TakesFirm passed old new name other t strokes
 takes_passed result passed old mid new name opened other t strokes same takes failed = record {
-  left = subst (λ (w : World). Strikes w new name t strokes) same takes.left;
+  left = subst (λ (w : World). StrikesFirm w new name t strokes) same takes.left;
   done = not_done passed _ failed;
 }
 
 pub takes_done : {T E U F : Type 0} (x : T) (y : U) (old mid new : World) (name : List ℕ) (opened : Trail → Type 0) (t : Trail) (strokes : List Stroke)
-    → mid ≡ old → Takes {T = T} {E = E} (Ok x) mid new name opened t strokes → Takes {T = U} {E = F} (Ok y) old new name opened t strokes
+    → mid ≡ old → TakesFirm {T = T} {E = E} (Ok x) mid new name opened t strokes → TakesFirm {T = U} {E = F} (Ok y) old new name opened t strokes
 takes_done x y old mid new name opened t strokes same takes = record {
-  left = subst (λ (w : World). Strikes w new name t strokes) same takes.left;
+  left = subst (λ (w : World). StrikesFirm w new name t strokes) same takes.left;
   done = takes.done;
 }
 

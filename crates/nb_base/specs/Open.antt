@@ -8,7 +8,8 @@ use Rattle.nb_host.specs.Crash.{LeavesAll}
 use Rattle.nb_model.specs.Image.{Page, Image, page_at, first_page, image_size, image_state, image_in}
 use Rattle.nb_model.specs.Account.{Base}
 use Rattle.nb_model.specs.Owner.{delta_name}
-use Rattle.nb_model.specs.Trail.{Trail, StandsIn, ShowsIn}
+use Rattle.nb_model.specs.Trail.{Trail, ShowsIn}
+use Rattle.nb_base.specs.Firm.{StandsFirm}
 
 -- What a contract sees of the two files.
 pub record Held : Type 0 where
@@ -42,7 +43,7 @@ pub record Agrees (held : Held) (b : Base) : Type 0 where
 
 -- Whatever a stop now leaves is what may be left of what was seen, what reads is what was seen last, and what is held agrees with it.
 pub record IsOpen (w : World) (held : Held) (t : Trail) : Type 0 where
-  pub left : (files : Files) → LeavesAll w files → StandsIn held.name t files
+  pub left : (files : Files) → LeavesAll w files → StandsFirm held.name t files
   pub shows : ShowsIn held.name t.base w.files
   pub agrees : Agrees held t.base
 

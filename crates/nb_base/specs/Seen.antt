@@ -6,12 +6,13 @@ use Rattle.nb_host.specs.World.{World}
 use Rattle.nb_host.specs.Crash.{LeavesAll}
 use Rattle.nb_model.specs.Image.{Page, image_size}
 use Rattle.nb_model.specs.Strokes.{noted}
-use Rattle.nb_model.specs.Trail.{Trail, StandsIn, ShowsIn}
+use Rattle.nb_model.specs.Trail.{Trail, ShowsIn}
+use Rattle.nb_base.specs.Firm.{StandsFirm}
 use Rattle.nb_base.specs.Open.{Fits}
 
 -- whatever a stop now leaves is what may be left of what was seen, and what reads is what was seen last
 pub record IsSeen (w : World) (name : List ℕ) (t : Trail) : Type 0 where
-  pub left : (files : Files) → LeavesAll w files → StandsIn name t files
+  pub left : (files : Files) → LeavesAll w files → StandsFirm name t files
   pub shows : ShowsIn name t.base w.files
 
 -- a page that is written

@@ -6,6 +6,7 @@ use Rattle.nb_host.specs.declared.faults.Fault.TheVariants.{Refused, Device, Mem
 use Rattle.nb_change.specs.Changes.{Changes, Reached, after_all}
 use Rattle.nb_model.specs.Trail.{Trail, StandsIn, after_stroke}
 use Rattle.nb_model.specs.Strokes.{Stroke}
+use Rattle.nb_base.specs.Firm.{StandsFirm}
 use Rattle.nb_base.specs.Open.{OfFiles}
 
 -- Only the two files are touched. At each moment a stop leaves what may be left of what was seen behind a front of these strokes.
@@ -19,6 +20,14 @@ after_strokes t strokes = after_all after_stroke t strokes
 -- The strokes are made in order, all of them at Ok, where `opened` is what is open then.
 pub record Takes {T E : Type 0} (result : Result T E) (old new : World) (name : List ℕ) (opened : Trail → Type 0) (t : Trail) (strokes : List Stroke) : Type 0 where
   pub left : Strikes old new name t strokes
+  pub done : OnOk result (opened (after_strokes t strokes))
+
+-- The same while no SCN page waits for the files.
+abbrev pub StrikesFirm : (old new : World) (name : List ℕ) → Trail → List Stroke → Type 0
+StrikesFirm old new name t strokes = Changes old new (OfFiles name) (Reached after_stroke (StandsFirm name) t strokes)
+
+pub record TakesFirm {T E : Type 0} (result : Result T E) (old new : World) (name : List ℕ) (opened : Trail → Type 0) (t : Trail) (strokes : List Stroke) : Type 0 where
+  pub left : StrikesFirm old new name t strokes
   pub done : OnOk result (opened (after_strokes t strokes))
 
 -- no refusal, so want of memory or a fault of the device

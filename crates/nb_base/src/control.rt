@@ -12,7 +12,7 @@ ghost use Rattle.nb_model.specs.Strokes.{controlled, begin as begin_stroke, ends
 ghost use Rattle.nb_model.specs.Trail.{Trail};
 ghost use Rattle.nb_base.specs.Control.{next_scn, next_guid, in_state, HasRoom, IsImageOf, ControlLeft};
 ghost use Rattle.nb_base.specs.Open.{IsOpen, AreMerged};
-ghost use Rattle.nb_base.specs.Takes.{Takes};
+ghost use Rattle.nb_base.specs.Takes.{TakesFirm};
 
 use crate::TwoFiles;
 use crate::reads::read_owned;
@@ -88,7 +88,7 @@ impl TwoFiles {
     pub fn begin<H: Host>(&mut self, host: &mut H, guid: &[u8; 16]) -> Result<(), HostFault>
         requires normal { self.old.state ≡ 0 }
         ensures takes { (t : Trail) (ask : Option Ask) → IsTrue H.tells → IsOpen (H.world host.old) self.old t → image_scn t.base.image < 4294967294
-            → Takes result (H.world host.old) (H.world host.new) self.old.name (IsOpen (H.world host.new) self.new) t (begin_stroke guid.now ask ∷ []) }
+            → TakesFirm result (H.world host.old) (H.world host.new) self.old.name (IsOpen (H.world host.new) self.new) t (begin_stroke guid.now ask ∷ []) }
         ensures gave { GaveNothing (H.world host.old) (H.world host.new) }
         ensures state { OnOk result (self.new.state ≡ 1) }
         ensures name { self.new.name ≡ self.old.name }
@@ -108,7 +108,7 @@ impl TwoFiles {
     pub fn end<H: Host>(&mut self, host: &mut H) -> Result<(), HostFault>
         requires stalled { self.old.state ≡ 1 }
         ensures takes { (t : Trail) → IsTrue H.tells → IsOpen (H.world host.old) self.old t
-            → Takes result (H.world host.old) (H.world host.new) self.old.name (IsOpen (H.world host.new) self.new) t (ends ∷ []) }
+            → TakesFirm result (H.world host.old) (H.world host.new) self.old.name (IsOpen (H.world host.new) self.new) t (ends ∷ []) }
         ensures gave { GaveNothing (H.world host.old) (H.world host.new) }
         ensures state { OnOk result (self.new.state ≡ 2) }
         ensures name { self.new.name ≡ self.old.name }
@@ -127,7 +127,7 @@ impl TwoFiles {
         requires merge { self.old.state ≡ 2 }
         requires inside { k < length self.old.entries }
         ensures takes { (t : Trail) → IsTrue H.tells → IsOpen (H.world host.old) self.old t → HasNoZeros t.base.image
-            → Takes result (H.world host.old) (H.world host.new) self.old.name (IsOpen (H.world host.new) self.new) t [] }
+            → TakesFirm result (H.world host.old) (H.world host.new) self.old.name (IsOpen (H.world host.new) self.new) t [] }
         ensures merged { (t : Trail) → IsTrue H.tells → IsOpen (H.world host.old) self.old t → HasNoZeros t.base.image → AreMerged (H.world host.old) self.old k
             → OnOk result (AreMerged (H.world host.new) self.new (k + 1)) }
         ensures gave { GaveNothing (H.world host.old) (H.world host.new) }
@@ -147,7 +147,7 @@ impl TwoFiles {
     pub fn finish<H: Host>(&mut self, host: &mut H) -> Result<(), HostFault>
         requires merge { self.old.state ≡ 2 }
         ensures takes { (t : Trail) → IsTrue H.tells → IsOpen (H.world host.old) self.old t → HasNoZeros t.base.image → AreMerged (H.world host.old) self.old (length self.old.entries)
-            → Takes result (H.world host.old) (H.world host.new) self.old.name (IsOpen (H.world host.new) self.new) t (finish_stroke ∷ []) }
+            → TakesFirm result (H.world host.old) (H.world host.new) self.old.name (IsOpen (H.world host.new) self.new) t (finish_stroke ∷ []) }
         ensures gave { GaveNothing (H.world host.old) (H.world host.new) }
         ensures state { OnOk result (self.new.state ≡ 0) }
         ensures name { self.new.name ≡ self.old.name }

@@ -7,13 +7,14 @@ ghost use Rattle.nb_host.specs.Causes.{CountsFault};
 ghost use Rattle.nb_change.specs.Counts.{CountsDevice};
 ghost use Rattle.nb_change.specs.Gave.{GaveNothing};
 ghost use Rattle.nb_page.specs.Quiet.{Quiet};
-ghost use Rattle.nb_model.specs.Account.{Ask};
+ghost use Rattle.nb_model.specs.Account.{Ask, Base};
 ghost use Rattle.nb_model.specs.Image.{page_at, image_scn, is_forced};
 ghost use Rattle.nb_model.specs.Strokes.{page as page_stroke, begin as begin_stroke, ends, finish as finish_stroke};
-ghost use Rattle.nb_model.specs.Trail.{Trail, settled, is_synced as must_sync};
-ghost use Rattle.nb_base.specs.Open.{IsOpen, Fits, AreMerged};
+ghost use Rattle.nb_model.specs.Trail.{Trail, settled, ShowsIn};
+ghost use Rattle.nb_base.specs.Firm.{must_sync};
+ghost use Rattle.nb_base.specs.Open.{IsOpen, Agrees, Fits, AreMerged};
 ghost use Rattle.nb_base.specs.Seen.{IsSeen, IsWrite, noted_in};
-ghost use Rattle.nb_base.specs.Takes.{Takes, IsNoRefusal};
+ghost use Rattle.nb_base.specs.Takes.{TakesFirm, IsNoRefusal};
 ghost use Rattle.nb_base.specs.Beginnings.{Attaches, Creates};
 
 use crate::reads::{read_owned, read_page};
@@ -128,7 +129,7 @@ impl TwoFiles {
         requires most { number < 1048576 }
         requires some { is_zeros page.now ≡ false }
         ensures takes { (t : Trail) → IsTrue H.tells → IsOpen (H.world host.old) self.old t → Fits number page.now t.base.image → forced ≡ is_forced t.base.image
-            → Takes result (H.world host.old) (H.world host.new) self.old.name (IsOpen (H.world host.new) self.new) t (page_stroke number page.now ∷ []) }
+            → TakesFirm result (H.world host.old) (H.world host.new) self.old.name (IsOpen (H.world host.new) self.new) t (page_stroke number page.now ∷ []) }
         ensures merged { (t : Trail) (k : ℕ) → IsTrue H.tells → IsOpen (H.world host.old) self.old t → Fits number page.now t.base.image → self.old.state ≡ 2
             → AreMerged (H.world host.old) self.old k → OnOk result (AreMerged (H.world host.new) self.new k) }
         ensures gave { GaveNothing (H.world host.old) (H.world host.new) }
@@ -158,7 +159,7 @@ impl TwoFiles {
         requires size { length page.now ≡ self.old.page_size }
         requires most { number < 1048576 }
         ensures takes { (t : Trail) → IsTrue H.tells → IsOpen (H.world host.old) self.old t → IsWrite t number page.now → synced ≡ must_sync t.base.image number
-            → Takes result (H.world host.old) (H.world host.new) self.old.name (IsSeen (H.world host.new) self.old.name) t (page_stroke number page.now ∷ []) }
+            → TakesFirm result (H.world host.old) (H.world host.new) self.old.name (IsSeen (H.world host.new) self.old.name) t (page_stroke number page.now ∷ []) }
         ensures merged { (t : Trail) (k : ℕ) → IsTrue H.tells → IsOpen (H.world host.old) self.old t → IsWrite t number page.now → self.old.state ≡ 2
             → AreMerged (H.world host.old) self.old k → OnOk result (AreMerged (H.world host.new) self.old k) }
         ensures known { OnOk result (self.new ≡ record self.old { entries = noted_in self.old.state number self.old.entries }) }
@@ -184,9 +185,11 @@ impl TwoFiles {
     pub fn sync<H: Host>(&mut self, host: &mut H) -> Result<(), HostFault>
         ensures open { (t : Trail) → IsTrue H.tells → IsOpen (H.world host.old) self.old t → IsOpen (H.world host.new) self.new t }
         ensures settled { (t : Trail) → IsTrue H.tells → IsOpen (H.world host.old) self.old t → OnOk result (IsOpen (H.world host.new) self.new (settled t.base)) }
+        ensures kept { (b : Base) → IsTrue H.tells → Agrees self.old b → ShowsIn self.old.name b (H.world host.old).files → OnOk result (IsOpen (H.world host.new) self.new (settled b)) }
         ensures merged { (k : ℕ) → AreMerged (H.world host.old) self.old k → AreMerged (H.world host.new) self.new k }
         ensures same { self.new ≡ self.old }
         ensures quiet { Quiet (H.world host.old) (H.world host.new) }
+        ensures reads { (H.world host.new).reads ≡ (H.world host.old).reads }
         ensures cause { CountsFault result (H.faults host.old) (H.faults host.new) }
     {
         sync_both(host, &self.name, &self.name.delta(), self.state != 0)?;

@@ -10,6 +10,7 @@ mod attach;
 mod beginnings;
 mod control;
 mod files;
+mod out;
 mod reads;
 mod sync;
 mod writes;

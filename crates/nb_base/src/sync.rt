@@ -16,6 +16,7 @@ pub fn sync_both<H: Host>(
     ensures main { IsTrue H.tells → OnOk result (IsDurable (H.world host.new) name.now ((H.world host.new).files name.now)) }
     ensures delta { IsTrue H.tells → IsTrue diverts → OnOk result (IsDurable (H.world host.new) delta.now ((H.world host.new).files delta.now)) }
     ensures quiet { Quiet (H.world host.old) (H.world host.new) }
+    ensures reads { (H.world host.new).reads ≡ (H.world host.old).reads }
     ensures cause { CountsFault result (H.faults host.old) (H.faults host.new) }
 {
     if diverts {

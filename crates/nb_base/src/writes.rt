@@ -12,10 +12,11 @@ ghost use Rattle.nb_delta.specs.Slots.{SlotPut};
 ghost use Rattle.nb_model.specs.Image.{image_size, image_state};
 ghost use Rattle.nb_model.specs.Strokes.{page as page_stroke, noted};
 ghost use Rattle.nb_model.specs.Owner.{delta_name, entry_for};
-ghost use Rattle.nb_model.specs.Trail.{Trail, is_kept_place, is_synced as must_sync};
+ghost use Rattle.nb_model.specs.Trail.{Trail};
+ghost use Rattle.nb_base.specs.Firm.{is_kept_place, must_sync};
 ghost use Rattle.nb_base.specs.Open.{Held, AreMerged};
 ghost use Rattle.nb_base.specs.Seen.{IsSeen, IsWrite};
-ghost use Rattle.nb_base.specs.Takes.{Takes, IsNoRefusal};
+ghost use Rattle.nb_base.specs.Takes.{TakesFirm, IsNoRefusal};
 
 use nb_delta::Delta;
 use nb_fields::is_scn_place;
@@ -42,7 +43,7 @@ pub fn write_main<H: Host>(
     requires size { IsTrue (is_page_size (length page.now)) }
     ensures takes { (t : Trail) → IsTrue H.tells → IsSeen (H.world host.old) name.now t → IsWrite t number page.now → image_state t.base.image ≢ 1 → entry_for number t.base.diverted ≡ None
         → synced ≡ must_sync t.base.image number
-        → Takes result (H.world host.old) (H.world host.new) name.now (IsSeen (H.world host.new) name.now) t (page_stroke number page.now ∷ []) }
+        → TakesFirm result (H.world host.old) (H.world host.new) name.now (IsSeen (H.world host.new) name.now) t (page_stroke number page.now ∷ []) }
     ensures put { IsTrue H.tells → OnOk result ((H.world host.new).files ≡ with_file (H.world host.old).files name.now (with_page ((H.world host.old).files name.now) (number * length page.now) page.now)) }
     ensures log { IsSilent (H.world host.old) (H.world host.new) }
     ensures cause { CountsFault result (H.faults host.old) (H.faults host.new) }
@@ -63,7 +64,7 @@ pub fn write_hidden<H: Host>(
 ) -> Result<(), HostFault>
     requires size { IsTrue (is_page_size (length page.now)) }
     ensures takes { (t : Trail) (k : ℕ) → IsTrue H.tells → IsSeen (H.world host.old) name.now t → IsWrite t number page.now → image_state t.base.image ≡ 2 → entry_for number t.base.diverted ≡ Some k
-        → Takes result (H.world host.old) (H.world host.new) name.now (IsSeen (H.world host.new) name.now) t [] }
+        → TakesFirm result (H.world host.old) (H.world host.new) name.now (IsSeen (H.world host.new) name.now) t [] }
     ensures put { IsTrue H.tells → OnOk result ((H.world host.new).files ≡ with_file (H.world host.old).files name.now (with_page ((H.world host.old).files name.now) (number * length page.now) page.now)) }
     ensures log { IsSilent (H.world host.old) (H.world host.new) }
     ensures cause { CountsFault result (H.faults host.old) (H.faults host.new) }
@@ -83,7 +84,7 @@ pub fn write_slot<H: Host>(
     requires size { length page.now ≡ delta.old.page_size }
     ensures takes { (t : Trail) (name : List ℕ) (number k : ℕ) → IsTrue H.tells → IsSeen (H.world host.old) name t → IsWrite t number page.now → 0 < image_state t.base.image → entry_for number t.base.diverted ≡ Some k
         → delta.old.name ≡ delta_name name → slot ≡ slot_place delta.old.page_size k → synced ≡ must_sync t.base.image number
-        → Takes result (H.world host.old) (H.world host.new) name (IsSeen (H.world host.new) name) t (page_stroke number page.now ∷ []) }
+        → TakesFirm result (H.world host.old) (H.world host.new) name (IsSeen (H.world host.new) name) t (page_stroke number page.now ∷ []) }
     ensures put { IsTrue H.tells → (k : ℕ) → slot ≡ slot_place delta.old.page_size k
         → OnOk result (SlotPut delta.old.page_size k page.now ((H.world host.old).files delta.old.name) ((H.world host.new).files delta.old.name)) }
     ensures others { IsTrue H.tells → (k : ℕ) → slot ≡ slot_place delta.old.page_size k → (m : List ℕ) → m ≢ delta.old.name → (H.world host.new).files m ≡ (H.world host.old).files m }
@@ -109,7 +110,7 @@ pub fn add_entry<H: Host>(
     requires none_waits { delta.old.drafted ≡ 0 }
     ensures takes { (t : Trail) (name : List ℕ) → IsTrue H.tells → IsSeen (H.world host.old) name t → IsWrite t number page.now → image_state t.base.image ≡ 1 → t.base.diverted ≡ delta.old.entries
         → delta.old.name ≡ delta_name name → synced ≡ must_sync t.base.image number
-        → Takes result (H.world host.old) (H.world host.new) name (IsSeen (H.world host.new) name) t (page_stroke number page.now ∷ []) }
+        → TakesFirm result (H.world host.old) (H.world host.new) name (IsSeen (H.world host.new) name) t (page_stroke number page.now ∷ []) }
     ensures known { OnOk result (delta.new ≡ record delta.old { entries = delta.old.entries ++ number ∷ [] }) }
     ensures on_device { result ≡ Err Fault.Device → delta.new ≡ record delta.old { entries = delta.old.entries ++ number ∷ [] } }
     ensures on_memory { result ≡ Err Fault.Memory → (delta.new ≡ delta.old) × (host.new ≡ host.old) }
@@ -135,7 +136,7 @@ pub fn write_both<H: Host>(
     requires page { IsTrue (is_page_size (length page.now)) }
     ensures takes { (t : Trail) (k : ℕ) → IsTrue H.tells → IsSeen (H.world host.old) name.now t → IsWrite t number page.now → image_state t.base.image ≡ 2 → entry_for number t.base.diverted ≡ Some k
         → delta.old.name ≡ delta_name name.now → slot ≡ slot_place delta.old.page_size k → synced ≡ must_sync t.base.image number
-        → Takes result (H.world host.old) (H.world host.new) name.now (IsSeen (H.world host.new) name.now) t (page_stroke number page.now ∷ []) }
+        → TakesFirm result (H.world host.old) (H.world host.new) name.now (IsSeen (H.world host.new) name.now) t (page_stroke number page.now ∷ []) }
     // Entries that are equal in both files stay so.
     ensures merged { (t : Trail) (held : Held) (n : ℕ) (k : ℕ) → IsTrue H.tells → IsSeen (H.world host.old) held.name t → IsWrite t number page.now → image_state t.base.image ≡ 2 → t.base.diverted ≡ held.entries
         → held.name ≡ name.now → held.page_size ≡ delta.old.page_size → delta.old.name ≡ delta_name name.now → entry_for number held.entries ≡ Some k → slot ≡ slot_place delta.old.page_size k → AreMerged (H.world host.old) held n → OnOk result (AreMerged (H.world host.new) held n) }
@@ -161,7 +162,7 @@ pub fn write_stalled<H: Host>(
     requires none_waits { delta.old.drafted ≡ 0 }
     ensures takes { (t : Trail) (name : List ℕ) → IsTrue H.tells → IsSeen (H.world host.old) name t → IsWrite t number page.now → image_state t.base.image ≡ 1 → t.base.diverted ≡ delta.old.entries
         → delta.old.name ≡ delta_name name → synced ≡ must_sync t.base.image number
-        → Takes result (H.world host.old) (H.world host.new) name (IsSeen (H.world host.new) name) t (page_stroke number page.now ∷ []) }
+        → TakesFirm result (H.world host.old) (H.world host.new) name (IsSeen (H.world host.new) name) t (page_stroke number page.now ∷ []) }
     ensures known { OnOk result (delta.new ≡ record delta.old { entries = noted number delta.old.entries }) }
     ensures as_it_is { (delta.new ≡ delta.old) ⊎ (delta.new ≡ record delta.old { entries = delta.old.entries ++ number ∷ [] }) }
     ensures on_memory { result ≡ Err Fault.Memory → (delta.new ≡ delta.old) × (host.new ≡ host.old) }
@@ -194,7 +195,7 @@ pub fn write_plain<H: Host>(
     requires page { IsTrue (is_page_size (length page.now)) }
     ensures takes { (t : Trail) → IsTrue H.tells → IsSeen (H.world host.old) name.now t → IsWrite t number page.now → image_state t.base.image ≢ 1 → t.base.diverted ≡ delta.old.entries
         → delta.old.name ≡ delta_name name.now → synced ≡ must_sync t.base.image number
-        → Takes result (H.world host.old) (H.world host.new) name.now (IsSeen (H.world host.new) name.now) t (page_stroke number page.now ∷ []) }
+        → TakesFirm result (H.world host.old) (H.world host.new) name.now (IsSeen (H.world host.new) name.now) t (page_stroke number page.now ∷ []) }
     // Entries that are equal in both files stay so.
     ensures merged { (t : Trail) (held : Held) (n : ℕ) → IsTrue H.tells → IsSeen (H.world host.old) held.name t → IsWrite t number page.now → image_state t.base.image ≡ 2 → t.base.diverted ≡ held.entries
         → held.name ≡ name.now → held.page_size ≡ delta.old.page_size → delta.old.name ≡ delta_name name.now → held.entries ≡ delta.old.entries → AreMerged (H.world host.old) held n → OnOk result (AreMerged (H.world host.new) held n) }

@@ -139,7 +139,7 @@ recorded_on kept t ss keeps b held h = subst (λ (rs : List Kept). IsRecorded rs
 
 -- all that was seen at a settled point
 settled_goes_on : (b : Base) (r : Kept) → GoesOn r b.image → AllGoOn (settled b) r
-settled_goes_on b r on image has = subst (GoesOn r) (last_one b.image image has) on
+settled_goes_on b r on m has = subst (λ (x : Base). GoesOn r x.image) (last_one b m has) on
 
 pub recorded_settled : (kept : List Kept) (t : Trail) (b : Backing) → IsRecorded kept t b → IsRecorded kept (settled t.base) b
 recorded_settled kept t b h = record {
@@ -149,7 +149,7 @@ recorded_settled kept t b h = record {
 }
   where
     on : (r : Kept) → AllGoOn t r → AllGoOn (settled t.base) r
-    on r all = settled_goes_on t.base r (all t.base.image (last_there t.earlier t.base.image))
+    on r all = settled_goes_on t.base r (all t.base (last_there t.earlier t.base))
 
 -- what a well trail says of its image
 module _ (kept : List Kept) (t : Trail) (w : IsWellTrail kept t) where
@@ -157,7 +157,7 @@ module _ (kept : List Kept) (t : Trail) (w : IsWellTrail kept t) where
   its_header = record { header = w.base.well.header; scn = w.base.well.scn }
 
   its_past : NamesPast kept (AllGoOn t) t.base.image
-  its_past = w.past t.base.image (last_there t.earlier t.base.image)
+  its_past = w.past t.base (last_there t.earlier t.base)
 
   -- the row from which a backup goes on names a record from which all that was seen goes on
   its_row : (test : Slot → Bool) (row : Spot) → broken_at (pages_of History t.base.image) ≡ None → backup_spot test t.base.image ≡ Some row → IsRemembered kept (AllGoOn t) row.bytes
@@ -169,7 +169,7 @@ module _ (kept : List Kept) (t : Trail) (w : IsWellTrail kept t) where
     unfolding on_base
     goes_on_then ask r all =
         control_goes_on 1 (image_scn u.base.image + 1) guid u.base.image (record { header = later.base.well.header; scn = later.base.well.scn }) later.base.well.sound
-        (may_begin u.base.image (record { header = later.base.well.header; scn = later.base.well.scn }) guid sixteen scn) r (all u.base.image (last_there u.earlier u.base.image))
+        (may_begin u.base.image (record { header = later.base.well.header; scn = later.base.well.scn }) guid sixteen scn) r (all u.base (last_there u.earlier u.base))
 
     its_parent : (asked : Ask) → broken_at (pages_of History t.base.image) ≡ None → IsFrom t.base.image asked → HasParent kept (record_of u guid (Some asked))
     unfolding ask_of
@@ -185,7 +185,7 @@ module _ (kept : List Kept) (t : Trail) (w : IsWellTrail kept t) where
           parent = remembered.backup;
           kept_as = remembered.kept_as;
           scn = remembered.scn;
-          earlier = (all u.base.image (last_there u.earlier u.base.image)).earlier;
+          earlier = (all u.base (last_there u.earlier u.base)).earlier;
           follows = (goes_on_then (Some (ask_of level (Some row))) remembered.backup all).follows;
         }))
       where
@@ -339,7 +339,7 @@ module _ (kept : List Kept) (t : Trail) (w : IsWellTrail kept t) (b : Backing) (
   IsKnown row = is_used row ≡ true → IsRemembered kept (AllGoOn t) row
 
   scn_low : b.scn < 4294967296
-  scn_low = let earlier = (recorded.go_on t.base.image (last_there t.earlier t.base.image)).earlier in let low = w.base.well.scn in omega (arith, earlier, low)
+  scn_low = let earlier = (recorded.go_on t.base (last_there t.earlier t.base)).earlier in let low = w.base.well.scn in omega (arith, earlier, low)
 
   slot_known : IsRemembered kept (AllGoOn t) its_slot
   slot_known = record {

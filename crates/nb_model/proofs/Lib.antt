@@ -111,3 +111,6 @@ pub mod FreshNeat
 pub mod TablePaged
 pub mod GoingLaws
 pub mod MakingLaws
+pub mod CoveredLaws
+pub mod BehindLaws
+pub mod WayLaws

@@ -2,31 +2,32 @@
 use Rattle.std.proofs.Common.{◌≡◌, ℕ, List, sym, subst, ◌∙◌, arith}
 use Rattle.std.specs.Prelude.{Contains}
 use Rattle.nb_model.specs.Image.{Image, page_at, image_guid}
-use Rattle.nb_model.specs.Account.{Kept}
+use Rattle.nb_model.specs.Account.{Base, Kept}
 use Rattle.nb_model.specs.Sound.{IsSoundImage}
 use Rattle.nb_model.specs.Stands.{IsKeptAs, GoesOn, HasRows, NamesPast}
-use Rattle.nb_model.specs.Trail.{IsMixture}
+use Rattle.nb_model.specs.Follows.{Follows}
+use Rattle.nb_model.specs.Trail.{images, IsMixture}
 use Rattle.nb_model.proofs.FollowsLaws.{follows_mixed}
 use Rattle.nb_model.proofs.PastLaws.{rows_with}
-use Rattle.nb_model.proofs.MixtureLaws.{mixed_size, mixed_scn, mixed_guid, mixture_mixed}
+use Rattle.nb_model.proofs.MixtureLaws.{all_images, mixed_size, mixed_scn, mixed_guid, mixture_mixed}
 
-module _ (images : List Image) (now image : Image) (mixed : IsMixture images now image) (there : Contains images now) where
-  pub goes_on_mixed : IsSoundImage now → (r : Kept) → ((m : Image) → Contains images m → GoesOn r m) → GoesOn r image
+module _ (bases : List Base) (now : Base) (image : Image) (mixed : IsMixture bases now.image image) (there : Contains bases now) where
+  pub goes_on_mixed : IsSoundImage now.image → (r : Kept) → ((m : Base) → Contains bases m → GoesOn r m.image) → GoesOn r image
   goes_on_mixed sound r all =
-      let on : GoesOn r now = all now there in
+      let on : GoesOn r now.image = all now there in
       record {
-        earlier = omega (arith, on.earlier, mixed_scn images now image mixed);
-        follows = follows_mixed images image (λ m has. (all m has).follows) (mixed_size images now image mixed ∙ on.follows.size)
-            (mixture_mixed images now image mixed r.scn there (omega (arith, on.earlier, sound.sound.stamps.head)));
+        earlier = omega (arith, on.earlier, mixed_scn bases now image mixed);
+        follows = follows_mixed (images bases) image (all_images (λ m. Follows r.image r.scn m) bases (λ m has. (all m has).follows)) (mixed_size bases now image mixed ∙ on.follows.size)
+            (mixture_mixed bases now image mixed there r.scn (omega (arith, on.earlier, sound.sound.stamps.head)));
       }
 
-  pub past_mixed : (kept : List Kept) (P R : Kept → Type 0) → ((r : Kept) → P r → R r) → ((m : Image) → Contains images m → NamesPast kept P m) → NamesPast kept R image
+  pub past_mixed : (kept : List Kept) (P R : Kept → Type 0) → ((r : Kept) → P r → R r) → ((m : Base) → Contains bases m → NamesPast kept P m.image) → NamesPast kept R image
   past_mixed kept P R goes all = record {
     rows = λ p low.
         let has = mixed.each p low in
-        subst (HasRows kept R) (sym has.same) (rows_with kept P R goes (page_at has.image p) ((all has.image has.there).rows p has.below));
+        subst (HasRows kept R) (sym has.same) (rows_with kept P R goes (page_at has.base.image p) ((all has.base has.there).rows p has.below));
     last = λ some.
-        let same : image_guid image ≡ image_guid now = mixed_guid images now image mixed in
+        let same : image_guid image ≡ image_guid now.image = mixed_guid bases now image mixed in
         let old = (all now there).last (λ none. some (same ∙ none)) in
         (old.0, subst (λ (guid : List ℕ). IsKeptAs kept guid old.0) (sym same) old.1, goes old.0 old.2);
   }

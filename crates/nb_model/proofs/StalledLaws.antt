@@ -11,14 +11,15 @@ use Rattle.nb_model.specs.Forms.{scn_page_of, scn_entry, has_entry}
 use Rattle.nb_model.specs.Owner.{entry_for}
 use Rattle.nb_model.specs.Stands.{HasOldEntries}
 use Rattle.nb_model.specs.Well.{IsStalled}
-use Rattle.nb_model.specs.Trail.{Trail, images_of, IsLeft}
+use Rattle.nb_model.specs.Trail.{Trail, bases_of, IsLeft}
+use Rattle.nb_model.specs.Earlier.{AreInStep}
 use Rattle.nb_model.specs.WellTrail.{IsOverFrozen}
 use Rattle.nb_model.proofs.FitLaws.{IsWhole}
 use Rattle.nb_model.proofs.HeaderLaws.{same-number}
-use Rattle.nb_model.proofs.EntryLaws.{for_front, for_below, for_back, noted_front, noted_last, noted_none}
+use Rattle.nb_model.proofs.EntryLaws.{for_below, noted_front, noted_last, noted_none}
 use Rattle.nb_model.proofs.SoundLaws.{with_page_length, FitsAt, scn_stays, head_stays, written_other, entry_here, entry_other, has_stays, scn_page_stays, not_itself}
 use Rattle.nb_model.proofs.PutSound.{scn_page_below}
-use Rattle.nb_model.proofs.MixtureLaws.{has_same, scn_page_same, entry_same, mixed_size, mixed_scn, mixed_entry}
+use Rattle.nb_model.proofs.MixtureLaws.{has_same, scn_page_same, entry_same}
 
 -- page 0 has no entry
 pub behind_first : (image : Image) (p : ℕ) → has_entry image p ≡ true → 1 ≤ p
@@ -127,29 +128,5 @@ module _ (b : Base) (p : ℕ) (bytes : Page) (whole : IsWhole b.image) (stalled 
   })
 
 -- So does a stop keep it, for the entries that it leaves.
-pub left_stalled : (t : Trail) (b : Base) → IsTrue (is_page_size (image_size t.base.image)) → IsLeft t b → IsStalled t.base → IsStalled b
-left_stalled t b wide left is = record { raised = record { behind = behind; current = current }; old = subst HasOldEntries (sym left.frozen) is.old }
-  where
-    rest : List ℕ
-    rest = left.diverted.0
-
-    size : image_size b.image ≡ image_size t.base.image
-    size = mixed_size (images_of t) t.base.image b.image left.mixed
-
-    whole : (p k : ℕ) → entry_for p b.diverted ≡ Some k → entry_for p t.base.diverted ≡ Some k
-    whole p k e = ap (entry_for p) left.diverted.1 ∙ for_front p k b.diverted rest e
-
-    has_now : (p : ℕ) → has_entry b.image p ≡ true → has_entry t.base.image p ≡ true
-    has_now p has = sym (has_same b.image t.base.image size p) ∙ has
-
-    behind : (p k : ℕ) → entry_for p b.diverted ≡ Some k → has_entry b.image p ≡ true → (j : ℕ) × (entry_for (scn_page_of b.image p) b.diverted ≡ Some j) × (j < k)
-    behind p k e has =
-        let old = is.raised.behind p k (whole p k e) (has_now p has) in
-        let there : entry_for (scn_page_of t.base.image p) (b.diverted ++ rest) ≡ Some old.0 = sym (ap (entry_for (scn_page_of t.base.image p)) left.diverted.1) ∙ old.1 in
-        let kept : entry_for (scn_page_of t.base.image p) b.diverted ≡ Some old.0 = for_back (scn_page_of t.base.image p) old.0 b.diverted rest there (omega (arith, old.2, for_below p k b.diverted e)) in
-        (old.0, ap (λ (n : ℕ). entry_for n b.diverted) (scn_page_same b.image t.base.image size p) ∙ kept, old.2)
-
-    current : (p k : ℕ) → entry_for p b.diverted ≡ Some k → has_entry b.image p ≡ true → scn_entry b.image p ≡ image_scn b.image
-    current p k e has =
-        mixed_entry (images_of t) t.base.image b.image left.mixed wide p ∙ is.raised.current p k (whole p k e) (has_now p has)
-        ∙ sym (mixed_scn (images_of t) t.base.image b.image left.mixed)
+pub left_stalled : (t : Trail) (b : Base) → IsLeft t b → AreInStep (bases_of t) → image_state b.image ≡ 1 → IsStalled t.base → IsStalled b
+left_stalled t b left steps stalled is = record { raised = (left.covered steps).raised stalled; old = subst HasOldEntries (sym left.rest.frozen) is.old }

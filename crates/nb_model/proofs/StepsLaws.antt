@@ -10,7 +10,7 @@ use Rattle.nb_model.specs.Lines.{line_text}
 use Rattle.nb_model.specs.Strokes.{Stroke, on_base, base_after}
 use Rattle.nb_model.specs.Run.{Event, strokes_of}
 use Rattle.nb_model.specs.Output.{output}
-use Rattle.nb_model.specs.Trail.{Trail, settled, settles_at, images_of, after_stroke, after_strokes}
+use Rattle.nb_model.specs.Trail.{Trail, settled, settles_at, bases_of, after_stroke, after_strokes}
 use Rattle.nb_model.specs.Steps.{Step, makes, settles, after_step, after_steps, made, steps_in, steps_of, acked_turns, acked_steps}
 use Rattle.nb_model.proofs.OutputLaws.{line-some, output-quiet, output-line, output_no_event}
 use Rattle.nb_model.proofs.StrokeLaws.{base_after-append}
@@ -80,7 +80,7 @@ stroke_seen : (t : Trail) (s : Stroke) → (after_stroke s t).base ≡ on_base s
 unfolding after_stroke
 stroke_seen t s = by (settles_at t s)
   where
-    by : (b : Bool) → (elim b as (λ z. Trail) [ true ↦ settled (on_base s t.base) | false ↦ record { base = on_base s t.base; earlier = images_of t } ]).base ≡ on_base s t.base
+    by : (b : Bool) → (elim b as (λ z. Trail) [ true ↦ settled (on_base s t.base) | false ↦ record { base = on_base s t.base; earlier = bases_of t } ]).base ≡ on_base s t.base
     by true = refl
     by false = refl
 

@@ -1,42 +1,40 @@
 -- Laws of trails: what a stop may leave of one that is settled, and that writes that are synced keep it settled.
 use Rattle.std.proofs.Common.{◌≡◌, ℕ, zero, suc, ◌≤◌, List, [], ◌∷◌, ◌++◌, length, take, refl, sym, ap, subst, ◌∙◌, set, arith}
-use Rattle.std.specs.Prelude.{Bool, true, false, ◌||◌, nat_le, nat_lt, Ok, Contains}
+use Rattle.std.specs.Prelude.{Bool, true, false, ◌||◌, ◌==◌, nat_le, nat_lt, Ok, Contains}
 use Rattle.std.specs.List.{AllByRecursion}
 use Rattle.std.proofs.lemmas.Bool.{true≢false}
 use Rattle.std.proofs.lemmas.List.{append-nil}
 use Rattle.std.proofs.lemmas.List.Elements.{Contains-append_right}
 use Rattle.nb_fields.specs.Bytes.{number_of, number_in}
 use Rattle.nb_host.specs.Files.{File, Files}
-use Rattle.nb_model.specs.Image.{Page, Image, image_size, is_forced, with_page}
+use Rattle.nb_model.specs.Image.{Page, Image, is_forced, with_page}
 use Rattle.nb_model.specs.Account.{Base}
 use Rattle.nb_model.specs.Owner.{owner}
 use Rattle.nb_model.specs.Strokes.{Stroke, make, page, begin, ends, finish, fix, merge, on_base, base_after}
-use Rattle.nb_model.specs.Trail.{Trail, settled, images_of, is_kept_place, settles_at, after_stroke, after_strokes, AreSynced, IsBehindFirst, IsMixture, IsLeft, StandsOn, StandsIn, ShowsIn}
+use Rattle.nb_model.specs.Trail.{Trail, settled, bases_of, settles_at, after_stroke, after_strokes, AreSynced, IsBehindFirst, IsLeft, IsFirm, StandsOn, StandsIn, ShowsIn}
 use Rattle.nb_model.proofs.StrokeLaws.{whole_page, stroke_page}
+use Rattle.nb_model.proofs.CoveredLaws.{firm_left}
 
--- one of the images is a mixture of them
-pub mixture_itself : (images : List Image) (now : Image) → Contains images now → IsMixture images now now
-mixture_itself images now there = record { long = refl; kept = λ p is. refl; each = λ p low. record { image = now; there = there; below = low; same = refl } }
-
-pub last_there : (images : List Image) (image : Image) → Contains (images ++ image ∷ []) image
-last_there images image = Contains-append_right images (image ∷ []) image (0, omega arith, refl)
+pub last_there : (bases : List Base) (b : Base) → Contains (bases ++ b ∷ []) b
+last_there bases b = Contains-append_right bases (b ∷ []) b (0, omega arith, refl)
 
 -- A stop may leave what was seen last.
-pub left_itself : (t : Trail) → IsLeft t t.base
-left_itself t = record {
-  mixed = mixture_itself (images_of t) t.base.image (last_there t.earlier t.base.image);
-  frozen = refl;
-  diverted = ([], sym (append-nil t.base.diverted));
-  merging = λ is. refl;
-  whole = λ none. refl;
+pub itself_firm : (t : Trail) → IsFirm t t.base
+itself_firm t = record {
+  mixed = record { long = refl; first = refl; each = λ p low. record { base = t.base; there = last_there t.earlier t.base; below = low; same = refl } };
+  kept = λ p at. refl;
+  rest = record { frozen = refl; diverted = ([], sym (append-nil t.base.diverted)); merging = λ is. refl; whole = λ none. refl };
 }
+
+pub left_itself : (t : Trail) → IsLeft t t.base
+left_itself t = firm_left t t.base (itself_firm t)
 
 pub shows_stands : (name : List ℕ) (t : Trail) (files : Files) → ShowsIn name t.base files → StandsIn name t files
 shows_stands name t files shows = record { base = t.base; opens = shows; left = left_itself t }
 
 -- At a settled point it leaves nothing else.
 pub settled_shows : (name : List ℕ) (b : Base) (m d : File) → StandsOn name (settled b) m d → owner name m d ≡ Ok b
-settled_shows name b m d s = s.opens ∙ ap (λ (c : Base). Ok c) (s.left.whole refl)
+settled_shows name b m d s = s.opens ∙ ap (λ (c : Base). Ok c) (s.left.rest.whole refl)
 
 pub shows_settled : (name : List ℕ) (b : Base) (m d : File) → owner name m d ≡ Ok b → StandsOn name (settled b) m d
 shows_settled name b m d opens = record { base = b; opens = opens; left = left_itself (settled b) }
@@ -50,7 +48,7 @@ pub trail_base : (s : Stroke) (t : Trail) → (after_stroke s t).base ≡ on_bas
 unfolding after_stroke
 trail_base s t = by (settles_at t s)
   where
-    by : (u : Bool) → (elim u as (λ z. Trail) [ true ↦ settled (on_base s t.base) | false ↦ record { base = on_base s t.base; earlier = images_of t } ]).base ≡ on_base s t.base
+    by : (u : Bool) → (elim u as (λ z. Trail) [ true ↦ settled (on_base s t.base) | false ↦ record { base = on_base s t.base; earlier = bases_of t } ]).base ≡ on_base s t.base
     by true = refl
     by false = refl
 
@@ -62,12 +60,12 @@ trail_bases (s ∷ ss) t = trail_bases ss (after_stroke s t) ∙ ap (λ (b : Bas
 -- a stroke that settles
 pub settles_after : (s : Stroke) (t : Trail) → settles_at t s ≡ true → after_stroke s t ≡ settled (on_base s t.base)
 unfolding after_stroke
-settles_after s t is = ap (λ (u : Bool). elim u as (λ z. Trail) [ true ↦ settled (on_base s t.base) | false ↦ record { base = on_base s t.base; earlier = images_of t } ]) is
+settles_after s t is = ap (λ (u : Bool). elim u as (λ z. Trail) [ true ↦ settled (on_base s t.base) | false ↦ record { base = on_base s t.base; earlier = bases_of t } ]) is
 
 -- and one that doesn't
-pub waits_after : (s : Stroke) (t : Trail) → settles_at t s ≡ false → after_stroke s t ≡ record { base = on_base s t.base; earlier = images_of t }
+pub waits_after : (s : Stroke) (t : Trail) → settles_at t s ≡ false → after_stroke s t ≡ record { base = on_base s t.base; earlier = bases_of t }
 unfolding after_stroke
-waits_after s t is = ap (λ (u : Bool). elim u as (λ z. Trail) [ true ↦ settled (on_base s t.base) | false ↦ record { base = on_base s t.base; earlier = images_of t } ]) is
+waits_after s t is = ap (λ (u : Bool). elim u as (λ z. Trail) [ true ↦ settled (on_base s t.base) | false ↦ record { base = on_base s t.base; earlier = bases_of t } ]) is
 
 -- Behind strokes that settle the trail is settled.
 pub synced_front : (ss : List Stroke) (b : Base) → AreSynced (settled b) ss → (k : ℕ) → after_strokes (take k ss) (settled b) ≡ settled (base_after b (take k ss))
@@ -85,17 +83,16 @@ synced_shows name ss b synced k m d s = settled_shows name (base_after b (take k
 -- a page write on a settled database with forced writes on
 pub forced_settles : (b : Base) (p : ℕ) (bytes : Page) → is_forced b.image ≡ true → settles_at (settled b) (page p bytes) ≡ true
 unfolding settles_at
-forced_settles b p bytes forced = ap (λ (u : Bool). u || is_kept_place (image_size b.image) p || nat_le (length b.image) p) forced
+forced_settles b p bytes forced = ap (λ (u : Bool). u || (p == 0 || nat_le (length b.image) p)) forced
 
--- page 0, the SCN pages, and growth
-pub kept_settles : (b : Base) (p : ℕ) (bytes : Page) → is_kept_place (image_size b.image) p ≡ true → settles_at (settled b) (page p bytes) ≡ true
+-- page 0
+pub first_settles : (b : Base) (bytes : Page) → settles_at (settled b) (page 0 bytes) ≡ true
 unfolding settles_at
-kept_settles b p bytes kept = middle (is_forced b.image) (is_kept_place (image_size b.image) p) (nat_le (length b.image) p) kept
+first_settles b bytes = by (is_forced b.image)
   where
-    middle : (x y z : Bool) → y ≡ true → (x || y || z) ≡ true
-    middle true y z is = refl
-    middle false true z is = refl
-    middle false false z is = absurd (true≢false (sym is))
+    by : (x : Bool) → (x || true) ≡ true
+    by true = refl
+    by false = refl
 
 -- A write of a page that isn't page 0 keeps forced writes on.
 forced_stays : (p : ℕ) (bytes : Page) (image : Image) → 1 ≤ p → is_forced image ≡ true → is_forced (with_page p bytes image) ≡ true

@@ -13,8 +13,8 @@ use Rattle.nb_model.specs.Outcomes.{Begins, Seen}
 use Rattle.nb_model.specs.Turns.{first_turn}
 use Rattle.nb_model.specs.Sound.{IsSoundImage, HasHeader}
 use Rattle.nb_model.specs.Stands.{IsKeptAs, GoesOn, HasRows, NamesPast}
-use Rattle.nb_model.specs.Trail.{Trail, settled, images_of, after_stroke, after_strokes, IsLeft}
-use Rattle.nb_model.specs.Earlier.{IsEarlier}
+use Rattle.nb_model.specs.Trail.{Trail, settled, bases_of, after_stroke, after_strokes, IsLeft}
+use Rattle.nb_model.specs.Earlier.{IsEarlier, IsCovered}
 use Rattle.nb_model.specs.Well.{IsWellIn, IsWellBase, IsOfRecord, IsWellBaseIn, is_on_pages}
 use Rattle.nb_model.specs.WellTrail.{IsOverFrozen, AllGoOn, IsWellTrail}
 use Rattle.nb_model.proofs.FitLaws.{IsWhole, IsFitting, AreFitting}
@@ -26,8 +26,8 @@ use Rattle.nb_model.proofs.PagesFit.{pages_fit}
 use Rattle.nb_model.proofs.WellLaws.{fresh_well_base}
 use Rattle.nb_model.proofs.NormalLaws.{IsQuiet, quiet, told_whole}
 use Rattle.nb_model.proofs.TrailLaws.{last_there, trail_base}
-use Rattle.nb_model.proofs.MixtureLaws.{mixed_first, mixed_scn, mixed_state, mixed_guid}
-use Rattle.nb_model.proofs.EarlierLaws.{write_goes_on, settled_sound, images_after, last_one, trail_goes_on, left_sound}
+use Rattle.nb_model.proofs.MixtureLaws.{mixed_scn, mixed_state, mixed_guid}
+use Rattle.nb_model.proofs.EarlierLaws.{write_goes_on, settled_sound, bases_after, last_one, trail_goes_on, left_sound}
 use Rattle.nb_model.proofs.StalledLaws.{stroke_stalled, stroke_over, left_stalled}
 use Rattle.nb_model.proofs.LineageLaws.{goes_on_mixed, past_mixed}
 
@@ -35,20 +35,24 @@ use Rattle.nb_model.proofs.LineageLaws.{goes_on_mixed, past_mixed}
 pub base_whole : (kept : List Kept) (b : Base) → IsWellBaseIn kept b → IsWhole b.image
 base_whole kept b w = header_whole b.image (record { header = w.well.header; scn = w.well.scn }) w.well.sound
 
+-- its entries cover its pages
+base_covered : (kept : List Kept) (b : Base) → IsWellBaseIn kept b → IsCovered b
+base_covered kept b w = record { size = (base_whole kept b w).fields.size; entries = w.well.sound.sound.entries; raised = λ stalled. (w.stalled stalled).raised }
+
 -- with the same frozen image and the same GUID a database is of the same record
 of_record : (kept : List Kept) (a b : Base) → b.frozen ≡ a.frozen → image_guid b.image ≡ image_guid a.image → IsOfRecord kept a → IsOfRecord kept b
 of_record kept a b frozen guid is = record { backup = is.backup; kept_as = subst (λ (g : List ℕ). IsKeptAs kept g is.backup) (sym guid) is.kept_as; same = frozen ∙ is.same }
 
 -- Whatever a stop leaves of a well trail is well.
 module _ (kept : List Kept) (t : Trail) (b : Base) (w : IsWellTrail kept t) (left : IsLeft t b) where
-  there : Contains (images_of t) t.base.image
-  there = last_there t.earlier t.base.image
+  there : Contains (bases_of t) t.base
+  there = last_there t.earlier t.base
 
   left_state : image_state b.image ≡ image_state t.base.image
-  left_state = mixed_state (images_of t) t.base.image b.image left.mixed
+  left_state = mixed_state (bases_of t) t.base b.image left.mixed
 
   left_guid : image_guid b.image ≡ image_guid t.base.image
-  left_guid = mixed_guid (images_of t) t.base.image b.image left.mixed
+  left_guid = mixed_guid (bases_of t) t.base b.image left.mixed
 
   -- in the normal state nothing is diverted
   none_left : (xs ys : List ℕ) → [] ≡ xs ++ ys → xs ≡ []
@@ -58,23 +62,23 @@ module _ (kept : List Kept) (t : Trail) (b : Base) (w : IsWellTrail kept t) (lef
   left_told : image_state b.image ≡ 0 → b ≡ base_of b.image
   left_told normal =
       let is : t.base ≡ base_of t.base.image = w.base.normal (sym left_state ∙ normal) in
-      told_whole b (left.frozen ∙ ap (λ (c : Base). c.frozen) is) (none_left b.diverted left.diverted.0 (sym (ap (λ (c : Base). c.diverted) is) ∙ left.diverted.1))
+      told_whole b (left.rest.frozen ∙ ap (λ (c : Base). c.frozen) is) (none_left b.diverted left.rest.diverted.0 (sym (ap (λ (c : Base). c.diverted) is) ∙ left.rest.diverted.1))
 
   pub left_well : IsWellBaseIn kept b
   left_well = record {
     state = omega (arith, left_state, w.base.state);
     well = record {
-      header = ap is_header (mixed_first (images_of t) t.base.image b.image left.mixed) ∙ w.base.well.header;
-      scn = omega (arith, mixed_scn (images_of t) t.base.image b.image left.mixed, w.base.well.scn);
+      header = ap is_header left.mixed.first ∙ w.base.well.header;
+      scn = omega (arith, mixed_scn (bases_of t) t.base b.image left.mixed, w.base.well.scn);
       state = refl;
       sound = left_sound t b w.sound left;
-      past = past_mixed (images_of t) t.base.image b.image left.mixed there kept (AllGoOn t) (λ r. GoesOn r b.image)
-          (goes_on_mixed (images_of t) t.base.image b.image left.mixed there w.base.well.sound) w.past;
+      past = past_mixed (bases_of t) t.base b.image left.mixed there kept (AllGoOn t) (λ r. GoesOn r b.image)
+          (goes_on_mixed (bases_of t) t.base b.image left.mixed there w.base.well.sound) w.past;
     };
     normal = left_told;
-    stalled = λ stalled. left_stalled t b w.sound.size left (w.base.stalled (sym left_state ∙ stalled));
-    backup = λ stalled. of_record kept t.base b left.frozen left_guid (w.base.backup (sym left_state ∙ stalled));
-    merge = λ merge. left.frozen ∙ w.base.merge (sym left_state ∙ merge);
+    stalled = λ stalled. left_stalled t b left w.sound.steps stalled (w.base.stalled (sym left_state ∙ stalled));
+    backup = λ stalled. of_record kept t.base b left.rest.frozen left_guid (w.base.backup (sym left_state ∙ stalled));
+    merge = λ merge. left.rest.frozen ∙ w.base.merge (sym left_state ∙ merge);
   }
 
 -- A well database, settled, is a well trail.
@@ -82,9 +86,9 @@ pub settled_well : (kept : List Kept) (b : Base) → IsWellBaseIn kept b → (im
 settled_well kept b w over = record {
   base = w;
   over = over;
-  sound = settled_sound b (base_whole kept b w).fields.size w.well.sound;
-  past = λ image has. subst (NamesPast kept (AllGoOn (settled b))) (last_one b.image image has)
-      (past_with kept (λ r. GoesOn r b.image) (AllGoOn (settled b)) (λ r on m here. subst (GoesOn r) (last_one b.image m here) on) b.image w.well.past);
+  sound = settled_sound b (base_covered kept b w) w.well.sound;
+  past = λ m has. subst (λ (c : Base). NamesPast kept (AllGoOn (settled b)) c.image) (last_one b m has)
+      (past_with kept (λ r. GoesOn r b.image) (AllGoOn (settled b)) (λ r on m here. subst (λ (c : Base). GoesOn r c.image) (last_one b m here) on) b.image w.well.past);
 }
 
 -- A page is written that fits, and whose rows of the history name backups from which all images go on.
@@ -111,20 +115,20 @@ module _ (kept : List Kept) (t : Trail) (p : ℕ) (bytes : Page) (w : IsWellTrai
   whole : IsWhole now
   whole = base_whole kept t.base w.base
 
-  now_there : Contains (images_of t) now
-  now_there = last_there t.earlier now
+  now_there : Contains (bases_of t) t.base
+  now_there = last_there t.earlier t.base
 
   -- all go on from a record from which all went on
   pub go_on : (r : Kept) → AllGoOn t r → AllGoOn later r
-  go_on r all = images_after (GoesOn r) (page p bytes) t all (subst (GoesOn r) (sym image_is) (goes_on_still now p page_now whole.fields whole.sound fits r (all now now_there)))
+  go_on r all = bases_after (λ m. GoesOn r m.image) (page p bytes) t all (subst (GoesOn r) (sym image_is) (goes_on_still now p page_now whole.fields whole.sound fits r (all t.base now_there)))
 
   past_now : NamesPast kept (AllGoOn later) later_base.image
   past_now = subst (NamesPast kept (AllGoOn later)) (sym image_is)
-      (past_written kept (AllGoOn t) (AllGoOn later) go_on now p page_now whole.fields whole.sound fits (rows_with kept (AllGoOn t) (AllGoOn later) go_on page_now rows) (w.past now now_there))
+      (past_written kept (AllGoOn t) (AllGoOn later) go_on now p page_now whole.fields whole.sound fits (rows_with kept (AllGoOn t) (AllGoOn later) go_on page_now rows) (w.past t.base now_there))
 
   -- the last goes on
   last_goes_on : (r : Kept) → AllGoOn later r → GoesOn r later_base.image
-  last_goes_on r all = all later_base.image (subst (λ (b : Base). Contains (images_of later) b.image) (sym base_is) (last_there later.earlier later.base.image))
+  last_goes_on r all = all later_base (subst (Contains (bases_of later)) (sym base_is) (last_there later.earlier later.base))
 
   state : image_state later_base.image ≡ image_state now
   state = ap image_state image_is ∙ state_stays now p page_now whole.fields whole.sound fits
@@ -166,8 +170,8 @@ module _ (kept : List Kept) (t : Trail) (p : ℕ) (bytes : Page) (w : IsWellTrai
     base = subst (IsWellBaseIn kept) base_is base_well;
     over = subst (λ (b : Base). image_state b.image ≡ 1 → IsOverFrozen b) base_is
         (λ stalled. let one : image_state now ≡ 1 = sym state ∙ stalled in stroke_over t.base p bytes whole one (w.base.stalled one) (w.over one) fits);
-    sound = trail_goes_on (page p bytes) t w.sound (subst (IsEarlier now) (sym image_is) (write_goes_on p page_now now fits.there fits.head fits.no_lower)) sound;
-    past = images_after (NamesPast kept (AllGoOn later)) (page p bytes) t (λ m here. past_with kept (AllGoOn t) (AllGoOn later) go_on m (w.past m here)) past_now;
+    sound = trail_goes_on (page p bytes) t w.sound (subst (IsEarlier now) (sym image_is) (write_goes_on p page_now now fits.there fits.head fits.no_lower)) (base_covered kept later_base base_well) sound;
+    past = bases_after (λ m. NamesPast kept (AllGoOn later) m.image) (page p bytes) t (λ m here. past_with kept (AllGoOn t) (AllGoOn later) go_on m.image (w.past m here)) past_now;
   }
 
 -- So strokes that fit and write no rows keep a trail well, at each point.

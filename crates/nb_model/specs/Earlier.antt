@@ -1,11 +1,13 @@
--- What keeps a trail sound: its images were before the last one, so no entry of theirs is later.
-use Rattle.std.specs.Prelude.{◌≡◌, ℕ, ◌<◌, ◌≤◌, length, Contains, true, IsTrue}
+-- Databases in step: each was before all behind it, so that no SCN entry falls, and its entries cover its pages.
+use Rattle.std.specs.Prelude.{◌≡◌, ℕ, ◌<◌, ◌≤◌, List, [], ◌∷◌, length, true, IsTrue}
+use Rattle.std.specs.List.{AllByRecursion}
 use Rattle.nb_fields.specs.Payloads.{entry_of}
 use Rattle.nb_fields.specs.Places.{is_page_size}
-use Rattle.nb_model.specs.Image.{Page, Image, image_size, image_scn}
+use Rattle.nb_model.specs.Image.{Page, Image, image_size, image_state, image_scn}
+use Rattle.nb_model.specs.Account.{Base}
 use Rattle.nb_model.specs.Forms.{scn_page_of, scn_entry, has_entry, entry_number}
-use Rattle.nb_model.specs.Sound.{IsSoundImage}
-use Rattle.nb_model.specs.Trail.{Trail, images_of}
+use Rattle.nb_model.specs.Sound.{HasEntries}
+use Rattle.nb_model.specs.Stands.{IsRaised}
 
 -- The image was before `now`: it is no longer, and neither its SCN nor an entry of it is later.
 pub record IsEarlier (image now : Image) : Type 0 where
@@ -14,15 +16,16 @@ pub record IsEarlier (image now : Image) : Type 0 where
   pub scn : image_scn image ≤ image_scn now
   pub entries : (p : ℕ) → p < length image → has_entry image p ≡ true → scn_entry image p ≤ scn_entry now p
 
--- the image is sound and was before `now`
-pub record IsSoundBefore (now image : Image) : Type 0 where
-  pub sound : IsSoundImage image
-  pub earlier : IsEarlier image now
+-- Each SCN entry covers its page, and in the stalled state what is diverted is raised.
+pub record IsCovered (b : Base) : Type 0 where
+  pub size : IsTrue (is_page_size (image_size b.image))
+  pub entries : HasEntries b.image
+  pub raised : image_state b.image ≡ 1 → IsRaised b.image b.diverted
 
--- each image of a trail is sound and was before the last
-pub record IsSoundTrail (t : Trail) : Type 0 where
-  pub size : IsTrue (is_page_size (image_size t.base.image))
-  pub each : (image : Image) → Contains (images_of t) image → IsSoundBefore t.base.image image
+-- each is covered, and was before all behind it
+abbrev pub AreInStep : List Base → Type 0
+AreInStep [] = Unit {0}
+AreInStep (b ∷ bs) = IsCovered b × AllByRecursion (λ c. IsEarlier b.image c.image) bs × AreInStep bs
 
 -- a page that lowers no entry where it is written
 abbrev pub LowersNone : (p : ℕ) → Page → Image → Type 0

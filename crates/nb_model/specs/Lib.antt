@@ -42,3 +42,4 @@ pub mod Worked
 pub mod Seeds
 pub mod Generated
 pub mod Opened
+pub mod Behind

@@ -1,7 +1,7 @@
 // Laws: each is a public function with an empty body, whose contract is the law. They show that the definitions mean what
 // they say.
 ghost use Rattle.nb_model.specs.Account.{Account, Ask, Base, IsBase, Kept, Plain, base_of, with_entry};
-ghost use Rattle.nb_model.specs.Earlier.{IsEarlier, IsSoundTrail, LowersNone};
+ghost use Rattle.nb_model.specs.Earlier.{IsCovered, IsEarlier, LowersNone};
 ghost use Rattle.nb_model.specs.Follows.{Follows, IsMixed};
 ghost use Rattle.nb_model.specs.Forms.{drafted, give_page, new_page, put, take_page};
 ghost use Rattle.nb_model.specs.Going.{AreBeginnings, AreNamed, IsGoing, IsNamed};
@@ -19,10 +19,10 @@ ghost use Rattle.nb_model.specs.Sound.{HasNoZeros, IsSoundImage, SoundInventory}
 ghost use Rattle.nb_model.specs.Stands.{GoesOn, IsRaised, Stands};
 ghost use Rattle.nb_model.specs.Steps.{after_steps, steps_of, strokes_in};
 ghost use Rattle.nb_model.specs.Strokes.{Stroke, after, base_after, begin, ends, finish, fixed, merged_page, on_base, page as page_stroke, records_after, records_of};
-ghost use Rattle.nb_model.specs.Trail.{AreSynced, IsBehindFirst, IsLeft, IsMixture, ShowsIn, StandsIn, StandsOn, Trail, after_stroke, after_strokes, images_of, is_kept_place, settled};
+ghost use Rattle.nb_model.specs.Trail.{AreSynced, IsBehindFirst, IsFirm, IsLeft, IsMixture, ShowsIn, StandsIn, StandsOn, Trail, after_stroke, after_strokes, images, settled};
 ghost use Rattle.nb_model.specs.Turns.{first_turn};
 ghost use Rattle.nb_model.specs.Well.{IsWellBaseIn, is_on_pages};
-ghost use Rattle.nb_model.specs.WellTrail.{IsWellTrail};
+ghost use Rattle.nb_model.specs.WellTrail.{IsSoundTrail, IsWellTrail};
 ghost use Rattle.nb_model.specs.declared.reply.Reply.TheVariants.{Refused};
 ghost use Rattle.nb_model.specs.declared.statement.Statement.{Statement};
 ghost use Rattle.nb_fields.specs.Fresh.{fresh};
@@ -149,15 +149,15 @@ pub fn a_settled_trail_is_its_database()
     ensures last { (name : List ℕ) (t : Trail) (files : Files) → ShowsIn name t.base files → StandsIn name t files }
 {}
 
-/// Of strokes that are synced a stop leaves a front, and nothing in between: so it is with forced writes on, and of a write of
-/// page 0 or of an SCN page in any case.
+/// Of strokes that never wait a stop leaves a front, and nothing in between: so it is with forced writes on, and of a write of page 0
+/// in any case.
 pub fn synced_strokes_leave_a_front()
     ensures settled { (b : Base) (strokes : List Stroke) (k : ℕ) → AreSynced (settled b) strokes → after_strokes (take k strokes) (settled b) ≡ settled (base_after b (take k strokes)) }
     ensures shows { (name : List ℕ) (b : Base) (strokes : List Stroke) (k : ℕ) (files : Files) → AreSynced (settled b) strokes → StandsIn name (after_strokes (take k strokes) (settled b)) files
         → ShowsIn name (base_after b (take k strokes)) files }
     ensures forced { (b : Base) (strokes : List Stroke) → is_forced b.image ≡ true → AllByRecursion IsBehindFirst strokes → AreSynced (settled b) strokes }
     ensures one { (b : Base) (p : ℕ) (bytes : Page) → is_forced b.image ≡ true → AreSynced (settled b) (page_stroke p bytes ∷ []) }
-    ensures kept { (b : Base) (p : ℕ) (bytes : Page) → is_kept_place (image_size b.image) p ≡ true → AreSynced (settled b) (page_stroke p bytes ∷ []) }
+    ensures first { (b : Base) (bytes : Page) → AreSynced (settled b) (page_stroke 0 bytes ∷ []) }
 {}
 
 /// Whatever a stop leaves of a trail has the header's fields of what was seen last.
@@ -175,36 +175,37 @@ pub fn mixtures_are_sound()
     ensures { (t : Trail) (b : Base) → IsSoundTrail t → IsLeft t b → IsSoundImage b.image }
 {}
 
-/// A trail of a sound database is sound, and stays so where a page is written that lowers no entry.
+/// A trail of a sound database is sound, and stays so where a page is written that lowers no entry and the entries still cover the pages.
 pub fn trails_stay_sound()
-    ensures settled { (b : Base) → IsTrue (is_page_size (image_size b.image)) → IsSoundImage b.image → IsSoundTrail (settled b) }
+    ensures settled { (b : Base) → IsCovered b → IsSoundImage b.image → IsSoundTrail (settled b) }
     ensures write { (p : ℕ) (page : Page) (image : Image) → p ≤ length image → (p ≡ 0 → take 64 page ≡ take 64 (first_page image)) → LowersNone p page image → IsEarlier image (with_page p page image) }
-    ensures stroke { (s : Stroke) (t : Trail) → IsSoundTrail t → IsEarlier t.base.image (on_base s t.base).image → IsSoundImage (on_base s t.base).image → IsSoundTrail (after_stroke s t) }
+    ensures stroke { (s : Stroke) (t : Trail) → IsSoundTrail t → IsEarlier t.base.image (on_base s t.base).image → IsCovered (on_base s t.base) → IsSoundImage (on_base s t.base).image → IsSoundTrail (after_stroke s t) }
     ensures itself { (a : Image) → IsEarlier a a }
     ensures joins { (a b c : Image) → IsEarlier a b → IsEarlier b c → IsEarlier a c }
 {}
 
-/// A mixture is pagewise of the images, agrees with what was seen last, and goes on from what all of them go on from.
+/// A mixture is pagewise of the images that were seen, and goes on from what all of them go on from. Where no SCN page waits it agrees with
+/// what was seen last.
 pub fn mixtures_are_pagewise()
-    ensures pagewise { (images : List Image) (now image : Image) (diverted : List ℕ) → IsMixture images now image → Contains images now → SoundInventory image
-        → (image_state image ≡ 1 → IsRaised image diverted) → IsPagewise images image diverted }
-    ensures agrees { (images : List Image) (now image : Image) → IsMixture images now image → AgreesWith image now }
-    ensures lineage { (images : List Image) (s : ℕ) (now image : Image) → IsMixture images now image → Contains images now → s < stamp_of (first_page now) → IsMixed images s image }
+    ensures pagewise { (bases : List Base) (now : Base) (image : Image) (diverted : List ℕ) → IsMixture bases now.image image → Contains bases now → SoundInventory image
+        → (image_state image ≡ 1 → IsRaised image diverted) → IsPagewise (images bases) image diverted }
+    ensures agrees { (t : Trail) (b : Base) → IsFirm t b → AgreesWith b.image t.base.image }
+    ensures lineage { (bases : List Base) (s : ℕ) (now : Base) (image : Image) → IsMixture bases now.image image → Contains bases now → s < stamp_of (first_page now.image) → IsMixed (images bases) s image }
 {}
 
-/// Whether a page write is kept or lost, a mixture of the images before is one with the image behind it. A write may be lost
-/// where it makes the database no longer and its page is one that may wait.
+/// Whether a page write is kept or lost, a mixture of the databases before is one with the database behind it. A write may be lost
+/// where it makes the database no longer and isn't of page 0.
 pub fn mixtures_go_on()
-    ensures put { (images : List Image) (now image : Image) (p : ℕ) (page : Page) → IsMixture images now image → p ≤ length now → (p ≡ 0 → take 64 page ≡ take 64 (first_page now))
-        → IsMixture (images ++ with_page p page now ∷ []) (with_page p page now) (with_page p page image) }
-    ensures lost { (images : List Image) (now image : Image) (p : ℕ) (page : Page) → IsMixture images now image → p < length now → (p ≡ 0 → take 64 page ≡ take 64 (first_page now))
-        → is_kept_place (image_size now) p ≡ false → IsMixture (images ++ with_page p page now ∷ []) (with_page p page now) image }
+    ensures put { (bases : List Base) (now image : Image) (new : Base) (p : ℕ) (page : Page) → IsMixture bases now image → p ≤ length now → new.image ≡ with_page p page now
+        → IsMixture (bases ++ new ∷ []) new.image (with_page p page image) }
+    ensures lost { (bases : List Base) (now image : Image) (new : Base) (p : ℕ) (page : Page) → IsMixture bases now image → p < length now → p ≢ 0 → new.image ≡ with_page p page now
+        → IsMixture (bases ++ new ∷ []) new.image image }
 {}
 
-/// A mixture goes on from each backup from which all of its images go on.
+/// A mixture goes on from each backup from which all that was seen goes on.
 pub fn mixtures_keep_lineage()
-    ensures { (images : List Image) (now image : Image) (r : Kept) → IsMixture images now image → Contains images now → IsSoundImage now
-        → ((m : Image) → Contains images m → GoesOn r m) → GoesOn r image }
+    ensures { (bases : List Base) (now : Base) (image : Image) (r : Kept) → IsMixture bases now.image image → Contains bases now → IsSoundImage now.image
+        → ((m : Base) → Contains bases m → GoesOn r m.image) → GoesOn r image }
 {}
 
 /// Whatever a stop leaves of a well trail is well in its state, whether it is normal, stalled or merge, and a well trail begins

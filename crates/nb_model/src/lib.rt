@@ -5,7 +5,7 @@
 //! and why it is refused), `Turns` over `Pages`, `Tables` and `Backups` (what one turn of a session does), `Run` and `Output` (a
 //! script, what it says and what is acknowledged), `Owner`, `Main`, `Sound` and `Stands` (what files mean), `Levels`, `Restoring`,
 //! `InPlace` and `Follows` (level files and lineage), `Waiting` and `Pagewise` (forced writes off), `Trail` and `WellTrail` (what a
-//! stop may leave), `Words` and `Jobs`. A layer above cites them in its contracts. `laws` and `table_laws` show that they mean what they
+//! stop may leave), `Words` and `Jobs`. A layer above cites them in its contracts. `laws`, `table_laws` and `waiting_laws` show that they mean what they
 //! say, and `worked` computes examples.
 #![tactic(auto)]
 
@@ -18,6 +18,7 @@ mod statement;
 pub mod table_laws;
 mod table_name;
 mod text;
+pub mod waiting_laws;
 pub mod worked;
 
 pub use built::{are_schedules_built, is_built};

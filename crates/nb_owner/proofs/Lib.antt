@@ -1,2 +1,5 @@
 pub mod UsedLaws
 pub mod OpenLaws
+pub mod RankLaws
+pub mod WaitLaws
+pub mod OutLaws

@@ -1,10 +1,10 @@
 -- What is in memory is what was seen last, behind each call.
-use Rattle.std.proofs.Common.{◌≡◌, ℕ, zero, suc, ◌+◌, ◌-◌, Bool, nat_eq, true, false, List, [], ◌∷◌, Option, Some, None, refl, sym, ap, subst, ◌∙◌}
+use Rattle.std.proofs.Common.{◌≡◌, ◌⊎◌, inl, inr, ⊎_elim, ℕ, zero, suc, ◌+◌, ◌-◌, ◌<◌, ◌≤◌, Bool, nat_eq, true, false, List, [], ◌∷◌, length, take, map, Option, Some, None, refl, sym, ap, subst, ◌∙◌, arith}
 use Rattle.std.specs.Prelude.{is_some, slice_get, MatchOption, Result, Ok, Err, OnErr, if◌then◌else◌}
-use Rattle.std.specs.Option.{option_and_then, option_map}
+use Rattle.std.specs.Option.{option_and_then, option_map, option_map_or}
 use Rattle.std.specs.List.{IsDistinct}
-use Rattle.std.specs.Map.{keys_of}
-use Rattle.std.proofs.lemmas.Bool.{eqb-false}
+use Rattle.std.specs.Map.{keys_of, lookup, lookup_entry, remove_entry}
+use Rattle.std.proofs.lemmas.Bool.{true≢false, eqb-false}
 use Rattle.lru.specs.LruCache.{lru_cache, promoted, put_entries}
 use Rattle.nb_model.specs.Image.{Page, Image, page_at, image_scn, image_guid, with_page}
 use Rattle.nb_model.specs.Account.{Ask, Base}
@@ -15,19 +15,24 @@ use Rattle.nb_model.proofs.TrailLaws.{trail_base}
 use Rattle.nb_base.specs.Open.{Fits}
 use Rattle.nb_base.proofs.ControlLaws.{with_control-behind}
 use Rattle.nb_base.proofs.LeftLaws.{merged_fits, stroke-image}
-use Rattle.nb_cache.specs.Held.{Slot, slot_of, rank_of, dropped, NoneWaits}
-use Rattle.nb_owner.specs.Open.{Pages, AreOf, used, behind_first}
+use Rattle.nb_cache.specs.Held.{Slot, slot_of, rank_of, with_rank, dropped, NoneWaits, IsNoLater, GoesFirst}
+use Rattle.nb_owner.specs.Open.{Pages, AreOf, IsValid, bare, used, behind_first}
 use Rattle.nb_owner.proofs.UsedLaws.{All-dropped, All-put, All-found, once_put, once_removed, promoted_put, promoted_absent}
+use Rattle.nb_owner.proofs.RankLaws.{none_found, marked_keys, marked_long, found_rank}
+
+-- the pages once this one is first, with that rank
+abbrev pub put_first : Pages → (cap p : ℕ) → Slot → Pages
+put_first pages cap p v = put_entries nat_eq (lru_cache pages cap) p v
 
 module _ (pages : Pages) (once : IsDistinct nat_eq (keys_of pages)) where
   -- a page as it was read
-  pub of_read : (image : Image) (cap p : ℕ) (bytes : List ℕ) → bytes ≡ page_at image p → AreOf image pages → AreOf image (used pages cap p bytes)
-  of_read image cap p bytes is all = All-put p pages once cap _ (λ e. e.1.bytes ≡ page_at image e.0) (λ e. e.1.bytes ≡ page_at image e.0) (λ e apart of. of) is all
+  pub of_read : (image : Image) (cap p : ℕ) (v : Slot) → v.bytes ≡ page_at image p → AreOf image pages → AreOf image (put_first pages cap p v)
+  of_read image cap p v is all = All-put p pages once cap _ (λ e. e.1.bytes ≡ page_at image e.0) (λ e. e.1.bytes ≡ page_at image e.0) (λ e apart of. of) is all
 
   -- a page as it was written
-  pub of_written : (t : Trail) (cap p : ℕ) (bytes : Page) → Fits p bytes t.base.image → AreOf t.base.image pages → AreOf (after_stroke (page p bytes) t).base.image (used pages cap p bytes)
-  of_written t cap p bytes fits all =
-      subst (λ (image : Image). AreOf image (used pages cap p bytes)) (sym written)
+  pub of_written : (t : Trail) (cap p : ℕ) (bytes : Page) (rank : Option ℕ) → Fits p bytes t.base.image → AreOf t.base.image pages → AreOf (after_stroke (page p bytes) t).base.image (put_first pages cap p (record { bytes = bytes; rank = rank }))
+  of_written t cap p bytes rank fits all =
+      subst (λ (image : Image). AreOf image (put_first pages cap p (record { bytes = bytes; rank = rank }))) (sym written)
       (All-put p pages once cap _ (λ e. e.1.bytes ≡ page_at t.base.image e.0) (λ e. e.1.bytes ≡ page_at (with_page p bytes t.base.image) e.0)
       (λ e apart of. of ∙ sym (with_page_other p e.0 bytes t.base.image fits.low (λ same. eqb-false p e.0 apart (sym same)))) (sym (with_page_same p bytes t.base.image fits.low)) all)
     where
@@ -65,28 +70,11 @@ module _ (pages : Pages) (once : IsDistinct nat_eq (keys_of pages)) where
   of_finished t all = of_control t.base.image _ 0 _ _ (ap (λ (b : Base). b.image) (trail_base finish t) ∙ finished_image t.base) all
 
   -- none waits behind it
-  pub none_waits_used : (cap p : ℕ) (bytes : List ℕ) → NoneWaits pages → NoneWaits (used pages cap p bytes)
-  none_waits_used cap p bytes none = All-put p pages once cap _ (λ e. e.1.rank ≡ None) (λ e. e.1.rank ≡ None) (λ e apart waits. waits) refl none
+  pub none_waits_put : (cap p : ℕ) (bytes : List ℕ) → NoneWaits pages → NoneWaits (put_first pages cap p (record { bytes = bytes; rank = None }))
+  none_waits_put cap p bytes none = All-put p pages once cap _ (λ e. e.1.rank ≡ None) (λ e. e.1.rank ≡ None) (λ e apart waits. waits) refl none
 
   pub none_waits_dropped : NoneWaits pages → NoneWaits (behind_first pages)
   none_waits_dropped none = All-dropped 0 pages once (λ e. e.1.rank ≡ None) (λ e. e.1.rank ≡ None) (λ e apart waits. waits) none
-
-  pub once_used : (cap p : ℕ) (bytes : List ℕ) → IsDistinct nat_eq (keys_of (used pages cap p bytes))
-  once_used cap p bytes = once_put p pages once cap _
-
-  pub once_dropped : IsDistinct nat_eq (keys_of (behind_first pages))
-  once_dropped = once_removed 0 pages once
-
--- no page waits
-none_rank : (p : ℕ) (pages : Pages) → NoneWaits pages → rank_of pages p ≡ None
-none_rank p [] none = refl
-none_rank p (e ∷ es) none = (elim (nat_eq p e.0) as (λ b. nat_eq p e.0 ≡ b → rank_of (e ∷ es) p ≡ None) [
-  | true ↦ λ is. rw is none.0
-  | false ↦ λ is. rw is (none_rank p es none.1)
-]) refl
-
-pub none_ranked : (pages : Pages) (p : ℕ) → NoneWaits pages → rank_of pages p ≡ None
-none_ranked pages p none = none_rank p pages none
 
 none_at : (pages : Pages) (n : ℕ) → NoneWaits pages → option_and_then (λ (e : ℕ × Slot). option_map (λ _. e.0) e.1.rank) (slice_get pages n) ≡ None
 none_at [] n none = refl
@@ -101,24 +89,96 @@ none_dropped held p none = by (is_some (slot_of held.pages p))
     by true = refl
     by false = none_at held.pages (held.cap - 1) none
 
--- What holds of the pages in memory at any time: they are of the size, none is there twice, and none waits.
-abbrev pub IsValid : Rattle.nb_cache.specs.Held.Held → (size : ℕ) → Type 0
-IsValid cache size = (cache.page_size ≡ size) × IsDistinct nat_eq (keys_of cache.pages) × NoneWaits cache.pages
+-- How many pages there are.
+taken_long : (n : ℕ) (es : Pages) → length (take n es) ≤ n
+taken_long zero es = omega arith
+taken_long (suc n) [] = omega arith
+taken_long (suc n) (e ∷ es) = let rest = taken_long n es in omega (arith, rest)
+
+removed_long : (p : ℕ) (es : Pages) → length (remove_entry (nat_eq p) es) ≤ length es
+removed_long p [] = omega arith
+removed_long p (e ∷ es) = (elim (nat_eq p e.0) as (λ b. nat_eq p e.0 ≡ b → length (remove_entry (nat_eq p) (e ∷ es)) ≤ length (e ∷ es)) [
+  | true ↦ λ is. rw is (omega arith)
+  | false ↦ λ is. rw is (let rest = removed_long p es in omega (arith, rest))
+]) refl
+
+removed_less : (p : ℕ) (es : Pages) (e : ℕ × Slot) → lookup_entry (nat_eq p) es ≡ Some e → length (remove_entry (nat_eq p) es) + 1 ≡ length es
+removed_less p [] e is = absurd (let h : None ≡ Some e = is in cc)
+removed_less p (x ∷ xs) e is = (elim (nat_eq p x.0) as (λ b. nat_eq p x.0 ≡ b → length (remove_entry (nat_eq p) (x ∷ xs)) + 1 ≡ length (x ∷ xs)) [
+  | true ↦ λ at. rw at (omega arith)
+  | false ↦ λ at. rw at (let rest = removed_less p xs e (rw at at is) in omega (arith, rest))
+]) refl
+
+put_long : (p cap : ℕ) (v : Slot) (es : Pages) → 0 < cap → length es ≤ cap → length (put_first es cap p v) ≤ cap
+put_long p cap v es some most = by (lookup_entry (nat_eq p) es) refl
+  where
+    by : (o : Option (ℕ × Slot)) → lookup_entry (nat_eq p) es ≡ o → length (option_map_or (λ e. (e.0, v) ∷ remove_entry (nat_eq p) es) o ((p, v) ∷ take (cap - 1) es)) ≤ cap
+    by None is = let rest = taken_long (cap - 1) es in omega (arith, rest, some)
+    by (Some e) is = let rest = removed_less p es e is in omega (arith, rest, most)
+
+promoted_long : (p : ℕ) (es : Pages) → length (promoted (nat_eq p) es) ≡ length es
+promoted_long p es = by (lookup_entry (nat_eq p) es) refl
+  where
+    by : (o : Option (ℕ × Slot)) → lookup_entry (nat_eq p) es ≡ o → length (option_map_or (λ e. e ∷ remove_entry (nat_eq p) es) o es) ≡ length es
+    by None is = refl
+    by (Some e) is = let rest = removed_less p es e is in omega (arith, rest)
+
+-- The pages whatever their ranks.
+bare_taken : (n : ℕ) (es : Pages) → bare (take n es) ≡ take n (bare es)
+bare_taken zero es = refl
+bare_taken (suc n) [] = refl
+bare_taken (suc n) (e ∷ es) = ap (λ (xs : List (ℕ × List ℕ)). (e.0, e.1.bytes) ∷ xs) (bare_taken n es)
+
+pub bare_removed : (p : ℕ) (es : Pages) → bare (remove_entry (nat_eq p) es) ≡ remove_entry (nat_eq p) (bare es)
+bare_removed p [] = refl
+bare_removed p (e ∷ es) = (elim (nat_eq p e.0) as (λ b. nat_eq p e.0 ≡ b → bare (remove_entry (nat_eq p) (e ∷ es)) ≡ remove_entry (nat_eq p) (bare (e ∷ es))) [
+  | true ↦ λ is. rw is refl
+  | false ↦ λ is. rw is (ap (λ (xs : List (ℕ × List ℕ)). (e.0, e.1.bytes) ∷ xs) (bare_removed p es))
+]) refl
+
+abbrev bare_entry : ℕ × Slot → ℕ × List ℕ
+bare_entry e = (e.0, e.1.bytes)
+
+bare_found : (p : ℕ) (es : Pages) → lookup_entry (nat_eq p) (bare es) ≡ option_map bare_entry (lookup_entry (nat_eq p) es)
+bare_found p [] = refl
+bare_found p (e ∷ es) = (elim (nat_eq p e.0) as (λ b. nat_eq p e.0 ≡ b → lookup_entry (nat_eq p) (bare (e ∷ es)) ≡ option_map bare_entry (lookup_entry (nat_eq p) (e ∷ es))) [
+  | true ↦ λ is. rw is refl
+  | false ↦ λ is. rw is (bare_found p es)
+]) refl
+
+pub bare_put : (p cap : ℕ) (v : Slot) (es : Pages) → bare (put_first es cap p v) ≡ used (bare es) cap p v.bytes
+bare_put p cap v es = by (lookup_entry (nat_eq p) es) refl
+  where
+    by : (o : Option (ℕ × Slot)) → lookup_entry (nat_eq p) es ≡ o → bare (option_map_or (λ e. (e.0, v) ∷ remove_entry (nat_eq p) es) o ((p, v) ∷ take (cap - 1) es)) ≡ used (bare es) cap p v.bytes
+    by None is =
+        ap (λ (xs : List (ℕ × List ℕ)). (p, v.bytes) ∷ xs) (bare_taken (cap - 1) es)
+        ∙ sym (ap (λ o. option_map_or (λ e. (e.0, v.bytes) ∷ remove_entry (nat_eq p) (bare es)) o ((p, v.bytes) ∷ take (cap - 1) (bare es))) (bare_found p es ∙ ap (option_map bare_entry) is))
+    by (Some e) is =
+        ap (λ (xs : List (ℕ × List ℕ)). (e.0, v.bytes) ∷ xs) (bare_removed p es)
+        ∙ sym (ap (λ o. option_map_or (λ f. (f.0, v.bytes) ∷ remove_entry (nat_eq p) (bare es)) o ((p, v.bytes) ∷ take (cap - 1) (bare es))) (bare_found p es ∙ ap (option_map bare_entry) is))
 
 module _ (cache after : Rattle.nb_cache.specs.Held.Held) (before size : ℕ) (valid : IsValid cache before) (same : size ≡ before) where
   -- a page is kept
-  module _ (p : ℕ) (bytes : List ℕ) (kept : after ≡ record cache { pages = put_entries nat_eq (lru_cache cache.pages cache.cap) p (record { bytes = bytes; rank = rank_of cache.pages p }) }) where
-    pub kept_used : after.pages ≡ used cache.pages cache.cap p bytes
-    kept_used =
-        ap (λ (h : Rattle.nb_cache.specs.Held.Held). h.pages) kept
-        ∙ ap (λ (r : Option ℕ). let v : Slot = record { bytes = bytes; rank = r } in put_entries nat_eq (lru_cache cache.pages cache.cap) p v) (none_ranked cache.pages p valid.2)
+  module _ (p : ℕ) (v : Slot) (kept : after ≡ record cache { pages = put_entries nat_eq (lru_cache cache.pages cache.cap) p v }) where
+    pub kept_pages : after.pages ≡ put_first cache.pages cache.cap p v
+    kept_pages = ap (λ (h : Rattle.nb_cache.specs.Held.Held). h.pages) kept
 
     pub valid_kept : IsValid after size
-    valid_kept = (
-      ap (λ (h : Rattle.nb_cache.specs.Held.Held). h.page_size) kept ∙ valid.0 ∙ sym same,
-      subst (λ (ps : Pages). IsDistinct nat_eq (keys_of ps)) (sym kept_used) (once_used cache.pages valid.1 cache.cap p bytes),
-      subst (λ (ps : Pages). NoneWaits ps) (sym kept_used) (none_waits_used cache.pages valid.1 cache.cap p bytes valid.2),
-    )
+    valid_kept = subst (λ (h : Rattle.nb_cache.specs.Held.Held). IsValid h size) (sym kept) (record {
+      wide = valid.wide ∙ sym same;
+      once = once_put p cache.pages valid.once cache.cap v;
+      some = valid.some;
+      most = put_long p cache.cap v cache.pages valid.some valid.most;
+    })
+
+  -- a page is marked
+  pub valid_marked : (p : ℕ) (rank : Option ℕ) → after ≡ record cache { pages = with_rank p rank cache.pages } → IsValid after size
+  valid_marked p rank marked = subst (λ (h : Rattle.nb_cache.specs.Held.Held). IsValid h size) (sym marked) (record {
+    wide = valid.wide ∙ sym same;
+    once = subst (λ (ks : List ℕ). IsDistinct nat_eq ks) (sym (marked_keys p rank cache.pages)) valid.once;
+    some = valid.some;
+    most = let long = marked_long p rank cache.pages in omega (arith, long, valid.most);
+  })
 
   -- page 0 is dropped
   module _ (gone : after ≡ record cache { pages = behind_first cache.pages }) where
@@ -126,30 +186,29 @@ module _ (cache after : Rattle.nb_cache.specs.Held.Held) (before size : ℕ) (va
     gone_behind = ap (λ (h : Rattle.nb_cache.specs.Held.Held). h.pages) gone
 
     pub valid_gone : IsValid after size
-    valid_gone = (
-      ap (λ (h : Rattle.nb_cache.specs.Held.Held). h.page_size) gone ∙ valid.0 ∙ sym same,
-      subst (λ (ps : Pages). IsDistinct nat_eq (keys_of ps)) (sym gone_behind) (once_dropped cache.pages valid.1),
-      subst (λ (ps : Pages). NoneWaits ps) (sym gone_behind) (none_waits_dropped cache.pages valid.1 valid.2),
-    )
+    valid_gone = subst (λ (h : Rattle.nb_cache.specs.Held.Held). IsValid h size) (sym gone) (record {
+      wide = valid.wide ∙ sym same;
+      once = once_removed 0 cache.pages valid.once;
+      some = valid.some;
+      most = let less = removed_long 0 cache.pages in omega (arith, less, valid.most);
+    })
 
   -- a page is looked for
   module _ (p : ℕ) (looked : after ≡ record cache { pages = promoted (nat_eq p) cache.pages }) where
     pub missed_same : slot_of cache.pages p ≡ None → after ≡ cache
     missed_same none = looked ∙ ap (λ (ps : Pages). record cache { pages = ps }) (promoted_absent p cache.pages none)
 
-    pub found_used : (slot : Slot) → slot_of cache.pages p ≡ Some slot → after.pages ≡ used cache.pages cache.cap p slot.bytes
-    found_used slot there =
-        ap (λ (h : Rattle.nb_cache.specs.Held.Held). h.pages) looked ∙ promoted_put p cache.pages slot there cache.cap
-        ∙ ap (λ (r : Option ℕ). let v : Slot = record { bytes = slot.bytes; rank = r } in put_entries nat_eq (lru_cache cache.pages cache.cap) p v) (All-found p cache.pages slot there (λ e. e.1.rank ≡ None) valid.2)
+    pub found_put : (slot : Slot) → slot_of cache.pages p ≡ Some slot → after.pages ≡ put_first cache.pages cache.cap p slot
+    found_put slot there = ap (λ (h : Rattle.nb_cache.specs.Held.Held). h.pages) looked ∙ promoted_put p cache.pages slot there cache.cap
 
     valid_as : (o : Option Slot) → slot_of cache.pages p ≡ o → IsValid after size
-    valid_as None none = subst (λ (h : Rattle.nb_cache.specs.Held.Held). IsValid h size) (sym (missed_same none)) (valid.0 ∙ sym same, valid.1, valid.2)
-    valid_as (Some slot) there =
-        let is = found_used slot there in (
-          ap (λ (h : Rattle.nb_cache.specs.Held.Held). h.page_size) looked ∙ valid.0 ∙ sym same,
-          subst (λ (ps : Pages). IsDistinct nat_eq (keys_of ps)) (sym is) (once_used cache.pages valid.1 cache.cap p slot.bytes),
-          subst (λ (ps : Pages). NoneWaits ps) (sym is) (none_waits_used cache.pages valid.1 cache.cap p slot.bytes valid.2),
-        )
+    valid_as None none = subst (λ (h : Rattle.nb_cache.specs.Held.Held). IsValid h size) (sym (missed_same none)) (record { wide = valid.wide ∙ sym same; once = valid.once; some = valid.some; most = valid.most })
+    valid_as (Some slot) there = subst (λ (h : Rattle.nb_cache.specs.Held.Held). IsValid h size) (sym looked) (record {
+      wide = valid.wide ∙ sym same;
+      once = subst (λ (ps : Pages). IsDistinct nat_eq (keys_of ps)) (sym (promoted_put p cache.pages slot there cache.cap)) (once_put p cache.pages valid.once cache.cap slot);
+      some = valid.some;
+      most = let long = promoted_long p cache.pages in omega (arith, long, valid.most);
+    })
 
     pub valid_looked : IsValid after size
     valid_looked = valid_as (slot_of cache.pages p) refl
@@ -168,11 +227,55 @@ pub found_page : (image : Image) (pages : Pages) (p : ℕ) (slot : Slot) → slo
 found_page image pages p slot there all = All-found p pages slot there (λ e. e.1.bytes ≡ page_at image e.0) all
 
 -- a new one
-pub valid_blank : (cache : Rattle.nb_cache.specs.Held.Held) (pages made size : ℕ) → cache ≡ record { pages = []; cap = pages; page_size = made } → size ≡ made → IsValid cache size
+pub valid_blank : (cache : Rattle.nb_cache.specs.Held.Held) (pages made size : ℕ) → cache ≡ record { pages = []; cap = pages; page_size = made } → size ≡ made → 0 < pages → IsValid cache size
 unfolding IsDistinct
-valid_blank cache pages made size is same = subst (λ (h : Rattle.nb_cache.specs.Held.Held). IsValid h size) (sym is) (sym same, tt, tt)
+valid_blank cache pages made size is same some = subst (λ (h : Rattle.nb_cache.specs.Held.Held). IsValid h size) (sym is) (record { wide = sym same; once = tt; some = some; most = omega arith })
 
 -- what holds in any case holds where a call failed
 pub on_err : {T E : Type 0} (result : Result T E) (P : Type 0) → P → OnErr result P
 on_err (Ok value) P is = tt
 on_err (Err e) P is = is
+
+-- a page that is kept with the rank that it had lets none wait where none did
+pub none_waits_kept : (pages : Pages) → IsDistinct nat_eq (keys_of pages) → (cap p : ℕ) (bytes : List ℕ) → NoneWaits pages → NoneWaits (put_first pages cap p (record { bytes = bytes; rank = rank_of pages p }))
+none_waits_kept pages once cap p bytes none = All-put p pages once cap _ (λ e. e.1.rank ≡ None) (λ e. e.1.rank ≡ None) (λ e apart waits. waits) (none_found pages none p) none
+
+-- A page that waits is in memory as it is seen.
+pub peeked : (image : Image) (pages : Pages) (p rank : ℕ) (into old : List ℕ) → rank_of pages p ≡ Some rank → AreOf image pages → MatchOption (slot_of pages p) (into ≡ old) (λ slot. into ≡ slot.bytes) → into ≡ page_at image p
+peeked image pages p rank into old waiting all filled = by (slot_of pages p) refl waiting filled
+  where
+    by : (o : Option Slot) → slot_of pages p ≡ o → option_and_then (λ slot. slot.rank) o ≡ Some rank → MatchOption o (into ≡ old) (λ slot. into ≡ slot.bytes) → into ≡ page_at image p
+    by None is waits is_old = absurd (let h : None ≡ Some rank = waits in cc)
+    by (Some slot) is waits same = same ∙ found_page image pages p slot is all
+
+-- the page that goes out first
+module _ (pages : Pages) (once : IsDistinct nat_eq (keys_of pages)) (p rank : ℕ) (goes : GoesFirst pages p rank) where
+  pub first_waits : rank_of pages p ≡ Some rank
+  first_waits = found_rank pages once p (record { bytes = goes.waits.0; rank = Some rank }) goes.waits.1
+
+  -- every other has no lower rank
+  pub first_lowest : (q r : ℕ) → rank_of pages q ≡ Some r → rank ≤ r
+  first_lowest q r is = by (slot_of pages q) refl is
+    where
+      by : (o : Option Slot) → slot_of pages q ≡ o → option_and_then (λ slot. slot.rank) o ≡ Some r → rank ≤ r
+      by None there e = absurd (let h : None ≡ Some r = e in cc)
+      by (Some slot) there e =
+          ⊎_elim (λ (lower : rank < r). omega arith) (λ (same : (rank ≡ r) × (p ≤ q)). omega (arith, same.0)) (All-found q pages slot there (IsNoLater p rank) goes.first r e)
+
+-- a page that is looked for lets none wait where none did
+pub looked_none : (cache after : Rattle.nb_cache.specs.Held.Held) (p : ℕ) → after ≡ record cache { pages = promoted (nat_eq p) cache.pages } → IsDistinct nat_eq (keys_of cache.pages) → NoneWaits cache.pages → NoneWaits after.pages
+looked_none cache after p looked once none = by (slot_of cache.pages p) refl
+  where
+    moved : after.pages ≡ promoted (nat_eq p) cache.pages
+    moved = ap (λ (h : Rattle.nb_cache.specs.Held.Held). h.pages) looked
+
+    by : (o : Option Slot) → slot_of cache.pages p ≡ o → NoneWaits after.pages
+    by None is = subst (λ (ps : Pages). NoneWaits ps) (sym (moved ∙ promoted_absent p cache.pages is)) none
+    by (Some slot) is =
+        subst (λ (ps : Pages). NoneWaits ps) (sym (moved ∙ promoted_put p cache.pages slot is cache.cap))
+        (All-put p cache.pages once cache.cap slot (λ e. e.1.rank ≡ None) (λ e. e.1.rank ≡ None) (λ e apart waits. waits) (All-found p cache.pages slot is (λ e. e.1.rank ≡ None) none) none)
+
+-- a page that is in memory drops none
+pub kept_drops : (held : Rattle.nb_cache.specs.Held.Held) (p : ℕ) (slot : Slot) → slot_of held.pages p ≡ Some slot → is_some (dropped held p) ≡ true → ⊥
+kept_drops held p slot there some =
+    true≢false (sym some ∙ ap (λ (b : Bool). is_some (option_and_then (λ (e : ℕ × Slot). option_map (λ _. e.0) e.1.rank) (if b then None else slice_get held.pages (held.cap - 1)))) (ap is_some there))

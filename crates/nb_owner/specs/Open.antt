@@ -1,13 +1,20 @@
--- A database that is open: its two files, and the pages of it that are in memory.
-use Rattle.std.specs.Prelude.{◌≡◌, ℕ, nat_eq, List, None}
-use Rattle.std.specs.List.{AllByRecursion}
-use Rattle.std.specs.Map.{remove_entry}
+-- A database that is open: its two files, the pages of it that are in memory, and which of them wait to be written.
+use Rattle.std.specs.Prelude.{◌≡◌, ◌≢◌, ℕ, ◌<◌, ◌≤◌, ◌==◌, ◌&&◌, not, nat_eq, nat_lt, List, [], length, map, Some, Bool, true, false, is_some}
+use Rattle.std.specs.List.{AllByRecursion, IsDistinct}
+use Rattle.std.specs.Map.{keys_of, remove_entry}
 use Rattle.lru.specs.LruCache.{lru_cache, put_entries}
+use Rattle.nb_fields.specs.Bytes.{is_zeros}
+use Rattle.nb_fields.specs.Places.{is_scn_place}
+use Rattle.nb_host.specs.Files.{Files}
 use Rattle.nb_host.specs.World.{World}
-use Rattle.nb_model.specs.Image.{Image, page_at}
-use Rattle.nb_model.specs.Trail.{Trail}
-use Rattle.nb_base.specs.Open.{IsOpen as AreOpen}
-use Rattle.nb_cache.specs.Held.{Slot}
+use Rattle.nb_host.specs.Crash.{LeavesAll}
+use Rattle.nb_model.specs.Image.{Image, page_at, image_size, image_state}
+use Rattle.nb_model.specs.Account.{Base}
+use Rattle.nb_model.specs.Trail.{Trail, StandsIn, ShowsIn}
+use Rattle.nb_model.specs.Behind.{IsBehind, IsRead}
+use Rattle.nb_model.specs.Waiting.{rank_of as rank_for}
+use Rattle.nb_base.specs.Open.{IsOpen as AreOpen, Agrees}
+use Rattle.nb_cache.specs.Held.{Slot, rank_of, dropped}
 
 -- the pages in memory by their numbers, the most recently used first
 abbrev pub Pages : Type 0
@@ -25,14 +32,79 @@ pub record Held : Type 0 where
 abbrev pub AreOf : Image → Pages → Type 0
 AreOf image pages = AllByRecursion (λ e. e.1.bytes ≡ page_at image e.0) pages
 
--- The two files are open, and what is in memory is what was seen last.
+-- page p waits to be written
+abbrev pub waits : Pages → (p : ℕ) → Bool
+waits pages p = is_some (rank_of pages p)
+
+-- A page that waits: one below the length other than page 0, in the normal state, with the rank by which it goes out.
+pub record IsWaiting (t : Trail) (p rank : ℕ) : Type 0 where
+  pub some : 1 ≤ p
+  pub low : p < length t.base.image
+  pub below : p < 1048576
+  pub normal : image_state t.base.image ≡ 0
+  pub ranked : rank ≡ rank_for t.base.image p
+  pub other : is_zeros (page_at t.base.image p) ≡ false
+  pub unsettled : t.earlier ≢ []
+
+-- The files have seen `f`, and lack the pages that wait.
+pub record Waits (pages : Pages) (f t : Trail) : Type 0 where
+  pub behind : IsBehind f t
+  pub table : f.base.diverted ≡ t.base.diverted
+  pub clean : (p : ℕ) → waits pages p ≡ false → page_at f.base.image p ≡ page_at t.base.image p
+  pub each : (p rank : ℕ) → rank_of pages p ≡ Some rank → IsWaiting t p rank
+
+-- what holds of the pages in memory at any time: they are of the size, none is there twice, and there are no more than may be
+pub record IsValid (cache : Rattle.nb_cache.specs.Held.Held) (size : ℕ) : Type 0 where
+  pub wide : cache.page_size ≡ size
+  pub once : IsDistinct nat_eq (keys_of cache.pages)
+  pub some : 0 < cache.cap
+  pub most : length cache.pages ≤ cache.cap
+
+-- the pages in memory, as the cache sees them
+abbrev pub cache_of : Held → Rattle.nb_cache.specs.Held.Held
+cache_of held = record { pages = held.pages; cap = held.cap; page_size = held.files.page_size }
+
+-- A write of page p waits: writes aren't forced, the database is in the normal state, the page is below the length and isn't page 0, and to
+-- keep it drops no page that waits.
+abbrev pub may_wait : Held → (p : ℕ) → (forced : Bool) → Bool
+may_wait held p forced = not forced && (held.files.state == 0 && (not (p == 0) && (nat_lt p held.files.count && not (is_some (dropped (cache_of held) p)))))
+
+-- Whatever a stop now leaves is what may be left of what was seen, and what is held agrees with what was seen last, as does each page in
+-- memory. The files read as they have seen it, and lack the pages that wait.
 pub record IsOpen (w : World) (held : Held) (t : Trail) : Type 0 where
-  pub files : AreOpen w held.files t
+  pub left : (files : Files) → LeavesAll w files → StandsIn held.files.name t files
+  pub agrees : Agrees held.files t.base
   pub pages : AreOf t.base.image held.pages
+  pub sees : Trail
+  pub files : AreOpen w held.files sees
+  pub waits : Waits held.pages sees t
+
+-- whatever a stop now leaves stands for a database of which P holds
+pub record StandsAs (name : List ℕ) (P : Base → Type 0) (files : Files) : Type 0 where
+  pub base : Base
+  pub opens : ShowsIn name base files
+  pub is : P base
+
+-- no SCN page waits
+abbrev pub NoScnWaits : Trail → Pages → Type 0
+NoScnWaits t pages = (p : ℕ) → is_scn_place (image_size t.base.image) p ≡ true → waits pages p ≡ false
+
+-- The pages that wait are on their way into the files: of what a stop leaves P holds, and what reads has the pages that are out.
+pub record GoesOut (w : World) (held : Held) (f t : Trail) (P : Base → Type 0) : Type 0 where
+  pub left : (files : Files) → LeavesAll w files → StandsAs held.files.name P files
+  pub reads : StandsAs held.files.name (IsRead f t (waits held.pages)) w.files
+  pub agrees : Agrees held.files t.base
+  pub pages : AreOf t.base.image held.pages
+  pub behind : IsBehind f t
+  pub each : (p rank : ℕ) → rank_of held.pages p ≡ Some rank → IsWaiting t p rank
+
+-- the pages in memory, whether they wait or not
+abbrev pub bare : Pages → List (ℕ × List ℕ)
+bare pages = map (λ e. (e.0, e.1.bytes)) pages
 
 -- the pages in memory once this page was used: it goes first, and the last one goes where there would be too many
-abbrev pub used : Pages → (cap page : ℕ) → (bytes : List ℕ) → Pages
-used pages cap page bytes = put_entries nat_eq (lru_cache pages cap) page (record { bytes = bytes; rank = None })
+abbrev pub used : List (ℕ × List ℕ) → (cap page : ℕ) → (bytes : List ℕ) → List (ℕ × List ℕ)
+used pages cap page bytes = put_entries nat_eq (lru_cache pages cap) page bytes
 
 -- the pages in memory but for page 0
 abbrev pub behind_first : Pages → Pages

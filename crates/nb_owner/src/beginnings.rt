@@ -33,8 +33,10 @@ impl Pair {
         ensures cause { CountsDevice result (H.faults host.old) (H.faults host.new) }
     {
         let files = TwoFiles::attach(alloc, host, name)?;
-        let cache = Cache::new(alloc, cache_pages, files.page_size())?;
-        Ok(Pair { files, cache })
+        let page_size = files.page_size();
+        let cache = Cache::new(alloc, cache_pages, page_size)?;
+        let page = vec![in alloc; 0u8; page_size as usize]?;
+        Ok(Pair { files, cache, page })
     }
 
     /// Makes a new database with `raw` raw pages, and opens it. The refusal is `FileExists`, where the name is not free; then nothing
@@ -58,7 +60,8 @@ impl Pair {
         ensures cause { CountsDevice result (H.faults host.old) (H.faults host.new) }
     {
         let cache = Cache::new(alloc, cache_pages, page_size)?;
+        let page = vec![in alloc; 0u8; page_size as usize]?;
         let files = TwoFiles::create(alloc, host, name, page_size, raw)?;
-        Ok(Pair { files, cache })
+        Ok(Pair { files, cache, page })
     }
 }

@@ -1,5 +1,5 @@
 // Pages are read and written, in memory and in the files.
-ghost use Rattle.std.specs.Prelude.{◌≡◌, ◌<◌, ◌≤◌, ◌+◌, ℕ, List, [], ◌∷◌, length, IsTrue, IsSome, IsOk, IfErr, OnOk, OnErr, Option, false};
+ghost use Rattle.std.specs.Prelude.{◌≡◌, ◌≢◌, ◌⊎◌, ◌<◌, ◌≤◌, ◌+◌, ℕ, List, [], ◌∷◌, length, IsTrue, IsSome, IsOk, IfErr, OnOk, OnErr, Option, None, true, false, nat_eq};
 ghost use Rattle.nb_fields.specs.Bytes.{is_zeros};
 ghost use Rattle.nb_fields.specs.Places.{is_page_size};
 ghost use Rattle.nb_host.specs.Causes.{CountsFault};
@@ -10,9 +10,10 @@ ghost use Rattle.nb_model.specs.Image.{page_at, is_forced};
 ghost use Rattle.nb_model.specs.Strokes.{page as page_stroke};
 ghost use Rattle.nb_model.specs.Trail.{Trail, settled};
 ghost use Rattle.nb_base.specs.Open.{Fits, AreMerged};
-ghost use Rattle.nb_base.specs.Takes.{Takes, IsNoRefusal};
-ghost use Rattle.nb_cache.specs.Held.{slot_of};
-ghost use Rattle.nb_owner.specs.Open.{IsOpen, used};
+ghost use Rattle.nb_base.specs.Takes.{Takes, Strikes, IsNoRefusal};
+ghost use Rattle.nb_cache.specs.Held.{slot_of, dropped, NoneWaits};
+ghost use Rattle.lru.specs.LruCache.{lru_cache, put_entries};
+ghost use Rattle.nb_owner.specs.Open.{IsOpen, may_wait, waits, cache_of, bare, used};
 
 use nb_base::TwoFiles;
 use nb_cache::Cache;
@@ -24,21 +25,21 @@ use std::marker::Model;
 pub struct Pair {
     pub(crate) files: TwoFiles,
     pub(crate) cache: Cache,
+    /// Room for one page.
+    pub(crate) page: Vec<u8>,
 }
 
 impl Model for Pair {
-    ghost use Rattle.std.specs.Prelude.{◌≡◌, nat_eq};
-    ghost use Rattle.std.specs.List.{IsDistinct};
-    ghost use Rattle.std.specs.Map.{keys_of};
+    ghost use Rattle.std.specs.Prelude.{◌≡◌, ◌≢◌, vec_len};
     ghost use Rattle.nb_cache.specs.Held.{NoneWaits};
-    ghost use Rattle.nb_owner.specs.Open.{Held};
+    ghost use Rattle.nb_owner.specs.Open.{Held, IsValid};
 
     ghost Value = { Held };
 
     ghost view = { λ p. record { files = p.files; pages = p.cache.pages; cap = p.cache.cap } };
 
-    // No page is in memory twice, and none waits to be written.
-    ghost invariant = { λ p. (p.cache.page_size ≡ p.files.page_size) × IsDistinct nat_eq (keys_of p.cache.pages) × NoneWaits p.cache.pages };
+    // No page is in memory twice, and outside the normal state none waits to be written.
+    ghost invariant = { λ p. IsValid p.cache p.files.page_size × (vec_len p.page ≡ p.files.page_size) × (p.files.state ≢ 0 → NoneWaits p.cache.pages) };
 }
 
 impl Pair {
@@ -97,7 +98,8 @@ impl Pair {
     }
 
     /// Fills in page `number` of the database, from memory or from the file that holds it. It then is the page in memory that was used
-    /// last. Of the host a page in memory asks nothing, page 0 at most two reads, and every other page at most one.
+    /// last; but where it would drop a page that waits, nothing in memory changes. Of the host a page in memory asks nothing, page 0 at
+    /// most two reads, and every other page at most one.
     pub fn read<H: Host>(
         &mut self,
         host: &mut H,
@@ -107,7 +109,8 @@ impl Pair {
         requires size { length into.old ≡ self.old.files.page_size }
         ensures page { (t : Trail) → IsTrue H.tells → IsOpen (H.world host.old) self.old t → number < length t.base.image → OnOk result (into.new ≡ page_at t.base.image number) }
         ensures open { (t : Trail) → IsTrue H.tells → IsOpen (H.world host.old) self.old t → IsOpen (H.world host.new) self.new t }
-        ensures used { number < self.old.files.count → OnOk result (self.new.pages ≡ used self.old.pages self.old.cap number into.new) }
+        ensures used { number < self.old.files.count → dropped (cache_of self.old) number ≡ None → OnOk result (bare self.new.pages ≡ used (bare self.old.pages) self.old.cap number into.new) }
+        ensures full { IsSome (dropped (cache_of self.old) number) → self.new ≡ self.old }
         ensures failed { OnErr result (self.new ≡ self.old) }
         ensures same { self.new ≡ record self.old { pages = self.new.pages } }
         ensures in_memory { IsSome (slot_of self.old.pages number) → IsOk result × (host.new ≡ host.old) }
@@ -123,7 +126,7 @@ impl Pair {
         Ok(())
     }
 
-    /// Fills in page `number` from the file that holds it, and has it in memory then.
+    /// Fills in page `number`, which isn't in memory, from the file that holds it, and has it in memory then.
     fn fetch<H: Host>(
         &mut self,
         host: &mut H,
@@ -131,9 +134,11 @@ impl Pair {
         into: &mut [u8],
     ) -> Result<(), HostFault>
         requires size { length into.old ≡ self.old.files.page_size }
+        requires absent { slot_of self.old.pages number ≡ None }
         ensures page { (t : Trail) → IsTrue H.tells → IsOpen (H.world host.old) self.old t → number < length t.base.image → OnOk result (into.new ≡ page_at t.base.image number) }
         ensures open { (t : Trail) → IsTrue H.tells → IsOpen (H.world host.old) self.old t → IsOpen (H.world host.new) self.new t }
-        ensures used { number < self.old.files.count → OnOk result (self.new.pages ≡ used self.old.pages self.old.cap number into.new) }
+        ensures used { number < self.old.files.count → dropped (cache_of self.old) number ≡ None → OnOk result (bare self.new.pages ≡ used (bare self.old.pages) self.old.cap number into.new) }
+        ensures full { IsSome (dropped (cache_of self.old) number) → self.new ≡ self.old }
         ensures failed { OnErr result (self.new ≡ self.old) }
         ensures same { self.new ≡ record self.old { pages = self.new.pages } }
         ensures quiet { Quiet (H.world host.old) (H.world host.new) }
@@ -142,16 +147,32 @@ impl Pair {
         ensures cause { CountsFault result (H.faults host.old) (H.faults host.new) }
     {
         self.files.read(host, number, into)?;
-        if number < self.files.count() {
-            self.cache.keep(number, into);
-        }
+        self.keep_read(number, into);
         Ok(())
     }
 
-    /// Replaces page `number` of the database, or adds it at the end. It then is the page in memory that was used last. It is kept for
-    /// good where writes are forced, where it makes the database longer, and where it is page 0 or an SCN inventory page.
+    /// Has a page in memory that was read, unless a page that waits would be dropped.
+    fn keep_read(&mut self, number: u32, page: &[u8])
+        requires size { length page.now ≡ self.old.files.page_size }
+        requires absent { slot_of self.old.pages number ≡ None }
+        ensures used { number < self.old.files.count → dropped (cache_of self.old) number ≡ None
+            → self.new ≡ record self.old { pages = put_entries nat_eq (lru_cache self.old.pages self.old.cap) number (record { bytes = page.now; rank = None }) } }
+        ensures full { IsSome (dropped (cache_of self.old) number) → self.new ≡ self.old }
+        ensures either { (self.new ≡ self.old)
+            ⊎ ((number < self.old.files.count) × (dropped (cache_of self.old) number ≡ None) × (self.new ≡ record self.old { pages = put_entries nat_eq (lru_cache self.old.pages self.old.cap) number (record { bytes = page.now; rank = None }) })) }
+    {
+        if number < self.files.count() && self.cache.would_drop(number).is_none() {
+            self.cache.keep(number, page);
+        }
+    }
+
+    /// Replaces page `number` of the database, or adds it at the end. It then is the page in memory that was used last.
     ///
-    /// Where it wants memory nothing has changed.
+    /// Where writes aren't forced, in the normal state, a page below the length other than page 0 waits in memory, unless to keep it drops a
+    /// page that waits: then no call is made, and it is seen at once. Every other write first writes out what waits. It is kept for good
+    /// where writes are forced, where it makes the database longer, and where it is page 0 or an SCN inventory page.
+    ///
+    /// Where it wants memory it has changed no page.
     pub fn write<H: Host>(
         &mut self,
         host: &mut H,
@@ -166,7 +187,47 @@ impl Pair {
             → Takes result (H.world host.old) (H.world host.new) self.old.files.name (IsOpen (H.world host.new) self.new) t (page_stroke number page.now ∷ []) }
         ensures merged { (t : Trail) (k : ℕ) → IsTrue H.tells → IsOpen (H.world host.old) self.old t → Fits number page.now t.base.image → self.old.files.state ≡ 2
             → AreMerged (H.world host.old) self.old.files k → OnOk result (AreMerged (H.world host.new) self.new.files k) }
-        ensures used { OnOk result (self.new.pages ≡ used self.old.pages self.old.cap number page.now) }
+        ensures waits { may_wait self.old number forced ≡ true → IsOk result × (host.new ≡ host.old) × (waits self.new.pages number ≡ true) }
+        ensures used { OnOk result (bare self.new.pages ≡ used (bare self.old.pages) self.old.cap number page.now) }
+        ensures failed { OnErr result (bare self.new.pages ≡ bare self.old.pages) }
+        ensures cap { self.new.cap ≡ self.old.cap }
+        ensures gave { GaveNothing (H.world host.old) (H.world host.new) }
+        ensures reads { (H.world host.new).reads ≡ (H.world host.old).reads }
+        ensures state { self.new.files.state ≡ self.old.files.state }
+        ensures entries { self.old.files.state ≡ 2 → self.new.files.entries ≡ self.old.files.entries }
+        ensures name { self.new.files.name ≡ self.old.files.name }
+        ensures page_size { self.new.files.page_size ≡ self.old.files.page_size }
+        ensures cause { CountsDevice result (H.faults host.old) (H.faults host.new) }
+        ensures not_refused { IfErr result IsNoRefusal }
+        ensures on_memory { (t : Trail) → IsTrue H.tells → IsOpen (H.world host.old) self.old t → result ≡ Err Fault.Memory
+            → Strikes (H.world host.old) (H.world host.new) self.old.files.name t [] × IsOpen (H.world host.new) self.new t }
+    {
+        if self.may_wait(number, forced) {
+            self.hold(number, page);
+            return Ok(());
+        }
+        self.write_out(host)?;
+        self.write_through(host, number, page, forced)?;
+        Ok(())
+    }
+
+    /// Writes a page into its files, where none waits.
+    fn write_through<H: Host>(
+        &mut self,
+        host: &mut H,
+        number: u32,
+        page: &[u8],
+        forced: bool,
+    ) -> Result<(), Fault>
+        requires size { length page.now ≡ self.old.files.page_size }
+        requires most { number < 1048576 }
+        requires some { is_zeros page.now ≡ false }
+        requires none { NoneWaits self.old.pages }
+        ensures takes { (t : Trail) → IsTrue H.tells → IsOpen (H.world host.old) self.old t → Fits number page.now t.base.image → forced ≡ is_forced t.base.image
+            → Takes result (H.world host.old) (H.world host.new) self.old.files.name (IsOpen (H.world host.new) self.new) t (page_stroke number page.now ∷ []) }
+        ensures merged { (t : Trail) (k : ℕ) → IsTrue H.tells → IsOpen (H.world host.old) self.old t → Fits number page.now t.base.image → self.old.files.state ≡ 2
+            → AreMerged (H.world host.old) self.old.files k → OnOk result (AreMerged (H.world host.new) self.new.files k) }
+        ensures used { OnOk result (bare self.new.pages ≡ used (bare self.old.pages) self.old.cap number page.now) }
         ensures failed { OnErr result (self.new.pages ≡ self.old.pages) }
         ensures cap { self.new.cap ≡ self.old.cap }
         ensures gave { GaveNothing (H.world host.old) (H.world host.new) }
@@ -184,16 +245,37 @@ impl Pair {
         Ok(())
     }
 
-    /// Keeps both files for good. It changes nothing.
+    /// Writes out what waits, and keeps both files for good. It changes no page.
     pub fn sync<H: Host>(&mut self, host: &mut H) -> Result<(), HostFault>
+        ensures takes { (t : Trail) → IsTrue H.tells → IsOpen (H.world host.old) self.old t
+            → Takes result (H.world host.old) (H.world host.new) self.old.files.name (IsOpen (H.world host.new) self.new) t [] }
+        ensures settled { (t : Trail) → IsTrue H.tells → IsOpen (H.world host.old) self.old t → OnOk result (IsOpen (H.world host.new) self.new (settled t.base)) }
+        ensures merged { (k : ℕ) → self.old.files.state ≢ 0 → AreMerged (H.world host.old) self.old.files k → AreMerged (H.world host.new) self.new.files k }
+        ensures files { self.new.files ≡ self.old.files }
+        ensures bare { bare self.new.pages ≡ bare self.old.pages }
+        ensures cap { self.new.cap ≡ self.old.cap }
+        ensures gave { GaveNothing (H.world host.old) (H.world host.new) }
+        ensures reads { (H.world host.new).reads ≡ (H.world host.old).reads }
+        ensures cause { CountsFault result (H.faults host.old) (H.faults host.new) }
+    {
+        self.write_out(host)?;
+        self.sync_files(host)?;
+        Ok(())
+    }
+
+    /// Keeps both files for good, where no page waits.
+    fn sync_files<H: Host>(&mut self, host: &mut H) -> Result<(), HostFault>
+        requires none { NoneWaits self.old.pages }
         ensures open { (t : Trail) → IsTrue H.tells → IsOpen (H.world host.old) self.old t → IsOpen (H.world host.new) self.new t }
         ensures settled { (t : Trail) → IsTrue H.tells → IsOpen (H.world host.old) self.old t → OnOk result (IsOpen (H.world host.new) self.new (settled t.base)) }
         ensures merged { (k : ℕ) → AreMerged (H.world host.old) self.old.files k → AreMerged (H.world host.new) self.new.files k }
         ensures same { self.new ≡ self.old }
         ensures quiet { Quiet (H.world host.old) (H.world host.new) }
+        ensures reads { (H.world host.new).reads ≡ (H.world host.old).reads }
         ensures cause { CountsFault result (H.faults host.old) (H.faults host.new) }
     {
-        self.files.sync(host)
+        self.files.sync(host)?;
+        Ok(())
     }
 
     /// Fills in page 0 from the files, past the pages in memory: for whoever opens a database.

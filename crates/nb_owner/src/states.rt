@@ -9,16 +9,36 @@ ghost use Rattle.nb_model.specs.Strokes.{begin as begin_stroke, ends, finish as 
 ghost use Rattle.nb_model.specs.Trail.{Trail};
 ghost use Rattle.nb_base.specs.Open.{AreMerged};
 ghost use Rattle.nb_base.specs.Takes.{Takes};
-ghost use Rattle.nb_owner.specs.Open.{IsOpen, behind_first};
+ghost use Rattle.nb_cache.specs.Held.{NoneWaits};
+ghost use Rattle.nb_owner.specs.Open.{IsOpen, bare, behind_first};
 
 use crate::Pair;
 use nb_host::{Host, HostFault};
 
 impl Pair {
-    /// Begins a backup with that GUID: the main file is kept for good and frozen, and an empty difference file is made. Its state is
+    /// Begins a backup with that GUID: what waits is written out, the main file is kept for good and frozen, and an empty difference file is made. Its state is
     /// then 1, and its SCN one higher.
     pub fn begin<H: Host>(&mut self, host: &mut H, guid: &[u8; 16]) -> Result<(), HostFault>
         requires normal { self.old.files.state ≡ 0 }
+        ensures takes { (t : Trail) (ask : Option Ask) → IsTrue H.tells → IsOpen (H.world host.old) self.old t → image_scn t.base.image < 4294967294
+            → Takes result (H.world host.old) (H.world host.new) self.old.files.name (IsOpen (H.world host.new) self.new) t (begin_stroke guid.now ask ∷ []) }
+        ensures others { OnOk result (bare self.new.pages ≡ bare (behind_first self.old.pages)) }
+        ensures cap { self.new.cap ≡ self.old.cap }
+        ensures gave { GaveNothing (H.world host.old) (H.world host.new) }
+        ensures state { OnOk result (self.new.files.state ≡ 1) }
+        ensures name { self.new.files.name ≡ self.old.files.name }
+        ensures page_size { self.new.files.page_size ≡ self.old.files.page_size }
+        ensures cause { CountsFault result (H.faults host.old) (H.faults host.new) }
+    {
+        self.write_out(host)?;
+        self.begin_files(host, guid)?;
+        Ok(())
+    }
+
+    /// Begins a backup, where no page waits.
+    fn begin_files<H: Host>(&mut self, host: &mut H, guid: &[u8; 16]) -> Result<(), HostFault>
+        requires normal { self.old.files.state ≡ 0 }
+        requires none { NoneWaits self.old.pages }
         ensures takes { (t : Trail) (ask : Option Ask) → IsTrue H.tells → IsOpen (H.world host.old) self.old t → image_scn t.base.image < 4294967294
             → Takes result (H.world host.old) (H.world host.new) self.old.files.name (IsOpen (H.world host.new) self.new) t (begin_stroke guid.now ask ∷ []) }
         ensures others { OnOk result (self.new.pages ≡ behind_first self.old.pages) }

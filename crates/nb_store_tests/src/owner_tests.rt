@@ -45,6 +45,17 @@ fn byte_of(host: &mut MemHost, pair: &mut Pair, number: u32) -> Result<u8, Fault
 
 /// Writes that byte.
 fn put_byte(host: &mut MemHost, pair: &mut Pair, number: u32, byte: u8) -> Result<(), Fault> {
+    put(host, pair, number, byte, true)
+}
+
+/// Writes that byte, with forced writes on or off.
+fn put(
+    host: &mut MemHost,
+    pair: &mut Pair,
+    number: u32,
+    byte: u8,
+    forced: bool,
+) -> Result<(), Fault> {
     let mut page = [0; 1024];
     if pair.page_size() != 1024 || number >= 1_048_576 {
         return Err(Fault::Device);
@@ -54,7 +65,7 @@ fn put_byte(host: &mut MemHost, pair: &mut Pair, number: u32, byte: u8) -> Resul
     if are_zeros(&page) {
         return Err(Fault::Device);
     }
-    pair.write(host, number, &page, true)
+    pair.write(host, number, &page, forced)
 }
 
 /// How often the host is asked for page `number`, and how many pages are in memory then.
@@ -224,5 +235,54 @@ fn both_seen(_: Global, host: &mut MemHost, pair: &mut Pair) -> Result<(u8, u8, 
 #[test]
 fn the_frozen_file_is_read_past_the_pages_in_memory(rt: HostRuntime) -> Result<(), Fail> {
     assert_eq!(rt; on_new_base(rt.alloc(), 2, both_seen)?, (0, 5, 1));
+    Ok(())
+}
+
+/// The last byte of a page in the main file, as it reads.
+fn in_file(host: &MemHost, number: usize) -> Result<u8, Fault> {
+    let Some(bytes) = host.file(&name_of()?) else {
+        return Err(Fault::Device);
+    };
+    if number > 100 {
+        return Err(Fault::Device);
+    }
+    Ok(bytes.get(number * 1024 + 1023).copied().unwrap_or(9))
+}
+
+/// A page is written with forced writes off: whether no call was made, what is seen of it, and what the file holds of it then and once
+/// it is written out.
+fn waited(alloc: Global) -> Result<(bool, [u8; 3]), Fault> {
+    let mut host = host_with(alloc)?;
+    let mut pair = Pair::attach(alloc, &mut host, &name_of()?, 4)?;
+    byte_of(&mut host, &mut pair, 6)?;
+    let before = host.calls();
+    put(&mut host, &mut pair, 6, 5, false)?;
+    let seen = byte_of(&mut host, &mut pair, 6)?;
+    let made_none = host.calls() == before;
+    let waits = in_file(&host, 6)?;
+    pair.write_out(&mut host)?;
+    Ok((made_none, [seen, waits, in_file(&host, 6)?]))
+}
+
+#[test]
+fn a_page_waits_and_goes_out(rt: HostRuntime) -> Result<(), Fail> {
+    assert_eq!(rt; waited(rt.alloc())?, (true, [5, 0, 5]));
+    Ok(())
+}
+
+/// How reads of another page and of the page itself ask the host, where the one page that may be in memory waits.
+fn asked_beside(alloc: Global) -> Result<[(u64, u32); 2], Fault> {
+    let mut host = host_with(alloc)?;
+    let mut pair = Pair::attach(alloc, &mut host, &name_of()?, 1)?;
+    put(&mut host, &mut pair, 6, 5, false)?;
+    Ok([
+        asked(&mut host, &mut pair, 7)?,
+        asked(&mut host, &mut pair, 6)?,
+    ])
+}
+
+#[test]
+fn a_read_drops_no_page_that_waits(rt: HostRuntime) -> Result<(), Fail> {
+    assert_eq!(rt; asked_beside(rt.alloc())?, [(1, 1), (0, 1)]);
     Ok(())
 }

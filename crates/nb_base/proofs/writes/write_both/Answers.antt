@@ -1,7 +1,8 @@
 use Rattle.std.proofs.Common.{[], ◌∷◌, arith}
 use Rattle.nb_change.proofs.ReachedLaws.{strokes_composed}
 use Rattle.nb_model.specs.Strokes.{page}
-use Rattle.nb_model.specs.Trail.{after_stroke, StandsIn}
+use Rattle.nb_model.specs.Trail.{after_stroke}
+use Rattle.nb_base.specs.Firm.{StandsFirm}
 use Rattle.nb_base.specs.Open.{OfFiles}
 use Rattle.nb_base.proofs.OutcomeLaws.{write_later}
 use Rattle.nb_base.proofs.MergedLaws.{both_after}
@@ -22,7 +23,7 @@ returns-in_err-write_hidden-clause-takes g c t k tells seen is merges at named s
     let second = c.write_hidden.ensures.takes (after_stroke (page c.args.number c.args.page.now) t) k tells done (write_later c.args.name.now t c.args.number c.args.page.now is)
     (merges_later t c.args.number c.args.page.now is merges) (entry_later t c.args.number c.args.page.now merges k at) in
     record {
-      left = strokes_composed after_stroke (StandsIn c.args.name.now) (OfFiles c.args.name.now) (g.H.Host.world c.args.host.now) (g.H.Host.world c.write_slot.new.host) (g.H.Host.world c.write_hidden.new.host) t (page c.args.number c.args.page.now ∷ []) [] first.left second.left;
+      left = strokes_composed after_stroke (StandsFirm c.args.name.now) (OfFiles c.args.name.now) (g.H.Host.world c.args.host.now) (g.H.Host.world c.write_slot.new.host) (g.H.Host.world c.write_hidden.new.host) t (page c.args.number c.args.page.now ∷ []) [] first.left second.left;
       done = not_done c.from_residual-in_err-write_hidden.result _ c.from_residual-in_err-write_hidden.ensures.0;
     }
 
@@ -33,7 +34,7 @@ returns-clause-takes g c t k tells seen is merges at named slot must =
     let second = c.write_hidden.ensures.takes (after_stroke (page c.args.number c.args.page.now) t) k tells done (write_later c.args.name.now t c.args.number c.args.page.now is)
     (merges_later t c.args.number c.args.page.now is merges) (entry_later t c.args.number c.args.page.now merges k at) in
     record {
-      left = strokes_composed after_stroke (StandsIn c.args.name.now) (OfFiles c.args.name.now) (g.H.Host.world c.args.host.now) (g.H.Host.world c.write_slot.new.host) (g.H.Host.world c.write_hidden.new.host) t (page c.args.number c.args.page.now ∷ []) [] first.left second.left;
+      left = strokes_composed after_stroke (StandsFirm c.args.name.now) (OfFiles c.args.name.now) (g.H.Host.world c.args.host.now) (g.H.Host.world c.write_slot.new.host) (g.H.Host.world c.write_hidden.new.host) t (page c.args.number c.args.page.now ∷ []) [] first.left second.left;
       done = (c.in_ok-write_hidden.ensures.takes (after_stroke (page c.args.number c.args.page.now) t) k tells done (write_later c.args.name.now t c.args.number c.args.page.now is)
           (merges_later t c.args.number c.args.page.now is merges) (entry_later t c.args.number c.args.page.now merges k at)).done;
     }

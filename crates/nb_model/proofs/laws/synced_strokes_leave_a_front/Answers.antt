@@ -1,5 +1,5 @@
 use Rattle.nb_model.specs.Owner.{delta_name}
-use Rattle.nb_model.proofs.TrailLaws.{synced_front, synced_shows, forced_synced, forced_settles, kept_settles}
+use Rattle.nb_model.proofs.TrailLaws.{synced_front, synced_shows, forced_synced, forced_settles, first_settles}
 use Rattle.nb_model.proofs.laws.synced_strokes_leave_a_front.Goals as goal
 
 pub returns-clause-settled : goal.returns-clause-settled
@@ -14,5 +14,5 @@ returns-clause-forced c = λ b strokes forced pages. forced_synced strokes b for
 pub returns-clause-one : goal.returns-clause-one
 returns-clause-one c = λ b p bytes forced. (forced_settles b p bytes forced, tt)
 
-pub returns-clause-kept : goal.returns-clause-kept
-returns-clause-kept c = λ b p bytes kept. (kept_settles b p bytes kept, tt)
+pub returns-clause-first : goal.returns-clause-first
+returns-clause-first c = λ b bytes. (first_settles b bytes, tt)

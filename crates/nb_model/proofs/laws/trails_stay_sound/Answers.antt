@@ -1,4 +1,5 @@
-use Rattle.nb_model.proofs.EarlierLaws.{settled_sound, write_goes_on, trail_goes_on, earlier_itself, earlier_joins}
+use Rattle.nb_model.proofs.CoveredLaws.{earlier_itself, earlier_joins}
+use Rattle.nb_model.proofs.EarlierLaws.{settled_sound, write_goes_on, trail_goes_on}
 use Rattle.nb_model.proofs.laws.trails_stay_sound.Goals as goal
 
 pub returns-clause-settled : goal.returns-clause-settled

@@ -3,7 +3,7 @@ use Rattle.nb_host.specs.World.{World}
 use Rattle.nb_host.specs.Crash.{IsDurable}
 use Rattle.nb_model.specs.Strokes.{ends}
 use Rattle.nb_base.specs.Open.{Held, IsOpen}
-use Rattle.nb_base.specs.Takes.{Strikes}
+use Rattle.nb_base.specs.Takes.{StrikesFirm}
 use Rattle.nb_base.proofs.StrokeLaws.{h0, waits}
 use Rattle.nb_base.proofs.EndLaws.{size, end_image, end_room, end_struck, end_open}
 use Rattle.nb_base.proofs.WriteLaws.{not_done}
@@ -21,7 +21,7 @@ returns-in_err-control_block-clause-takes g c t tells given =
     let image = end_image old _ t is reads stalled _ sync.files.still in
     let long : c.self.inside.delta.page_size ≡ length c.deref_mut.result.now = omega (arith, c.deref_mut.ensures.len, c.self.invariant.3) in
     let block = c.control_block.ensures.left (h0 old _ t is).main tells image (sym (size old _ t is reads) ∙ long) (end_room old _ t is reads stalled) in
-    let left = subst (λ (h : Held). Strikes old (g.H.Host.world c.control_block.new.host) h.name t (ends ∷ [])) c.self.view_is (end_struck old _ t is reads stalled _ _ synced durable block) in
+    let left = subst (λ (h : Held). StrikesFirm old (g.H.Host.world c.control_block.new.host) h.name t (ends ∷ [])) c.self.view_is (end_struck old _ t is reads stalled _ _ synced durable block) in
     record { left = left; done = not_done c.from_residual-in_err-control_block.result _ c.from_residual-in_err-control_block.ensures.0 }
 
 pub returns-clause-takes : goal.returns-clause-takes
@@ -36,7 +36,7 @@ returns-clause-takes g c t tells given =
     let image = end_image old _ t is reads stalled _ sync.files.still in
     let long : c.self.inside.delta.page_size ≡ length c.deref_mut.result.now = omega (arith, c.deref_mut.ensures.len, c.self.invariant.3) in
     let block = c.control_block.ensures.left (h0 old _ t is).main tells image (sym (size old _ t is reads) ∙ long) (end_room old _ t is reads stalled) in
-    let left = subst (λ (h : Held). Strikes old (g.H.Host.world c.control_block.new.host) h.name t (ends ∷ [])) c.self.view_is (end_struck old _ t is reads stalled _ _ synced durable block) in
+    let left = subst (λ (h : Held). StrikesFirm old (g.H.Host.world c.control_block.new.host) h.name t (ends ∷ [])) c.self.view_is (end_struck old _ t is reads stalled _ _ synced durable block) in
     let done = c.in_ok-control_block.ensures.done (h0 old _ t is).main tells image (sym (size old _ t is reads) ∙ long) (end_room old _ t is reads stalled) in
     record {
       left = left;

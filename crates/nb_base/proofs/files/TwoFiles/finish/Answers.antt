@@ -8,7 +8,7 @@ use Rattle.nb_host.specs.Files.{File}
 use Rattle.std.specs.Prelude.{None}
 use Rattle.nb_model.specs.Strokes.{finish}
 use Rattle.nb_base.specs.Open.{Held, IsOpen, AreMerged}
-use Rattle.nb_base.specs.Takes.{Strikes}
+use Rattle.nb_base.specs.Takes.{StrikesFirm}
 use Rattle.nb_base.proofs.StrokeLaws.{h0, waits, durable_main}
 use Rattle.nb_base.proofs.EndLaws.{size, finish_room, finish_struck, removed_struck, finish_open}
 use Rattle.nb_base.proofs.WriteLaws.{not_done}
@@ -27,7 +27,7 @@ returns-in_err-control_block-clause-takes g c t tells given full equal =
     let long : c.self.inside.delta.page_size ≡ length c.deref_mut.result.now = omega (arith, c.deref_mut.ensures.len, c.self.invariant.3) in
     let block = c.control_block.ensures.left (h0 old _ t is).main tells image (sym (size old _ t is reads) ∙ long) (finish_room old _ t is reads merges full merged) in
     record {
-      left = subst (λ (h : Held). Strikes old (g.H.Host.world c.control_block.new.host) h.name t (finish ∷ [])) c.self.view_is (finish_struck old _ t is reads merges full merged _ _ synced sync.files.still block);
+      left = subst (λ (h : Held). StrikesFirm old (g.H.Host.world c.control_block.new.host) h.name t (finish ∷ [])) c.self.view_is (finish_struck old _ t is reads merges full merged _ _ synced sync.files.still block);
       done = not_done c.from_residual-in_err-control_block.result _ c.from_residual-in_err-control_block.ensures.0;
     }
 
@@ -46,7 +46,7 @@ returns-clause-takes g c t tells given full equal =
     let done = c.in_ok-control_block.ensures.done (h0 old _ t is).main tells image (sym (size old _ t is reads) ∙ long) (finish_room old _ t is reads merges full merged) in
     let removed = subst (λ (n : List ℕ). Changes (g.H.Host.world c.control_block.new.host) (g.H.Host.world c.clear.new.host) (Only n) (Remade (g.H.Host.world c.control_block.new.host) n (λ file. file ≡ None))) c.self.invariant.5 (c.clear.ensures.changes tells) in
     record {
-      left = subst (λ (h : Held). Strikes old (g.H.Host.world c.clear.new.host) h.name t (finish ∷ [])) c.self.view_is (removed_struck old _ t is reads merges full merged _ _ synced sync.files.still block _ done (λ (file : File). file ≡ None) removed);
+      left = subst (λ (h : Held). StrikesFirm old (g.H.Host.world c.clear.new.host) h.name t (finish ∷ [])) c.self.view_is (removed_struck old _ t is reads merges full merged _ _ synced sync.files.still block _ done (λ (file : File). file ≡ None) removed);
       done = on_ok c.clear.result (finish_open old _ t is reads merges full merged _ _ synced sync.files.still block _ done (λ (file : File). file ≡ None) removed _ refl (ap (λ (d : Known). d.page_size) c.clear.ensures.known) refl refl
           (ap (λ (d : Known). d.entries) c.clear.ensures.known));
     }

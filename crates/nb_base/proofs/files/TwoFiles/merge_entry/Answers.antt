@@ -6,7 +6,7 @@ use Rattle.nb_delta.specs.Known.{Known}
 use Rattle.nb_model.specs.Image.{image_in}
 use Rattle.nb_model.specs.Owner.{delta_name, owned_page}
 use Rattle.nb_base.specs.Open.{Held, IsOpen, AreMerged}
-use Rattle.nb_base.specs.Takes.{Strikes}
+use Rattle.nb_base.specs.Takes.{StrikesFirm}
 use Rattle.nb_base.specs.contracts.files.TwoFiles.{the_view}
 use Rattle.nb_base.proofs.AgreeLaws.{open_seen, seen_open}
 use Rattle.nb_base.proofs.StrokeLaws.{h0}
@@ -45,8 +45,8 @@ returns-in_err-write_page-clause-takes g c t tells given full =
     g.H.Host.tells c.write_page.result tells c.write_page.ensures.files c.write_page.ensures.log.said c.write_page.ensures.time in
     let joined = struck_joined first mid (g.H.Host.world c.write_page.new.self) c.self.inside.name t (struck_quiet first mid c.self.inside.name t quiet (open_seen first _ t is)) hidden in
     let left =
-    subst (λ (h : Held). Strikes (g.H.Host.world c.args.host.now) (g.H.Host.world c.write_page.new.self) h.name t []) c.self.view_is
-    (subst (λ (h : _). Strikes (g.H.Host.world h) (g.H.Host.world c.write_page.new.self) c.self.inside.name t []) still joined) in
+    subst (λ (h : Held). StrikesFirm (g.H.Host.world c.args.host.now) (g.H.Host.world c.write_page.new.self) h.name t []) c.self.view_is
+    (subst (λ (h : _). StrikesFirm (g.H.Host.world h) (g.H.Host.world c.write_page.new.self) c.self.inside.name t []) still joined) in
     record { left = left; done = not_done c.from_residual-in_err-write_page.result _ c.from_residual-in_err-write_page.ensures.0 }
 
 pub returns-clause-takes : goal.returns-clause-takes
@@ -80,8 +80,8 @@ returns-clause-takes g c t tells given full =
     g.H.Host.tells c.write_page.result tells c.write_page.ensures.files c.write_page.ensures.log.said c.write_page.ensures.time in
     let joined = struck_joined first mid (g.H.Host.world c.write_page.new.self) c.self.inside.name t (struck_quiet first mid c.self.inside.name t quiet (open_seen first _ t is)) hidden in
     let left =
-    subst (λ (h : Held). Strikes (g.H.Host.world c.args.host.now) (g.H.Host.world c.write_page.new.self) h.name t []) c.self.view_is
-    (subst (λ (h : _). Strikes (g.H.Host.world h) (g.H.Host.world c.write_page.new.self) c.self.inside.name t []) still joined) in
+    subst (λ (h : Held). StrikesFirm (g.H.Host.world c.args.host.now) (g.H.Host.world c.write_page.new.self) h.name t []) c.self.view_is
+    (subst (λ (h : _). StrikesFirm (g.H.Host.world h) (g.H.Host.world c.write_page.new.self) c.self.inside.name t []) still joined) in
     let same = ap (λ (d : Known). record { name = c.self.inside.name; page_size = d.page_size; state = c.self.inside.state; count = c.self.inside.count; main_count = c.self.inside.main_count; entries = d.entries }) (sym (c.in_ok-read_owned.ensures.same ∙ known)) in
     let done =
     hidden_seen c.self.inside.name t c.in_ok-number.number c.deref.result.now write mid (g.met.H.Host.timely _) (g.met.H.Host.reads_left c.read_owned.new.host tells) seen (g.H.Host.world c.write_page.new.self) merging c.args.k entry

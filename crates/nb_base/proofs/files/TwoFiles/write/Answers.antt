@@ -1,7 +1,8 @@
 use Rattle.std.proofs.Common.{◌+◌, sym, subst, ap, ◌∙◌}
 use Rattle.std.specs.Prelude.{max, ◌||◌, nat_le}
 use Rattle.nb_model.specs.Strokes.{page}
-use Rattle.nb_model.specs.Trail.{after_stroke, is_kept_place}
+use Rattle.nb_model.specs.Trail.{after_stroke}
+use Rattle.nb_base.specs.Firm.{is_kept_place}
 use Rattle.nb_base.specs.Open.{Held, IsOpen}
 use Rattle.nb_base.specs.Seen.{IsWrite, noted_in}
 use Rattle.nb_base.proofs.MergedLaws.{merged_held}

@@ -1,40 +1,53 @@
-use Rattle.std.proofs.Common.{[], ◌∷◌, refl, sym, subst}
+use Rattle.std.proofs.Common.{List, ℕ, [], ◌∷◌, inl, sym, subst, ap, ◌∙◌}
+use Rattle.nb_change.proofs.ChangesLaws.{weaker_has}
+use Rattle.nb_change.proofs.ReachedLaws.{strokes_composed}
 use Rattle.nb_model.specs.Strokes.{begin}
-use Rattle.nb_model.specs.Trail.{after_stroke}
+use Rattle.nb_model.specs.Trail.{StandsIn, after_stroke}
+use Rattle.nb_base.specs.Open.{OfFiles}
 use Rattle.nb_base.specs.Takes.{Strikes}
 use Rattle.nb_base.proofs.WriteLaws.{not_done}
-use Rattle.nb_owner.specs.Open.{Held, Pages, IsOpen, AreOf}
-use Rattle.nb_owner.proofs.OpenLaws.{of_begun, none_ranked, gone_behind, valid_gone}
+use Rattle.std.specs.Prelude.{nat_eq}
+use Rattle.std.specs.Map.{remove_entry}
+use Rattle.nb_owner.specs.Open.{Pages, bare}
+use Rattle.nb_owner.proofs.OpenLaws.{bare_removed}
 use Rattle.nb_owner.proofs.pair.Pair.begin.Goals as goal
 
-pub returns-in_err-begin-clause-takes : goal.returns-in_err-begin-clause-takes
-returns-in_err-begin-clause-takes g c t ask tells given low =
+pub returns-in_err-write_out-clause-takes : goal.returns-in_err-write_out-clause-takes
+returns-in_err-write_out-clause-takes g c t ask tells is low = record {
+  left = weaker_has (g.H.Host.world c.args.host.now) (g.H.Host.world c.write_out.new.host) (OfFiles c.args.self.now.files.name) _ _ (c.write_out.ensures.takes t tells is).left (λ files so. inl so);
+  done = not_done c.from_residual.result _ c.from_residual.ensures.0;
+}
+
+pub begin_files-requires-clause-normal : goal.begin_files-requires-clause-normal
+begin_files-requires-clause-normal g c = ap (λ f. f.state) c.write_out.ensures.files ∙ c.requires.normal
+
+pub returns-in_err-begin_files-clause-takes : goal.returns-in_err-begin_files-clause-takes
+returns-in_err-begin_files-clause-takes g c t ask tells is low =
     let old = g.H.Host.world c.args.host.now in
-    let new = g.H.Host.world c.begin.new.host in
-    let is = subst (λ (h : Held). IsOpen old h t) (sym c.self.view_is) given in
+    let mid = g.H.Host.world c.write_out.new.host in
+    let new = g.H.Host.world c.begin_files.new.host in
+    let name = c.args.self.now.files.name in
+    let first = c.in_ok-write_out.ensures.takes t tells is in
     record {
-      left = subst (λ (h : Held). Strikes old new h.files.name t (begin c.args.guid.now ask ∷ [])) c.self.view_is (c.begin.ensures.takes t ask tells is.files low).left;
-      done = not_done c.from_residual.result _ c.from_residual.ensures.0;
+      left = strokes_composed after_stroke (StandsIn name) (OfFiles name) old mid new t [] (begin c.args.guid.now ask ∷ []) first.left
+          (subst (λ (n : List ℕ). Strikes mid new n t (begin c.args.guid.now ask ∷ [])) (ap (λ f. f.name) c.write_out.ensures.files) (c.begin_files.ensures.takes t ask tells first.done low).left);
+      done = not_done c.from_residual-in_err-begin_files.result _ c.from_residual-in_err-begin_files.ensures.0;
     }
-
-pub drop_page-requires : goal.drop_page-requires
-drop_page-requires g c = none_ranked c.self.inside.cache.pages 0 c.self.invariant.2
-
-pub invariant_of-self-2 : goal.invariant_of-self-2
-invariant_of-self-2 g c = valid_gone c.self.inside.cache c.drop_page.new.self c.self.inside.files.page_size c.begin.new.self.page_size c.self.invariant c.begin.ensures.page_size c.drop_page.ensures
 
 pub returns-clause-takes : goal.returns-clause-takes
-returns-clause-takes g c t ask tells given low =
+returns-clause-takes g c t ask tells is low =
     let old = g.H.Host.world c.args.host.now in
-    let new = g.H.Host.world c.begin.new.host in
-    let is = subst (λ (h : Held). IsOpen old h t) (sym c.self.view_is) given in
-    let takes = c.in_ok-begin.ensures.takes t ask tells is.files low in
+    let mid = g.H.Host.world c.write_out.new.host in
+    let new = g.H.Host.world c.begin_files.new.host in
+    let name = c.args.self.now.files.name in
+    let first = c.in_ok-write_out.ensures.takes t tells is in
+    let second = c.in_ok-begin_files.ensures.takes t ask tells first.done low in
     record {
-      left = subst (λ (h : Held). Strikes old new h.files.name t (begin c.args.guid.now ask ∷ [])) c.self.view_is takes.left;
-      done = record {
-        files = takes.done;
-        pages = subst (λ (ps : Pages). AreOf (after_stroke (begin c.args.guid.now ask) t).base.image ps)
-            (sym (gone_behind c.self.inside.cache c.drop_page.new.self c.self.inside.files.page_size c.self.inside.files.page_size c.self.invariant refl c.drop_page.ensures))
-            (of_begun c.self.inside.cache.pages c.self.invariant.1 t c.args.guid.now ask is.pages);
-      };
+      left = strokes_composed after_stroke (StandsIn name) (OfFiles name) old mid new t [] (begin c.args.guid.now ask ∷ []) first.left
+          (subst (λ (n : List ℕ). Strikes mid new n t (begin c.args.guid.now ask ∷ [])) (ap (λ f. f.name) c.write_out.ensures.files) second.left);
+      done = second.done;
     }
+
+pub returns-clause-others : goal.returns-clause-others
+returns-clause-others g c =
+    ap (λ (ps : Pages). bare ps) c.in_ok-begin_files.ensures.others ∙ bare_removed 0 c.write_out.new.self.pages ∙ ap (remove_entry (nat_eq 0)) c.write_out.ensures.bare ∙ sym (bare_removed 0 c.args.self.now.pages)

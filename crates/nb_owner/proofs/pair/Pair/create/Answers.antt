@@ -1,5 +1,11 @@
+use Rattle.std.proofs.Common.{sym, subst, ap, ◌∙◌, arith}
+use Rattle.nb_cache.specs.Held.{NoneWaits}
 use Rattle.nb_owner.proofs.OpenLaws.{valid_blank}
 use Rattle.nb_owner.proofs.pair.Pair.create.Goals as goal
 
 pub invariant_of-result : goal.invariant_of-result
-invariant_of-result g c = valid_blank c.in_ok-cache.cache _ _ _ c.in_ok-cache.ensures.ok c.in_ok-files.ensures.page_size
+invariant_of-result g c = (
+  valid_blank c.in_ok-cache.cache _ _ _ c.in_ok-cache.ensures.ok c.in_ok-files.ensures.page_size c.requires.some,
+  omega (arith, c.in_ok-page.ensures.len, c.in_ok-files.ensures.page_size),
+  (λ stalled. subst (λ (h : Rattle.nb_cache.specs.Held.Held). NoneWaits h.pages) (sym c.in_ok-cache.ensures.ok) tt),
+)

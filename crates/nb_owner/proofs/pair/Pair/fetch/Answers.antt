@@ -1,27 +1,44 @@
-use Rattle.std.proofs.Common.{◌<◌, length, refl, ap, sym, subst, ◌∙◌, arith}
-use Rattle.nb_owner.specs.Open.{Held, Pages, IsOpen, AreOf, used}
-use Rattle.nb_owner.proofs.OpenLaws.{of_read, kept_used, valid_kept}
+use Rattle.std.proofs.Common.{◌≡◌, ◌<◌, ⊎_elim, length, refl, ap, sym, subst, ◌∙◌, arith}
+use Rattle.std.specs.Prelude.{None}
+use Rattle.nb_model.specs.Image.{page_at}
+use Rattle.nb_cache.specs.Held.{slot_of, dropped}
+use Rattle.nb_owner.specs.Open.{Held, IsOpen, IsValid, cache_of, bare, used}
+use Rattle.nb_owner.specs.contracts.pair.Pair.{the_view}
+use Rattle.nb_owner.proofs.OpenLaws.{bare_put}
+use Rattle.nb_owner.proofs.WaitLaws.{quiet_open, read_open, absent_page}
 use Rattle.nb_owner.proofs.pair.Pair.fetch.Goals as goal
 
-pub invariant_of-self-then-number-count : goal.invariant_of-self-then-number-count
-invariant_of-self-then-number-count g c =
-    valid_kept c.self.inside.cache c.keep.new.self c.self.inside.files.page_size c.read.new.self.page_size c.self.invariant (ap (λ f. f.page_size) c.read.ensures.same) c.args.number c.read.new.into c.keep.ensures
-
-pub returns-then-number-count-clause-open : goal.returns-then-number-count-clause-open
-returns-then-number-count-clause-open g c t tells given =
+pub returns-in_err-read-clause-open : goal.returns-in_err-read-clause-open
+returns-in_err-read-clause-open g c t tells given =
     let old = g.H.Host.world c.args.host.now in
+    let new = g.H.Host.world c.read.new.host in
     let is = subst (λ (h : Held). IsOpen old h t) (sym c.self.view_is) given in
-    let files = c.in_ok-read.ensures.open t tells is.files in
-    let low : c.args.number < length t.base.image = omega (arith, c.if-number-count.true, c.count.ensures.value, files.agrees.count) in
-    let page = c.in_ok-read.ensures.page t tells is.files low in
-    record {
-      files = files;
-      pages = subst (λ (ps : Pages). AreOf t.base.image ps)
-          (sym (kept_used c.self.inside.cache c.keep.new.self c.self.inside.files.page_size c.self.inside.files.page_size c.self.invariant refl c.args.number c.read.new.into c.keep.ensures))
-          (of_read c.self.inside.cache.pages c.self.invariant.1 t.base.image c.self.inside.cache.cap c.args.number c.read.new.into page is.pages);
-    }
+    subst (λ (f : Rattle.nb_base.specs.Open.Held). let h : Held = record { files = f; pages = c.self.inside.cache.pages; cap = c.self.inside.cache.cap } in IsOpen new h t) (sym c.read.ensures.same)
+    (quiet_open old new (the_view c.self.inside) t c.read.ensures.quiet is)
 
-pub returns-then-number-count-clause-used : goal.returns-then-number-count-clause-used
-returns-then-number-count-clause-used g c low =
-    kept_used c.self.inside.cache c.keep.new.self c.self.inside.files.page_size c.self.inside.files.page_size c.self.invariant refl c.args.number c.read.new.into c.keep.ensures
-    ∙ ap (λ (h : Held). used h.pages h.cap c.args.number c.read.new.into) c.self.view_is
+pub returns-clause-open : goal.returns-clause-open
+returns-clause-open g c t tells given =
+    let old = g.H.Host.world c.args.host.now in
+    let new = g.H.Host.world c.read.new.host in
+    let is = subst (λ (h : Held). IsOpen old h t) (sym c.self.view_is) given in
+    let now : Held = record { files = c.read.new.self; pages = c.self.inside.cache.pages; cap = c.self.inside.cache.cap } in
+    let opened : IsOpen new now t = subst (λ (f : Rattle.nb_base.specs.Open.Held). let h : Held = record { files = f; pages = c.self.inside.cache.pages; cap = c.self.inside.cache.cap } in IsOpen new h t) (sym c.read.ensures.same)
+    (quiet_open old new (the_view c.self.inside) t c.read.ensures.quiet is) in
+    let absent : slot_of c.self.inside.cache.pages c.args.number ≡ None = ap (λ (h : Held). slot_of h.pages c.args.number) c.self.view_is ∙ c.requires.absent in
+    let valid : IsValid (cache_of now) now.files.page_size = record { wide = refl; once = c.self.invariant.0.once; some = c.self.invariant.0.some; most = c.self.invariant.0.most } in
+    ⊎_elim
+    (λ (same : c.keep_read.new.self ≡ now). subst (λ (h : Held). IsOpen new h t) (sym same) opened)
+    (λ kept.
+    let low : c.args.number < length is.sees.base.image = omega (arith, kept.0, ap (λ f. f.count) c.read.ensures.same, is.files.agrees.count) in
+    subst (λ (h : Held). IsOpen new h t) (sym kept.2)
+    (read_open new now t opened valid c.args.number c.read.new.into absent kept.1
+    (c.in_ok-read.ensures.page is.sees tells is.files low ∙ absent_page old (the_view c.self.inside) t is c.args.number absent)))
+    c.keep_read.ensures.either
+
+pub returns-clause-used : goal.returns-clause-used
+returns-clause-used g c low drops =
+    let now : Held = record { files = c.read.new.self; pages = c.self.inside.cache.pages; cap = c.self.inside.cache.cap } in
+    let same : now ≡ c.args.self.now = ap (λ (f : Rattle.nb_base.specs.Open.Held). let h : Held = record { files = f; pages = c.self.inside.cache.pages; cap = c.self.inside.cache.cap } in h) c.read.ensures.same ∙ c.self.view_is in
+    let kept = c.keep_read.ensures.used (subst (λ (h : Held). c.args.number < h.files.count) (sym same) low) (subst (λ (h : Held). dropped (cache_of h) c.args.number ≡ None) (sym same) drops) in
+    ap (λ (h : Held). bare h.pages) kept ∙ bare_put c.args.number c.self.inside.cache.cap (record { bytes = c.read.new.into; rank = None }) c.self.inside.cache.pages
+    ∙ ap (λ (h : Held). used (bare h.pages) h.cap c.args.number c.read.new.into) same

@@ -1,7 +1,11 @@
-use Rattle.std.proofs.Common.{[], sym, subst}
+use Rattle.std.proofs.Common.{[], ap, sym, subst, ◌∙◌, arith}
 use Rattle.nb_change.proofs.ResultLaws.{on_ok_then}
+use Rattle.nb_base.specs.Open.{AreMerged}
 use Rattle.nb_base.specs.Takes.{Strikes}
+use Rattle.nb_base.proofs.FirmLaws.{strikes_left}
 use Rattle.nb_owner.specs.Open.{Held, IsOpen}
+use Rattle.nb_owner.specs.contracts.pair.Pair.{the_view}
+use Rattle.nb_owner.proofs.WaitLaws.{files_open, open_settled}
 use Rattle.nb_owner.proofs.pair.Pair.merge_entry.Goals as goal
 
 pub returns-clause-takes : goal.returns-clause-takes
@@ -9,8 +13,17 @@ returns-clause-takes g c t tells given full =
     let old = g.H.Host.world c.args.host.now in
     let new = g.H.Host.world c.merge_entry.new.host in
     let is = subst (λ (h : Held). IsOpen old h t) (sym c.self.view_is) given in
-    let takes = c.merge_entry.ensures.takes t tells is.files full in
+    let none = c.self.invariant.2 (λ e. absurd (omega (arith, e, ap (λ (h : Held). h.files.state) c.self.view_is, c.requires.merge))) in
+    let takes = c.merge_entry.ensures.takes t tells (files_open old (the_view c.self.inside) t none is) full in
+    let now : Held = record { files = c.merge_entry.new.self; pages = c.self.inside.cache.pages; cap = c.self.inside.cache.cap } in
     record {
-      left = subst (λ (h : Held). Strikes old new h.files.name t []) c.self.view_is takes.left;
-      done = on_ok_then c.merge_entry.result (λ files. record { files = files; pages = is.pages }) takes.done;
+      left = subst (λ (h : Held). Strikes old new h.files.name t []) c.self.view_is (strikes_left old new c.self.inside.files.name t [] takes.left);
+      done = on_ok_then c.merge_entry.result (λ files. open_settled new now t none files is.pages) takes.done;
     }
+
+pub returns-clause-merged : goal.returns-clause-merged
+returns-clause-merged g c t tells given full merged =
+    let old = g.H.Host.world c.args.host.now in
+    let is = subst (λ (h : Held). IsOpen old h t) (sym c.self.view_is) given in
+    let none = c.self.invariant.2 (λ e. absurd (omega (arith, e, ap (λ (h : Held). h.files.state) c.self.view_is, c.requires.merge))) in
+    c.merge_entry.ensures.merged t tells (files_open old (the_view c.self.inside) t none is) full (subst (λ (h : Held). AreMerged old h.files c.args.k) (sym c.self.view_is) merged)

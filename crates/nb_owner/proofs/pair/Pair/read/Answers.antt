@@ -1,10 +1,26 @@
-use Rattle.std.proofs.Common.{◌<◌, refl, ap, sym, subst, ◌∙◌}
-use Rattle.nb_owner.specs.Open.{Held, Pages, IsOpen, AreOf, used}
-use Rattle.nb_owner.proofs.OpenLaws.{of_read, valid_looked, found_used, found_slot, missed_slot, missed_same, found_page, on_err}
+use Rattle.std.proofs.Common.{◌≡◌, ◌<◌, refl, ap, sym, subst, ◌∙◌}
+use Rattle.std.specs.Prelude.{None, IsSome, is_some}
+use Rattle.nb_cache.specs.Held.{NoneWaits, dropped}
+use Rattle.nb_owner.specs.Open.{Held, Pages, IsOpen, AreOf, cache_of, bare, used}
+use Rattle.nb_owner.specs.contracts.pair.Pair.{the_view}
+use Rattle.nb_owner.proofs.RankLaws.{rank_promoted}
+use Rattle.nb_owner.proofs.OpenLaws.{of_read, valid_looked, found_put, found_slot, missed_slot, missed_same, found_page, on_err, bare_put, looked_none, kept_drops}
+use Rattle.nb_owner.proofs.WaitLaws.{open_with}
 use Rattle.nb_owner.proofs.pair.Pair.read.Goals as goal
 
 pub invariant_of-self : goal.invariant_of-self
-invariant_of-self g c = valid_looked c.self.inside.cache c.look.new.self c.self.inside.files.page_size c.self.inside.files.page_size c.self.invariant refl c.args.number c.look.ensures.moved
+invariant_of-self g c = (
+  valid_looked c.self.inside.cache c.look.new.self c.self.inside.files.page_size c.self.inside.files.page_size c.self.invariant.0 refl c.args.number c.look.ensures.moved,
+  c.self.invariant.1,
+  (λ stalled. looked_none c.self.inside.cache c.look.new.self c.args.number c.look.ensures.moved c.self.invariant.0.once (c.self.invariant.2 stalled)),
+)
+
+pub invariant_of-self-2 : goal.invariant_of-self-2
+invariant_of-self-2 g c = (
+  valid_looked c.self.inside.cache c.look.new.self c.self.inside.files.page_size c.self.inside.files.page_size c.self.invariant.0 refl c.args.number c.look.ensures.moved,
+  c.self.invariant.1,
+  (λ stalled. looked_none c.self.inside.cache c.look.new.self c.args.number c.look.ensures.moved c.self.invariant.0.once (c.self.invariant.2 stalled)),
+)
 
 pub returns-then-look-clause-page : goal.returns-then-look-clause-page
 returns-then-look-clause-page g c t tells given low =
@@ -14,55 +30,81 @@ returns-then-look-clause-page g c t tells given low =
 
 pub returns-then-look-clause-open : goal.returns-then-look-clause-open
 returns-then-look-clause-open g c t tells given =
-    let is = subst (λ (h : Held). IsOpen (g.H.Host.world c.args.host.now) h t) (sym c.self.view_is) given in
+    let w = g.H.Host.world c.args.host.now in
+    let is = subst (λ (h : Held). IsOpen w h t) (sym c.self.view_is) given in
     let slot = found_slot _ c.look.new.into c.args.into.now (sym c.look.ensures.found ∙ c.if-look.true) c.look.ensures.filled in
-    let now = found_used c.self.inside.cache c.look.new.self c.self.inside.files.page_size c.self.inside.files.page_size c.self.invariant refl c.args.number c.look.ensures.moved slot.0 slot.1 in
-    record {
-      files = is.files;
-      pages = subst (λ (ps : Pages). AreOf t.base.image ps) (sym now)
-          (of_read c.self.inside.cache.pages c.self.invariant.1 t.base.image c.self.inside.cache.cap c.args.number slot.0.bytes (found_page t.base.image c.self.inside.cache.pages c.args.number slot.0 slot.1 is.pages) is.pages);
-    }
+    let now = found_put c.self.inside.cache c.look.new.self c.self.inside.files.page_size c.self.inside.files.page_size c.self.invariant.0 refl c.args.number c.look.ensures.moved slot.0 slot.1 in
+    let moved = ap (λ (k : Rattle.nb_cache.specs.Held.Held). k.pages) c.look.ensures.moved in
+    let opened = open_with w (the_view c.self.inside) t c.look.new.self.pages is
+    (λ q. ap (λ (ps : Pages). Rattle.nb_cache.specs.Held.rank_of ps q) moved ∙ rank_promoted c.args.number q c.self.inside.cache.pages)
+    (subst (λ (ps : Pages). AreOf t.base.image ps) (sym now)
+    (of_read c.self.inside.cache.pages c.self.invariant.0.once t.base.image c.self.inside.cache.cap c.args.number slot.0 (found_page t.base.image c.self.inside.cache.pages c.args.number slot.0 slot.1 is.pages) is.pages)) in
+    subst (λ (cap : _). let h : Held = record { files = c.self.inside.files; pages = c.look.new.self.pages; cap = cap } in IsOpen w h t) (sym (ap (λ (k : Rattle.nb_cache.specs.Held.Held). k.cap) c.look.ensures.moved)) opened
 
 pub returns-then-look-clause-used : goal.returns-then-look-clause-used
-returns-then-look-clause-used g c low =
+returns-then-look-clause-used g c low drops =
     let slot = found_slot _ c.look.new.into c.args.into.now (sym c.look.ensures.found ∙ c.if-look.true) c.look.ensures.filled in
-    let now = found_used c.self.inside.cache c.look.new.self c.self.inside.files.page_size c.self.inside.files.page_size c.self.invariant refl c.args.number c.look.ensures.moved slot.0 slot.1 in
-    now ∙ ap (λ bytes. used c.self.inside.cache.pages c.self.inside.cache.cap c.args.number bytes) (sym slot.2) ∙ ap (λ (h : Held). used h.pages h.cap c.args.number c.look.new.into) c.self.view_is
+    let now = found_put c.self.inside.cache c.look.new.self c.self.inside.files.page_size c.self.inside.files.page_size c.self.invariant.0 refl c.args.number c.look.ensures.moved slot.0 slot.1 in
+    ap (λ (ps : Pages). bare ps) now ∙ bare_put c.args.number c.self.inside.cache.cap slot.0 c.self.inside.cache.pages
+    ∙ ap (λ bytes. used (bare c.self.inside.cache.pages) c.self.inside.cache.cap c.args.number bytes) (sym slot.2) ∙ ap (λ (h : Held). used (bare h.pages) h.cap c.args.number c.look.new.into) c.self.view_is
 
-pub invariant_of-self-2 : goal.invariant_of-self-2
-invariant_of-self-2 g c = valid_looked c.self.inside.cache c.look.new.self c.self.inside.files.page_size c.self.inside.files.page_size c.self.invariant refl c.args.number c.look.ensures.moved
+pub returns-then-look-clause-full : goal.returns-then-look-clause-full
+returns-then-look-clause-full g c full =
+    let slot = found_slot _ c.look.new.into c.args.into.now (sym c.look.ensures.found ∙ c.if-look.true) c.look.ensures.filled in
+    absurd (kept_drops c.self.inside.cache c.args.number slot.0 slot.1 (subst (λ (h : Held). IsSome (dropped (cache_of h) c.args.number)) (sym c.self.view_is) full))
+
+pub fetch-requires-clause-absent : goal.fetch-requires-clause-absent
+fetch-requires-clause-absent g c =
+    let none = missed_slot _ (sym c.look.ensures.found ∙ c.if-look.false) in
+    ap (λ (k : Rattle.nb_cache.specs.Held.Held). Rattle.nb_cache.specs.Held.slot_of k.pages c.args.number)
+    (missed_same c.self.inside.cache c.look.new.self c.self.inside.files.page_size c.self.inside.files.page_size c.self.invariant.0 refl c.args.number c.look.ensures.moved none) ∙ none
 
 pub returns-in_err-fetch-clause-open : goal.returns-in_err-fetch-clause-open
 returns-in_err-fetch-clause-open g c t tells given =
     let none = missed_slot _ (sym c.look.ensures.found ∙ c.if-look.false) in
-    let missed = missed_same c.self.inside.cache c.look.new.self c.self.inside.files.page_size c.self.inside.files.page_size c.self.invariant refl c.args.number c.look.ensures.moved none in
+    let missed = missed_same c.self.inside.cache c.look.new.self c.self.inside.files.page_size c.self.inside.files.page_size c.self.invariant.0 refl c.args.number c.look.ensures.moved none in
     let same = ap (λ (k : Rattle.nb_cache.specs.Held.Held). let h : Held = record { files = c.self.inside.files; pages = k.pages; cap = k.cap } in h) missed ∙ c.self.view_is in
     c.fetch.ensures.open t tells (subst (λ (h : Held). IsOpen (g.H.Host.world c.args.host.now) h t) (sym same) given)
 
 pub returns-in_err-fetch-clause-failed : goal.returns-in_err-fetch-clause-failed
 returns-in_err-fetch-clause-failed g c =
     let none = missed_slot _ (sym c.look.ensures.found ∙ c.if-look.false) in
-    let missed = missed_same c.self.inside.cache c.look.new.self c.self.inside.files.page_size c.self.inside.files.page_size c.self.invariant refl c.args.number c.look.ensures.moved none in
+    let missed = missed_same c.self.inside.cache c.look.new.self c.self.inside.files.page_size c.self.inside.files.page_size c.self.invariant.0 refl c.args.number c.look.ensures.moved none in
     let same = ap (λ (k : Rattle.nb_cache.specs.Held.Held). let h : Held = record { files = c.self.inside.files; pages = k.pages; cap = k.cap } in h) missed ∙ c.self.view_is in
     on_err c.from_residual.result _ (c.in_err-fetch.ensures.failed ∙ same)
+
+pub returns-in_err-fetch-clause-full : goal.returns-in_err-fetch-clause-full
+returns-in_err-fetch-clause-full g c full =
+    let none = missed_slot _ (sym c.look.ensures.found ∙ c.if-look.false) in
+    let missed = missed_same c.self.inside.cache c.look.new.self c.self.inside.files.page_size c.self.inside.files.page_size c.self.invariant.0 refl c.args.number c.look.ensures.moved none in
+    let same = ap (λ (k : Rattle.nb_cache.specs.Held.Held). let h : Held = record { files = c.self.inside.files; pages = k.pages; cap = k.cap } in h) missed ∙ c.self.view_is in
+    c.fetch.ensures.full (subst (λ (h : Held). IsSome (dropped (cache_of h) c.args.number)) (sym same) full) ∙ same
 
 pub returns-clause-page : goal.returns-clause-page
 returns-clause-page g c t tells given low =
     let none = missed_slot _ (sym c.look.ensures.found ∙ c.if-look.false) in
-    let missed = missed_same c.self.inside.cache c.look.new.self c.self.inside.files.page_size c.self.inside.files.page_size c.self.invariant refl c.args.number c.look.ensures.moved none in
+    let missed = missed_same c.self.inside.cache c.look.new.self c.self.inside.files.page_size c.self.inside.files.page_size c.self.invariant.0 refl c.args.number c.look.ensures.moved none in
     let same = ap (λ (k : Rattle.nb_cache.specs.Held.Held). let h : Held = record { files = c.self.inside.files; pages = k.pages; cap = k.cap } in h) missed ∙ c.self.view_is in
     c.in_ok-fetch.ensures.page t tells (subst (λ (h : Held). IsOpen (g.H.Host.world c.args.host.now) h t) (sym same) given) low
 
 pub returns-clause-open : goal.returns-clause-open
 returns-clause-open g c t tells given =
     let none = missed_slot _ (sym c.look.ensures.found ∙ c.if-look.false) in
-    let missed = missed_same c.self.inside.cache c.look.new.self c.self.inside.files.page_size c.self.inside.files.page_size c.self.invariant refl c.args.number c.look.ensures.moved none in
+    let missed = missed_same c.self.inside.cache c.look.new.self c.self.inside.files.page_size c.self.inside.files.page_size c.self.invariant.0 refl c.args.number c.look.ensures.moved none in
     let same = ap (λ (k : Rattle.nb_cache.specs.Held.Held). let h : Held = record { files = c.self.inside.files; pages = k.pages; cap = k.cap } in h) missed ∙ c.self.view_is in
     c.fetch.ensures.open t tells (subst (λ (h : Held). IsOpen (g.H.Host.world c.args.host.now) h t) (sym same) given)
 
 pub returns-clause-used : goal.returns-clause-used
-returns-clause-used g c low =
+returns-clause-used g c low drops =
     let none = missed_slot _ (sym c.look.ensures.found ∙ c.if-look.false) in
-    let missed = missed_same c.self.inside.cache c.look.new.self c.self.inside.files.page_size c.self.inside.files.page_size c.self.invariant refl c.args.number c.look.ensures.moved none in
+    let missed = missed_same c.self.inside.cache c.look.new.self c.self.inside.files.page_size c.self.inside.files.page_size c.self.invariant.0 refl c.args.number c.look.ensures.moved none in
     let same = ap (λ (k : Rattle.nb_cache.specs.Held.Held). let h : Held = record { files = c.self.inside.files; pages = k.pages; cap = k.cap } in h) missed ∙ c.self.view_is in
-    c.in_ok-fetch.ensures.used (subst (λ (h : Held). c.args.number < h.files.count) (sym same) low) ∙ ap (λ (h : Held). used h.pages h.cap c.args.number c.fetch.new.into) same
+    c.in_ok-fetch.ensures.used (subst (λ (h : Held). c.args.number < h.files.count) (sym same) low) (subst (λ (h : Held). dropped (cache_of h) c.args.number ≡ None) (sym same) drops)
+    ∙ ap (λ (h : Held). used (bare h.pages) h.cap c.args.number c.fetch.new.into) same
+
+pub returns-clause-full : goal.returns-clause-full
+returns-clause-full g c full =
+    let none = missed_slot _ (sym c.look.ensures.found ∙ c.if-look.false) in
+    let missed = missed_same c.self.inside.cache c.look.new.self c.self.inside.files.page_size c.self.inside.files.page_size c.self.invariant.0 refl c.args.number c.look.ensures.moved none in
+    let same = ap (λ (k : Rattle.nb_cache.specs.Held.Held). let h : Held = record { files = c.self.inside.files; pages = k.pages; cap = k.cap } in h) missed ∙ c.self.view_is in
+    c.fetch.ensures.full (subst (λ (h : Held). IsSome (dropped (cache_of h) c.args.number)) (sym same) full) ∙ same

@@ -1,7 +1,30 @@
-use Rattle.std.proofs.Common.{sym, subst}
-use Rattle.nb_base.specs.Open.{AreMerged}
+use Rattle.std.proofs.Common.{List, ℕ, [], ◌∷◌, inl, sym, subst, ap, ◌∙◌}
+use Rattle.nb_model.specs.Trail.{StandsIn, after_stroke}
+use Rattle.nb_base.specs.Open.{OfFiles, AreMerged}
+use Rattle.nb_base.specs.Takes.{Strikes}
+use Rattle.nb_base.proofs.WriteLaws.{not_done}
 use Rattle.nb_owner.specs.Open.{Held}
+use Rattle.nb_owner.proofs.OutLaws.{quiet_more}
 use Rattle.nb_owner.proofs.pair.Pair.sync.Goals as goal
 
-pub returns-clause-merged : goal.returns-clause-merged
-returns-clause-merged g c k merged = c.sync.ensures.merged k (subst (λ (h : Held). AreMerged (g.H.Host.world c.args.host.now) h.files k) (sym c.self.view_is) merged)
+pub returns-in_err-write_out-clause-takes : goal.returns-in_err-write_out-clause-takes
+returns-in_err-write_out-clause-takes g c t tells is = record { left = (c.write_out.ensures.takes t tells is).left; done = not_done c.from_residual.result _ c.from_residual.ensures.0 }
+
+pub returns-in_err-sync_files-clause-takes : goal.returns-in_err-sync_files-clause-takes
+returns-in_err-sync_files-clause-takes g c t tells is =
+    let first = c.in_ok-write_out.ensures.takes t tells is in
+    record {
+      left = quiet_more (g.H.Host.world c.args.host.now) (g.H.Host.world c.write_out.new.host) (g.H.Host.world c.sync_files.new.host) (OfFiles c.args.self.now.files.name) (StandsIn c.args.self.now.files.name t) first.left c.sync_files.ensures.quiet;
+      done = not_done c.from_residual-in_err-sync_files.result _ c.from_residual-in_err-sync_files.ensures.0;
+    }
+
+pub returns-clause-takes : goal.returns-clause-takes
+returns-clause-takes g c t tells is =
+    let first = c.in_ok-write_out.ensures.takes t tells is in
+    record {
+      left = quiet_more (g.H.Host.world c.args.host.now) (g.H.Host.world c.write_out.new.host) (g.H.Host.world c.sync_files.new.host) (OfFiles c.args.self.now.files.name) (StandsIn c.args.self.now.files.name t) first.left c.sync_files.ensures.quiet;
+      done = c.sync_files.ensures.open t tells first.done;
+    }
+
+pub returns-clause-settled : goal.returns-clause-settled
+returns-clause-settled g c t tells is = c.in_ok-sync_files.ensures.settled t tells (c.in_ok-write_out.ensures.takes t tells is).done

@@ -1,52 +1,129 @@
-use Rattle.std.proofs.Common.{[], ◌∷◌, refl, ap, sym, subst, ◌∙◌}
+use Rattle.std.proofs.Common.{◌≡◌, ◌<◌, ℕ, List, [], ◌∷◌, inl, inr, ⊎_elim, length, refl, sym, subst, ap, ◌∙◌, arith}
+use Rattle.std.specs.Prelude.{true, false, None, Some, is_some, nat_eq, Result, Ok, Err, IsErr, IsErrAnd}
+use Rattle.nb_host.specs.declared.faults.Fault.{Fault}
+use Rattle.std.proofs.lemmas.Bool.{true≢false}
+use Rattle.lru.specs.LruCache.{lru_cache, put_entries}
+use Rattle.nb_fields.specs.Places.{is_scn_place}
+use Rattle.nb_host.specs.World.{World}
+use Rattle.nb_change.proofs.ChangesLaws.{begun, weaker_has}
+use Rattle.nb_change.proofs.ReachedLaws.{strokes_composed}
+use Rattle.nb_change.specs.Changes.{Reached}
+use Rattle.nb_model.specs.Image.{image_size}
 use Rattle.nb_model.specs.Strokes.{page}
-use Rattle.nb_model.specs.Trail.{after_stroke}
+use Rattle.nb_model.specs.Trail.{Trail, StandsIn, after_stroke}
+use Rattle.nb_base.specs.Open.{OfFiles, AreMerged}
 use Rattle.nb_base.specs.Takes.{Strikes}
 use Rattle.nb_base.proofs.WriteLaws.{not_done}
-use Rattle.nb_owner.specs.Open.{Held, Pages, IsOpen, AreOf, used}
-use Rattle.nb_owner.proofs.OpenLaws.{of_written, none_dropped, kept_used, valid_kept}
+use Rattle.nb_cache.specs.Held.{Slot, rank_of, with_rank}
+use Rattle.nb_owner.specs.Open.{Held, Pages, IsOpen, cache_of, bare, used}
+use Rattle.nb_owner.proofs.RankLaws.{marked_bare, rank_marked, slot_kept}
+use Rattle.nb_owner.proofs.OpenLaws.{bare_put}
+use Rattle.nb_owner.proofs.OutLaws.{rank_normal}
+use Rattle.nb_owner.proofs.WaitLaws.{may_wait_parts, wait_open}
 use Rattle.nb_owner.proofs.pair.Pair.write.Goals as goal
 
-pub returns-in_err-write-clause-takes : goal.returns-in_err-write-clause-takes
-returns-in_err-write-clause-takes g c t tells given fits forced =
-    let old = g.H.Host.world c.args.host.now in
-    let new = g.H.Host.world c.write.new.host in
-    let is = subst (λ (h : Held). IsOpen old h t) (sym c.self.view_is) given in
+pub hold-requires-clause-normal : goal.hold-requires-clause-normal
+hold-requires-clause-normal g c = (may_wait_parts c.args.self.now c.args.number c.args.forced (sym c.may_wait.ensures.value ∙ c.if-may_wait.true)).1
+
+pub hold-requires-clause-drops_none : goal.hold-requires-clause-drops_none
+hold-requires-clause-drops_none g c = (may_wait_parts c.args.self.now c.args.number c.args.forced (sym c.may_wait.ensures.value ∙ c.if-may_wait.true)).4
+
+pub returns-then-may_wait-clause-takes : goal.returns-then-may_wait-clause-takes
+returns-then-may_wait-clause-takes g c t tells is fits forced =
+    let w = g.H.Host.world c.args.host.now in
+    let name = c.args.self.now.files.name in
+    let parts = may_wait_parts c.args.self.now c.args.number c.args.forced (sym c.may_wait.ensures.value ∙ c.if-may_wait.true) in
     record {
-      left = subst (λ (h : Held). Strikes old new h.files.name t (page c.args.number c.args.page.now ∷ [])) c.self.view_is (c.write.ensures.takes t tells is.files fits forced).left;
-      done = not_done c.from_residual.result _ c.from_residual.ensures.0;
+      left = begun w (OfFiles name) (Reached after_stroke (StandsIn name) t (page c.args.number c.args.page.now ∷ [])) (g.met.H.Host.timely c.args.host.now) (λ files all. inl (is.left files all));
+      done = subst (λ (h : Held). IsOpen w h (after_stroke (page c.args.number c.args.page.now) t)) (sym c.hold.ensures.held)
+          (wait_open w c.args.self.now t is c.may_wait.ensures.valid c.args.number _ c.args.page.now parts.2 parts.3 c.requires.most c.requires.some parts.1 (sym forced ∙ parts.0) parts.4
+          (ap (λ n. elim (is_scn_place n c.args.number) as (λ z. ℕ) [ true ↦ 2 | false ↦ 3 ]) is.agrees.page_size ∙ sym (rank_normal t.base.image c.args.number (sym is.agrees.state ∙ parts.1))));
     }
 
-pub keep-requires-clause-drops_none : goal.keep-requires-clause-drops_none
-keep-requires-clause-drops_none g c = none_dropped c.self.inside.cache c.args.number c.self.invariant.2
+pub returns-then-may_wait-clause-merged : goal.returns-then-may_wait-clause-merged
+returns-then-may_wait-clause-merged g c t k tells is fits merges merged =
+    let parts = may_wait_parts c.args.self.now c.args.number c.args.forced (sym c.may_wait.ensures.value ∙ c.if-may_wait.true) in
+    absurd (omega (arith, merges, parts.1))
 
-pub invariant_of-self-2 : goal.invariant_of-self-2
-invariant_of-self-2 g c =
-    valid_kept c.self.inside.cache c.keep.new.self c.self.inside.files.page_size c.write.new.self.page_size c.self.invariant c.write.ensures.page_size c.args.number c.args.page.now c.keep.ensures
+pub returns-then-may_wait-clause-waits : goal.returns-then-may_wait-clause-waits
+returns-then-may_wait-clause-waits g c may = (
+  refl,
+  refl,
+  ap (λ (h : Held). is_some (rank_of h.pages c.args.number)) c.hold.ensures.held
+      ∙ ap is_some (rank_marked c.args.number _ (put_entries nat_eq (lru_cache c.args.self.now.pages c.args.self.now.cap) c.args.number (record { bytes = c.args.page.now; rank = rank_of c.args.self.now.pages c.args.number }))
+      (slot_kept c.args.number (record { bytes = c.args.page.now; rank = rank_of c.args.self.now.pages c.args.number }) c.args.self.now.pages c.args.self.now.cap)),
+)
+
+pub returns-then-may_wait-clause-used : goal.returns-then-may_wait-clause-used
+returns-then-may_wait-clause-used g c =
+    ap (λ (h : Held). bare h.pages) c.hold.ensures.held
+    ∙ marked_bare c.args.number _ (put_entries nat_eq (lru_cache c.args.self.now.pages c.args.self.now.cap) c.args.number (record { bytes = c.args.page.now; rank = rank_of c.args.self.now.pages c.args.number }))
+    ∙ bare_put c.args.number c.args.self.now.cap (record { bytes = c.args.page.now; rank = rank_of c.args.self.now.pages c.args.number }) c.args.self.now.pages
+
+pub returns-in_err-write_out-clause-takes : goal.returns-in_err-write_out-clause-takes
+returns-in_err-write_out-clause-takes g c t tells is fits forced = record {
+  left = weaker_has (g.H.Host.world c.args.host.now) (g.H.Host.world c.write_out.new.host) (OfFiles c.args.self.now.files.name) _ _ (c.write_out.ensures.takes t tells is).left (λ files so. inl so);
+  done = not_done c.from_residual.result _ c.from_residual.ensures.0;
+}
+
+pub returns-in_err-write_out-clause-waits : goal.returns-in_err-write_out-clause-waits
+returns-in_err-write_out-clause-waits g c may = absurd (true≢false (sym may ∙ sym c.may_wait.ensures.value ∙ c.if-may_wait.false))
+
+pub returns-in_err-write_through-clause-takes : goal.returns-in_err-write_through-clause-takes
+returns-in_err-write_through-clause-takes g c t tells is fits forced =
+    let old = g.H.Host.world c.args.host.now in
+    let mid = g.H.Host.world c.write_out.new.host in
+    let new = g.H.Host.world c.write_through.new.host in
+    let name = c.args.self.now.files.name in
+    let first = c.in_ok-write_out.ensures.takes t tells is in
+    record {
+      left = strokes_composed after_stroke (StandsIn name) (OfFiles name) old mid new t [] (page c.args.number c.args.page.now ∷ []) first.left
+          (subst (λ (n : List ℕ). Strikes mid new n t (page c.args.number c.args.page.now ∷ [])) (ap (λ f. f.name) c.write_out.ensures.files) (c.write_through.ensures.takes t tells first.done fits forced).left);
+      done = not_done c.from_residual-in_err-write_through.result _ c.from_residual-in_err-write_through.ensures.0;
+    }
+
+pub returns-in_err-write_through-clause-waits : goal.returns-in_err-write_through-clause-waits
+returns-in_err-write_through-clause-waits g c may = absurd (true≢false (sym may ∙ sym c.may_wait.ensures.value ∙ c.if-may_wait.false))
 
 pub returns-clause-takes : goal.returns-clause-takes
-returns-clause-takes g c t tells given fits forced =
+returns-clause-takes g c t tells is fits forced =
     let old = g.H.Host.world c.args.host.now in
-    let new = g.H.Host.world c.write.new.host in
-    let is = subst (λ (h : Held). IsOpen old h t) (sym c.self.view_is) given in
-    let takes = c.in_ok-write.ensures.takes t tells is.files fits forced in
+    let mid = g.H.Host.world c.write_out.new.host in
+    let new = g.H.Host.world c.write_through.new.host in
+    let name = c.args.self.now.files.name in
+    let first = c.in_ok-write_out.ensures.takes t tells is in
+    let second = c.in_ok-write_through.ensures.takes t tells first.done fits forced in
     record {
-      left = subst (λ (h : Held). Strikes old new h.files.name t (page c.args.number c.args.page.now ∷ [])) c.self.view_is takes.left;
-      done = record {
-        files = takes.done;
-        pages = subst (λ (ps : Pages). AreOf (after_stroke (page c.args.number c.args.page.now) t).base.image ps)
-            (sym (kept_used c.self.inside.cache c.keep.new.self c.self.inside.files.page_size c.self.inside.files.page_size c.self.invariant refl c.args.number c.args.page.now c.keep.ensures))
-            (of_written c.self.inside.cache.pages c.self.invariant.1 t c.self.inside.cache.cap c.args.number c.args.page.now fits is.pages);
-      };
+      left = strokes_composed after_stroke (StandsIn name) (OfFiles name) old mid new t [] (page c.args.number c.args.page.now ∷ []) first.left
+          (subst (λ (n : List ℕ). Strikes mid new n t (page c.args.number c.args.page.now ∷ [])) (ap (λ f. f.name) c.write_out.ensures.files) second.left);
+      done = second.done;
     }
 
 pub returns-clause-merged : goal.returns-clause-merged
-returns-clause-merged g c t k tells given fits merges merged =
-    let old = g.H.Host.world c.args.host.now in
-    let is = subst (λ (h : Held). IsOpen old h t) (sym c.self.view_is) given in
-    c.in_ok-write.ensures.merged t k tells is.files fits (ap (λ (h : Held). h.files.state) c.self.view_is ∙ merges) (subst (λ (h : Held). Rattle.nb_base.specs.Open.AreMerged old h.files k) (sym c.self.view_is) merged)
+returns-clause-merged g c t k tells is fits merges merged =
+    let idle = c.write_out.ensures.outside (λ e. absurd (omega (arith, e, merges))) in
+    let first = c.in_ok-write_out.ensures.takes t tells is in
+    c.in_ok-write_through.ensures.merged t k tells first.done fits (ap (λ (h : Held). h.files.state) idle.1 ∙ merges)
+    (subst (λ (h : Held). AreMerged (g.H.Host.world c.write_out.new.host) h.files k) (sym idle.1) (subst (λ host. AreMerged (g.H.Host.world host) c.args.self.now.files k) (sym idle.2) merged))
+
+pub returns-clause-waits : goal.returns-clause-waits
+returns-clause-waits g c may = absurd (true≢false (sym may ∙ sym c.may_wait.ensures.value ∙ c.if-may_wait.false))
 
 pub returns-clause-used : goal.returns-clause-used
 returns-clause-used g c =
-    kept_used c.self.inside.cache c.keep.new.self c.self.inside.files.page_size c.self.inside.files.page_size c.self.invariant refl c.args.number c.args.page.now c.keep.ensures
-    ∙ ap (λ (h : Held). used h.pages h.cap c.args.number c.args.page.now) c.self.view_is
+    c.in_ok-write_through.ensures.used ∙ ap (λ ps. used ps c.write_out.new.self.cap c.args.number c.args.page.now) c.write_out.ensures.bare
+    ∙ ap (λ cap. used (bare c.args.self.now.pages) cap c.args.number c.args.page.now) c.write_out.ensures.cap
+
+-- what `?` passes on
+passed_on : {T : Type 0} (result : Result T Fault) (fault : Fault) → IsErr result × IsErrAnd result (λ f. f ≡ fault) → result ≡ Err fault
+passed_on (Ok value) fault is = absurd is.1
+passed_on (Err e) fault is = ap Err is.1
+
+pub returns-in_err-write_through-clause-on_memory : goal.returns-in_err-write_through-clause-on_memory
+returns-in_err-write_through-clause-on_memory g c t tells is memory =
+    let old = g.H.Host.world c.args.host.now in
+    let first = c.in_ok-write_out.ensures.takes t tells is in
+    let same = c.in_err-write_through.ensures.on_memory (sym (passed_on c.from_residual-in_err-write_through.result _ c.from_residual-in_err-write_through.ensures) ∙ memory) in (
+      subst (λ host. Strikes old (g.H.Host.world host) c.args.self.now.files.name t []) (sym same.1) first.left,
+      subst (λ (h : Held). IsOpen (g.H.Host.world c.write_through.new.host) h t) (sym same.0) (subst (λ host. IsOpen (g.H.Host.world host) c.write_out.new.self t) (sym same.1) first.done),
+    )

@@ -1,0 +1,34 @@
+-- While no SCN page waits, what the two files hold is what may be left of what was seen.
+use Rattle.std.proofs.Common.{◌≡◌, ℕ, List, refl, ap, ◌∙◌}
+use Rattle.std.specs.Prelude.{Ok}
+use Rattle.nb_host.specs.Files.{File, Files}
+use Rattle.nb_host.specs.World.{World}
+use Rattle.nb_change.proofs.ChangesLaws.{weaker_has}
+use Rattle.nb_change.proofs.ReachedLaws.{reached_weaker}
+use Rattle.nb_model.specs.Account.{Base}
+use Rattle.nb_model.specs.Owner.{delta_name, owner}
+use Rattle.nb_model.specs.Strokes.{Stroke}
+use Rattle.nb_model.specs.Trail.{Trail, settled, StandsOn, StandsIn, ShowsIn, after_stroke}
+use Rattle.nb_model.proofs.CoveredLaws.{firm_left}
+use Rattle.nb_model.proofs.TrailLaws.{itself_firm}
+use Rattle.nb_base.specs.Firm.{StandsFirmOn, StandsFirm}
+use Rattle.nb_base.specs.Open.{OfFiles}
+use Rattle.nb_base.specs.Takes.{StrikesFirm, Strikes}
+
+-- at a settled point they hold the database
+pub shows_firm : (name : List ℕ) (b : Base) (m d : File) → owner name m d ≡ Ok b → StandsFirmOn name (settled b) m d
+shows_firm name b m d opens = record { base = b; opens = opens; left = itself_firm (settled b) }
+
+pub firm_shows : (name : List ℕ) (b : Base) (m d : File) → StandsFirmOn name (settled b) m d → owner name m d ≡ Ok b
+firm_shows name b m d s = s.opens ∙ ap (λ (c : Base). Ok c) (s.left.rest.whole refl)
+
+-- and they may hold what was seen last
+pub last_firm : (name : List ℕ) (t : Trail) (files : Files) → ShowsIn name t.base files → StandsFirm name t files
+last_firm name t files shows = record { base = t.base; opens = shows; left = itself_firm t }
+
+pub stands_left : (name : List ℕ) (t : Trail) (m d : File) → StandsFirmOn name t m d → StandsOn name t m d
+stands_left name t m d s = record { base = s.base; opens = s.opens; left = firm_left t s.base s.left }
+
+pub strikes_left : (old new : World) (name : List ℕ) (t : Trail) (ss : List Stroke) → StrikesFirm old new name t ss → Strikes old new name t ss
+strikes_left old new name t ss is = weaker_has old new (OfFiles name) _ _ is
+    (λ files. reached_weaker after_stroke (StandsFirm name) (StandsIn name) t ss files (λ u. stands_left name u (files name) (files (delta_name name))))

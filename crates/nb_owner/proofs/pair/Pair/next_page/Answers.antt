@@ -1,0 +1,21 @@
+use Rattle.std.proofs.Common.{◌≡◌, ℕ, sym, ap, ◌∙◌}
+use Rattle.std.specs.Prelude.{None, Some}
+use Rattle.nb_cache.specs.Held.{GoesFirst, rank_of}
+use Rattle.nb_owner.specs.Open.{Held}
+use Rattle.nb_owner.proofs.RankLaws.{none_found}
+use Rattle.nb_owner.proofs.OpenLaws.{first_waits}
+use Rattle.nb_owner.proofs.pair.Pair.next_page.Goals as goal
+
+none_some : (r : ℕ) → None ≡ Some r → ⊥
+none_some r e = cc
+
+pub returns-in-Some-clause-next : goal.returns-in-Some-clause-next
+returns-in-Some-clause-next c =
+    let goes : GoesFirst c.self.inside.cache.pages c.in-Some.number c.in-Some.field-0-1 = c.in-Some.ensures in
+    (c.in-Some.field-0-1, sym (ap (λ (h : Held). rank_of h.pages c.in-Some.number) c.self.view_is) ∙ first_waits c.self.inside.cache.pages c.self.invariant.0.once c.in-Some.number c.in-Some.field-0-1 goes)
+
+pub returns-in-Some-clause-outside : goal.returns-in-Some-clause-outside
+returns-in-Some-clause-outside c stalled =
+    let goes : GoesFirst c.self.inside.cache.pages c.in-Some.number c.in-Some.field-0-1 = c.in-Some.ensures in
+    let none = c.self.invariant.2 (λ e. stalled (sym (ap (λ (h : Held). h.files.state) c.self.view_is) ∙ e)) in
+    absurd (none_some c.in-Some.field-0-1 (sym (none_found c.self.inside.cache.pages none c.in-Some.number) ∙ first_waits c.self.inside.cache.pages c.self.invariant.0.once c.in-Some.number c.in-Some.field-0-1 goes))

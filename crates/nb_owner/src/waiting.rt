@@ -1,0 +1,206 @@
+// Pages wait in memory where writes aren't forced, and go out by rank: SCN inventory pages first, which are kept for good before any
+// other page follows.
+ghost use Rattle.std.specs.Prelude.{◌≡◌, ◌≢◌, ◌<◌, ◌≤◌, ℕ, List, [], length, IsTrue, IsOk, OnOk, OnErr, MatchOption, Some, None, Option, true, false, nat_eq};
+ghost use Rattle.nb_fields.specs.Places.{is_page_size, is_scn_place};
+ghost use Rattle.nb_host.specs.Causes.{CountsFault};
+ghost use Rattle.nb_change.specs.Changes.{Changes};
+ghost use Rattle.nb_change.specs.Gave.{GaveNothing};
+ghost use Rattle.nb_model.specs.Account.{Base};
+ghost use Rattle.nb_model.specs.Image.{page_at, image_state};
+ghost use Rattle.nb_model.specs.Strokes.{page as page_stroke, on_base};
+ghost use Rattle.nb_model.specs.Trail.{Trail, IsFirm, StandsIn, ShowsIn};
+ghost use Rattle.nb_model.specs.Behind.{IsOnTheWay};
+ghost use Rattle.nb_base.specs.Open.{IsOpen as AreOpen, OfFiles};
+ghost use Rattle.nb_base.specs.Put.{MayPut, PutLeft};
+ghost use Rattle.nb_base.specs.Takes.{Takes};
+ghost use Rattle.nb_cache.specs.Held.{rank_of, with_rank, dropped, NoneWaits};
+ghost use Rattle.lru.specs.LruCache.{lru_cache, put_entries};
+ghost use Rattle.nb_owner.specs.Open.{IsOpen, AreOf, GoesOut, IsValid, NoScnWaits, may_wait, cache_of, bare};
+
+use crate::Pair;
+use nb_fields::is_scn_place;
+use nb_host::{Host, HostFault};
+
+/// The ranks of pages of the main file.
+const SCN_PAGE: u8 = 2;
+
+const OTHER_PAGE: u8 = 3;
+
+impl Pair {
+    /// Whether a write of page `number` waits.
+    pub(crate) fn may_wait(&self, number: u32, forced: bool) -> bool
+        ensures value { result ≡ may_wait self.now number forced }
+        ensures valid { IsValid (cache_of self.now) self.now.files.page_size }
+    {
+        !forced
+            && self.files.state() == 0
+            && number != 0
+            && number < self.files.count()
+            && self.cache.would_drop(number).is_none()
+    }
+
+    /// Has page `number` in memory, where it waits.
+    pub(crate) fn hold(&mut self, number: u32, page: &[u8])
+        requires size { length page.now ≡ self.old.files.page_size }
+        requires below { number < 1048576 }
+        requires normal { self.old.files.state ≡ 0 }
+        requires drops_none { dropped (cache_of self.old) number ≡ None }
+        ensures held { self.new ≡ record self.old {
+          pages = with_rank number (Some (elim (is_scn_place self.old.files.page_size number) [ true ↦ 2 | false ↦ 3 ]))
+              (put_entries nat_eq (lru_cache self.old.pages self.old.cap) number (record { bytes = page.now; rank = rank_of self.old.pages number }));
+        } }
+    {
+        let rank = if is_scn_place(self.files.page_size(), number) {
+            SCN_PAGE
+        } else {
+            OTHER_PAGE
+        };
+        self.cache.keep(number, page);
+        self.cache.dirty(number, rank);
+    }
+
+    /// The SCN page that goes out next, where one waits.
+    fn next_scn_page(&self) -> Option<u32>
+        ensures { MatchOption result ((p rank : ℕ) → rank_of self.now.pages p ≡ Some rank → 2 < rank) (λ p. (rank : ℕ) × (rank_of self.now.pages p ≡ Some rank) × (rank ≤ 2)) }
+    {
+        match self.cache.next_dirty() {
+            Some((number, rank)) => { if rank <= SCN_PAGE { Some(number) } else { None } }
+            None => None,
+        }
+    }
+
+    /// The page that goes out next, where one waits.
+    fn next_page(&self) -> Option<u32>
+        ensures next { MatchOption result (NoneWaits self.now.pages) (λ p. (rank : ℕ) × (rank_of self.now.pages p ≡ Some rank)) }
+        ensures outside { self.now.files.state ≢ 0 → result ≡ None }
+    {
+        match self.cache.next_dirty() {
+            Some((number, _)) => Some(number),
+            None => None,
+        }
+    }
+
+    /// Writes a page that waits into the file that owns it. It waits no longer then.
+    fn put_next<H: Host>(&mut self, host: &mut H, number: u32) -> Result<(), HostFault>
+        requires waits { (rank : ℕ) × (rank_of self.old.pages number ≡ Some rank) }
+        ensures left { (t : Trail) → IsTrue H.tells → AreOf t.base.image self.old.pages
+            → Changes (H.world host.old) (H.world host.new) (OfFiles self.old.files.name) (PutLeft (H.world host.old) self.old.files.name number (page_at t.base.image number)) }
+        ensures put { (t : Trail) (b : Base) → IsTrue H.tells → AreOf t.base.image self.old.pages → ShowsIn self.old.files.name b (H.world host.old).files → MayPut b number (page_at t.base.image number)
+            → OnOk result (ShowsIn self.old.files.name (on_base (page_stroke number (page_at t.base.image number)) b) (H.world host.new).files) }
+        ensures long { (t : Trail) → AreOf t.base.image self.old.pages → length (page_at t.base.image number) ≡ self.old.files.page_size }
+        ensures done { OnOk result (self.new ≡ record self.old { pages = with_rank number None self.old.pages }) }
+        ensures failed { OnErr result (self.new ≡ self.old) }
+        ensures gave { GaveNothing (H.world host.old) (H.world host.new) }
+        ensures reads { (H.world host.new).reads ≡ (H.world host.old).reads }
+        ensures cause { CountsFault result (H.faults host.old) (H.faults host.new) }
+    {
+        self.cache.peek(number, &mut self.page);
+        self.files.put_out(host, number, &self.page)?;
+        self.cache.clean(number);
+        Ok(())
+    }
+
+    /// Writes each SCN page that waits.
+    fn put_scn_pages<H: Host>(&mut self, host: &mut H) -> Result<(), HostFault>
+        ensures left { (f t : Trail) → IsTrue H.tells → GoesOut (H.world host.old) self.old f t (IsOnTheWay f t) → t.earlier ≢ []
+            → Changes (H.world host.old) (H.world host.new) (OfFiles self.old.files.name) (StandsIn self.old.files.name t) }
+        ensures out { (f t : Trail) → IsTrue H.tells → GoesOut (H.world host.old) self.old f t (IsOnTheWay f t) → t.earlier ≢ []
+            → OnOk result (GoesOut (H.world host.new) self.new f t (IsOnTheWay f t) × NoScnWaits t self.new.pages) }
+        ensures files { self.new.files ≡ self.old.files }
+        ensures bare { bare self.new.pages ≡ bare self.old.pages }
+        ensures cap { self.new.cap ≡ self.old.cap }
+        ensures gave { GaveNothing (H.world host.old) (H.world host.new) }
+        ensures reads { (H.world host.new).reads ≡ (H.world host.old).reads }
+        ensures cause { CountsFault result (H.faults host.old) (H.faults host.new) }
+    {
+        while let Some(number) = self.next_scn_page() {
+            self.put_next(host, number)?;
+        }
+        Ok(())
+    }
+
+    /// Writes each page that waits.
+    fn put_pages<H: Host>(&mut self, host: &mut H) -> Result<(), HostFault>
+        ensures left { (f t : Trail) → IsTrue H.tells → GoesOut (H.world host.old) self.old f t (IsFirm t) → NoScnWaits t self.old.pages
+            → Changes (H.world host.old) (H.world host.new) (OfFiles self.old.files.name) (StandsIn self.old.files.name t) }
+        ensures out { (f t : Trail) → IsTrue H.tells → GoesOut (H.world host.old) self.old f t (IsFirm t) → NoScnWaits t self.old.pages
+            → OnOk result (IsOpen (H.world host.new) self.new t) }
+        ensures none { OnOk result (NoneWaits self.new.pages) }
+        ensures files { self.new.files ≡ self.old.files }
+        ensures bare { bare self.new.pages ≡ bare self.old.pages }
+        ensures cap { self.new.cap ≡ self.old.cap }
+        ensures gave { GaveNothing (H.world host.old) (H.world host.new) }
+        ensures reads { (H.world host.new).reads ≡ (H.world host.old).reads }
+        ensures cause { CountsFault result (H.faults host.old) (H.faults host.new) }
+    {
+        while let Some(number) = self.next_page() {
+            self.put_next(host, number)?;
+        }
+        Ok(())
+    }
+
+    /// Writes the SCN pages that wait, and keeps them for good.
+    fn put_first<H: Host>(&mut self, host: &mut H) -> Result<(), HostFault>
+        ensures left { (t : Trail) → IsTrue H.tells → IsOpen (H.world host.old) self.old t → t.earlier ≢ [] → image_state t.base.image ≡ 0
+            → Changes (H.world host.old) (H.world host.new) (OfFiles self.old.files.name) (StandsIn self.old.files.name t) }
+        ensures out { (t : Trail) (is : IsOpen (H.world host.old) self.old t) → IsTrue H.tells → t.earlier ≢ [] → image_state t.base.image ≡ 0
+            → OnOk result (GoesOut (H.world host.new) self.new is.sees t (IsFirm t) × NoScnWaits t self.new.pages) }
+        ensures files { self.new.files ≡ self.old.files }
+        ensures bare { bare self.new.pages ≡ bare self.old.pages }
+        ensures cap { self.new.cap ≡ self.old.cap }
+        ensures gave { GaveNothing (H.world host.old) (H.world host.new) }
+        ensures reads { (H.world host.new).reads ≡ (H.world host.old).reads }
+        ensures cause { CountsFault result (H.faults host.old) (H.faults host.new) }
+    {
+        match self.next_scn_page() {
+            Some(_) => {
+                self.put_scn_pages(host)?;
+                self.files.sync(host)?;
+                Ok(())
+            }
+            None => Ok(()),
+        }
+    }
+
+    /// Writes all that waits, where something does.
+    fn put_all<H: Host>(&mut self, host: &mut H) -> Result<(), HostFault>
+        requires some { (p rank : ℕ) × (rank_of self.old.pages p ≡ Some rank) }
+        ensures takes { (t : Trail) → IsTrue H.tells → IsOpen (H.world host.old) self.old t
+            → Takes result (H.world host.old) (H.world host.new) self.old.files.name (IsOpen (H.world host.new) self.new) t [] }
+        ensures none { OnOk result (NoneWaits self.new.pages) }
+        ensures files { self.new.files ≡ self.old.files }
+        ensures bare { bare self.new.pages ≡ bare self.old.pages }
+        ensures cap { self.new.cap ≡ self.old.cap }
+        ensures gave { GaveNothing (H.world host.old) (H.world host.new) }
+        ensures reads { (H.world host.new).reads ≡ (H.world host.old).reads }
+        ensures cause { CountsFault result (H.faults host.old) (H.faults host.new) }
+    {
+        self.put_first(host)?;
+        self.put_pages(host)?;
+        Ok(())
+    }
+
+    /// Writes all that waits: SCN pages first, which are kept for good, and then the others. It changes no page of the database, and none
+    /// in memory. Where nothing waits it makes no call.
+    pub fn write_out<H: Host>(&mut self, host: &mut H) -> Result<(), HostFault>
+        ensures takes { (t : Trail) → IsTrue H.tells → IsOpen (H.world host.old) self.old t
+            → Takes result (H.world host.old) (H.world host.new) self.old.files.name (IsOpen (H.world host.new) self.new) t [] }
+        ensures none { OnOk result (NoneWaits self.new.pages) }
+        ensures idle { NoneWaits self.old.pages → IsOk result × (self.new ≡ self.old) × (host.new ≡ host.old) }
+        ensures outside { self.old.files.state ≢ 0 → IsOk result × (self.new ≡ self.old) × (host.new ≡ host.old) }
+        ensures files { self.new.files ≡ self.old.files }
+        ensures bare { bare self.new.pages ≡ bare self.old.pages }
+        ensures cap { self.new.cap ≡ self.old.cap }
+        ensures gave { GaveNothing (H.world host.old) (H.world host.new) }
+        ensures reads { (H.world host.new).reads ≡ (H.world host.old).reads }
+        ensures cause { CountsFault result (H.faults host.old) (H.faults host.new) }
+    {
+        match self.next_page() {
+            Some(_) => {
+                self.put_all(host)?;
+                Ok(())
+            }
+            None => Ok(()),
+        }
+    }
+}
