@@ -6,6 +6,7 @@ pub mod ControlLaws
 pub mod CreateLaws
 pub mod CreatedLaws
 pub mod EndLaws
+pub mod EnterLaws
 pub mod LeftLaws
 pub mod MakingLaws
 pub mod MergeLaws
@@ -15,6 +16,7 @@ pub mod OutcomeLaws
 pub mod OwnedLaws
 pub mod PageReads
 pub mod PlaceLaws
+pub mod SlotLaws
 pub mod StateLaws
 pub mod StepLaws
 pub mod StrokeLaws

@@ -1,6 +1,6 @@
 -- What is read of a main file, and of the image by the file that owns a page.
 use Rattle.std.proofs.Common.{◌≡◌, ◌≢◌, inl, inr, ℕ, zero, suc, ◌+◌, ◌-◌, ◌*◌, ◌<◌, ◌≤◌, List, [], ◌++◌, length, take, drop, replicate, refl, sym, ap, ◌∙◌, arith, length-append, length-take, suc-mul, mul-le-mul_right, le_of_mul-le-mul_right}
-use Rattle.std.specs.Prelude.{Bool, true, false, Some, None}
+use Rattle.std.specs.Prelude.{Bool, true, false, Option, Some, None}
 use Rattle.std.proofs.lemmas.Bool.Decides.{leb_tells}
 use Rattle.std.proofs.lemmas.List.{take_all, get_or_append_left, get_or-append_right}
 use Rattle.nb_fields.specs.Bytes.{is_zeros}
@@ -13,7 +13,7 @@ use Rattle.nb_model.specs.Image.{Page, Image, page_at, image_size, image_state, 
 use Rattle.nb_model.specs.Causes.{not_database}
 use Rattle.nb_host.specs.World.{World}
 use Rattle.nb_model.specs.Account.{Base}
-use Rattle.nb_model.specs.Trail.{Trail}
+use Rattle.nb_model.specs.Trail.{Trail, ShowsIn}
 use Rattle.nb_model.specs.Owner.{delta_name, entry_for, main_page, slot_page, owned_page}
 use Rattle.nb_model.proofs.FormLaws.{formed}
 use Rattle.nb_model.proofs.HeaderLaws.{header-long}
@@ -145,6 +145,36 @@ open_reads w held t o =
           let state : image_state h.main ≡ 1 = sym (base-state b (w.files held.name) d h) ∙ sym o.agrees.state ∙ stalled in
           let is : b.frozen ≡ h.main = h.frozen.stalled state in
           ap (λ (x : Image). main_page held.page_size x p) image ∙ main_here held.page_size h.main p (omega (arith, low, ap length is)) ∙ sym (ap (λ (x : Image). page_at x p) is);
+    }
+
+-- a page goes by its entry alone
+owned_same : (size : ℕ) (main : Image) (delta xs ys : List ℕ) (p : ℕ) → entry_for p xs ≡ entry_for p ys → owned_page size main delta xs p ≡ owned_page size main delta ys p
+unfolding owned_page
+owned_same size main delta xs ys p same = ap (λ (x : Option ℕ). elim x as (λ z. Page) [ Some k ↦ slot_page size main delta p k | None ↦ main_page size main p ]) same
+
+-- What the files of a database hold of a page, for whoever knows its entry.
+pub record ReadsPageOf (files : Files) (name : List ℕ) (size : ℕ) (entries : List ℕ) (b : Base) (p : ℕ) : Type 0 where
+  pub bytes : List ℕ
+  pub there : files name ≡ Some bytes
+  pub formed : not_database bytes ≡ None
+  pub sized : size_of bytes ≡ size
+  pub page : owned_page size (image_in bytes) (bytes_of (files (delta_name name))) entries p ≡ page_at b.image p
+
+pub base_reads : (files : Files) (name : List ℕ) (size : ℕ) (entries : List ℕ) (b : Base) (p : ℕ) → ShowsIn name b files → size ≡ image_size b.image → entry_for p entries ≡ entry_for p b.diverted → p < length b.image
+    → ReadsPageOf files name size entries b p
+base_reads files name size entries b p opens sized entry low =
+    let d : File = files (delta_name name) in
+    let h : Holds b (files name) d = holds name b (files name) d opens in
+    let image : image_in h.has.bytes ≡ h.main = laid_image h.main h.has.bytes h.has.laid in
+    let none : not_database h.has.bytes ≡ None = laid_formed h.main h.has.bytes h.has.laid in
+    let same : image_size h.main ≡ size = sym (base-size b (files name) d h) ∙ sym sized in
+    record {
+      bytes = h.has.bytes;
+      there = h.has.there;
+      formed = none;
+      sized = sym (bytes-size h.has.bytes none) ∙ ap image_size image ∙ same;
+      page = ap (λ (x : Image). owned_page size x (bytes_of d) entries p) image ∙ ap (λ n. owned_page n h.main (bytes_of d) entries p) (sym same) ∙ owned_same (image_size h.main) h.main (bytes_of d) entries b.diverted p entry
+          ∙ sym (base-page b (files name) d h p low);
     }
 
 -- what was read of a slot, by what the object of the difference file knows

@@ -1,4 +1,5 @@
 pub mod Firm
+pub mod Going
 pub mod Open
 pub mod Seen
 pub mod Takes

@@ -38,6 +38,6 @@ returns-clause-attaches g c tells =
     let size : length c.deref_mut.result.now ≡ c.in_ok-start.start.page_size = omega (arith, c.deref_mut.ensures.len, c.in_ok-page.ensures.len) in
     let main_count = c.in_ok-main_count.ensures.length tells file.bytes (ap (λ (f : Files). f name) met ∙ file.is) is.formed (sym is.page_size ∙ sym size) (is.pages ∙ ap (λ (k : ℕ). c.in_ok-start.start.pages * k) (sym size)) in
     read_attached name file.bytes c.in_ok-start.start is (old.files delta) c.in_ok-delta.delta answer _ old new file.is refl (c.in_ok-keep_files.ensures.quiet.still.files ∙ counted) c.copied.ensures
-    (ap (λ (d : Known). d.page_size) known ∙ c.in_ok-delta.ensures.known.page_size) refl (c.in_ok-count.ensures.count ∙ ap (λ (k : ℕ). max k (behind_entries c.in_ok-delta.delta.entries)) main_count) main_count (ap (λ (d : Known). d.entries) known)
+    (ap (λ (d : Known). d.page_size) known ∙ c.in_ok-delta.ensures.known.page_size) refl (c.in_ok-count.ensures.count ∙ ap (λ (k : ℕ). max k (behind_entries c.in_ok-delta.delta.entries)) main_count) main_count (ap (λ (d : Known). d.entries) known) (ap (λ (d : Known). d.drafted) known ∙ c.in_ok-delta.ensures.known.none_waits)
     (subst (λ (x : File). IsDurable new name x) (ap (λ (f : Files). f name) counted ∙ file.is) (c.in_ok-keep_files.ensures.main tells))
     (λ some. subst (λ (x : File). IsDurable new delta x) (ap (λ (f : Files). f delta) counted) (subst (λ (n : List ℕ). IsDurable new n ((g.H.Host.world c.count_with.new.host).files n)) c.delta-beside.ensures (c.in_ok-keep_files.ensures.delta tells some)))
