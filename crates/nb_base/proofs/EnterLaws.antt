@@ -253,13 +253,13 @@ module _ (w : World) (reads : (n : List ℕ) → Leaves w n (w.files n)) (held :
     left = way_left f t goes.behind s.base goes.unsettled s.is;
   }
     where
-      abbrev m : File
+      m : File
       m = before name
 
-      abbrev d_ : File
+      d_ : File
       d_ = before (delta_name name)
 
-      abbrev c : File
+      c : File
       c = files (delta_name name)
 
       h : Holds s.base (before held.name) (before (delta_name held.name))
@@ -318,7 +318,7 @@ module _ (w : World) (reads : (n : List ℕ) → Leaves w n (w.files n)) (held :
     drafted = refl;
   })
     where
-      abbrev c : File
+      c : File
       c = new.files (delta_name name)
 
       shown : (m : File) → Leaves w held.name m → owner held.name m (new.files (delta_name held.name)) ≡ Ok t.base

@@ -11,6 +11,7 @@ use Rattle.nb_host.specs.Crash.{LeavesAll}
 use Rattle.nb_host.specs.Moments.{IsTimely}
 use Rattle.nb_change.specs.Changes.{Changes, Only, Moved}
 use Rattle.nb_change.proofs.ChangesLaws.{begun, moved_on, weaker_has}
+use Rattle.nb_delta.specs.Known.{Known}
 use Rattle.nb_delta.specs.Slots.{HasTable, HasSlot, SlotStep, SlotPut, slot_page}
 use Rattle.nb_model.specs.Image.{Page, Image, page_at, first_page, image_size, image_state}
 use Rattle.nb_model.specs.Account.{Base}
@@ -122,9 +123,9 @@ module _ (w : World) (held : Held) (f t : Trail) (waits : ℕ → Bool) (seen : 
     reads = record {
       base = f.base;
       opens = seen.shows;
-      is = record { long = behind.long; first = behind.first; named = λ p k at no. clean p no; others = λ p none. refl; frozen = refl; diverted = refl };
+      is = record { long = behind.long; first = behind.first; named = λ p k at gone. clean p gone; others = λ p none. refl; frozen = refl; diverted = refl };
     };
-    slots = λ p k at late no. absurd (true≢false (sym (drafts p k at late) ∙ no));
+    slots = λ p k at late gone. absurd (true≢false (sym (drafts p k at late) ∙ gone));
     agrees = agrees;
     stalled = stalled;
     behind = behind;
@@ -265,9 +266,9 @@ module _ (w new : World) (held : Held) (f t : Trail) (waits : ℕ → Bool) (goe
                 is = subst (λ (x : Page). IsSlotted f t later (on_base (page p x) r)) (sym may.same) (record {
                   long = put_long r p (page_at t.base.image p) may.some inside ∙ is.long;
                   first = put_first r p (page_at t.base.image p) may.some inside ∙ is.first;
-                  named = λ q i e_q no. elim (eqb_tells q p) [
+                  named = λ q i e_q gone. elim (eqb_tells q p) [
                     | inl v ↦ slot_here t p k r may.some inside is_one is.first here q v.1
-                    | inr v ↦ slot_there t p k r may.some inside is_one is.first here q v.1 ∙ is.named q i e_q (sym (as_before q v.1) ∙ no)
+                    | inr v ↦ slot_there t p k r may.some inside is_one is.first here q v.1 ∙ is.named q i e_q (sym (as_before q v.1) ∙ gone)
                   ];
                   others = λ q none. elim (eqb_tells q p) [
                     | inl v ↦ absurd (none_some (sym none ∙ ap (entry_for q) (sym is.diverted) ∙ ap (λ n. entry_for n r.diverted) v.1 ∙ here))
@@ -285,9 +286,9 @@ module _ (w new : World) (held : Held) (f t : Trail) (waits : ℕ → Bool) (goe
                 is = record {
                   long = is.long;
                   first = is.first;
-                  named = λ q i e_q no. elim (eqb_tells q p) [
+                  named = λ q i e_q gone. elim (eqb_tells q p) [
                     | inl v ↦ absurd (none_some (sym e ∙ ap (λ n. entry_for n r.diverted) (sym v.1) ∙ ap (entry_for q) is.diverted ∙ e_q))
-                    | inr v ↦ is.named q i e_q (sym (as_before q v.1) ∙ no)
+                    | inr v ↦ is.named q i e_q (sym (as_before q v.1) ∙ gone)
                   ];
                   others = is.others;
                   frozen = is.frozen;
@@ -296,17 +297,17 @@ module _ (w new : World) (held : Held) (f t : Trail) (waits : ℕ → Bool) (goe
               }
 
       slots_next : (q j : ℕ) → entry_for q t.base.diverted ≡ Some j → length f.base.diverted ≤ j → later q ≡ false → HasPageIn held.page_size j (page_at t.base.image q) (new.files (delta_name held.name))
-      slots_next q j e late no = elim (eqb_tells q p) [
+      slots_next q j e late gone = elim (eqb_tells q p) [
         | inl v ↦
             let same : j ≡ k = some_same (sym e ∙ ap (λ n. entry_for n t.base.diverted) v.1 ∙ at) in
             subst (λ n. HasPageIn held.page_size n (page_at t.base.image q) c) (sym same) (record { whole = put.whole; same = put.slot ∙ may.same ∙ sym (ap (page_at t.base.image) v.1) })
         | inr v ↦
-            let old : HasPageIn held.page_size j (page_at t.base.image q) d = goes.slots q j e late (sym (as_before q v.1) ∙ no) in
+            let old : HasPageIn held.page_size j (page_at t.base.image q) d = goes.slots q j e late (sym (as_before q v.1) ∙ gone) in
             record { whole = longer (bytes_of d) (bytes_of c) _ old.whole put.no_shorter; same = put.others j (entry_apart p q k j t.base.diverted at e v.1) ∙ old.same }
       ]
         where
           longer : (a b : List ℕ) (n : ℕ) → n ≤ length a → length a ≤ length b → n ≤ length b
-          longer a b n low more = omega (arith, low, more)
+          longer a b n low grown = omega (arith, low, grown)
 
       pub slot_goes : GoesIn new held f t later
       slot_goes = record {
@@ -321,3 +322,16 @@ module _ (w new : World) (held : Held) (f t : Trail) (waits : ℕ → Bool) (goe
         plain = goes.plain;
         unsettled = goes.unsettled;
       }
+
+-- The same by what the object of the difference file knows.
+pub slot_changes : (old mid new : World) (main : List ℕ) (known delta : Known) (k : ℕ) (bytes : Page) → mid ≡ old → known ≡ delta → delta.name ≡ delta_name main
+    → Changes mid new (Only known.name) (Moved mid known.name (SlotStep known.page_size k bytes)) → Changes old new (Only (delta_name main)) (Moved old (delta_name main) (SlotStep delta.page_size k bytes))
+slot_changes old mid new main known delta k bytes same knows named changes =
+    subst (λ (n : List ℕ). Changes old new (Only n) (Moved old n (SlotStep delta.page_size k bytes))) named
+    (subst (λ (d : Known). Changes old new (Only d.name) (Moved old d.name (SlotStep d.page_size k bytes))) knows (subst (λ (w : World). Changes w new (Only known.name) (Moved w known.name (SlotStep known.page_size k bytes))) same changes))
+
+pub slot_puts : (old mid new : World) (main : List ℕ) (known delta : Known) (k : ℕ) (bytes : Page) → mid ≡ old → known ≡ delta → delta.name ≡ delta_name main
+    → SlotPut known.page_size k bytes (mid.files known.name) (new.files known.name) → SlotPut delta.page_size k bytes (old.files (delta_name main)) (new.files (delta_name main))
+slot_puts old mid new main known delta k bytes same knows named put =
+    subst (λ (n : List ℕ). SlotPut delta.page_size k bytes (old.files n) (new.files n)) named
+    (subst (λ (d : Known). SlotPut d.page_size k bytes (old.files d.name) (new.files d.name)) knows (subst (λ (w : World). SlotPut known.page_size k bytes (w.files known.name) (new.files known.name)) same put))

@@ -1,4 +1,4 @@
-ghost use Rattle.std.specs.Prelude.{◌≡◌, ◌<◌, ◌≤◌, ◌+◌, ℕ, List, [], ◌∷◌, length, slice_index, IsTrue, IfErr, OnOk, Option, false};
+ghost use Rattle.std.specs.Prelude.{◌≡◌, ◌≢◌, ◌<◌, ◌≤◌, ◌+◌, ℕ, List, [], ◌∷◌, length, slice_index, IsTrue, IfErr, OnOk, Option, false};
 ghost use Rattle.nb_fields.specs.Bytes.{is_zeros};
 ghost use Rattle.nb_fields.specs.Places.{is_page_size};
 ghost use Rattle.nb_fields.specs.Fresh.{fresh};
@@ -8,7 +8,7 @@ ghost use Rattle.nb_change.specs.Counts.{CountsDevice};
 ghost use Rattle.nb_change.specs.Gave.{GaveNothing};
 ghost use Rattle.nb_page.specs.Quiet.{Quiet};
 ghost use Rattle.nb_model.specs.Account.{Ask, Base};
-ghost use Rattle.nb_model.specs.Image.{page_at, image_scn, image_size, is_forced};
+ghost use Rattle.nb_model.specs.Image.{page_at, image_scn, image_size, image_state, is_forced};
 ghost use Rattle.nb_model.specs.Owner.{entry_for};
 ghost use Rattle.nb_model.specs.Strokes.{page as page_stroke, begin as begin_stroke, ends, finish as finish_stroke};
 ghost use Rattle.nb_model.specs.Trail.{Trail, settled, ShowsIn};
@@ -74,6 +74,7 @@ impl TwoFiles {
     pub fn state(&self) -> u16
         ensures value { result ≡ self.now.state }
         ensures most { result ≤ 2 }
+        ensures stalled { result ≢ 1 → self.now.drafted ≡ 0 }
     {
         self.state
     }
@@ -208,7 +209,8 @@ impl TwoFiles {
         into: &mut [u8],
     ) -> Result<(), HostFault>
         requires size { length into.old ≡ self.old.page_size }
-        ensures page { (t : Trail) → IsTrue H.tells → IsOpen (H.world host.old) self.old t → self.old.state ≡ 1 → number < length t.base.frozen → OnOk result (into.new ≡ page_at t.base.frozen number) }
+        ensures page { (b : Base) → IsTrue H.tells → ShowsIn self.old.name b (H.world host.old).files → self.old.page_size ≡ image_size b.image → image_state b.image ≡ 1 → number < length b.frozen
+            → OnOk result (into.new ≡ page_at b.frozen number) }
         ensures open { (t : Trail) → IsTrue H.tells → IsOpen (H.world host.old) self.old t → IsOpen (H.world host.new) self.new t }
         ensures same { self.new ≡ self.old }
         ensures quiet { Quiet (H.world host.old) (H.world host.new) }

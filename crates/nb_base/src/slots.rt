@@ -29,11 +29,13 @@ impl TwoFiles {
         ensures no_call { host.new ≡ host.old }
         ensures only_memory { IfErr result (λ fault. (fault ≡ Memory) × (self.new ≡ self.old)) }
     {
-        let slot = self.delta.slot_of(host, number)?;
-        if slot.is_none() {
-            self.delta.draft(number)?;
+        match self.delta.slot_of(host, number)? {
+            Some(_) => Ok(()),
+            None => {
+                self.delta.draft(number)?;
+                Ok(())
+            }
         }
-        Ok(())
     }
 
     /// Writes page `number`, which has an entry, into its slot, in the stalled state. It isn't kept for good before the entries are.

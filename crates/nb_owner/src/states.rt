@@ -54,10 +54,31 @@ impl Pair {
         Ok(())
     }
 
-    /// Ends the stalled state: from now on the pages of the difference file may be merged back. Its state is then 2, and its SCN one
-    /// higher.
+    /// Ends the stalled state: what waits is written out, and from now on the pages of the difference file may be merged back. Its state is
+    /// then 2, and its SCN one higher.
     pub fn end<H: Host>(&mut self, host: &mut H) -> Result<(), HostFault>
         requires stalled { self.old.files.state ≡ 1 }
+        ensures takes { (t : Trail) → IsTrue H.tells → IsOpen (H.world host.old) self.old t
+            → Takes result (H.world host.old) (H.world host.new) self.old.files.name (IsOpen (H.world host.new) self.new) t (ends ∷ []) }
+        ensures others { OnOk result (bare self.new.pages ≡ bare (behind_first self.old.pages)) }
+        ensures cap { self.new.cap ≡ self.old.cap }
+        ensures gave { GaveNothing (H.world host.old) (H.world host.new) }
+        ensures state { OnOk result (self.new.files.state ≡ 2) }
+        ensures name { self.new.files.name ≡ self.old.files.name }
+        ensures page_size { self.new.files.page_size ≡ self.old.files.page_size }
+        ensures entries { self.new.files.entries ≡ self.old.files.entries }
+        ensures cause { CountsFault result (H.faults host.old) (H.faults host.new) }
+    {
+        self.write_out(host)?;
+        self.end_files(host)?;
+        Ok(())
+    }
+
+    /// Ends the stalled state, where no page waits.
+    fn end_files<H: Host>(&mut self, host: &mut H) -> Result<(), HostFault>
+        requires stalled { self.old.files.state ≡ 1 }
+        requires none { NoneWaits self.old.pages }
+        requires no_drafts { self.old.files.drafted ≡ 0 }
         ensures takes { (t : Trail) → IsTrue H.tells → IsOpen (H.world host.old) self.old t
             → Takes result (H.world host.old) (H.world host.new) self.old.files.name (IsOpen (H.world host.new) self.new) t (ends ∷ []) }
         ensures others { OnOk result (self.new.pages ≡ behind_first self.old.pages) }
