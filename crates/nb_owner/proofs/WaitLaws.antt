@@ -1,5 +1,5 @@
 -- What is open while pages wait, and that one more waits.
-use Rattle.std.proofs.Common.{◌≡◌, ◌≢◌, inl, inr, ℕ, suc, ◌+◌, ◌<◌, ◌≤◌, List, [], ◌∷◌, ◌++◌, length, refl, sym, ap, subst, ◌∙◌, arith, append_assoc, length-append}
+use Rattle.std.proofs.Common.{◌≡◌, ◌≢◌, inl, inr, ⊎_elim, ℕ, suc, ◌+◌, ◌<◌, ◌≤◌, List, [], ◌∷◌, ◌++◌, length, refl, sym, ap, subst, ◌∙◌, arith, append_assoc, length-append}
 use Rattle.std.specs.Prelude.{Bool, true, false, ◌==◌, ◌&&◌, not, nat_eq, nat_lt, Option, Some, None, is_some}
 use Rattle.std.specs.List.{AllByRecursion, IsDistinct}
 use Rattle.std.specs.Map.{keys_of}
@@ -26,11 +26,12 @@ use Rattle.nb_model.proofs.WayLaws.{same_pages, put_same, put_other, put_first, 
 use Rattle.nb_base.specs.Open.{IsOpen as AreOpen, Agrees}
 use Rattle.nb_base.specs.Firm.{StandsFirm}
 use Rattle.nb_base.specs.Seen.{IsSeen}
+use Rattle.nb_base.specs.Going.{Drafts}
 use Rattle.nb_base.proofs.LeftLaws.{stroke-stalled, noted-there, noted-new}
 use Rattle.nb_base.proofs.MergingLaws.{seen_quiet}
 use Rattle.nb_base.proofs.OwnedLaws.{entry-first, entry-later, entry-added, entry-front, entry_at, later}
 use Rattle.nb_cache.specs.Held.{Slot, slot_of, rank_of, with_rank, dropped, NoneWaits}
-use Rattle.nb_owner.specs.Open.{Held, Pages, AreOf, waits, IsWaiting, AreDrafted, Waits, IsOpen, IsValid, may_wait, cache_of}
+use Rattle.nb_owner.specs.Open.{Held, Pages, AreOf, waits, IsWaiting, AreDrafted, Waits, IsOpen, IsValid, may_wait, cache_of, rank_in}
 use Rattle.nb_owner.proofs.UsedLaws.{All-put}
 use Rattle.nb_owner.proofs.RankLaws.{rank_kept, rank_kept_other, rank_marked, rank_marked_other, none_found, own_true, slot_kept, marked_of}
 
@@ -400,3 +401,39 @@ module _ (w : World) (held : Held) (t : Trail) (is : IsOpen w held t) (valid : I
       all_more : (qs : List ℕ) → AllByRecursion (λ q. waits marked q ≡ true) qs → AllByRecursion (λ q. waits marked q ≡ true) (qs ++ p ∷ [])
       all_more [] all = (ap is_some rank_own, tt)
       all_more (q ∷ qs) all = (all.0, all_more qs all.1)
+
+-- the rank by what is held of the files
+ranked_in : (files : Rattle.nb_base.specs.Open.Held) (b : Base) (p : ℕ) → Agrees files b → rank_in files.state files.page_size p ≡ rank_for b.image p
+unfolding rank_for
+ranked_in files b p agrees = ap (λ n. rank_in n files.page_size p) agrees.state ∙ ap (λ n. rank_in (image_state b.image) n p) agrees.page_size
+
+-- A page is in memory, where it waits, and has an entry in the stalled state.
+module _ (w : World) (held : Held) (t : Trail) (is : IsOpen w held t) (valid : IsValid (cache_of held) held.files.page_size) (p : ℕ) (bytes : Page)
+    (some : 1 ≤ p) (low : p < held.files.count) (below : p < 1048576) (other : is_zeros bytes ≡ false) (early : held.files.state ≤ 1) (loose : is_forced t.base.image ≡ false) (drops_none : dropped (cache_of held) p ≡ None)
+    (after : Held)
+    (pages_are : after.pages ≡ with_rank p (Some (rank_in held.files.state held.files.page_size p)) (put_entries nat_eq (lru_cache held.pages held.cap) p (record { bytes = bytes; rank = rank_of held.pages p })))
+    (cap_is : after.cap ≡ held.cap) (normal : held.files.state ≡ 0 → after.files ≡ held.files) (drafts : held.files.state ≡ 1 → Drafts p held.files after.files) where
+  abbrev rank : ℕ
+  rank = rank_in held.files.state held.files.page_size p
+
+  abbrev pages : Pages
+  pages = with_rank p (Some (rank_in held.files.state held.files.page_size p)) (put_entries nat_eq (lru_cache held.pages held.cap) p (record { bytes = bytes; rank = rank_of held.pages p }))
+
+  ranked : rank_in held.files.state held.files.page_size p ≡ rank_for t.base.image p
+  ranked = ranked_in held.files t.base p is.agrees
+
+  with_files : (files : Rattle.nb_base.specs.Open.Held) → after.files ≡ files → IsOpen w (record { files = files; pages = pages; cap = held.cap }) (after_stroke (page p bytes) t) → IsOpen w after (after_stroke (page p bytes) t)
+  with_files files same opened = subst (λ (h : Held). IsOpen w h (after_stroke (page p bytes) t)) (λ i. record { files = sym same i; pages = sym pages_are i; cap = sym cap_is i }) opened
+
+  pub held_open : IsOpen w after (after_stroke (page p bytes) t)
+  held_open = elim (eqb_tells held.files.state 0) [
+    | inl e ↦ with_files held.files (normal e.1) (wait_main w held t is valid p rank bytes some low below other early loose drops_none ranked (λ stalled. absurd (omega (arith, e.1, stalled, is.agrees.state))))
+    | inr e ↦
+        let one : held.files.state ≡ 1 = omega (arith, e.1, early) in
+        let stalled : image_state t.base.image ≡ 1 = sym is.agrees.state ∙ one in
+        ⊎_elim
+        (λ has. with_files held.files has.1 (wait_there w held t is valid p rank bytes some low below other early loose drops_none ranked stalled has.0.0 (ap (entry_for p) (sym is.agrees.entries) ∙ has.0.1)))
+        (λ none. with_files (record held.files { entries = held.files.entries ++ p ∷ []; drafted = held.files.drafted + 1 }) none.1
+        (wait_new w held t is valid p rank bytes some low below other early loose drops_none ranked stalled (ap (entry_for p) (sym is.agrees.entries) ∙ none.0)))
+        (drafts one)
+  ]

@@ -21,3 +21,7 @@ returns-in_ok-put_all-in-Some-clause-idle g c none no_drafts = absurd (none_some
 
 pub returns-in_ok-put_all-in-Some-clause-outside : goal.returns-in_ok-put_all-in-Some-clause-outside
 returns-in_ok-put_all-in-Some-clause-outside g c merges = absurd (none_some (sym (c.next_page.ensures.merge merges) ∙ c.in-Some.is))
+
+pub returns-in_err-enter_rest-in-None-clause-takes : goal.returns-in_err-enter_rest-in-None-clause-takes
+returns-in_err-enter_rest-in-None-clause-takes g c t tells is =
+    record { left = (c.enter_rest.ensures.takes t tells is).left; done = not_done c.from_residual-in_err-enter_rest-in-None.result _ c.from_residual-in_err-enter_rest-in-None.ensures.0 }
