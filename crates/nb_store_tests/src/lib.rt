@@ -12,4 +12,6 @@ mod owner_tests;
 #[cfg(test)]
 mod sample;
 #[cfg(test)]
+mod stalled_tests;
+#[cfg(test)]
 mod state_tests;
