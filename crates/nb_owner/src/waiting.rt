@@ -24,6 +24,9 @@ use crate::Pair;
 use nb_fields::is_scn_place;
 use nb_host::{Fault, Host, HostFault};
 
+/// The backup state in which pages go into their slots.
+const STALLED: u16 = 1;
+
 /// The rank of a page that goes into its slot.
 const SLOT: u8 = 0;
 
@@ -65,7 +68,7 @@ impl Pair {
         ensures no_call { host.new ≡ host.old }
         ensures only_memory { IfErr result (λ fault. (fault ≡ Memory) × (self.new ≡ self.old)) }
     {
-        if self.files.state() == 1 {
+        if self.files.state() == STALLED {
             self.files.draft(host, number)?;
             self.keep_waiting(number, page, SLOT);
             Ok(())
@@ -313,7 +316,7 @@ impl Pair {
         ensures reads { (H.world host.new).reads ≡ (H.world host.old).reads }
         ensures cause { CountsFault result (H.faults host.old) (H.faults host.new) }
     {
-        if self.files.state() == 1 {
+        if self.files.state() == STALLED {
             self.put_delta(host)?;
             Ok(())
         } else {

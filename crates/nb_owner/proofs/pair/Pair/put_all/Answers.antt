@@ -11,13 +11,13 @@ pub returns-in_err-put_main-clause-takes : goal.returns-in_err-put_main-clause-t
 returns-in_err-put_main-clause-takes g c t tells is =
     let waiting = is.waits.each c.requires.some.0 c.requires.some.1 c.requires.some.2 in
     let state = c.state.ensures.value ∙ ap (λ (h : Held). h.files.state) c.self.view_is ∙ is.agrees.state in
-    let normal : image_state t.base.image ≡ 0 = omega (arith, c.if-state-eq1.false, state, waiting.early) in
+    let normal : image_state t.base.image ≡ 0 = omega (arith, c.if-state-eq-STALLED.false, state, waiting.early) in
     record { left = (c.put_main.ensures.takes t tells is normal).left; done = not_done c.from_residual-in_err-put_main.result _ c.from_residual-in_err-put_main.ensures.0 }
 
 pub returns-in_ok-put_main-clause-takes : goal.returns-in_ok-put_main-clause-takes
 returns-in_ok-put_main-clause-takes g c t tells is =
     let waiting = is.waits.each c.requires.some.0 c.requires.some.1 c.requires.some.2 in
     let state = c.state.ensures.value ∙ ap (λ (h : Held). h.files.state) c.self.view_is ∙ is.agrees.state in
-    let normal : image_state t.base.image ≡ 0 = omega (arith, c.if-state-eq1.false, state, waiting.early) in
+    let normal : image_state t.base.image ≡ 0 = omega (arith, c.if-state-eq-STALLED.false, state, waiting.early) in
     let takes = c.in_ok-put_main.ensures.takes t tells is normal in
     record { left = takes.left; done = takes.done }
