@@ -213,38 +213,32 @@ fn in_file(host: &MemHost, number: usize) -> Result<u8, Fault> {
 
 /// A page is written with forced writes off: whether no call was made, what is seen of it, and what the file holds of it then and once
 /// it is written out.
-fn waited(alloc: Global) -> Result<(bool, [u8; 3]), Fault> {
-    let mut host = host_with(alloc)?;
-    let mut pair = Pair::attach(alloc, &mut host, &base_name()?, 4)?;
-    byte_of(&mut host, &mut pair, 6)?;
+fn waited(_: Global, host: &mut MemHost, pair: &mut Pair) -> Result<(bool, [u8; 3]), Fault> {
+    byte_of(host, pair, 6)?;
     let before = host.calls();
-    put(&mut host, &mut pair, 6, 5, false)?;
-    let seen = byte_of(&mut host, &mut pair, 6)?;
+    put(host, pair, 6, 5, false)?;
+    let seen = byte_of(host, pair, 6)?;
     let made_none = host.calls() == before;
-    let waits = in_file(&host, 6)?;
-    pair.write_out(&mut host)?;
-    Ok((made_none, [seen, waits, in_file(&host, 6)?]))
+    let waits = in_file(host, 6)?;
+    pair.write_out(host)?;
+    Ok((made_none, [seen, waits, in_file(host, 6)?]))
 }
 
 #[test]
 fn a_page_waits_and_goes_out(rt: HostRuntime) -> Result<(), Fail> {
-    assert_eq!(rt; waited(rt.alloc())?, (true, [5, 0, 5]));
+    assert_eq!(rt; on_new_base(rt.alloc(), 4, waited)?, (true, [5, 0, 5]));
     Ok(())
 }
 
 /// How reads of another page and of the page itself ask the host, where the one page that may be in memory waits.
-fn asked_beside(alloc: Global) -> Result<[(u64, u32); 2], Fault> {
-    let mut host = host_with(alloc)?;
-    let mut pair = Pair::attach(alloc, &mut host, &base_name()?, 1)?;
-    put(&mut host, &mut pair, 6, 5, false)?;
-    Ok([
-        asked(&mut host, &mut pair, 7)?,
-        asked(&mut host, &mut pair, 6)?,
-    ])
+fn asked_beside(_: Global, host: &mut MemHost, pair: &mut Pair) -> Result<[(u64, u32); 2], Fault> {
+    put(host, pair, 6, 5, false)?;
+    let other = asked(host, pair, 7)?;
+    Ok([other, asked(host, pair, 6)?])
 }
 
 #[test]
 fn a_read_drops_no_page_that_waits(rt: HostRuntime) -> Result<(), Fail> {
-    assert_eq!(rt; asked_beside(rt.alloc())?, [(1, 1), (0, 1)]);
+    assert_eq!(rt; on_new_base(rt.alloc(), 1, asked_beside)?, [(1, 1), (0, 1)]);
     Ok(())
 }
