@@ -127,3 +127,9 @@ returns-in_err-write_through-clause-on_memory g c t tells is memory =
       subst (λ host. Strikes old (g.H.Host.world host) c.args.self.now.files.name t []) (sym same.1) first.left,
       subst (λ (h : Held). IsOpen (g.H.Host.world c.write_through.new.host) h t) (sym same.0) (subst (λ host. IsOpen (g.H.Host.world host) c.write_out.new.self t) (sym same.1) first.done),
     )
+
+pub returns-in_err-write_through-clause-stays : goal.returns-in_err-write_through-clause-stays
+returns-in_err-write_through-clause-stays g c merges memory =
+    let idle = c.write_out.ensures.outside (λ e. absurd (omega (arith, e, merges))) in
+    let same = c.in_err-write_through.ensures.on_memory (sym (passed_on c.from_residual-in_err-write_through.result _ c.from_residual-in_err-write_through.ensures) ∙ memory) in
+    (same.0 ∙ idle.1, same.1 ∙ idle.2)
