@@ -1,8 +1,6 @@
 -- What is open while pages wait, and that one more waits.
-use Rattle.std.proofs.Common.{◌≡◌, ◌≢◌, inl, inr, ℕ, suc, ◌+◌, ◌<◌, ◌≤◌, List, [], ◌∷◌, length, refl, sym, ap, subst, ◌∙◌, arith}
+use Rattle.std.proofs.Common.{◌≡◌, ◌≢◌, inl, inr, ℕ, suc, ◌<◌, ◌≤◌, [], length, refl, sym, ap, subst, ◌∙◌, arith}
 use Rattle.std.specs.Prelude.{Bool, true, false, ◌==◌, ◌&&◌, not, nat_eq, nat_lt, Option, Some, None, is_some}
-use Rattle.std.specs.List.{AllByRecursion, IsDistinct}
-use Rattle.std.specs.Map.{keys_of}
 use Rattle.std.proofs.lemmas.Bool.{true≢false}
 use Rattle.std.proofs.lemmas.Bool.Decides.{eqb_tells, leb_tells}
 use Rattle.lru.specs.LruCache.{lru_cache, put_entries}
@@ -11,16 +9,13 @@ use Rattle.nb_fields.specs.Places.{is_scn_place}
 use Rattle.nb_fields.specs.Header.{is_header, state_of, size_of}
 use Rattle.nb_host.specs.Files.{Files}
 use Rattle.nb_host.specs.World.{World}
-use Rattle.nb_host.specs.Crash.{LeavesAll}
 use Rattle.std.specs.Option.{option_and_then}
 use Rattle.nb_page.specs.Quiet.{Quiet}
 use Rattle.nb_change.proofs.ChangesLaws.{all_before}
-use Rattle.nb_model.specs.Image.{Page, Image, page_at, first_page, image_size, image_state, is_forced}
+use Rattle.nb_model.specs.Image.{Page, Image, page_at, first_page, image_state, is_forced}
 use Rattle.nb_model.specs.Account.{Base}
-use Rattle.nb_model.specs.Owner.{delta_name}
 use Rattle.nb_model.specs.Strokes.{page, on_base}
-use Rattle.nb_model.specs.Trail.{Trail, after_stroke, StandsIn, ShowsIn}
-use Rattle.nb_model.specs.Behind.{IsBehind}
+use Rattle.nb_model.specs.Trail.{Trail, after_stroke, ShowsIn}
 use Rattle.nb_model.specs.Waiting.{rank_of as rank_for}
 use Rattle.nb_model.proofs.BehindLaws.{behind_left, behind_firm}
 use Rattle.nb_model.proofs.TrailLaws.{trail_base}
@@ -73,20 +68,31 @@ pub open_settled : (w : World) (held : Held) (t : Trail) → NoneWaits held.page
 open_settled w held t none files pages = open_of w held t t files (none_behind held.pages t none) pages
 
 -- and hold what was seen.
-pub files_open : (w : World) (held : Held) (t : Trail) → NoneWaits held.pages → IsOpen w held t → AreOpen w held.files t
-files_open w held t none is = record {
+pub files_shown : (w : World) (held : Held) (t : Trail) → ((p : ℕ) → waits held.pages p ≡ false) → IsOpen w held t → AreOpen w held.files t
+files_shown w held t none is = record {
   left = λ files all.
       let s : StandsFirm held.files.name is.sees files = is.files.left files all in
-      record { base = s.base; opens = s.opens; left = behind_firm is.sees t is.waits.behind (λ p at. is.waits.clean p (none_waits held.pages none p)) s.base s.left };
+      record { base = s.base; opens = s.opens; left = behind_firm is.sees t is.waits.behind (λ p at. is.waits.clean p (none p)) s.base s.left };
   shows = subst (λ (b : Base). ShowsIn held.files.name b w.files) same is.files.shows;
   agrees = is.agrees;
 }
   where
     image : is.sees.base.image ≡ t.base.image
-    image = same_pages is.sees.base.image t.base.image is.waits.behind.long (λ p. is.waits.clean p (none_waits held.pages none p))
+    image = same_pages is.sees.base.image t.base.image is.waits.behind.long (λ p. is.waits.clean p (none p))
 
     same : is.sees.base ≡ t.base
     same = λ i. record { image = image i; frozen = is.waits.behind.frozen i; diverted = is.waits.table i }
+
+pub files_open : (w : World) (held : Held) (t : Trail) → NoneWaits held.pages → IsOpen w held t → AreOpen w held.files t
+files_open w held t none is = files_shown w held t (none_waits held.pages none) is
+
+-- At a settled point no page waits.
+pub settled_none : (w : World) (held : Held) (t : Trail) → IsOpen w held t → t.earlier ≡ [] → (p : ℕ) → waits held.pages p ≡ false
+settled_none w held t is none p = by (rank_of held.pages p) refl
+  where
+    by : (o : Option ℕ) → rank_of held.pages p ≡ o → is_some o ≡ false
+    by None at = refl
+    by (Some rank) at = absurd ((is.waits.each p rank at).unsettled none)
 
 -- Calls that change nothing leave it open.
 pub files_quiet : (old new : World) (held : Rattle.nb_base.specs.Open.Held) (t : Trail) → Quiet old new → AreOpen old held t → AreOpen new held t

@@ -181,12 +181,13 @@ impl Pair {
     }
 
     /// Writes all that waits: SCN pages first, which are kept for good, and then the others. It changes no page of the database, and none
-    /// in memory. Where nothing waits it makes no call.
+    /// in memory. Where nothing waits it makes no call, and at a settled point nothing does.
     pub fn write_out<H: Host>(&mut self, host: &mut H) -> Result<(), HostFault>
         ensures takes { (t : Trail) → IsTrue H.tells → IsOpen (H.world host.old) self.old t
             → Takes result (H.world host.old) (H.world host.new) self.old.files.name (IsOpen (H.world host.new) self.new) t [] }
         ensures none { OnOk result (NoneWaits self.new.pages) }
         ensures idle { NoneWaits self.old.pages → IsOk result × (self.new ≡ self.old) × (host.new ≡ host.old) }
+        ensures at_settled { (t : Trail) → IsTrue H.tells → IsOpen (H.world host.old) self.old t → t.earlier ≡ [] → IsOk result × (self.new ≡ self.old) × (host.new ≡ host.old) }
         ensures outside { self.old.files.state ≢ 0 → IsOk result × (self.new ≡ self.old) × (host.new ≡ host.old) }
         ensures files { self.new.files ≡ self.old.files }
         ensures bare { bare self.new.pages ≡ bare self.old.pages }

@@ -231,12 +231,13 @@ impl Store {
         Ok(())
     }
 
-    /// Writes out what waits. It changes no page, and where nothing waits it makes no call.
+    /// Writes out what waits. It changes no page. Where nothing waits it makes no call, and at a settled point nothing does.
     pub fn write_out<H: Host>(&mut self, host: &mut H) -> Result<(), HostFault>
         ensures takes { (t : Trail) → IsTrue H.tells → IsOpen (H.world host.old) self.old t
             → Takes result (H.world host.old) (H.world host.new) (name_of self.old) (IsOpen (H.world host.new) self.new) t [] }
         ensures none { OnOk result (NoneWaits self.new.pages) }
         ensures idle { NoneWaits self.old.pages → IsOk result × (self.new ≡ self.old) × (host.new ≡ host.old) }
+        ensures at_settled { (t : Trail) → IsTrue H.tells → IsOpen (H.world host.old) self.old t → t.earlier ≡ [] → IsOk result × (self.new ≡ self.old) × (host.new ≡ host.old) }
         ensures same { but_pages self.new ≡ but_pages self.old }
         ensures gave { GaveNothing (H.world host.old) (H.world host.new) }
         ensures reads { (H.world host.new).reads ≡ (H.world host.old).reads }

@@ -1,21 +1,19 @@
-use Rattle.std.proofs.Common.{◌≡◌, ◌<◌, ℕ, List, [], ◌∷◌, inl, inr, ⊎_elim, length, refl, sym, subst, ap, ◌∙◌, arith}
-use Rattle.std.specs.Prelude.{true, false, None, Some, is_some, nat_eq, Result, Ok, Err, IsErr, IsErrAnd}
+use Rattle.std.proofs.Common.{◌≡◌, ℕ, List, [], ◌∷◌, inl, refl, sym, subst, ap, ◌∙◌, arith}
+use Rattle.std.specs.Prelude.{true, false, is_some, nat_eq, Result, Ok, Err, IsErr, IsErrAnd}
 use Rattle.nb_host.specs.declared.faults.Fault.{Fault}
 use Rattle.std.proofs.lemmas.Bool.{true≢false}
 use Rattle.lru.specs.LruCache.{lru_cache, put_entries}
 use Rattle.nb_fields.specs.Places.{is_scn_place}
-use Rattle.nb_host.specs.World.{World}
 use Rattle.nb_change.proofs.ChangesLaws.{begun, weaker_has}
 use Rattle.nb_change.proofs.ReachedLaws.{strokes_composed}
 use Rattle.nb_change.specs.Changes.{Reached}
-use Rattle.nb_model.specs.Image.{image_size}
 use Rattle.nb_model.specs.Strokes.{page}
-use Rattle.nb_model.specs.Trail.{Trail, StandsIn, after_stroke}
+use Rattle.nb_model.specs.Trail.{StandsIn, after_stroke}
 use Rattle.nb_base.specs.Open.{OfFiles, AreMerged}
 use Rattle.nb_base.specs.Takes.{Strikes}
 use Rattle.nb_base.proofs.WriteLaws.{not_done}
-use Rattle.nb_cache.specs.Held.{Slot, rank_of, with_rank}
-use Rattle.nb_owner.specs.Open.{Held, Pages, IsOpen, cache_of, bare, used}
+use Rattle.nb_cache.specs.Held.{rank_of}
+use Rattle.nb_owner.specs.Open.{Held, IsOpen, bare, used}
 use Rattle.nb_owner.proofs.RankLaws.{marked_bare, rank_marked, slot_kept}
 use Rattle.nb_owner.proofs.OpenLaws.{bare_put}
 use Rattle.nb_owner.proofs.OutLaws.{rank_normal}

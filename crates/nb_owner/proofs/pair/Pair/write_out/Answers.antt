@@ -1,4 +1,4 @@
-use Rattle.std.proofs.Common.{◌≡◌, ℕ, [], sym, ap, ◌∙◌}
+use Rattle.std.proofs.Common.{◌≡◌, ℕ, sym, ◌∙◌}
 use Rattle.std.specs.Prelude.{None, Some}
 use Rattle.nb_change.proofs.ChangesLaws.{begun}
 use Rattle.nb_model.specs.Trail.{StandsIn}
@@ -30,3 +30,9 @@ returns-in-None-clause-takes g c t tells is = record {
   left = begun (g.H.Host.world c.args.host.now) (OfFiles c.args.self.now.files.name) (StandsIn c.args.self.now.files.name t) (g.met.H.Host.timely c.args.host.now) is.left;
   done = is;
 }
+
+pub returns-in_err-put_all-in-Some-clause-at_settled : goal.returns-in_err-put_all-in-Some-clause-at_settled
+returns-in_err-put_all-in-Some-clause-at_settled g c t tells is none = absurd ((is.waits.each c.in-Some.field-0 c.in-Some.ensures.next.0 c.in-Some.ensures.next.1).unsettled none)
+
+pub returns-in_ok-put_all-in-Some-clause-at_settled : goal.returns-in_ok-put_all-in-Some-clause-at_settled
+returns-in_ok-put_all-in-Some-clause-at_settled g c t tells is none = absurd ((is.waits.each c.in-Some.field-0 c.in-Some.ensures.next.0 c.in-Some.ensures.next.1).unsettled none)

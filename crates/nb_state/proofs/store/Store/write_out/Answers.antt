@@ -1,4 +1,4 @@
-use Rattle.std.proofs.Common.{[], refl, sym, subst}
+use Rattle.std.proofs.Common.{[], refl, sym, subst, ap, ◌∙◌, true≢false}
 use Rattle.nb_base.specs.Open.{AreMerged}
 use Rattle.nb_base.specs.Takes.{Strikes}
 use Rattle.nb_base.proofs.WriteLaws.{not_done}
@@ -28,3 +28,18 @@ returns-clause-takes g c t tells given =
           let idle = c.write_out.ensures.outside apart in
           subst (λ host. AreMerged (g.H.Host.world host) c.write_out.new.self.files c.self.inside.merged) (sym idle.2) (subst (λ (p : Rattle.nb_owner.specs.Open.Held). AreMerged old p.files c.self.inside.merged) (sym idle.1) merged));
     }
+
+pub returns-in_err-write_out-clause-at_settled : goal.returns-in_err-write_out-clause-at_settled
+returns-in_err-write_out-clause-at_settled g c t tells given none =
+    let is = subst (λ (h : Held). IsOpen (g.H.Host.world c.args.host.now) h t) (sym c.self.view_is) given in
+    absurd (true≢false (sym (c.in_err-write_out.ensures.at_settled t tells is.files none).0))
+
+pub returns-clause-at_settled : goal.returns-clause-at_settled
+returns-clause-at_settled g c t tells given none =
+    let is = subst (λ (h : Held). IsOpen (g.H.Host.world c.args.host.now) h t) (sym c.self.view_is) given in
+    let same = c.in_ok-write_out.ensures.at_settled t tells is.files none in (
+      refl,
+      ap (λ (p : Rattle.nb_owner.specs.Open.Held). record { files = p.files; scn = c.self.inside.scn; guid = c.self.inside.guid; forced = c.self.inside.forced; read_only = c.self.inside.read_only; running = c.self.inside.running; merged = c.self.inside.merged; pages = p.pages; cap = p.cap })
+          same.1 ∙ c.self.view_is,
+      same.2,
+    )
