@@ -9,8 +9,8 @@ ghost use Rattle.nb_model.specs.Image.{page_at};
 ghost use Rattle.nb_model.specs.Lines.{flag};
 ghost use Rattle.nb_model.specs.Trail.{Trail, settled};
 ghost use Rattle.nb_base.specs.Takes.{Takes};
-ghost use Rattle.nb_state.specs.Open.{IsOpen, but_pages, name_of};
-ghost use Rattle.nb_cache.specs.Held.{slot_of, NoneWaits};
+ghost use Rattle.nb_state.specs.Open.{IsOpen, NoPageWaits, but_pages, name_of};
+ghost use Rattle.nb_cache.specs.Held.{slot_of};
 ghost use Rattle.nb_state.specs.Beginnings.{Attaches, Creates, HoldsNone};
 
 use crate::pages::{InventoryPage, ScnPage};
@@ -225,12 +225,13 @@ impl Engine {
         self.store.sync(host)
     }
 
-    /// Writes each page that waits into its file. It changes no page, and where none waits it makes no call.
+    /// Writes each page that waits into its file. It changes no page. Where none waits it makes no call, and at a settled point none does.
     pub fn write_out<H: Host>(&mut self, host: &mut H) -> Result<(), HostFault>
         ensures takes { (t : Trail) → IsTrue H.tells → IsOpen (H.world host.old) self.old t
             → Takes result (H.world host.old) (H.world host.new) (name_of self.old) (IsOpen (H.world host.new) self.new) t [] }
-        ensures none { OnOk result (NoneWaits self.new.pages) }
-        ensures idle { NoneWaits self.old.pages → IsOk result × (self.new ≡ self.old) × (host.new ≡ host.old) }
+        ensures none { OnOk result (NoPageWaits self.new) }
+        ensures idle { NoPageWaits self.old → IsOk result × (self.new ≡ self.old) × (host.new ≡ host.old) }
+        ensures at_settled { (t : Trail) → IsTrue H.tells → IsOpen (H.world host.old) self.old t → t.earlier ≡ [] → IsOk result × (self.new ≡ self.old) × (host.new ≡ host.old) }
         ensures same { but_pages self.new ≡ but_pages self.old }
         ensures gave { GaveNothing (H.world host.old) (H.world host.new) }
         ensures reads { (H.world host.new).reads ≡ (H.world host.old).reads }

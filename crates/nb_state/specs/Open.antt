@@ -5,6 +5,7 @@ use Rattle.nb_model.specs.Account.{Base}
 use Rattle.nb_model.specs.Image.{image_scn, image_guid, is_forced, is_read_only}
 use Rattle.nb_model.specs.Trail.{Trail}
 use Rattle.nb_base.specs.Open.{AreMerged}
+use Rattle.nb_cache.specs.Held.{NoneWaits}
 use Rattle.nb_owner.specs.Open.{Pages, IsOpen as IsPairOpen}
 
 -- What a contract sees of an open database.
@@ -33,6 +34,10 @@ name_of held = held.files.name
 -- its two files, and the pages in memory
 abbrev pub pair_of : Held → Rattle.nb_owner.specs.Open.Held
 pair_of held = record { files = held.files; pages = held.pages; cap = held.cap }
+
+-- no page waits in memory to be written
+abbrev pub NoPageWaits : Held → Type 0
+NoPageWaits held = NoneWaits held.pages
 
 -- all but which pages are in memory
 abbrev pub but_pages : Held → Held

@@ -12,9 +12,9 @@ ghost use Rattle.nb_model.specs.Strokes.{page as page_stroke};
 ghost use Rattle.nb_model.specs.Trail.{Trail, settled};
 ghost use Rattle.nb_base.specs.Open.{Fits};
 ghost use Rattle.nb_base.specs.Takes.{Takes, Strikes, IsNoRefusal};
-ghost use Rattle.nb_cache.specs.Held.{slot_of, NoneWaits};
+ghost use Rattle.nb_cache.specs.Held.{slot_of};
 ghost use Rattle.nb_owner.specs.Open.{may_wait};
-ghost use Rattle.nb_state.specs.Open.{IsOpen, but_pages, name_of, pair_of};
+ghost use Rattle.nb_state.specs.Open.{IsOpen, NoPageWaits, but_pages, name_of, pair_of};
 ghost use Rattle.nb_state.specs.Does.{Makes, Goes};
 
 use crate::front::front_of;
@@ -235,8 +235,8 @@ impl Store {
     pub fn write_out<H: Host>(&mut self, host: &mut H) -> Result<(), HostFault>
         ensures takes { (t : Trail) → IsTrue H.tells → IsOpen (H.world host.old) self.old t
             → Takes result (H.world host.old) (H.world host.new) (name_of self.old) (IsOpen (H.world host.new) self.new) t [] }
-        ensures none { OnOk result (NoneWaits self.new.pages) }
-        ensures idle { NoneWaits self.old.pages → IsOk result × (self.new ≡ self.old) × (host.new ≡ host.old) }
+        ensures none { OnOk result (NoPageWaits self.new) }
+        ensures idle { NoPageWaits self.old → IsOk result × (self.new ≡ self.old) × (host.new ≡ host.old) }
         ensures at_settled { (t : Trail) → IsTrue H.tells → IsOpen (H.world host.old) self.old t → t.earlier ≡ [] → IsOk result × (self.new ≡ self.old) × (host.new ≡ host.old) }
         ensures same { but_pages self.new ≡ but_pages self.old }
         ensures gave { GaveNothing (H.world host.old) (H.world host.new) }
