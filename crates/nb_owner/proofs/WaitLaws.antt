@@ -1,8 +1,7 @@
 -- What is open while pages wait, and that one more waits.
 use Rattle.std.proofs.Common.{◌≡◌, ◌≢◌, inl, inr, ⊎_elim, ℕ, suc, ◌+◌, ◌<◌, ◌≤◌, List, [], ◌∷◌, ◌++◌, length, refl, sym, ap, subst, ◌∙◌, arith, append_assoc, length-append}
 use Rattle.std.specs.Prelude.{Bool, true, false, ◌==◌, ◌&&◌, not, nat_eq, nat_lt, Option, Some, None, is_some}
-use Rattle.std.specs.List.{AllByRecursion, IsDistinct}
-use Rattle.std.specs.Map.{keys_of}
+use Rattle.std.specs.List.{AllByRecursion}
 use Rattle.std.proofs.lemmas.Bool.{true≢false}
 use Rattle.std.proofs.lemmas.Bool.Decides.{eqb_tells, leb_tells}
 use Rattle.std.proofs.lemmas.List.{append-nil}
@@ -17,8 +16,7 @@ use Rattle.nb_model.specs.Image.{Page, Image, page_at, first_page, image_size, i
 use Rattle.nb_model.specs.Account.{Base}
 use Rattle.nb_model.specs.Owner.{entry_for}
 use Rattle.nb_model.specs.Strokes.{page, on_base}
-use Rattle.nb_model.specs.Trail.{Trail, after_stroke, StandsIn, ShowsIn}
-use Rattle.nb_model.specs.Behind.{IsBehind}
+use Rattle.nb_model.specs.Trail.{Trail, after_stroke, ShowsIn}
 use Rattle.nb_model.specs.Waiting.{rank_of as rank_for}
 use Rattle.nb_model.proofs.BehindLaws.{behind_left, behind_firm}
 use Rattle.nb_model.proofs.TrailLaws.{trail_base}

@@ -1,4 +1,4 @@
-use Rattle.std.proofs.Common.{◌≡◌, sym, subst, ap, ◌∙◌}
+use Rattle.std.proofs.Common.{sym, subst, ◌∙◌}
 use Rattle.nb_cache.specs.Held.{NoneWaits}
 use Rattle.nb_owner.specs.Open.{Held, IsOpen}
 use Rattle.nb_owner.proofs.WaitLaws.{none_waits, none_drafted}

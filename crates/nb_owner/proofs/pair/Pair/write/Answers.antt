@@ -1,5 +1,5 @@
 use Rattle.std.proofs.Common.{◌≡◌, ℕ, List, [], ◌∷◌, inl, refl, sym, subst, ap, ◌∙◌, arith}
-use Rattle.std.specs.Prelude.{true, false, is_some, nat_eq, Result, Ok, Err, IsErr, IsErrAnd}
+use Rattle.std.specs.Prelude.{is_some, nat_eq, Result, Ok, Err, IsErr, IsErrAnd}
 use Rattle.nb_host.specs.declared.faults.Fault.{Fault}
 use Rattle.std.proofs.lemmas.Bool.{true≢false}
 use Rattle.lru.specs.LruCache.{lru_cache, put_entries}

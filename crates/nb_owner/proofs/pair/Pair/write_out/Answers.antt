@@ -1,4 +1,4 @@
-use Rattle.std.proofs.Common.{◌≡◌, ℕ, [], refl, sym, ap, ◌∙◌}
+use Rattle.std.proofs.Common.{◌≡◌, ℕ, [], refl, sym, ◌∙◌}
 use Rattle.std.specs.Prelude.{None, Some, Result, Err, IsOk}
 use Rattle.nb_host.specs.World.{World}
 use Rattle.nb_model.specs.Trail.{Trail}
