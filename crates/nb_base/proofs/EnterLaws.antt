@@ -1,35 +1,33 @@
 -- Drafted entries come into the table, once their slots are written: what a stop leaves meanwhile, and that the files hold what is seen then.
-use Rattle.std.proofs.Common.{◌≡◌, ◌≢◌, inl, inr, ⊎_elim, ℕ, zero, suc, ◌+◌, ◌<◌, ◌≤◌, List, [], ◌∷◌, ◌++◌, length, get_or, take, drop, refl, sym, ap, subst, ◌∙◌, arith, append_assoc, length-append}
-use Rattle.std.specs.Prelude.{Bool, true, false, Option, Some, None, Ok, nat_eq, max}
-use Rattle.std.specs.List.{IsDistinct}
+use Rattle.std.proofs.Common.{◌≡◌, inl, inr, ⊎_elim, ℕ, zero, suc, ◌<◌, ◌≤◌, List, [], ◌∷◌, ◌++◌, length, get_or, take, drop, refl, sym, ap, subst, ◌∙◌, arith, append_assoc, length-append}
+use Rattle.std.specs.Prelude.{Bool, false, Option, Some, None, Ok, max}
 use Rattle.std.proofs.lemmas.Bool.Decides.{eqb_tells, leb_tells}
 use Rattle.std.proofs.lemmas.List.{append-nil}
 use Rattle.nb_fields.specs.Header.{state_of, size_of}
 use Rattle.nb_fields.specs.Table.{page_in, slot_place}
 use Rattle.nb_host.specs.Files.{File, Files, bytes_of, with_file}
 use Rattle.nb_host.specs.World.{World}
-use Rattle.nb_host.specs.Crash.{Leaves, LeavesAll, IsDurable}
+use Rattle.nb_host.specs.Crash.{Leaves, IsDurable}
 use Rattle.nb_host.specs.Calls.{IsStill}
 use Rattle.nb_host.specs.Moments.{IsTimely, Passes}
 use Rattle.nb_change.specs.Changes.{Changes, Only, Moved}
 use Rattle.nb_change.proofs.MomentLaws.{left_before}
 use Rattle.nb_change.proofs.NameLaws.{with_file-same, with_file-other}
-use Rattle.nb_change.proofs.ChangesLaws.{begun, moved_on, left_with, still_more, all_before}
+use Rattle.nb_change.proofs.ChangesLaws.{begun, moved_on, left_with, still_more}
 use Rattle.nb_change.proofs.SettledLaws.{durable_is}
 use Rattle.nb_delta.specs.Entries.{AreEntries}
-use Rattle.nb_delta.specs.Slots.{HasTable, HasSlot, slot_page}
+use Rattle.nb_delta.specs.Slots.{HasTable, slot_page}
 use Rattle.nb_delta.specs.Waiting.{Waits, Stays, Fronts, FrontStep, HasAll}
-use Rattle.nb_model.specs.Image.{Page, Image, page_at, first_page, image_size, image_state}
+use Rattle.nb_model.specs.Image.{Image, page_at, first_page, image_size, image_state}
 use Rattle.nb_model.specs.Account.{Base}
-use Rattle.nb_model.specs.Owner.{delta_name, entry_for, behind_entries, slot_page as owned_slot, main_page, owned_page, owned, owner}
-use Rattle.nb_model.specs.Trail.{Trail, StandsIn, ShowsIn, IsLeft}
+use Rattle.nb_model.specs.Owner.{delta_name, entry_for, behind_entries, slot_page as owned_slot, owned, owner}
+use Rattle.nb_model.specs.Trail.{Trail, StandsIn}
 use Rattle.nb_model.specs.Behind.{IsOnTheWay, IsEntering}
 use Rattle.nb_model.proofs.BehindLaws.{way_left, enter_left}
 use Rattle.nb_model.proofs.OwnerLaws.{named}
 use Rattle.nb_model.proofs.TrailLaws.{itself_firm}
 use Rattle.nb_model.proofs.WayLaws.{same_pages}
-use Rattle.nb_base.specs.Firm.{StandsFirm}
-use Rattle.nb_base.specs.Open.{Held, Agrees, OfFiles, IsOpen}
+use Rattle.nb_base.specs.Open.{Held, OfFiles, IsOpen}
 use Rattle.nb_base.specs.Going.{StandsAs, HasPageIn, IsSlotted, GoesIn}
 use Rattle.nb_base.proofs.MergingLaws.{entry_named}
 use Rattle.nb_base.proofs.OwnedLaws.{Holds, holds, shows, base-length, base-page, base-state, base-size, owned-length, owned-page, owned-entry, owned-none, entry-front, entry-behind, entry-first, entry-later, later, slots_stay}

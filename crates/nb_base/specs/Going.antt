@@ -1,5 +1,5 @@
 -- Pages that waited go into their slots in the stalled state, and behind them the drafted entries into the table of the difference file.
-use Rattle.std.specs.Prelude.{◌≡◌, ◌≢◌, ◌⊎◌, ℕ, ◌+◌, ◌<◌, ◌≤◌, List, [], ◌∷◌, ◌++◌, length, Bool, true, false, Some, None}
+use Rattle.std.specs.Prelude.{◌≡◌, ◌≢◌, ◌⊎◌, ℕ, ◌+◌, ◌<◌, ◌≤◌, List, [], ◌∷◌, ◌++◌, length, Bool, false, Some, None}
 use Rattle.nb_fields.specs.Bytes.{is_zeros}
 use Rattle.nb_host.specs.Files.{File, Files}
 use Rattle.nb_host.specs.World.{World}

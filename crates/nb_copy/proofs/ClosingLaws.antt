@@ -3,7 +3,7 @@ use Rattle.std.proofs.Common.{◌≡◌, ◌≢◌, ◌⊎◌, inl, inr, ⊎_eli
 use Rattle.std.specs.Prelude.{None, Some, Result, Ok, Err, OnOk}
 use Rattle.nb_host.specs.Files.{File, Files, with_file}
 use Rattle.nb_host.specs.World.{World}
-use Rattle.nb_host.specs.Crash.{Leaves}
+use Rattle.nb_host.specs.Crash.{Leaves, LeavesAll}
 use Rattle.nb_host.specs.Calls.{IsStill}
 use Rattle.nb_host.specs.Moments.{IsTimely, Passes}
 use Rattle.nb_host.specs.declared.faults.Fault.{Fault}
@@ -11,6 +11,7 @@ use Rattle.nb_host.specs.declared.faults.Fault.TheVariants.{Device}
 use Rattle.nb_change.specs.Changes.{Changes, Only, Reached, Remade}
 use Rattle.nb_change.specs.Gave.{GaveNothing}
 use Rattle.nb_change.proofs.MomentLaws.{left_before}
+use Rattle.nb_change.proofs.CallLaws.{still_alone}
 use Rattle.nb_change.proofs.NameLaws.{with_file-other}
 use Rattle.nb_change.proofs.ChangesLaws.{left_with, weakened, composed_within}
 use Rattle.nb_change.proofs.ResultLaws.{on_ok}
@@ -29,8 +30,8 @@ use Rattle.nb_model.specs.Trail.{Trail, StandsIn, StandsOn, after_stroke}
 use Rattle.nb_model.proofs.PutSound.{header_whole}
 use Rattle.nb_base.specs.Open.{OfFiles}
 use Rattle.nb_base.specs.Takes.{Strikes, after_strokes}
-use Rattle.nb_base.proofs.StrokeLaws.{waits}
 use Rattle.nb_state.specs.Open.{Held, IsOpen, name_of}
+use Rattle.nb_state.proofs.ShownLaws.{open_beside}
 use Rattle.nb_state.specs.declared.turns.Progress.TheVariants.{More, Finished}
 use Rattle.nb_state.specs.Does.{WhereEnded, unless_by}
 use Rattle.nb_state.proofs.TurnLaws.{still_struck, struck_front}
@@ -76,7 +77,7 @@ module _ (old mid : World) (a : Held) (t : Trail) (is : IsOpen old a t) (timely 
   -- the clock failed
   pub close_waits : (time : ℕ) (xs : List Stroke) → Closes (Err Device) old mid a a t time xs
   close_waits time xs = record {
-    left = struck_front old mid (name_of a) t [] xs (waits old mid a.files t is.files timely still silent passes);
+    left = struck_front old mid (name_of a) t [] xs (still_alone old mid (OfFiles (name_of a)) (StandsIn (name_of a) t) timely still silent passes is.files.left);
     opened = tt;
     times = tt;
     guids = guids;
@@ -107,28 +108,23 @@ module _ (old mid : World) (a : Held) (t : Trail) (is : IsOpen old a t) (timely 
 
 -- The file of a backup of a database that is open.
 module _ (old : World) (a : Held) (t : Trail) (is : IsOpen old a t) (name whole : List ℕ) (apart : OfFiles (name_of a) name → ⊥) (reads : Leaves old name (old.files name)) where
-  -- what a stop leaves while the file alone is touched
+  -- what a stop leaves of the two files while the file alone is touched
+  own : (P : File → File → Type 0) → ((files : Files) → LeavesAll old files → P (files (name_of a)) (files (delta_name (name_of a)))) → (files : Files) → ((m : List ℕ) → m ≢ name → Leaves old m (files m))
+      → P (files (name_of a)) (files (delta_name (name_of a)))
+  own P left files others =
+      subst (λ (f : File). P f (files (delta_name (name_of a)))) (with_file-other files name (old.files name) (name_of a) (λ e. apart (inl (sym e))))
+      (subst (P (with_file files name (old.files name) (name_of a))) (with_file-other files name (old.files name) (delta_name (name_of a)) (λ e. apart (inr (sym e))))
+      (left (with_file files name (old.files name)) (left_with old name files (old.files name) others reads)))
+
   pub stands : (files : Files) → ((m : List ℕ) → m ≢ name → Leaves old m (files m)) → StandsIn (name_of a) t files
-  stands files others =
-      subst (λ (f : File). StandsOn (name_of a) t f (files (delta_name (name_of a)))) (with_file-other files name (old.files name) (name_of a) (λ e. apart (inl (sym e))))
-      (subst (λ (f : File). StandsOn (name_of a) t (with_file files name (old.files name) (name_of a)) f) (with_file-other files name (old.files name) (delta_name (name_of a)) (λ e. apart (inr (sym e))))
-      (is.files.left (with_file files name (old.files name)) (left_with old name files (old.files name) others reads)))
+  stands = own (StandsOn (name_of a) t) is.files.left
 
   module _ (mid : World) (file : Changes old mid (Only name) (Remade old name (IsUnfinishedOr whole))) where
     -- the database stays open
     pub open_other : a.files.state ≡ 1 → IsOpen mid a t
-    open_other stalled = record {
-      files = record {
-        left = λ files left. stands files (λ m other. left_before old mid _ file.others m (files m) other (left m));
-        shows = subst (λ (f : File). owner (name_of a) f (mid.files (delta_name (name_of a))) ≡ Ok t.base) (sym (file.others_read (name_of a) (λ e. apart (inl (sym e)))))
-            (subst (λ (f : File). owner (name_of a) (old.files (name_of a)) f ≡ Ok t.base) (sym (file.others_read (delta_name (name_of a)) (λ e. apart (inr (sym e))))) is.files.shows);
-        agrees = is.files.agrees;
-      };
-      pages = is.pages;
-      agrees = is.agrees;
-      merged = λ two. absurd (omega (arith, two, stalled));
-      most = λ two. absurd (omega (arith, two, stalled));
-    }
+    open_other stalled =
+        open_beside old mid a t is (file.others_read (name_of a) (λ e. apart (inl (sym e)))) (file.others_read (delta_name (name_of a)) (λ e. apart (inr (sym e))))
+        (λ P left files all. own P left files (λ m other. left_before old mid _ file.others m (files m) other (all m)))
 
     -- a turn that touched the file alone
     pub file_left : (xs : List Stroke) → Changes old mid (OfBackup name (name_of a)) (CloseLeft old name whole (name_of a) t xs)

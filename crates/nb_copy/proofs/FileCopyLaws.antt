@@ -53,13 +53,13 @@ laid_parts size main bytes laid same = record {
 
 pub frozen_parts : (w : World) (held : Held) (t : Trail) → IsOpen w held t → held.files.state ≡ 1 → IsFrozenOf held.files.page_size t.base.frozen
 frozen_parts w held t is stalled =
-    let b : Base = t.base in
+    let b : Base = is.files.sees.base in
     let m : File = w.files (name_of held) in
     let d : File = w.files (delta_name (name_of held)) in
-    let h : Holds b m d = holds (name_of held) b m d is.files.shows in
-    let state : image_state h.main ≡ 1 = sym (base-state b m d h) ∙ sym is.files.agrees.state ∙ stalled in
-    let size : image_size h.main ≡ held.files.page_size = sym (base-size b m d h) ∙ sym is.files.agrees.page_size in
-    subst (IsFrozenOf held.files.page_size) (sym (h.frozen.stalled state)) (laid_parts held.files.page_size h.main h.has.bytes h.has.laid size)
+    let h : Holds b m d = holds (name_of held) b m d is.files.files.shows in
+    let state : image_state h.main ≡ 1 = sym (base-state b m d h) ∙ sym is.files.files.agrees.state ∙ stalled in
+    let size : image_size h.main ≡ held.files.page_size = sym (base-size b m d h) ∙ sym is.files.files.agrees.page_size in
+    subst (IsFrozenOf held.files.page_size) (sym (h.frozen.stalled state) ∙ is.files.waits.behind.frozen) (laid_parts held.files.page_size h.main h.has.bytes h.has.laid size)
 
 -- a copy that begins
 abbrev copying : Seen → (session : ℕ) (name : List ℕ) → Outcome

@@ -1,13 +1,15 @@
-ghost use Rattle.std.specs.Prelude.{◌≡◌, ◌+◌, ◌<◌, ◌≤◌, IsTrue, IsSome, IsOk, IfOk, OnOk, length};
+ghost use Rattle.std.specs.Prelude.{◌≡◌, ◌+◌, ◌<◌, ◌≤◌, [], IsTrue, IsSome, IsOk, IfOk, OnOk, length};
 ghost use Rattle.nb_fields.specs.Places.{is_page_size};
 ghost use Rattle.nb_fields.specs.Fresh.{fresh};
 ghost use Rattle.nb_host.specs.Causes.{CountsFault};
 ghost use Rattle.nb_change.specs.Counts.{CountsDevice};
+ghost use Rattle.nb_change.specs.Gave.{GaveNothing};
 ghost use Rattle.nb_page.specs.Quiet.{Quiet};
 ghost use Rattle.nb_model.specs.Image.{page_at};
 ghost use Rattle.nb_model.specs.Lines.{flag};
 ghost use Rattle.nb_model.specs.Trail.{Trail, settled};
-ghost use Rattle.nb_state.specs.Open.{IsOpen, but_pages};
+ghost use Rattle.nb_base.specs.Takes.{Takes};
+ghost use Rattle.nb_state.specs.Open.{IsOpen, NoPageWaits, but_pages, name_of};
 ghost use Rattle.nb_cache.specs.Held.{slot_of};
 ghost use Rattle.nb_state.specs.Beginnings.{Attaches, Creates, HoldsNone};
 
@@ -210,13 +212,31 @@ impl Engine {
         self.store.read_main(host, number, into)
     }
 
-    /// Keeps the database for good. It changes nothing.
+    /// Keeps the database for good, with each page that waits. It changes no page.
     pub fn sync<H: Host>(&mut self, host: &mut H) -> Result<(), HostFault>
+        ensures takes { (t : Trail) → IsTrue H.tells → IsOpen (H.world host.old) self.old t
+            → Takes result (H.world host.old) (H.world host.new) (name_of self.old) (IsOpen (H.world host.new) self.new) t [] }
         ensures settled { (t : Trail) → IsTrue H.tells → IsOpen (H.world host.old) self.old t → OnOk result (IsOpen (H.world host.new) self.new (settled t.base)) }
-        ensures same { self.new ≡ self.old }
-        ensures quiet { Quiet (H.world host.old) (H.world host.new) }
+        ensures same { but_pages self.new ≡ but_pages self.old }
+        ensures gave { GaveNothing (H.world host.old) (H.world host.new) }
+        ensures reads { (H.world host.new).reads ≡ (H.world host.old).reads }
         ensures cause { CountsFault result (H.faults host.old) (H.faults host.new) }
     {
         self.store.sync(host)
+    }
+
+    /// Writes each page that waits into its file. It changes no page. Where none waits it makes no call, and at a settled point none does.
+    pub fn write_out<H: Host>(&mut self, host: &mut H) -> Result<(), HostFault>
+        ensures takes { (t : Trail) → IsTrue H.tells → IsOpen (H.world host.old) self.old t
+            → Takes result (H.world host.old) (H.world host.new) (name_of self.old) (IsOpen (H.world host.new) self.new) t [] }
+        ensures none { OnOk result (NoPageWaits self.new) }
+        ensures idle { NoPageWaits self.old → IsOk result × (self.new ≡ self.old) × (host.new ≡ host.old) }
+        ensures at_settled { (t : Trail) → IsTrue H.tells → IsOpen (H.world host.old) self.old t → t.earlier ≡ [] → IsOk result × (self.new ≡ self.old) × (host.new ≡ host.old) }
+        ensures same { but_pages self.new ≡ but_pages self.old }
+        ensures gave { GaveNothing (H.world host.old) (H.world host.new) }
+        ensures reads { (H.world host.new).reads ≡ (H.world host.old).reads }
+        ensures cause { CountsFault result (H.faults host.old) (H.faults host.new) }
+    {
+        self.store.write_out(host)
     }
 }

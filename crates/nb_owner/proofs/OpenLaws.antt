@@ -1,9 +1,9 @@
 -- What is in memory is what was seen last, behind each call.
-use Rattle.std.proofs.Common.{◌≡◌, ◌⊎◌, inl, inr, ⊎_elim, ℕ, zero, suc, ◌+◌, ◌-◌, ◌<◌, ◌≤◌, Bool, nat_eq, true, false, List, [], ◌∷◌, length, take, map, Option, Some, None, refl, sym, ap, subst, ◌∙◌, arith}
+use Rattle.std.proofs.Common.{◌≡◌, ⊎_elim, ℕ, zero, suc, ◌+◌, ◌-◌, ◌<◌, ◌≤◌, Bool, nat_eq, true, false, List, [], ◌∷◌, length, take, Option, Some, None, refl, sym, ap, subst, ◌∙◌, arith}
 use Rattle.std.specs.Prelude.{is_some, slice_get, MatchOption, Result, Ok, Err, OnErr, if◌then◌else◌}
 use Rattle.std.specs.Option.{option_and_then, option_map, option_map_or}
 use Rattle.std.specs.List.{IsDistinct}
-use Rattle.std.specs.Map.{keys_of, lookup, lookup_entry, remove_entry}
+use Rattle.std.specs.Map.{keys_of, lookup_entry, remove_entry}
 use Rattle.std.proofs.lemmas.Bool.{true≢false, eqb-false}
 use Rattle.lru.specs.LruCache.{lru_cache, promoted, put_entries}
 use Rattle.nb_model.specs.Image.{Page, Image, page_at, image_scn, image_guid, with_page}

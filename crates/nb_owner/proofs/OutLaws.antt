@@ -1,5 +1,5 @@
 -- The pages that wait go out: what a stop leaves at each moment, and what reads.
-use Rattle.std.proofs.Common.{◌≡◌, ◌≢◌, ◌⊎◌, inl, inr, ⊎_elim, ℕ, ◌<◌, ◌≤◌, List, [], length, refl, sym, ap, subst, ◌∙◌, arith}
+use Rattle.std.proofs.Common.{◌≡◌, ◌≢◌, inl, inr, ⊎_elim, ℕ, ◌<◌, ◌≤◌, List, [], length, refl, sym, ap, subst, ◌∙◌, arith}
 use Rattle.std.specs.Prelude.{Bool, true, false, Option, Some, None, is_some}
 use Rattle.std.proofs.lemmas.Bool.{true≢false}
 use Rattle.std.proofs.lemmas.Bool.Decides.{eqb_tells}
@@ -16,7 +16,7 @@ use Rattle.nb_model.specs.Image.{Page, Image, page_at, first_page, image_size, i
 use Rattle.nb_model.specs.Account.{Base}
 use Rattle.nb_model.specs.Strokes.{page, on_base}
 use Rattle.nb_model.specs.Trail.{Trail, settled, IsLeft, IsFirm, StandsIn, ShowsIn}
-use Rattle.nb_model.specs.Behind.{IsBehind, IsOnTheWay, IsRead}
+use Rattle.nb_model.specs.Behind.{IsOnTheWay, IsRead}
 use Rattle.nb_model.specs.Waiting.{rank_of as rank_for}
 use Rattle.nb_model.proofs.CoveredLaws.{firm_left}
 use Rattle.nb_model.proofs.BehindLaws.{behind_firm, way_left}
@@ -26,7 +26,7 @@ use Rattle.nb_base.specs.Firm.{StandsFirm}
 use Rattle.nb_base.specs.Put.{MayPut, PutLeft}
 use Rattle.nb_cache.specs.Held.{rank_of, with_rank, NoneWaits}
 use Rattle.nb_base.specs.Going.{StandsAs}
-use Rattle.nb_owner.specs.Open.{Held, Pages, AreOf, waits, IsWaiting, Waits, IsOpen, NoScnWaits, GoesOut}
+use Rattle.nb_owner.specs.Open.{Held, Pages, waits, IsWaiting, IsOpen, NoScnWaits, GoesOut}
 use Rattle.nb_owner.proofs.RankLaws.{rank_marked, rank_marked_other, waits_there, none_found, marked_of}
 use Rattle.nb_owner.proofs.WaitLaws.{agrees_same, plain_table}
 

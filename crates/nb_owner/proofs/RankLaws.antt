@@ -1,16 +1,16 @@
 -- Which pages wait, as one is kept, is marked, or is dropped.
-use Rattle.std.proofs.Common.{◌≡◌, ◌≢◌, inl, inr, ℕ, zero, suc, ◌+◌, ◌-◌, ◌<◌, ◌≤◌, List, [], ◌∷◌, length, take, map, refl, sym, ap, subst, ◌∙◌, arith}
+use Rattle.std.proofs.Common.{◌≡◌, ◌≢◌, inl, inr, ℕ, zero, suc, ◌+◌, ◌-◌, ◌<◌, ◌≤◌, List, [], ◌∷◌, length, take, refl, sym, ap, subst, ◌∙◌, arith}
 use Rattle.std.specs.Prelude.{Bool, true, false, nat_eq, Option, Some, None, is_some, if◌then◌else◌, slice_get, Contains}
 use Rattle.std.specs.List.{AllByRecursion, IsDistinct}
 use Rattle.std.specs.Option.{option_and_then, option_map, option_map_or}
-use Rattle.std.specs.Map.{keys_of, lookup, lookup_entry, remove_entry}
+use Rattle.std.specs.Map.{keys_of, lookup_entry, remove_entry}
 use Rattle.std.proofs.lemmas.Bool.{true≢false, eqb-true}
 use Rattle.std.proofs.lemmas.Bool.Decides.{eqb_tells}
 use Rattle.std.proofs.lemmas.Map.Keys.{IsDistinct-head, IsDistinct-tail}
 use Rattle.lru.specs.LruCache.{lru_cache, promoted, put_entries}
 use Rattle.lru.proofs.CallerLemmas.{Contains-lookup_entry}
 use Rattle.lru.proofs.Pairs.{lookup-lookup_entry}
-use Rattle.nb_model.specs.Image.{Image, page_at}
+use Rattle.nb_model.specs.Image.{Image}
 use Rattle.nb_cache.specs.Held.{Slot, slot_of, rank_of, with_rank, dropped, NoneWaits}
 use Rattle.nb_owner.specs.Open.{Pages, AreOf, bare}
 

@@ -1,8 +1,7 @@
 -- What is open while pages wait, and that one more waits.
 use Rattle.std.proofs.Common.{◌≡◌, ◌≢◌, inl, inr, ⊎_elim, ℕ, suc, ◌+◌, ◌<◌, ◌≤◌, List, [], ◌∷◌, ◌++◌, length, refl, sym, ap, subst, ◌∙◌, arith, append_assoc, length-append}
 use Rattle.std.specs.Prelude.{Bool, true, false, ◌==◌, ◌&&◌, not, nat_eq, nat_lt, Option, Some, None, is_some}
-use Rattle.std.specs.List.{AllByRecursion, IsDistinct}
-use Rattle.std.specs.Map.{keys_of}
+use Rattle.std.specs.List.{AllByRecursion}
 use Rattle.std.proofs.lemmas.Bool.{true≢false}
 use Rattle.std.proofs.lemmas.Bool.Decides.{eqb_tells, leb_tells}
 use Rattle.std.proofs.lemmas.List.{append-nil}
@@ -17,8 +16,7 @@ use Rattle.nb_model.specs.Image.{Page, Image, page_at, first_page, image_size, i
 use Rattle.nb_model.specs.Account.{Base}
 use Rattle.nb_model.specs.Owner.{entry_for}
 use Rattle.nb_model.specs.Strokes.{page, on_base}
-use Rattle.nb_model.specs.Trail.{Trail, after_stroke, StandsIn, ShowsIn}
-use Rattle.nb_model.specs.Behind.{IsBehind}
+use Rattle.nb_model.specs.Trail.{Trail, after_stroke, ShowsIn}
 use Rattle.nb_model.specs.Waiting.{rank_of as rank_for}
 use Rattle.nb_model.proofs.BehindLaws.{behind_left, behind_firm}
 use Rattle.nb_model.proofs.TrailLaws.{trail_base}
@@ -77,12 +75,12 @@ pub open_settled : (w : World) (held : Held) (t : Trail) → NoneWaits held.page
 open_settled w held t none files pages = open_of w held t t (record { left = files.left; shows = files.shows }) files.agrees (none_behind held.pages held.files.drafted t none files.drafted) pages
 
 -- no entry is drafted then, and the table is the one that is seen
-pub none_drafted : (es : Pages) (drafted : ℕ) (f t : Trail) → NoneWaits es → Waits es drafted f t → (drafted ≡ 0) × (f.base.diverted ≡ t.base.diverted)
+pub none_drafted : (es : Pages) (drafted : ℕ) (f t : Trail) → ((p : ℕ) → waits es p ≡ false) → Waits es drafted f t → (drafted ≡ 0) × (f.base.diverted ≡ t.base.diverted)
 none_drafted es drafted f t none is = by is.drafts.drafts is.drafts.all is.drafts.many is.drafts.wait
   where
     by : (xs : List ℕ) → t.base.diverted ≡ f.base.diverted ++ xs → length xs ≡ drafted → AllByRecursion (λ p. waits es p ≡ true) xs → (drafted ≡ 0) × (f.base.diverted ≡ t.base.diverted)
     by [] all many wait = (sym many, sym (all ∙ append-nil f.base.diverted))
-    by (x ∷ xs) all many wait = absurd (true≢false (sym wait.0 ∙ none_waits es none x))
+    by (x ∷ xs) all many wait = absurd (true≢false (sym wait.0 ∙ none x))
 
 -- where none is drafted the table is the one that is seen
 pub plain_table : (es : Pages) (drafted : ℕ) (f t : Trail) → drafted ≡ 0 → Waits es drafted f t → f.base.diverted ≡ t.base.diverted
@@ -93,11 +91,11 @@ plain_table es drafted f t no_drafts is = by is.drafts.drafts is.drafts.all is.d
     by (x ∷ xs) all many = absurd (omega (arith, many, no_drafts))
 
 -- The files hold what was seen then.
-pub files_open : (w : World) (held : Held) (t : Trail) → NoneWaits held.pages → IsOpen w held t → AreOpen w held.files t
-files_open w held t none is = record {
+pub files_shown : (w : World) (held : Held) (t : Trail) → ((p : ℕ) → waits held.pages p ≡ false) → IsOpen w held t → AreOpen w held.files t
+files_shown w held t none is = record {
   left = λ files all.
       let s : StandsFirm held.files.name is.sees files = is.files.left files all in
-      record { base = s.base; opens = s.opens; left = behind_firm is.sees t is.waits.behind (λ p at. is.waits.clean p (none_waits held.pages none p)) s.base s.left };
+      record { base = s.base; opens = s.opens; left = behind_firm is.sees t is.waits.behind (λ p at. is.waits.clean p (none p)) s.base s.left };
   shows = subst (λ (b : Base). ShowsIn held.files.name b w.files) same is.files.shows;
   agrees = is.agrees;
   drafted = both.0;
@@ -107,10 +105,21 @@ files_open w held t none is = record {
     both = none_drafted held.pages held.files.drafted is.sees t none is.waits
 
     image : is.sees.base.image ≡ t.base.image
-    image = same_pages is.sees.base.image t.base.image is.waits.behind.long (λ p. is.waits.clean p (none_waits held.pages none p))
+    image = same_pages is.sees.base.image t.base.image is.waits.behind.long (λ p. is.waits.clean p (none p))
 
     same : is.sees.base ≡ t.base
     same = λ i. record { image = image i; frozen = is.waits.behind.frozen i; diverted = both.1 i }
+
+pub files_open : (w : World) (held : Held) (t : Trail) → NoneWaits held.pages → IsOpen w held t → AreOpen w held.files t
+files_open w held t none is = files_shown w held t (none_waits held.pages none) is
+
+-- At a settled point no page waits.
+pub settled_none : (w : World) (held : Held) (t : Trail) → IsOpen w held t → t.earlier ≡ [] → (p : ℕ) → waits held.pages p ≡ false
+settled_none w held t is none p = by (rank_of held.pages p) refl
+  where
+    by : (o : Option ℕ) → rank_of held.pages p ≡ o → waits held.pages p ≡ false
+    by None at = ap is_some at
+    by (Some rank) at = absurd ((is.waits.each p rank at).unsettled none)
 
 -- Calls that change nothing leave it open.
 pub quiet_open : (old new : World) (held : Held) (t : Trail) → Quiet old new → IsOpen old held t → IsOpen new held t

@@ -173,7 +173,7 @@ impl Pair {
     /// one, which may want memory. Every other write first writes out what waits. It is kept for good where writes are forced, where it
     /// makes the database longer, and where it is page 0 or an SCN inventory page.
     ///
-    /// Where it wants memory it has changed no page.
+    /// Where it wants memory it has changed no page, and in the merge state it has made no call.
     pub fn write<H: Host>(
         &mut self,
         host: &mut H,
@@ -202,6 +202,7 @@ impl Pair {
         ensures not_refused { IfErr result IsNoRefusal }
         ensures on_memory { (t : Trail) → IsTrue H.tells → IsOpen (H.world host.old) self.old t → result ≡ Err Fault.Memory
             → Strikes (H.world host.old) (H.world host.new) self.old.files.name t [] × IsOpen (H.world host.new) self.new t }
+        ensures stays { self.old.files.state ≡ 2 → result ≡ Err Fault.Memory → (self.new ≡ self.old) × (host.new ≡ host.old) }
     {
         if self.may_wait(number, forced) {
             self.hold(host, number, page)?;

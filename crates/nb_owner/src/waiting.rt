@@ -350,13 +350,14 @@ impl Pair {
 
     /// Writes all that waits. In the normal state SCN pages go first, which are kept for good, and then the others. In the stalled state
     /// pages go into their slots first, which are kept for good, and then the allocation pages that name them. It changes no page of the
-    /// database, and none in memory. Where nothing waits it makes no call.
+    /// database, and none in memory. Where nothing waits it makes no call, and at a settled point nothing does.
     pub fn write_out<H: Host>(&mut self, host: &mut H) -> Result<(), HostFault>
         ensures takes { (t : Trail) → IsTrue H.tells → IsOpen (H.world host.old) self.old t
             → Takes result (H.world host.old) (H.world host.new) self.old.files.name (IsOpen (H.world host.new) self.new) t [] }
         ensures none { OnOk result (NoneWaits self.new.pages) }
         ensures no_drafts { OnOk result (self.new.files.drafted ≡ 0) }
         ensures idle { NoneWaits self.old.pages → self.old.files.drafted ≡ 0 → IsOk result × (self.new ≡ self.old) × (host.new ≡ host.old) }
+        ensures at_settled { (t : Trail) → IsTrue H.tells → IsOpen (H.world host.old) self.old t → t.earlier ≡ [] → IsOk result × (self.new ≡ self.old) × (host.new ≡ host.old) }
         ensures outside { self.old.files.state ≡ 2 → IsOk result × (self.new ≡ self.old) × (host.new ≡ host.old) }
         ensures files { but_drafts self.new.files ≡ but_drafts self.old.files }
         ensures bare { bare self.new.pages ≡ bare self.old.pages }

@@ -30,10 +30,10 @@ use Rattle.nb_model.proofs.TurnCases.{IsOnce, pages_once}
 use Rattle.nb_model.proofs.StepsLaws.{steps_plain, after_settling}
 use Rattle.nb_base.specs.Open.{OfFiles}
 use Rattle.nb_base.specs.Takes.{Strikes, after_strokes}
-use Rattle.nb_state.specs.Open.{Held, IsOpen, name_of}
+use Rattle.nb_state.specs.Open.{Held, IsOpen, but_pages, name_of}
 use Rattle.nb_state.specs.Does.{WhereEnded, WhereRefused, Answers, Does}
 use Rattle.nb_state.specs.Turns.{GaveAtMost}
-use Rattle.nb_state.proofs.MakesLaws.{where_ended, none_yet}
+use Rattle.nb_state.proofs.MakesLaws.{where_ended}
 use Rattle.nb_engine.specs.Replies.{scn_is}
 use Rattle.nb_engine.specs.Turns.{SaysNone, DoesBegin}
 use Rattle.nb_session.specs.Acts.{Says, Grows, Touched, TurnLeft, AreKept, Acts, MayAct}
@@ -162,16 +162,14 @@ does_acts reply result old new a b t now session statement it is plain on built 
     }
 
 -- `sync`
-module _ (old new : World) (a b : Held) (t : Trail) (now : Now) (session : ℕ) (statement : Statement) (is : statement ≡ Sync) (ready : IsReady old a t now) (same : b ≡ a) (quiet : Quiet old new) where
+module _ (old new : World) (a b : Held) (t : Trail) (now : Now) (session : ℕ) (statement : Statement) (is : statement ≡ Sync) (ready : IsReady old a t now) (same : but_pages b ≡ but_pages a) (struck : Strikes old new (name_of a) t [])
+    (gave : GaveNothing old new) where
   sync_turn : outcome session (Begins statement) now ≡ says (seen_now now) Done []
   unfolding first_turn
   sync_turn = outcome_is session statement now ∙ ap (first_turn (seen_now now) session) is
 
-  sync_gave : GaveNothing old new
-  sync_gave = record { guids = quiet.guids; times = quiet.times }
-
   sync_left : Changes old new (Touched (name_of a) []) (TurnLeft old (name_of a) t (outcome session (Begins statement) now).strokes [])
-  sync_left = strikes_left old new (name_of a) t _ (subst (λ (x : Outcome). Strikes old new (name_of a) t x.strokes) (sym sync_turn) (none_yet old new a t [] quiet ready.opened))
+  sync_left = strikes_left old new (name_of a) t _ (subst (λ (x : Outcome). Strikes old new (name_of a) t x.strokes) (sym sync_turn) struck)
 
   sync_steps : (o : Outcome) → o.strokes ≡ [] → settled t.base ≡ after_steps t (steps_in (event_of session (Begins statement) o))
   unfolding made
@@ -182,22 +180,22 @@ module _ (old new : World) (a b : Held) (t : Trail) (now : Now) (session : ℕ) 
 
   pub sync_acts : {T : Type 0} (value : T) → IsOpen new b (settled t.base) → MayAct (λ v. Some Done) (Ok value) old new a b t now session (Begins statement) []
   sync_acts value opened = record {
-    grows = grows_none old new sync_gave;
+    grows = grows_none old new gave;
     acts = λ told. record {
       says = ap (λ (x : Outcome). x.reply) sync_turn;
       left = sync_left;
       opened = subst (IsOpen new b) (sync_steps (outcome session (Begins statement) now) (ap (λ (x : Outcome). x.strokes) sync_turn)) opened;
       running = ap (λ (h : Held). h.running) same ∙ ready.running ∙ sym (ap (λ (x : Outcome). x.running) sync_turn);
-      given = given_nothing old new now.given (outcome session (Begins statement) now).given sync_gave (ap (λ (x : Outcome). x.given) sync_turn);
+      given = given_nothing old new now.given (outcome session (Begins statement) now).given gave (ap (λ (x : Outcome). x.given) sync_turn);
       kept = kept_none new (event_of session (Begins statement) (outcome session (Begins statement) now)) (ap (λ (x : Outcome). x.made) sync_turn);
-      unchanged = λ told. quiet.still.files;
+      unchanged = λ told. absurd (true≢false (sym (told_reply (event_of session (Begins statement) (outcome session (Begins statement) now)) told) ∙ ap (λ (x : Outcome). has_only_told x.reply) sync_turn));
       name = ap (λ (h : Held). name_of h) same;
     };
   }
 
   pub sync_failed : {T : Type 0} (reply : T → Option Reply) → MayAct reply (Err Device) old new a b t now session (Begins statement) []
   sync_failed reply = record {
-    grows = grows_none old new sync_gave;
+    grows = grows_none old new gave;
     acts = λ told. record { says = tt; left = sync_left; opened = tt; running = tt; given = tt; kept = tt; unchanged = tt; name = ap (λ (h : Held). name_of h) same };
   }
 

@@ -62,7 +62,6 @@ name_kept a b same = ap (λ (h : Held). name_of h) same
 pub open_running : (w : World) (held : Held) (t : Trail) (running : Option ℕ) → IsOpen w held t → IsOpen w (record held { running = running }) t
 open_running w held t running is = record {
   files = is.files;
-  pages = is.pages;
   agrees = record { scn = is.agrees.scn; four = is.agrees.four; guid = is.agrees.guid; forced = is.agrees.forced; read_only = is.agrees.read_only };
   merged = is.merged;
   most = is.most;

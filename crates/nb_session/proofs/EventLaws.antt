@@ -210,7 +210,7 @@ module _ (old mid new : World) (e0 e1 : Held) (t : Trail) (now : Now) (session :
         status = status_quiet event quiet;
         given = given_joined old mid mid now.given here.given one.1.given (ended result has acts.given) (given_nothing mid mid here.given one.1.given (record { guids = refl; times = refl }) given_then);
         kept = kept_mid;
-        unchanged = λ all. absurd (unsaid event quiet (one_told event all));
+        unchanged = λ settled all. absurd (unsaid event quiet (one_told event all));
       })
 
       module _ {S E : Type 0} (line_said : Result S E) (says : SaysLine line_said mid new (told_line session told)) where
@@ -258,7 +258,7 @@ module _ (old mid new : World) (e0 e1 : Held) (t : Trail) (now : Now) (session :
           status = status_told event told refl ∙ status;
           given = given_joined old mid new now.given here.given one.1.given (ended result has acts.given) (given_nothing mid new here.given one.1.given says.gave given_then);
           kept = kept_still mid new (files_made (event ∷ [])) says.still kept_mid;
-          unchanged = λ all. says.still.files ∙ ended result has acts.unchanged (only (one_told event all));
+          unchanged = λ settled all. says.still.files ∙ ended result has acts.unchanged (only (one_told event all));
         })
 
 -- The event of the turn, and what is told of it.

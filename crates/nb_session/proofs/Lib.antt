@@ -24,4 +24,5 @@ pub mod SceneLaws
 pub mod AnyLaws
 pub mod EndLaws
 pub mod WholeLaws
+pub mod OutLaws
 pub mod HeaderLaws

@@ -1,5 +1,5 @@
 -- Turns behind turns.
-use Rattle.std.proofs.Common.{◌≡◌, inl, inr, ℕ, zero, suc, List, [], ◌++◌, take, Bool, false, refl, sym, ap, subst, ◌∙◌, arith, append_assoc, max}
+use Rattle.std.proofs.Common.{◌≡◌, inl, inr, ℕ, zero, suc, List, [], ◌∷◌, ◌++◌, take, Bool, false, refl, sym, ap, subst, ◌∙◌, arith, append_assoc, max}
 use Rattle.std.specs.Prelude.{Contains, Result, Ok, Err, IfOk, true, ◌&&◌, ◌||◌, if◌then◌else◌}
 use Rattle.std.specs.List.{list_all}
 use Rattle.std.proofs.lemmas.Bool.{true≢false}
@@ -15,7 +15,8 @@ use Rattle.nb_change.proofs.MomentLaws.{started, joined, weaker, untouched_joine
 use Rattle.nb_model.specs.Making.{MadeFile, AreAmong, IsNoneOf, NamesOnce}
 use Rattle.nb_model.specs.Run.{Event, Now, Played, replies_of, files_made}
 use Rattle.nb_model.specs.Output.{output, status_of}
-use Rattle.nb_model.specs.Steps.{steps_of, after_steps, acked_turns}
+use Rattle.nb_model.specs.Steps.{Step, settles, made, steps_in, steps_of, after_step, after_steps, acked_turns}
+use Rattle.nb_model.specs.Strokes.{Stroke}
 use Rattle.nb_model.specs.Trail.{Trail, StandsIn}
 use Rattle.nb_model.proofs.MakingLaws.{made_append}
 use Rattle.nb_model.proofs.OutputLaws.{output_append, status_events, output_no_event, status_no_event}
@@ -26,7 +27,7 @@ use Rattle.nb_state.specs.Open.{Held, name_of}
 use Rattle.nb_session.specs.declared.stop.Stop.{Stop}
 use Rattle.nb_session.specs.Acts.{Touched, AreKept}
 use Rattle.nb_session.specs.Ready.{IsReady}
-use Rattle.nb_session.specs.Replies.{only_told}
+use Rattle.nb_session.specs.Replies.{has_only_told, only_told}
 use Rattle.nb_session.specs.Stops.{StopLeft, PlayedOut, Plays}
 use Rattle.nb_session.proofs.GiftLaws.{given_nothing, given_joined}
 use Rattle.nb_session.proofs.MadeLaws.{among_left, among_right}
@@ -96,7 +97,7 @@ module _ (result : Result Bool Stop) (old new : World) (before after : Held) (t 
   leads_of : (made : List MadeFile) → Plays result old new before after t now p made → Leads old new (name_of before) t p.0 made
   leads_of made plays = record { stops = plays.stops; left = plays.left; apart = plays.apart; others = plays.others; others_read = plays.others_read }
 
-  plays_by : (made : List MadeFile) → Leads old new (name_of before) t p.0 made → name_of after ≡ name_of before → IfOk result (λ refused. PlayedOut refused old new after t now p)
+  pub plays_by : (made : List MadeFile) → Leads old new (name_of before) t p.0 made → name_of after ≡ name_of before → IfOk result (λ refused. PlayedOut refused old new after t now p)
       → Plays result old new before after t now p made
   plays_by made leads name done = record { stops = leads.stops; left = leads.left; apart = leads.apart; others = leads.others; others_read = leads.others_read; name = name; done = done }
 
@@ -108,8 +109,32 @@ pub both_true : (a b : Bool) → (a && b) ≡ true → (a ≡ true) × (b ≡ tr
 both_true true b all = (refl, all)
 both_true false b all = absurd (true≢false (sym all))
 
+-- Behind turns that only told something a settled point is one still.
+no_stroke_told : (e : Event) → only_told e ≡ true → e.strokes ≡ []
+no_stroke_told e told = by e.strokes told
+  where
+    by : (ss : List Stroke) → elim ss as (λ z. Bool) [ [] ↦ has_only_told e.reply | s ∷ more ↦ false ] ≡ true → ss ≡ []
+    by [] is = refl
+    by (s ∷ ss) is = absurd (true≢false (sym is))
+
+after_told : (e : Event) (t : Trail) → t.earlier ≡ [] → only_told e ≡ true → (after_steps t (steps_in e)).earlier ≡ []
+unfolding made after_step after_steps
+after_told e t settled told =
+    subst (λ (ss : List Stroke). (after_steps t (made ss ++ elim e.syncs as (λ z. List Step) [ true ↦ settles ∷ [] | false ↦ [] ])).earlier ≡ []) (sym (no_stroke_told e told)) (by e.syncs)
+  where
+    by : (b : Bool) → (after_steps t (made [] ++ elim b as (λ z. List Step) [ true ↦ settles ∷ [] | false ↦ [] ])).earlier ≡ []
+    by true = refl
+    by false = settled
+
+pub told_settled : (es : List Event) (t : Trail) → t.earlier ≡ [] → list_all only_told es ≡ true → (after_steps t (steps_of es)).earlier ≡ []
+unfolding steps_of after_steps
+told_settled [] t settled all = settled
+told_settled (e ∷ es) t settled all =
+    let both = both_true (only_told e) (list_all only_told es) all in
+    subst (λ (u : Trail). u.earlier ≡ []) (sym (after_steps_append t (steps_in e) (steps_of es))) (told_settled es (after_steps t (steps_in e)) (after_told e t settled both.0) both.1)
+
 -- no turn yet
-after_none : (t : Trail) → after_steps t (steps_of []) ≡ t
+pub after_none : (t : Trail) → after_steps t (steps_of []) ≡ t
 after_none t = ap (after_steps t) steps_none ∙ after_no_step t
 
 none_made : (k : ℕ) → files_made (take k []) ≡ []
@@ -117,7 +142,7 @@ unfolding files_made
 none_made zero = refl
 none_made (suc k) = refl
 
-no_file : (n bytes : List ℕ) → Contains {X = MadeFile} [] (n, bytes) → ⊥
+pub no_file : (n bytes : List ℕ) → Contains {X = MadeFile} [] (n, bytes) → ⊥
 no_file n bytes there = omega (arith, there.1)
 
 pub no_made : (k : ℕ) (n bytes : List ℕ) → Contains (files_made (take k [])) (n, bytes) → ⊥
@@ -145,7 +170,7 @@ plays_none old held t now timely ready = record {
     status = status_no_event;
     given = given_nothing old old now.given now.given (record { guids = refl; times = refl }) refl;
     kept = λ n bytes there. absurd (no_made 0 n bytes there);
-    unchanged = λ all. refl;
+    unchanged = λ settled all. refl;
   };
 }
 
@@ -190,7 +215,9 @@ module _ (old mid new : World) (e0 e1 e2 : Held) (t : Trail) (now : Now) (p q : 
         ∙ ap (λ (x : ℕ). max (if a then 1 else 0) x) second.done.status ∙ status_or a b;
     given = given_joined old mid new now.given p.1.given q.1.given first.done.given second.done.given;
     kept = kept_then a (Ok b) first second second.done.kept;
-    unchanged = λ all. let both = both_true (list_all only_told p.0) (list_all only_told q.0) (sym (list_all-append only_told p.0 q.0) ∙ all) in second.done.unchanged both.1 ∙ first.done.unchanged both.0;
+    unchanged = λ settled all.
+        let both = both_true (list_all only_told p.0) (list_all only_told q.0) (sym (list_all-append only_told p.0 q.0) ∙ all) in
+        second.done.unchanged (told_settled p.0 t settled both.0) both.1 ∙ first.done.unchanged settled both.0;
   })
 
   -- the second ends early

@@ -33,7 +33,7 @@ use Rattle.nb_session.specs.Acts.{Touched, AreKept}
 use Rattle.nb_session.specs.Ready.{IsReady, IsApart}
 use Rattle.nb_session.proofs.MakesLaws.{makes_none, none_before, none_here}
 
-true_false : true ≡ false → ⊥
+pub true_false : true ≡ false → ⊥
 true_false h = cc
 
 -- a difference file is none of these
@@ -47,14 +47,25 @@ apart_files held name apart (inr same) = apart_delta held name (name_of held) ap
 
 -- a database that is open is there, and its name isn't free
 is_there : (w : World) (held : Held) (t : Trail) → IsOpen w held t → (bytes : List ℕ) × (w.files (name_of held) ≡ Some bytes)
-is_there w held t opened = let main : HasMain t.base (w.files (name_of held)) = has_main (name_of held) t.base (w.files (name_of held)) (w.files (delta_name (name_of held))) opened.files.shows in (main.bytes, main.there)
+is_there w held t opened = let main : HasMain opened.files.sees.base (w.files (name_of held)) = has_main (name_of held) opened.files.sees.base (w.files (name_of held)) (w.files (delta_name (name_of held))) opened.files.files.shows in (main.bytes, main.there)
 
-not_free : (w : World) (held : Held) (t : Trail) → IsOpen w held t → is_free_name w.files (name_of held) ≡ false
+pub not_free : (w : World) (held : Held) (t : Trail) → IsOpen w held t → is_free_name w.files (name_of held) ≡ false
 not_free w held t opened =
     let there = is_there w held t opened in
     is_free_name-false w.files (name_of held)
     (ap is_free_file there.1
-    ∙ opened_in_use (name_of held) there.0 (w.files (delta_name (name_of held))) t.base (ap (λ (f : File). owner (name_of held) f (w.files (delta_name (name_of held)))) (sym there.1) ∙ opened.files.shows))
+    ∙ opened_in_use (name_of held) there.0 (w.files (delta_name (name_of held))) opened.files.sees.base
+    (ap (λ (f : File). owner (name_of held) f (w.files (delta_name (name_of held)))) (sym there.1) ∙ opened.files.files.shows))
+
+-- Of a difference file beside a name that isn't the database's it stays whether it is there.
+module _ (old new : World) (before after : Held) (t u : Trail) (was : IsOpen old before t) (is : IsOpen new after u) (same : name_of after ≡ name_of before) where
+  pub beside_other : (m : List ℕ) → (delta_name m ≢ name_of before → new.files (delta_name m) ≡ old.files (delta_name m)) → is_some (new.files (delta_name m)) ≡ is_some (old.files (delta_name m))
+  beside_other m read = elim (decide (delta_name m) (name_of before)) [
+    | inl own ↦
+        ap (λ (n : List ℕ). is_some (new.files n)) (own ∙ sym same) ∙ ap is_some (is_there new after u is).1
+        ∙ sym (ap (λ (n : List ℕ). is_some (old.files n)) own ∙ ap is_some (is_there old before t was).1)
+    | inr off ↦ ap is_some (read off)
+  ]
 
 own_entry : (b : Base) → is_free_entry (IsBase b) ≡ false
 unfolding is_free_entry
@@ -70,7 +81,7 @@ not_own w held t now name ready free same =
     true_false (sym free ∙ ap (λ (n : List ℕ). is_free_entry (now.account.entry n)) (same ∙ ready.named) ∙ ap is_free_entry ready.there ∙ own_entry (base_now now))
 
 -- whether a name is free, by its two files
-free_same : (one two : Files) (m : List ℕ) → two m ≡ one m → is_some (two (delta_name m)) ≡ is_some (one (delta_name m)) → is_free_name two m ≡ is_free_name one m
+pub free_same : (one two : Files) (m : List ℕ) → two m ≡ one m → is_some (two (delta_name m)) ≡ is_some (one (delta_name m)) → is_free_name two m ≡ is_free_name one m
 unfolding is_free_name has_delta
 free_same one two m main beside = ap (λ (f : File). is_free_file f && not (nat_le (length m) 94 && is_some (two (delta_name m)))) main ∙ ap (λ (d : Bool). is_free_file (one m) && not (nat_le (length m) 94 && d)) beside
 
@@ -166,18 +177,11 @@ module _ (old w : World) (e0 e1 : Held) (t : Trail) (now : Now) (session : ℕ) 
     used m bytes there =
         ap (λ (p : Played). is_free_entry (p.1.account.entry m)) (sym one_is) ∙ made_used session now makes (m, bytes) (subst (λ (p : Played). Contains (files_made p.0) (m, bytes)) (sym one_is) there)
 
-    -- of a difference file beside a name that isn't the database's it stays whether it is there
     beside : (m : List ℕ) → m ≢ name_of e0 → is_some (w.files (delta_name m)) ≡ is_some (old.files (delta_name m))
-    beside m other = elim (decide (delta_name m) (name_of e0)) [
-      | inl own ↦
-          let before = is_there old e0 t ready.opened in
-          let after = is_there w e1 seen opened in
-          ap (λ (n : List ℕ). is_some (w.files n)) (own ∙ sym same) ∙ ap is_some after.1 ∙ sym (ap (λ (n : List ℕ). is_some (old.files n)) own ∙ ap is_some before.1)
-      | inr off ↦ ap is_some (read (delta_name m) (λ touched. elim touched [
-        | inl file ↦ elim file [ inl e ↦ off e | inr e ↦ other (delta_same m (name_of e0) e) ]
-        | inr (bytes, there) ↦ apart_delta e0 (delta_name m) m (apart (delta_name m) bytes there) refl
-      ]))
-    ]
+    beside m other = beside_other old w e0 e1 t seen ready.opened opened same m (λ off. read (delta_name m) (λ touched. elim touched [
+      | inl file ↦ elim file [ inl e ↦ off e | inr e ↦ other (delta_same m (name_of e0) e) ]
+      | inr (bytes, there) ↦ apart_delta e0 (delta_name m) m (apart (delta_name m) bytes there) refl
+    ]))
 
     there_is : (m bytes : List ℕ) → o.made ≡ Some (m, bytes) → Contains (files_made (event ∷ [])) (m, bytes)
     unfolding files_made

@@ -1,5 +1,5 @@
 -- What a stop leaves while turns are taken, and what they did.
-use Rattle.std.specs.Prelude.{◌≡◌, ◌⊎◌, ℕ, ◌≤◌, List, ◌++◌, length, take, Bool, true, Some, Result, IfOk, Contains, if◌then◌else◌}
+use Rattle.std.specs.Prelude.{◌≡◌, ◌⊎◌, ℕ, ◌≤◌, List, [], ◌++◌, length, take, Bool, true, Some, Result, IfOk, Contains, if◌then◌else◌}
 use Rattle.std.specs.List.{list_all}
 use Rattle.nb_host.specs.Files.{File, Files}
 use Rattle.nb_host.specs.World.{World}
@@ -48,14 +48,15 @@ pub record StopLeft (old : World) (name : List ℕ) (t : Trail) (events : List E
   pub others : (m : List ℕ) → Other (Touched name made) m → Leaves old m (files m)
 
 -- Turns were taken to their end: the database is open as they leave it, all their lines were said, whether one was refused, what was given is
--- what they ask for, and the files that they made whole are kept for good. Where each only told something no file has changed.
+-- what they ask for, and the files that they made whole are kept for good. Where each only told something, from a settled point on, no
+-- file has changed.
 pub record PlayedOut (refused : Bool) (old new : World) (held : Held) (t : Trail) (now : Now) (played : Played) : Type 0 where
   pub ready : IsReady new held (after_steps t (steps_of played.0)) played.1
   pub said : new.said ≡ old.said ++ output played.0
   pub status : status_of (replies_of played.0) ≡ (if refused then 1 else 0)
   pub given : WasGiven old new now.given played.1.given
   pub kept : AreKept new (files_made played.0)
-  pub unchanged : list_all only_told played.0 ≡ true → new.files ≡ old.files
+  pub unchanged : t.earlier ≡ [] → list_all only_told played.0 ≡ true → new.files ≡ old.files
 
 -- Turns were taken, or some of them until a call of the host failed or memory ran out, and these files were made. None of them is one of the
 -- database's two.

@@ -1,9 +1,10 @@
 // The sessions of a script take their turns.
-ghost use Rattle.std.specs.Prelude.{◌≡◌, IsTrue};
+ghost use Rattle.std.specs.Prelude.{◌≡◌, IsTrue, IfOk};
 ghost use Rattle.nb_model.specs.Gifts.{Foretells};
 ghost use Rattle.nb_model.specs.Going.{IsMaking};
 ghost use Rattle.nb_model.specs.Run.{Now, begun};
 ghost use Rattle.nb_model.specs.Trail.{Trail};
+ghost use Rattle.nb_state.specs.Open.{NoPageWaits};
 ghost use Rattle.nb_script.specs.Asked.{IsAskable};
 ghost use Rattle.nb_session.specs.Acts.{Grows};
 ghost use Rattle.nb_session.specs.Askers.{first_askers, any_refused as some_refused};
@@ -54,9 +55,8 @@ fn any_refused<'a>(sessions: &[Session<'a>]) -> bool
     any
 }
 
-/// Plays a script on the open database, all but its first statement, to the end of every session, and says so much of it. Answers whether a
-/// statement was refused. Where a call of the host fails or memory runs out, it ends at once.
-pub fn take_turns<H: Host>(
+/// Takes the turns of all sessions to the end of every one, and says so much of them. Answers whether a statement was refused.
+fn play<H: Host>(
     alloc: Global,
     host: &mut H,
     engine: &mut Engine,
@@ -78,5 +78,30 @@ pub fn take_turns<H: Host>(
         Err(Fault::Device) => Err(Stop::Device),
         Err(Fault::Memory) => Err(Stop::Memory),
         Err(Fault::Refused(_)) => unreachable!(),
+    }
+}
+
+/// Plays a script on the open database, all but its first statement, to the end of every session, and says so much of it; then it writes
+/// out what waits. Answers whether a statement was refused. Where a call of the host fails or memory runs out, it ends at once.
+pub fn take_turns<H: Host>(
+    alloc: Global,
+    host: &mut H,
+    engine: &mut Engine,
+    script: &Script,
+    told: Told,
+) -> Result<bool, Stop>
+    requires askable { IsAskable script.now }
+    ensures plays { (now : Now) (t : Trail) → IsTrue H.tells → IsReady (H.world host.old) engine.old t now → now.todo ≡ begun script.now.sessions → IsMaking now
+        → Foretells now.given (H.world host.old) (H.world host.new)
+        → PlaysWhole result (H.world host.old) (H.world host.new) engine.old engine.new t told now script.now.schedule }
+    ensures none_waits { IfOk result (λ refused. NoPageWaits engine.new) }
+    ensures grows { (now : Now) (t : Trail) → IsTrue H.tells → IsReady (H.world host.old) engine.old t now → now.todo ≡ begun script.now.sessions → IsMaking now
+        → Grows (H.world host.old) (H.world host.new) }
+    ensures cause { CountsStop result (H.faults host.old) (H.faults host.new) }
+{
+    let refused = play(alloc, host, engine, script, told)?;
+    match engine.write_out(host) {
+        Ok(()) => Ok(refused),
+        Err(_) => Err(Stop::Device),
     }
 }

@@ -93,10 +93,10 @@ module _ (t : Trail) (p : ℕ) (bytes : Page) (fits : Fits p bytes t.base.image)
     pub open_written : (old new : World) (after : Held) → (p ≡ 0 → after ≡ flagged) → (0 < p → after ≡ same) → IsOpen old held t → pair.files.state ≡ held.files.state → (held.files.state ≡ 2 → pair.files.entries ≡ held.files.entries)
         → PairOpen new pair (after_stroke (page p bytes) t) → (held.files.state ≡ 2 → AreMerged new pair.files held.merged) → IsOpen new after (after_stroke (page p bytes) t)
     open_written old new after first other is state entries opened merged = elim (eqb_tells p 0) [
-      | inl w ↦ subst (λ (h : Held). IsOpen new h (after_stroke (page p bytes) t)) (sym (first w.1)) (record { files = opened.files; pages = opened.pages; agrees = agrees_first w.1 is.agrees; merged = λ s. merged (sym state ∙ s); most = most })
+      | inl w ↦ subst (λ (h : Held). IsOpen new h (after_stroke (page p bytes) t)) (sym (first w.1)) (record { files = opened; agrees = agrees_first w.1 is.agrees; merged = λ s. merged (sym state ∙ s); most = most })
       | inr w ↦
           let some : 0 < p = above p w.1 in
-          subst (λ (h : Held). IsOpen new h (after_stroke (page p bytes) t)) (sym (other some)) (record { files = opened.files; pages = opened.pages; agrees = agrees_other some is.agrees; merged = λ s. merged (sym state ∙ s); most = most })
+          subst (λ (h : Held). IsOpen new h (after_stroke (page p bytes) t)) (sym (other some)) (record { files = opened; agrees = agrees_other some is.agrees; merged = λ s. merged (sym state ∙ s); most = most })
     ]
       where
         most : pair.files.state ≡ 2 → held.merged ≤ length pair.files.entries

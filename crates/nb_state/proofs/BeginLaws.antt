@@ -1,8 +1,8 @@
 -- A database is created or opened, as it is held.
 use Rattle.std.proofs.Common.{◌≡◌, ℕ, ◌<◌, List, [], length, subst, replicate, refl, sym, ap, ◌∙◌, arith}
-use Rattle.std.specs.Prelude.{true, false, None, Ok}
-use Rattle.nb_fields.specs.Bytes.{bytes_of, padded}
-use Rattle.nb_fields.specs.Header.{guid_of}
+use Rattle.std.specs.Prelude.{Bool, true, false, not, ◌==◌, None, Ok}
+use Rattle.nb_fields.specs.Bytes.{bytes_of, padded, number_in}
+use Rattle.nb_fields.specs.Header.{scn_of, guid_of}
 use Rattle.nb_fields.specs.Page.{head_of, page_of}
 use Rattle.nb_fields.specs.Payloads.{control_block, header_payload}
 use Rattle.nb_fields.specs.Fresh.{fresh_kind, fresh_payload, fresh_page, fresh}
@@ -11,14 +11,21 @@ use Rattle.nb_model.specs.Trail.{Trail, settled}
 use Rattle.nb_model.proofs.FreshImageLaws.{fresh_first, fresh_state, fresh_scn, fresh_forced, fresh_open}
 use Rattle.nb_model.proofs.MainLaws.{some_page}
 use Rattle.nb_base.specs.Beginnings.{Creates as CreatesFiles, IsAttached as AreAttached}
-use Rattle.nb_model.specs.Image.{Image}
+use Rattle.nb_model.specs.Image.{Page, Image, first_page}
+use Rattle.nb_model.specs.Account.{base_of}
+use Rattle.nb_cache.specs.Held.{NoneWaits}
 use Rattle.nb_owner.specs.Open.{Pages, AreOf, IsOpen as PairOpen}
+use Rattle.nb_owner.proofs.WaitLaws.{open_settled}
 use Rattle.nb_state.specs.Open.{Held, IsOpen}
 use Rattle.nb_state.specs.Beginnings.{IsAttached, Creates}
 
 -- where no page is in memory, each is of the image
 of_none : (image : Image) (pages : Pages) → pages ≡ [] → AreOf image pages
 of_none image pages none = subst (λ (ps : Pages). AreOf image ps) (sym none) tt
+
+-- and none waits
+none_wait : (pages : Pages) → pages ≡ [] → NoneWaits pages
+none_wait pages none = subst NoneWaits (sym none) tt
 
 -- a new database has no backup
 no_guid : (size raw : ℕ) → guid_of (fresh_page size raw 0) ≡ replicate 16 0
@@ -36,8 +43,7 @@ created pair old new name size raw is none =
         named = is.answer.1;
         nothing_runs = refl;
         opened = record {
-          files = open_;
-          pages = of_none (fresh size raw) pair.pages none;
+          files = open_settled new pair (settled (base_of (fresh size raw))) (none_wait pair.pages none) open_ (of_none (fresh size raw) pair.pages none);
           agrees = record {
             scn = sym (fresh_scn size raw);
             four = omega arith;
@@ -61,5 +67,22 @@ attached held pair old mid new name is blank same none opens = record {
   stands = is.stands;
   named = ap (λ (f : Rattle.nb_base.specs.Open.Held). f.name) same ∙ is.named;
   nothing_runs = none;
-  opened = opens (settled is.base) (record { files = is.opened; pages = of_none is.base.image pair.pages blank }) (some_page is.base.image is.opened.agrees.header);
+  opened = opens (settled is.base) (open_settled mid pair (settled is.base) (none_wait pair.pages blank) is.opened (of_none is.base.image pair.pages blank)) (some_page is.base.image is.opened.agrees.header);
+}
+
+-- What is held of page 0 as it was read.
+pub open_read : (w : World) (pair : Rattle.nb_owner.specs.Open.Held) (t : Trail) (bytes : Page) → PairOpen w pair t → bytes ≡ first_page t.base.image → (scn : ℕ) (guid : List ℕ) (forced read_only : Bool) → scn < 4294967296
+    → scn ≡ scn_of bytes → guid ≡ guid_of bytes → forced ≡ not (number_in 64 1 bytes == 0) → read_only ≡ not (number_in 65 1 bytes == 0)
+    → IsOpen w (record { files = pair.files; scn = scn; guid = guid; forced = forced; read_only = read_only; running = None; merged = 0; pages = pair.pages; cap = pair.cap }) t
+open_read w pair t bytes is first scn guid forced read_only four scn_is guid_is forced_is access_is = record {
+  files = is;
+  agrees = record {
+    scn = scn_is ∙ ap scn_of first;
+    four = four;
+    guid = guid_is ∙ ap guid_of first;
+    forced = forced_is ∙ ap (λ (x : Page). not (number_in 64 1 x == 0)) first;
+    read_only = access_is ∙ ap (λ (x : Page). not (number_in 65 1 x == 0)) first;
+  };
+  merged = λ two j none inside. absurd (omega (arith, none));
+  most = λ two. omega arith;
 }

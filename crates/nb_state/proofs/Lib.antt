@@ -1,5 +1,6 @@
 pub mod MakesLaws
 pub mod TestLaws
+pub mod ShownLaws
 pub mod AgreeLaws
 pub mod BeginLaws
 pub mod TurnLaws

@@ -8,27 +8,23 @@ use Rattle.nb_host.specs.declared.faults.Fault.{Fault}
 use Rattle.nb_host.specs.declared.faults.Fault.TheVariants.{Refused, Device, Memory}
 use Rattle.nb_page.specs.Quiet.{Quiet}
 use Rattle.nb_change.specs.Gave.{GaveNothing}
-use Rattle.nb_change.proofs.ChangesLaws.{all_before, rested}
+use Rattle.nb_change.proofs.ChangesLaws.{rested}
 use Rattle.nb_change.proofs.ReachedLaws.{after_all-joined, reached_first, reached_front, strokes_composed}
 use Rattle.nb_change.proofs.ChangesLaws.{weaker_has}
 use Rattle.nb_change.proofs.GaveLaws.{nothing_joined}
 use Rattle.nb_model.specs.Account.{Base}
 use Rattle.nb_model.specs.Strokes.{Stroke, on_base, base_after}
-use Rattle.nb_model.specs.Trail.{Trail, StandsIn, ShowsIn, settles_at, after_stroke, settled, images_of}
+use Rattle.nb_model.specs.Trail.{Trail, StandsIn, settles_at, after_stroke, settled, bases_of}
 use Rattle.nb_base.specs.Open.{OfFiles, IsMerged}
 use Rattle.nb_base.specs.Takes.{Strikes, after_strokes, IsNoRefusal}
-use Rattle.nb_state.specs.Open.{Held, IsOpen, but_pages, name_of}
+use Rattle.nb_owner.proofs.WaitLaws.{quiet_open}
+use Rattle.nb_state.specs.Open.{Held, IsOpen, but_pages, name_of, pair_of}
 use Rattle.nb_state.specs.Does.{WhereEnded, WhereRefused, Goes, Makes}
 
 -- a database stays open
 pub open_quiet : (old new : World) (held : Held) (t : Trail) → Quiet old new → IsOpen old held t → IsOpen new held t
 open_quiet old new held t quiet is = record {
-  files = record {
-    left = λ files left. is.files.left files (all_before old new quiet.still.left files left);
-    shows = subst (λ (f : Files). ShowsIn held.files.name t.base f) (sym quiet.still.files) is.files.shows;
-    agrees = is.files.agrees;
-  };
-  pages = is.pages;
+  files = quiet_open old new (pair_of held) t quiet is.files;
   agrees = is.agrees;
   merged = λ state j low inside. subst (λ (f : Files). IsMerged held.files f j) (sym quiet.still.files) (is.merged state j low inside);
   most = is.most;
@@ -43,7 +39,7 @@ after_base_one : (t : Trail) (x : Stroke) → (after_stroke x t).base ≡ on_bas
 unfolding after_stroke
 after_base_one t x = by (settles_at t x)
   where
-    by : (s : Bool) → (elim s as (λ z. Trail) [ true ↦ settled (on_base x t.base) | false ↦ record { base = on_base x t.base; earlier = images_of t } ]).base ≡ on_base x t.base
+    by : (s : Bool) → (elim s as (λ z. Trail) [ true ↦ settled (on_base x t.base) | false ↦ record { base = on_base x t.base; earlier = bases_of t } ]).base ≡ on_base x t.base
     by true = refl
     by false = refl
 
@@ -164,4 +160,4 @@ makes_before value result old mid new a b c t xs makes same quiet opens =
 
 -- whose copy or merge runs is no matter of what is open
 pub open_running : (w : World) (held : Held) (t : Trail) (by : Option ℕ) → IsOpen w held t → IsOpen w (record held { running = by }) t
-open_running w held t by is = record { files = is.files; pages = is.pages; agrees = record { scn = is.agrees.scn; four = is.agrees.four; guid = is.agrees.guid; forced = is.agrees.forced; read_only = is.agrees.read_only }; merged = is.merged; most = is.most }
+open_running w held t by is = record { files = is.files; agrees = record { scn = is.agrees.scn; four = is.agrees.four; guid = is.agrees.guid; forced = is.agrees.forced; read_only = is.agrees.read_only }; merged = is.merged; most = is.most }

@@ -1,5 +1,5 @@
 -- What is open behind the turns of a backup.
-use Rattle.std.proofs.Common.{◌≡◌, ◌⊎◌, ⊎_elim, ℕ, ◌+◌, ◌<◌, ◌≤◌, List, [], ◌∷◌, ◌++◌, length, drop, refl, sym, ap, subst, ◌∙◌, arith, length-append, drop_at}
+use Rattle.std.proofs.Common.{◌≡◌, ◌≢◌, ◌⊎◌, ⊎_elim, ℕ, ◌+◌, ◌<◌, ◌≤◌, List, [], ◌∷◌, ◌++◌, length, drop, refl, sym, ap, subst, ◌∙◌, arith, length-append, drop_at}
 use Rattle.std.specs.Prelude.{Bool, true, false, Option, Some, None, Result, Ok, Err}
 use Rattle.std.proofs.lemmas.Bool.{eq-eqb, ne_eqb}
 use Rattle.nb_fields.specs.Header.{is_header, state_of}
@@ -12,12 +12,13 @@ use Rattle.nb_host.specs.declared.faults.Fault.{Fault}
 use Rattle.nb_host.specs.declared.faults.Fault.TheVariants.{Refused, Device, Memory}
 use Rattle.nb_change.proofs.MomentLaws.{started, untouched_begun}
 use Rattle.nb_change.proofs.ChangesLaws.{all_before, weaker_has}
+use Rattle.nb_change.proofs.CallLaws.{still_alone}
 use Rattle.nb_change.proofs.ReachedLaws.{strokes_composed, reached_front}
 use Rattle.nb_model.specs.Image.{Image, first_page, image_state, image_scn, image_guid}
 use Rattle.nb_model.specs.Account.{Ask, Base}
 use Rattle.nb_model.specs.Causes.{Cause}
 use Rattle.nb_model.specs.Strokes.{Stroke, begin, ends, finish, on_base, with_control}
-use Rattle.nb_model.specs.Trail.{Trail, settled, ShowsIn, StandsIn, after_stroke}
+use Rattle.nb_model.specs.Trail.{Trail, ShowsIn, StandsIn, after_stroke}
 use Rattle.nb_model.specs.Pages.{end_strokes, end_scn}
 use Rattle.nb_model.proofs.ControlLaws.{control_state}
 use Rattle.nb_model.proofs.HeaderLaws.{header-long, header-room}
@@ -26,12 +27,12 @@ use Rattle.nb_model.proofs.TrailLaws.{trail_base}
 use Rattle.nb_base.specs.Open.{OfFiles, IsOpen as AreOpen, IsMerged, AreMerged}
 use Rattle.nb_base.specs.Takes.{Strikes}
 use Rattle.nb_base.proofs.ControlLaws.{with_control-first}
-use Rattle.nb_base.proofs.StrokeLaws.{waits}
 use Rattle.nb_page.specs.Quiet.{Quiet}
 use Rattle.nb_change.specs.Gave.{GaveNothing}
 use Rattle.nb_base.specs.Takes.{after_strokes}
 use Rattle.nb_owner.specs.Open.{IsOpen as PairOpen}
-use Rattle.nb_state.specs.Open.{Held, IsOpen, name_of}
+use Rattle.nb_owner.proofs.WaitLaws.{open_of}
+use Rattle.nb_state.specs.Open.{Held, AgreesWith, IsOpen, name_of, pair_of}
 use Rattle.nb_state.specs.Does.{Tested, unless_by}
 use Rattle.nb_state.specs.Turns.{begin_cause, end_cause, Begins, Ends, Merges}
 use Rattle.nb_state.specs.declared.turns.Progress.{Progress}
@@ -46,11 +47,14 @@ still_files old new held t still is = record {
   agrees = is.agrees;
 }
 
+-- with what waits
+pub still_pair : (old new : World) (held : Rattle.nb_owner.specs.Open.Held) (t : Trail) → IsStill old new → PairOpen old held t → PairOpen new held t
+still_pair old new held t still is = open_of new held is.sees t (still_files old new held.files is.sees still is.files) is.waits is.pages
+
 -- and so does the database
 pub still_open : (old new : World) (held : Held) (t : Trail) → IsStill old new → IsOpen old held t → IsOpen new held t
 still_open old new held t still is = record {
-  files = still_files old new held.files t still is.files;
-  pages = is.pages;
+  files = still_pair old new (pair_of held) t still is.files;
   agrees = is.agrees;
   merged = λ two j low inside. subst (λ (f : Files). IsMerged held.files f j) (sym still.files) (is.merged two j low inside);
   most = is.most;
@@ -63,7 +67,8 @@ no_call w timely = record { still = record { files = refl; left = untouched_begu
 -- calls that change no file, and then strokes
 pub still_struck : (old mid new : World) (held : Held) (t : Trail) (xs : List Stroke) → IsOpen old held t → IsTimely old → IsStill old mid → mid.said ≡ old.said → Passes old mid → Strikes mid new (name_of held) t xs → Strikes old new (name_of held) t xs
 still_struck old mid new held t xs is timely still silent time struck =
-    strokes_composed after_stroke (StandsIn (name_of held)) (OfFiles (name_of held)) old mid new t [] xs (waits old mid held.files t is.files timely still silent time) struck
+    strokes_composed after_stroke (StandsIn (name_of held)) (OfFiles (name_of held)) old mid new t [] xs
+    (still_alone old mid (OfFiles (name_of held)) (StandsIn (name_of held) t) timely still silent time is.files.left) struck
 
 -- a front of the strokes is one of more
 pub struck_front : (old new : World) (name : List ℕ) (t : Trail) (xs ys : List Stroke) → Strikes old new name t xs → Strikes old new name t (xs ++ ys)
@@ -110,12 +115,11 @@ module _ (old new : World) (held : Held) (t : Trail) (is : IsOpen old held t) (p
     begun_is = ap (λ (b : Base). b.image) (trail_base (begin guid ask) t) ∙ begun_image t.base guid ask
 
     stalled : pair.files.state ≡ 1
-    stalled = opened.files.agrees.state ∙ state_control t.base begun 1 (image_scn t.base.image + 1) guid header sixteen (omega arith) begun_is
+    stalled = opened.agrees.state ∙ state_control t.base begun 1 (image_scn t.base.image + 1) guid header sixteen (omega arith) begun_is
 
     pub open_begun : IsOpen new (record held { files = pair.files; pages = pair.pages; cap = pair.cap; scn = held.scn + 1; guid = guid }) (after_stroke (begin guid ask) t)
     open_begun = record {
-      files = opened.files;
-      pages = opened.pages;
+      files = opened;
       agrees = agrees_control held (record held { files = pair.files; pages = pair.pages; cap = pair.cap; scn = held.scn + 1; guid = guid }) t.base begun 1 (image_scn t.base.image + 1) guid is.agrees header sixteen (omega (arith, low, is.agrees.scn)) begun_is
           (ap (λ (n : ℕ). n + 1) is.agrees.scn) refl refl refl;
       merged = λ two. absurd (omega (arith, two, stalled));
@@ -133,8 +137,7 @@ module _ (old new : World) (held : Held) (t : Trail) (is : IsOpen old held t) (p
 
     pub open_ended : (scn : ℕ) → scn ≡ held.scn + 1 → IsOpen new (record held { files = pair.files; pages = pair.pages; cap = pair.cap; scn = scn; running = Some session; merged = 0 }) (after_stroke ends t)
     open_ended scn next = record {
-      files = opened.files;
-      pages = opened.pages;
+      files = opened;
       agrees = agrees_control held (record held { files = pair.files; pages = pair.pages; cap = pair.cap; scn = scn; running = Some session; merged = 0 }) t.base ended 2 (image_scn t.base.image + 1) (image_guid t.base.image) is.agrees header
           (ap length (sym is.agrees.guid) ∙ sixteen) (omega (arith, end_room, is.agrees.scn)) (ap (λ (b : Base). b.image) (trail_base ends t) ∙ ended_image t.base)
           (next ∙ ap (λ (n : ℕ). n + 1) is.agrees.scn) is.agrees.guid refl refl;
@@ -154,12 +157,11 @@ module _ (old new : World) (held : Held) (t : Trail) (is : IsOpen old held t) (p
     sixteen_there = ap length (sym is.agrees.guid) ∙ sixteen
 
     normal : pair.files.state ≡ 0
-    normal = opened.files.agrees.state ∙ state_control t.base finished 0 (image_scn t.base.image) (image_guid t.base.image) header sixteen_there (omega arith) finished_is
+    normal = opened.agrees.state ∙ state_control t.base finished 0 (image_scn t.base.image) (image_guid t.base.image) header sixteen_there (omega arith) finished_is
 
     pub open_finished : IsOpen new (record held { files = pair.files; pages = pair.pages; cap = pair.cap; running = None }) (after_stroke finish t)
     open_finished = record {
-      files = opened.files;
-      pages = opened.pages;
+      files = opened;
       agrees = agrees_control held (record held { files = pair.files; pages = pair.pages; cap = pair.cap; running = None }) t.base finished 0 (image_scn t.base.image) (image_guid t.base.image) is.agrees header sixteen_there (omega (arith, low, is.agrees.scn)) finished_is is.agrees.scn
           is.agrees.guid refl refl;
       merged = λ two. absurd (omega (arith, two, normal));
@@ -169,8 +171,7 @@ module _ (old new : World) (held : Held) (t : Trail) (is : IsOpen old held t) (p
   -- one entry more is merged
   pub open_more : PairOpen new pair t → pair.files.entries ≡ held.files.entries → held.merged < length held.files.entries → AreMerged new pair.files (held.merged + 1) → IsOpen new (record held { files = pair.files; pages = pair.pages; cap = pair.cap; merged = held.merged + 1 }) t
   open_more opened entries inside merged = record {
-    files = opened.files;
-    pages = opened.pages;
+    files = opened;
     agrees = record { scn = is.agrees.scn; four = is.agrees.four; guid = is.agrees.guid; forced = is.agrees.forced; read_only = is.agrees.read_only };
     merged = λ two. merged;
     most = λ two. omega (arith, inside, ap length entries);
@@ -180,7 +181,6 @@ module _ (old new : World) (held : Held) (t : Trail) (is : IsOpen old held t) (p
 pub open_again : (w : World) (held : Held) (t : Trail) (session : ℕ) → IsOpen w held t → IsOpen w (record held { running = Some session; merged = 0 }) t
 open_again w held t session is = record {
   files = is.files;
-  pages = is.pages;
   agrees = record { scn = is.agrees.scn; four = is.agrees.four; guid = is.agrees.guid; forced = is.agrees.forced; read_only = is.agrees.read_only };
   merged = λ two j none inside. absurd (omega (arith, none));
   most = λ two. omega arith;
@@ -195,15 +195,28 @@ open_struck w held t session strokes none is =
 pub all_merged : (w : World) (held : Held) (t : Trail) → IsOpen w held t → held.files.state ≡ 2 → length held.files.entries ≤ held.merged → AreMerged w held.files (length held.files.entries)
 all_merged w held t is merges all j low inside = is.merged merges j (omega (arith, low, all)) inside
 
--- both files are kept for good
-pub open_settled : (old new : World) (held : Held) (pair : Rattle.nb_owner.specs.Open.Held) (t : Trail) → IsOpen old held t → pair.files ≡ held.files → PairOpen new pair (settled t.base)
-    → ((k : ℕ) → AreMerged old held.files k → AreMerged new pair.files k) → IsOpen new (record held { files = pair.files; pages = pair.pages; cap = pair.cap }) (settled t.base)
-open_settled old new held pair t is same opened merged = record {
-  files = opened.files;
-  pages = opened.pages;
-  agrees = record { scn = is.agrees.scn; four = is.agrees.four; guid = is.agrees.guid; forced = is.agrees.forced; read_only = is.agrees.read_only };
-  merged = λ two. merged held.merged (is.merged (sym (ap (λ (f : Rattle.nb_base.specs.Open.Held). f.state) same) ∙ two));
+-- what waits goes out, and both files may be kept for good
+pub open_out : (old new : World) (held : Held) (pair : Rattle.nb_owner.specs.Open.Held) (t u : Trail) → IsOpen old held t → u.base ≡ t.base → pair.files ≡ held.files → PairOpen new pair u
+    → (held.files.state ≢ 0 → AreMerged old held.files held.merged → AreMerged new pair.files held.merged) → IsOpen new (record held { files = pair.files; pages = pair.pages; cap = pair.cap }) u
+open_out old new held pair t u is base same opened merged = record {
+  files = opened;
+  agrees = subst (λ (b : Base). AgreesWith (record held { files = pair.files; pages = pair.pages; cap = pair.cap }) b) (sym base)
+      (record { scn = is.agrees.scn; four = is.agrees.four; guid = is.agrees.guid; forced = is.agrees.forced; read_only = is.agrees.read_only });
+  merged = λ two. let merges = sym (ap (λ (f : Rattle.nb_base.specs.Open.Held). f.state) same) ∙ two in merged (λ e. absurd (omega (arith, merges, e))) (is.merged merges);
   most = λ two. subst (λ (f : Rattle.nb_base.specs.Open.Held). held.merged ≤ length f.entries) (sym same) (is.most (sym (ap (λ (f : Rattle.nb_base.specs.Open.Held). f.state) same) ∙ two));
+}
+
+-- a write wanted memory
+pub open_wanting : (old new : World) (held : Held) (pair : Rattle.nb_owner.specs.Open.Held) (t : Trail) → IsOpen old held t → pair.files.state ≡ held.files.state → PairOpen new pair t
+    → (held.files.state ≡ 2 → (pair ≡ pair_of held) × (new ≡ old)) → IsOpen new (record held { files = pair.files; pages = pair.pages; cap = pair.cap }) t
+open_wanting old new held pair t is state opened stays = record {
+  files = opened;
+  agrees = record { scn = is.agrees.scn; four = is.agrees.four; guid = is.agrees.guid; forced = is.agrees.forced; read_only = is.agrees.read_only };
+  merged = λ two.
+      let merges = sym state ∙ two in
+      let same = stays merges in
+      subst (λ (w : World). AreMerged w pair.files held.merged) (sym same.1) (subst (λ (p : Rattle.nb_owner.specs.Open.Held). AreMerged old p.files held.merged) (sym same.0) (is.merged merges));
+  most = λ two. let merges = sym state ∙ two in subst (λ (p : Rattle.nb_owner.specs.Open.Held). held.merged ≤ length p.files.entries) (sym (stays merges).0) (is.most merges);
 }
 
 -- the strokes of an end

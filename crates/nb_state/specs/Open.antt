@@ -4,8 +4,9 @@ use Rattle.nb_host.specs.World.{World}
 use Rattle.nb_model.specs.Account.{Base}
 use Rattle.nb_model.specs.Image.{image_scn, image_guid, is_forced, is_read_only}
 use Rattle.nb_model.specs.Trail.{Trail}
-use Rattle.nb_base.specs.Open.{IsOpen as AreOpen, AreMerged}
-use Rattle.nb_owner.specs.Open.{Pages, AreOf}
+use Rattle.nb_base.specs.Open.{AreMerged}
+use Rattle.nb_cache.specs.Held.{NoneWaits}
+use Rattle.nb_owner.specs.Open.{Pages, IsOpen as IsPairOpen}
 
 -- What a contract sees of an open database.
 pub record Held : Type 0 where
@@ -30,6 +31,14 @@ pub record Held : Type 0 where
 abbrev pub name_of : Held → List ℕ
 name_of held = held.files.name
 
+-- its two files, and the pages in memory
+abbrev pub pair_of : Held → Rattle.nb_owner.specs.Open.Held
+pair_of held = record { files = held.files; pages = held.pages; cap = held.cap }
+
+-- no page waits in memory to be written
+abbrev pub NoPageWaits : Held → Type 0
+NoPageWaits held = NoneWaits held.pages
+
 -- all but which pages are in memory
 abbrev pub but_pages : Held → Held
 but_pages held = record held { pages = [] }
@@ -43,11 +52,9 @@ pub record AgreesWith (held : Held) (b : Base) : Type 0 where
   pub forced : held.forced ≡ is_forced b.image
   pub read_only : held.read_only ≡ is_read_only b.image
 
--- The database is open: this was seen of it since its last settled point. Each page in memory is as it was seen last. Its entries that
--- were merged are equal in both files.
+-- The database is open: this was seen of it since its last settled point. Its entries that were merged are equal in both files.
 pub record IsOpen (w : World) (held : Held) (t : Trail) : Type 0 where
-  pub files : AreOpen w held.files t
-  pub pages : AreOf t.base.image held.pages
+  pub files : IsPairOpen w (pair_of held) t
   pub agrees : AgreesWith held t.base
   pub merged : held.files.state ≡ 2 → AreMerged w held.files held.merged
   pub most : held.files.state ≡ 2 → held.merged ≤ length held.files.entries

@@ -1,5 +1,5 @@
 // What page 0 says behind its head.
-ghost use Rattle.std.specs.Prelude.{◌≡◌, ◌≤◌, length, not, ◌==◌};
+ghost use Rattle.std.specs.Prelude.{◌≡◌, ◌<◌, ◌≤◌, length, not, ◌==◌};
 ghost use Rattle.nb_fields.specs.Bytes.{number_in};
 ghost use Rattle.nb_fields.specs.Header.{scn_of, guid_of};
 
@@ -19,6 +19,7 @@ pub struct Front {
 pub fn front_of(page: &[u8]) -> Front
     requires { 80 ≤ length page.now }
     ensures scn { result.scn ≡ scn_of page.now }
+    ensures four { result.scn < 4294967296 }
     ensures guid { result.guid ≡ guid_of page.now }
     ensures forced { result.forced ≡ not (number_in 64 1 page.now == 0) }
     ensures read_only { result.read_only ≡ not (number_in 65 1 page.now == 0) }

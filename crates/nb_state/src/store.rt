@@ -1,18 +1,20 @@
-ghost use Rattle.std.specs.Prelude.{◌≡◌, ◌≤◌, ◌<◌, ◌+◌, ℕ, List, ◌∷◌, [], length, IsTrue, IsSome, IsOk, IfErr, OnOk, Option, false, not, ◌==◌};
+ghost use Rattle.std.specs.Prelude.{◌≡◌, ◌≤◌, ◌<◌, ◌+◌, ℕ, List, ◌∷◌, [], length, IsTrue, IsSome, IsOk, IfErr, OnOk, Option, true, false, not, ◌==◌};
 ghost use Rattle.nb_fields.specs.Bytes.{is_zeros, number_in};
 ghost use Rattle.nb_fields.specs.Places.{is_page_size};
 ghost use Rattle.nb_fields.specs.Fresh.{fresh};
 ghost use Rattle.nb_host.specs.Causes.{CountsFault};
 ghost use Rattle.nb_change.specs.Counts.{CountsDevice};
+ghost use Rattle.nb_change.specs.Gave.{GaveNothing};
 ghost use Rattle.nb_page.specs.Quiet.{Quiet};
 ghost use Rattle.nb_model.specs.Account.{Ask};
 ghost use Rattle.nb_model.specs.Image.{page_at};
 ghost use Rattle.nb_model.specs.Strokes.{page as page_stroke};
 ghost use Rattle.nb_model.specs.Trail.{Trail, settled};
 ghost use Rattle.nb_base.specs.Open.{Fits};
-ghost use Rattle.nb_base.specs.Takes.{IsNoRefusal};
+ghost use Rattle.nb_base.specs.Takes.{Takes, Strikes, IsNoRefusal};
 ghost use Rattle.nb_cache.specs.Held.{slot_of};
-ghost use Rattle.nb_state.specs.Open.{IsOpen, but_pages};
+ghost use Rattle.nb_owner.specs.Open.{may_wait};
+ghost use Rattle.nb_state.specs.Open.{IsOpen, NoPageWaits, but_pages, name_of, pair_of};
 ghost use Rattle.nb_state.specs.Does.{Makes, Goes};
 
 use crate::front::front_of;
@@ -180,9 +182,9 @@ impl Store {
     }
 
     /// Replaces page `number`, or adds it at the end, of page 0 what is behind the control block. It is kept for good where writes are
-    /// forced, where it makes the database longer, and where it is page 0 or an SCN inventory page.
+    /// forced, where it makes the database longer, and where it is page 0. Every other write may wait in memory, and then makes no call.
     ///
-    /// Where it wants memory nothing has changed.
+    /// Where it wants memory it has changed no page.
     pub fn write<H: Host>(&mut self, host: &mut H, number: u32, page: &[u8]) -> Result<(), Fault>
         requires size { length page.now ≡ self.old.files.page_size }
         requires most { number < 1048576 }
@@ -193,7 +195,9 @@ impl Store {
         ensures reads { (H.world host.new).reads ≡ (H.world host.old).reads }
         ensures cause { CountsDevice result (H.faults host.old) (H.faults host.new) }
         ensures not_refused { IfErr result IsNoRefusal }
-        ensures on_memory { result ≡ Err Fault.Memory → (self.new ≡ self.old) × (host.new ≡ host.old) }
+        ensures waits { may_wait (pair_of self.old) number self.old.forced ≡ true → IsOk result × (host.new ≡ host.old) }
+        ensures on_memory { (t : Trail) → IsTrue H.tells → IsOpen (H.world host.old) self.old t → result ≡ Err Fault.Memory
+            → Strikes (H.world host.old) (H.world host.new) (name_of self.old) t [] × IsOpen (H.world host.new) self.new t }
     {
         self.pair.write(host, number, page, self.forced)?;
         self.take_flags(number, page);
@@ -213,14 +217,33 @@ impl Store {
         }
     }
 
-    /// Keeps both files for good. It changes nothing.
+    /// Writes out what waits, and keeps both files for good. It changes no page.
     pub fn sync<H: Host>(&mut self, host: &mut H) -> Result<(), HostFault>
-        ensures open { (t : Trail) → IsTrue H.tells → IsOpen (H.world host.old) self.old t → IsOpen (H.world host.new) self.new t }
+        ensures takes { (t : Trail) → IsTrue H.tells → IsOpen (H.world host.old) self.old t
+            → Takes result (H.world host.old) (H.world host.new) (name_of self.old) (IsOpen (H.world host.new) self.new) t [] }
         ensures settled { (t : Trail) → IsTrue H.tells → IsOpen (H.world host.old) self.old t → OnOk result (IsOpen (H.world host.new) self.new (settled t.base)) }
-        ensures same { self.new ≡ self.old }
-        ensures quiet { Quiet (H.world host.old) (H.world host.new) }
+        ensures same { but_pages self.new ≡ but_pages self.old }
+        ensures gave { GaveNothing (H.world host.old) (H.world host.new) }
+        ensures reads { (H.world host.new).reads ≡ (H.world host.old).reads }
         ensures cause { CountsFault result (H.faults host.old) (H.faults host.new) }
     {
-        self.pair.sync(host)
+        self.pair.sync(host)?;
+        Ok(())
+    }
+
+    /// Writes out what waits. It changes no page. Where nothing waits it makes no call, and at a settled point nothing does.
+    pub fn write_out<H: Host>(&mut self, host: &mut H) -> Result<(), HostFault>
+        ensures takes { (t : Trail) → IsTrue H.tells → IsOpen (H.world host.old) self.old t
+            → Takes result (H.world host.old) (H.world host.new) (name_of self.old) (IsOpen (H.world host.new) self.new) t [] }
+        ensures none { OnOk result (NoPageWaits self.new) }
+        ensures idle { NoPageWaits self.old → IsOk result × (self.new ≡ self.old) × (host.new ≡ host.old) }
+        ensures at_settled { (t : Trail) → IsTrue H.tells → IsOpen (H.world host.old) self.old t → t.earlier ≡ [] → IsOk result × (self.new ≡ self.old) × (host.new ≡ host.old) }
+        ensures same { but_pages self.new ≡ but_pages self.old }
+        ensures gave { GaveNothing (H.world host.old) (H.world host.new) }
+        ensures reads { (H.world host.new).reads ≡ (H.world host.old).reads }
+        ensures cause { CountsFault result (H.faults host.old) (H.faults host.new) }
+    {
+        self.pair.write_out(host)?;
+        Ok(())
     }
 }

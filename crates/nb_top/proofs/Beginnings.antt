@@ -23,7 +23,7 @@ use Rattle.nb_model.specs.Steps.{after_steps, steps_in}
 use Rattle.nb_model.specs.Trail.{settled}
 use Rattle.nb_model.proofs.TodoLaws.{status_refused}
 use Rattle.nb_base.specs.Open.{OfFiles}
-use Rattle.nb_state.specs.Open.{Held, name_of}
+use Rattle.nb_state.specs.Open.{Held, NoPageWaits, name_of}
 use Rattle.nb_script.specs.Asked.{IsAskable}
 use Rattle.nb_script.specs.Scripts.{Plan}
 use Rattle.nb_session.specs.declared.stop.Stop.{Stop}
@@ -128,8 +128,8 @@ module _ (old : World) (account : Account) (given : Given) (plan : Plan) (tellin
         begun_fails old account given plan telling askable is.first mid new is.alone is.read is.silent is.gave is.opens is.stops held after is.named is.small e (says_it new after plays)
 
     -- all turns were taken
-    pub script_ends : (new : World) (after : Held) (refused : Bool) (status : Status) → number_of status ≡ (if refused then 1 else 0)
+    pub script_ends : (new : World) (after : Held) (refused : Bool) (status : Status) → number_of status ≡ (if refused then 1 else 0) → NoPageWaits after
         → PlaysOpened (Ok refused) mid new held after (start old account given plan telling askable is.first) said_first telling held.files.count script_now plan → RunsTo (Ok status) old new (Ok (ToRun plan telling)) account given
     unfolding script_now
-    script_ends new after refused status number plays =
-        begun_runs old account given plan telling askable is.first mid new is.alone is.read is.silent is.gave is.opens is.stops held after is.named is.small refused status number (says_it new after plays)
+    script_ends new after refused status number none plays =
+        begun_runs old account given plan telling askable is.first mid new is.alone is.read is.silent is.gave is.opens is.stops held after is.named is.small refused status number none (says_it new after plays)

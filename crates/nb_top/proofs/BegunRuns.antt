@@ -20,7 +20,8 @@ use Rattle.nb_model.specs.Steps.{steps_of}
 use Rattle.nb_model.specs.Strokes.{Stroke, base_in}
 use Rattle.nb_model.specs.Trail.{settled}
 use Rattle.nb_base.specs.Open.{OfFiles}
-use Rattle.nb_state.specs.Open.{Held, IsOpen, name_of}
+use Rattle.nb_state.specs.Open.{Held, NoPageWaits, IsOpen, name_of}
+use Rattle.nb_state.proofs.ShownLaws.{shown}
 use Rattle.nb_script.specs.Asked.{IsAskable}
 use Rattle.nb_script.specs.Scripts.{Plan}
 use Rattle.nb_session.specs.declared.stop.Stop.{Stop}
@@ -166,8 +167,8 @@ module _ (old : World) (account : Account) (given : Given) (plan : Plan) (tellin
     }
 
     -- all turns were taken
-    pub begun_runs : (refused : Bool) (status : Status) → number_of status ≡ (if refused then 1 else 0) → PlaysOpened (Ok refused) mid new held after start first_one telling pages first.now plan → RunsTo (Ok status) old new (Ok (ToRun plan telling)) account given
-    begun_runs refused status number plays = record {
+    pub begun_runs : (refused : Bool) (status : Status) → number_of status ≡ (if refused then 1 else 0) → NoPageWaits after → PlaysOpened (Ok refused) mid new held after start first_one telling pages first.now plan → RunsTo (Ok status) old new (Ok (ToRun plan telling)) account given
+    begun_runs refused status number none plays = record {
       events = events n;
       last = (turns plan first.now n).1.account;
       left = (turns plan first.now n).1.given;
@@ -187,7 +188,7 @@ module _ (old : World) (account : Account) (given : Given) (plan : Plan) (tellin
         after_is = plays.plays.name ∙ named
 
         ended : IsEnded new name (seen_after account name (steps_of (events n)))
-        ended = subst (λ (m : List ℕ). IsEnded new m (seen_after account name (steps_of (events n)))) after_is (record { shows = open_then.files.shows; left = open_then.files.left })
+        ended = subst (λ (m : List ℕ). IsEnded new m (seen_after account name (steps_of (events n)))) after_is (record { shows = shown new after (seen_after account name (steps_of (events n))) none open_then; left = open_then.files.left })
 
         done : Finished status old new account (Some first.target) (events n) given (turns plan first.now n).1.given
         done = record {

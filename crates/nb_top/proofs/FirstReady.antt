@@ -34,6 +34,7 @@ use Rattle.nb_model.proofs.StandsLaws.{delta_named, delta_same, no_main}
 use Rattle.nb_base.specs.Open.{OfFiles}
 use Rattle.nb_base.proofs.OwnedLaws.{Holds, holds, base-state}
 use Rattle.nb_state.specs.Open.{Held, IsOpen, name_of}
+use Rattle.nb_state.proofs.ShownLaws.{shown_settled}
 use Rattle.nb_script.specs.Asked.{IsFurther, IsAskable}
 use Rattle.nb_script.specs.Scripts.{Plan}
 use Rattle.nb_script.specs.Words.{is_given}
@@ -110,7 +111,7 @@ module _ (old mid : World) (before : Account) (name : List ℕ) (plain : is_delt
     there = ap now.account.entry name_is ∙ behind.here;
     named = named ∙ sym name_is;
     running = runs;
-    known = λ m is none. known_behind old mid before name now plain names behind (subst (λ (n : List ℕ). ShowsIn n (base_now now) mid.files) named opened.files.shows) read m is;
+    known = λ m is none. known_behind old mid before name now plain names behind (subst (λ (n : List ℕ). ShowsIn n (base_now now) mid.files) named (shown_settled mid held (base_now now) opened)) read m is;
   }
 
 -- What a further statement names is a name, and no difference file's.
@@ -151,7 +152,7 @@ module _ (plan : Plan) (askable : IsAskable plan) (now : Now) (todo : now.todo �
       sixteen
     where
       parts : Holds (base_now now) (w.files (name_of held)) (w.files (delta_name (name_of held)))
-      parts = holds (name_of held) (base_now now) (w.files (name_of held)) (w.files (delta_name (name_of held))) opened.files.shows
+      parts = holds (name_of held) (base_now now) (w.files (name_of held)) (w.files (delta_name (name_of held))) (shown_settled w held (base_now now) opened)
 
       main_state : image_state (base_now now).image ≡ image_state parts.main
       main_state = base-state (base_now now) (w.files (name_of held)) (w.files (delta_name (name_of held))) parts

@@ -131,7 +131,7 @@ module _ (old mid new : World) (held after : Held) (start : Base) (now : Now) (p
     status = fine;
     given = given_nothing old mid now.given now.given says.gave refl;
     kept = λ n bytes there. absurd (none_made event unmade (n, bytes) there);
-    unchanged = λ only. says.still.files;
+    unchanged = λ settled only. says.still.files;
   })
 
   -- turns behind it
@@ -146,7 +146,7 @@ module _ (old mid new : World) (held after : Held) (start : Base) (now : Now) (p
             (λ n bytes there. absurd (none_made event unmade (n, bytes) there)) false refused (reply_said fine said)
             (subst (λ (t : Trail). Plays (Ok refused) mid new held after t now more files) (sym trail_is) whole.plays);
         finished = whole.finished;
-        unchanged = λ only. whole.plays.done.unchanged only ∙ says.still.files;
+        unchanged = λ only. whole.plays.done.unchanged refl only ∙ says.still.files;
       }
   reply_said_then fine said (Err e) whole =
       let more : Played = told_behind whole.how_often in

@@ -16,6 +16,7 @@ ghost use Rattle.nb_model.specs.Strokes.{Stroke};
 ghost use Rattle.nb_model.specs.Trail.{Trail, settled as settled_trail};
 ghost use Rattle.nb_model.specs.declared.reply.Reply.TheVariants.{Refused as RefusedReply};
 ghost use Rattle.nb_model.specs.declared.statement.Statement.TheVariants.{CreateDb, OpenDb};
+ghost use Rattle.nb_state.specs.Open.{NoPageWaits};
 ghost use Rattle.nb_state.specs.Beginnings.{Attaches, Creates};
 ghost use Rattle.nb_script.specs.Asked.{IsFirst, IsAskable};
 ghost use Rattle.nb_session.specs.Acts.{Grows};
@@ -147,7 +148,7 @@ fn told_by(telling: Telling, pages: u32) -> Told
     }
 }
 
-/// The sessions take their turns, and say so much of them. Answers whether a statement was refused.
+/// The sessions take their turns, and say so much of them; no page waits then. Answers whether a statement was refused.
 fn take_told<H: Host>(
     alloc: Global,
     host: &mut H,
@@ -159,6 +160,7 @@ fn take_told<H: Host>(
     ensures plays { (now : Now) (t : Trail) → IsTrue H.tells → IsReady (H.world host.old) engine.old t now → now.todo ≡ begun script.now.sessions → IsMaking now
         → Foretells now.given (H.world host.old) (H.world host.new)
         → PlaysTold result (H.world host.old) (H.world host.new) engine.old engine.new t telling engine.old.files.count now script.now.schedule }
+    ensures none_waits { IfOk result (λ refused. NoPageWaits engine.new) }
     ensures grows { (now : Now) (t : Trail) → IsTrue H.tells → IsReady (H.world host.old) engine.old t now → now.todo ≡ begun script.now.sessions → IsMaking now
         → Grows (H.world host.old) (H.world host.new) }
     ensures cause { CountsStop result (H.faults host.old) (H.faults host.new) }
@@ -182,6 +184,7 @@ fn run_opened<H: Host>(
         → after_steps (settled_trail start) (steps_in (first_event script.now.first_session strokes (opened_reply script.now.first engine.old.files.count engine.old.files.state))) ≡ settled_trail (base_now now)
         → PlaysOpened result (H.world host.old) (H.world host.new) engine.old engine.new start
         (told_first telling (first_event script.now.first_session strokes (opened_reply script.now.first engine.old.files.count engine.old.files.state))) telling engine.old.files.count now script.now }
+    ensures none_waits { IfOk result (λ refused. NoPageWaits engine.new) }
     ensures grows { (now : Now) → IsTrue H.tells → IsReady (H.world host.old) engine.old (settled_trail (base_now now)) now → now.todo ≡ begun script.now.sessions → IsMaking now
         → Grows (H.world host.old) (H.world host.new) }
     ensures cause { CountsStop result (H.faults host.old) (H.faults host.new) }

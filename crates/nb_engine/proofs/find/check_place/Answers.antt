@@ -31,3 +31,6 @@ pub returns-clause-map : goal.returns-clause-map
 returns-clause-map g c t tells is ends =
     let still = c.in_ok-check_entry.ensures.open t tells is in
     on_ok c.check_entry-2.result (c.in_ok-hold_map.ensures.map t tells still ends)
+
+pub returns-clause-open : goal.returns-clause-open
+returns-clause-open g c t tells is = c.check_entry-2.ensures.open t tells (c.in_ok-hold_map.ensures.open t tells (c.in_ok-check_entry.ensures.open t tells is))

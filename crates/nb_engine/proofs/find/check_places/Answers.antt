@@ -66,3 +66,6 @@ returns-then-not-is_system_place-clause-map g c t tells is ends plain =
     let still = c.loop-place.invariant.opened t tells is in
     let same : c.loop-place.place ≡ c.args.first = c.loop-place.invariant.plain (ap (λ (s : ℕ). is_system_place s c.args.first) is.files.agrees.page_size ∙ plain) in
     subst (λ (p : ℕ). HoldsMap t.base.image p c.check_place.new.map) same (c.in_ok-check_place.ensures.map t tells still (c.loop-place.invariant.ends t tells is ends)) plain
+
+pub returns-in_err-place-clause-open : goal.returns-in_err-place-clause-open
+returns-in_err-place-clause-open g c t tells is = c.in_err-place.ensures.open t tells (c.in_ok-check_place.ensures.open t tells (c.loop-place.invariant.opened t tells is))

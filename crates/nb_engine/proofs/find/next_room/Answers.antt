@@ -76,3 +76,12 @@ loop-place-preserved g c =
 
 pub returns-clause-full : goal.returns-clause-full
 returns-clause-full g c t tells is sound = (refl, λ p low room. let most = room.most in c.loop-place.invariant.before t tells is p low (omega (arith, most, c.loop-place-test.false)) room)
+
+pub returns-in_err-check_place-clause-open : goal.returns-in_err-check_place-clause-open
+returns-in_err-check_place-clause-open g c t tells is = c.in_err-check_place.ensures.open t tells (c.loop-place.invariant.opened t tells is)
+
+pub returns-then-not-is_system_place-clause-open : goal.returns-then-not-is_system_place-clause-open
+returns-then-not-is_system_place-clause-open g c t tells is = c.in_ok-check_place.ensures.open t tells (c.loop-place.invariant.opened t tells is)
+
+pub returns-in_err-place-2-clause-open : goal.returns-in_err-place-2-clause-open
+returns-in_err-place-2-clause-open g c t tells is = c.in_err-place-2.ensures.open t tells (c.in_ok-check_place.ensures.open t tells (c.loop-place.invariant.opened t tells is))

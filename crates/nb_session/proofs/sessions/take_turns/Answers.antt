@@ -1,83 +1,35 @@
-use Rattle.std.proofs.Common.{ap, refl, subst, sym}
-use Rattle.std.specs.Prelude.{Bool, Ok, Err}
-use Rattle.nb_host.specs.declared.faults.Fault.TheVariants.{Refused, Device, Memory}
-use Rattle.nb_sched.specs.Turns.{scene}
-use Rattle.nb_session.specs.declared.stop.Stop.TheVariants.{Device as DeviceStop, Memory as MemoryStop}
-use Rattle.nb_session.specs.Askers.{first_askers}
-use Rattle.nb_session.specs.Todo.{PlaysWhole}
-use Rattle.nb_session.proofs.WholeLaws.{turns_as, first_ready, whole_played, whole_failed, whole_grows, whole_counts, never_refused}
+use Rattle.std.proofs.Common.{ap}
+use Rattle.nb_session.proofs.GiftLaws.{grows_none, grows_joined, foretold_still}
+use Rattle.nb_session.proofs.OutLaws.{whole_out, whole_stopped}
 use Rattle.nb_session.proofs.sessions.take_turns.Goals as goal
-
-pub take_turns-requires-clause-ready : goal.take_turns-requires-clause-ready
-take_turns-requires-clause-ready g c =
-    first_ready g.H.Host.tells g.H.Host.world g.H.Host.faults c.args.told c.args.script.now c.requires.askable c.sessions_of-all.result c.args.host.now c.args.engine.now c.sessions_of-all.ensures
 
 pub returns-in-Ok-clause-plays : goal.returns-in-Ok-clause-plays
 returns-in-Ok-clause-plays g c now t tells ready begins making foretold =
-    let whole = c.in-Ok.ensures.turns in
-    subst (λ (b : Bool). PlaysWhole (Ok b) (g.H.Host.world c.args.host.now) (g.H.Host.world c.take_turns.new.host) c.args.engine.now c.take_turns.new.shared t c.args.told now c.args.script.now.schedule) (sym c.any_refused.ensures)
-    (whole_played g.H.Host.tells tells g.H.Host.world g.H.Host.faults c.args.host.now c.args.engine.now t c.args.told now c.args.script.now c.requires.askable whole.0 making (g.met.H.Host.timely c.args.host.now) ready begins
-    (scene c.take_turns.new.agents c.take_turns.new.host c.take_turns.new.shared)
-    (turns_as g.H.Host.tells g.H.Host.world g.H.Host.faults c.args.script.now.schedule _ (first_askers c.args.told c.args.script.now) _ whole.0 c.args.host.now c.args.engine.now (Ok tt) _ _ c.schedule.ensures c.sessions_of-all.ensures refl whole.1)
-    c.in-Ok.ensures.finished foretold)
+    let old = g.H.Host.world c.args.host.now in
+    let mid = g.H.Host.world c.play.new.host in
+    let new = g.H.Host.world c.write_out.new.host in
+    let grown = c.play.ensures.grows now t tells ready begins making in
+    let out = c.in-Ok.ensures in
+    whole_out old mid new c.args.engine.now c.play.new.engine c.write_out.new.self t c.args.told now c.args.script.now.schedule making c.in_ok-refused.refused
+    (c.in_ok-refused.ensures.plays now t tells ready begins making (foretold_still old mid new now.given grown out.gave foretold)) out.same out.gave
+    (λ u opened. out.takes u tells opened) (λ u opened settled. ap (λ host. (g.H.Host.world host).files) (out.at_settled u tells opened settled).2)
 
 pub returns-in-Ok-clause-grows : goal.returns-in-Ok-clause-grows
 returns-in-Ok-clause-grows g c now t tells ready begins making =
-    let whole = c.in-Ok.ensures.turns in
-    whole_grows g.H.Host.tells tells g.H.Host.world g.H.Host.faults c.args.host.now c.args.engine.now t c.args.told now c.args.script.now c.requires.askable whole.0 making (g.met.H.Host.timely c.args.host.now) ready begins (Ok tt)
-    (scene c.take_turns.new.agents c.take_turns.new.host c.take_turns.new.shared)
-    (turns_as g.H.Host.tells g.H.Host.world g.H.Host.faults c.args.script.now.schedule _ (first_askers c.args.told c.args.script.now) _ whole.0 c.args.host.now c.args.engine.now (Ok tt) _ _ c.schedule.ensures c.sessions_of-all.ensures refl whole.1)
+    grows_joined (g.H.Host.world c.args.host.now) (g.H.Host.world c.play.new.host) (g.H.Host.world c.write_out.new.host) (c.play.ensures.grows now t tells ready begins making)
+    (grows_none (g.H.Host.world c.play.new.host) (g.H.Host.world c.write_out.new.host) c.write_out.ensures.gave)
 
-pub returns-in-Ok-clause-cause : goal.returns-in-Ok-clause-cause
-returns-in-Ok-clause-cause g c =
-    let whole = c.in-Ok.ensures.turns in
-    whole_counts g.H.Host.tells g.H.Host.world g.H.Host.faults _ _ (scene c.take_turns.new.agents c.take_turns.new.host c.take_turns.new.shared) (Ok tt)
-    (turns_as g.H.Host.tells g.H.Host.world g.H.Host.faults c.args.script.now.schedule _ (first_askers c.args.told c.args.script.now) _ whole.0 c.args.host.now c.args.engine.now (Ok tt) _ _ c.schedule.ensures c.sessions_of-all.ensures refl whole.1)
+pub returns-in-Err-clause-plays : goal.returns-in-Err-clause-plays
+returns-in-Err-clause-plays g c now t tells ready begins making foretold =
+    let old = g.H.Host.world c.args.host.now in
+    let mid = g.H.Host.world c.play.new.host in
+    let new = g.H.Host.world c.write_out.new.host in
+    let grown = c.play.ensures.grows now t tells ready begins making in
+    let out = c.in-Err.ensures in
+    whole_stopped old mid new c.args.engine.now c.play.new.engine c.write_out.new.self t c.args.told now c.args.script.now.schedule making c.in_ok-refused.refused
+    (c.in_ok-refused.ensures.plays now t tells ready begins making (foretold_still old mid new now.given grown out.gave foretold)) out.same out.gave _ (λ u opened. (out.takes u tells opened).left)
 
-pub returns-in-Err-Device-clause-plays : goal.returns-in-Err-Device-clause-plays
-returns-in-Err-Device-clause-plays g c now t tells ready begins making foretold =
-    let whole = c.in-Err-Device.ensures.turns in
-    whole_failed g.H.Host.tells tells g.H.Host.world g.H.Host.faults c.args.host.now c.args.engine.now t c.args.told now c.args.script.now c.requires.askable whole.0 making (g.met.H.Host.timely c.args.host.now) ready begins
-    (scene c.take_turns.new.agents c.take_turns.new.host c.take_turns.new.shared) Device
-    (turns_as g.H.Host.tells g.H.Host.world g.H.Host.faults c.args.script.now.schedule _ (first_askers c.args.told c.args.script.now) _ whole.0 c.args.host.now c.args.engine.now (Err Device) _ _ c.schedule.ensures c.sessions_of-all.ensures (ap Err c.in-Err-Device.field-0-is) whole.1)
-    DeviceStop (λ refused. refl) foretold
-
-pub returns-in-Err-Device-clause-grows : goal.returns-in-Err-Device-clause-grows
-returns-in-Err-Device-clause-grows g c now t tells ready begins making =
-    let whole = c.in-Err-Device.ensures.turns in
-    whole_grows g.H.Host.tells tells g.H.Host.world g.H.Host.faults c.args.host.now c.args.engine.now t c.args.told now c.args.script.now c.requires.askable whole.0 making (g.met.H.Host.timely c.args.host.now) ready begins (Err Device)
-    (scene c.take_turns.new.agents c.take_turns.new.host c.take_turns.new.shared)
-    (turns_as g.H.Host.tells g.H.Host.world g.H.Host.faults c.args.script.now.schedule _ (first_askers c.args.told c.args.script.now) _ whole.0 c.args.host.now c.args.engine.now (Err Device) _ _ c.schedule.ensures c.sessions_of-all.ensures (ap Err c.in-Err-Device.field-0-is) whole.1)
-
-pub returns-in-Err-Device-clause-cause : goal.returns-in-Err-Device-clause-cause
-returns-in-Err-Device-clause-cause g c =
-    let whole = c.in-Err-Device.ensures.turns in
-    whole_counts g.H.Host.tells g.H.Host.world g.H.Host.faults _ _ (scene c.take_turns.new.agents c.take_turns.new.host c.take_turns.new.shared) (Err Device)
-    (turns_as g.H.Host.tells g.H.Host.world g.H.Host.faults c.args.script.now.schedule _ (first_askers c.args.told c.args.script.now) _ whole.0 c.args.host.now c.args.engine.now (Err Device) _ _ c.schedule.ensures c.sessions_of-all.ensures (ap Err c.in-Err-Device.field-0-is) whole.1)
-
-pub returns-in-Err-Memory-clause-plays : goal.returns-in-Err-Memory-clause-plays
-returns-in-Err-Memory-clause-plays g c now t tells ready begins making foretold =
-    let whole = c.in-Err-Memory.ensures.turns in
-    whole_failed g.H.Host.tells tells g.H.Host.world g.H.Host.faults c.args.host.now c.args.engine.now t c.args.told now c.args.script.now c.requires.askable whole.0 making (g.met.H.Host.timely c.args.host.now) ready begins
-    (scene c.take_turns.new.agents c.take_turns.new.host c.take_turns.new.shared) Memory
-    (turns_as g.H.Host.tells g.H.Host.world g.H.Host.faults c.args.script.now.schedule _ (first_askers c.args.told c.args.script.now) _ whole.0 c.args.host.now c.args.engine.now (Err Memory) _ _ c.schedule.ensures c.sessions_of-all.ensures (ap Err c.in-Err-Memory.field-0-is) whole.1)
-    MemoryStop (λ refused. refl) foretold
-
-pub returns-in-Err-Memory-clause-grows : goal.returns-in-Err-Memory-clause-grows
-returns-in-Err-Memory-clause-grows g c now t tells ready begins making =
-    let whole = c.in-Err-Memory.ensures.turns in
-    whole_grows g.H.Host.tells tells g.H.Host.world g.H.Host.faults c.args.host.now c.args.engine.now t c.args.told now c.args.script.now c.requires.askable whole.0 making (g.met.H.Host.timely c.args.host.now) ready begins (Err Memory)
-    (scene c.take_turns.new.agents c.take_turns.new.host c.take_turns.new.shared)
-    (turns_as g.H.Host.tells g.H.Host.world g.H.Host.faults c.args.script.now.schedule _ (first_askers c.args.told c.args.script.now) _ whole.0 c.args.host.now c.args.engine.now (Err Memory) _ _ c.schedule.ensures c.sessions_of-all.ensures (ap Err c.in-Err-Memory.field-0-is) whole.1)
-
-pub returns-in-Err-Memory-clause-cause : goal.returns-in-Err-Memory-clause-cause
-returns-in-Err-Memory-clause-cause g c =
-    let whole = c.in-Err-Memory.ensures.turns in
-    whole_counts g.H.Host.tells g.H.Host.world g.H.Host.faults _ _ (scene c.take_turns.new.agents c.take_turns.new.host c.take_turns.new.shared) (Err Memory)
-    (turns_as g.H.Host.tells g.H.Host.world g.H.Host.faults c.args.script.now.schedule _ (first_askers c.args.told c.args.script.now) _ whole.0 c.args.host.now c.args.engine.now (Err Memory) _ _ c.schedule.ensures c.sessions_of-all.ensures (ap Err c.in-Err-Memory.field-0-is) whole.1)
-
-pub unreachable-requires : goal.unreachable-requires
-unreachable-requires g c =
-    let whole = c.in-Err-Refused.ensures.turns in
-    never_refused g.H.Host.tells g.H.Host.world g.H.Host.faults _ _ (scene c.take_turns.new.agents c.take_turns.new.host c.take_turns.new.shared) c.in-Err-Refused.field-0-0
-    (turns_as g.H.Host.tells g.H.Host.world g.H.Host.faults c.args.script.now.schedule _ (first_askers c.args.told c.args.script.now) _ whole.0 c.args.host.now c.args.engine.now (Err (Refused c.in-Err-Refused.field-0-0)) _ _ c.schedule.ensures c.sessions_of-all.ensures (ap Err c.in-Err-Refused.field-0-is) whole.1)
+pub returns-in-Err-clause-grows : goal.returns-in-Err-clause-grows
+returns-in-Err-clause-grows g c now t tells ready begins making =
+    grows_joined (g.H.Host.world c.args.host.now) (g.H.Host.world c.play.new.host) (g.H.Host.world c.write_out.new.host) (c.play.ensures.grows now t tells ready begins making)
+    (grows_none (g.H.Host.world c.play.new.host) (g.H.Host.world c.write_out.new.host) c.write_out.ensures.gave)

@@ -129,13 +129,13 @@ returns-in_ok-scn-in-BeginBackup-clause-turn g c now t session tells ready sound
 pub returns-in_ok-sync-in-Sync-clause-turn : goal.returns-in_ok-sync-in-Sync-clause-turn
 returns-in_ok-sync-in-Sync-clause-turn g c now t session tells ready sound =
     may_value (λ v. Some Done) some_said _ _ _ _ t now session _ [] c.in_ok-sync-in-Sync.field-0 Done refl
-    (sync_acts _ _ _ _ t now session c.args.statement.now c.in-Sync.is ready c.in_ok-sync-in-Sync.ensures.same c.in_ok-sync-in-Sync.ensures.quiet c.in_ok-sync-in-Sync.field-0
+    (sync_acts _ _ _ _ t now session c.args.statement.now c.in-Sync.is ready c.in_ok-sync-in-Sync.ensures.same (c.in_ok-sync-in-Sync.ensures.takes t tells ready.opened).left c.in_ok-sync-in-Sync.ensures.gave c.in_ok-sync-in-Sync.field-0
     (c.in_ok-sync-in-Sync.ensures.settled t tells ready.opened))
 
 pub returns-in_err-sync-in-Sync-clause-turn : goal.returns-in_err-sync-in-Sync-clause-turn
 returns-in_err-sync-in-Sync-clause-turn g c now t session tells ready sound =
     may_passed some_said some_said _ _ _ _ t now session _ [] Device c.from_residual-in_err-sync-in-Sync.result c.from_residual-in_err-sync-in-Sync.ensures
-    (sync_failed _ _ _ _ t now session c.args.statement.now c.in-Sync.is ready c.in_err-sync-in-Sync.ensures.same c.in_err-sync-in-Sync.ensures.quiet some_said)
+    (sync_failed _ _ _ _ t now session c.args.statement.now c.in-Sync.is ready c.in_err-sync-in-Sync.ensures.same (c.in_err-sync-in-Sync.ensures.takes t tells ready.opened).left c.in_err-sync-in-Sync.ensures.gave some_said)
 
 pub returns-in-ShowHeader-clause-turn : goal.returns-in-ShowHeader-clause-turn
 unfolding first_turn

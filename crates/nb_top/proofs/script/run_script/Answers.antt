@@ -54,7 +54,7 @@ returns-in_ok-refused-in-Ok-clause-runs g c account given tells knows may told =
     let held = c.in-Ok.engine in
     let done = begins.done held (settled_value c.in_ok-engine.field-0 held (λ value. c.open.result ≡ Ok value) c.in-Ok.is c.in_ok-engine.ensures.value) in
     let later = subst (λ x. Foretells x mid new) (sym (script_given old account given plan c.args.telling c.requires.askable mid held done)) (foretold_from old mid new given done.gave told) in
-    script_ends old account given plan c.args.telling c.requires.askable mid held done new c.run_opened.new.engine c.in_ok-refused-in-Ok.refused c.ended.result c.ended.ensures.number
+    script_ends old account given plan c.args.telling c.requires.askable mid held done new c.run_opened.new.engine c.in_ok-refused-in-Ok.refused c.ended.result c.ended.ensures.number c.in_ok-refused-in-Ok.ensures.none_waits
     (c.in_ok-refused-in-Ok.ensures.plays (script_now old account given plan c.args.telling c.requires.askable mid held done) (start old account given plan c.args.telling c.requires.askable done.first) done.first.strokes tells
     (script_ready old account given plan c.args.telling c.requires.askable mid held done) (script_todo old account given plan c.args.telling c.requires.askable mid held done)
     (script_making old account given plan c.args.telling c.requires.askable mid held done) later (script_trail old account given plan c.args.telling c.requires.askable mid held done))

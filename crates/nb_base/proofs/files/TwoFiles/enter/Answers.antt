@@ -1,6 +1,5 @@
-use Rattle.std.proofs.Common.{◌≡◌, ◌<◌, ℕ, List, refl, sym, ap, subst, ◌∙◌, arith}
-use Rattle.nb_host.specs.World.{World}
-use Rattle.nb_host.specs.Crash.{Leaves, IsDurable}
+use Rattle.std.proofs.Common.{◌<◌, ℕ, List, sym, ap, subst, ◌∙◌, arith}
+use Rattle.nb_host.specs.Crash.{IsDurable}
 use Rattle.nb_change.specs.Changes.{Changes, Only, Moved}
 use Rattle.nb_change.proofs.MomentLaws.{left_before}
 use Rattle.nb_delta.specs.Known.{Known}

@@ -52,3 +52,13 @@ returns-clause-test g c t tells is =
     let raise = c.in_ok-must_raise.ensures in
     let then = raise.open t tells still in
     ready_bit image c.args.number c.args.free (page.reads t tells here).test (raise.tells t tells still).test c.if-not-free.false ∙ c.in_ok-check_mark.ensures.test t tells then
+
+pub returns-in_err-check_mark-clause-open : goal.returns-in_err-check_mark-clause-open
+returns-in_err-check_mark-clause-open g c t tells is =
+    let here = subst (λ (h : Held). IsOpen (g.H.Host.world c.args.host.now) h t) (sym c.self.view_is) is in
+    c.in_err-check_mark.ensures.open t tells (c.in_ok-must_raise.ensures.open t tells (c.in_ok-take_system.ensures.open t tells here))
+
+pub returns-clause-open : goal.returns-clause-open
+returns-clause-open g c t tells is =
+    let here = subst (λ (h : Held). IsOpen (g.H.Host.world c.args.host.now) h t) (sym c.self.view_is) is in
+    c.in_ok-check_mark.ensures.open t tells (c.in_ok-must_raise.ensures.open t tells (c.in_ok-take_system.ensures.open t tells here))

@@ -1,4 +1,4 @@
-use Rattle.std.proofs.Common.{sym, subst, ap, ◌∙◌, arith}
+use Rattle.std.proofs.Common.{sym, subst, arith}
 use Rattle.nb_cache.specs.Held.{NoneWaits}
 use Rattle.nb_owner.proofs.OpenLaws.{valid_blank}
 use Rattle.nb_owner.proofs.pair.Pair.attach.Goals as goal

@@ -1,4 +1,4 @@
-use Rattle.std.proofs.Common.{[], ◌∷◌, refl, ap, sym, subst, ◌∙◌}
+use Rattle.std.proofs.Common.{[], ◌∷◌, refl, sym, subst, ◌∙◌}
 use Rattle.nb_model.specs.Strokes.{begin}
 use Rattle.nb_model.specs.Trail.{after_stroke}
 use Rattle.nb_base.specs.Takes.{Strikes}

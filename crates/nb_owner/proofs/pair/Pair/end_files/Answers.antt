@@ -1,4 +1,4 @@
-use Rattle.std.proofs.Common.{[], ◌∷◌, refl, ap, sym, subst, ◌∙◌, arith}
+use Rattle.std.proofs.Common.{[], ◌∷◌, refl, sym, subst, ◌∙◌}
 use Rattle.nb_model.specs.Strokes.{ends}
 use Rattle.nb_model.specs.Trail.{after_stroke}
 use Rattle.nb_base.specs.Takes.{Strikes}

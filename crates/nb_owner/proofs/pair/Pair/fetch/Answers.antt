@@ -1,6 +1,5 @@
 use Rattle.std.proofs.Common.{◌≡◌, ◌<◌, ⊎_elim, length, refl, ap, sym, subst, ◌∙◌, arith}
 use Rattle.std.specs.Prelude.{None, is_some}
-use Rattle.nb_model.specs.Image.{page_at}
 use Rattle.nb_cache.specs.Held.{slot_of, dropped}
 use Rattle.nb_owner.specs.Open.{Held, IsOpen, IsValid, cache_of, bare, used}
 use Rattle.nb_owner.specs.contracts.pair.Pair.{the_view}

@@ -1,4 +1,4 @@
-use Rattle.std.proofs.Common.{[], ◌∷◌, length, refl, ap, sym, subst, ◌∙◌, arith}
+use Rattle.std.proofs.Common.{[], ◌∷◌, length, refl, ap, sym, subst, ◌∙◌}
 use Rattle.nb_model.specs.Strokes.{finish}
 use Rattle.nb_model.specs.Trail.{after_stroke}
 use Rattle.nb_base.specs.Open.{AreMerged}

@@ -1,4 +1,4 @@
-use Rattle.std.proofs.Common.{[], ap, sym, subst, ◌∙◌, arith}
+use Rattle.std.proofs.Common.{[], ap, sym, subst, ◌∙◌}
 use Rattle.nb_change.proofs.ResultLaws.{on_ok_then}
 use Rattle.nb_base.specs.Open.{AreMerged}
 use Rattle.nb_base.specs.Takes.{Strikes}

@@ -1,7 +1,6 @@
-use Rattle.std.proofs.Common.{List, ℕ, sym, subst, ap, ◌∙◌}
-use Rattle.nb_change.specs.Changes.{Changes}
+use Rattle.std.proofs.Common.{sym, subst}
 use Rattle.nb_change.proofs.ChangesLaws.{begun}
-use Rattle.nb_model.specs.Trail.{settled, IsFirm, StandsIn, ShowsIn}
+use Rattle.nb_model.specs.Trail.{settled, IsFirm, StandsIn}
 use Rattle.nb_model.specs.Behind.{IsOnTheWay}
 use Rattle.nb_base.specs.Open.{OfFiles, Agrees, IsOpen as AreOpen}
 use Rattle.nb_owner.specs.Open.{Held, GoesOut, NoScnWaits}

@@ -1,4 +1,4 @@
-use Rattle.std.proofs.Common.{List, ℕ, [], sym, subst, ap, ◌∙◌}
+use Rattle.std.proofs.Common.{List, ℕ, subst, ap}
 use Rattle.nb_change.specs.Changes.{Changes}
 use Rattle.nb_change.proofs.ChangesLaws.{composed}
 use Rattle.nb_model.specs.Trail.{StandsIn}

@@ -1,4 +1,4 @@
-use Rattle.std.proofs.Common.{◌≡◌, ◌<◌, ℕ, List, refl, sym, subst, ap, ◌∙◌}
+use Rattle.std.proofs.Common.{◌<◌, ℕ, List, refl, sym, subst, ap, ◌∙◌}
 use Rattle.nb_change.specs.Changes.{Changes}
 use Rattle.nb_change.proofs.GaveLaws.{nothing_joined}
 use Rattle.nb_model.specs.Trail.{IsFirm, StandsIn}

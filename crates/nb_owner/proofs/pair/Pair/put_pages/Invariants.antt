@@ -1,4 +1,4 @@
-use Rattle.std.proofs.Common.{◌≡◌, ◌≢◌, []}
+use Rattle.std.proofs.Common.{◌≡◌}
 use Rattle.std.specs.Prelude.{IsTrue}
 use Rattle.nb_change.specs.Changes.{Changes}
 use Rattle.nb_change.specs.Gave.{GaveNothing}

@@ -1,10 +1,10 @@
-use Rattle.std.proofs.Common.{◌≡◌, ◌<◌, ℕ, List, refl, sym, subst, ap, ◌∙◌}
+use Rattle.std.proofs.Common.{◌<◌, ℕ, List, refl, sym, subst, ap, ◌∙◌}
 use Rattle.nb_change.specs.Changes.{Changes}
-use Rattle.nb_change.proofs.ChangesLaws.{begun, composed}
+use Rattle.nb_change.proofs.ChangesLaws.{composed}
 use Rattle.nb_change.proofs.GaveLaws.{nothing_joined}
 use Rattle.nb_model.specs.Trail.{StandsIn}
 use Rattle.nb_base.specs.Open.{OfFiles}
-use Rattle.nb_owner.specs.Open.{Held, GoesSlot, bare}
+use Rattle.nb_owner.specs.Open.{Held, bare}
 use Rattle.nb_owner.proofs.RankLaws.{waiting_count, fewer_wait, marked_bare}
 use Rattle.nb_owner.proofs.SlotLaws.{slots_begun}
 use Rattle.nb_owner.proofs.pair.Pair.put_slots.Goals as goal

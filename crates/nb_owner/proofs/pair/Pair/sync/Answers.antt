@@ -1,9 +1,6 @@
-use Rattle.std.proofs.Common.{List, ℕ, [], ◌∷◌, inl, sym, subst, ap, ◌∙◌}
-use Rattle.nb_model.specs.Trail.{StandsIn, after_stroke}
-use Rattle.nb_base.specs.Open.{OfFiles, AreMerged}
-use Rattle.nb_base.specs.Takes.{Strikes}
+use Rattle.nb_model.specs.Trail.{StandsIn}
+use Rattle.nb_base.specs.Open.{OfFiles}
 use Rattle.nb_base.proofs.WriteLaws.{not_done}
-use Rattle.nb_owner.specs.Open.{Held}
 use Rattle.nb_owner.proofs.OutLaws.{quiet_more}
 use Rattle.nb_owner.proofs.pair.Pair.sync.Goals as goal
 

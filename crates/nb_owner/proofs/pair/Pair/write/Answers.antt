@@ -1,21 +1,18 @@
-use Rattle.std.proofs.Common.{◌≡◌, ◌<◌, ℕ, List, [], ◌∷◌, inl, inr, ⊎_elim, length, refl, sym, subst, ap, ◌∙◌, arith}
-use Rattle.std.specs.Prelude.{true, false, None, Some, is_some, nat_eq, Result, Ok, Err, IsErr, IsErrAnd}
+use Rattle.std.proofs.Common.{◌≡◌, ℕ, List, [], ◌∷◌, inl, refl, sym, subst, ap, ◌∙◌, arith}
+use Rattle.std.specs.Prelude.{is_some, nat_eq, Result, Ok, Err, IsErr, IsErrAnd}
 use Rattle.nb_host.specs.declared.faults.Fault.{Fault}
 use Rattle.std.proofs.lemmas.Bool.{true≢false}
 use Rattle.lru.specs.LruCache.{lru_cache, put_entries}
-use Rattle.nb_fields.specs.Places.{is_scn_place}
-use Rattle.nb_host.specs.World.{World}
 use Rattle.nb_change.proofs.ChangesLaws.{begun, weaker_has}
 use Rattle.nb_change.proofs.ReachedLaws.{strokes_composed}
 use Rattle.nb_change.specs.Changes.{Reached}
-use Rattle.nb_model.specs.Image.{image_size}
 use Rattle.nb_model.specs.Strokes.{page}
-use Rattle.nb_model.specs.Trail.{Trail, StandsIn, after_stroke}
+use Rattle.nb_model.specs.Trail.{StandsIn, after_stroke}
 use Rattle.nb_base.specs.Open.{OfFiles, AreMerged}
 use Rattle.nb_base.specs.Takes.{Strikes}
 use Rattle.nb_base.proofs.WriteLaws.{not_done}
-use Rattle.nb_cache.specs.Held.{Slot, rank_of, with_rank}
-use Rattle.nb_owner.specs.Open.{Held, Pages, IsOpen, cache_of, bare, used}
+use Rattle.nb_cache.specs.Held.{rank_of}
+use Rattle.nb_owner.specs.Open.{Held, Pages, IsOpen, bare, used}
 use Rattle.nb_owner.proofs.RankLaws.{marked_bare, rank_marked, slot_kept}
 use Rattle.nb_owner.proofs.OpenLaws.{bare_put}
 use Rattle.nb_owner.proofs.WaitLaws.{may_wait_parts, held_open}
@@ -138,3 +135,9 @@ returns-in_err-write_through-clause-on_memory g c t tells is memory =
       subst (λ host. Strikes old (g.H.Host.world host) c.args.self.now.files.name t []) (sym same.1) first.left,
       subst (λ (h : Held). IsOpen (g.H.Host.world c.write_through.new.host) h t) (sym same.0) (subst (λ host. IsOpen (g.H.Host.world host) c.write_out.new.self t) (sym same.1) first.done),
     )
+
+pub returns-in_err-write_through-clause-stays : goal.returns-in_err-write_through-clause-stays
+returns-in_err-write_through-clause-stays g c merges memory =
+    let idle = c.write_out.ensures.outside merges in
+    let same = c.in_err-write_through.ensures.on_memory (sym (passed_on c.from_residual-in_err-write_through.result _ c.from_residual-in_err-write_through.ensures) ∙ memory) in
+    (same.0 ∙ idle.1, same.1 ∙ idle.2)

@@ -1,7 +1,11 @@
-use Rattle.std.proofs.Common.{◌≡◌, ℕ, [], sym, ap, ◌∙◌}
-use Rattle.std.specs.Prelude.{None, Some}
+use Rattle.std.proofs.Common.{◌≡◌, ℕ, [], refl, sym, ◌∙◌}
+use Rattle.std.specs.Prelude.{None, Some, Result, Err, IsOk}
+use Rattle.nb_host.specs.World.{World}
+use Rattle.nb_model.specs.Trail.{Trail}
 use Rattle.nb_base.proofs.WriteLaws.{not_done}
+use Rattle.nb_owner.specs.Open.{Held, IsOpen}
 use Rattle.nb_owner.proofs.RankLaws.{none_found}
+use Rattle.nb_owner.proofs.WaitLaws.{none_drafted, settled_none}
 use Rattle.nb_owner.proofs.pair.Pair.write_out.Goals as goal
 
 none_some : {r : ℕ} → None ≡ Some r → ⊥
@@ -25,3 +29,24 @@ returns-in_ok-put_all-in-Some-clause-outside g c merges = absurd (none_some (sym
 pub returns-in_err-enter_rest-in-None-clause-takes : goal.returns-in_err-enter_rest-in-None-clause-takes
 returns-in_err-enter_rest-in-None-clause-takes g c t tells is =
     record { left = (c.enter_rest.ensures.takes t tells is).left; done = not_done c.from_residual-in_err-enter_rest-in-None.result _ c.from_residual-in_err-enter_rest-in-None.ensures.0 }
+
+pub returns-in_err-put_all-in-Some-clause-at_settled : goal.returns-in_err-put_all-in-Some-clause-at_settled
+returns-in_err-put_all-in-Some-clause-at_settled g c t tells is none = absurd ((is.waits.each c.in-Some.field-0 c.in-Some.ensures.next.0 c.in-Some.ensures.next.1).unsettled none)
+
+pub returns-in_ok-put_all-in-Some-clause-at_settled : goal.returns-in_ok-put_all-in-Some-clause-at_settled
+returns-in_ok-put_all-in-Some-clause-at_settled g c t tells is none = absurd ((is.waits.each c.in-Some.field-0 c.in-Some.ensures.next.0 c.in-Some.ensures.next.1).unsettled none)
+
+no_drafts : (w : World) (held : Held) (t : Trail) → IsOpen w held t → t.earlier ≡ [] → held.files.drafted ≡ 0
+no_drafts w held t is none = (none_drafted held.pages held.files.drafted is.sees t (settled_none w held t is none) is.waits).0
+
+ok_err : {T E : Type 0} (result : Result T E) (e : E) → result ≡ Err e → IsOk result → ⊥
+ok_err result e is ok = cc
+
+pub returns-in_err-enter_rest-in-None-clause-at_settled : goal.returns-in_err-enter_rest-in-None-clause-at_settled
+returns-in_err-enter_rest-in-None-clause-at_settled g c t tells is none =
+    absurd (ok_err c.enter_rest.result _ c.in_err-enter_rest-in-None.was (c.enter_rest.ensures.idle (no_drafts (g.H.Host.world c.args.host.now) c.args.self.now t is none)).0)
+
+pub returns-in_ok-enter_rest-in-None-clause-at_settled : goal.returns-in_ok-enter_rest-in-None-clause-at_settled
+returns-in_ok-enter_rest-in-None-clause-at_settled g c t tells is none =
+    let idle = c.enter_rest.ensures.idle (no_drafts (g.H.Host.world c.args.host.now) c.args.self.now t is none) in
+    (refl, idle.1, idle.2)

@@ -12,7 +12,7 @@ returns-in_err-begin-clause-takes g c t ask tells given =
     let old : World = g.H.Host.world c.args.host.now in
     let new : World = g.H.Host.world c.begin.new.host in
     let is = subst (λ (h : Held). IsOpen old h t) (sym c.self.view_is) given in
-    let takes = c.begin.ensures.takes t ask tells (record { files = is.files; pages = is.pages }) (omega (arith, c.requires.scn, given.agrees.scn)) in
+    let takes = c.begin.ensures.takes t ask tells is.files (omega (arith, c.requires.scn, given.agrees.scn)) in
     record {
       left = subst (λ (h : Held). Strikes old new (name_of h) t (begin c.args.guid.now ask ∷ [])) c.self.view_is takes.left;
       done = not_done c.from_residual.result _ c.from_residual.ensures.0;
@@ -23,7 +23,7 @@ returns-clause-takes g c t ask tells given =
     let old : World = g.H.Host.world c.args.host.now in
     let new : World = g.H.Host.world c.begin.new.host in
     let is = subst (λ (h : Held). IsOpen old h t) (sym c.self.view_is) given in
-    let takes = c.in_ok-begin.ensures.takes t ask tells (record { files = is.files; pages = is.pages }) (omega (arith, c.requires.scn, given.agrees.scn)) in
+    let takes = c.in_ok-begin.ensures.takes t ask tells is.files (omega (arith, c.requires.scn, given.agrees.scn)) in
     record {
       left = subst (λ (h : Held). Strikes old new (name_of h) t (begin c.args.guid.now ask ∷ [])) c.self.view_is takes.left;
       done = open_begun old new _ t is c.begin.new.self c.args.guid.now ask c.told-guid (omega (arith, c.requires.scn, ap (λ (h : Held). h.scn) c.self.view_is)) takes.done;

@@ -13,7 +13,7 @@ returns-in_err-end-clause-takes g c t tells given =
     let new : World = g.H.Host.world c.end.new.host in
     let is = subst (λ (h : Held). IsOpen old h t) (sym c.self.view_is) given in
     record {
-      left = subst (λ (h : Held). Strikes old new (name_of h) t (ends ∷ [])) c.self.view_is (c.end.ensures.takes t tells (record { files = is.files; pages = is.pages })).left;
+      left = subst (λ (h : Held). Strikes old new (name_of h) t (ends ∷ [])) c.self.view_is (c.end.ensures.takes t tells is.files).left;
       done = not_done c.from_residual.result _ c.from_residual.ensures.0;
     }
 
@@ -23,7 +23,7 @@ returns-clause-takes g c t tells given =
     let new : World = g.H.Host.world c.end.new.host in
     let is = subst (λ (h : Held). IsOpen old h t) (sym c.self.view_is) given in
     let stalled = ap (λ (h : Held). h.files.state) c.self.view_is ∙ c.requires.stalled in
-    let takes = c.in_ok-end.ensures.takes t tells (record { files = is.files; pages = is.pages }) in
+    let takes = c.in_ok-end.ensures.takes t tells is.files in
     record {
       left = subst (λ (h : Held). Strikes old new (name_of h) t (ends ∷ [])) c.self.view_is takes.left;
       done = open_ended old new _ t is c.end.new.self c.args.session c.self.told stalled takes.done c.next_scn-scn.result

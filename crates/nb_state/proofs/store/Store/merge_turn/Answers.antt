@@ -14,7 +14,7 @@ returns-in_err-merge_entry-clause-merges g c t tells given full =
     let new : World = g.H.Host.world c.merge_entry.new.host in
     let is = subst (λ (h : Held). IsOpen old h t) (sym c.self.view_is) given in
     let entry = c.merge_entry.ensures in
-    let left = subst (λ (h : Held). Strikes old new (name_of h) t []) c.self.view_is (entry.takes t tells (record { files = is.files; pages = is.pages }) full).left in
+    let left = subst (λ (h : Held). Strikes old new (name_of h) t []) c.self.view_is (entry.takes t tells is.files full).left in
     merge_failed old new c.args.self.now _ t c.from_residual.result (passed_on c.from_residual.result Device c.from_residual.ensures) (struck_front old new _ t [] (finish ∷ []) left) (λ low. left) entry.gave
     (ap (λ (p : Rattle.nb_owner.specs.Open.Held). p.files.name) entry.same ∙ ap (λ (h : Held). name_of h) c.self.view_is)
 
@@ -25,7 +25,7 @@ returns-then-self-delta_count-clause-merges g c t tells given full =
     let is = subst (λ (h : Held). IsOpen old h t) (sym c.self.view_is) given in
     let merges = ap (λ (h : Held). h.files.state) c.self.view_is ∙ c.requires.merge in
     let entry = c.in_ok-merge_entry.ensures in
-    let takes = entry.takes t tells (record { files = is.files; pages = is.pages }) full in
+    let takes = entry.takes t tells is.files full in
     let left = subst (λ (h : Held). Strikes old new (name_of h) t []) c.self.view_is takes.left in
     let inside : c.self.inside.merged < length c.self.inside.pair.files.entries = omega (arith, c.if-self-delta_count.true, c.delta_count.ensures.value) in
     record {
@@ -35,7 +35,7 @@ returns-then-self-delta_count-clause-merges g c t tells given full =
         omega (arith, inside, ap length is.files.agrees.entries, ap (λ (h : Held). h.merged) c.self.view_is),
         ap (λ (h : Held). h.merged + 1) c.self.view_is,
         ap (λ (h : Held). h.running) c.self.view_is,
-        open_more old new _ t is c.merge_entry.new.self takes.done (ap (λ (p : Rattle.nb_owner.specs.Open.Held). p.files.entries) entry.same) inside (entry.merged t tells (record { files = is.files; pages = is.pages }) full (is.merged merges)),
+        open_more old new _ t is c.merge_entry.new.self takes.done (ap (λ (p : Rattle.nb_owner.specs.Open.Held). p.files.entries) entry.same) inside (entry.merged t tells is.files full (is.merged merges)),
       );
       gave = entry.gave;
       name = ap (λ (p : Rattle.nb_owner.specs.Open.Held). p.files.name) entry.same ∙ ap (λ (h : Held). name_of h) c.self.view_is;
@@ -49,7 +49,7 @@ returns-in_err-finish-clause-merges g c t tells given full =
     let merges = ap (λ (h : Held). h.files.state) c.self.view_is ∙ c.requires.merge in
     let finished = c.finish.ensures in
     let all : length c.self.inside.pair.files.entries ≤ c.self.inside.merged = omega (arith, c.if-self-delta_count.false, c.delta_count.ensures.value) in
-    let left = subst (λ (h : Held). Strikes old new (name_of h) t (finish ∷ [])) c.self.view_is (finished.takes t tells (record { files = is.files; pages = is.pages }) full (all_merged old _ t is merges all)).left in
+    let left = subst (λ (h : Held). Strikes old new (name_of h) t (finish ∷ [])) c.self.view_is (finished.takes t tells is.files full (all_merged old _ t is merges all)).left in
     merge_failed old new c.args.self.now _ t c.from_residual-in_err-finish.result (passed_on c.from_residual-in_err-finish.result Device c.from_residual-in_err-finish.ensures) left
     (λ low. absurd (omega (arith, low, all, ap length is.files.agrees.entries, ap (λ (h : Held). h.merged) c.self.view_is))) finished.gave (finished.name ∙ ap (λ (h : Held). name_of h) c.self.view_is)
 
@@ -61,7 +61,7 @@ returns-clause-merges g c t tells given full =
     let merges = ap (λ (h : Held). h.files.state) c.self.view_is ∙ c.requires.merge in
     let finished = c.in_ok-finish.ensures in
     let all : length c.self.inside.pair.files.entries ≤ c.self.inside.merged = omega (arith, c.if-self-delta_count.false, c.delta_count.ensures.value) in
-    let takes = finished.takes t tells (record { files = is.files; pages = is.pages }) full (all_merged old _ t is merges all) in
+    let takes = finished.takes t tells is.files full (all_merged old _ t is merges all) in
     record {
       left = subst (λ (h : Held). Strikes old new (name_of h) t (finish ∷ [])) c.self.view_is takes.left;
       more = λ low. absurd (omega (arith, low, all, ap length is.files.agrees.entries, ap (λ (h : Held). h.merged) c.self.view_is));

@@ -1,4 +1,4 @@
-use Rattle.std.proofs.Common.{[], ◌∷◌, sym, ap, subst, arith}
+use Rattle.std.proofs.Common.{[], ◌∷◌, sym, ap, subst, ◌∙◌, arith}
 use Rattle.nb_fields.proofs.SizeLemmas.{size_facts}
 use Rattle.nb_host.specs.World.{World}
 use Rattle.nb_model.specs.Strokes.{page}
@@ -7,6 +7,7 @@ use Rattle.nb_state.specs.Open.{Held, IsOpen, name_of}
 use Rattle.nb_state.specs.Does.{Goes, Makes}
 use Rattle.nb_state.proofs.AgreeLaws.{open_written, goes_files, goes_written}
 use Rattle.nb_state.proofs.MakesLaws.{passed_on, never_ended}
+use Rattle.nb_state.proofs.TurnLaws.{open_wanting}
 use Rattle.nb_state.proofs.store.Store.write.Goals as goal
 
 pub returns-in_err-write-clause-makes : goal.returns-in_err-write-clause-makes
@@ -16,7 +17,7 @@ returns-in_err-write-clause-makes g c t tells given fits =
     let is = subst (λ (h : Held). IsOpen old h t) (sym c.self.view_is) given in
     let wrote = c.write.ensures in
     let after : Held = record c.args.self.now { files = c.write.new.self.files; pages = c.write.new.self.pages; cap = c.write.new.self.cap } in
-    let left = subst (λ (h : Held). Strikes old new (name_of h) t (page c.args.number c.args.page.now ∷ [])) c.self.view_is (wrote.takes t tells (record { files = is.files; pages = is.pages }) fits is.agrees.forced).left in
+    let left = subst (λ (h : Held). Strikes old new (name_of h) t (page c.args.number c.args.page.now ∷ [])) c.self.view_is (wrote.takes t tells is.files fits is.agrees.forced).left in
     let goes = subst (λ (h : Held). Goes h (record h { files = c.write.new.self.files; pages = c.write.new.self.pages; cap = c.write.new.self.cap })) c.self.view_is (goes_files _ c.write.new.self wrote.name wrote.page_size wrote.state wrote.entries) in
     subst (λ (h : Held). Makes {T = Unit {0}} c.from_residual.result old new c.args.self.now h t (page c.args.number c.args.page.now ∷ [])) (sym (ap (λ (h : Held). record h { files = c.write.new.self.files; pages = c.write.new.self.pages; cap = c.write.new.self.cap }) c.self.view_is))
     (subst (λ r. Makes {T = Unit {0}} r old new c.args.self.now after t (page c.args.number c.args.page.now ∷ [])) (sym (passed_on c.from_residual.result c.in_err-write.field-0.0 c.from_residual.ensures)) (record {
@@ -35,14 +36,26 @@ returns-clause-makes g c t tells given fits =
     let new : World = g.H.Host.world c.write.new.host in
     let is = subst (λ (h : Held). IsOpen old h t) (sym c.self.view_is) given in
     let wrote = c.in_ok-write.ensures in
-    let takes = wrote.takes t tells (record { files = is.files; pages = is.pages }) fits is.agrees.forced in
+    let takes = wrote.takes t tells is.files fits is.agrees.forced in
     let pair = c.write.new.self in
     let first = c.take_flags.ensures.first in
     let other = c.take_flags.ensures.other in
     record {
       left = subst (λ (h : Held). Strikes old new (name_of h) t (page c.args.number c.args.page.now ∷ [])) c.self.view_is takes.left;
-      opened = open_written t c.args.number c.args.page.now fits _ pair old new c.take_flags.new.self first other is wrote.state wrote.entries takes.done (λ two. wrote.merged t _ tells (record { files = is.files; pages = is.pages }) fits two (is.merged two));
+      opened = open_written t c.args.number c.args.page.now fits _ pair old new c.take_flags.new.self first other is wrote.state wrote.entries takes.done (λ two. wrote.merged t _ tells is.files fits two (is.merged two));
       goes = subst (λ (h : Held). Goes h c.take_flags.new.self) c.self.view_is
           (goes_written c.args.number c.args.page.now _ c.take_flags.new.self pair first other (goes_files _ pair wrote.name wrote.page_size wrote.state wrote.entries));
       gave = wrote.gave;
     }
+
+pub returns-in_err-write-clause-on_memory : goal.returns-in_err-write-clause-on_memory
+returns-in_err-write-clause-on_memory g c t tells given memory =
+    let old : World = g.H.Host.world c.args.host.now in
+    let new : World = g.H.Host.world c.write.new.host in
+    let is = subst (λ (h : Held). IsOpen old h t) (sym c.self.view_is) given in
+    let wrote = c.in_err-write.ensures in
+    let wants = sym (passed_on c.from_residual.result c.in_err-write.field-0.0 c.from_residual.ensures) ∙ memory in
+    let on_memory = wrote.on_memory t tells is.files wants in (
+      subst (λ (h : Held). Strikes old new (name_of h) t []) c.self.view_is on_memory.0,
+      open_wanting old new _ c.write.new.self t is wrote.state on_memory.1 (λ two. let same = wrote.stays two wants in (same.0, ap (λ host. g.H.Host.world host) same.1)),
+    )

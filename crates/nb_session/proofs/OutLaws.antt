@@ -1,0 +1,153 @@
+-- What waits is written out behind the turns.
+use Rattle.std.proofs.Common.{◌≡◌, ◌≢◌, ◌⊎◌, inl, inr, ℕ, List, [], ◌++◌, Bool, true, false, refl, sym, ap, subst, ◌∙◌, arith}
+use Rattle.std.specs.Prelude.{Contains, Result, Ok, Err, ◌||◌}
+use Rattle.std.proofs.lemmas.List.{append-nil}
+use Rattle.nb_change.proofs.NameLaws.{decide}
+use Rattle.nb_host.specs.Files.{Files}
+use Rattle.nb_host.specs.Names.{is_delta}
+use Rattle.nb_host.specs.World.{World}
+use Rattle.nb_host.specs.declared.faults.HostFault.{HostFault}
+use Rattle.nb_change.specs.Gave.{GaveNothing}
+use Rattle.nb_change.proofs.MomentLaws.{weaker, untouched_fewer}
+use Rattle.nb_page.specs.Free.{is_free_name}
+use Rattle.nb_model.specs.Going.{IsMaking}
+use Rattle.nb_model.specs.Making.{MadeFile, AreAmong, IsNoneOf, NamesOnce, under_way}
+use Rattle.nb_model.specs.Run.{Now, Played, play, rounds, files_made}
+use Rattle.nb_model.specs.Causes.{is_free_entry}
+use Rattle.nb_model.specs.Owner.{delta_name}
+use Rattle.nb_model.specs.Steps.{acked_turns}
+use Rattle.nb_model.specs.Trail.{Trail, StandsIn}
+use Rattle.nb_model.proofs.MakingLaws.{made_once}
+use Rattle.nb_model.proofs.OutputLaws.{output_no_event, status_no_event}
+use Rattle.nb_model.proofs.StandsLaws.{delta_named, delta_same}
+use Rattle.nb_model.proofs.StepsLaws.{after_no_step, acked_steps_none}
+use Rattle.nb_base.specs.Open.{OfFiles}
+use Rattle.nb_base.specs.Takes.{Strikes, Takes}
+use Rattle.nb_state.specs.Open.{Held, IsOpen, but_pages, name_of}
+use Rattle.nb_session.specs.declared.stop.Stop.{Stop}
+use Rattle.nb_session.specs.declared.told.Told.{Told}
+use Rattle.nb_session.specs.Ready.{IsReady}
+use Rattle.nb_session.specs.Stops.{Plays}
+use Rattle.nb_session.specs.Todo.{PlaysWhole}
+use Rattle.nb_session.specs.Told.{told_turns}
+use Rattle.nb_session.proofs.GiftLaws.{given_nothing}
+use Rattle.nb_session.proofs.PlayLaws.{Leads, behind, trail_after, after_none, no_file, no_made, plays_by, plays_then, plays_failed}
+use Rattle.nb_session.proofs.ToldLaws.{told_among}
+use Rattle.nb_session.proofs.ReadyLaws.{not_free, free_same, beside_other, true_false}
+
+-- Pages go out of a database that was ready: no turn is taken.
+module _ (old new : World) (before after : Held) (t : Trail) (now : Now) (ready : IsReady old before t now) (struck : Strikes old new (name_of before) t []) (same : but_pages after ≡ but_pages before) (gave : GaveNothing old new) where
+  named : name_of after ≡ name_of before
+  named = ap (λ (h : Held). name_of h) same
+
+  out_leads : Leads old new (name_of before) t [] []
+  out_leads = record {
+    stops = weaker old new _ _ struck.moments (λ files said is. record {
+      out = record { part = []; is = is.output ∙ sym (append-nil old.said); front = refl };
+      count = 0;
+      front = record { most = omega arith; acknowledged = omega (arith, acked_steps_none []) };
+      database = subst (λ (u : Trail). StandsIn (name_of before) u files) (sym (after_no_step t)) is.has;
+      each = λ n bytes there. absurd (no_file n bytes there);
+      whole = λ n bytes there. absurd (no_made (acked_turns [] 0) n bytes there);
+      others = λ m other. is.others m (λ own. other (inl own));
+    });
+    left = λ n bytes file there. absurd (no_file n bytes there);
+    apart = λ n bytes there. absurd (no_file n bytes there);
+    others = untouched_fewer old new _ _ struck.others (λ m other own. other (inl own));
+    others_read = λ m other. struck.others_read m (λ own. other (inl own));
+  }
+
+  module _ (opened : IsOpen new after t) where
+    known : (m : List ℕ) → is_delta m ≡ false → is_free_name new.files m ≡ is_free_name old.files m
+    known m plain = elim (decide m (name_of before)) [
+      | inl own ↦
+          ap (is_free_name new.files) (own ∙ sym named) ∙ not_free new after t opened
+          ∙ sym (ap (is_free_name old.files) own ∙ not_free old before t ready.opened)
+      | inr off ↦ free_same old.files new.files m
+          (struck.others_read m (λ own. elim own [ inl e ↦ off e | inr e ↦ true_false (sym (delta_named (name_of before)) ∙ ap is_delta (sym e) ∙ plain) ]))
+          (beside_other old new before after t t ready.opened opened named m
+          (λ other. struck.others_read (delta_name m) (λ own. elim own [ inl e ↦ other e | inr e ↦ off (delta_same m (name_of before) e) ])))
+    ]
+
+    ready_out : IsReady new after t now
+    ready_out = record {
+      opened = opened;
+      base = ready.base;
+      there = ready.there;
+      named = named ∙ ready.named;
+      running = ap (λ (h : Held). h.running) same ∙ ready.running;
+      known = λ m plain none. known m plain ∙ ready.known m plain none;
+    }
+
+    pub out_played : (t.earlier ≡ [] → new.files ≡ old.files) → Plays (Ok false) old new before after t now ([], now) []
+    out_played still = plays_by (Ok false) old new before after t now ([], now) [] out_leads named (record {
+      ready = subst (λ (u : Trail). IsReady new after u now) (sym (after_none t)) ready_out;
+      said = struck.said ∙ sym (append-nil old.said) ∙ ap (λ (l : List ℕ). old.said ++ l) (sym output_no_event);
+      status = status_no_event;
+      given = given_nothing old new now.given now.given gave refl;
+      kept = λ n bytes there. absurd (no_made 0 n bytes there);
+      unchanged = λ settled all. still settled;
+    })
+
+  pub out_failed : (e : Stop) → Plays (Err e) old new before after t now ([], now) []
+  out_failed e = plays_by (Err e) old new before after t now ([], now) [] out_leads named tt
+
+or_false : (a : Bool) → (a || false) ≡ a
+or_false true = refl
+or_false false = refl
+
+-- behind turns
+module _ (old mid new : World) (e0 e1 e2 : Held) (t : Trail) (now : Now) (p : Played) (made : List MadeFile) (once : NamesOnce made) (has : AreAmong (files_made p.0) made) (a : Bool) (first : Plays (Ok a) old mid e0 e1 t now p made) where
+  once_more : NamesOnce (made ++ [])
+  once_more = subst NamesOnce (sym (append-nil made)) once
+
+  no_more : (n bytes : List ℕ) → Contains (files_made p.0) (n, bytes) → IsNoneOf [] n
+  no_more n bytes there other none = no_file n other none
+
+  no_turn : (result : Result Bool Stop) → Plays result old new e0 e2 t now (behind p ([], p.1)) (made ++ []) → Plays result old new e0 e2 t now p made
+  no_turn result plays =
+      subst (λ (m : List MadeFile). Plays result old new e0 e2 t now p m) (append-nil made) (subst (λ es. Plays result old new e0 e2 t now (es, p.1) (made ++ [])) (append-nil p.0) plays)
+
+  pub then_out : Plays (Ok false) mid new e1 e2 (trail_after t p) p.1 ([], p.1) [] → Plays (Ok a) old new e0 e2 t now p made
+  then_out out =
+      no_turn (Ok a)
+      (subst (λ (b : Bool). Plays (Ok b) old new e0 e2 t now (behind p ([], p.1)) (made ++ [])) (or_false a) (plays_then old mid new e0 e1 e2 t now p ([], p.1) made [] once_more has no_more a false first out))
+
+  pub then_failed : (e : Stop) → Plays (Err e) mid new e1 e2 (trail_after t p) p.1 ([], p.1) [] → Plays (Err e) old new e0 e2 t now p made
+  then_failed e out = no_turn (Err e) (plays_failed old mid new e0 e1 e2 t now p ([], p.1) made [] once_more has no_more a e first out)
+
+-- and behind all turns of a script
+module _ (old mid new : World) (e0 e1 e2 : Held) (t : Trail) (told : Told) (now : Now) (schedule : List ℕ) (making : IsMaking now) (a : Bool) (first : PlaysWhole (Ok a) old mid e0 e1 t told now schedule) (same : but_pages e2 ≡ but_pages e1)
+    (gave : GaveNothing mid new) where
+  abbrev order : List ℕ
+  order = schedule ++ rounds first.how_often
+
+  abbrev played : Played
+  played = told_turns told (play order now)
+
+  once : NamesOnce (files_made (play order now).0)
+  once = made_once order now making
+
+  has : AreAmong (files_made played.0) (files_made (play order now).0)
+  has = told_among told (play order now).0 (files_made (play order now).0) (λ file there. there)
+
+  pub whole_out : ((u : Trail) → IsOpen mid e1 u → Takes {T = Unit {0}} {E = HostFault} (Ok tt) mid new (name_of e1) (IsOpen new e2) u []) → ((u : Trail) → IsOpen mid e1 u → u.earlier ≡ [] → new.files ≡ mid.files)
+      → PlaysWhole (Ok a) old new e0 e2 t told now schedule
+  whole_out takes still =
+      let ready = first.plays.done.ready in
+      let out = takes (trail_after t played) ready.opened in
+      record {
+        how_often = first.how_often;
+        plays = then_out old mid new e0 e1 e2 t now played (files_made (play order now).0) once has a first.plays
+            (out_played mid new e1 e2 (trail_after t played) played.1 ready out.left same gave out.done (still (trail_after t played) ready.opened));
+        finished = first.finished;
+      }
+
+  pub whole_stopped : (e : Stop) → ((u : Trail) → IsOpen mid e1 u → Strikes mid new (name_of e1) u []) → PlaysWhole (Err e) old new e0 e2 t told now schedule
+  whole_stopped e struck =
+      let ready = first.plays.done.ready in
+      record {
+        how_often = first.how_often;
+        plays = then_failed old mid new e0 e1 e2 t now played (files_made (play order now).0) once has a first.plays (out_failed mid new e1 e2 (trail_after t played) played.1 ready (struck (trail_after t played) ready.opened) same gave e);
+        finished = first.finished;
+      }
