@@ -10,6 +10,8 @@ mod base_write_tests;
 #[cfg(test)]
 mod owner_tests;
 #[cfg(test)]
+mod owner_write_tests;
+#[cfg(test)]
 mod sample;
 #[cfg(test)]
 mod state_tests;

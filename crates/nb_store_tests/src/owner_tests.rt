@@ -1,8 +1,7 @@
 // Pages in memory on a host in memory: which reads ask the host, and what is in memory in each backup state.
 ghost use Rattle.std.specs.Prelude.{◌<◌, ◌≤◌};
 
-use crate::sample::base_name;
-use nb_fields::are_zeros;
+use crate::sample::{base_name, byte_of, host_with, put};
 use nb_host::Fault;
 use nb_mem::MemHost;
 use nb_owner::Pair;
@@ -10,13 +9,6 @@ use std::alloc::Global;
 use std::test::Fail;
 
 const GUID: [u8; 16] = [7; 16];
-
-/// A host with a new database of 13 pages of 1,024 bytes.
-fn host_with(alloc: Global) -> Result<MemHost, Fault> {
-    let mut host = MemHost::new(alloc)?;
-    Pair::create(alloc, &mut host, &base_name()?, 1024, 8, 1)?;
-    Ok(host)
-}
 
 /// What these steps answer on a new database, with room for so many pages in memory.
 fn on_new_base<T, F: FnOnce(Global, &mut MemHost, &mut Pair) -> Result<T, Fault>>(
@@ -33,39 +25,9 @@ fn on_new_base<T, F: FnOnce(Global, &mut MemHost, &mut Pair) -> Result<T, Fault>
     steps(alloc, &mut host, &mut pair)
 }
 
-/// The last byte of a page of the database.
-fn byte_of(host: &mut MemHost, pair: &mut Pair, number: u32) -> Result<u8, Fault> {
-    if pair.page_size() != 1024 {
-        return Err(Fault::Device);
-    }
-    let mut page = [0; 1024];
-    pair.read(host, number, &mut page)?;
-    Ok(page[1023])
-}
-
 /// Writes that byte.
 fn put_byte(host: &mut MemHost, pair: &mut Pair, number: u32, byte: u8) -> Result<(), Fault> {
     put(host, pair, number, byte, true)
-}
-
-/// Writes that byte, with forced writes on or off.
-fn put(
-    host: &mut MemHost,
-    pair: &mut Pair,
-    number: u32,
-    byte: u8,
-    forced: bool,
-) -> Result<(), Fault> {
-    let mut page = [0; 1024];
-    if pair.page_size() != 1024 || number >= 1_048_576 {
-        return Err(Fault::Device);
-    }
-    pair.read(host, number, &mut page)?;
-    page[1023] = byte;
-    if are_zeros(&page) {
-        return Err(Fault::Device);
-    }
-    pair.write(host, number, &page, forced)
 }
 
 /// How often the host is asked for page `number`, and how many pages are in memory then.
@@ -240,7 +202,7 @@ fn the_frozen_file_is_read_past_the_pages_in_memory(rt: HostRuntime) -> Result<(
 
 /// The last byte of a page in the main file, as it reads.
 fn in_file(host: &MemHost, number: usize) -> Result<u8, Fault> {
-    let Some(bytes) = host.file(&name_of()?) else {
+    let Some(bytes) = host.file(&base_name()?) else {
         return Err(Fault::Device);
     };
     if number > 100 {
@@ -251,38 +213,32 @@ fn in_file(host: &MemHost, number: usize) -> Result<u8, Fault> {
 
 /// A page is written with forced writes off: whether no call was made, what is seen of it, and what the file holds of it then and once
 /// it is written out.
-fn waited(alloc: Global) -> Result<(bool, [u8; 3]), Fault> {
-    let mut host = host_with(alloc)?;
-    let mut pair = Pair::attach(alloc, &mut host, &name_of()?, 4)?;
-    byte_of(&mut host, &mut pair, 6)?;
+fn waited(_: Global, host: &mut MemHost, pair: &mut Pair) -> Result<(bool, [u8; 3]), Fault> {
+    byte_of(host, pair, 6)?;
     let before = host.calls();
-    put(&mut host, &mut pair, 6, 5, false)?;
-    let seen = byte_of(&mut host, &mut pair, 6)?;
+    put(host, pair, 6, 5, false)?;
+    let seen = byte_of(host, pair, 6)?;
     let made_none = host.calls() == before;
-    let waits = in_file(&host, 6)?;
-    pair.write_out(&mut host)?;
-    Ok((made_none, [seen, waits, in_file(&host, 6)?]))
+    let waits = in_file(host, 6)?;
+    pair.write_out(host)?;
+    Ok((made_none, [seen, waits, in_file(host, 6)?]))
 }
 
 #[test]
 fn a_page_waits_and_goes_out(rt: HostRuntime) -> Result<(), Fail> {
-    assert_eq!(rt; waited(rt.alloc())?, (true, [5, 0, 5]));
+    assert_eq!(rt; on_new_base(rt.alloc(), 4, waited)?, (true, [5, 0, 5]));
     Ok(())
 }
 
 /// How reads of another page and of the page itself ask the host, where the one page that may be in memory waits.
-fn asked_beside(alloc: Global) -> Result<[(u64, u32); 2], Fault> {
-    let mut host = host_with(alloc)?;
-    let mut pair = Pair::attach(alloc, &mut host, &name_of()?, 1)?;
-    put(&mut host, &mut pair, 6, 5, false)?;
-    Ok([
-        asked(&mut host, &mut pair, 7)?,
-        asked(&mut host, &mut pair, 6)?,
-    ])
+fn asked_beside(_: Global, host: &mut MemHost, pair: &mut Pair) -> Result<[(u64, u32); 2], Fault> {
+    put(host, pair, 6, 5, false)?;
+    let other = asked(host, pair, 7)?;
+    Ok([other, asked(host, pair, 6)?])
 }
 
 #[test]
 fn a_read_drops_no_page_that_waits(rt: HostRuntime) -> Result<(), Fail> {
-    assert_eq!(rt; asked_beside(rt.alloc())?, [(1, 1), (0, 1)]);
+    assert_eq!(rt; on_new_base(rt.alloc(), 1, asked_beside)?, [(1, 1), (0, 1)]);
     Ok(())
 }
