@@ -6,7 +6,7 @@ use Rattle.std.proofs.lemmas.Bool.{true≢false}
 use Rattle.std.proofs.lemmas.Bool.Decides.{eqb_tells, leb_tells}
 use Rattle.std.proofs.lemmas.List.{append-nil}
 use Rattle.lru.specs.LruCache.{lru_cache, put_entries}
-use Rattle.nb_fields.specs.Bytes.{is_zeros}
+use Rattle.nb_fields.specs.Bytes.{is_zeros, number_in}
 use Rattle.nb_fields.specs.Places.{is_scn_place}
 use Rattle.nb_fields.specs.Header.{is_header, state_of, size_of}
 use Rattle.nb_host.specs.World.{World}
@@ -194,16 +194,21 @@ first_clean w held t is = by (rank_of held.pages 0) refl
     by None e = ap is_some e
     by (Some rank) e = absurd (let one = (is.waits.each 0 rank e).some in omega (arith, one))
 
+-- A page that was not in memory is kept: the same pages wait.
+pub kept_ranks : (held : Held) (valid : IsValid (cache_of held) held.files.page_size) (p : ℕ) (bytes : Page) → slot_of held.pages p ≡ None → dropped (cache_of held) p ≡ None
+    → (q : ℕ) → rank_of (put_entries nat_eq (lru_cache held.pages held.cap) p (record { bytes = bytes; rank = None })) q ≡ rank_of held.pages q
+kept_ranks held valid p bytes absent drops_none q = elim (eqb_tells q p) [
+  | inl e ↦ ap (rank_of (put_entries nat_eq (lru_cache held.pages held.cap) p (record { bytes = bytes; rank = None }))) e.1
+      ∙ rank_kept (cache_of held) p (record { bytes = bytes; rank = None }) valid.some valid.most drops_none ∙ sym (ap (rank_of held.pages) e.1 ∙ absent_waits held.pages p absent)
+  | inr e ↦ rank_kept_other (cache_of held) p (record { bytes = bytes; rank = None }) valid.some valid.most drops_none q e.1
+]
+
 -- A page that was read is kept.
 module _ (w : World) (held : Held) (t : Trail) (is : IsOpen w held t) (valid : IsValid (cache_of held) held.files.page_size) (p : ℕ) (bytes : Page) (absent : slot_of held.pages p ≡ None)
     (drops_none : dropped (cache_of held) p ≡ None) (same : bytes ≡ page_at t.base.image p) where
   pub read_open : IsOpen w (record held { pages = put_entries nat_eq (lru_cache held.pages held.cap) p (record { bytes = bytes; rank = None }) }) t
   read_open = open_with w held t (put_entries nat_eq (lru_cache held.pages held.cap) p (record { bytes = bytes; rank = None })) is
-      (λ q. elim (eqb_tells q p) [
-        | inl e ↦ ap (rank_of (put_entries nat_eq (lru_cache held.pages held.cap) p (record { bytes = bytes; rank = None }))) e.1
-            ∙ rank_kept (cache_of held) p (record { bytes = bytes; rank = None }) valid.some valid.most drops_none ∙ sym (ap (rank_of held.pages) e.1 ∙ absent_waits held.pages p absent)
-        | inr e ↦ rank_kept_other (cache_of held) p (record { bytes = bytes; rank = None }) valid.some valid.most drops_none q e.1
-      ])
+      (kept_ranks held valid p bytes absent drops_none)
       (All-put p held.pages valid.once held.cap (record { bytes = bytes; rank = None }) (λ e. e.1.bytes ≡ page_at t.base.image e.0) (λ e. e.1.bytes ≡ page_at t.base.image e.0) (λ e apart of. of) same is.pages)
 
 -- why a write may wait
@@ -316,6 +321,7 @@ module _ (w : World) (held : Held) (t : Trail) (is : IsOpen w held t) (valid : I
     below = below;
     early = omega (arith, ap state_of first, is.agrees.state, early);
     named = named_own;
+    loose = ap (λ (x : Page). not (number_in 64 1 x == 0)) first ∙ loose;
     ranked = ranked ∙ sym (rank_same (after_stroke (page p bytes) t).base.image t.base.image p first);
     other = ap is_zeros page_same ∙ other;
     unsettled = unsettled;
@@ -330,6 +336,7 @@ module _ (w : World) (held : Held) (t : Trail) (is : IsOpen w held t) (valid : I
     named = λ stalled.
         let at = old.named (sym (ap state_of first) ∙ stalled) in
         (at.0, ap (entry_for q) more.1 ∙ entry-front q t.base.diverted more.0 at.0 at.1);
+    loose = ap (λ (x : Page). not (number_in 64 1 x == 0)) first ∙ old.loose;
     ranked = old.ranked ∙ sym (rank_same (after_stroke (page p bytes) t).base.image t.base.image q first);
     other = ap is_zeros (page_other q ne) ∙ old.other;
     unsettled = unsettled;

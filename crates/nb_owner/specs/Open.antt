@@ -8,7 +8,7 @@ use Rattle.nb_fields.specs.Places.{is_scn_place}
 use Rattle.nb_host.specs.Files.{Files}
 use Rattle.nb_host.specs.World.{World}
 use Rattle.nb_host.specs.Crash.{LeavesAll}
-use Rattle.nb_model.specs.Image.{Image, page_at, image_size, image_state}
+use Rattle.nb_model.specs.Image.{Image, page_at, image_size, image_state, is_forced}
 use Rattle.nb_model.specs.Account.{Base}
 use Rattle.nb_model.specs.Trail.{Trail, StandsIn}
 use Rattle.nb_model.specs.Behind.{IsBehind, IsRead}
@@ -39,14 +39,15 @@ AreOf image pages = AllByRecursion (λ e. e.1.bytes ≡ page_at image e.0) pages
 abbrev pub waits : Pages → (p : ℕ) → Bool
 waits pages p = is_some (rank_of pages p)
 
--- A page that waits: one below the length other than page 0, with the rank by which it goes out. In the stalled state it has an entry. In
--- the merge state none waits.
+-- A page that waits: one below the length other than page 0, with forced writes off, with the rank by which it goes out. In the stalled
+-- state it has an entry. In the merge state none waits.
 pub record IsWaiting (t : Trail) (p rank : ℕ) : Type 0 where
   pub some : 1 ≤ p
   pub low : p < length t.base.image
   pub below : p < 1048576
   pub early : image_state t.base.image ≤ 1
   pub named : image_state t.base.image ≡ 1 → (k : ℕ) × (entry_for p t.base.diverted ≡ Some k)
+  pub loose : is_forced t.base.image ≡ false
   pub ranked : rank ≡ rank_for t.base.image p
   pub other : is_zeros (page_at t.base.image p) ≡ false
   pub unsettled : t.earlier ≢ []

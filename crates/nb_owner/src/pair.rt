@@ -11,7 +11,7 @@ ghost use Rattle.nb_model.specs.Strokes.{page as page_stroke};
 ghost use Rattle.nb_model.specs.Trail.{Trail, settled};
 ghost use Rattle.nb_base.specs.Open.{Fits, AreMerged};
 ghost use Rattle.nb_base.specs.Takes.{Takes, Strikes, IsNoRefusal};
-ghost use Rattle.nb_cache.specs.Held.{slot_of, dropped, NoneWaits};
+ghost use Rattle.nb_cache.specs.Held.{slot_of, rank_of, dropped, NoneWaits};
 ghost use Rattle.lru.specs.LruCache.{lru_cache, put_entries};
 ghost use Rattle.nb_owner.specs.Open.{IsOpen, may_wait, waits, cache_of, but_drafts, bare, used};
 
@@ -110,6 +110,7 @@ impl Pair {
         ensures page { (t : Trail) → IsTrue H.tells → IsOpen (H.world host.old) self.old t → number < length t.base.image → OnOk result (into.new ≡ page_at t.base.image number) }
         ensures open { (t : Trail) → IsTrue H.tells → IsOpen (H.world host.old) self.old t → IsOpen (H.world host.new) self.new t }
         ensures used { number < self.old.files.count → dropped (cache_of self.old) number ≡ None → OnOk result (bare self.new.pages ≡ used (bare self.old.pages) self.old.cap number into.new) }
+        ensures ranks { (p : ℕ) → rank_of self.new.pages p ≡ rank_of self.old.pages p }
         ensures full { IsSome (dropped (cache_of self.old) number) → self.new ≡ self.old }
         ensures failed { OnErr result (self.new ≡ self.old) }
         ensures same { self.new ≡ record self.old { pages = self.new.pages } }
@@ -138,6 +139,7 @@ impl Pair {
         ensures page { (t : Trail) → IsTrue H.tells → IsOpen (H.world host.old) self.old t → number < length t.base.image → OnOk result (into.new ≡ page_at t.base.image number) }
         ensures open { (t : Trail) → IsTrue H.tells → IsOpen (H.world host.old) self.old t → IsOpen (H.world host.new) self.new t }
         ensures used { number < self.old.files.count → dropped (cache_of self.old) number ≡ None → OnOk result (bare self.new.pages ≡ used (bare self.old.pages) self.old.cap number into.new) }
+        ensures ranks { (p : ℕ) → rank_of self.new.pages p ≡ rank_of self.old.pages p }
         ensures full { IsSome (dropped (cache_of self.old) number) → self.new ≡ self.old }
         ensures failed { OnErr result (self.new ≡ self.old) }
         ensures same { self.new ≡ record self.old { pages = self.new.pages } }
@@ -189,6 +191,8 @@ impl Pair {
         ensures merged { (t : Trail) (k : ℕ) → IsTrue H.tells → IsOpen (H.world host.old) self.old t → Fits number page.now t.base.image → self.old.files.state ≡ 2
             → AreMerged (H.world host.old) self.old.files k → OnOk result (AreMerged (H.world host.new) self.new.files k) }
         ensures waits { may_wait self.old number forced ≡ true → (self.old.files.state ≡ 0 → IsOk result) × IfErr result (λ fault. fault ≡ Fault.Memory) × (host.new ≡ host.old) × OnOk result (waits self.new.pages number ≡ true) }
+        ensures others { may_wait self.old number forced ≡ true → (p : ℕ) → p ≢ number → rank_of self.new.pages p ≡ rank_of self.old.pages p }
+        ensures goes_out { may_wait self.old number forced ≡ false → OnOk result (NoneWaits self.new.pages) }
         ensures used { OnOk result (bare self.new.pages ≡ used (bare self.old.pages) self.old.cap number page.now) }
         ensures failed { OnErr result (bare self.new.pages ≡ bare self.old.pages) }
         ensures cap { self.new.cap ≡ self.old.cap }
@@ -231,6 +235,7 @@ impl Pair {
         ensures merged { (t : Trail) (k : ℕ) → IsTrue H.tells → IsOpen (H.world host.old) self.old t → Fits number page.now t.base.image → self.old.files.state ≡ 2
             → AreMerged (H.world host.old) self.old.files k → OnOk result (AreMerged (H.world host.new) self.new.files k) }
         ensures used { OnOk result (bare self.new.pages ≡ used (bare self.old.pages) self.old.cap number page.now) }
+        ensures none { OnOk result (NoneWaits self.new.pages) }
         ensures failed { OnErr result (self.new.pages ≡ self.old.pages) }
         ensures cap { self.new.cap ≡ self.old.cap }
         ensures gave { GaveNothing (H.world host.old) (H.world host.new) }

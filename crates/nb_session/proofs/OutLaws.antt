@@ -1,9 +1,8 @@
 -- What waits is written out behind the turns.
-use Rattle.std.proofs.Common.{◌≡◌, ◌≢◌, ◌⊎◌, inl, inr, ℕ, List, [], ◌++◌, Bool, true, false, refl, sym, ap, subst, ◌∙◌, arith}
+use Rattle.std.proofs.Common.{◌≡◌, inl, inr, ℕ, List, [], ◌++◌, Bool, true, false, refl, sym, ap, subst, ◌∙◌, arith}
 use Rattle.std.specs.Prelude.{Contains, Result, Ok, Err, ◌||◌}
 use Rattle.std.proofs.lemmas.List.{append-nil}
 use Rattle.nb_change.proofs.NameLaws.{decide}
-use Rattle.nb_host.specs.Files.{Files}
 use Rattle.nb_host.specs.Names.{is_delta}
 use Rattle.nb_host.specs.World.{World}
 use Rattle.nb_host.specs.declared.faults.HostFault.{HostFault}
@@ -11,9 +10,8 @@ use Rattle.nb_change.specs.Gave.{GaveNothing}
 use Rattle.nb_change.proofs.MomentLaws.{weaker, untouched_fewer}
 use Rattle.nb_page.specs.Free.{is_free_name}
 use Rattle.nb_model.specs.Going.{IsMaking}
-use Rattle.nb_model.specs.Making.{MadeFile, AreAmong, IsNoneOf, NamesOnce, under_way}
+use Rattle.nb_model.specs.Making.{MadeFile, AreAmong, IsNoneOf, NamesOnce}
 use Rattle.nb_model.specs.Run.{Now, Played, play, rounds, files_made}
-use Rattle.nb_model.specs.Causes.{is_free_entry}
 use Rattle.nb_model.specs.Owner.{delta_name}
 use Rattle.nb_model.specs.Steps.{acked_turns}
 use Rattle.nb_model.specs.Trail.{Trail, StandsIn}
@@ -21,7 +19,6 @@ use Rattle.nb_model.proofs.MakingLaws.{made_once}
 use Rattle.nb_model.proofs.OutputLaws.{output_no_event, status_no_event}
 use Rattle.nb_model.proofs.StandsLaws.{delta_named, delta_same}
 use Rattle.nb_model.proofs.StepsLaws.{after_no_step, acked_steps_none}
-use Rattle.nb_base.specs.Open.{OfFiles}
 use Rattle.nb_base.specs.Takes.{Strikes, Takes}
 use Rattle.nb_state.specs.Open.{Held, IsOpen, but_pages, name_of}
 use Rattle.nb_session.specs.declared.stop.Stop.{Stop}
@@ -148,6 +145,7 @@ module _ (old mid new : World) (e0 e1 e2 : Held) (t : Trail) (told : Told) (now 
       let ready = first.plays.done.ready in
       record {
         how_often = first.how_often;
-        plays = then_failed old mid new e0 e1 e2 t now played (files_made (play order now).0) once has a first.plays (out_failed mid new e1 e2 (trail_after t played) played.1 ready (struck (trail_after t played) ready.opened) same gave e);
+        plays = then_failed old mid new e0 e1 e2 t now played (files_made (play order now).0) once has a first.plays e
+            (out_failed mid new e1 e2 (trail_after t played) played.1 ready (struck (trail_after t played) ready.opened) same gave e);
         finished = first.finished;
       }

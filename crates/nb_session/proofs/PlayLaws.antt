@@ -128,9 +128,9 @@ after_told e t settled told =
 
 pub told_settled : (es : List Event) (t : Trail) → t.earlier ≡ [] → list_all only_told es ≡ true → (after_steps t (steps_of es)).earlier ≡ []
 unfolding steps_of after_steps
-told_settled [] t settled all = settled
-told_settled (e ∷ es) t settled all =
-    let both = both_true (only_told e) (list_all only_told es) all in
+told_settled [] t settled told = settled
+told_settled (e ∷ es) t settled told =
+    let both = both_true (only_told e) (list_all only_told es) told in
     subst (λ (u : Trail). u.earlier ≡ []) (sym (after_steps_append t (steps_in e) (steps_of es))) (told_settled es (after_steps t (steps_in e)) (after_told e t settled both.0) both.1)
 
 -- no turn yet

@@ -1,7 +1,7 @@
 -- A table that is made: its first page, and then its slot in the catalogue.
-use Rattle.std.proofs.Common.{◌≡◌, ◌≢◌, inl, inr, ℕ, ◌+◌, ◌*◌, ◌<◌, ◌≤◌, List, [], ◌∷◌, ◌++◌, length, drop, refl, sym, ap, subst, ◌∙◌, arith}
-use Rattle.std.specs.Prelude.{Bool, true, false, ◌||◌, Some, None, Result, Ok, Err, IfErr}
-use Rattle.std.proofs.lemmas.Bool.{true≢false, or_parts}
+use Rattle.std.proofs.Common.{◌≡◌, inl, inr, ℕ, ◌+◌, ◌*◌, ◌<◌, ◌≤◌, List, [], ◌++◌, length, drop, refl, sym, ap, subst, ◌∙◌, arith}
+use Rattle.std.specs.Prelude.{Bool, true, false, None, Result, Ok, Err, IfErr}
+use Rattle.std.proofs.lemmas.Bool.{or_parts}
 use Rattle.std.proofs.lemmas.Bool.Decides.{eqb_tells}
 use Rattle.nb_fields.specs.Bytes.{bytes_of, with_part}
 use Rattle.nb_fields.specs.Page.{kind_of}
@@ -9,17 +9,15 @@ use Rattle.nb_fields.specs.Payloads.{data_payload}
 use Rattle.nb_fields.specs.Places.{is_inventory_place, is_scn_place, is_system_place}
 use Rattle.nb_host.specs.World.{World}
 use Rattle.nb_host.specs.declared.faults.Fault.{Fault}
-use Rattle.nb_host.specs.declared.refusals.Refusal.{Refusal}
 use Rattle.nb_host.specs.declared.refusals.Refusal.TheVariants.{NotDatabase, Full}
-use Rattle.nb_model.specs.Account.{base_of}
-use Rattle.nb_model.specs.Causes.{Cause, not_kind, not_of_form, no_room, lowest_broken, when}
-use Rattle.nb_model.specs.Chains.{Catalogue, Slot, found_pages, last_of, put_slot, grown, table_slot, place_at}
-use Rattle.nb_model.specs.Forms.{Draft, drafted, put, new_page, is_kind}
+use Rattle.nb_model.specs.Causes.{not_kind, not_of_form, no_room, lowest_broken, when}
+use Rattle.nb_model.specs.Chains.{Catalogue, Slot, found_pages, last_of, put_slot, grown, table_slot}
+use Rattle.nb_model.specs.Forms.{Draft, drafted, new_page, is_kind}
 use Rattle.nb_model.specs.Image.{Image, page_at, image_size}
 use Rattle.nb_model.specs.Sound.{IsSoundImage}
 use Rattle.nb_model.specs.Strokes.{Stroke}
 use Rattle.nb_model.specs.Trail.{Trail}
-use Rattle.nb_model.proofs.DraftJoin.{joined, join_put, join_new}
+use Rattle.nb_model.proofs.DraftJoin.{joined, join_put}
 use Rattle.nb_model.proofs.DraftLaws.{IsOf, drafted_is, drafts_are, new_keeps}
 use Rattle.nb_model.proofs.FitLaws.{IsWhole}
 use Rattle.nb_model.proofs.PlaceTurns.{join_at}

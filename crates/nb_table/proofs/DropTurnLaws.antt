@@ -1,5 +1,5 @@
 -- The turn of a table that is dropped, by its causes.
-use Rattle.std.proofs.Common.{◌≡◌, ℕ, ◌<◌, List, [], ◌∷◌, sym, subst, ◌∙◌}
+use Rattle.std.proofs.Common.{◌≡◌, ℕ, List, [], ◌∷◌, sym, subst, ◌∙◌}
 use Rattle.std.specs.Prelude.{Some, None}
 use Rattle.nb_host.specs.declared.refusals.Refusal.{Refusal}
 use Rattle.nb_model.specs.declared.reply.Reply.TheVariants.{Done, Refused}

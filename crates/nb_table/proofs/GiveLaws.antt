@@ -1,6 +1,6 @@
 -- The pages of a chain are given back one after the other, along their links, which stay.
 use Rattle.std.proofs.Common.{◌≡◌, ◌≢◌, ℕ, zero, suc, ◌-◌, ◌<◌, ◌≤◌, List, [], ◌∷◌, ◌++◌, length, refl, sym, ap, subst, append_assoc, ◌∙◌, arith}
-use Rattle.std.specs.Prelude.{Bool, true, false, not, ◌&&◌, ◌==◌, Some, None, Result, Ok, Err, IfErr}
+use Rattle.std.specs.Prelude.{Bool, true, false, not, ◌&&◌, ◌==◌, Some, None, Ok, Err}
 use Rattle.std.specs.List.{AllByRecursion}
 use Rattle.std.proofs.lemmas.Bool.{true≢false}
 use Rattle.std.proofs.lemmas.List.{append-nil}
@@ -21,7 +21,6 @@ use Rattle.nb_model.specs.Strokes.{Stroke}
 use Rattle.nb_model.specs.Tables.{all_given}
 use Rattle.nb_model.specs.Trail.{Trail, after_stroke}
 use Rattle.nb_model.proofs.ChainWalks.{IsWalk, ends as walk_ends, leads as walk_leads, Walks, walk_cases, walk_zero, err_ok, found_is}
-use Rattle.nb_model.proofs.DraftJoin.{joined}
 use Rattle.nb_model.proofs.DraftLaws.{IsOf, drafted_is, drafts_are, set_bit_keeps}
 use Rattle.nb_model.proofs.DropTurns.{join_given}
 use Rattle.nb_model.proofs.FitLaws.{IsWhole}

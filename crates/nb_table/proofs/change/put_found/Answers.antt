@@ -1,18 +1,16 @@
-use Rattle.std.proofs.Common.{◌≡◌, ℕ, ◌<◌, List, refl, sym, ap, subst, ◌∙◌}
-use Rattle.std.specs.Prelude.{Option, None, Some, Ok, Err, IfSome}
+use Rattle.std.proofs.Common.{refl, sym, subst, ◌∙◌}
+use Rattle.std.specs.Prelude.{Option, Ok, Err, IfSome}
 use Rattle.nb_host.specs.declared.refusals.Refusal.TheVariants.{NoKey}
 use Rattle.nb_page.proofs.QuietLemmas.{quiet_begun}
 use Rattle.nb_model.specs.Outcomes.{Seen}
 use Rattle.nb_model.specs.Chains.{row_spot, spots}
 use Rattle.nb_model.specs.Tables.{in_row}
-use Rattle.nb_state.specs.Does.{Does}
 use Rattle.nb_engine.specs.Replies.{done}
 use Rattle.nb_engine.proofs.DoesLaws.{seeing, refused_does}
 use Rattle.nb_table.specs.declared.look.Found.{Found}
 use Rattle.nb_table.specs.Walks.{IsPlaced}
 use Rattle.nb_table.proofs.InTableLaws.{does_passed}
 use Rattle.nb_table.proofs.PlaceLaws.{well_open, found_none}
-use Rattle.nb_table.proofs.SpotPages.{row_kind}
 use Rattle.nb_table.proofs.ChangeLaws.{row_missing, row_does, found_kind}
 use Rattle.nb_table.proofs.change.put_found.Goals as goal
 

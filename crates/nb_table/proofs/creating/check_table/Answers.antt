@@ -1,5 +1,5 @@
-use Rattle.std.proofs.Common.{◌≡◌, ◌<◌, ◌≤◌, ℕ, List, sym, ap, ◌∙◌, arith}
-use Rattle.std.specs.Prelude.{Option, is_some}
+use Rattle.std.proofs.Common.{ℕ, List, sym, ap, ◌∙◌, arith}
+use Rattle.std.specs.Prelude.{Option}
 use Rattle.nb_model.specs.Causes.{broken_at}
 use Rattle.nb_model.specs.Chains.{Catalogue, pages_of, spots}
 use Rattle.nb_engine.proofs.DoesLaws.{tested_on}

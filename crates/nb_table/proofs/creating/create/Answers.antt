@@ -1,9 +1,9 @@
 use Rattle.std.proofs.Common.{◌≡◌, ◌<◌, ◌≤◌, ℕ, List, length, refl, sym, ap, subst, ◌∙◌, arith}
-use Rattle.std.specs.Prelude.{Option, None, Ok, Err, IfSome}
+use Rattle.std.specs.Prelude.{Option, Ok, Err, IfSome}
 use Rattle.nb_page.proofs.QuietLemmas.{quiet_begun}
 use Rattle.nb_model.specs.declared.reply.Reply.TheVariants.{Done}
 use Rattle.nb_model.specs.Account.{Base}
-use Rattle.nb_model.specs.Causes.{read_only, no_room, not_of_form}
+use Rattle.nb_model.specs.Causes.{read_only, no_room}
 use Rattle.nb_model.specs.Chains.{Catalogue, found_pages, last_of}
 use Rattle.nb_model.specs.Image.{image_scn, is_read_only}
 use Rattle.nb_model.specs.Outcomes.{Seen}

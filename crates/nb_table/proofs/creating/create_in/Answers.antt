@@ -1,7 +1,7 @@
-use Rattle.std.proofs.Common.{◌≡◌, ◌<◌, ℕ, List, sym, ap, subst, ◌∙◌, arith}
+use Rattle.std.proofs.Common.{◌<◌, ℕ, List, subst, arith}
 use Rattle.std.specs.Prelude.{None, Ok, Err}
 use Rattle.nb_model.specs.Causes.{no_room}
-use Rattle.nb_model.specs.Chains.{put_slot, table_slot}
+use Rattle.nb_model.specs.Chains.{put_slot}
 use Rattle.nb_model.specs.Forms.{drafted}
 use Rattle.nb_model.specs.Image.{image_scn}
 use Rattle.nb_model.proofs.PutSound.{header_whole}

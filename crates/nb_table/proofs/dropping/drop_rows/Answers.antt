@@ -1,7 +1,7 @@
-use Rattle.std.proofs.Common.{◌≡◌, ◌<◌, ℕ, List, ◌++◌, refl, sym, ap, subst, ◌∙◌, arith}
+use Rattle.std.proofs.Common.{◌<◌, arith}
 use Rattle.std.specs.Prelude.{None, Ok, Err}
-use Rattle.nb_model.specs.Chains.{RowsFrom, pages_of, found_pages}
-use Rattle.nb_model.specs.Image.{Image, image_scn}
+use Rattle.nb_model.specs.Chains.{RowsFrom, found_pages}
+use Rattle.nb_model.specs.Image.{image_scn}
 use Rattle.nb_engine.specs.Tries.{Tries}
 use Rattle.nb_engine.proofs.DoesLaws.{tries_passed}
 use Rattle.nb_engine.proofs.NewTurn.{header_of}

@@ -1,5 +1,5 @@
-use Rattle.std.proofs.Common.{rules, ◌≡◌, ℕ, ◌<◌, List, length, refl, sym, ap, subst, ◌∙◌, arith}
-use Rattle.std.specs.Prelude.{Ok, Err, None}
+use Rattle.std.proofs.Common.{rules, ◌<◌, refl, ◌∙◌, arith}
+use Rattle.std.specs.Prelude.{None}
 use Rattle.nb_page.proofs.QuietLemmas.{quiet_begun}
 use Rattle.nb_model.specs.Chains.{RowsFrom}
 use Rattle.nb_model.specs.Forms.{drafted}

@@ -1,4 +1,4 @@
-use Rattle.std.proofs.Common.{◌≡◌, ℕ, sym, ap, ◌∙◌}
+use Rattle.std.proofs.Common.{ℕ, ap, ◌∙◌}
 use Rattle.std.specs.Prelude.{None, Ok, Err}
 use Rattle.nb_model.specs.Forms.{drafted, give_page}
 use Rattle.nb_engine.specs.Data.{not_data}

@@ -1,5 +1,5 @@
-use Rattle.std.proofs.Common.{◌≡◌, ℕ, ◌<◌, ◌≤◌, List, length, sym, ap, subst, ◌∙◌, arith}
-use Rattle.std.specs.Prelude.{Option, None, Some, Ok, Err, IfSome}
+use Rattle.std.proofs.Common.{ℕ, ◌<◌, List, length, sym, subst, ◌∙◌, arith}
+use Rattle.std.specs.Prelude.{Option, Ok, Err, IfSome}
 use Rattle.nb_model.specs.Causes.{no_room}
 use Rattle.nb_model.specs.Forms.{drafted}
 use Rattle.nb_model.specs.Chains.{found_pages, grown, place_slot}

@@ -1,5 +1,4 @@
 use Rattle.std.proofs.Common.{◌≡◌, ℕ, ◌+◌, ◌-◌, ◌*◌, List, length, ap, ◌∙◌, arith}
-use borrow.Rule.Slice.PartMut.{put_mid}
 use Rattle.nb_fields.specs.Bytes.{with_part}
 use Rattle.nb_fields.proofs.PartLemmas.{put_mid-with_part}
 use Rattle.nb_table.proofs.put.put_bytes.Goals as goal

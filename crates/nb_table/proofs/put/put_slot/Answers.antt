@@ -1,4 +1,4 @@
-use Rattle.std.proofs.Common.{◌≡◌, ℕ, ◌+◌, ◌*◌, ◌<◌, List, length, ap, ◌∙◌}
+use Rattle.std.proofs.Common.{◌≡◌, ℕ, ◌+◌, ◌*◌, List, ap, ◌∙◌}
 use Rattle.std.specs.Prelude.{None, Ok, Err}
 use Rattle.nb_fields.specs.Bytes.{with_part}
 use Rattle.nb_model.specs.Image.{Page, page_at}

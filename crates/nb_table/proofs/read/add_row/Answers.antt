@@ -1,4 +1,4 @@
-use Rattle.std.proofs.Common.{sym, ap, ◌∙◌, arith}
+use Rattle.std.proofs.Common.{sym, ◌∙◌}
 use Rattle.std.proofs.lemmas.Bool.{leb-true}
 use Rattle.nb_model.specs.Chains.{RowsFrom, length_in}
 use Rattle.nb_table.proofs.GatherLaws.{used_of, filled_of}

@@ -1,10 +1,7 @@
-use Rattle.std.proofs.Common.{◌≡◌, ℕ, [], List, sym, ap, subst, ◌∙◌}
-use Rattle.std.specs.Prelude.{Bool, Ok, Err, Some}
-use Rattle.nb_model.specs.Image.{is_read_only}
+use Rattle.std.proofs.Common.{ℕ, sym, ap, ◌∙◌}
 use Rattle.nb_model.specs.Causes.{read_only, too_long, broken_at}
-use Rattle.nb_model.specs.Chains.{RowsFrom, pages_of, first_in}
+use Rattle.nb_model.specs.Chains.{RowsFrom, pages_of}
 use Rattle.nb_state.specs.Open.{Held}
-use Rattle.nb_page.proofs.QuietLemmas.{quiet_joined}
 use Rattle.nb_engine.proofs.DoesLaws.{tested_on}
 use Rattle.nb_table.specs.declared.look.Found.{Found}
 use Rattle.nb_table.specs.declared.look.Walked.{Walked}

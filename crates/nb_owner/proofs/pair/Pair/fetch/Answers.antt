@@ -1,10 +1,10 @@
 use Rattle.std.proofs.Common.{◌≡◌, ◌<◌, ⊎_elim, length, refl, ap, sym, subst, ◌∙◌, arith}
 use Rattle.std.specs.Prelude.{None, is_some}
-use Rattle.nb_cache.specs.Held.{slot_of, dropped}
+use Rattle.nb_cache.specs.Held.{slot_of, rank_of, dropped}
 use Rattle.nb_owner.specs.Open.{Held, IsOpen, IsValid, cache_of, bare, used}
 use Rattle.nb_owner.specs.contracts.pair.Pair.{the_view}
 use Rattle.nb_owner.proofs.OpenLaws.{bare_put}
-use Rattle.nb_owner.proofs.WaitLaws.{quiet_open, read_open, absent_page, absent_waits, clean_entry, sees_size}
+use Rattle.nb_owner.proofs.WaitLaws.{quiet_open, read_open, absent_page, absent_waits, clean_entry, sees_size, kept_ranks}
 use Rattle.nb_owner.proofs.pair.Pair.fetch.Goals as goal
 
 pub returns-in_err-read-clause-open : goal.returns-in_err-read-clause-open
@@ -49,3 +49,13 @@ returns-clause-page g c t tells given low =
     let absent : slot_of c.self.inside.cache.pages c.args.number ≡ None = ap (λ (h : Held). slot_of h.pages c.args.number) c.self.view_is ∙ c.requires.absent in
     c.in_ok-read.ensures.page is.sees.base tells is.files.shows (sees_size old (the_view c.self.inside) t is) (clean_entry old (the_view c.self.inside) t is c.args.number (ap is_some (absent_waits c.self.inside.cache.pages c.args.number absent)))
     (omega (arith, low, is.waits.behind.long)) ∙ absent_page old (the_view c.self.inside) t is c.args.number absent
+
+pub returns-clause-ranks : goal.returns-clause-ranks
+returns-clause-ranks g c p =
+    let now : Held = record { files = c.read.new.self; pages = c.self.inside.cache.pages; cap = c.self.inside.cache.cap } in
+    let absent : slot_of c.self.inside.cache.pages c.args.number ≡ None = ap (λ (h : Held). slot_of h.pages c.args.number) c.self.view_is ∙ c.requires.absent in
+    let valid : IsValid (cache_of now) now.files.page_size = record { wide = refl; once = c.self.invariant.0.once; some = c.self.invariant.0.some; most = c.self.invariant.0.most } in
+    ⊎_elim
+    (λ (same : c.keep_read.new.self ≡ now). ap (λ (h : Held). rank_of h.pages p) same ∙ ap (λ (h : Held). rank_of h.pages p) c.self.view_is)
+    (λ kept. ap (λ (h : Held). rank_of h.pages p) kept.2 ∙ kept_ranks now valid c.args.number c.read.new.into absent kept.1 p ∙ ap (λ (h : Held). rank_of h.pages p) c.self.view_is)
+    c.keep_read.ensures.either

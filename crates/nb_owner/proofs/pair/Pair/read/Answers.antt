@@ -108,3 +108,22 @@ returns-clause-full g c full =
     let missed = missed_same c.self.inside.cache c.look.new.self c.self.inside.files.page_size c.self.inside.files.page_size c.self.invariant.0 refl c.args.number c.look.ensures.moved none in
     let same = ap (λ (k : Rattle.nb_cache.specs.Held.Held). let h : Held = record { files = c.self.inside.files; pages = k.pages; cap = k.cap } in h) missed ∙ c.self.view_is in
     c.fetch.ensures.full (subst (λ (h : Held). IsSome (dropped (cache_of h) c.args.number)) (sym same) full) ∙ same
+
+pub returns-then-look-clause-ranks : goal.returns-then-look-clause-ranks
+returns-then-look-clause-ranks g c p =
+    ap (λ (k : Rattle.nb_cache.specs.Held.Held). Rattle.nb_cache.specs.Held.rank_of k.pages p) c.look.ensures.moved ∙ rank_promoted c.args.number p c.self.inside.cache.pages
+    ∙ ap (λ (h : Held). Rattle.nb_cache.specs.Held.rank_of h.pages p) c.self.view_is
+
+pub returns-in_err-fetch-clause-ranks : goal.returns-in_err-fetch-clause-ranks
+returns-in_err-fetch-clause-ranks g c p =
+    let none = missed_slot _ (sym c.look.ensures.found ∙ c.if-look.false) in
+    let missed = missed_same c.self.inside.cache c.look.new.self c.self.inside.files.page_size c.self.inside.files.page_size c.self.invariant.0 refl c.args.number c.look.ensures.moved none in
+    let same = ap (λ (k : Rattle.nb_cache.specs.Held.Held). let h : Held = record { files = c.self.inside.files; pages = k.pages; cap = k.cap } in h) missed ∙ c.self.view_is in
+    c.fetch.ensures.ranks p ∙ ap (λ (h : Held). Rattle.nb_cache.specs.Held.rank_of h.pages p) same
+
+pub returns-clause-ranks : goal.returns-clause-ranks
+returns-clause-ranks g c p =
+    let none = missed_slot _ (sym c.look.ensures.found ∙ c.if-look.false) in
+    let missed = missed_same c.self.inside.cache c.look.new.self c.self.inside.files.page_size c.self.inside.files.page_size c.self.invariant.0 refl c.args.number c.look.ensures.moved none in
+    let same = ap (λ (k : Rattle.nb_cache.specs.Held.Held). let h : Held = record { files = c.self.inside.files; pages = k.pages; cap = k.cap } in h) missed ∙ c.self.view_is in
+    c.fetch.ensures.ranks p ∙ ap (λ (h : Held). Rattle.nb_cache.specs.Held.rank_of h.pages p) same

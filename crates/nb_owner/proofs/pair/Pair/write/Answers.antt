@@ -11,9 +11,9 @@ use Rattle.nb_model.specs.Trail.{StandsIn, after_stroke}
 use Rattle.nb_base.specs.Open.{OfFiles, AreMerged}
 use Rattle.nb_base.specs.Takes.{Strikes}
 use Rattle.nb_base.proofs.WriteLaws.{not_done}
-use Rattle.nb_cache.specs.Held.{rank_of}
-use Rattle.nb_owner.specs.Open.{Held, Pages, IsOpen, bare, used}
-use Rattle.nb_owner.proofs.RankLaws.{marked_bare, rank_marked, slot_kept}
+use Rattle.nb_cache.specs.Held.{Slot, rank_of}
+use Rattle.nb_owner.specs.Open.{Held, Pages, IsOpen, cache_of, bare, used}
+use Rattle.nb_owner.proofs.RankLaws.{marked_bare, rank_marked, rank_marked_other, rank_kept_other, slot_kept}
 use Rattle.nb_owner.proofs.OpenLaws.{bare_put}
 use Rattle.nb_owner.proofs.WaitLaws.{may_wait_parts, held_open}
 use Rattle.nb_owner.proofs.pair.Pair.write.Goals as goal
@@ -141,3 +141,23 @@ returns-in_err-write_through-clause-stays g c merges memory =
     let idle = c.write_out.ensures.outside merges in
     let same = c.in_err-write_through.ensures.on_memory (sym (passed_on c.from_residual-in_err-write_through.result _ c.from_residual-in_err-write_through.ensures) ∙ memory) in
     (same.0 ∙ idle.1, same.1 ∙ idle.2)
+
+pub returns-then-may_wait-clause-goes_out : goal.returns-then-may_wait-clause-goes_out
+returns-then-may_wait-clause-goes_out g c goes = absurd (true≢false (sym c.if-may_wait.true ∙ c.may_wait.ensures.value ∙ goes))
+
+pub returns-then-may_wait-clause-others : goal.returns-then-may_wait-clause-others
+returns-then-may_wait-clause-others g c may p other =
+    let parts = may_wait_parts c.args.self.now c.args.number c.args.forced may in
+    let slot : Slot = record { bytes = c.args.page.now; rank = rank_of c.args.self.now.pages c.args.number } in
+    ap (λ (ps : Pages). rank_of ps p) c.in_ok-hold.ensures.held
+    ∙ rank_marked_other c.args.number p _ (put_entries nat_eq (lru_cache c.args.self.now.pages c.args.self.now.cap) c.args.number slot) other
+    ∙ rank_kept_other (cache_of c.args.self.now) c.args.number slot c.may_wait.ensures.valid.some c.may_wait.ensures.valid.most parts.4 p other
+
+pub returns-in_err-write_out-clause-others : goal.returns-in_err-write_out-clause-others
+returns-in_err-write_out-clause-others g c may = absurd (true≢false (sym may ∙ sym c.may_wait.ensures.value ∙ c.if-may_wait.false))
+
+pub returns-in_err-write_through-clause-others : goal.returns-in_err-write_through-clause-others
+returns-in_err-write_through-clause-others g c may = absurd (true≢false (sym may ∙ sym c.may_wait.ensures.value ∙ c.if-may_wait.false))
+
+pub returns-clause-others : goal.returns-clause-others
+returns-clause-others g c may = absurd (true≢false (sym may ∙ sym c.may_wait.ensures.value ∙ c.if-may_wait.false))

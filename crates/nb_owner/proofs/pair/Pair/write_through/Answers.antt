@@ -66,3 +66,9 @@ returns-clause-used g c =
     ap (λ (ps : Pages). bare ps) (kept_pages c.self.inside.cache c.keep.new.self c.self.inside.files.page_size c.self.inside.files.page_size c.self.invariant.0 refl c.args.number _ c.keep.ensures)
     ∙ bare_put c.args.number c.self.inside.cache.cap (record { bytes = c.args.page.now; rank = rank_of c.self.inside.cache.pages c.args.number }) c.self.inside.cache.pages
     ∙ ap (λ (h : Held). used (bare h.pages) h.cap c.args.number c.args.page.now) c.self.view_is
+
+pub returns-clause-none : goal.returns-clause-none
+returns-clause-none g c =
+    let none = subst (λ (h : Held). NoneWaits h.pages) (sym c.self.view_is) c.requires.none in
+    subst (λ (ps : Pages). NoneWaits ps) (sym (kept_pages c.self.inside.cache c.keep.new.self c.self.inside.files.page_size c.self.inside.files.page_size c.self.invariant.0 refl c.args.number _ c.keep.ensures))
+    (none_waits_kept c.self.inside.cache.pages c.self.invariant.0.once c.self.inside.cache.cap c.args.number c.args.page.now none)
