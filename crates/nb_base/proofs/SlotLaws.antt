@@ -202,10 +202,17 @@ module _ (w new : World) (held : Held) (f t : Trail) (waits : ℕ → Bool) (goe
         by (Some j) e =
             let here : entry_for p b.diverted ≡ Some k = e ∙ ap (λ n. Some n) (entry_is b more all_of j e) in
             ⊎_elim
-            (λ kept. (b, shows name b m c (stays b is.long is.first more all_of m d c h table_c
-                (λ i low. ⊎_elim (λ (v : i ≡ k). ap (slot_page held.page_size c) v ∙ kept ∙ ap (slot_page held.page_size d) (sym v)) (λ ne. step.others i ne) (cases_eq i k))), is))
-            (λ slot. (on_base (page p bytes) b, shows name (on_base (page p bytes) b) m c (goes_there b is.long is.first more all_of m d c h here table_c slot step.others),
-                subst (λ (x : Page). IsOnTheWay f t (on_base (page p x) b)) (sym may.same) (way_slot f t p k b may.some is_one here is)))
+            (λ kept. (
+              b,
+              shows name b m c (stays b is.long is.first more all_of m d c h table_c
+                  (λ i low. ⊎_elim (λ (v : i ≡ k). ap (slot_page held.page_size c) v ∙ kept ∙ ap (slot_page held.page_size d) (sym v)) (λ ne. step.others i ne) (cases_eq i k))),
+              is,
+            ))
+            (λ slot. (
+              on_base (page p bytes) b,
+              shows name (on_base (page p bytes) b) m c (goes_there b is.long is.first more all_of m d c h here table_c slot step.others),
+              subst (λ (x : Page). IsOnTheWay f t (on_base (page p x) b)) (sym may.same) (way_slot f t p k b may.some is_one here is),
+            ))
             step.slot
         by None e =
             let past : length b.diverted ≤ k = entry_past b more all_of e in

@@ -47,7 +47,7 @@ returns-in_err-write_entries-clause-left g c f t waits tells given none =
     let d = c.self.inside.delta in
     let wait = drafts_wait old reads (the_view c.self.inside) f t waits goes none c.drafted.ensures.apart in
     let changes = subst (λ (n : List ℕ). Changes old new (Only n) (Moved old n (FrontStep d.page_size f.base.diverted goes.behind.diverted.0 (old.files n)))) c.self.invariant.5
-        (c.write_entries.ensures.changes tells f.base.diverted goes.behind.diverted.0 (subst (λ (n : List ℕ). Waits d.page_size d.entries d.drafted f.base.diverted goes.behind.diverted.0 (old.files n)) (sym c.self.invariant.5) wait)) in
+    (c.write_entries.ensures.changes tells f.base.diverted goes.behind.diverted.0 (subst (λ (n : List ℕ). Waits d.page_size d.entries d.drafted f.base.diverted goes.behind.diverted.0 (old.files n)) (sym c.self.invariant.5) wait)) in
     subst (λ (h : Held). Changes old new (OfFiles h.name) (StandsIn h.name t)) c.self.view_is
     (enter_changes old reads (the_view c.self.inside) f t waits goes none new (g.met.H.Host.timely c.args.host.now) changes)
 
@@ -60,7 +60,7 @@ returns-in_ok-write_entries-clause-left g c f t waits tells given none =
     let d = c.self.inside.delta in
     let wait = drafts_wait old reads (the_view c.self.inside) f t waits goes none c.drafted.ensures.apart in
     let changes = subst (λ (n : List ℕ). Changes old new (Only n) (Moved old n (FrontStep d.page_size f.base.diverted goes.behind.diverted.0 (old.files n)))) c.self.invariant.5
-        (c.write_entries.ensures.changes tells f.base.diverted goes.behind.diverted.0 (subst (λ (n : List ℕ). Waits d.page_size d.entries d.drafted f.base.diverted goes.behind.diverted.0 (old.files n)) (sym c.self.invariant.5) wait)) in
+    (c.write_entries.ensures.changes tells f.base.diverted goes.behind.diverted.0 (subst (λ (n : List ℕ). Waits d.page_size d.entries d.drafted f.base.diverted goes.behind.diverted.0 (old.files n)) (sym c.self.invariant.5) wait)) in
     subst (λ (h : Held). Changes old new (OfFiles h.name) (StandsIn h.name t)) c.self.view_is
     (enter_changes old reads (the_view c.self.inside) f t waits goes none new (g.met.H.Host.timely c.args.host.now) changes)
 
@@ -74,7 +74,7 @@ returns-in_ok-write_entries-clause-done g c f t waits tells given none =
     let some : 0 < c.self.inside.delta.drafted = omega (arith, c.drafted.ensures.value, c.if-drafted-eq0.false) in
     let wait = subst (λ (n : List ℕ). Waits d.page_size d.entries d.drafted f.base.diverted goes.behind.diverted.0 (old.files n)) (sym c.self.invariant.5) (drafts_wait old reads (the_view c.self.inside) f t waits goes none c.drafted.ensures.apart) in
     let changes = subst (λ (n : List ℕ). Changes old new (Only n) (Moved old n (FrontStep d.page_size f.base.diverted goes.behind.diverted.0 (old.files n)))) c.self.invariant.5
-        (c.write_entries.ensures.changes tells f.base.diverted goes.behind.diverted.0 wait) in
+    (c.write_entries.ensures.changes tells f.base.diverted goes.behind.diverted.0 wait) in
     let all = subst (λ (n : List ℕ). HasAll d.page_size d.entries (old.files n) (new.files n)) c.self.invariant.5 (c.in_ok-write_entries.ensures.written tells f.base.diverted goes.behind.diverted.0 wait) in
     let durable = subst (λ (n : List ℕ). IsDurable new n (new.files n)) c.self.invariant.5 (c.in_ok-write_entries.ensures.durable tells some) in
     enter_open old reads (the_view c.self.inside) f t waits goes none new (λ m left. left_before old new _ changes.others c.self.inside.name m (main_apart c.self.inside.name) left)

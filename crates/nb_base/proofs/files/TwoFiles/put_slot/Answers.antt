@@ -22,7 +22,7 @@ returns-in_err-rewrite-in-Some-clause-left g c f t waits tells given may =
     let goes = subst (λ (h : Held). GoesIn old h f t waits) (sym c.self.view_is) given in
     let slot = slot_answered c.slot_of.result c.self.inside.delta.page_size c.in-Some.slot c.args.number c.self.inside.delta.entries c.in_ok-slot.field-0 c.in_ok-slot.was c.slot_of.ensures.slot c.in-Some.is in
     let changes = slot_changes old _ new c.self.inside.name _ c.self.inside.delta slot.k c.args.page.now (ap g.H.Host.world c.slot_of.ensures.no_call) c.slot_of.ensures.same c.self.invariant.5
-        (c.rewrite.ensures.changes tells slot.k (slot.place ∙ ap (λ (d : Known). slot_place d.page_size slot.k) (sym c.slot_of.ensures.same))) in
+    (c.rewrite.ensures.changes tells slot.k (slot.place ∙ ap (λ (d : Known). slot_place d.page_size slot.k) (sym c.slot_of.ensures.same))) in
     subst (λ (h : Held). Changes old new (OfFiles h.name) (StandsIn h.name t)) c.self.view_is
     (slot_left old new (the_view c.self.inside) f t waits goes c.args.number slot.k c.args.page.now may (ap (entry_for c.args.number) (sym goes.agrees.entries) ∙ slot.at) changes (g.met.H.Host.timely c.args.host.now))
 
@@ -33,7 +33,7 @@ returns-in_ok-rewrite-in-Some-clause-left g c f t waits tells given may =
     let goes = subst (λ (h : Held). GoesIn old h f t waits) (sym c.self.view_is) given in
     let slot = slot_answered c.slot_of.result c.self.inside.delta.page_size c.in-Some.slot c.args.number c.self.inside.delta.entries c.in_ok-slot.field-0 c.in_ok-slot.was c.slot_of.ensures.slot c.in-Some.is in
     let changes = slot_changes old _ new c.self.inside.name _ c.self.inside.delta slot.k c.args.page.now (ap g.H.Host.world c.slot_of.ensures.no_call) c.slot_of.ensures.same c.self.invariant.5
-        (c.rewrite.ensures.changes tells slot.k (slot.place ∙ ap (λ (d : Known). slot_place d.page_size slot.k) (sym c.slot_of.ensures.same))) in
+    (c.rewrite.ensures.changes tells slot.k (slot.place ∙ ap (λ (d : Known). slot_place d.page_size slot.k) (sym c.slot_of.ensures.same))) in
     subst (λ (h : Held). Changes old new (OfFiles h.name) (StandsIn h.name t)) c.self.view_is
     (slot_left old new (the_view c.self.inside) f t waits goes c.args.number slot.k c.args.page.now may (ap (entry_for c.args.number) (sym goes.agrees.entries) ∙ slot.at) changes (g.met.H.Host.timely c.args.host.now))
 

@@ -61,7 +61,7 @@ returns-clause-out g c f t tells given =
     let may = may_slot old (the_view c.self.inside) f t out c.args.number c.requires.waits.0 at (sym (ap length peek) ∙ into ∙ c.self.invariant.1) in
     let later : ℕ → _ = waits (with_rank c.args.number None c.self.inside.cache.pages) in
     let goes = c.in_ok-put_slot.ensures.put f t (waits c.self.inside.cache.pages) later tells out.goes (subst (λ (x : Page). MaySlot t c.args.number x) (sym is) may)
-        (waits_later old (the_view c.self.inside) f t out c.args.number c.requires.waits.0 at) in
+    (waits_later old (the_view c.self.inside) f t out c.args.number c.requires.waits.0 at) in
     let after = slot_out old (the_view c.self.inside) f t out c.args.number c.requires.waits.0 at new (subst (λ (h : Rattle.nb_base.specs.Open.Held). GoesIn new h f t later) c.put_slot.ensures.same goes) in
     subst (λ (k : Rattle.nb_cache.specs.Held.Held). let h : Held = record { files = c.put_slot.new.self; pages = k.pages; cap = k.cap } in GoesSlot new h f t) (sym c.clean.ensures)
     (subst (λ (b : Rattle.nb_base.specs.Open.Held). let h : Held = record { files = b; pages = with_rank c.args.number None c.self.inside.cache.pages; cap = c.self.inside.cache.cap } in GoesSlot new h f t) (sym c.put_slot.ensures.same) after)
