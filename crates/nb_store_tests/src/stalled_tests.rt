@@ -66,7 +66,7 @@ fn waited(alloc: Global, host: &mut MemHost) -> Result<(bool, u32, [u64; 2]), Fa
         pair.begin(host, &[7; 16])?;
     }
     let before = host.calls();
-    fill(host, &mut pair, 4, 5, false)?;
+    fill(host, &mut pair, 2, 5, false)?;
     fill(host, &mut pair, 6, 6, false)?;
     let made_none = host.calls() == before;
     let entries = pair.delta_count();
