@@ -60,6 +60,28 @@ fn flags_are_kept(rt: HostRuntime) -> Result<(), Fail> {
     Ok(())
 }
 
+/// How many calls a write makes that waits beside another of its page, and how long its text is once the database was opened again.
+fn second_write(
+    alloc: Global,
+    host: &mut MemHost,
+    engine: &mut Engine,
+) -> Result<(u64, usize), Fail> {
+    engine.set_forced(host, false)?;
+    engine.page_write(host, 6, b"first")?;
+    let before = host.calls();
+    engine.page_write(host, 6, b"second")?;
+    let calls = host.calls().saturating_sub(before);
+    open_again(alloc, host, engine, 4)?;
+    let text = engine.page_read(host, 6)?;
+    Ok((calls, text.len()))
+}
+
+#[test]
+fn a_text_that_waits_asks_nothing(rt: HostRuntime) -> Result<(), Fail> {
+    assert_eq!(rt; on_new_base(rt.alloc(), 8, second_write)?, (0, 0));
+    Ok(())
+}
+
 fn is_given_back(_alloc: Global, host: &mut MemHost, engine: &mut Engine) -> Result<bool, Fail> {
     engine.page_free(host, 6)?;
     Ok(matches!(

@@ -337,6 +337,27 @@ fn a_frozen_page_is_read(rt: HostRuntime) -> Result<(), Fail> {
     Ok(())
 }
 
+/// How many calls a write makes that may wait, and the first byte of its page in the file that a backup then freezes.
+fn waited(host: &mut MemHost, store: &mut Store) -> Result<(u64, u8), Fault> {
+    let before = host.calls();
+    put(host, store, false)?;
+    let calls = host.calls().saturating_sub(before);
+    store.begin(host)?;
+    if store.page_size() != 1024 {
+        return Err(Fault::Device);
+    }
+    let mut page = [0; 1024];
+    store.read_main(host, 6, &mut page)?;
+    Ok((calls, page[0]))
+}
+
+#[test]
+fn a_backup_has_what_waited(rt: HostRuntime) -> Result<(), Fail> {
+    let host = changed(rt.alloc(), 64, &[0])?;
+    assert_eq!(rt; on_base(rt.alloc(), host, waited)?, (0, 7));
+    Ok(())
+}
+
 /// Whether a backup that has begun has a GUID.
 fn has_guid(host: &mut MemHost, store: &mut Store) -> Result<bool, Fault> {
     store.begin(host)?;
