@@ -145,6 +145,16 @@ CASES = [
         "states in order",
         [(script(CREATE, END, BEGIN, BEGIN, END), "1: ok pages 13|1: refused 6 WrongState 0|1: ok scn 2|1: refused 6 WrongState 1|1: ok scn 3", 1)],
     ),
+    Case(
+        "pages that wait",
+        [
+            (script(OPEN, "1: forced writes off", "1: write 6 'a'", "1: write 6 'b'", "1: write 7 'c'"), "1: ok pages 13 state 0|1: ok|1: ok|1: ok|1: ok", 0),
+            (script(OPEN, "1: read 6", "1: read 7"), "1: ok pages 13 state 0|1: ok 'b'|1: ok 'c'", 0),
+            (script(OPEN, "1: write 6 'd'", "1: write 13 'x'"), "1: ok pages 13 state 0|1: ok|1: refused 9 PageRange 13 13", 1),
+            (script(OPEN, "1: read 6"), "1: ok pages 13 state 0|1: ok 'd'", 0),
+        ],
+        "create, write, read",
+    ),
     Case("level 0", [(words("-B 0 a.db a.0"), "1: ok level 0 scn 1 pages 13 guid G1", 0)], "create, write, read", is_level_0),
     Case(
         "level 1",

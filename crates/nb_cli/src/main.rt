@@ -80,6 +80,23 @@ fn status_of<H: Host>(alloc: Global, words: io::Result<Vec<String>>, host: &mut 
     }
 }
 
+/// Behind a run of which no call failed, has the host write what it still holds of files. A reply would have it written, and the end of
+/// the program is none. It says nothing.
+fn write_rest<H: Host>(status: Status, host: &mut H) -> Status
+    ensures same { (result ≡ status) ⊎ (result ≡ Status.Device) }
+    ensures device { result ≡ Status.Device → (status ≡ Status.Device) ⊎ Rose (H.faults host.old) (H.faults host.new) }
+    ensures no_device { result ≢ Status.Device → H.faults host.new ≡ H.faults host.old }
+    ensures files { (H.world host.new).files ≡ (H.world host.old).files }
+{
+    match status {
+        Status::Usage | Status::Device => status,
+        Status::Done | Status::Refused | Status::Memory => match host.say(&[]) {
+            Ok(()) => status,
+            Err(_) => Status::Device,
+        },
+    }
+}
+
 /// Whether it is asked for that the standard error tells how far files are written.
 fn wants_progress(rt: &(impl Env + AllocGlobal)) -> bool {
     match env::var(rt, "NEHUMIRO_PROGRESS") {
@@ -107,6 +124,7 @@ fn main(rt: HostRuntime) -> ExitCode {
         Err(_) => Ok(None),
     };
     let status = status_of(alloc, words, &mut host);
+    let status = write_rest(status, &mut host);
     // Nothing is left to do where the standard error fails.
     if matches!(status, Status::Usage) {
         let _ = eprint!(rt; "{USAGE}");
