@@ -18,7 +18,7 @@ use Rattle.nb_model.specs.Jobs.{not_fixable}
 use Rattle.nb_model.specs.Owner.{delta_name}
 use Rattle.nb_model.proofs.FormLaws.{no_cause}
 use Rattle.nb_model.proofs.HeaderLaws.{same-header, same-number}
-use Rattle.nb_model.proofs.ReadLaws.{lt_yes, eq_no, eq_yes}
+use Rattle.nb_model.proofs.ReadLaws.{lt_yes, eq_no}
 use Rattle.nb_fixup.specs.Tests.{copy_cause, file_cause}
 
 some_none : (r : Refusal) → Some r ≡ None → ⊥
