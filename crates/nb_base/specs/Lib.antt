@@ -6,3 +6,4 @@ pub mod Beginnings
 pub mod Attach
 pub mod Control
 pub mod Put
+pub mod Reads
