@@ -11,8 +11,7 @@ use Rattle.nb_delta.specs.Known.{Known}
 use Rattle.nb_model.specs.Image.{image_in}
 use Rattle.nb_base.specs.declared.attach.Start.{Start}
 use Rattle.nb_base.specs.Attach.{IsStart}
-use Rattle.nb_base.specs.Open.{Held}
-use Rattle.nb_base.specs.Reads.{table_reads, zero_pages, opening_reads}
+use Rattle.nb_base.specs.Reads.{table_reads, zero_pages}
 
 -- in the normal state no table is read
 pub none_read : (result : Result Known Fault) (state size reads : ℕ) → IfOk result (λ d. reads ≤ reads + table_reads state size d.entries)
@@ -34,11 +33,9 @@ zeros_are bytes start is size =
     ap (λ (n : ℕ). n - length (image_in bytes)) pages
 
 -- The header, the table, and the pages from the end on: `main` of them are left.
-pub opened_reads : (file : File) (bytes : List ℕ) (start : Start) (held : Held) (main r0 r1 r2 r3 : ℕ) → IsStart bytes start → IsTrue (is_page_size start.page_size) → file ≡ Some bytes → main ≡ length (image_in bytes)
-    → held.state ≡ start.state → held.page_size ≡ start.page_size → r1 ≤ r0 + 1 → r2 ≤ r1 + table_reads start.state start.page_size held.entries → r3 + main ≤ r2 + start.pages + 1 → main ≤ start.pages
-    → r3 ≤ r0 + opening_reads file held
-opened_reads file bytes start held main r0 r1 r2 r3 is size there counted state page_size first table last most =
-    let zeros : zero_pages file ≡ start.pages - main = ap (λ (f : File). zero_pages f) there ∙ zeros_are bytes start is size ∙ ap (λ (n : ℕ). start.pages - n) (sym counted) in
-    let same : table_reads held.state held.page_size held.entries ≡ table_reads start.state start.page_size held.entries =
-    ap (λ (s : ℕ). table_reads s held.page_size held.entries) state ∙ ap (λ (n : ℕ). table_reads start.state n held.entries) page_size in
-    omega (arith, zeros, same, first, table, last, most)
+pub opened_reads : (file : File) (bytes : List ℕ) (start : Start) (size main r0 r1 r2 r3 r4 : ℕ) (entries : List ℕ) → IsStart bytes start → IsTrue (is_page_size start.page_size) → file ≡ Some bytes → main ≡ length (image_in bytes) → main ≤ start.pages
+    → size ≡ start.page_size → r1 ≤ r0 + 1 → r2 ≤ r1 + table_reads start.state start.page_size entries → r3 + main ≤ r2 + start.pages + 1 → r4 ≡ r3 → r4 ≤ r0 + (1 + table_reads start.state size entries + zero_pages file + 1)
+opened_reads file bytes start size main r0 r1 r2 r3 r4 entries is one_of there counted most page_size first table last kept =
+    let zeros : zero_pages file ≡ start.pages - main = ap (λ (f : File). zero_pages f) there ∙ zeros_are bytes start is one_of ∙ ap (λ (n : ℕ). start.pages - n) (sym counted) in
+    let same : table_reads start.state size entries ≡ table_reads start.state start.page_size entries = ap (λ (n : ℕ). table_reads start.state n entries) page_size in
+    omega (arith, zeros, same, first, table, last, most, kept)

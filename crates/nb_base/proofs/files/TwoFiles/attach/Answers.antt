@@ -59,8 +59,7 @@ returns-clause-reads g c tells =
     let last = c.in_ok-main_count.ensures.reads tells in
     let made : (g.H.Host.world c.keep_files.new.host).reads ≡ (g.H.Host.world c.find_length.new.host).reads =
     c.in_ok-keep_files.ensures.reads ∙ ap (λ (h : _). (g.H.Host.world h).reads) c.in_ok-count.ensures.no_call in
-    subst (λ (n : ℕ). n ≤ old.reads + _) (sym made)
-    (opened_reads (old.files name) file.bytes start _ c.in_ok-main_count.main_count _ _ _ _ is c.in_ok-start.ensures.size file.is main_count refl (ap (λ (d : Known). d.page_size) known ∙ c.in_ok-delta.ensures.known.page_size)
-    (c.in_ok-start.ensures.reads tells)
-    (subst (λ (entries : List ℕ). (g.H.Host.world c.attach_delta.new.host).reads ≤ (g.H.Host.world c.read_start.new.host).reads + table_reads start.state start.page_size entries) (sym (ap (λ (d : Known). d.entries) known)) table)
-    last c.in_ok-main_count.ensures.most)
+    let entries = sym (ap (λ (d : Known). d.entries) known) in
+    let table_held = subst (λ (es : List ℕ). (g.H.Host.world c.attach_delta.new.host).reads ≤ (g.H.Host.world c.read_start.new.host).reads + table_reads start.state start.page_size es) entries table in
+    opened_reads (old.files name) file.bytes start _ c.in_ok-main_count.main_count old.reads _ _ _ _ _ is c.in_ok-start.ensures.size file.is main_count c.in_ok-main_count.ensures.most (ap (λ (d : Known). d.page_size) known ∙ c.in_ok-delta.ensures.known.page_size)
+    (c.in_ok-start.ensures.reads tells) table_held last made
