@@ -12,6 +12,7 @@ pub mod MakingLaws
 pub mod MergeLaws
 pub mod MergedLaws
 pub mod OpenedLaws
+pub mod OpeningReads
 pub mod OutcomeLaws
 pub mod OwnedLaws
 pub mod PageReads

@@ -7,3 +7,4 @@ pub mod Beginnings
 pub mod Attach
 pub mod Control
 pub mod Put
+pub mod Reads
