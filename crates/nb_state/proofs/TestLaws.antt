@@ -1,6 +1,6 @@
 -- Why a backup doesn't begin, and why a merge doesn't.
 use Rattle.std.proofs.Common.{◌≡◌, ◌≢◌, inl, inr, ℕ, suc, ◌≤◌, ◌<◌, [], ◌∷◌, refl, ap, ◌∙◌, arith}
-use Rattle.std.specs.Prelude.{Bool, true, false, Option, Some, None, not, ◌==◌, nat_lt}
+use Rattle.std.specs.Prelude.{Bool, true, false, Option, Some, None, not, nat_lt}
 use Rattle.std.proofs.lemmas.Bool.{eq-eqb, ne_eqb}
 use Rattle.std.proofs.lemmas.Bool.Decides.{leb_tells}
 use Rattle.nb_host.specs.declared.refusals.Refusal.{Refusal}
