@@ -87,6 +87,7 @@ fn write_rest<H: Host>(status: Status, host: &mut H) -> Status
     ensures device { result ≡ Status.Device → (status ≡ Status.Device) ⊎ Rose (H.faults host.old) (H.faults host.new) }
     ensures no_device { result ≢ Status.Device → H.faults host.new ≡ H.faults host.old }
     ensures files { (H.world host.new).files ≡ (H.world host.old).files }
+    ensures silent { IsTrue H.tells → (H.world host.new).said ≡ (H.world host.old).said }
 {
     match status {
         Status::Usage | Status::Device => status,
