@@ -37,8 +37,8 @@ agrees_later held t p bytes fits a = record {
 pub open_seen : (w : World) (held : Held) (t : Trail) → IsOpen w held t → IsSeen w held.name t
 open_seen w held t o = record { left = o.left; shows = o.shows }
 
-pub seen_open : (w : World) (held : Held) (t : Trail) → IsSeen w held.name t → Agrees held t.base → IsOpen w held t
-seen_open w held t seen agrees = record { left = seen.left; shows = seen.shows; agrees = agrees }
+pub seen_open : (w : World) (held : Held) (t : Trail) → IsSeen w held.name t → Agrees held t.base → held.drafted ≡ 0 → IsOpen w held t
+seen_open w held t seen agrees none_drafted = record { left = seen.left; shows = seen.shows; agrees = agrees; drafted = none_drafted }
 
 -- which write is synced
 pub synced_is : (held : Held) (b : Base) (p : ℕ) (forced : Bool) → Agrees held b → forced ≡ is_forced b.image

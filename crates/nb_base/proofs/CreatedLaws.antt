@@ -53,9 +53,9 @@ failed result old new name image gives so_far taken =
     subst (λ (r : Result ℕ Fault). CreatesFile r old new name image) (sym (error.1 ∙ ap Err error.2)) (record { answer = tt; left = so_far; taken = taken })
 
 -- what is held of a new database agrees with it
-pub created : (size raw : ℕ) → IsTrue (is_page_size size) → raw ≤ 65535 → (long : ℕ) → long ≡ size → (old new : World) (name : List ℕ) (held : Held) → held.name ≡ name → held.page_size ≡ size → held.state ≡ 0 → held.entries ≡ []
+pub created : (size raw : ℕ) → IsTrue (is_page_size size) → raw ≤ 65535 → (long : ℕ) → long ≡ size → (old new : World) (name : List ℕ) (held : Held) → held.name ≡ name → held.page_size ≡ size → held.state ≡ 0 → held.entries ≡ [] → held.drafted ≡ 0
     → CreatesFile (Ok held.count) old new name (fresh long raw) → GaveNothing old new → Creates (Ok held) old new name (fresh size raw)
-created size raw is few long same old new name held named sized normal none file gave =
+created size raw is few long same old new name held named sized normal none none_drafted file gave =
     let image : Image = fresh size raw in
     let makes : CreatesFile (Ok held.count) old new name image = subst (λ (n : ℕ). CreatesFile (Ok held.count) old new name (fresh n raw)) same file in
     let ready : IsSettled new held.name (base_of image) = subst (λ (n : List ℕ). IsSettled new n (base_of image)) (sym named) makes.answer.2 in
@@ -75,6 +75,7 @@ created size raw is few long same old new name held named sized normal none file
             main_count = λ stalled. absurd (omega (arith, normal, stalled));
             entries = none;
           };
+          drafted = none_drafted;
         },
       );
       left = makes.left;

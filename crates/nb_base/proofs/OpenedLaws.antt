@@ -163,9 +163,9 @@ module _ (name bytes : List ℕ) (start : Start) (is : IsStart bytes start) wher
 
     -- Once they are kept for good, each stop leaves them.
     pub read_attached : (held : Held) (old new : World) → old.files name ≡ Some bytes → old.files (delta_name name) ≡ d → new.files ≡ old.files → held.name ≡ name → held.page_size ≡ start.page_size → held.state ≡ start.state
-        → held.count ≡ max (length (image_in bytes)) (behind_entries known.entries) → held.main_count ≡ length (image_in bytes) → held.entries ≡ known.entries
+        → held.count ≡ max (length (image_in bytes)) (behind_entries known.entries) → held.main_count ≡ length (image_in bytes) → held.entries ≡ known.entries → held.drafted ≡ 0
         → IsDurable new name (Some bytes) → (0 < start.state → IsDurable new (delta_name name) d) → IsAttached held old new name
-    read_attached held old new there beside still named sized stated count main_count entries durable durable_beside =
+    read_attached held old new there beside still named sized stated count main_count entries none_drafted durable durable_beside =
         let now : ShowsIn name read_base old.files = ap (owner name (old.files name)) beside ∙ shows name read_base (old.files name) d (read_holds (old.files name) there) in
         record {
           base = read_base;
@@ -190,4 +190,5 @@ module _ (name bytes : List ℕ) (start : Start) (is : IsStart bytes start) wher
           left = λ files left. shows_firm name read_base (files name) (files (delta_name name)) (each files left start.state refl);
           shows = ap (λ (f : Files). owner name (f name) (f (delta_name name))) still ∙ ap (owner name (old.files name)) beside ∙ shows name read_base (old.files name) d (read_holds (old.files name) there);
           agrees = read_agrees (record held { name = name }) sized stated count main_count entries;
+          drafted = none_drafted;
         }

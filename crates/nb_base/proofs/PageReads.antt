@@ -1,6 +1,6 @@
 -- What is read of a main file, and of the image by the file that owns a page.
 use Rattle.std.proofs.Common.{◌≡◌, ◌≢◌, inl, inr, ℕ, zero, suc, ◌+◌, ◌-◌, ◌*◌, ◌<◌, ◌≤◌, List, [], ◌++◌, length, take, drop, replicate, refl, sym, ap, ◌∙◌, arith, length-append, length-take, suc-mul, mul-le-mul_right, le_of_mul-le-mul_right}
-use Rattle.std.specs.Prelude.{Bool, true, false, Some, None}
+use Rattle.std.specs.Prelude.{Bool, true, false, Option, Some, None}
 use Rattle.std.proofs.lemmas.Bool.Decides.{leb_tells}
 use Rattle.std.proofs.lemmas.List.{take_all, get_or_append_left, get_or-append_right}
 use Rattle.nb_fields.specs.Bytes.{is_zeros}
@@ -11,9 +11,8 @@ use Rattle.nb_delta.specs.Known.{Known}
 use Rattle.nb_host.specs.Calls.{ReadsPage, ReadsBytes}
 use Rattle.nb_model.specs.Image.{Page, Image, page_at, image_size, image_state, image_in}
 use Rattle.nb_model.specs.Causes.{not_database}
-use Rattle.nb_host.specs.World.{World}
 use Rattle.nb_model.specs.Account.{Base}
-use Rattle.nb_model.specs.Trail.{Trail}
+use Rattle.nb_model.specs.Trail.{ShowsIn}
 use Rattle.nb_model.specs.Owner.{delta_name, entry_for, main_page, slot_page, owned_page}
 use Rattle.nb_model.proofs.FormLaws.{formed}
 use Rattle.nb_model.proofs.HeaderLaws.{header-long}
@@ -21,7 +20,6 @@ use Rattle.nb_model.proofs.ImageLaws.{all-right, length-joined, page-joined}
 use Rattle.nb_model.proofs.MainLaws.{IsLaid, laid, laid-front, laid-wide}
 use Rattle.nb_model.proofs.OwnerLaws.{main_here, main_past}
 use Rattle.nb_model.proofs.SoundLaws.{all_at}
-use Rattle.nb_base.specs.Open.{Held, IsOpen}
 use Rattle.nb_base.proofs.WrittenLaws.{zeros_is, laid_formed, laid_image}
 use Rattle.nb_base.proofs.OwnedLaws.{Holds, holds, bytes-size, base-page, base-size, base-state, owned-entry, owned-none}
 
@@ -116,35 +114,57 @@ module _ (bytes : List ℕ) (formed_ : not_database bytes ≡ None) (size : ℕ)
   pub main_owned : (p : ℕ) → entry_for p entries ≡ None → (got : List ℕ) → got ≡ main_page size (image_in bytes) p → got ≡ owned_page size (image_in bytes) delta entries p
   main_owned p none got is = is ∙ sym (owned-none size (image_in bytes) delta entries p none)
 
--- What the files of a database that is open hold.
-pub record Reads (w : World) (held : Held) (t : Trail) : Type 0 where
-  pub bytes : List ℕ
-  pub there : w.files held.name ≡ Some bytes
-  pub formed : not_database bytes ≡ None
-  pub size : size_of bytes ≡ held.page_size
-  pub pages : (p : ℕ) → p < length t.base.image → owned_page held.page_size (image_in bytes) (bytes_of (w.files (delta_name held.name))) held.entries p ≡ page_at t.base.image p
-  pub frozen : held.state ≡ 1 → (p : ℕ) → p < length t.base.frozen → main_page held.page_size (image_in bytes) p ≡ page_at t.base.frozen p
+-- a page goes by its entry alone
+owned_same : (size : ℕ) (main : Image) (delta xs ys : List ℕ) (p : ℕ) → entry_for p xs ≡ entry_for p ys → owned_page size main delta xs p ≡ owned_page size main delta ys p
+unfolding owned_page
+owned_same size main delta xs ys p same = ap (λ (x : Option ℕ). elim x as (λ z. Page) [ Some k ↦ slot_page size main delta p k | None ↦ main_page size main p ]) same
 
-pub open_reads : (w : World) (held : Held) (t : Trail) → IsOpen w held t → Reads w held t
-open_reads w held t o =
-    let b : Base = t.base in
-    let d : File = w.files (delta_name held.name) in
-    let h : Holds b (w.files held.name) d = holds held.name b (w.files held.name) d o.shows in
+-- What the files of a database hold of a page, for whoever knows its entry.
+pub record ReadsPageOf (files : Files) (name : List ℕ) (size : ℕ) (entries : List ℕ) (b : Base) (p : ℕ) : Type 0 where
+  pub bytes : List ℕ
+  pub there : files name ≡ Some bytes
+  pub formed : not_database bytes ≡ None
+  pub sized : size_of bytes ≡ size
+  pub page : owned_page size (image_in bytes) (bytes_of (files (delta_name name))) entries p ≡ page_at b.image p
+
+pub base_reads : (files : Files) (name : List ℕ) (size : ℕ) (entries : List ℕ) (b : Base) (p : ℕ) → ShowsIn name b files → size ≡ image_size b.image → entry_for p entries ≡ entry_for p b.diverted → p < length b.image
+    → ReadsPageOf files name size entries b p
+base_reads files name size entries b p opens sized entry low =
+    let d : File = files (delta_name name) in
+    let h : Holds b (files name) d = holds name b (files name) d opens in
     let image : image_in h.has.bytes ≡ h.main = laid_image h.main h.has.bytes h.has.laid in
     let none : not_database h.has.bytes ≡ None = laid_formed h.main h.has.bytes h.has.laid in
-    let same : image_size h.main ≡ held.page_size = sym (base-size b (w.files held.name) d h) ∙ sym o.agrees.page_size in
+    let same : image_size h.main ≡ size = sym (base-size b (files name) d h) ∙ sym sized in
     record {
       bytes = h.has.bytes;
       there = h.has.there;
       formed = none;
-      size = sym (bytes-size h.has.bytes none) ∙ ap image_size image ∙ same;
-      pages = λ p low.
-          ap (λ (x : Image). owned_page held.page_size x (bytes_of d) held.entries p) image ∙ ap (λ n. owned_page n h.main (bytes_of d) held.entries p) (sym same)
-          ∙ ap (λ (x : List ℕ). owned_page (image_size h.main) h.main (bytes_of d) x p) o.agrees.entries ∙ sym (base-page b (w.files held.name) d h p low);
-      frozen = λ stalled p low.
-          let state : image_state h.main ≡ 1 = sym (base-state b (w.files held.name) d h) ∙ sym o.agrees.state ∙ stalled in
-          let is : b.frozen ≡ h.main = h.frozen.stalled state in
-          ap (λ (x : Image). main_page held.page_size x p) image ∙ main_here held.page_size h.main p (omega (arith, low, ap length is)) ∙ sym (ap (λ (x : Image). page_at x p) is);
+      sized = sym (bytes-size h.has.bytes none) ∙ ap image_size image ∙ same;
+      page = ap (λ (x : Image). owned_page size x (bytes_of d) entries p) image ∙ ap (λ n. owned_page n h.main (bytes_of d) entries p) (sym same) ∙ owned_same (image_size h.main) h.main (bytes_of d) entries b.diverted p entry
+          ∙ sym (base-page b (files name) d h p low);
+    }
+
+-- What the main file of a stalled database holds of a page, as it is frozen.
+pub record ReadsFrozen (files : Files) (name : List ℕ) (size : ℕ) (b : Base) (p : ℕ) : Type 0 where
+  pub bytes : List ℕ
+  pub there : files name ≡ Some bytes
+  pub formed : not_database bytes ≡ None
+  pub sized : size_of bytes ≡ size
+  pub page : main_page size (image_in bytes) p ≡ page_at b.frozen p
+
+pub frozen_reads : (files : Files) (name : List ℕ) (size : ℕ) (b : Base) (p : ℕ) → ShowsIn name b files → size ≡ image_size b.image → image_state b.image ≡ 1 → p < length b.frozen → ReadsFrozen files name size b p
+frozen_reads files name size b p opens sized stalled low =
+    let d : File = files (delta_name name) in
+    let h : Holds b (files name) d = holds name b (files name) d opens in
+    let image : image_in h.has.bytes ≡ h.main = laid_image h.main h.has.bytes h.has.laid in
+    let none : not_database h.has.bytes ≡ None = laid_formed h.main h.has.bytes h.has.laid in
+    let is : b.frozen ≡ h.main = h.frozen.stalled (sym (base-state b (files name) d h) ∙ stalled) in
+    record {
+      bytes = h.has.bytes;
+      there = h.has.there;
+      formed = none;
+      sized = sym (bytes-size h.has.bytes none) ∙ ap image_size image ∙ sym (base-size b (files name) d h) ∙ sym sized;
+      page = ap (λ (x : Image). main_page size x p) image ∙ main_here size h.main p (omega (arith, low, ap length is)) ∙ sym (ap (λ (x : Image). page_at x p) is);
     }
 
 -- what was read of a slot, by what the object of the difference file knows

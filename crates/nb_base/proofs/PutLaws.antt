@@ -1,5 +1,5 @@
 -- A page that waited goes out: what one outcome holds then, what a stop leaves, and what reads.
-use Rattle.std.proofs.Common.{◌≡◌, ◌≢◌, ◌⊎◌, inl, inr, ⊎_elim, ℕ, ◌*◌, ◌≤◌, List, [], length, refl, sym, ap, subst, ◌∙◌, arith}
+use Rattle.std.proofs.Common.{◌≡◌, ◌≢◌, ◌⊎◌, inl, inr, ⊎_elim, ℕ, ◌*◌, List, length, refl, sym, ap, subst, ◌∙◌, arith}
 use Rattle.std.specs.Prelude.{Bool, IsTrue, None, Ok, Result}
 use Rattle.nb_host.specs.Files.{File, Files, with_file, with_page as with_page_at}
 use Rattle.nb_host.specs.World.{World}
@@ -18,7 +18,7 @@ use Rattle.nb_model.specs.Trail.{settled, ShowsIn}
 use Rattle.nb_model.proofs.TrailLaws.{itself_firm}
 use Rattle.nb_base.specs.Open.{OfFiles}
 use Rattle.nb_base.specs.Seen.{IsWrite}
-use Rattle.nb_base.specs.Put.{MayPut, IsPut, PutLeft}
+use Rattle.nb_base.specs.Put.{MayPut, PutLeft}
 use Rattle.nb_base.proofs.OwnedLaws.{Holds, holds, shows, base-state}
 use Rattle.nb_base.proofs.StepLaws.{left_main, holds_main}
 use Rattle.nb_base.proofs.WriteLaws.{delta_apart}

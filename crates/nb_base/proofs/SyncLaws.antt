@@ -27,14 +27,15 @@ normal_any b m d c h normal = record {
 }
 
 -- the main file is durable, and the difference file where it is looked at
-pub both_settled : (old new : World) (held : Held) (b : Base) → IsStill old new → Agrees held b → ShowsIn held.name b old.files → IsDurable new held.name (new.files held.name)
+pub both_settled : (old new : World) (held : Held) (b : Base) → IsStill old new → Agrees held b → held.drafted ≡ 0 → ShowsIn held.name b old.files → IsDurable new held.name (new.files held.name)
     → (held.state ≢ 0 → IsDurable new (delta_name held.name) (new.files (delta_name held.name))) → IsOpen new held (settled b)
-both_settled old new held b still agrees reads main delta = record {
+both_settled old new held b still agrees none_drafted reads main delta = record {
   left = λ files all.
       let m : files held.name ≡ new.files held.name = durable_is new held.name (new.files held.name) main (files held.name) (all held.name) in
       shows_firm held.name b (files held.name) (files (delta_name held.name)) (ap (λ (x : File). owner held.name x (files (delta_name held.name))) m ∙ any (files (delta_name held.name)) (λ ne. durable_is new _ _ (delta ne) _ (all (delta_name held.name))));
   shows = shown;
   agrees = agrees;
+  drafted = none_drafted;
 }
   where
     shown : ShowsIn held.name b new.files

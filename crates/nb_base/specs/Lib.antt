@@ -1,4 +1,5 @@
 pub mod Firm
+pub mod Going
 pub mod Open
 pub mod Seen
 pub mod Takes
@@ -6,3 +7,4 @@ pub mod Beginnings
 pub mod Attach
 pub mod Control
 pub mod Put
+pub mod Reads

@@ -25,6 +25,8 @@ pub record Held : Type 0 where
   pub main_count : ℕ
   -- the pages that the difference file holds, in the order of their slots; none in the normal state
   pub entries : List ℕ
+  -- how many of the last of them are drafted: the file's table doesn't have them yet
+  pub drafted : ℕ
 
 -- one of the two files
 abbrev pub OfFiles : List ℕ → List ℕ → Type 0
@@ -41,11 +43,13 @@ pub record Agrees (held : Held) (b : Base) : Type 0 where
   pub main_count : held.state ≡ 1 → held.main_count ≡ length b.frozen
   pub entries : held.entries ≡ b.diverted
 
--- Whatever a stop now leaves is what may be left of what was seen, what reads is what was seen last, and what is held agrees with it.
+-- Whatever a stop now leaves is what may be left of what was seen, what reads is what was seen last, and what is held agrees with it. No
+-- entry is drafted.
 pub record IsOpen (w : World) (held : Held) (t : Trail) : Type 0 where
   pub left : (files : Files) → LeavesAll w files → StandsFirm held.name t files
   pub shows : ShowsIn held.name t.base w.files
   pub agrees : Agrees held t.base
+  pub drafted : held.drafted ≡ 0
 
 -- a page that may be written there: at most at the length, and page 0 keeps its control block
 pub record Fits (p : ℕ) (page : Page) (image : Image) : Type 0 where

@@ -13,6 +13,7 @@ ghost use Rattle.nb_model.specs.Causes.{not_database};
 ghost use Rattle.nb_model.specs.Image.{image_in};
 ghost use Rattle.nb_model.specs.Owner.{behind_entries};
 ghost use Rattle.nb_base.specs.Attach.{Tested, length_cause, start_cause, main_cause, IsStart, AttachesFor};
+ghost use Rattle.nb_base.specs.Reads.{table_reads};
 
 use nb_delta::Delta;
 use nb_fields::are_zeros;
@@ -98,6 +99,7 @@ pub(crate) fn read_start<H: Host>(host: &mut H, name: &Name) -> Result<Start, Fa
     ensures least { IfOk result (λ start. 5 ≤ start.pages) }
     ensures most { IfOk result (λ start. start.pages ≤ 1048576) }
     ensures quiet { Quiet (H.world host.old) (H.world host.new) }
+    ensures reads { IsTrue H.tells → (H.world host.new).reads ≤ (H.world host.old).reads + 1 }
     ensures cause { CountsDevice result (H.faults host.old) (H.faults host.new) }
 {
     let Some(len) = host.size(name)? else {
@@ -121,6 +123,7 @@ fn is_blank<H: Host>(
     ensures answer { IsTrue H.tells → (bytes : List ℕ) → (H.world host.old).files name.now ≡ Some bytes → number * length page.old + length page.old ≤ length bytes
         → IfOk result (λ blank. blank ≡ is_zeros (take (length page.old) (drop (number * length page.old) bytes))) }
     ensures quiet { Quiet (H.world host.old) (H.world host.new) }
+    ensures reads { IsTrue H.tells → OnOk result ((H.world host.new).reads ≡ (H.world host.old).reads + 1) }
     ensures cause { CountsFault result (H.faults host.old) (H.faults host.new) }
 {
     let is_whole = host.read_page(name, number, page)?;
@@ -140,6 +143,7 @@ pub(crate) fn find_length<H: Host>(
         → IfOk result (λ count. count ≡ length (image_in bytes)) }
     ensures most { IfOk result (λ count. count ≤ pages) }
     ensures quiet { Quiet (H.world host.old) (H.world host.new) }
+    ensures reads { IsTrue H.tells → IfOk result (λ count. (H.world host.new).reads + count ≤ (H.world host.old).reads + pages + 1) }
     ensures cause { CountsFault result (H.faults host.old) (H.faults host.new) }
 {
     let mut count = pages;
@@ -165,6 +169,7 @@ pub(crate) fn attach_delta<H: Host>(
     ensures answer { IsTrue H.tells → AttachesFor start.state start.page_size name.now ((H.world host.old).files name.now) result }
     ensures known { IfOk result (λ delta. IsFor delta name.now start.page_size) }
     ensures quiet { Quiet (H.world host.old) (H.world host.new) }
+    ensures reads { IsTrue H.tells → IfOk result (λ delta. (H.world host.new).reads ≤ (H.world host.old).reads + table_reads start.state start.page_size delta.entries) }
     ensures cause { CountsDevice result (H.faults host.old) (H.faults host.new) }
 {
     if start.state == 0 {
@@ -204,6 +209,7 @@ pub(crate) fn keep_files<H: Host>(
     ensures main { IsTrue H.tells → OnOk result (IsDurable (H.world host.new) name.now ((H.world host.old).files name.now)) }
     ensures delta { IsTrue H.tells → 0 < state → OnOk result (IsDurable (H.world host.new) delta.now ((H.world host.old).files delta.now)) }
     ensures quiet { Quiet (H.world host.old) (H.world host.new) }
+    ensures reads { (H.world host.new).reads ≡ (H.world host.old).reads }
     ensures cause { CountsFault result (H.faults host.old) (H.faults host.new) }
 {
     host.sync(name)?;

@@ -1,5 +1,5 @@
 // A database is made, so that a stop leaves no half of one, and opened.
-ghost use Rattle.std.specs.Prelude.{◌≡◌, ◌≤◌, ◌<◌, ℕ, IsTrue, OnOk, IfOk, IfErr, length};
+ghost use Rattle.std.specs.Prelude.{◌≡◌, ◌+◌, ◌≤◌, ◌<◌, ℕ, IsTrue, OnOk, IfOk, IfErr, length};
 ghost use Rattle.nb_fields.specs.Places.{is_page_size};
 ghost use Rattle.nb_fields.specs.Fresh.{fresh, fresh_count};
 ghost use Rattle.nb_host.specs.Causes.{CountsFault};
@@ -10,6 +10,7 @@ ghost use Rattle.nb_change.specs.Gave.{GaveNothing};
 ghost use Rattle.nb_page.specs.Quiet.{Quiet};
 ghost use Rattle.nb_model.specs.Account.{base_of};
 ghost use Rattle.nb_base.specs.Beginnings.{CreateLeft, CreatesFile, Attaches, Creates, IsSettled};
+ghost use Rattle.nb_base.specs.Reads.{opening_reads};
 
 use crate::TwoFiles;
 use crate::attach::{attach_delta, count_with, find_length, keep_files, read_start};
@@ -68,13 +69,15 @@ fn create_file<H: Host>(host: &mut H, name: &Name, page: &mut [u8], raw: u32) ->
 
 impl TwoFiles {
     /// Opens the two files of a database, and takes room for one of its pages. It changes nothing: both files are kept for good before
-    /// it answers, so that no later stop takes back what was read of them.
+    /// it answers, so that no later stop takes back what was read of them. It reads the header, the allocation pages of the difference
+    /// file, and from the end of the main file on its pages of zeros and the one before them.
     ///
     /// The refusals are `NoFile`, `NotDatabase`, `Unfinished`, `NoFile` of the difference file and `BadDelta`, in this order.
     pub fn attach<H: Host>(alloc: Global, host: &mut H, name: &Name) -> Result<TwoFiles, Fault>
         requires name { length name.now ≤ 94 }
         ensures attaches { IsTrue H.tells → Attaches result (H.world host.old) (H.world host.new) name.now }
         ensures quiet { Quiet (H.world host.old) (H.world host.new) }
+        ensures reads { IsTrue H.tells → IfOk result (λ files. (H.world host.new).reads ≤ (H.world host.old).reads + opening_reads ((H.world host.old).files name.now) files) }
         ensures cause { CountsDevice result (H.faults host.old) (H.faults host.new) }
     {
         let start = read_start(host, name)?;

@@ -107,6 +107,7 @@ impl TwoFiles {
     /// higher.
     pub fn end<H: Host>(&mut self, host: &mut H) -> Result<(), HostFault>
         requires stalled { self.old.state ≡ 1 }
+        requires none_waits { self.old.drafted ≡ 0 }
         ensures takes { (t : Trail) → IsTrue H.tells → IsOpen (H.world host.old) self.old t
             → TakesFirm result (H.world host.old) (H.world host.new) self.old.name (IsOpen (H.world host.new) self.new) t (ends ∷ []) }
         ensures gave { GaveNothing (H.world host.old) (H.world host.new) }

@@ -1,4 +1,4 @@
-ghost use Rattle.std.specs.Prelude.{◌≡◌, ◌<◌, ◌≤◌, ◌+◌, ℕ, List, [], ◌∷◌, length, slice_index, IsTrue, IfErr, OnOk, Option, false};
+ghost use Rattle.std.specs.Prelude.{◌≡◌, ◌≢◌, ◌<◌, ◌≤◌, ◌+◌, ℕ, List, [], ◌∷◌, length, slice_index, IsTrue, IfErr, OnOk, Option, false};
 ghost use Rattle.nb_fields.specs.Bytes.{is_zeros};
 ghost use Rattle.nb_fields.specs.Places.{is_page_size};
 ghost use Rattle.nb_fields.specs.Fresh.{fresh};
@@ -8,7 +8,8 @@ ghost use Rattle.nb_change.specs.Counts.{CountsDevice};
 ghost use Rattle.nb_change.specs.Gave.{GaveNothing};
 ghost use Rattle.nb_page.specs.Quiet.{Quiet};
 ghost use Rattle.nb_model.specs.Account.{Ask, Base};
-ghost use Rattle.nb_model.specs.Image.{page_at, image_scn, is_forced};
+ghost use Rattle.nb_model.specs.Image.{page_at, image_scn, image_size, image_state, is_forced};
+ghost use Rattle.nb_model.specs.Owner.{entry_for};
 ghost use Rattle.nb_model.specs.Strokes.{page as page_stroke, begin as begin_stroke, ends, finish as finish_stroke};
 ghost use Rattle.nb_model.specs.Trail.{Trail, settled, ShowsIn};
 ghost use Rattle.nb_base.specs.Firm.{must_sync};
@@ -40,16 +41,16 @@ pub struct TwoFiles {
 }
 
 impl Model for TwoFiles {
-    ghost use Rattle.std.specs.Prelude.{◌≡◌, ◌≤◌, IsTrue, length, vec_len};
+    ghost use Rattle.std.specs.Prelude.{◌≡◌, ◌≢◌, ◌≤◌, IsTrue, length, vec_len};
     ghost use Rattle.nb_fields.specs.Places.{is_page_size};
     ghost use Rattle.nb_model.specs.Owner.{delta_name};
     ghost use Rattle.nb_base.specs.Open.{Held};
 
     ghost Value = { Held };
 
-    ghost view = { λ f. record { name = f.name; page_size = f.delta.page_size; state = f.state; count = f.count; main_count = f.main_count; entries = f.delta.entries } };
+    ghost view = { λ f. record { name = f.name; page_size = f.delta.page_size; state = f.state; count = f.count; main_count = f.main_count; entries = f.delta.entries; drafted = f.delta.drafted } };
 
-    ghost invariant = { λ f. IsTrue (is_page_size f.delta.page_size) × (f.count ≤ 1048576) × (f.main_count ≤ 1048576) × (vec_len f.page ≡ f.delta.page_size) × (length f.name ≤ 94) × (f.delta.name ≡ delta_name f.name) × (f.delta.drafted ≡ 0) × (f.state ≤ 2) };
+    ghost invariant = { λ f. IsTrue (is_page_size f.delta.page_size) × (f.count ≤ 1048576) × (f.main_count ≤ 1048576) × (vec_len f.page ≡ f.delta.page_size) × (length f.name ≤ 94) × (f.delta.name ≡ delta_name f.name) × (f.state ≢ 1 → f.delta.drafted ≡ 0) × (f.state ≤ 2) };
 }
 
 impl TwoFiles {
@@ -73,6 +74,7 @@ impl TwoFiles {
     pub fn state(&self) -> u16
         ensures value { result ≡ self.now.state }
         ensures most { result ≤ 2 }
+        ensures stalled { result ≢ 1 → self.now.drafted ≡ 0 }
     {
         self.state
     }
@@ -94,7 +96,7 @@ impl TwoFiles {
     }
 
     /// Fills in page `number` of the database, from the file that holds it. Page 0 has its first 64 bytes from the main file, so it may
-    /// take two reads; every other page takes one.
+    /// take two reads; every other page takes one. What the two files hold may lack entries that are drafted, but not the page's.
     pub fn read<H: Host>(
         &mut self,
         host: &mut H,
@@ -102,7 +104,8 @@ impl TwoFiles {
         into: &mut [u8],
     ) -> Result<(), HostFault>
         requires size { length into.old ≡ self.old.page_size }
-        ensures page { (t : Trail) → IsTrue H.tells → IsOpen (H.world host.old) self.old t → number < length t.base.image → OnOk result (into.new ≡ page_at t.base.image number) }
+        ensures page { (b : Base) → IsTrue H.tells → ShowsIn self.old.name b (H.world host.old).files → self.old.page_size ≡ image_size b.image → entry_for number self.old.entries ≡ entry_for number b.diverted
+            → number < length b.image → OnOk result (into.new ≡ page_at b.image number) }
         ensures open { (t : Trail) → IsTrue H.tells → IsOpen (H.world host.old) self.old t → IsOpen (H.world host.new) self.new t }
         ensures same { self.new ≡ self.old }
         ensures quiet { Quiet (H.world host.old) (H.world host.new) }
@@ -128,6 +131,7 @@ impl TwoFiles {
         requires size { length page.now ≡ self.old.page_size }
         requires most { number < 1048576 }
         requires some { is_zeros page.now ≡ false }
+        requires none_waits { self.old.drafted ≡ 0 }
         ensures takes { (t : Trail) → IsTrue H.tells → IsOpen (H.world host.old) self.old t → Fits number page.now t.base.image → forced ≡ is_forced t.base.image
             → TakesFirm result (H.world host.old) (H.world host.new) self.old.name (IsOpen (H.world host.new) self.new) t (page_stroke number page.now ∷ []) }
         ensures merged { (t : Trail) (k : ℕ) → IsTrue H.tells → IsOpen (H.world host.old) self.old t → Fits number page.now t.base.image → self.old.state ≡ 2
@@ -158,6 +162,7 @@ impl TwoFiles {
     ) -> Result<(), Fault>
         requires size { length page.now ≡ self.old.page_size }
         requires most { number < 1048576 }
+        requires none_waits { self.old.drafted ≡ 0 }
         ensures takes { (t : Trail) → IsTrue H.tells → IsOpen (H.world host.old) self.old t → IsWrite t number page.now → synced ≡ must_sync t.base.image number
             → TakesFirm result (H.world host.old) (H.world host.new) self.old.name (IsSeen (H.world host.new) self.old.name) t (page_stroke number page.now ∷ []) }
         ensures merged { (t : Trail) (k : ℕ) → IsTrue H.tells → IsOpen (H.world host.old) self.old t → IsWrite t number page.now → self.old.state ≡ 2
@@ -185,7 +190,7 @@ impl TwoFiles {
     pub fn sync<H: Host>(&mut self, host: &mut H) -> Result<(), HostFault>
         ensures open { (t : Trail) → IsTrue H.tells → IsOpen (H.world host.old) self.old t → IsOpen (H.world host.new) self.new t }
         ensures settled { (t : Trail) → IsTrue H.tells → IsOpen (H.world host.old) self.old t → OnOk result (IsOpen (H.world host.new) self.new (settled t.base)) }
-        ensures kept { (b : Base) → IsTrue H.tells → Agrees self.old b → ShowsIn self.old.name b (H.world host.old).files → OnOk result (IsOpen (H.world host.new) self.new (settled b)) }
+        ensures kept { (b : Base) → IsTrue H.tells → Agrees self.old b → self.old.drafted ≡ 0 → ShowsIn self.old.name b (H.world host.old).files → OnOk result (IsOpen (H.world host.new) self.new (settled b)) }
         ensures merged { (k : ℕ) → AreMerged (H.world host.old) self.old k → AreMerged (H.world host.new) self.new k }
         ensures same { self.new ≡ self.old }
         ensures quiet { Quiet (H.world host.old) (H.world host.new) }
@@ -204,7 +209,8 @@ impl TwoFiles {
         into: &mut [u8],
     ) -> Result<(), HostFault>
         requires size { length into.old ≡ self.old.page_size }
-        ensures page { (t : Trail) → IsTrue H.tells → IsOpen (H.world host.old) self.old t → self.old.state ≡ 1 → number < length t.base.frozen → OnOk result (into.new ≡ page_at t.base.frozen number) }
+        ensures page { (b : Base) → IsTrue H.tells → ShowsIn self.old.name b (H.world host.old).files → self.old.page_size ≡ image_size b.image → image_state b.image ≡ 1 → number < length b.frozen
+            → OnOk result (into.new ≡ page_at b.frozen number) }
         ensures open { (t : Trail) → IsTrue H.tells → IsOpen (H.world host.old) self.old t → IsOpen (H.world host.new) self.new t }
         ensures same { self.new ≡ self.old }
         ensures quiet { Quiet (H.world host.old) (H.world host.new) }

@@ -3,7 +3,7 @@
 //! It rests on `nb_delta` for the difference file and on the trails of `nb_model` for what a stop may leave. A layer above may rely
 //! on this: in every backup state a read gives the page of the image and a write replaces it, whichever file holds it; at each
 //! moment a stop leaves what may be left of what was seen, before the call's stroke or after it. Nothing above asks which file
-//! holds a page.
+//! holds a page. A layer above that lets pages wait has them written here too, by the state, and their entries behind them.
 #![tactic(auto)]
 
 mod attach;
@@ -12,6 +12,7 @@ mod control;
 mod files;
 mod out;
 mod reads;
+mod slots;
 mod sync;
 mod writes;
 

@@ -1,9 +1,9 @@
 -- Why no copy of the frozen file may begin, test by test.
-use Rattle.std.proofs.Common.{◌≡◌, ◌≢◌, ℕ, List, [], ◌∷◌, ap, ◌∙◌}
+use Rattle.std.proofs.Common.{◌≡◌, ℕ, List, [], ◌∷◌, ap, ◌∙◌}
 use Rattle.std.specs.Prelude.{Bool, true, false, Some, None, not}
-use Rattle.std.proofs.lemmas.Bool.{eq-eqb, ne_eqb}
-use Rattle.nb_host.specs.declared.refusals.Refusal.TheVariants.{WrongState, BackupRunning, FileExists}
-use Rattle.nb_model.specs.Image.{Image, image_state}
+use Rattle.nb_host.specs.declared.refusals.Refusal.{Refusal}
+use Rattle.nb_host.specs.declared.refusals.Refusal.TheVariants.{BackupRunning, FileExists}
+use Rattle.nb_model.specs.Image.{Image}
 use Rattle.nb_model.specs.Causes.{first_cause, when, not_state, not_free, is_free_entry, runs_any}
 use Rattle.nb_model.specs.Outcomes.{Seen}
 use Rattle.nb_engine.proofs.CauseLaws.{first_none, first_next, first_here}
@@ -13,13 +13,12 @@ module _ (s : Seen) (name : List ℕ) where
   abbrev image : Image
   image = s.base.image
 
-  pub not_stalled : image_state image ≢ 1 → copy_cause s name ≡ Some (WrongState (image_state image))
-  not_stalled e =
-      first_here (not_state 1 image) (runs_any s.running ∷ not_free name (s.entry name) ∷ []) (WrongState (image_state image)) (ap (λ (b : Bool). when (not b) (WrongState (image_state image))) (ne_eqb (image_state image) 1 e))
+  pub not_stalled : (r : Refusal) → not_state 1 image ≡ Some r → copy_cause s name ≡ Some r
+  not_stalled = first_here (not_state 1 image) (runs_any s.running ∷ not_free name (s.entry name) ∷ [])
 
-  module _ (stalled : image_state image ≡ 1) where
+  module _ (stalled : not_state 1 image ≡ None) where
     behind : copy_cause s name ≡ first_cause (runs_any s.running ∷ not_free name (s.entry name) ∷ [])
-    behind = first_next (not_state 1 image) (runs_any s.running ∷ not_free name (s.entry name) ∷ []) (ap (λ (b : Bool). when (not b) (WrongState (image_state image))) (eq-eqb (image_state image) 1 stalled))
+    behind = first_next (not_state 1 image) (runs_any s.running ∷ not_free name (s.entry name) ∷ []) stalled
 
     pub other_runs : (other : ℕ) → s.running ≡ Some other → copy_cause s name ≡ Some (BackupRunning other)
     other_runs other e = behind ∙ first_here (runs_any s.running) (not_free name (s.entry name) ∷ []) (BackupRunning other) (ap runs_any e)

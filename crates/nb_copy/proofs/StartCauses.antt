@@ -1,13 +1,13 @@
 -- Why no backup may begin, test by test.
-use Rattle.std.proofs.Common.{◌≡◌, ◌≢◌, inl, inr, ◌+◌, ◌≤◌, ℕ, zero, suc, List, [], ◌∷◌, replicate, refl, sym, ap, subst, ◌∙◌, arith}
+use Rattle.std.proofs.Common.{◌≡◌, inl, inr, ◌+◌, ◌≤◌, ℕ, zero, suc, List, [], ◌∷◌, replicate, refl, sym, ap, subst, ◌∙◌, arith}
 use Rattle.std.specs.Prelude.{Bool, true, false, min, Option, Some, None, is_none, not, nat_eq, nat_lt}
-use Rattle.std.proofs.lemmas.Bool.{eq-eqb, ne_eqb, true≢false, lt-ltb}
+use Rattle.std.proofs.lemmas.Bool.{true≢false, lt-ltb}
 use Rattle.std.proofs.lemmas.Bool.Decides.{leb_tells}
 use Rattle.nb_host.specs.Names.{same_name}
 use Rattle.nb_host.specs.declared.refusals.Refusal.{Refusal}
-use Rattle.nb_host.specs.declared.refusals.Refusal.TheVariants.{Access, WrongState, FileExists, NoHistory}
+use Rattle.nb_host.specs.declared.refusals.Refusal.TheVariants.{Access, FileExists, NoHistory}
 use Rattle.nb_model.specs.Account.{Ask}
-use Rattle.nb_model.specs.Image.{Image, image_scn, image_state, is_read_only}
+use Rattle.nb_model.specs.Image.{Image, image_scn, is_read_only}
 use Rattle.nb_model.specs.Backups.{ask_of, level_behind}
 use Rattle.nb_model.specs.Causes.{Cause, first_cause, when, read_only, no_scn, not_state, not_free, is_free_entry, broken_at}
 use Rattle.nb_model.specs.Chains.{History, Spot, pages_of, backup_spot, level_in, guid_in}
@@ -32,12 +32,12 @@ module _ (s : Seen) (name : List ℕ) where
     opened : file_cause s name ≡ first_cause (not_state 0 image ∷ not_free name (s.entry name) ∷ [])
     opened = first_next (read_only image) (not_state 0 image ∷ not_free name (s.entry name) ∷ []) (open_cause image may)
 
-    pub busy : image_state image ≢ 0 → file_cause s name ≡ Some (WrongState (image_state image))
-    busy e = opened ∙ first_here (not_state 0 image) (not_free name (s.entry name) ∷ []) (WrongState (image_state image)) (ap (λ (b : Bool). when (not b) (WrongState (image_state image))) (ne_eqb (image_state image) 0 e))
+    pub busy : (r : Refusal) → not_state 0 image ≡ Some r → file_cause s name ≡ Some r
+    busy r e = opened ∙ first_here (not_state 0 image) (not_free name (s.entry name) ∷ []) r e
 
-    module _ (normal : image_state image ≡ 0) where
+    module _ (normal : not_state 0 image ≡ None) where
       left : file_cause s name ≡ first_cause (not_free name (s.entry name) ∷ [])
-      left = opened ∙ first_next (not_state 0 image) (not_free name (s.entry name) ∷ []) (ap (λ (b : Bool). when (not b) (WrongState (image_state image))) (eq-eqb (image_state image) 0 normal))
+      left = opened ∙ first_next (not_state 0 image) (not_free name (s.entry name) ∷ []) normal
 
       pub there : is_free_entry (s.entry name) ≡ false → file_cause s name ≡ Some (FileExists name)
       there e = left ∙ first_here (not_free name (s.entry name)) [] (FileExists name) (ap (λ (b : Bool). when (not b) (FileExists name)) e)

@@ -18,6 +18,7 @@ ghost use Rattle.nb_copy.specs.Closing.{BackupTurn, BackupCounts, Closes, GaveTi
 
 use crate::file_copy::FileCopy;
 use crate::since::Since;
+use nb_cases::{Case, Event, case_of};
 use nb_engine::{Engine, HistoryRow, Room};
 use nb_host::{Fault, Host, Name, Refusal};
 use nb_level::LevelHead;
@@ -64,7 +65,7 @@ fn check_file<H: Host>(host: &mut H, engine: &Engine, name: &Name) -> Result<(),
         return Err(Fault::Refused(Refusal::Access { found: 1 }));
     }
     let state = store.state();
-    if state != 0 {
+    if case_of(state, Event::Begin) == Case::WrongState {
         return Err(Fault::Refused(Refusal::WrongState {
             found: u32::from(state),
         }));

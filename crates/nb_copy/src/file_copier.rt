@@ -15,6 +15,7 @@ ghost use Rattle.nb_copy.specs.FileCopies.{CopiesFile, KnowsUnused, StartsCopy, 
 ghost use Rattle.nb_copy.specs.Turns.{CopyCounts};
 
 use crate::page_copy::PageCopy;
+use nb_cases::{Case, Event, case_of};
 use nb_engine::Engine;
 use nb_host::{Fault, Host, HostFault, Name, Refusal};
 use nb_page::is_free;
@@ -47,7 +48,7 @@ fn check_copy<H: Host>(host: &mut H, engine: &Engine, name: &Name) -> Result<(),
 {
     let store = engine.store();
     let state = store.state();
-    if state != 1 {
+    if case_of(state, Event::CopyTo) == Case::WrongState {
         return Err(Fault::Refused(Refusal::WrongState {
             found: u32::from(state),
         }));

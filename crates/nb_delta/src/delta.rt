@@ -100,6 +100,16 @@ impl Delta {
         self.entries.len()
     }
 
+    /// How many of the entries are drafted.
+    pub fn drafted(&self) -> u32
+        ensures value { result ≡ self.now.drafted }
+        ensures apart { AreEntries self.now.entries }
+    {
+        // No page is named twice.
+        let _count = self.entries.len();
+        self.drafted
+    }
+
     /// The slot of the entry that names a page. It makes no call.
     pub fn slot_of<H: Host>(&mut self, _host: &mut H, page: u32) -> Result<Option<u32>, HostFault>
         ensures slot { result ≡ Ok (option_map (slot_place self.old.page_size) (place_of self.old.entries page)) }

@@ -1,22 +1,19 @@
 -- A flag in page 0: the bytes that are written, and the turns that write them.
 use mir.Val.{bool_byte}
-use Rattle.std.proofs.Common.{◌≡◌, ◌≢◌, ℕ, ◌+◌, ◌<◌, ◌≤◌, List, [], ◌∷◌, ◌++◌, length, take, drop, refl, ap, ◌∙◌, arith}
-use Rattle.std.specs.Prelude.{Bool, true, false, not, Some, None}
+use Rattle.std.proofs.Common.{◌≡◌, ℕ, ◌+◌, ◌<◌, ◌≤◌, List, [], ◌∷◌, ◌++◌, length, take, drop, refl, ap, ◌∙◌, arith}
+use Rattle.std.specs.Prelude.{Bool, true, false}
 use Rattle.std.proofs.lemmas.List.{take-append-le, take-take, length-take-le}
 use Rattle.nb_fields.specs.Bytes.{bytes_of, with_part, is_zeros}
 use Rattle.nb_fields.specs.Header.{is_header}
-use Rattle.nb_host.specs.declared.refusals.Refusal.TheVariants.{WrongState}
 use Rattle.nb_model.specs.declared.reply.Reply.TheVariants.{Done}
-use Rattle.nb_model.specs.Image.{Page, Image, first_page, image_state}
+use Rattle.nb_model.specs.Image.{Page, Image, first_page}
 use Rattle.nb_model.specs.Lines.{flag}
 use Rattle.nb_model.specs.Strokes.{page}
 use Rattle.nb_model.specs.Causes.{read_only, not_state}
 use Rattle.nb_model.specs.Outcomes.{Seen, says, unless}
 use Rattle.nb_model.specs.Pages.{byte_strokes, forced_turn, access_turn}
 use Rattle.nb_model.proofs.HeaderLaws.{header-long, header-other, same-header}
-use Rattle.nb_model.proofs.ReadLaws.{eq_no, eq_yes}
 use Rattle.nb_base.specs.Open.{Fits}
-use Rattle.nb_engine.proofs.TestLaws.{applies, rests}
 
 -- a flag is one byte
 pub byte_is : (on : Bool) → bool_byte on ≡ flag on
@@ -62,10 +59,3 @@ forced_is s on = refl
 pub access_is : (s : Seen) (closed : Bool) → access_turn s closed ≡ unless s (not_state 0 s.base.image) (says s Done (byte_strokes 65 (flag closed) s.base.image))
 unfolding access_turn
 access_is s closed = refl
-
--- whether the backup state forbids it
-pub state_other : (image : Image) → image_state image ≢ 0 → not_state 0 image ≡ Some (WrongState (image_state image))
-state_other image other = applies _ _ (ap not (eq_no (image_state image) 0 other))
-
-pub state_normal : (image : Image) → image_state image ≡ 0 → not_state 0 image ≡ None
-state_normal image normal = rests _ _ (ap not (eq_yes (image_state image) 0 normal))

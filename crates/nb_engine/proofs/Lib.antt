@@ -28,3 +28,5 @@ pub mod KeepLaws
 pub mod DataLaws
 pub mod ContentLaws
 pub mod SecondLaws
+pub mod SearchReads
+pub mod NewReads

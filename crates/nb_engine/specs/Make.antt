@@ -1,7 +1,7 @@
 -- What making a new page does of an open database.
-use Rattle.std.specs.Prelude.{◌≡◌, ◌<◌, ◌≤◌, ℕ, ◌+◌, ◌-◌, List, [], ◌∷◌, ◌++◌, length, Bool, true, false, None, Result, OnOk, IfOk, IfErr, IsTrue}
+use Rattle.std.specs.Prelude.{◌≡◌, ◌<◌, ◌≤◌, ℕ, ◌+◌, ◌-◌, ◌*◌, ◌/◌, List, [], ◌∷◌, ◌++◌, length, Bool, true, false, None, Result, OnOk, IfOk, IfErr, IsTrue}
 use Rattle.nb_fields.specs.Bytes.{bytes_of, with_part}
-use Rattle.nb_fields.specs.Places.{is_page_size}
+use Rattle.nb_fields.specs.Places.{is_page_size, bits_in}
 use Rattle.nb_fields.specs.Page.{stamped}
 use Rattle.nb_fields.specs.Payloads.{text_payload}
 use Rattle.nb_host.specs.World.{World}
@@ -9,7 +9,7 @@ use Rattle.nb_host.specs.declared.faults.Fault.{Fault}
 use Rattle.nb_model.specs.Image.{Page, Image, image_size, image_scn}
 use Rattle.nb_model.specs.Strokes.{Stroke, page}
 use Rattle.nb_model.specs.Trail.{Trail}
-use Rattle.nb_model.specs.Forms.{Draft, drafted, old_page, is_kind, system_kind, system_payload, take_page, system_page, free_from, new_page}
+use Rattle.nb_model.specs.Forms.{Draft, drafted, old_page, is_kind, system_kind, system_payload, take_page, system_page, free_from, lowest_free, new_page}
 use Rattle.nb_model.specs.Causes.{Cause}
 use Rattle.nb_model.specs.Sound.{IsSoundImage}
 use Rattle.nb_base.specs.Takes.{after_strokes, IsNoRefusal}
@@ -77,3 +77,8 @@ pub record MakesWhere {T : Type 0} (P : Type 0) (Q : T → Image → Type 0) (re
   pub some : MakesSome result old new before after t
   pub ends : IfOk result (λ value. Q value (after_strokes t some.made).base.image)
   pub these : P → MakesThese result old new before after t some.made strokes
+
+-- How many reads a new page makes at most where the search for it ends at that page: the inventory pages up to that of the lowest free
+-- page, six pages for the new one, and ten for each page between that the search went past.
+abbrev pub new_reads : (image : Image) (number : ℕ) → ℕ
+new_reads image number = lowest_free image / bits_in (image_size image) + 1 + 6 + 10 * (number - lowest_free image)

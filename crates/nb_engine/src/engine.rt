@@ -8,6 +8,7 @@ ghost use Rattle.nb_page.specs.Quiet.{Quiet};
 ghost use Rattle.nb_model.specs.Image.{page_at};
 ghost use Rattle.nb_model.specs.Lines.{flag};
 ghost use Rattle.nb_model.specs.Trail.{Trail, settled};
+ghost use Rattle.nb_base.specs.Reads.{opening_reads};
 ghost use Rattle.nb_base.specs.Takes.{Takes};
 ghost use Rattle.nb_state.specs.Open.{IsOpen, NoPageWaits, but_pages, name_of};
 ghost use Rattle.nb_cache.specs.Held.{slot_of};
@@ -79,6 +80,9 @@ impl Engine {
     /// Opens a database, and takes the memory for three of its pages and for so many in memory. It changes nothing: what it opens is kept for good before it
     /// answers.
     ///
+    /// It reads the header, the allocation pages of the difference file, from the end of the main file on its pages of zeros and the one
+    /// before them, and then page 0, in two parts at most.
+    ///
     /// The refusals are those of `Store::attach`: `NoFile`, `NotDatabase`, `Unfinished` and `BadDelta`.
     pub fn attach<H: Host>(
         alloc: Global,
@@ -93,6 +97,7 @@ impl Engine {
         ensures scn { IfOk result (λ engine. engine.scn < 4294967296) }
         ensures blank { IfOk result (HoldsNone cache_pages) }
         ensures quiet { Quiet (H.world host.old) (H.world host.new) }
+        ensures reads { IsTrue H.tells → IfOk result (λ engine. (H.world host.new).reads ≤ (H.world host.old).reads + opening_reads ((H.world host.old).files name.now) engine.files + 2) }
         ensures cause { CountsDevice result (H.faults host.old) (H.faults host.new) }
     {
         let store = Store::attach(alloc, host, name, cache_pages)?;

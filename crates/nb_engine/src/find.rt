@@ -12,7 +12,7 @@ ghost use Rattle.nb_state.specs.Open.{IsOpen, but_pages};
 ghost use Rattle.nb_state.specs.Does.{Tested};
 ghost use Rattle.nb_engine.specs.Put.{Reads};
 ghost use Rattle.nb_engine.specs.Data.{second_data};
-ghost use Rattle.nb_engine.specs.Find.{AreTaken, IsFreeNear, IsNextPlace, IsFirstRoom, IsMap, EndsAt, HoldsMap, RefusesFull, RefusesFrom, IsWayReady, not_there, no_entry_page, not_ready};
+ghost use Rattle.nb_engine.specs.Find.{IsRoom, AreTaken, IsFreeNear, IsNextPlace, IsFirstRoom, IsMap, EndsAt, HoldsMap, RefusesFull, RefusesFrom, IsWayReady, not_there, no_entry_page, not_ready};
 ghost use Rattle.nb_engine.specs.Make.{new_of};
 
 use crate::pages::{InventoryPage, ScnPage};
@@ -96,7 +96,8 @@ fn free_near<H: Host>(
 /// The lowest free page from `from` on that is below the length, or the first page from `from` on that isn't below it. The inventory
 /// page that it read last is then in `map`: that of the page, or of the last page of the database.
 ///
-/// The refusal is `NotDatabase` of an inventory page that it had to read. It reads each at most once, and none before that of `from`.
+/// The refusal is `NotDatabase` of an inventory page that it had to read. It reads each at most once, none before that of `from`, and none
+/// behind that of the page.
 pub(crate) fn next_free<H: Host>(
     store: &mut Store,
     host: &mut H,
@@ -115,6 +116,7 @@ pub(crate) fn next_free<H: Host>(
     ensures same { but_pages store.new ≡ but_pages store.old }
     ensures quiet { Quiet (H.world host.old) (H.world host.new) }
     ensures once { IsTrue H.tells → (H.world host.new).reads ≤ (H.world host.old).reads + (store.old.files.count / bits_in store.old.files.page_size + 1 - from / bits_in store.old.files.page_size) }
+    ensures up_to { IsTrue H.tells → IfOk result (λ page. (H.world host.new).reads ≤ (H.world host.old).reads + (page / bits_in store.old.files.page_size + 1 - from / bits_in store.old.files.page_size)) }
     ensures cause { CountsDevice result (H.faults host.old) (H.faults host.new) }
 {
     let page_size = store.page_size();
@@ -144,6 +146,7 @@ pub(crate) fn check_entry<H: Host>(
     ensures open { (t : Trail) → IsTrue H.tells → IsOpen (H.world host.old) store.old t → IsOpen (H.world host.new) store.new t }
     ensures same { but_pages store.new ≡ but_pages store.old }
     ensures quiet { Quiet (H.world host.old) (H.world host.new) }
+    ensures once { IsTrue H.tells → (H.world host.new).reads ≤ (H.world host.old).reads + 1 }
     ensures cause { CountsDevice result (H.faults host.old) (H.faults host.new) }
 {
     let page_size = store.page_size();
@@ -175,6 +178,7 @@ pub(crate) fn hold_map<H: Host>(
     ensures open { (t : Trail) → IsTrue H.tells → IsOpen (H.world host.old) store.old t → IsOpen (H.world host.new) store.new t }
     ensures same { but_pages store.new ≡ but_pages store.old }
     ensures quiet { Quiet (H.world host.old) (H.world host.new) }
+    ensures once { IsTrue H.tells → (H.world host.new).reads ≤ (H.world host.old).reads + 1 }
     ensures cause { CountsDevice result (H.faults host.old) (H.faults host.new) }
 {
     let page_size = store.page_size();
@@ -211,6 +215,7 @@ fn check_place<H: Host>(
     ensures open { (t : Trail) → IsTrue H.tells → IsOpen (H.world host.old) store.old t → IsOpen (H.world host.new) store.new t }
     ensures same { but_pages store.new ≡ but_pages store.old }
     ensures quiet { Quiet (H.world host.old) (H.world host.new) }
+    ensures once { IsTrue H.tells → (H.world host.new).reads ≤ (H.world host.old).reads + 3 }
     ensures cause { CountsDevice result (H.faults host.old) (H.faults host.new) }
 {
     let page_size = store.page_size();
@@ -242,6 +247,8 @@ fn check_places<H: Host>(
     ensures open { (t : Trail) → IsTrue H.tells → IsOpen (H.world host.old) store.old t → IsOpen (H.world host.new) store.new t }
     ensures same { but_pages store.new ≡ but_pages store.old }
     ensures quiet { Quiet (H.world host.old) (H.world host.new) }
+    ensures once { (t : Trail) → IsTrue H.tells → IsOpen (H.world host.old) store.old t → IsNextPlace t.base.image first
+        → OnOk result ((room : ℕ) → IsRoom t.base.image room → (H.world host.new).reads ≤ (H.world host.old).reads + 3 + 4 * (room - first)) }
     ensures cause { CountsDevice result (H.faults host.old) (H.faults host.new) }
 {
     let page_size = store.page_size();
@@ -283,6 +290,8 @@ pub(crate) fn check_new<H: Host>(
     ensures open { (t : Trail) → IsTrue H.tells → IsOpen (H.world host.old) store.old t → IsOpen (H.world host.new) store.new t }
     ensures same { but_pages store.new ≡ but_pages store.old }
     ensures quiet { Quiet (H.world host.old) (H.world host.new) }
+    ensures once { (t : Trail) → IsTrue H.tells → IsOpen (H.world host.old) store.old t
+        → IfOk result (λ page. (room : ℕ) → IsRoom t.base.image room → (H.world host.new).reads ≤ (H.world host.old).reads + page / bits_in (image_size t.base.image) + 4 + 4 * (room - page)) }
     ensures cause { CountsDevice result (H.faults host.old) (H.faults host.new) }
 {
     let page = next_free(store, host, FIRST_TO_GIVE, map)?;

@@ -15,6 +15,7 @@ ghost use Rattle.nb_engine.specs.Put.{Reads};
 ghost use Rattle.nb_engine.specs.Replies.{done};
 
 use crate::Engine;
+use nb_cases::{Case, Event, case_of};
 use nb_fields::layouts::header;
 use nb_fields::put_number;
 use nb_host::{Fault, Host, Refusal};
@@ -92,7 +93,7 @@ impl Engine {
         ensures cause { CountsDevice result (H.faults host.old) (H.faults host.new) }
     {
         let state = self.store.state();
-        if state != 0 {
+        if case_of(state, Event::Access) == Case::WrongState {
             return Err(Fault::Refused(Refusal::WrongState {
                 found: u32::from(state),
             }));

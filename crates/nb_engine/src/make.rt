@@ -1,5 +1,5 @@
 // A new page is made, and the system pages that the search for it comes to.
-ghost use Rattle.std.specs.Prelude.{◌≡◌, ℕ, ◌+◌, ◌<◌, ◌≤◌, List, [], true, false, None, IsTrue, IfErr, IfOk, OnOk, length};
+ghost use Rattle.std.specs.Prelude.{◌≡◌, ℕ, ◌+◌, ◌-◌, ◌*◌, ◌<◌, ◌≤◌, List, [], true, false, None, IsTrue, IfErr, IfOk, OnOk, length};
 ghost use Rattle.nb_fields.specs.Kinds.{code_of};
 ghost use Rattle.nb_fields.specs.Page.{with_payload};
 ghost use Rattle.nb_fields.specs.Places.{is_page_size, is_system_place};
@@ -71,6 +71,7 @@ fn take_old<H: Host>(
     ensures open { (t : Trail) → IsTrue H.tells → IsOpen (H.world host.old) store.old t → IsOpen (H.world host.new) store.new t }
     ensures same { but_pages store.new ≡ but_pages store.old }
     ensures quiet { Quiet (H.world host.old) (H.world host.new) }
+    ensures once { IsTrue H.tells → 0 < number → (H.world host.new).reads ≤ (H.world host.old).reads + 1 }
     ensures cause { CountsFault result (H.faults host.old) (H.faults host.new) }
 {
     if number < store.count() {
@@ -96,6 +97,7 @@ fn has_page<H: Host>(
     ensures open { (t : Trail) → IsTrue H.tells → IsOpen (H.world host.old) store.old t → IsOpen (H.world host.new) store.new t }
     ensures same { but_pages store.new ≡ but_pages store.old }
     ensures quiet { Quiet (H.world host.old) (H.world host.new) }
+    ensures once { IsTrue H.tells → 0 < number → (H.world host.new).reads ≤ (H.world host.old).reads + 1 }
     ensures cause { CountsFault result (H.faults host.old) (H.faults host.new) }
 {
     take_old(store, host, number, into)?;
@@ -122,6 +124,7 @@ pub(crate) fn put_page<H: Host>(
         → Tries result (H.world host.old) (H.world host.new) store.old store.new t (entry_cause t.base.image number) (page_strokes t.base.image number (code_of kind) payload) }
     ensures goes { Goes store.old store.new }
     ensures scn_room { length scn_page.new ≡ length scn_page.old }
+    ensures once { IsTrue H.tells → (H.world host.new).reads ≤ (H.world host.old).reads + 1 }
     ensures cause { CountsDevice result (H.faults host.old) (H.faults host.new) }
 {
     stamp(page, kind.code(), store.scn(), number);
@@ -147,6 +150,7 @@ fn make_system<H: Host>(
         → Tries result (H.world host.old) (H.world host.new) store.old store.new t (system_cause t.base.image place) (system_strokes t.base.image place) }
     ensures goes { Goes store.old store.new }
     ensures scn_room { length scn_page.new ≡ length scn_page.old }
+    ensures once { IsTrue H.tells → (H.world host.new).reads ≤ (H.world host.old).reads + 2 }
     ensures cause { CountsDevice result (H.faults host.old) (H.faults host.new) }
 {
     let kind = system_kind(store.page_size(), place);
@@ -205,6 +209,7 @@ fn make_page<H: Host>(
         → Tries result (H.world host.old) (H.world host.new) store.old store.new t (entry_cause t.base.image number) (page_strokes t.base.image number (code_of kind) (content own payload.now number)) }
     ensures goes { Goes store.old store.new }
     ensures scn_room { length scn_page.new ≡ length scn_page.old }
+    ensures once { IsTrue H.tells → (H.world host.new).reads ≤ (H.world host.old).reads + 2 }
     ensures cause { CountsDevice result (H.faults host.old) (H.faults host.new) }
 {
     take_old(store, host, number, page)?;
@@ -234,6 +239,7 @@ fn take_place<H: Host>(
     ensures goes { Goes store.old store.new }
     ensures map_room { length map.new ≡ length map.old }
     ensures scn_room { length scn_page.new ≡ length scn_page.old }
+    ensures once { IsTrue H.tells → (H.world host.new).reads ≤ (H.world host.old).reads + 4 }
     ensures cause { CountsDevice result (H.faults host.old) (H.faults host.new) }
 {
     make_system(store, host, place, page, scn_page)?;
@@ -267,6 +273,7 @@ fn take_new<H: Host>(
     ensures goes { Goes store.old store.new }
     ensures map_room { length map.new ≡ length map.old }
     ensures scn_room { length scn_page.new ≡ length scn_page.old }
+    ensures once { IsTrue H.tells → (H.world host.new).reads ≤ (H.world host.old).reads + 3 }
     ensures cause { CountsDevice result (H.faults host.old) (H.faults host.new) }
 {
     make_page(store, host, number, kind, payload, own, page, scn_page)?;
@@ -299,6 +306,7 @@ fn pass_place<H: Host>(
     ensures goes { Goes store.old store.new }
     ensures map_room { length map.new ≡ length map.old }
     ensures scn_room { length scn_page.new ≡ length scn_page.old }
+    ensures once { IsTrue H.tells → IfOk result (λ next. (H.world host.new).reads ≤ (H.world host.old).reads + 5 + (next - place)) }
     ensures cause { CountsDevice result (H.faults host.old) (H.faults host.new) }
 {
     take_place(store, host, place, page, map, scn_page)?;
@@ -341,6 +349,7 @@ pub(crate) fn make_new<H: Host>(
     ensures goes { Goes store.old store.new }
     ensures map_room { length map.new ≡ length map.old }
     ensures scn_room { length scn_page.new ≡ length scn_page.old }
+    ensures once { IsTrue H.tells → IfOk result (λ number. (H.world host.new).reads ≤ (H.world host.old).reads + 3 + 6 * (number - first)) }
     ensures cause { CountsDevice result (H.faults host.old) (H.faults host.new) }
 {
     let page_size = store.page_size();

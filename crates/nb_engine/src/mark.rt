@@ -1,5 +1,5 @@
 // The bit of a page is written into its inventory page, whose SCN entry is raised first where that is below the current SCN.
-ghost use Rattle.std.specs.Prelude.{◌≡◌, ◌<◌, [], ◌∷◌, IsTrue, IfErr, None, length};
+ghost use Rattle.std.specs.Prelude.{◌≡◌, ◌+◌, ◌<◌, ◌≤◌, [], ◌∷◌, IsTrue, IfErr, None, length};
 ghost use Rattle.nb_fields.specs.Places.{bits_in};
 ghost use Rattle.nb_change.specs.Counts.{CountsDevice};
 ghost use Rattle.nb_page.specs.Quiet.{Quiet};
@@ -37,6 +37,7 @@ fn write_bit<H: Host>(
         → Makes result (H.world host.old) (H.world host.new) store.old store.new t (bit_stroke t.base.image place index (bit_for free) ∷ []) }
     ensures goes { Goes store.old store.new }
     ensures room { length map.new ≡ length map.old }
+    ensures reads { (H.world host.new).reads ≡ (H.world host.old).reads }
     ensures cause { CountsDevice result (H.faults host.old) (H.faults host.new) }
     ensures not_refused { IfErr result IsNoRefusal }
 {
@@ -63,6 +64,7 @@ pub(crate) fn put_map<H: Host>(
     ensures goes { Goes store.old store.new }
     ensures map_room { length map.new ≡ length map.old }
     ensures scn_room { length scn_page.new ≡ length scn_page.old }
+    ensures once { IsTrue H.tells → (H.world host.new).reads ≤ (H.world host.old).reads + 1 }
     ensures cause { CountsDevice result (H.faults host.old) (H.faults host.new) }
 {
     let page_size = store.page_size();
@@ -91,6 +93,7 @@ pub(crate) fn mark<H: Host>(
     ensures goes { Goes store.old store.new }
     ensures map_room { length map.new ≡ length map.old }
     ensures scn_room { length scn_page.new ≡ length scn_page.old }
+    ensures once { IsTrue H.tells → (H.world host.new).reads ≤ (H.world host.old).reads + 2 }
     ensures cause { CountsDevice result (H.faults host.old) (H.faults host.new) }
 {
     let page_size = store.page_size();

@@ -1,5 +1,5 @@
 // A new page.
-ghost use Rattle.std.specs.Prelude.{◌≡◌, ◌<◌, IsTrue, Err, true, false};
+ghost use Rattle.std.specs.Prelude.{◌≡◌, ◌+◌, ◌<◌, ◌≤◌, IsTrue, IfOk, Err, true, false};
 ghost use Rattle.nb_host.specs.declared.faults.Fault.TheVariants.{Refused};
 ghost use Rattle.nb_host.specs.declared.refusals.Refusal.TheVariants.{Access, NotDatabase};
 ghost use Rattle.nb_change.specs.Counts.{CountsDevice};
@@ -11,7 +11,7 @@ ghost use Rattle.nb_model.specs.Sound.{IsSoundImage};
 ghost use Rattle.nb_state.specs.Open.{IsOpen};
 ghost use Rattle.nb_state.specs.Does.{Goes, Does};
 ghost use Rattle.nb_engine.specs.Replies.{page_made};
-ghost use Rattle.nb_engine.specs.Make.{MakesSome};
+ghost use Rattle.nb_engine.specs.Make.{MakesSome, new_reads};
 
 use crate::Engine;
 use crate::find::{FIRST_TO_GIVE, check_new};
@@ -25,7 +25,8 @@ const EMPTY_TEXT: [u8; 2] = [0; 2];
 impl Engine {
     /// Makes a raw page with the empty text, and answers its number: the lowest free page, or a page at the end where none is free. Where
     /// the search for it comes to the place of a system page, that page is made, is taken, and the search goes on behind it. Each page is
-    /// written before it is taken, and its SCN entry is raised before, where that is below the current SCN.
+    /// written before it is taken, and its SCN entry is raised before, where that is below the current SCN. It reads each inventory page up
+    /// to that of the lowest free page once, and few pages more for each page that the search went on.
     ///
     /// The refusals are `Access`, `NotDatabase` of a database of fewer than five pages, by its length, or of an inventory page that isn't
     /// of its kind, and `Full`, where no page is left. All that the new page changes is tested before the first write. Where the
@@ -39,6 +40,8 @@ impl Engine {
         ensures closed { self.old.read_only ≡ true → (result ≡ Err (Refused (Access 1))) × Quiet (H.world host.old) (H.world host.new) }
         ensures short { self.old.read_only ≡ false → self.old.files.count < 5 → (result ≡ Err (Refused (NotDatabase self.old.files.count))) × Quiet (H.world host.old) (H.world host.new) }
         ensures goes { Goes self.old self.new }
+        ensures once { (t : Trail) → IsTrue H.tells → IsOpen (H.world host.old) self.old t → IsSoundImage t.base.image
+            → IfOk result (λ page. (H.world host.new).reads ≤ (H.world host.old).reads + new_reads t.base.image page) }
         ensures cause { CountsDevice result (H.faults host.old) (H.faults host.new) }
     {
         // Contracts ask for its range, which is known of what was read.

@@ -1,5 +1,5 @@
 // A raw page is written, its SCN entry first where that is below the current SCN.
-ghost use Rattle.std.specs.Prelude.{◌≡◌, ◌≢◌, ◌<◌, ◌≤◌, [], ◌∷◌, true, IsTrue, IfErr, None, length};
+ghost use Rattle.std.specs.Prelude.{◌≡◌, ◌≢◌, ◌+◌, ◌<◌, ◌≤◌, [], ◌∷◌, true, IsTrue, IfErr, None, length};
 ghost use Rattle.nb_fields.specs.Places.{is_page_size};
 ghost use Rattle.nb_host.specs.declared.faults.Fault.TheVariants.{Memory};
 ghost use Rattle.nb_change.specs.Counts.{CountsDevice};
@@ -35,6 +35,7 @@ pub(crate) fn must_raise<H: Host>(
     ensures open { (t : Trail) → IsTrue H.tells → IsOpen (H.world host.old) store.old t → IsOpen (H.world host.new) store.new t }
     ensures same { but_pages store.new ≡ but_pages store.old }
     ensures quiet { Quiet (H.world host.old) (H.world host.new) }
+    ensures once { IsTrue H.tells → (H.world host.new).reads ≤ (H.world host.old).reads + 1 }
     ensures cause { CountsDevice result (H.faults host.old) (H.faults host.new) }
 {
     let page_size = store.page_size();
@@ -60,6 +61,7 @@ fn raise<H: Host>(
         → Makes result (H.world host.old) (H.world host.new) store.old store.new t (raise_stroke t.base.image number ∷ []) }
     ensures goes { Goes store.old store.new }
     ensures room { length scn_page.new ≡ length scn_page.old }
+    ensures reads { (H.world host.new).reads ≡ (H.world host.old).reads }
     ensures cause { CountsDevice result (H.faults host.old) (H.faults host.new) }
     ensures not_refused { IfErr result IsNoRefusal }
 {
@@ -83,6 +85,7 @@ pub(crate) fn raise_entry<H: Host>(
         → Tries result (H.world host.old) (H.world host.new) store.old store.new t (entry_cause t.base.image number) (raise_strokes t.base.image number) }
     ensures goes { Goes store.old store.new }
     ensures room { length scn_page.new ≡ length scn_page.old }
+    ensures once { IsTrue H.tells → (H.world host.new).reads ≤ (H.world host.old).reads + 1 }
     ensures cause { CountsDevice result (H.faults host.old) (H.faults host.new) }
 {
     if must_raise(store, host, number, scn_page)? {

@@ -18,7 +18,7 @@ use Rattle.nb_model.specs.Jobs.{not_fixable}
 use Rattle.nb_model.specs.Owner.{delta_name}
 use Rattle.nb_model.proofs.FormLaws.{no_cause}
 use Rattle.nb_model.proofs.HeaderLaws.{same-header, same-number}
-use Rattle.nb_model.proofs.ReadLaws.{lt_yes, eq_no, eq_yes}
+use Rattle.nb_model.proofs.ReadLaws.{lt_yes, eq_no}
 use Rattle.nb_fixup.specs.Tests.{copy_cause, file_cause}
 
 some_none : (r : Refusal) → Some r ≡ None → ⊥
@@ -114,25 +114,20 @@ module _ (first bytes : List ℕ) (read : first ≡ take 32768 bytes) where
         no_page bytes (length bytes) header.page_size headed (sym size_is) refl (first_short header.page_size wide short)
 
 -- the tests of a copy
-last_test : (c : Cause) → first_cause (c ∷ []) ≡ c
-unfolding first_cause
-last_test None = refl
-last_test (Some r) = refl
-
 module _ (bytes : List ℕ) where
   pub broken : (r : Refusal) → not_database bytes ≡ Some r → copy_cause bytes ≡ Some r
   unfolding first_cause
   broken r e = rw (e, first_cause) refl
 
-  by_state : not_database bytes ≡ None → copy_cause bytes ≡ when (not (state_of bytes == 1)) (WrongState (state_of bytes))
-  unfolding first_cause
-  by_state e = rw (e, first_cause) (last_test (when (not (state_of bytes == 1)) (WrongState (state_of bytes))))
-
-  pub wrong : not_database bytes ≡ None → state_of bytes ≢ 1 → copy_cause bytes ≡ Some (WrongState (state_of bytes))
-  wrong e other = by_state e ∙ ap (λ (t : Bool). when (not t) (WrongState (state_of bytes))) (eq_no (state_of bytes) 1 other)
-
-  pub fit : not_database bytes ≡ None → state_of bytes ≡ 1 → copy_cause bytes ≡ None
-  fit e stalled = by_state e ∙ ap (λ (t : Bool). when (not t) (WrongState (state_of bytes))) (eq_yes (state_of bytes) 1 stalled)
+  -- its own bytes alone refuse it where no difference file stands beside
+  pub alone : (name : List ℕ) → not_fixable name (Some bytes) None ≡ copy_cause bytes
+  unfolding not_fixable first_cause
+  alone name = by (not_database bytes) (when (not (state_of bytes == 1)) (WrongState (state_of bytes)))
+    where
+      by : (c d : Cause) → first_cause (c ∷ d ∷ None ∷ []) ≡ first_cause (c ∷ d ∷ [])
+      by None None = refl
+      by None (Some r) = refl
+      by (Some r) d = refl
 
 -- two tests and a third
 third_not : (a b c : Cause) (r : Refusal) → first_cause (a ∷ b ∷ []) ≡ Some r → first_cause (a ∷ b ∷ c ∷ []) ≡ Some r

@@ -3,3 +3,4 @@ pub mod CauseLaws
 pub mod ImageLaws
 pub mod FixupLaws
 pub mod KeptLaws
+pub mod StateLaws

@@ -10,6 +10,7 @@ ghost use Rattle.nb_page.specs.Quiet.{Quiet};
 ghost use Rattle.nb_fixup.specs.Fixup.{fixup_cause};
 ghost use Rattle.nb_fixup.specs.Tests.{IsPageOf, Tested, copy_cause, file_cause};
 
+use nb_cases::{Case, Event, case_of};
 use nb_fields::MOST_PAGES;
 use nb_fields::layouts::header;
 use nb_host::{Fault, Host, Name, Refusal};
@@ -17,9 +18,6 @@ use nb_page::read_header;
 
 /// How many pages a database has at least.
 const LEAST_PAGES: u64 = 5;
-
-/// The backup state of a copy that can be fixed.
-const STALLED: u16 = 1;
 
 /// The refusal of a file that is no database, by that page.
 fn no_database(page: u32) -> Fault
@@ -64,7 +62,7 @@ fn page_size_of(first: &[u8], len: u64) -> Result<u32, Fault>
     if let Some(page) = broken_page(len, header.page_size) {
         return Err(no_database(page));
     }
-    if header.state != STALLED {
+    if case_of(header.state, Event::Fixup) == Case::WrongState {
         let found = u32::from(header.state);
         return Err(Fault::Refused(Refusal::WrongState { found }));
     }

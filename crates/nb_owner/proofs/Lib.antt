@@ -3,3 +3,4 @@ pub mod OpenLaws
 pub mod RankLaws
 pub mod WaitLaws
 pub mod OutLaws
+pub mod SlotLaws

@@ -25,9 +25,10 @@ use Rattle.nb_base.specs.Open.{IsOpen as AreOpen, Agrees, OfFiles}
 use Rattle.nb_base.specs.Firm.{StandsFirm}
 use Rattle.nb_base.specs.Put.{MayPut, PutLeft}
 use Rattle.nb_cache.specs.Held.{rank_of, with_rank, NoneWaits}
-use Rattle.nb_owner.specs.Open.{Held, Pages, waits, IsWaiting, IsOpen, NoScnWaits, StandsAs, GoesOut}
+use Rattle.nb_base.specs.Going.{StandsAs}
+use Rattle.nb_owner.specs.Open.{Held, Pages, waits, IsWaiting, IsOpen, NoScnWaits, GoesOut}
 use Rattle.nb_owner.proofs.RankLaws.{rank_marked, rank_marked_other, waits_there, none_found, marked_of}
-use Rattle.nb_owner.proofs.WaitLaws.{agrees_same}
+use Rattle.nb_owner.proofs.WaitLaws.{agrees_same, plain_table}
 
 -- Calls that change nothing come behind.
 pub quiet_more : (old mid new : World) (names : Names) (P : Files → Type 0) → Changes old mid names P → Quiet mid new → Changes old new names P
@@ -36,7 +37,7 @@ quiet_more old mid new names P before quiet =
 
 -- One page goes out, while P holds of what is left.
 module _ (held : Held) (f t : Trail) (P : Base → Type 0) (same : (b : Base) → P b → (length b.image ≡ length t.base.image) × (first_page b.image ≡ first_page t.base.image))
-    (p rank : ℕ) (waiting : IsWaiting t p rank) (size : length (page_at t.base.image p) ≡ image_size t.base.image)
+    (p rank : ℕ) (waiting : IsWaiting t p rank) (normal : image_state t.base.image ≡ 0) (size : length (page_at t.base.image p) ≡ image_size t.base.image)
     (put_on : (b : Base) → P b → P (on_base (page p (page_at t.base.image p)) b)) where
   abbrev own : Page
   own = page_at t.base.image p
@@ -46,7 +47,7 @@ module _ (held : Held) (f t : Trail) (P : Base → Type 0) (same : (b : Base) �
 
   may_put : (b : Base) → length b.image ≡ length t.base.image → first_page b.image ≡ first_page t.base.image → MayPut b p (page_at t.base.image p)
   may_put b long first = record {
-    normal = ap state_of first ∙ waiting.normal;
+    normal = ap state_of first ∙ normal;
     some = waiting.some;
     low = omega (arith, waiting.low, long);
     below = waiting.below;
@@ -78,7 +79,7 @@ module _ (held : Held) (f t : Trail) (P : Base → Type 0) (same : (b : Base) �
     reads = record {
       base = on_base (page p own) out.reads.base;
       opens = reads out.reads.base out.reads.opens (may_put out.reads.base out.reads.is.long out.reads.is.first);
-      is = read_put t p waiting.some waiting.low (λ stalled. absurd (omega (arith, stalled, waiting.normal))) f (waits held.pages) (waits later) out.reads.base
+      is = read_put t p waiting.some waiting.low (λ stalled. absurd (omega (arith, stalled, normal))) f (waits held.pages) (waits later) out.reads.base
           (λ q ne. ap is_some (rank_marked_other p q None held.pages ne)) (ap is_some gone) out.reads.is;
     };
     agrees = out.agrees;
@@ -88,6 +89,8 @@ module _ (held : Held) (f t : Trail) (P : Base → Type 0) (same : (b : Base) �
       | inl e ↦ absurd (none_some (sym gone ∙ sym (ap (rank_of later) e.1) ∙ still))
       | inr e ↦ out.each q r (sym (rank_marked_other p q None held.pages e.1) ∙ still)
     ];
+    normal = out.normal;
+    drafted = out.drafted;
   }
     where
       later : Pages
@@ -101,8 +104,11 @@ module _ (held : Held) (f t : Trail) (P : Base → Type 0) (same : (b : Base) �
 
 -- The way begins: SCN pages are to go out first, or none waits.
 module _ (w : World) (held : Held) (t : Trail) (is : IsOpen w held t) (normal : image_state t.base.image ≡ 0) where
+  no_drafts : held.files.drafted ≡ 0
+  no_drafts = is.waits.stalled (λ stalled. absurd (omega (arith, stalled, normal)))
+
   reads_first : StandsAs held.files.name (IsRead is.sees t (waits held.pages)) w.files
-  reads_first = record { base = is.sees.base; opens = is.files.shows; is = read_start is.sees t (waits held.pages) is.waits.behind is.waits.table is.waits.clean }
+  reads_first = record { base = is.sees.base; opens = is.files.shows; is = read_start is.sees t (waits held.pages) is.waits.behind (plain_table held.pages held.files.drafted is.sees t no_drafts is.waits) is.waits.clean }
 
   pub start_way : GoesOut w held is.sees t (IsOnTheWay is.sees t)
   start_way = record {
@@ -114,6 +120,8 @@ module _ (w : World) (held : Held) (t : Trail) (is : IsOpen w held t) (normal : 
     pages = is.pages;
     behind = is.waits.behind;
     each = is.waits.each;
+    normal = normal;
+    drafted = no_drafts;
   }
 
   pub start_firm : NoScnWaits t held.pages → GoesOut w held is.sees t (IsFirm t)
@@ -126,6 +134,8 @@ module _ (w : World) (held : Held) (t : Trail) (is : IsOpen w held t) (normal : 
     pages = is.pages;
     behind = is.waits.behind;
     each = is.waits.each;
+    normal = normal;
+    drafted = no_drafts;
   }
 
 -- Once the SCN pages are out and kept for good, the others go.
@@ -139,6 +149,8 @@ synced_firm w new held f t out unsettled none o = record {
   pages = out.pages;
   behind = out.behind;
   each = out.each;
+  normal = out.normal;
+  drafted = out.drafted;
 }
 
 -- what reads agrees with what is held
@@ -151,6 +163,7 @@ out_open w held f t out none = record {
   left = λ files all. let s : StandsAs held.files.name (IsFirm t) files = out.left files all in record { base = s.base; opens = s.opens; left = s.is };
   shows = subst (λ (b : Base). ShowsIn held.files.name b w.files) (read_done f t (waits held.pages) out.reads.base out.reads.is (λ p. ap is_some (none_found held.pages none p))) out.reads.opens;
   agrees = out.agrees;
+  drafted = out.drafted;
 }
 
 -- in the normal state the rank goes by whether it is an SCN page
@@ -162,9 +175,9 @@ rank_normal image p normal = elim (eqb_tells (image_state image) 1) [
 ]
 
 -- The rank of a page that waits tells whether it is an SCN page.
-module _ (t : Trail) (p rank : ℕ) (waiting : IsWaiting t p rank) where
+module _ (t : Trail) (p rank : ℕ) (waiting : IsWaiting t p rank) (normal : image_state t.base.image ≡ 0) where
   rank_is : rank ≡ elim (is_scn_place (image_size t.base.image) p) as (λ z. ℕ) [ true ↦ 2 | false ↦ 3 ]
-  rank_is = waiting.ranked ∙ rank_normal t.base.image p waiting.normal
+  rank_is = waiting.ranked ∙ rank_normal t.base.image p normal
 
   pub low_rank : rank ≤ 2 → is_scn_place (image_size t.base.image) p ≡ true
   low_rank low = by (is_scn_place (image_size t.base.image) p) refl
@@ -181,12 +194,12 @@ module _ (t : Trail) (p rank : ℕ) (waiting : IsWaiting t p rank) where
       by false plain = plain
 
 -- where only later ranks wait, no SCN page does
-pub none_scn : (t : Trail) (pages : Pages) → ((p rank : ℕ) → rank_of pages p ≡ Some rank → IsWaiting t p rank) → ((p rank : ℕ) → rank_of pages p ≡ Some rank → 2 < rank) → NoScnWaits t pages
-none_scn t pages each high p at = by (rank_of pages p) refl
+pub none_scn : (t : Trail) (pages : Pages) → image_state t.base.image ≡ 0 → ((p rank : ℕ) → rank_of pages p ≡ Some rank → IsWaiting t p rank) → ((p rank : ℕ) → rank_of pages p ≡ Some rank → 2 < rank) → NoScnWaits t pages
+none_scn t pages normal each high p at = by (rank_of pages p) refl
   where
     by : (o : Option ℕ) → rank_of pages p ≡ o → waits pages p ≡ false
     by None is = ap is_some is
-    by (Some rank) is = absurd (true≢false (sym at ∙ high_rank t p rank (each p rank is) (high p rank is)))
+    by (Some rank) is = absurd (true≢false (sym at ∙ high_rank t p rank (each p rank is) normal (high p rank is)))
 
 -- While SCN pages go out,
 module _ (w : World) (held : Held) (f t : Trail) (out : GoesOut w held f t (IsOnTheWay f t)) (unsettled : t.earlier ≢ []) where
@@ -205,14 +218,14 @@ module _ (w : World) (held : Held) (f t : Trail) (out : GoesOut w held f t (IsOn
     same b way = (way.long, way.first)
 
     put_scn : (b : Base) → IsOnTheWay f t b → IsOnTheWay f t (on_base (page p (page_at t.base.image p)) b)
-    put_scn b way = way_put t p waiting.some waiting.low (λ stalled. absurd (omega (arith, stalled, waiting.normal))) f b (low_rank t p rank waiting low) way
+    put_scn b way = way_put t p waiting.some waiting.low (λ stalled. absurd (omega (arith, stalled, out.normal))) f b (low_rank t p rank waiting out.normal low) way
 
     pub way_changes : (old : World) → Changes old w (OfFiles held.files.name) (StandsIn held.files.name t) → Changes old new (OfFiles held.files.name) (StandsIn held.files.name t)
-    way_changes old before = put_changes held f t (IsOnTheWay f t) same p rank waiting (size ∙ out.agrees.page_size) put_scn w new out.left (λ b way. way_left f t out.behind b unsettled way) old before by
+    way_changes old before = put_changes held f t (IsOnTheWay f t) same p rank waiting out.normal (size ∙ out.agrees.page_size) put_scn w new out.left (λ b way. way_left f t out.behind b unsettled way) old before by
 
     pub way_more : ((b : Base) → ShowsIn held.files.name b w.files → MayPut b p (page_at t.base.image p) → ShowsIn held.files.name (on_base (page p (page_at t.base.image p)) b) new.files)
         → GoesOut new (record held { pages = with_rank p None held.pages }) f t (IsOnTheWay f t)
-    way_more reads = put_out held f t (IsOnTheWay f t) same p rank waiting (size ∙ out.agrees.page_size) put_scn w new out at by reads
+    way_more reads = put_out held f t (IsOnTheWay f t) same p rank waiting out.normal (size ∙ out.agrees.page_size) put_scn w new out at by reads
 
 -- and while the others do.
 module _ (w : World) (held : Held) (f t : Trail) (out : GoesOut w held f t (IsFirm t)) (none : NoScnWaits t held.pages) where
@@ -236,14 +249,14 @@ module _ (w : World) (held : Held) (f t : Trail) (out : GoesOut w held f t (IsFi
     same_firm b left = (left.mixed.long, left.mixed.first)
 
     put_other : (b : Base) → IsFirm t b → IsFirm t (on_base (page p (page_at t.base.image p)) b)
-    put_other b left = firm_put t p waits_p.some waits_p.low (λ stalled. absurd (omega (arith, stalled, waits_p.normal))) b plain waits_p.unsettled left
+    put_other b left = firm_put t p waits_p.some waits_p.low (λ stalled. absurd (omega (arith, stalled, out.normal))) b plain waits_p.unsettled left
 
     pub firm_changes : (old : World) → Changes old w (OfFiles held.files.name) (StandsIn held.files.name t) → Changes old new (OfFiles held.files.name) (StandsIn held.files.name t)
-    firm_changes old before = put_changes held f t (IsFirm t) same_firm p rank waits_p (size ∙ out.agrees.page_size) put_other w new out.left (firm_left t) old before by
+    firm_changes old before = put_changes held f t (IsFirm t) same_firm p rank waits_p out.normal (size ∙ out.agrees.page_size) put_other w new out.left (firm_left t) old before by
 
     pub firm_more : ((b : Base) → ShowsIn held.files.name b w.files → MayPut b p (page_at t.base.image p) → ShowsIn held.files.name (on_base (page p (page_at t.base.image p)) b) new.files)
         → GoesOut new (record held { pages = with_rank p None held.pages }) f t (IsFirm t)
-    firm_more reads = put_out held f t (IsFirm t) same_firm p rank waits_p (size ∙ out.agrees.page_size) put_other w new out at by reads
+    firm_more reads = put_out held f t (IsFirm t) same_firm p rank waits_p out.normal (size ∙ out.agrees.page_size) put_other w new out at by reads
 
     -- no SCN page waits then either
     pub none_more : NoScnWaits t (with_rank p None held.pages)

@@ -1,5 +1,5 @@
 -- A database that is open: its two files, the pages of it that are in memory, and which of them wait to be written.
-use Rattle.std.specs.Prelude.{◌≡◌, ◌≢◌, ℕ, ◌<◌, ◌≤◌, ◌==◌, ◌&&◌, not, nat_eq, nat_lt, List, [], length, map, Some, Bool, true, false, is_some}
+use Rattle.std.specs.Prelude.{◌≡◌, ◌≢◌, ℕ, ◌<◌, ◌≤◌, ◌==◌, ◌&&◌, not, nat_eq, nat_lt, List, [], ◌++◌, length, map, Some, Bool, true, false, is_some}
 use Rattle.std.specs.List.{AllByRecursion, IsDistinct}
 use Rattle.std.specs.Map.{keys_of, remove_entry}
 use Rattle.lru.specs.LruCache.{lru_cache, put_entries}
@@ -10,10 +10,13 @@ use Rattle.nb_host.specs.World.{World}
 use Rattle.nb_host.specs.Crash.{LeavesAll}
 use Rattle.nb_model.specs.Image.{Image, page_at, image_size, image_state, is_forced}
 use Rattle.nb_model.specs.Account.{Base}
-use Rattle.nb_model.specs.Trail.{Trail, StandsIn, ShowsIn}
+use Rattle.nb_model.specs.Trail.{Trail, StandsIn}
 use Rattle.nb_model.specs.Behind.{IsBehind, IsRead}
 use Rattle.nb_model.specs.Waiting.{rank_of as rank_for}
-use Rattle.nb_base.specs.Open.{IsOpen as AreOpen, Agrees}
+use Rattle.nb_model.specs.Owner.{entry_for}
+use Rattle.nb_base.specs.Open.{Agrees}
+use Rattle.nb_base.specs.Seen.{IsSeen}
+use Rattle.nb_base.specs.Going.{StandsAs, GoesIn}
 use Rattle.nb_cache.specs.Held.{Slot, rank_of, dropped}
 
 -- the pages in memory by their numbers, the most recently used first
@@ -36,22 +39,31 @@ AreOf image pages = AllByRecursion (λ e. e.1.bytes ≡ page_at image e.0) pages
 abbrev pub waits : Pages → (p : ℕ) → Bool
 waits pages p = is_some (rank_of pages p)
 
--- A page that waits: one below the length other than page 0, in the normal state and with forced writes off, with the rank by which it goes
--- out.
+-- A page that waits: one below the length other than page 0, with forced writes off, with the rank by which it goes out. In the stalled
+-- state it has an entry. In the merge state none waits.
 pub record IsWaiting (t : Trail) (p rank : ℕ) : Type 0 where
   pub some : 1 ≤ p
   pub low : p < length t.base.image
   pub below : p < 1048576
-  pub normal : image_state t.base.image ≡ 0
+  pub early : image_state t.base.image ≤ 1
+  pub named : image_state t.base.image ≡ 1 → (k : ℕ) × (entry_for p t.base.diverted ≡ Some k)
   pub loose : is_forced t.base.image ≡ false
   pub ranked : rank ≡ rank_for t.base.image p
   pub other : is_zeros (page_at t.base.image p) ≡ false
   pub unsettled : t.earlier ≢ []
 
+-- The table that the files have lacks the entries that are drafted, which are the last ones. The page of each of them waits.
+pub record AreDrafted (pages : Pages) (drafted : ℕ) (f t : Trail) : Type 0 where
+  pub drafts : List ℕ
+  pub all : t.base.diverted ≡ f.base.diverted ++ drafts
+  pub many : length drafts ≡ drafted
+  pub wait : AllByRecursion (λ p. waits pages p ≡ true) drafts
+
 -- The files have seen `f`, and lack the pages that wait.
-pub record Waits (pages : Pages) (f t : Trail) : Type 0 where
+pub record Waits (pages : Pages) (drafted : ℕ) (f t : Trail) : Type 0 where
   pub behind : IsBehind f t
-  pub table : f.base.diverted ≡ t.base.diverted
+  pub drafts : AreDrafted pages drafted f t
+  pub stalled : image_state t.base.image ≢ 1 → drafted ≡ 0
   pub clean : (p : ℕ) → waits pages p ≡ false → page_at f.base.image p ≡ page_at t.base.image p
   pub each : (p rank : ℕ) → rank_of pages p ≡ Some rank → IsWaiting t p rank
 
@@ -66,32 +78,27 @@ pub record IsValid (cache : Rattle.nb_cache.specs.Held.Held) (size : ℕ) : Type
 abbrev pub cache_of : Held → Rattle.nb_cache.specs.Held.Held
 cache_of held = record { pages = held.pages; cap = held.cap; page_size = held.files.page_size }
 
--- A write of page p waits: writes aren't forced, the database is in the normal state, the page is below the length and isn't page 0, and to
--- keep it drops no page that waits.
+-- A write of page p waits: writes aren't forced, the database is in the normal or the stalled state, the page is below the length and isn't
+-- page 0, and to keep it drops no page that waits.
 abbrev pub may_wait : Held → (p : ℕ) → (forced : Bool) → Bool
-may_wait held p forced = not forced && (held.files.state == 0 && (not (p == 0) && (nat_lt p held.files.count && not (is_some (dropped (cache_of held) p)))))
+may_wait held p forced = not forced && (nat_lt held.files.state 2 && (not (p == 0) && (nat_lt p held.files.count && not (is_some (dropped (cache_of held) p)))))
 
 -- Whatever a stop now leaves is what may be left of what was seen, and what is held agrees with what was seen last, as does each page in
--- memory. The files read as they have seen it, and lack the pages that wait.
+-- memory. The files read as they have seen it, and lack the pages that wait, and the entries that are drafted.
 pub record IsOpen (w : World) (held : Held) (t : Trail) : Type 0 where
   pub left : (files : Files) → LeavesAll w files → StandsIn held.files.name t files
   pub agrees : Agrees held.files t.base
   pub pages : AreOf t.base.image held.pages
   pub sees : Trail
-  pub files : AreOpen w held.files sees
-  pub waits : Waits held.pages sees t
-
--- whatever a stop now leaves stands for a database of which P holds
-pub record StandsAs (name : List ℕ) (P : Base → Type 0) (files : Files) : Type 0 where
-  pub base : Base
-  pub opens : ShowsIn name base files
-  pub is : P base
+  pub files : IsSeen w held.files.name sees
+  pub waits : Waits held.pages held.files.drafted sees t
 
 -- no SCN page waits
 abbrev pub NoScnWaits : Trail → Pages → Type 0
 NoScnWaits t pages = (p : ℕ) → is_scn_place (image_size t.base.image) p ≡ true → waits pages p ≡ false
 
--- The pages that wait are on their way into the files: of what a stop leaves P holds, and what reads has the pages that are out.
+-- The pages that wait are on their way into the files in the normal state: of what a stop leaves P holds, and what reads has the pages that
+-- are out.
 pub record GoesOut (w : World) (held : Held) (f t : Trail) (P : Base → Type 0) : Type 0 where
   pub left : (files : Files) → LeavesAll w files → StandsAs held.files.name P files
   pub reads : StandsAs held.files.name (IsRead f t (waits held.pages)) w.files
@@ -99,6 +106,22 @@ pub record GoesOut (w : World) (held : Held) (f t : Trail) (P : Base → Type 0)
   pub pages : AreOf t.base.image held.pages
   pub behind : IsBehind f t
   pub each : (p rank : ℕ) → rank_of held.pages p ≡ Some rank → IsWaiting t p rank
+  pub normal : image_state t.base.image ≡ 0
+  pub drafted : held.files.drafted ≡ 0
+
+-- The pages that wait are on their way into their slots, in the stalled state.
+pub record GoesSlot (w : World) (held : Held) (f t : Trail) : Type 0 where
+  pub goes : GoesIn w held.files f t (waits held.pages)
+  pub pages : AreOf t.base.image held.pages
+  pub each : (p rank : ℕ) → rank_of held.pages p ≡ Some rank → IsWaiting t p rank
+
+-- what is held of the files, whether entries are drafted or not
+abbrev pub but_drafts : Rattle.nb_base.specs.Open.Held → Rattle.nb_base.specs.Open.Held
+but_drafts files = record files { drafted = 0 }
+
+-- the rank of a page, by the state: 0 for its slot, 2 for an SCN page of the main file, 3 for another page of it
+abbrev pub rank_in : (state size p : ℕ) → ℕ
+rank_in state size p = elim (state == 1) [ true ↦ 0 | false ↦ elim (is_scn_place size p) [ true ↦ 2 | false ↦ 3 ] ]
 
 -- the pages in memory, whether they wait or not
 abbrev pub bare : Pages → List (ℕ × List ℕ)

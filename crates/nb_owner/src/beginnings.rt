@@ -1,10 +1,11 @@
 // A database is created or opened. No page of it is in memory then.
-ghost use Rattle.std.specs.Prelude.{◌≡◌, ◌<◌, ◌≤◌, IsTrue, IfOk, length};
+ghost use Rattle.std.specs.Prelude.{◌≡◌, ◌+◌, ◌<◌, ◌≤◌, IsTrue, IfOk, length};
 ghost use Rattle.nb_fields.specs.Places.{is_page_size};
 ghost use Rattle.nb_fields.specs.Fresh.{fresh};
 ghost use Rattle.nb_change.specs.Counts.{CountsDevice};
 ghost use Rattle.nb_page.specs.Quiet.{Quiet};
 ghost use Rattle.nb_base.specs.Beginnings.{Attaches, Creates};
+ghost use Rattle.nb_base.specs.Reads.{opening_reads};
 ghost use Rattle.nb_owner.specs.Beginnings.{files_of, IsBlank};
 
 use crate::Pair;
@@ -30,6 +31,7 @@ impl Pair {
         ensures attaches { IsTrue H.tells → Attaches (files_of result) (H.world host.old) (H.world host.new) name.now }
         ensures blank { IfOk result (IsBlank cache_pages) }
         ensures quiet { Quiet (H.world host.old) (H.world host.new) }
+        ensures reads { IsTrue H.tells → IfOk result (λ pair. (H.world host.new).reads ≤ (H.world host.old).reads + opening_reads ((H.world host.old).files name.now) pair.files) }
         ensures cause { CountsDevice result (H.faults host.old) (H.faults host.new) }
     {
         let files = TwoFiles::attach(alloc, host, name)?;

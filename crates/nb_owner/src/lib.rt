@@ -7,6 +7,7 @@
 #![tactic(auto)]
 
 mod beginnings;
+mod merging;
 mod pair;
 mod states;
 mod waiting;

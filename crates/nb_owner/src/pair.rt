@@ -13,7 +13,7 @@ ghost use Rattle.nb_base.specs.Open.{Fits, AreMerged};
 ghost use Rattle.nb_base.specs.Takes.{Takes, Strikes, IsNoRefusal};
 ghost use Rattle.nb_cache.specs.Held.{slot_of, rank_of, dropped, NoneWaits};
 ghost use Rattle.lru.specs.LruCache.{lru_cache, put_entries};
-ghost use Rattle.nb_owner.specs.Open.{IsOpen, may_wait, waits, cache_of, bare, used};
+ghost use Rattle.nb_owner.specs.Open.{IsOpen, may_wait, waits, cache_of, but_drafts, bare, used};
 
 use nb_base::TwoFiles;
 use nb_cache::Cache;
@@ -30,7 +30,7 @@ pub struct Pair {
 }
 
 impl Model for Pair {
-    ghost use Rattle.std.specs.Prelude.{◌≡◌, ◌≢◌, vec_len};
+    ghost use Rattle.std.specs.Prelude.{◌≡◌, vec_len};
     ghost use Rattle.nb_cache.specs.Held.{NoneWaits};
     ghost use Rattle.nb_owner.specs.Open.{Held, IsValid};
 
@@ -38,8 +38,8 @@ impl Model for Pair {
 
     ghost view = { λ p. record { files = p.files; pages = p.cache.pages; cap = p.cache.cap } };
 
-    // No page is in memory twice, and outside the normal state none waits to be written.
-    ghost invariant = { λ p. IsValid p.cache p.files.page_size × (vec_len p.page ≡ p.files.page_size) × (p.files.state ≢ 0 → NoneWaits p.cache.pages) };
+    // No page is in memory twice, and in the merge state none waits to be written.
+    ghost invariant = { λ p. IsValid p.cache p.files.page_size × (vec_len p.page ≡ p.files.page_size) × (p.files.state ≡ 2 → NoneWaits p.cache.pages) };
 }
 
 impl Pair {
@@ -170,9 +170,10 @@ impl Pair {
 
     /// Replaces page `number` of the database, or adds it at the end. It then is the page in memory that was used last.
     ///
-    /// Where writes aren't forced, in the normal state, a page below the length other than page 0 waits in memory, unless to keep it drops a
-    /// page that waits: then no call is made, and it is seen at once. Every other write first writes out what waits. It is kept for good
-    /// where writes are forced, where it makes the database longer, and where it is page 0 or an SCN inventory page.
+    /// Where writes aren't forced, in the normal and the stalled state, a page below the length other than page 0 waits in memory, unless to
+    /// keep it drops a page that waits: then no call is made, and it is seen at once. In the stalled state its entry is drafted, unless it has
+    /// one, which may want memory. Every other write first writes out what waits. It is kept for good where writes are forced, where it
+    /// makes the database longer, and where it is page 0 or an SCN inventory page.
     ///
     /// Where it wants memory it has changed no page, and in the merge state it has made no call.
     pub fn write<H: Host>(
@@ -189,7 +190,7 @@ impl Pair {
             → Takes result (H.world host.old) (H.world host.new) self.old.files.name (IsOpen (H.world host.new) self.new) t (page_stroke number page.now ∷ []) }
         ensures merged { (t : Trail) (k : ℕ) → IsTrue H.tells → IsOpen (H.world host.old) self.old t → Fits number page.now t.base.image → self.old.files.state ≡ 2
             → AreMerged (H.world host.old) self.old.files k → OnOk result (AreMerged (H.world host.new) self.new.files k) }
-        ensures waits { may_wait self.old number forced ≡ true → IsOk result × (host.new ≡ host.old) × (waits self.new.pages number ≡ true) }
+        ensures waits { may_wait self.old number forced ≡ true → (self.old.files.state ≡ 0 → IsOk result) × IfErr result (λ fault. fault ≡ Fault.Memory) × (host.new ≡ host.old) × OnOk result (waits self.new.pages number ≡ true) }
         ensures others { may_wait self.old number forced ≡ true → (p : ℕ) → p ≢ number → rank_of self.new.pages p ≡ rank_of self.old.pages p }
         ensures goes_out { may_wait self.old number forced ≡ false → OnOk result (NoneWaits self.new.pages) }
         ensures used { OnOk result (bare self.new.pages ≡ used (bare self.old.pages) self.old.cap number page.now) }
@@ -208,7 +209,7 @@ impl Pair {
         ensures stays { self.old.files.state ≡ 2 → result ≡ Err Fault.Memory → (self.new ≡ self.old) × (host.new ≡ host.old) }
     {
         if self.may_wait(number, forced) {
-            self.hold(number, page);
+            self.hold(host, number, page)?;
             return Ok(());
         }
         self.write_out(host)?;
@@ -228,6 +229,7 @@ impl Pair {
         requires most { number < 1048576 }
         requires some { is_zeros page.now ≡ false }
         requires none { NoneWaits self.old.pages }
+        requires no_drafts { self.old.files.drafted ≡ 0 }
         ensures takes { (t : Trail) → IsTrue H.tells → IsOpen (H.world host.old) self.old t → Fits number page.now t.base.image → forced ≡ is_forced t.base.image
             → Takes result (H.world host.old) (H.world host.new) self.old.files.name (IsOpen (H.world host.new) self.new) t (page_stroke number page.now ∷ []) }
         ensures merged { (t : Trail) (k : ℕ) → IsTrue H.tells → IsOpen (H.world host.old) self.old t → Fits number page.now t.base.image → self.old.files.state ≡ 2
@@ -256,8 +258,8 @@ impl Pair {
         ensures takes { (t : Trail) → IsTrue H.tells → IsOpen (H.world host.old) self.old t
             → Takes result (H.world host.old) (H.world host.new) self.old.files.name (IsOpen (H.world host.new) self.new) t [] }
         ensures settled { (t : Trail) → IsTrue H.tells → IsOpen (H.world host.old) self.old t → OnOk result (IsOpen (H.world host.new) self.new (settled t.base)) }
-        ensures merged { (k : ℕ) → self.old.files.state ≢ 0 → AreMerged (H.world host.old) self.old.files k → AreMerged (H.world host.new) self.new.files k }
-        ensures files { self.new.files ≡ self.old.files }
+        ensures merged { (k : ℕ) → self.old.files.state ≡ 2 → AreMerged (H.world host.old) self.old.files k → AreMerged (H.world host.new) self.new.files k }
+        ensures files { but_drafts self.new.files ≡ but_drafts self.old.files }
         ensures bare { bare self.new.pages ≡ bare self.old.pages }
         ensures cap { self.new.cap ≡ self.old.cap }
         ensures gave { GaveNothing (H.world host.old) (H.world host.new) }

@@ -1,8 +1,10 @@
-// Pages wait in memory where writes aren't forced, and go out by rank: SCN inventory pages first, which are kept for good before any
-// other page follows.
-ghost use Rattle.std.specs.Prelude.{◌≡◌, ◌≢◌, ◌<◌, ◌≤◌, ℕ, List, [], length, IsTrue, IsOk, OnOk, OnErr, MatchOption, Some, None, Option, true, false, nat_eq};
+// Pages wait in memory where writes aren't forced, and go out by rank. In the normal state SCN inventory pages go first, which are kept for
+// good before any other page follows. In the stalled state pages go into their slots first, which are kept for good before any
+// allocation page names them.
+ghost use Rattle.std.specs.Prelude.{◌≡◌, ◌≢◌, ◌<◌, ◌≤◌, ℕ, List, [], length, IsTrue, IsOk, IfErr, OnOk, OnErr, MatchOption, Some, None, Option, true, false, nat_eq};
 ghost use Rattle.nb_fields.specs.Places.{is_page_size, is_scn_place};
 ghost use Rattle.nb_host.specs.Causes.{CountsFault};
+ghost use Rattle.nb_host.specs.declared.faults.Fault.TheVariants.{Memory};
 ghost use Rattle.nb_change.specs.Changes.{Changes};
 ghost use Rattle.nb_change.specs.Gave.{GaveNothing};
 ghost use Rattle.nb_model.specs.Account.{Base};
@@ -10,16 +12,23 @@ ghost use Rattle.nb_model.specs.Image.{page_at, image_state};
 ghost use Rattle.nb_model.specs.Strokes.{page as page_stroke, on_base};
 ghost use Rattle.nb_model.specs.Trail.{Trail, IsFirm, StandsIn, ShowsIn};
 ghost use Rattle.nb_model.specs.Behind.{IsOnTheWay};
-ghost use Rattle.nb_base.specs.Open.{IsOpen as AreOpen, OfFiles};
+ghost use Rattle.nb_base.specs.Open.{OfFiles};
+ghost use Rattle.nb_base.specs.Going.{Drafts};
 ghost use Rattle.nb_base.specs.Put.{MayPut, PutLeft};
 ghost use Rattle.nb_base.specs.Takes.{Takes};
 ghost use Rattle.nb_cache.specs.Held.{rank_of, with_rank, dropped, NoneWaits};
 ghost use Rattle.lru.specs.LruCache.{lru_cache, put_entries};
-ghost use Rattle.nb_owner.specs.Open.{IsOpen, AreOf, GoesOut, IsValid, NoScnWaits, may_wait, cache_of, bare};
+ghost use Rattle.nb_owner.specs.Open.{IsOpen, AreOf, GoesOut, GoesSlot, IsValid, NoScnWaits, may_wait, cache_of, but_drafts, rank_in, bare};
 
 use crate::Pair;
 use nb_fields::is_scn_place;
-use nb_host::{Host, HostFault};
+use nb_host::{Fault, Host, HostFault};
+
+/// The backup state in which pages go into their slots.
+const STALLED: u16 = 1;
+
+/// The rank of a page that goes into its slot.
+const SLOT: u8 = 0;
 
 /// The ranks of pages of the main file.
 const SCN_PAGE: u8 = 2;
@@ -33,28 +42,65 @@ impl Pair {
         ensures valid { IsValid (cache_of self.now) self.now.files.page_size }
     {
         !forced
-            && self.files.state() == 0
+            && self.files.state() < 2
             && number != 0
             && number < self.files.count()
             && self.cache.would_drop(number).is_none()
     }
 
-    /// Has page `number` in memory, where it waits.
-    pub(crate) fn hold(&mut self, number: u32, page: &[u8])
+    /// Has page `number` in memory, where it waits. In the stalled state it has an entry then, which is drafted unless it was there. Where
+    /// that wants memory nothing has changed.
+    pub(crate) fn hold<H: Host>(
+        &mut self,
+        host: &mut H,
+        number: u32,
+        page: &[u8],
+    ) -> Result<(), Fault>
         requires size { length page.now ≡ self.old.files.page_size }
         requires below { number < 1048576 }
-        requires normal { self.old.files.state ≡ 0 }
+        requires early { self.old.files.state ≤ 1 }
         requires drops_none { dropped (cache_of self.old) number ≡ None }
-        ensures held { self.new ≡ record self.old {
-          pages = with_rank number (Some (elim (is_scn_place self.old.files.page_size number) [ true ↦ 2 | false ↦ 3 ]))
-              (put_entries nat_eq (lru_cache self.old.pages self.old.cap) number (record { bytes = page.now; rank = rank_of self.old.pages number }));
-        } }
+        ensures held { OnOk result (self.new.pages ≡ with_rank number (Some (rank_in self.old.files.state self.old.files.page_size number))
+            (put_entries nat_eq (lru_cache self.old.pages self.old.cap) number (record { bytes = page.now; rank = rank_of self.old.pages number }))) }
+        ensures normal { self.old.files.state ≡ 0 → IsOk result × (self.new.files ≡ self.old.files) }
+        ensures drafts { self.old.files.state ≡ 1 → OnOk result (Drafts number self.old.files self.new.files) }
+        ensures cap { self.new.cap ≡ self.old.cap }
+        ensures no_call { host.new ≡ host.old }
+        ensures only_memory { IfErr result (λ fault. (fault ≡ Memory) × (self.new ≡ self.old)) }
     {
-        let rank = if is_scn_place(self.files.page_size(), number) {
+        if self.files.state() == STALLED {
+            self.files.draft(host, number)?;
+            self.keep_waiting(number, page, SLOT);
+            Ok(())
+        } else {
+            let rank = self.main_rank(number);
+            self.keep_waiting(number, page, rank);
+            Ok(())
+        }
+    }
+
+    /// The rank of a page of the main file.
+    fn main_rank(&self, number: u32) -> u8
+        requires below { number < 1048576 }
+        ensures { result ≡ elim (is_scn_place self.now.files.page_size number) [ true ↦ 2 | false ↦ 3 ] }
+    {
+        if is_scn_place(self.files.page_size(), number) {
             SCN_PAGE
         } else {
             OTHER_PAGE
-        };
+        }
+    }
+
+    /// Has a page in memory, where it waits with that rank.
+    fn keep_waiting(&mut self, number: u32, page: &[u8], rank: u8)
+        requires size { length page.now ≡ self.old.files.page_size }
+        requires early { self.old.files.state ≤ 1 }
+        requires drops_none { dropped (cache_of self.old) number ≡ None }
+        ensures held { self.new ≡ record self.old {
+          pages = with_rank number (Some rank)
+              (put_entries nat_eq (lru_cache self.old.pages self.old.cap) number (record { bytes = page.now; rank = rank_of self.old.pages number }));
+        } }
+    {
         self.cache.keep(number, page);
         self.cache.dirty(number, rank);
     }
@@ -72,7 +118,7 @@ impl Pair {
     /// The page that goes out next, where one waits.
     fn next_page(&self) -> Option<u32>
         ensures next { MatchOption result (NoneWaits self.now.pages) (λ p. (rank : ℕ) × (rank_of self.now.pages p ≡ Some rank)) }
-        ensures outside { self.now.files.state ≢ 0 → result ≡ None }
+        ensures merge { self.now.files.state ≡ 2 → result ≡ None }
     {
         match self.cache.next_dirty() {
             Some((number, _)) => Some(number),
@@ -162,10 +208,10 @@ impl Pair {
         }
     }
 
-    /// Writes all that waits, where something does.
-    fn put_all<H: Host>(&mut self, host: &mut H) -> Result<(), HostFault>
+    /// Writes all that waits in the normal state, where something does.
+    fn put_main<H: Host>(&mut self, host: &mut H) -> Result<(), HostFault>
         requires some { (p rank : ℕ) × (rank_of self.old.pages p ≡ Some rank) }
-        ensures takes { (t : Trail) → IsTrue H.tells → IsOpen (H.world host.old) self.old t
+        ensures takes { (t : Trail) → IsTrue H.tells → IsOpen (H.world host.old) self.old t → image_state t.base.image ≡ 0
             → Takes result (H.world host.old) (H.world host.new) self.old.files.name (IsOpen (H.world host.new) self.new) t [] }
         ensures none { OnOk result (NoneWaits self.new.pages) }
         ensures files { self.new.files ≡ self.old.files }
@@ -180,16 +226,140 @@ impl Pair {
         Ok(())
     }
 
-    /// Writes all that waits: SCN pages first, which are kept for good, and then the others. It changes no page of the database, and none
-    /// in memory. Where nothing waits it makes no call, and at a settled point nothing does.
+    /// Writes a page that waits into its slot, in the stalled state. It waits no longer then.
+    fn put_slot<H: Host>(&mut self, host: &mut H, number: u32) -> Result<(), HostFault>
+        requires waits { (rank : ℕ) × (rank_of self.old.pages number ≡ Some rank) }
+        ensures left { (f t : Trail) → IsTrue H.tells → GoesSlot (H.world host.old) self.old f t
+            → Changes (H.world host.old) (H.world host.new) (OfFiles self.old.files.name) (StandsIn self.old.files.name t) }
+        ensures out { (f t : Trail) → IsTrue H.tells → GoesSlot (H.world host.old) self.old f t → OnOk result (GoesSlot (H.world host.new) self.new f t) }
+        ensures done { OnOk result (self.new ≡ record self.old { pages = with_rank number None self.old.pages }) }
+        ensures failed { OnErr result (self.new ≡ self.old) }
+        ensures gave { GaveNothing (H.world host.old) (H.world host.new) }
+        ensures reads { (H.world host.new).reads ≡ (H.world host.old).reads }
+        ensures cause { CountsFault result (H.faults host.old) (H.faults host.new) }
+    {
+        self.cache.peek(number, &mut self.page);
+        self.files.put_slot(host, number, &self.page)?;
+        self.cache.clean(number);
+        Ok(())
+    }
+
+    /// Writes each page that waits into its slot, in the stalled state.
+    fn put_slots<H: Host>(&mut self, host: &mut H) -> Result<(), HostFault>
+        ensures left { (f t : Trail) → IsTrue H.tells → GoesSlot (H.world host.old) self.old f t
+            → Changes (H.world host.old) (H.world host.new) (OfFiles self.old.files.name) (StandsIn self.old.files.name t) }
+        ensures out { (f t : Trail) → IsTrue H.tells → GoesSlot (H.world host.old) self.old f t → OnOk result (GoesSlot (H.world host.new) self.new f t) }
+        ensures none { OnOk result (NoneWaits self.new.pages) }
+        ensures files { self.new.files ≡ self.old.files }
+        ensures bare { bare self.new.pages ≡ bare self.old.pages }
+        ensures cap { self.new.cap ≡ self.old.cap }
+        ensures gave { GaveNothing (H.world host.old) (H.world host.new) }
+        ensures reads { (H.world host.new).reads ≡ (H.world host.old).reads }
+        ensures cause { CountsFault result (H.faults host.old) (H.faults host.new) }
+    {
+        while let Some(number) = self.next_page() {
+            self.put_slot(host, number)?;
+        }
+        Ok(())
+    }
+
+    /// Brings the drafted entries into the table, in the stalled state, once no page waits.
+    fn enter<H: Host>(&mut self, host: &mut H) -> Result<(), HostFault>
+        requires stalled { self.old.files.state ≡ 1 }
+        requires none { NoneWaits self.old.pages }
+        ensures left { (f t : Trail) → IsTrue H.tells → GoesSlot (H.world host.old) self.old f t
+            → Changes (H.world host.old) (H.world host.new) (OfFiles self.old.files.name) (StandsIn self.old.files.name t) }
+        ensures out { (f t : Trail) → IsTrue H.tells → GoesSlot (H.world host.old) self.old f t → OnOk result (IsOpen (H.world host.new) self.new t) }
+        ensures no_drafts { OnOk result (self.new.files.drafted ≡ 0) }
+        ensures files { but_drafts self.new.files ≡ but_drafts self.old.files }
+        ensures pages { self.new.pages ≡ self.old.pages }
+        ensures cap { self.new.cap ≡ self.old.cap }
+        ensures gave { GaveNothing (H.world host.old) (H.world host.new) }
+        ensures reads { (H.world host.new).reads ≡ (H.world host.old).reads }
+        ensures cause { CountsFault result (H.faults host.old) (H.faults host.new) }
+    {
+        self.files.enter(host)?;
+        Ok(())
+    }
+
+    /// Writes all that waits in the stalled state: pages into their slots, and then their entries.
+    fn put_delta<H: Host>(&mut self, host: &mut H) -> Result<(), HostFault>
+        requires stalled { self.old.files.state ≡ 1 }
+        requires some { (p rank : ℕ) × (rank_of self.old.pages p ≡ Some rank) }
+        ensures takes { (t : Trail) → IsTrue H.tells → IsOpen (H.world host.old) self.old t
+            → Takes result (H.world host.old) (H.world host.new) self.old.files.name (IsOpen (H.world host.new) self.new) t [] }
+        ensures none { OnOk result (NoneWaits self.new.pages) }
+        ensures no_drafts { OnOk result (self.new.files.drafted ≡ 0) }
+        ensures files { but_drafts self.new.files ≡ but_drafts self.old.files }
+        ensures bare { bare self.new.pages ≡ bare self.old.pages }
+        ensures cap { self.new.cap ≡ self.old.cap }
+        ensures gave { GaveNothing (H.world host.old) (H.world host.new) }
+        ensures reads { (H.world host.new).reads ≡ (H.world host.old).reads }
+        ensures cause { CountsFault result (H.faults host.old) (H.faults host.new) }
+    {
+        self.put_slots(host)?;
+        self.enter(host)?;
+        Ok(())
+    }
+
+    /// Writes all that waits, where something does.
+    fn put_all<H: Host>(&mut self, host: &mut H) -> Result<(), HostFault>
+        requires some { (p rank : ℕ) × (rank_of self.old.pages p ≡ Some rank) }
+        ensures takes { (t : Trail) → IsTrue H.tells → IsOpen (H.world host.old) self.old t
+            → Takes result (H.world host.old) (H.world host.new) self.old.files.name (IsOpen (H.world host.new) self.new) t [] }
+        ensures none { OnOk result (NoneWaits self.new.pages) }
+        ensures no_drafts { OnOk result (self.new.files.drafted ≡ 0) }
+        ensures files { but_drafts self.new.files ≡ but_drafts self.old.files }
+        ensures bare { bare self.new.pages ≡ bare self.old.pages }
+        ensures cap { self.new.cap ≡ self.old.cap }
+        ensures gave { GaveNothing (H.world host.old) (H.world host.new) }
+        ensures reads { (H.world host.new).reads ≡ (H.world host.old).reads }
+        ensures cause { CountsFault result (H.faults host.old) (H.faults host.new) }
+    {
+        if self.files.state() == STALLED {
+            self.put_delta(host)?;
+            Ok(())
+        } else {
+            self.put_main(host)?;
+            Ok(())
+        }
+    }
+
+    /// Brings entries that are drafted into the table, where no page waits. Only a fault of the device leaves such ones.
+    fn enter_rest<H: Host>(&mut self, host: &mut H) -> Result<(), HostFault>
+        requires none { NoneWaits self.old.pages }
+        ensures takes { (t : Trail) → IsTrue H.tells → IsOpen (H.world host.old) self.old t
+            → Takes result (H.world host.old) (H.world host.new) self.old.files.name (IsOpen (H.world host.new) self.new) t [] }
+        ensures no_drafts { OnOk result (self.new.files.drafted ≡ 0) }
+        ensures idle { self.old.files.drafted ≡ 0 → IsOk result × (self.new ≡ self.old) × (host.new ≡ host.old) }
+        ensures merge { self.old.files.state ≡ 2 → IsOk result × (self.new ≡ self.old) × (host.new ≡ host.old) }
+        ensures files { but_drafts self.new.files ≡ but_drafts self.old.files }
+        ensures pages { self.new.pages ≡ self.old.pages }
+        ensures cap { self.new.cap ≡ self.old.cap }
+        ensures gave { GaveNothing (H.world host.old) (H.world host.new) }
+        ensures reads { (H.world host.new).reads ≡ (H.world host.old).reads }
+        ensures cause { CountsFault result (H.faults host.old) (H.faults host.new) }
+    {
+        if self.files.drafted() == 0 {
+            Ok(())
+        } else {
+            self.enter(host)?;
+            Ok(())
+        }
+    }
+
+    /// Writes all that waits. In the normal state SCN pages go first, which are kept for good, and then the others. In the stalled state
+    /// pages go into their slots first, which are kept for good, and then the allocation pages that name them. It changes no page of the
+    /// database, and none in memory. Where nothing waits it makes no call, and at a settled point nothing does.
     pub fn write_out<H: Host>(&mut self, host: &mut H) -> Result<(), HostFault>
         ensures takes { (t : Trail) → IsTrue H.tells → IsOpen (H.world host.old) self.old t
             → Takes result (H.world host.old) (H.world host.new) self.old.files.name (IsOpen (H.world host.new) self.new) t [] }
         ensures none { OnOk result (NoneWaits self.new.pages) }
-        ensures idle { NoneWaits self.old.pages → IsOk result × (self.new ≡ self.old) × (host.new ≡ host.old) }
+        ensures no_drafts { OnOk result (self.new.files.drafted ≡ 0) }
+        ensures idle { NoneWaits self.old.pages → self.old.files.drafted ≡ 0 → IsOk result × (self.new ≡ self.old) × (host.new ≡ host.old) }
         ensures at_settled { (t : Trail) → IsTrue H.tells → IsOpen (H.world host.old) self.old t → t.earlier ≡ [] → IsOk result × (self.new ≡ self.old) × (host.new ≡ host.old) }
-        ensures outside { self.old.files.state ≢ 0 → IsOk result × (self.new ≡ self.old) × (host.new ≡ host.old) }
-        ensures files { self.new.files ≡ self.old.files }
+        ensures outside { self.old.files.state ≡ 2 → IsOk result × (self.new ≡ self.old) × (host.new ≡ host.old) }
+        ensures files { but_drafts self.new.files ≡ but_drafts self.old.files }
         ensures bare { bare self.new.pages ≡ bare self.old.pages }
         ensures cap { self.new.cap ≡ self.old.cap }
         ensures gave { GaveNothing (H.world host.old) (H.world host.new) }
@@ -201,7 +371,10 @@ impl Pair {
                 self.put_all(host)?;
                 Ok(())
             }
-            None => Ok(()),
+            None => {
+                self.enter_rest(host)?;
+                Ok(())
+            }
         }
     }
 }

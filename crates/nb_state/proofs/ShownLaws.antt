@@ -1,5 +1,5 @@
 -- What the two files show of a database that is open, and that it stays open while other files change.
-use Rattle.std.proofs.Common.{◌≡◌, ℕ, [], refl, sym, subst}
+use Rattle.std.proofs.Common.{◌≡◌, ℕ, refl, sym, subst}
 use Rattle.std.specs.Prelude.{Ok, drop, slice_index}
 use Rattle.nb_fields.specs.Table.{page_in, slot_place}
 use Rattle.nb_host.specs.Files.{File, Files, bytes_of}
@@ -16,7 +16,7 @@ use Rattle.nb_state.specs.Open.{Held, NoPageWaits, IsOpen, name_of, pair_of}
 
 -- where no page waits they show what was seen
 pub shown : (w : World) (held : Held) (t : Trail) → NoPageWaits held → IsOpen w held t → ShowsIn (name_of held) t.base w.files
-shown w held t none is = (files_open w (pair_of held) t none is.files).shows
+shown w held t none is = (files_open w (pair_of held) t none.0 is.files).shows
 
 -- and at a settled point none does
 pub shown_settled : (w : World) (held : Held) (b : Base) → IsOpen w held (settled b) → ShowsIn (name_of held) b w.files
@@ -33,8 +33,7 @@ module _ (old new : World) (held : Held) (t : Trail) (is : IsOpen old held t) (m
     files = open_of new (pair_of held) is.files.sees t (record {
       left = left (StandsFirmOn (name_of held) is.files.sees) is.files.files.left;
       shows = reads (λ (m d : File). owner (name_of held) m d ≡ Ok is.files.sees.base) is.files.files.shows;
-      agrees = is.files.files.agrees;
-    }) is.files.waits is.files.pages;
+    }) is.files.agrees is.files.waits is.files.pages;
     agrees = is.agrees;
     merged = λ two j low inside.
         let size : ℕ = held.files.page_size in

@@ -1,12 +1,13 @@
 -- Why a backup doesn't begin, and why a merge doesn't.
 use Rattle.std.proofs.Common.{◌≡◌, ◌≢◌, inl, inr, ℕ, suc, ◌≤◌, ◌<◌, [], ◌∷◌, refl, ap, ◌∙◌, arith}
-use Rattle.std.specs.Prelude.{Bool, true, false, Option, Some, None, not, ◌==◌, nat_lt}
+use Rattle.std.specs.Prelude.{Bool, true, false, Option, Some, None, not, nat_lt}
 use Rattle.std.proofs.lemmas.Bool.{eq-eqb, ne_eqb}
 use Rattle.std.proofs.lemmas.Bool.Decides.{leb_tells}
 use Rattle.nb_host.specs.declared.refusals.Refusal.{Refusal}
-use Rattle.nb_host.specs.declared.refusals.Refusal.TheVariants.{WrongState, ScnExhausted, BackupRunning}
-use Rattle.nb_model.specs.Image.{Image, image_state, image_scn}
+use Rattle.nb_host.specs.declared.refusals.Refusal.TheVariants.{ScnExhausted, BackupRunning}
+use Rattle.nb_model.specs.Image.{Image, image_scn}
 use Rattle.nb_model.specs.Causes.{Cause, first_cause, when, not_state, no_scn, runs_other}
+use Rattle.nb_cases.specs.Events.{none_to_end}
 use Rattle.nb_state.specs.Turns.{begin_cause, end_cause}
 
 -- the first of two causes, and the second where the first doesn't apply
@@ -29,37 +30,29 @@ le_is : (a b : ℕ) → b ≤ a → nat_lt a b ≡ false
 le_is a b high = elim (leb_tells (suc a) b) [ inl w ↦ absurd (omega (arith, w.1, high)) | inr w ↦ w.0 ]
 
 module _ (image : Image) where
-  normal : image_state image ≡ 0 → not_state 0 image ≡ None
-  normal is = ap (λ (b : Bool). when (not b) (WrongState (image_state image))) (eq-eqb (image_state image) 0 is)
+  pub other_state : (r : Refusal) → not_state 0 image ≡ Some r → begin_cause image ≡ Some r
+  other_state = first_applies (not_state 0 image) (no_scn image)
 
-  pub other_state : image_state image ≢ 0 → begin_cause image ≡ Some (WrongState (image_state image))
-  other_state ne = first_applies (not_state 0 image) (no_scn image) _ (ap (λ (b : Bool). when (not b) (WrongState (image_state image))) (ne_eqb (image_state image) 0 ne))
+  pub last_scn : not_state 0 image ≡ None → 4294967293 < image_scn image → begin_cause image ≡ Some (ScnExhausted (image_scn image))
+  last_scn normal high = second_decides (not_state 0 image) (no_scn image) normal ∙ ap (λ (b : Bool). when b (ScnExhausted (image_scn image))) (lt_is 4294967293 (image_scn image) high)
 
-  pub last_scn : image_state image ≡ 0 → 4294967293 < image_scn image → begin_cause image ≡ Some (ScnExhausted (image_scn image))
-  last_scn is high = second_decides (not_state 0 image) (no_scn image) (normal is) ∙ ap (λ (b : Bool). when b (ScnExhausted (image_scn image))) (lt_is 4294967293 (image_scn image) high)
-
-  pub may_begin : image_state image ≡ 0 → image_scn image ≤ 4294967293 → begin_cause image ≡ None
-  may_begin is low = second_decides (not_state 0 image) (no_scn image) (normal is) ∙ ap (λ (b : Bool). when b (ScnExhausted (image_scn image))) (le_is 4294967293 (image_scn image) low)
+  pub may_begin : not_state 0 image ≡ None → image_scn image ≤ 4294967293 → begin_cause image ≡ None
+  may_begin normal low = second_decides (not_state 0 image) (no_scn image) normal ∙ ap (λ (b : Bool). when b (ScnExhausted (image_scn image))) (le_is 4294967293 (image_scn image) low)
 
   module _ (running : Option ℕ) (session : ℕ) where
-    abbrev none_began : Cause
-    none_began = when (image_state image == 0) (WrongState 0)
+    pub no_backup : (r : Refusal) → none_to_end image ≡ Some r → end_cause image running session ≡ Some r
+    no_backup = first_applies (none_to_end image) (runs_other running session)
 
-    began : image_state image ≢ 0 → none_began ≡ None
-    began ne = ap (λ (b : Bool). when b (WrongState 0)) (ne_eqb (image_state image) 0 ne)
+    module _ (began : none_to_end image ≡ None) where
+      pub other_runs : (other : ℕ) → running ≡ Some other → other ≢ session → end_cause image running session ≡ Some (BackupRunning other)
+      other_runs other is differs =
+          second_decides (none_to_end image) (runs_other running session) began ∙ ap (λ (r : Option ℕ). runs_other r session) is
+          ∙ ap (λ (b : Bool). when (not b) (BackupRunning other)) (ne_eqb other session differs)
 
-    pub no_backup : image_state image ≡ 0 → end_cause image running session ≡ Some (WrongState 0)
-    no_backup is = first_applies none_began (runs_other running session) _ (ap (λ (b : Bool). when b (WrongState 0)) (eq-eqb (image_state image) 0 is))
+      pub this_runs : (other : ℕ) → running ≡ Some other → other ≡ session → end_cause image running session ≡ None
+      this_runs other is same =
+          second_decides (none_to_end image) (runs_other running session) began ∙ ap (λ (r : Option ℕ). runs_other r session) is
+          ∙ ap (λ (b : Bool). when (not b) (BackupRunning other)) (eq-eqb other session same)
 
-    pub other_runs : (other : ℕ) → image_state image ≢ 0 → running ≡ Some other → other ≢ session → end_cause image running session ≡ Some (BackupRunning other)
-    other_runs other ne is differs =
-        second_decides none_began (runs_other running session) (began ne) ∙ ap (λ (r : Option ℕ). runs_other r session) is
-        ∙ ap (λ (b : Bool). when (not b) (BackupRunning other)) (ne_eqb other session differs)
-
-    pub this_runs : (other : ℕ) → image_state image ≢ 0 → running ≡ Some other → other ≡ session → end_cause image running session ≡ None
-    this_runs other ne is same =
-        second_decides none_began (runs_other running session) (began ne) ∙ ap (λ (r : Option ℕ). runs_other r session) is
-        ∙ ap (λ (b : Bool). when (not b) (BackupRunning other)) (eq-eqb other session same)
-
-    pub none_runs : image_state image ≢ 0 → running ≡ None → end_cause image running session ≡ None
-    none_runs ne is = second_decides none_began (runs_other running session) (began ne) ∙ ap (λ (r : Option ℕ). runs_other r session) is
+      pub none_runs : running ≡ None → end_cause image running session ≡ None
+      none_runs is = second_decides (none_to_end image) (runs_other running session) began ∙ ap (λ (r : Option ℕ). runs_other r session) is

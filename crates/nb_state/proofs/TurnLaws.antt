@@ -24,13 +24,14 @@ use Rattle.nb_model.proofs.ControlLaws.{control_state}
 use Rattle.nb_model.proofs.HeaderLaws.{header-long, header-room}
 use Rattle.nb_model.proofs.MainLaws.{some_page}
 use Rattle.nb_model.proofs.TrailLaws.{trail_base}
-use Rattle.nb_base.specs.Open.{OfFiles, IsOpen as AreOpen, IsMerged, AreMerged}
+use Rattle.nb_base.specs.Open.{OfFiles, IsMerged, AreMerged}
+use Rattle.nb_base.specs.Seen.{IsSeen}
 use Rattle.nb_base.specs.Takes.{Strikes}
 use Rattle.nb_base.proofs.ControlLaws.{with_control-first}
 use Rattle.nb_page.specs.Quiet.{Quiet}
 use Rattle.nb_change.specs.Gave.{GaveNothing}
 use Rattle.nb_base.specs.Takes.{after_strokes}
-use Rattle.nb_owner.specs.Open.{IsOpen as PairOpen}
+use Rattle.nb_owner.specs.Open.{IsOpen as PairOpen, but_drafts}
 use Rattle.nb_owner.proofs.WaitLaws.{open_of}
 use Rattle.nb_state.specs.Open.{Held, AgreesWith, IsOpen, name_of, pair_of}
 use Rattle.nb_state.specs.Does.{Tested, unless_by}
@@ -39,17 +40,16 @@ use Rattle.nb_state.specs.declared.turns.Progress.{Progress}
 use Rattle.nb_state.proofs.AgreeLaws.{agrees_control}
 use Rattle.nb_state.proofs.MakesLaws.{none_yet, gave_none}
 
--- the two files stay open
-pub still_files : (old new : World) (held : Rattle.nb_base.specs.Open.Held) (t : Trail) → IsStill old new → AreOpen old held t → AreOpen new held t
-still_files old new held t still is = record {
+-- the two files hold what they held
+still_files : (old new : World) (name : List ℕ) (t : Trail) → IsStill old new → IsSeen old name t → IsSeen new name t
+still_files old new name t still is = record {
   left = λ files left. is.left files (all_before old new still.left files left);
-  shows = subst (λ (f : Files). ShowsIn held.name t.base f) (sym still.files) is.shows;
-  agrees = is.agrees;
+  shows = subst (λ (f : Files). ShowsIn name t.base f) (sym still.files) is.shows;
 }
 
 -- with what waits
 pub still_pair : (old new : World) (held : Rattle.nb_owner.specs.Open.Held) (t : Trail) → IsStill old new → PairOpen old held t → PairOpen new held t
-still_pair old new held t still is = open_of new held is.sees t (still_files old new held.files is.sees still is.files) is.waits is.pages
+still_pair old new held t still is = open_of new held is.sees t (still_files old new held.files.name is.sees still is.files) is.agrees is.waits is.pages
 
 -- and so does the database
 pub still_open : (old new : World) (held : Held) (t : Trail) → IsStill old new → IsOpen old held t → IsOpen new held t
@@ -196,13 +196,13 @@ pub all_merged : (w : World) (held : Held) (t : Trail) → IsOpen w held t → h
 all_merged w held t is merges all j low inside = is.merged merges j (omega (arith, low, all)) inside
 
 -- what waits goes out, and both files may be kept for good
-pub open_out : (old new : World) (held : Held) (pair : Rattle.nb_owner.specs.Open.Held) (t u : Trail) → IsOpen old held t → u.base ≡ t.base → pair.files ≡ held.files → PairOpen new pair u
-    → (held.files.state ≢ 0 → AreMerged old held.files held.merged → AreMerged new pair.files held.merged) → IsOpen new (record held { files = pair.files; pages = pair.pages; cap = pair.cap }) u
+pub open_out : (old new : World) (held : Held) (pair : Rattle.nb_owner.specs.Open.Held) (t u : Trail) → IsOpen old held t → u.base ≡ t.base → but_drafts pair.files ≡ but_drafts held.files → PairOpen new pair u
+    → (held.files.state ≡ 2 → AreMerged old held.files held.merged → AreMerged new pair.files held.merged) → IsOpen new (record held { files = pair.files; pages = pair.pages; cap = pair.cap }) u
 open_out old new held pair t u is base same opened merged = record {
   files = opened;
   agrees = subst (λ (b : Base). AgreesWith (record held { files = pair.files; pages = pair.pages; cap = pair.cap }) b) (sym base)
       (record { scn = is.agrees.scn; four = is.agrees.four; guid = is.agrees.guid; forced = is.agrees.forced; read_only = is.agrees.read_only });
-  merged = λ two. let merges = sym (ap (λ (f : Rattle.nb_base.specs.Open.Held). f.state) same) ∙ two in merged (λ e. absurd (omega (arith, merges, e))) (is.merged merges);
+  merged = λ two. let merges = sym (ap (λ (f : Rattle.nb_base.specs.Open.Held). f.state) same) ∙ two in merged merges (is.merged merges);
   most = λ two. subst (λ (f : Rattle.nb_base.specs.Open.Held). held.merged ≤ length f.entries) (sym same) (is.most (sym (ap (λ (f : Rattle.nb_base.specs.Open.Held). f.state) same) ∙ two));
 }
 

@@ -6,7 +6,7 @@ use Rattle.nb_model.specs.Image.{image_scn, image_guid, is_forced, is_read_only}
 use Rattle.nb_model.specs.Trail.{Trail}
 use Rattle.nb_base.specs.Open.{AreMerged}
 use Rattle.nb_cache.specs.Held.{NoneWaits}
-use Rattle.nb_owner.specs.Open.{Pages, IsOpen as IsPairOpen}
+use Rattle.nb_owner.specs.Open.{Pages, IsOpen as IsPairOpen, but_drafts}
 
 -- What a contract sees of an open database.
 pub record Held : Type 0 where
@@ -35,13 +35,13 @@ name_of held = held.files.name
 abbrev pub pair_of : Held → Rattle.nb_owner.specs.Open.Held
 pair_of held = record { files = held.files; pages = held.pages; cap = held.cap }
 
--- no page waits in memory to be written
+-- no page waits in memory to be written, and no entry is drafted
 abbrev pub NoPageWaits : Held → Type 0
-NoPageWaits held = NoneWaits held.pages
+NoPageWaits held = NoneWaits held.pages × (held.files.drafted ≡ 0)
 
--- all but which pages are in memory
+-- all but which pages are in memory, and what of them waits
 abbrev pub but_pages : Held → Held
-but_pages held = record held { pages = [] }
+but_pages held = record held { files = but_drafts held.files; pages = [] }
 
 -- its header says what is held of it
 pub record AgreesWith (held : Held) (b : Base) : Type 0 where

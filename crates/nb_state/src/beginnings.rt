@@ -1,11 +1,12 @@
 // A database is created or opened.
-ghost use Rattle.std.specs.Prelude.{◌≡◌, ◌<◌, ◌≤◌, None, IsTrue, IfOk, length};
+ghost use Rattle.std.specs.Prelude.{◌≡◌, ◌+◌, ◌<◌, ◌≤◌, None, IsTrue, IfOk, length};
 ghost use Rattle.nb_fields.specs.Places.{is_page_size};
 ghost use Rattle.nb_fields.specs.Fresh.{fresh};
 ghost use Rattle.nb_change.specs.Counts.{CountsDevice};
 ghost use Rattle.nb_host.specs.Causes.{CountsFault};
 ghost use Rattle.nb_page.specs.Quiet.{Quiet};
 ghost use Rattle.nb_model.specs.Trail.{Trail};
+ghost use Rattle.nb_base.specs.Reads.{opening_reads};
 ghost use Rattle.nb_owner.specs.Open.{IsOpen as AreOpen};
 ghost use Rattle.nb_state.specs.Open.{IsOpen};
 ghost use Rattle.nb_state.specs.Beginnings.{Attaches, Creates, HoldsNone};
@@ -28,6 +29,7 @@ fn open<H: Host>(host: &mut H, pair: Pair, page: &mut [u8]) -> Result<Store, Hos
     ensures begins { IfOk result (λ store. (store.running ≡ None) × (store.merged ≡ 0)) }
     ensures scn { IfOk result (λ store. store.scn < 4294967296) }
     ensures quiet { Quiet (H.world host.old) (H.world host.new) }
+    ensures reads { IsTrue H.tells → (H.world host.new).reads ≤ (H.world host.old).reads + 2 }
     ensures cause { CountsFault result (H.faults host.old) (H.faults host.new) }
 {
     let mut pair = pair;
@@ -47,6 +49,7 @@ fn open<H: Host>(host: &mut H, pair: Pair, page: &mut [u8]) -> Result<Store, Hos
 
 impl Store {
     /// Opens a database, and takes memory for so many of its pages. It changes nothing: its files are kept for good before it answers.
+    /// Behind what opening its files reads it reads page 0, in two parts at most.
     ///
     /// The refusals are `NoFile`, `NotDatabase`, `Unfinished`, `NoFile` of the difference file and `BadDelta`, in this order.
     pub fn attach<H: Host>(
@@ -62,6 +65,7 @@ impl Store {
         ensures scn { IfOk result (λ store. store.scn < 4294967296) }
         ensures blank { IfOk result (HoldsNone cache_pages) }
         ensures quiet { Quiet (H.world host.old) (H.world host.new) }
+        ensures reads { IsTrue H.tells → IfOk result (λ store. (H.world host.new).reads ≤ (H.world host.old).reads + opening_reads ((H.world host.old).files name.now) store.files + 2) }
         ensures cause { CountsDevice result (H.faults host.old) (H.faults host.new) }
     {
         let pair = Pair::attach(alloc, host, name, cache_pages)?;

@@ -182,7 +182,8 @@ impl Store {
     }
 
     /// Replaces page `number`, or adds it at the end, of page 0 what is behind the control block. It is kept for good where writes are
-    /// forced, where it makes the database longer, and where it is page 0. Every other write may wait in memory, and then makes no call.
+    /// forced, where it makes the database longer, and where it is page 0. Every other write may wait in memory, and then makes no call; in the stalled state
+    /// its entry may want memory.
     ///
     /// Where it wants memory it has changed no page.
     pub fn write<H: Host>(&mut self, host: &mut H, number: u32, page: &[u8]) -> Result<(), Fault>
@@ -195,7 +196,7 @@ impl Store {
         ensures reads { (H.world host.new).reads ≡ (H.world host.old).reads }
         ensures cause { CountsDevice result (H.faults host.old) (H.faults host.new) }
         ensures not_refused { IfErr result IsNoRefusal }
-        ensures waits { may_wait (pair_of self.old) number self.old.forced ≡ true → IsOk result × (host.new ≡ host.old) }
+        ensures waits { may_wait (pair_of self.old) number self.old.forced ≡ true → (self.old.files.state ≡ 0 → IsOk result) × IfErr result (λ fault. fault ≡ Fault.Memory) × (host.new ≡ host.old) }
         ensures on_memory { (t : Trail) → IsTrue H.tells → IsOpen (H.world host.old) self.old t → result ≡ Err Fault.Memory
             → Strikes (H.world host.old) (H.world host.new) (name_of self.old) t [] × IsOpen (H.world host.new) self.new t }
     {

@@ -15,6 +15,7 @@ ghost use Rattle.nb_state.specs.Does.{Tested};
 ghost use Rattle.nb_state.specs.Turns.{Begins, Ends, Merges, GaveAtMost, GoesOn, begin_cause, end_cause};
 
 use crate::Store;
+use nb_cases::{Case, Event, case_of};
 use nb_host::{Fault, Host, HostFault, Refusal};
 
 /// A backup and its end need two SCNs more.
@@ -44,8 +45,9 @@ impl Store {
         ensures scn { OnOk result (self.now.scn < 4294967294) }
         ensures cause { (faults : ℕ) → CountsDevice result faults faults }
     {
-        let found = u32::from(self.pair.state());
-        if found != 0 {
+        let state = self.pair.state();
+        if case_of(state, Event::Begin) == Case::WrongState {
+            let found = u32::from(state);
             return Err(Fault::Refused(Refusal::WrongState { found }));
         }
         if self.scn > LAST_SCN {
@@ -61,8 +63,10 @@ impl Store {
         ensures own { (other : ℕ) → self.now.running ≡ Some other → OnOk result (other ≡ session) }
         ensures cause { (faults : ℕ) → CountsDevice result faults faults }
     {
-        if self.pair.state() == 0 {
-            return Err(Fault::Refused(Refusal::WrongState { found: 0 }));
+        let state = self.pair.state();
+        if case_of(state, Event::End) == Case::WrongState {
+            let found = u32::from(state);
+            return Err(Fault::Refused(Refusal::WrongState { found }));
         }
         match self.running {
             Some(other) => {

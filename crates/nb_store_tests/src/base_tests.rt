@@ -40,7 +40,7 @@ fn put_byte(host: &mut MemHost, files: &mut TwoFiles, number: u32, byte: u8) -> 
     }
     files.read(host, number, &mut page)?;
     page[20] = byte;
-    if are_zeros(&page) {
+    if are_zeros(&page) || files.drafted() != 0 {
         return Err(Fault::Device);
     }
     files.write(host, number, &page, true)
@@ -67,7 +67,7 @@ fn back_up(alloc: Global, host: &mut MemHost) -> Result<(), Fault> {
     }
     put_byte(host, &mut files, PAGE, 9)?;
     put_byte(host, &mut files, 0, 0)?;
-    if files.state() == 1 {
+    if files.state() == 1 && files.drafted() == 0 {
         files.end(host)?;
     }
     merge_all(host, &mut files)

@@ -19,6 +19,9 @@ fn write(
     if files.page_size() != 1024 || number >= 1_048_576 || are_zeros(&page) {
         return Err(Fault::Device);
     }
+    if files.drafted() != 0 {
+        return Err(Fault::Device);
+    }
     files.write(host, number, &page, forced)
 }
 
@@ -40,7 +43,7 @@ fn make(alloc: Global, host: &mut MemHost, state: u16) -> Result<(), Fault> {
     if state > 0 {
         stall(host, &mut files)?;
     }
-    if state > 1 && files.state() == 1 {
+    if state > 1 && files.state() == 1 && files.drafted() == 0 {
         files.end(host)?;
     }
     files.sync(host)?;

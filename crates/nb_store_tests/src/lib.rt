@@ -14,4 +14,6 @@ mod owner_write_tests;
 #[cfg(test)]
 mod sample;
 #[cfg(test)]
+mod stalled_tests;
+#[cfg(test)]
 mod state_tests;

@@ -9,6 +9,7 @@ loop-count-init g c = record {
   some = c.requires.some;
   most = omega arith;
   quiet = quiet_begun (g.H.Host.world c.args.host.now) (g.met.H.Host.timely _);
+  reads = λ tells. refl;
   cause = refl;
   behind = λ tells bytes there none same long. length_most bytes none _ same c.args.pages long;
 }
@@ -31,6 +32,7 @@ loop-count-preserved g c =
       some = omega (arith, c.loop-count-test.true);
       most = omega (arith, loop.most);
       quiet = quiet_joined _ _ _ loop.quiet c.in_ok-is_blank.ensures.quiet;
+      reads = λ tells. omega (arith, loop.reads tells, c.in_ok-is_blank.ensures.reads tells, c.loop-count-test.true);
       cause = c.in_ok-is_blank.ensures.cause ∙ loop.cause;
       behind = λ tells bytes there none same long.
           let size : ℕ = length c.loop-count.page in

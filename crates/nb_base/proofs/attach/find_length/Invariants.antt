@@ -1,4 +1,4 @@
-use Rattle.std.proofs.Common.{◌≡◌, ℕ, ◌-◌, ◌*◌, ◌≤◌, List, length}
+use Rattle.std.proofs.Common.{◌≡◌, ℕ, ◌+◌, ◌-◌, ◌*◌, ◌≤◌, List, length}
 use Rattle.std.specs.Prelude.{IsTrue, Some, None}
 use Rattle.nb_fields.specs.Header.{size_of}
 use Rattle.nb_page.specs.Quiet.{Quiet}
@@ -12,6 +12,7 @@ invariant-loop-count g l = record {
   some : 1 ≤ l.count;
   most : l.count ≤ l.pages;
   quiet : Quiet (g.H.Host.world l.fn.host) (g.H.Host.world l.host);
+  reads : IsTrue g.H.Host.tells → (g.H.Host.world l.host).reads + l.count ≡ (g.H.Host.world l.fn.host).reads + l.pages;
   cause : g.H.Host.faults l.host ≡ g.H.Host.faults l.fn.host;
   behind : IsTrue g.H.Host.tells → (bytes : List ℕ) → (g.H.Host.world l.fn.host).files l.name ≡ Some bytes → not_database bytes ≡ None → size_of bytes ≡ length l.fn.page → length bytes ≡ l.pages * length l.fn.page
       → length (image_in bytes) ≤ l.count;

@@ -6,6 +6,7 @@ use Rattle.nb_engine.proofs.find.check_entry.Goals.{then-number-eq0-via-then-num
 use Rattle.nb_engine.proofs.PutLaws.{first-without, scn_page-without, other-with}
 use Rattle.nb_engine.proofs.RaiseLaws.{scn_page-is}
 use Rattle.nb_engine.proofs.PlaceTests.{there_past, there_below, entry_without, entry_with}
+use Rattle.nb_engine.proofs.SearchReads.{scn_place_some}
 use Rattle.nb_engine.proofs.find.check_entry.Goals as goal
 
 pub returns-then-number-eq0-clause-test : goal.returns-then-number-eq0-clause-test
@@ -34,3 +35,8 @@ returns-clause-test g c t tells is =
     let there = scn_page-is image _ c.covers-k.result.0 c.args.number c.place_of-place.result size c.covers-k.ensures.number c.place_of-place.ensures in
     let low : c.place_of-place.result < length image = omega (arith, is.files.agrees.count, c.count.ensures.value, c.if-place-count.false) in
     subst (λ (cause : Cause). Tested c.read.result cause) (sym (there_below image 10 c.place_of-place.result low) ∙ ap (λ (q : ℕ). not_there image 10 q) there ∙ sym (entry_with image c.args.number has)) (c.read.ensures.reads t tells is).test
+
+pub returns-clause-once : goal.returns-clause-once
+returns-clause-once g c tells =
+    let some = scn_place_some c.page_size-page_size.result c.covers-k.result.0 c.page_size-page_size.ensures.one_of in
+    c.read.ensures.once tells (omega (arith, some, c.place_of-place.ensures))

@@ -1,4 +1,6 @@
-use Rattle.std.proofs.Common.{ℕ, ◌∙◌}
+use Rattle.std.proofs.Common.{◌≡◌, ℕ, ◌/◌, ap, ◌∙◌, arith}
+use Rattle.nb_fields.specs.Places.{bits_in}
+use Rattle.nb_model.specs.Image.{image_size}
 use Rattle.nb_engine.specs.Make.{new_of}
 use Rattle.nb_engine.proofs.FindLaws.{lowest_is}
 use Rattle.nb_engine.proofs.PlaceTests.{first_place, room_tested, room_found, way_begins}
@@ -34,3 +36,10 @@ pub returns-clause-map : goal.returns-clause-map
 returns-clause-map g c t tells is =
     let still = c.in_ok-page.ensures.open t tells is in
     c.in_ok-check_places.ensures.map t tells still (c.in_ok-page.ensures.map t tells is)
+
+pub returns-clause-once : goal.returns-clause-once
+returns-clause-once g c t tells is room there =
+    let still = c.in_ok-page.ensures.open t tells is in
+    let first = first_place t.base.image c.in_ok-page.page (c.in_ok-page.ensures.value t tells is) in
+    let same : c.in_ok-page.page / bits_in c.args.store.now.files.page_size ≡ c.in_ok-page.page / bits_in (image_size t.base.image) = ap (λ (n : ℕ). c.in_ok-page.page / bits_in n) is.files.agrees.page_size in
+    omega (arith, same, c.in_ok-page.ensures.up_to tells, c.in_ok-check_places.ensures.once t tells still first room there)

@@ -1,7 +1,7 @@
-use Rattle.std.proofs.Common.{◌≡◌, ℕ, sym, ap, subst, ◌∙◌, arith}
+use Rattle.std.proofs.Common.{◌≡◌, ℕ, ◌+◌, ◌≤◌, sym, ap, subst, ◌∙◌, arith}
 use Rattle.std.specs.Prelude.{true, false, IsTrue, Err}
 use Rattle.std.proofs.lemmas.Bool.{true≢false}
-use Rattle.nb_fields.specs.Places.{is_page_size, is_system_place}
+use Rattle.nb_fields.specs.Places.{is_page_size, bits_in, is_system_place}
 use Rattle.nb_page.proofs.QuietLemmas.{quiet_joined}
 use Rattle.nb_model.specs.Image.{image_size}
 use Rattle.nb_model.specs.Causes.{Cause}
@@ -10,6 +10,7 @@ use Rattle.nb_state.specs.Open.{IsOpen}
 use Rattle.nb_state.specs.Does.{Tested}
 use Rattle.nb_engine.specs.Find.{HoldsMap}
 use Rattle.nb_engine.proofs.PlaceTests.{not_asked, place_behind, room_at, ready_sound, ready_on, way_ends}
+use Rattle.nb_engine.proofs.SearchReads.{maps_few}
 use Rattle.nb_engine.proofs.find.check_places.Goals as goal
 
 pub loop-place-preserved : goal.loop-place-preserved
@@ -37,6 +38,9 @@ loop-place-preserved g c =
       opened = λ t tells is. c.in_ok-place.ensures.open t tells (after t tells is);
       same = c.in_ok-place.ensures.same ∙ same;
       quiet = quiet_joined _ _ _ quiet c.in_ok-place.ensures.quiet;
+      once = λ tells.
+          let few = maps_few (bits_in c.check_place.new.store.files.page_size) (c.loop-place.place + 1) c.in_ok-place.place c.in_ok-place.ensures.not_before in
+          omega (arith, c.loop-place.invariant.once tells, c.in_ok-check_place.ensures.once tells, c.in_ok-place.ensures.up_to tells, few, c.loop-place.invariant.behind, c.in_ok-place.ensures.not_before);
       cause = c.in_ok-place.ensures.cause ∙ c.in_ok-check_place.ensures.cause ∙ c.loop-place.invariant.cause;
     }
 
@@ -69,3 +73,8 @@ returns-then-not-is_system_place-clause-map g c t tells is ends plain =
 
 pub returns-in_err-place-clause-open : goal.returns-in_err-place-clause-open
 returns-in_err-place-clause-open g c t tells is = c.in_err-place.ensures.open t tells (c.in_ok-check_place.ensures.open t tells (c.loop-place.invariant.opened t tells is))
+
+pub returns-then-not-is_system_place-clause-once : goal.returns-then-not-is_system_place-clause-once
+returns-then-not-is_system_place-clause-once g c t tells is next room there =
+    let end : c.loop-place.place ≤ room = (c.loop-place.invariant.next t tells is next).before room there in
+    omega (arith, c.loop-place.invariant.once tells, c.in_ok-check_place.ensures.once tells, c.loop-place.invariant.behind, end)

@@ -1,4 +1,4 @@
-use Rattle.std.proofs.Common.{◌≡◌, ◌-◌, ◌≤◌, length, IsTrue}
+use Rattle.std.proofs.Common.{◌≡◌, ◌+◌, ◌-◌, ◌*◌, ◌≤◌, length, IsTrue}
 use Rattle.std.specs.Prelude.{false}
 use Rattle.nb_fields.specs.Places.{is_system_place}
 use Rattle.nb_page.specs.Quiet.{Quiet}
@@ -20,6 +20,7 @@ invariant-loop-place g l = record {
   opened : (t : Trail) → IsTrue g.H.Host.tells → IsOpen (g.H.Host.world l.fn.host) l.fn.store t → IsOpen (g.H.Host.world l.host) l.store t;
   same : but_pages l.store ≡ but_pages l.fn.store;
   quiet : Quiet (g.H.Host.world l.fn.host) (g.H.Host.world l.host);
+  once : IsTrue g.H.Host.tells → (g.H.Host.world l.host).reads ≤ (g.H.Host.world l.fn.host).reads + 4 * (l.place - l.fn.first);
   cause : g.H.Host.faults l.host ≡ g.H.Host.faults l.fn.host;
 }
 

@@ -4,6 +4,7 @@ use Rattle.nb_state.specs.Does.{Tested}
 use Rattle.nb_engine.specs.Find.{not_there}
 use Rattle.nb_engine.proofs.TestLaws.{inventory_place_is}
 use Rattle.nb_engine.proofs.PlaceTests.{map_tested, there_past, there_below, map_held}
+use Rattle.nb_engine.proofs.SearchReads.{inventory_place_some}
 use Rattle.nb_engine.proofs.find.hold_map.Goals as goal
 
 pub returns-then-was_read-clause-test : goal.returns-then-was_read-clause-test
@@ -40,3 +41,8 @@ returns-clause-map g c t tells is ends =
     let image = t.base.image in
     let there = inventory_place_is image _ c.args.number _ _ c.place_of-place.ensures c.covers-k.ensures.number (c.page_size-page_size.ensures.value ∙ is.files.agrees.page_size) in
     map_held c.read.result image c.args.number c.place_of-place.result c.read.new.self there (c.read.ensures.reads t tells is)
+
+pub returns-clause-once : goal.returns-clause-once
+returns-clause-once g c tells =
+    let some = inventory_place_some c.page_size-page_size.result c.covers-k.result.0 c.page_size-page_size.ensures.one_of in
+    c.read.ensures.once tells (omega (arith, some, c.place_of-place.ensures))

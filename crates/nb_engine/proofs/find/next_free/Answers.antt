@@ -9,6 +9,7 @@ use Rattle.nb_state.specs.Open.{Held}
 use Rattle.nb_state.specs.Does.{Tested}
 use Rattle.nb_engine.proofs.FindLaws.{some_near, taken_behind, found_near, found_none, map_near, map_behind, map_last, inventory_sound}
 use Rattle.nb_engine.proofs.PlaceTests.{never_refused}
+use Rattle.nb_engine.proofs.SearchReads.{no_lower, found_later}
 use Rattle.nb_engine.proofs.find.next_free.Goals as goal
 
 pub returns-in_err-free-clause-sound : goal.returns-in_err-free-clause-sound
@@ -64,3 +65,18 @@ loop-page-preserved g c = record {
   once = search rules;
   cause = c.in_ok-free.ensures.cause ∙ c.loop-page.invariant.cause;
 }
+
+pub returns-in-Some-clause-up_to : goal.returns-in-Some-clause-up_to
+returns-in-Some-clause-up_to g c tells =
+    let w : ℕ = bits_in c.args.store.now.files.page_size in
+    let behind = found_later _ c.loop-page.page c.in-Some.free c.in-Some.is c.in_ok-free.ensures.not_before in
+    let start = no_lower w c.args.from c.loop-page.page c.loop-page.invariant.behind in
+    let end = no_lower w c.loop-page.page c.in-Some.free behind in
+    omega (arith, c.loop-page.invariant.once tells, c.in_ok-free.ensures.once tells, start, end)
+
+pub returns-clause-up_to : goal.returns-clause-up_to
+returns-clause-up_to g c tells =
+    let w : ℕ = bits_in c.args.store.now.files.page_size in
+    let start = no_lower w c.args.from c.max.result (omega (arith, c.max.ensures)) in
+    let end = no_lower w c.args.store.now.files.count c.max.result (omega (arith, c.max.ensures, c.count-count.ensures.value)) in
+    omega (arith, c.loop-page.invariant.once tells, start, end)

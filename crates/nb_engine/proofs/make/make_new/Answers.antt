@@ -18,9 +18,11 @@ loop-store-init g c = record {
   so_far = λ t tells is at low holds. so_far_begun (code_of c.args.kind) (content c.args.own c.args.payload.now) (g.H.Host.world c.args.host.now) c.args.store.now t c.args.first c.args.map.now (quiet_begun (g.H.Host.world c.args.host.now) (g.met.H.Host.timely c.args.host.now)) is at low holds;
   goes = goes_nowhere c.args.store.now c.args.store.now refl;
   low = c.requires.low;
+  behind = omega arith;
   most = c.requires.high;
   map_room = refl;
   scn_room = refl;
+  once = λ tells. omega arith;
   cause = refl;
 }
 
@@ -62,9 +64,11 @@ loop-store-preserved g c = record {
       (c.in_ok-place.ensures.makes u tells opened so.low system);
   goes = goes_on _ _ _ c.loop-store.invariant.goes c.in_ok-place.ensures.goes;
   low = omega (arith, c.loop-store.invariant.low, c.in_ok-place.ensures.later);
+  behind = omega (arith, c.loop-store.invariant.behind, c.in_ok-place.ensures.later);
   most = c.in_ok-place.ensures.most;
   map_room = c.in_ok-place.ensures.map_room ∙ c.loop-store.invariant.map_room;
   scn_room = c.in_ok-place.ensures.scn_room ∙ c.loop-store.invariant.scn_room;
+  once = λ tells. omega (arith, c.loop-store.invariant.once tells, c.in_ok-place.ensures.once tells, c.loop-store.invariant.behind, c.in_ok-place.ensures.later);
   cause = c.in_ok-place.ensures.cause ∙ c.loop-store.invariant.cause;
 }
 
@@ -123,3 +127,6 @@ returns-clause-value g c t tells is at low holds is_well room =
     let plain : is_system_place (image_size u.base.image) p ≡ false =
     ap (λ (s : ℕ). is_system_place s p) (sym (c.page_size-page_size.ensures.value ∙ sym c.loop-store.invariant.goes.page_size ∙ opened.files.agrees.page_size)) ∙ sym c.is_system_place.ensures ∙ c.loop-store-test.false in
     last_number kind payload P old mid new c.args.store.now c.loop-store.store c.take_new.new.store t p (new_of kind payload image).0.strokes (new_of kind payload image).1 c.loop-store.map so plain (is_well, room)
+
+pub returns-clause-once : goal.returns-clause-once
+returns-clause-once g c tells = omega (arith, c.loop-store.invariant.once tells, c.in_ok-take_new.ensures.once tells)

@@ -1,4 +1,4 @@
-use Rattle.std.proofs.Common.{◌≡◌, ◌<◌, ◌≤◌, ◌-◌, length, IsTrue, None}
+use Rattle.std.proofs.Common.{◌≡◌, ◌<◌, ◌≤◌, ◌+◌, ◌-◌, ◌*◌, length, IsTrue, None}
 use Rattle.nb_fields.specs.Kinds.{code_of}
 use Rattle.nb_model.specs.Trail.{Trail}
 use Rattle.nb_model.specs.Forms.{lowest_free}
@@ -16,9 +16,11 @@ invariant-loop-store g l = record {
       → SoFar (code_of l.fn.kind) (content l.fn.own l.fn.payload) (IsWell t.base.image × (no_room (new_of (code_of l.fn.kind) (content l.fn.own l.fn.payload) t.base.image).0 ≡ None)) (g.H.Host.world l.fn.host) (g.H.Host.world l.host) l.fn.store l.store t l.place (new_of (code_of l.fn.kind) (content l.fn.own l.fn.payload) t.base.image).0.strokes (new_of (code_of l.fn.kind) (content l.fn.own l.fn.payload) t.base.image).1 l.map;
   goes : Goes l.fn.store l.store;
   low : 5 ≤ l.place;
+  behind : l.fn.first ≤ l.place;
   most : l.place < 1048576;
   map_room : length l.map ≡ length l.fn.map;
   scn_room : length l.scn_page ≡ length l.fn.scn_page;
+  once : IsTrue g.H.Host.tells → (g.H.Host.world l.host).reads ≤ (g.H.Host.world l.fn.host).reads + 6 * (l.place - l.fn.first);
   cause : g.H.Host.faults l.host ≡ g.H.Host.faults l.fn.host;
 }
 

@@ -1,6 +1,6 @@
 use Rattle.std.proofs.Common.{◌≡◌, ◌<◌, ◌+◌, ◌-◌, ℕ, length, refl, sym, ap, subst, ◌∙◌, arith}
 use Rattle.std.specs.Prelude.{IsTrue, None, Ok, Err}
-use Rattle.nb_fields.specs.Places.{is_page_size}
+use Rattle.nb_fields.specs.Places.{is_page_size, bits_in}
 use Rattle.nb_host.specs.declared.faults.Fault.TheVariants.{Refused}
 use Rattle.nb_host.specs.declared.refusals.Refusal.TheVariants.{Full}
 use Rattle.nb_page.proofs.QuietLemmas.{quiet_joined}
@@ -17,6 +17,7 @@ use Rattle.nb_engine.proofs.PlaceTests.{map_sound}
 use Rattle.nb_engine.proofs.MakeLaws.{well}
 use Rattle.nb_engine.proofs.WhereLaws.{sure_of, where_passed, where_quiet}
 use Rattle.nb_engine.proofs.NewLaws.{image_is, round_is, next_low}
+use Rattle.nb_engine.proofs.SearchReads.{maps_few}
 use Rattle.nb_engine.proofs.make.pass_place.Goals as goal
 
 pub returns-in_err-take_place-clause-makes : goal.returns-in_err-take_place-clause-makes
@@ -94,3 +95,8 @@ returns-clause-makes g c t tells is low system =
     where_quiet tt (IsWell image) (IsWell image × (behind image p < 1048576)) (λ value x. p < length x) (λ next x. IsOnward x p next c.hold_map.new.map) (Ok c.in_ok-next.next) _ _ _ _ _ _ t (round image p).strokes first
     (c.in_ok-hold_map.ensures.same ∙ search.same) (quiet_joined _ _ _ search.quiet c.in_ok-hold_map.ensures.quiet) (λ v open_. c.in_ok-hold_map.ensures.open v tells (search.open v tells open_)) (λ r. r.0) (λ r same. tt)
     (record { found = found; low = next_low u.base.image p c.in_ok-next.next first.ends found; holds = c.in_ok-hold_map.ensures.map u tells then (search.map u tells opened) })
+
+pub returns-clause-once : goal.returns-clause-once
+returns-clause-once g c tells =
+    let few = maps_few (bits_in c.take_place.new.store.files.page_size) (c.args.place + 1) c.in_ok-next.next c.in_ok-next.ensures.not_before in
+    omega (arith, c.in_ok-take_place.ensures.once tells, c.in_ok-next.ensures.up_to tells, c.in_ok-hold_map.ensures.once tells, few, c.in_ok-next.ensures.not_before)

@@ -1,4 +1,4 @@
-use Rattle.std.proofs.Common.{ℕ, sym, ap, ◌∙◌}
+use Rattle.std.proofs.Common.{ℕ, sym, ap, ◌∙◌, arith}
 use Rattle.std.specs.Prelude.{Ok, Err}
 use Rattle.nb_model.specs.Image.{page_at}
 use Rattle.nb_model.specs.Causes.{not_kind}
@@ -7,6 +7,7 @@ use Rattle.nb_engine.specs.Mark.{bit_for, mark_cause, mark_strokes}
 use Rattle.nb_engine.proofs.TestLaws.{inventory_place_is}
 use Rattle.nb_engine.proofs.MarkLaws.{mark_other}
 use Rattle.nb_engine.proofs.DoesLaws.{tries_early, tries_passed, tries_after}
+use Rattle.nb_engine.proofs.SearchReads.{inventory_place_some}
 use Rattle.nb_engine.proofs.mark.mark.Goals as goal
 
 pub returns-in_err-read-clause-tries : goal.returns-in_err-read-clause-tries
@@ -38,3 +39,21 @@ returns-clause-tries g c t tells is =
     let at = inventory_place_is image _ c.args.number _ _ c.place_of.ensures c.covers-k.ensures.number (c.page_size-page_size.ensures.value ∙ is.files.agrees.page_size) in
     tries_after {T = Unit {0}} (Ok tt) _ _ _ _ _ _ t _ _ read.same read.quiet is
     (c.in_ok-put_map.ensures.tries t tells (read.open t tells is) (ap (λ (q : ℕ). not_kind image 2 q) (sym at) ∙ found.test) (found.page ∙ ap (λ (q : ℕ). page_at image q) at))
+
+pub returns-in_err-read-clause-once : goal.returns-in_err-read-clause-once
+returns-in_err-read-clause-once g c tells =
+    let some = inventory_place_some c.page_size-page_size.result c.covers-k.result.0 c.page_size-page_size.ensures.one_of in
+    let read = c.in_err-read.ensures.once tells (omega (arith, some, c.place_of.ensures)) in
+    omega (arith, read)
+
+pub returns-in_err-put_map-clause-once : goal.returns-in_err-put_map-clause-once
+returns-in_err-put_map-clause-once g c tells =
+    let some = inventory_place_some c.page_size-page_size.result c.covers-k.result.0 c.page_size-page_size.ensures.one_of in
+    let read = c.in_ok-read.ensures.once tells (omega (arith, some, c.place_of.ensures)) in
+    omega (arith, read, c.in_err-put_map.ensures.once tells)
+
+pub returns-clause-once : goal.returns-clause-once
+returns-clause-once g c tells =
+    let some = inventory_place_some c.page_size-page_size.result c.covers-k.result.0 c.page_size-page_size.ensures.one_of in
+    let read = c.in_ok-read.ensures.once tells (omega (arith, some, c.place_of.ensures)) in
+    omega (arith, read, c.in_ok-put_map.ensures.once tells)

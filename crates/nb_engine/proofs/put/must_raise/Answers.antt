@@ -8,6 +8,7 @@ use Rattle.nb_engine.proofs.put.must_raise.Goals.{then-number-eq0-via-then-numbe
 use Rattle.nb_engine.proofs.PutLaws.{first-without, scn_page-without, other-with, no_entry_cause, not_raised, must_raise-is, entry_cause-is}
 use Rattle.nb_engine.proofs.RaiseLaws.{scn_page-is, entry-is}
 use Rattle.nb_engine.proofs.DoesLaws.{tested_on, if_err}
+use Rattle.nb_engine.proofs.SearchReads.{scn_place_some}
 use Rattle.nb_engine.proofs.put.must_raise.Goals as goal
 
 pub returns-then-number-eq0-clause-tells : goal.returns-then-number-eq0-clause-tells
@@ -52,3 +53,13 @@ returns-clause-tells g c t tells is =
       value = ap (λ (n : ℕ). nat_lt n c.scn.result) (c.entry.ensures ∙ entry) ∙ ap (λ (n : ℕ). nat_lt (scn_entry image p) n) (c.scn.ensures ∙ ap (λ (h : _). h.scn) c.in_ok-read.ensures.same ∙ is.agrees.scn) ∙ sym (must_raise-is image p has);
       page = λ e. read;
     }
+
+pub returns-in_err-read-clause-once : goal.returns-in_err-read-clause-once
+returns-in_err-read-clause-once g c tells =
+    let some = scn_place_some c.page_size-page_size.result c.covers-k.result.0 c.page_size-page_size.ensures.one_of in
+    c.in_err-read.ensures.once tells (omega (arith, some, c.place_of.ensures))
+
+pub returns-clause-once : goal.returns-clause-once
+returns-clause-once g c tells =
+    let some = scn_place_some c.page_size-page_size.result c.covers-k.result.0 c.page_size-page_size.ensures.one_of in
+    c.in_ok-read.ensures.once tells (omega (arith, some, c.place_of.ensures))

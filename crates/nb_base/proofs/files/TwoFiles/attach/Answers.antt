@@ -1,4 +1,4 @@
-use Rattle.std.proofs.Common.{◌≡◌, ℕ, ◌*◌, List, length, refl, sym, ap, subst, ◌∙◌, arith}
+use Rattle.std.proofs.Common.{◌≡◌, ℕ, ◌+◌, ◌*◌, ◌≤◌, List, length, refl, sym, ap, subst, ◌∙◌, arith}
 use Rattle.std.specs.Prelude.{max}
 use Rattle.nb_host.specs.Files.{File, Files}
 use Rattle.nb_host.specs.World.{World}
@@ -6,8 +6,10 @@ use Rattle.nb_host.specs.Crash.{IsDurable}
 use Rattle.nb_delta.specs.Known.{Known}
 use Rattle.nb_model.specs.Owner.{delta_name, behind_entries}
 use Rattle.nb_base.specs.declared.attach.Start.{Start}
+use Rattle.nb_base.specs.Reads.{table_reads}
 use Rattle.nb_base.proofs.AttachLaws.{there}
 use Rattle.nb_base.proofs.OpenedLaws.{answer_at, start_refused, delta_refused, read_attached}
+use Rattle.nb_base.proofs.OpeningReads.{opened_reads}
 use Rattle.nb_base.proofs.files.TwoFiles.attach.Goals as goal
 
 pub returns-in_err-start-clause-attaches : goal.returns-in_err-start-clause-attaches
@@ -38,6 +40,26 @@ returns-clause-attaches g c tells =
     let size : length c.deref_mut.result.now ≡ c.in_ok-start.start.page_size = omega (arith, c.deref_mut.ensures.len, c.in_ok-page.ensures.len) in
     let main_count = c.in_ok-main_count.ensures.length tells file.bytes (ap (λ (f : Files). f name) met ∙ file.is) is.formed (sym is.page_size ∙ sym size) (is.pages ∙ ap (λ (k : ℕ). c.in_ok-start.start.pages * k) (sym size)) in
     read_attached name file.bytes c.in_ok-start.start is (old.files delta) c.in_ok-delta.delta answer _ old new file.is refl (c.in_ok-keep_files.ensures.quiet.still.files ∙ counted) c.copied.ensures
-    (ap (λ (d : Known). d.page_size) known ∙ c.in_ok-delta.ensures.known.page_size) refl (c.in_ok-count.ensures.count ∙ ap (λ (k : ℕ). max k (behind_entries c.in_ok-delta.delta.entries)) main_count) main_count (ap (λ (d : Known). d.entries) known)
+    (ap (λ (d : Known). d.page_size) known ∙ c.in_ok-delta.ensures.known.page_size) refl (c.in_ok-count.ensures.count ∙ ap (λ (k : ℕ). max k (behind_entries c.in_ok-delta.delta.entries)) main_count) main_count (ap (λ (d : Known). d.entries) known) (ap (λ (d : Known). d.drafted) known ∙ c.in_ok-delta.ensures.known.none_waits)
     (subst (λ (x : File). IsDurable new name x) (ap (λ (f : Files). f name) counted ∙ file.is) (c.in_ok-keep_files.ensures.main tells))
     (λ some. subst (λ (x : File). IsDurable new delta x) (ap (λ (f : Files). f delta) counted) (subst (λ (n : List ℕ). IsDurable new n ((g.H.Host.world c.count_with.new.host).files n)) c.delta-beside.ensures (c.in_ok-keep_files.ensures.delta tells some)))
+
+pub returns-clause-reads : goal.returns-clause-reads
+returns-clause-reads g c tells =
+    let old : World = g.H.Host.world c.args.host.now in
+    let name : List ℕ = c.args.name.now in
+    let start = c.in_ok-start.start in
+    let file = there name _ (c.in_ok-start.ensures.test tells) in
+    let is = c.in_ok-start.ensures.start tells file.bytes file.is in
+    let met = c.in_ok-delta.ensures.quiet.still.files ∙ c.in_ok-start.ensures.quiet.still.files in
+    let size : length c.deref_mut.result.now ≡ start.page_size = omega (arith, c.deref_mut.ensures.len, c.in_ok-page.ensures.len) in
+    let main_count = c.in_ok-main_count.ensures.length tells file.bytes (ap (λ (f : Files). f name) met ∙ file.is) is.formed (sym is.page_size ∙ sym size) (is.pages ∙ ap (λ (k : ℕ). start.pages * k) (sym size)) in
+    let known = c.in_ok-count.ensures.same in
+    let table = c.in_ok-delta.ensures.reads tells in
+    let last = c.in_ok-main_count.ensures.reads tells in
+    let made : (g.H.Host.world c.keep_files.new.host).reads ≡ (g.H.Host.world c.find_length.new.host).reads =
+    c.in_ok-keep_files.ensures.reads ∙ ap (λ (h : _). (g.H.Host.world h).reads) c.in_ok-count.ensures.no_call in
+    let entries = sym (ap (λ (d : Known). d.entries) known) in
+    let table_held = subst (λ (es : List ℕ). (g.H.Host.world c.attach_delta.new.host).reads ≤ (g.H.Host.world c.read_start.new.host).reads + table_reads start.state start.page_size es) entries table in
+    opened_reads (old.files name) file.bytes start _ c.in_ok-main_count.main_count old.reads _ _ _ _ _ is c.in_ok-start.ensures.size file.is main_count c.in_ok-main_count.ensures.most (ap (λ (d : Known). d.page_size) known ∙ c.in_ok-delta.ensures.known.page_size)
+    (c.in_ok-start.ensures.reads tells) table_held last made

@@ -48,5 +48,5 @@ returns-clause-takes g c t tells given full equal =
     record {
       left = subst (λ (h : Held). StrikesFirm old (g.H.Host.world c.clear.new.host) h.name t (finish ∷ [])) c.self.view_is (removed_struck old _ t is reads merges full merged _ _ synced sync.files.still block _ done (λ (file : File). file ≡ None) removed);
       done = on_ok c.clear.result (finish_open old _ t is reads merges full merged _ _ synced sync.files.still block _ done (λ (file : File). file ≡ None) removed _ refl (ap (λ (d : Known). d.page_size) c.clear.ensures.known) refl refl
-          (ap (λ (d : Known). d.entries) c.clear.ensures.known));
+          (ap (λ (d : Known). d.entries) c.clear.ensures.known) (ap (λ (d : Known). d.drafted) c.clear.ensures.known));
     }

@@ -5,7 +5,6 @@ use Rattle.nb_model.specs.Trail.{ShowsIn}
 use Rattle.nb_base.specs.Open.{Held, OfFiles}
 use Rattle.nb_base.specs.Put.{PutLeft}
 use Rattle.nb_base.proofs.PutLaws.{put_left, put_shown}
-use Rattle.nb_base.proofs.WriteLaws.{not_done}
 use Rattle.nb_base.proofs.files.TwoFiles.put_out.Goals as goal
 
 pub returns-in_err-write_page-clause-left : goal.returns-in_err-write_page-clause-left

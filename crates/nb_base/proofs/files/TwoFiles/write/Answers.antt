@@ -24,7 +24,7 @@ returns-clause-takes g c t tells open_ fits forced =
     record {
       left = takes.left;
       done = subst (λ (h : Held). IsOpen new h (after_stroke (page number c.args.page.now) t)) (sym held_is)
-          (seen_open new (written_held held number) (after_stroke (page number c.args.page.now) t) takes.done (agrees_later held t number c.args.page.now fits open_.agrees));
+          (seen_open new (written_held held number) (after_stroke (page number c.args.page.now) t) takes.done (agrees_later held t number c.args.page.now fits open_.agrees) open_.drafted);
     }
 
 pub returns-clause-merged : goal.returns-clause-merged

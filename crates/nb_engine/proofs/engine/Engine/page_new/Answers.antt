@@ -17,6 +17,9 @@ use Rattle.nb_engine.specs.Replies.{page_made}
 use Rattle.nb_engine.proofs.DoesLaws.{seeing, tested_does, refused_does, tries_passed}
 use Rattle.nb_engine.proofs.FullLaws.{lowest_most}
 use Rattle.nb_engine.proofs.NewTurn.{empty_is, header_of, well_of, new_closed, new_full, new_says, made_does}
+use Rattle.nb_engine.specs.Find.{IsRoom}
+use Rattle.nb_engine.proofs.MakeLaws.{well}
+use Rattle.nb_engine.proofs.NewReads.{room_made, new_read}
 use Rattle.nb_engine.proofs.engine.Engine.page_new.Goals as goal
 
 pub returns-then-is_read_only-clause-turn : goal.returns-then-is_read_only-clause-turn
@@ -129,3 +132,18 @@ returns-clause-some g c t tells is =
     let still = tests.open t tells here in
     let some = (c.in_ok-number.ensures.makes t tells still at low (tests.map t tells here)).some in
     record { made = some.made; makes = makes_after (Ok c.in_ok-number.number) w _ _ _ _ _ t some.made (tests.same ∙ ap but_pages c.self.view_is) tests.quiet is some.makes }
+
+pub returns-clause-once : goal.returns-clause-once
+returns-clause-once g c t tells is sound =
+    let w = g.H.Host.world c.args.host.now in
+    let here = subst (λ (h : Held). IsOpen w h t) (sym c.self.view_is) is in
+    let image = t.base.image in
+    let scn : image_scn image < 4294967296 = omega (arith, here.agrees.scn, c.scn-scn.ensures) in
+    let is_well = well_of w _ t here c.self.invariant.0 scn sound in
+    let tests = c.in_ok-first.ensures in
+    let for_zeros = tests.test t 8 (λ p. 0 ∷ 0 ∷ []) tells here (header_of w _ t here scn) sound in
+    let at = tests.value t tells here in
+    let low : c.in_ok-first.first ≤ length image = omega (arith, at, lowest_most image sound.least) in
+    let number = c.in_ok-number.ensures.value t tells (tests.open t tells here) at low (tests.map t tells here) is_well for_zeros in
+    let room : IsRoom image c.in_ok-number.number = subst (IsRoom image) (sym number) (room_made image (well image is_well) for_zeros) in
+    new_read image c.in_ok-first.first c.in_ok-number.number _ _ _ at (tests.once t tells here c.in_ok-number.number room) (c.in_ok-number.ensures.once tells)

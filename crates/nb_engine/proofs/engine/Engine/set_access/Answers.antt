@@ -1,5 +1,6 @@
-use Rattle.std.proofs.Common.{◌≡◌, ℕ, ◌∙◌, refl, sym, ap, subst}
+use Rattle.std.proofs.Common.{◌≡◌, ℕ, ◌∙◌, refl, sym, ap, subst, rules}
 use Rattle.std.specs.Prelude.{None, Some, Ok, Err}
+use denote.Enum.Bare.{same_true, same_false}
 use Rattle.nb_host.specs.declared.refusals.Refusal.TheVariants.{WrongState}
 use Rattle.nb_page.proofs.QuietLemmas.{quiet_begun}
 use Rattle.nb_model.specs.declared.reply.Reply.TheVariants.{Done}
@@ -7,19 +8,24 @@ use Rattle.nb_model.specs.Lines.{flag}
 use Rattle.nb_model.specs.Causes.{Cause, not_state}
 use Rattle.nb_model.specs.Outcomes.{Seen}
 use Rattle.nb_model.specs.Pages.{byte_strokes, access_turn}
+use Rattle.nb_cases.specs.Events.{OnOpen}
+use Rattle.nb_cases.specs.contracts.events.Case.{the_type}
+use Rattle.nb_cases.specs.declared.events.Case.TheVariants as case
+use Rattle.nb_cases.proofs.StateLaws.{goes}
 use Rattle.nb_state.specs.Open.{Held, IsOpen}
 use Rattle.nb_engine.specs.Tries.{Tries}
 use Rattle.nb_engine.specs.Replies.{done}
 use Rattle.nb_engine.proofs.DoesLaws.{seeing, if_err, tries_passed, tries_failed, tries_does}
-use Rattle.nb_engine.proofs.FlagLaws.{access_is, state_other, state_normal}
+use Rattle.nb_engine.proofs.FlagLaws.{access_is}
 use Rattle.nb_engine.proofs.engine.Engine.set_access.Goals as goal
 
-pub returns-then-state-ne0-clause-turn : goal.returns-then-state-ne0-clause-turn
-returns-then-state-ne0-clause-turn g c s t tells same is =
+pub returns-then-eq-clause-turn : goal.returns-then-eq-clause-turn
+returns-then-eq-clause-turn g c s t tells same is =
     let first = g.H.Host.world c.args.host.now in
     let here = subst (λ (h : Held). IsOpen first h t) (sym c.self.view_is) is in
     let state = c.state-state.ensures.value ∙ here.files.agrees.state in
-    let other = state_other t.base.image (λ e. c.if-state-ne0.true (state ∙ e)) ∙ ap (λ (n : ℕ). Some (WrongState n)) (sym (c.from.ensures ∙ state)) in
+    let says : OnOpen (not_state 0) c.state-state.result case.WrongState = subst (OnOpen (not_state 0) c.state-state.result) (same_true the_type (search rules) c.case_of.result case.WrongState (sym c.eq.ensures ∙ c.if-eq.true)) c.case_of.ensures in
+    let other = says t.base.image (sym state) ∙ ap (λ (n : ℕ). Some (WrongState n)) (sym c.from.ensures) in
     tries_does done _ first first _ _ t s (λ (x : Seen). access_turn x c.args.closed) _ Done _ same (access_is (seeing s t.base) c.args.closed) tt
     (tries_failed (Unit {0}) _ first first _ _ t (not_state 0 t.base.image) _ other refl (quiet_begun first (g.met.H.Host.timely c.args.host.now)) is is)
 
@@ -28,7 +34,9 @@ returns-in_err-put_flag-clause-turn g c s t tells same is =
     let old = g.H.Host.world c.args.host.now in
     let new = g.H.Host.world c.put_flag.new.host in
     let here = subst (λ (h : Held). IsOpen old h t) (sym c.self.view_is) is in
-    let free : None ≡ not_state 0 t.base.image = sym (state_normal t.base.image (sym here.files.agrees.state ∙ sym c.state-state.ensures.value ∙ c.if-state-ne0.false)) in
+    let other = same_false the_type c.case_of.result case.WrongState (sym c.eq.ensures ∙ c.if-eq.false) in
+    let state = c.state-state.ensures.value ∙ here.files.agrees.state in
+    let free : None ≡ not_state 0 t.base.image = sym (goes (not_state 0) c.state-state.result c.state-state.ensures.most c.case_of.result c.case_of.ensures other t.base.image (sym state)) in
     let fault = c.in_err-put_flag.field-0.0 in
     let result = c.from_residual.result in
     let xs = byte_strokes 65 (flag c.args.closed) t.base.image in
@@ -43,7 +51,9 @@ returns-clause-turn g c s t tells same is =
     let old = g.H.Host.world c.args.host.now in
     let new = g.H.Host.world c.put_flag.new.host in
     let here = subst (λ (h : Held). IsOpen old h t) (sym c.self.view_is) is in
-    let free : None ≡ not_state 0 t.base.image = sym (state_normal t.base.image (sym here.files.agrees.state ∙ sym c.state-state.ensures.value ∙ c.if-state-ne0.false)) in
+    let other = same_false the_type c.case_of.result case.WrongState (sym c.eq.ensures ∙ c.if-eq.false) in
+    let state = c.state-state.ensures.value ∙ here.files.agrees.state in
+    let free : None ≡ not_state 0 t.base.image = sym (goes (not_state 0) c.state-state.result c.state-state.ensures.most c.case_of.result c.case_of.ensures other t.base.image (sym state)) in
     let xs = byte_strokes 65 (flag c.args.closed) t.base.image in
     let made = subst (λ (n : ℕ). Tries {T = Unit {0}} (Ok tt) old new c.self.inside.store c.put_flag.new.store t None (byte_strokes n (flag c.args.closed) t.base.image)) (ap (λ (place : ℕ × ℕ). place.0) c.place-at.ensures) (c.in_ok-put_flag.ensures.tries t tells here) in
     let tries = subst (λ (k : Cause). Tries {T = Unit {0}} (Ok tt) old new c.self.inside.store c.put_flag.new.store t k xs) free made in

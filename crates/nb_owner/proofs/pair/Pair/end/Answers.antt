@@ -1,53 +1,56 @@
-use Rattle.std.proofs.Common.{[], ◌∷◌, refl, ap, sym, subst, ◌∙◌, arith}
+use Rattle.std.proofs.Common.{List, ℕ, [], ◌∷◌, inl, sym, subst, ap, ◌∙◌}
+use Rattle.nb_change.proofs.ChangesLaws.{weaker_has}
+use Rattle.nb_change.proofs.ReachedLaws.{strokes_composed}
 use Rattle.nb_model.specs.Strokes.{ends}
-use Rattle.nb_model.specs.Trail.{after_stroke}
+use Rattle.nb_model.specs.Trail.{StandsIn, after_stroke}
+use Rattle.nb_base.specs.Open.{OfFiles}
 use Rattle.nb_base.specs.Takes.{Strikes}
-use Rattle.nb_base.proofs.FirmLaws.{strikes_left}
 use Rattle.nb_base.proofs.WriteLaws.{not_done}
-use Rattle.nb_cache.specs.Held.{NoneWaits}
-use Rattle.nb_owner.specs.Open.{Held, Pages, IsOpen, AreOf}
-use Rattle.nb_owner.specs.contracts.pair.Pair.{the_view}
-use Rattle.nb_owner.proofs.RankLaws.{none_found}
-use Rattle.nb_owner.proofs.OpenLaws.{of_ended, none_waits_dropped, gone_behind, valid_gone}
-use Rattle.nb_owner.proofs.WaitLaws.{files_open, open_settled}
+use Rattle.std.specs.Prelude.{nat_eq}
+use Rattle.std.specs.Map.{remove_entry}
+use Rattle.nb_owner.specs.Open.{Pages, bare}
+use Rattle.nb_owner.proofs.OpenLaws.{bare_removed}
 use Rattle.nb_owner.proofs.pair.Pair.end.Goals as goal
 
-pub returns-in_err-end-clause-takes : goal.returns-in_err-end-clause-takes
-returns-in_err-end-clause-takes g c t tells given =
+pub returns-in_err-write_out-clause-takes : goal.returns-in_err-write_out-clause-takes
+returns-in_err-write_out-clause-takes g c t tells is = record {
+  left = weaker_has (g.H.Host.world c.args.host.now) (g.H.Host.world c.write_out.new.host) (OfFiles c.args.self.now.files.name) _ _ (c.write_out.ensures.takes t tells is).left (λ files so. inl so);
+  done = not_done c.from_residual.result _ c.from_residual.ensures.0;
+}
+
+pub end_files-requires-clause-stalled : goal.end_files-requires-clause-stalled
+end_files-requires-clause-stalled g c = ap (λ f. f.state) c.write_out.ensures.files ∙ c.requires.stalled
+
+pub returns-in_err-end_files-clause-takes : goal.returns-in_err-end_files-clause-takes
+returns-in_err-end_files-clause-takes g c t tells is =
     let old = g.H.Host.world c.args.host.now in
-    let new = g.H.Host.world c.end.new.host in
-    let is = subst (λ (h : Held). IsOpen old h t) (sym c.self.view_is) given in
-    let none = c.self.invariant.2 (λ e. absurd (omega (arith, e, ap (λ (h : Held). h.files.state) c.self.view_is, c.requires.stalled))) in
+    let mid = g.H.Host.world c.write_out.new.host in
+    let new = g.H.Host.world c.end_files.new.host in
+    let name = c.args.self.now.files.name in
+    let first = c.in_ok-write_out.ensures.takes t tells is in
     record {
-      left = subst (λ (h : Held). Strikes old new h.files.name t (ends ∷ [])) c.self.view_is
-          (strikes_left old new c.self.inside.files.name t (ends ∷ []) (c.end.ensures.takes t tells (files_open old (the_view c.self.inside) t none is)).left);
-      done = not_done c.from_residual.result _ c.from_residual.ensures.0;
+      left = strokes_composed after_stroke (StandsIn name) (OfFiles name) old mid new t [] (ends ∷ []) first.left
+          (subst (λ (n : List ℕ). Strikes mid new n t (ends ∷ [])) (ap (λ f. f.name) c.write_out.ensures.files) (c.end_files.ensures.takes t tells first.done).left);
+      done = not_done c.from_residual-in_err-end_files.result _ c.from_residual-in_err-end_files.ensures.0;
     }
-
-pub drop_page-requires : goal.drop_page-requires
-drop_page-requires g c = none_found c.self.inside.cache.pages (c.self.invariant.2 (λ e. absurd (omega (arith, e, ap (λ (h : Held). h.files.state) c.self.view_is, c.requires.stalled)))) 0
-
-pub invariant_of-self-2 : goal.invariant_of-self-2
-invariant_of-self-2 g c =
-    let none = c.self.invariant.2 (λ e. absurd (omega (arith, e, ap (λ (h : Held). h.files.state) c.self.view_is, c.requires.stalled))) in (
-      valid_gone c.self.inside.cache c.drop_page.new.self c.self.inside.files.page_size c.end.new.self.page_size c.self.invariant.0 c.end.ensures.page_size c.drop_page.ensures,
-      c.self.invariant.1 ∙ sym c.end.ensures.page_size,
-      (λ stalled. subst (λ (ps : Pages). NoneWaits ps) (sym (gone_behind c.self.inside.cache c.drop_page.new.self c.self.inside.files.page_size c.self.inside.files.page_size c.self.invariant.0 refl c.drop_page.ensures))
-          (none_waits_dropped c.self.inside.cache.pages c.self.invariant.0.once none)),
-    )
 
 pub returns-clause-takes : goal.returns-clause-takes
-returns-clause-takes g c t tells given =
+returns-clause-takes g c t tells is =
     let old = g.H.Host.world c.args.host.now in
-    let new = g.H.Host.world c.end.new.host in
-    let is = subst (λ (h : Held). IsOpen old h t) (sym c.self.view_is) given in
-    let none = c.self.invariant.2 (λ e. absurd (omega (arith, e, ap (λ (h : Held). h.files.state) c.self.view_is, c.requires.stalled))) in
-    let takes = c.in_ok-end.ensures.takes t tells (files_open old (the_view c.self.inside) t none is) in
-    let gone = gone_behind c.self.inside.cache c.drop_page.new.self c.self.inside.files.page_size c.self.inside.files.page_size c.self.invariant.0 refl c.drop_page.ensures in
-    let now : Held = record { files = c.end.new.self; pages = c.drop_page.new.self.pages; cap = c.drop_page.new.self.cap } in
+    let mid = g.H.Host.world c.write_out.new.host in
+    let new = g.H.Host.world c.end_files.new.host in
+    let name = c.args.self.now.files.name in
+    let first = c.in_ok-write_out.ensures.takes t tells is in
+    let second = c.in_ok-end_files.ensures.takes t tells first.done in
     record {
-      left = subst (λ (h : Held). Strikes old new h.files.name t (ends ∷ [])) c.self.view_is
-          (strikes_left old new c.self.inside.files.name t (ends ∷ []) takes.left);
-      done = open_settled new now (after_stroke (ends) t) (subst (λ (ps : Pages). NoneWaits ps) (sym gone) (none_waits_dropped c.self.inside.cache.pages c.self.invariant.0.once none)) takes.done
-          (subst (λ (ps : Pages). AreOf (after_stroke (ends) t).base.image ps) (sym gone) (of_ended c.self.inside.cache.pages c.self.invariant.0.once t is.pages));
+      left = strokes_composed after_stroke (StandsIn name) (OfFiles name) old mid new t [] (ends ∷ []) first.left
+          (subst (λ (n : List ℕ). Strikes mid new n t (ends ∷ [])) (ap (λ f. f.name) c.write_out.ensures.files) second.left);
+      done = second.done;
     }
+
+pub returns-clause-others : goal.returns-clause-others
+returns-clause-others g c =
+    ap (λ (ps : Pages). bare ps) c.in_ok-end_files.ensures.others ∙ bare_removed 0 c.write_out.new.self.pages ∙ ap (remove_entry (nat_eq 0)) c.write_out.ensures.bare ∙ sym (bare_removed 0 c.args.self.now.pages)
+
+pub returns-in_err-write_out-clause-entries : goal.returns-in_err-write_out-clause-entries
+returns-in_err-write_out-clause-entries g c = ap (λ f. f.entries) c.write_out.ensures.files

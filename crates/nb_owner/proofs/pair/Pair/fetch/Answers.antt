@@ -1,10 +1,10 @@
 use Rattle.std.proofs.Common.{◌≡◌, ◌<◌, ⊎_elim, length, refl, ap, sym, subst, ◌∙◌, arith}
-use Rattle.std.specs.Prelude.{None}
+use Rattle.std.specs.Prelude.{None, is_some}
 use Rattle.nb_cache.specs.Held.{slot_of, rank_of, dropped}
 use Rattle.nb_owner.specs.Open.{Held, IsOpen, IsValid, cache_of, bare, used}
 use Rattle.nb_owner.specs.contracts.pair.Pair.{the_view}
 use Rattle.nb_owner.proofs.OpenLaws.{bare_put}
-use Rattle.nb_owner.proofs.WaitLaws.{quiet_open, read_open, absent_page, kept_ranks}
+use Rattle.nb_owner.proofs.WaitLaws.{quiet_open, read_open, absent_page, absent_waits, clean_entry, sees_size, kept_ranks}
 use Rattle.nb_owner.proofs.pair.Pair.fetch.Goals as goal
 
 pub returns-in_err-read-clause-open : goal.returns-in_err-read-clause-open
@@ -28,10 +28,10 @@ returns-clause-open g c t tells given =
     ⊎_elim
     (λ (same : c.keep_read.new.self ≡ now). subst (λ (h : Held). IsOpen new h t) (sym same) opened)
     (λ kept.
-    let low : c.args.number < length is.sees.base.image = omega (arith, kept.0, ap (λ f. f.count) c.read.ensures.same, is.files.agrees.count) in
+    let low : c.args.number < length is.sees.base.image = omega (arith, kept.0, ap (λ f. f.count) c.read.ensures.same, is.agrees.count, is.waits.behind.long) in
     subst (λ (h : Held). IsOpen new h t) (sym kept.2)
     (read_open new now t opened valid c.args.number c.read.new.into absent kept.1
-    (c.in_ok-read.ensures.page is.sees tells is.files low ∙ absent_page old (the_view c.self.inside) t is c.args.number absent)))
+    (c.in_ok-read.ensures.page is.sees.base tells is.files.shows (sees_size old (the_view c.self.inside) t is) (clean_entry old (the_view c.self.inside) t is c.args.number (ap is_some (absent_waits c.self.inside.cache.pages c.args.number absent))) low ∙ absent_page old (the_view c.self.inside) t is c.args.number absent)))
     c.keep_read.ensures.either
 
 pub returns-clause-used : goal.returns-clause-used
@@ -41,6 +41,14 @@ returns-clause-used g c low drops =
     let kept = c.keep_read.ensures.used (subst (λ (h : Held). c.args.number < h.files.count) (sym same) low) (subst (λ (h : Held). dropped (cache_of h) c.args.number ≡ None) (sym same) drops) in
     ap (λ (h : Held). bare h.pages) kept ∙ bare_put c.args.number c.self.inside.cache.cap (record { bytes = c.read.new.into; rank = None }) c.self.inside.cache.pages
     ∙ ap (λ (h : Held). used (bare h.pages) h.cap c.args.number c.read.new.into) same
+
+pub returns-clause-page : goal.returns-clause-page
+returns-clause-page g c t tells given low =
+    let old = g.H.Host.world c.args.host.now in
+    let is = subst (λ (h : Held). IsOpen old h t) (sym c.self.view_is) given in
+    let absent : slot_of c.self.inside.cache.pages c.args.number ≡ None = ap (λ (h : Held). slot_of h.pages c.args.number) c.self.view_is ∙ c.requires.absent in
+    c.in_ok-read.ensures.page is.sees.base tells is.files.shows (sees_size old (the_view c.self.inside) t is) (clean_entry old (the_view c.self.inside) t is c.args.number (ap is_some (absent_waits c.self.inside.cache.pages c.args.number absent)))
+    (omega (arith, low, is.waits.behind.long)) ∙ absent_page old (the_view c.self.inside) t is c.args.number absent
 
 pub returns-clause-ranks : goal.returns-clause-ranks
 returns-clause-ranks g c p =

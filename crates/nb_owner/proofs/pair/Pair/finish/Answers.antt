@@ -1,4 +1,4 @@
-use Rattle.std.proofs.Common.{[], ◌∷◌, length, refl, ap, sym, subst, ◌∙◌, arith}
+use Rattle.std.proofs.Common.{[], ◌∷◌, length, refl, ap, sym, subst, ◌∙◌}
 use Rattle.nb_model.specs.Strokes.{finish}
 use Rattle.nb_model.specs.Trail.{after_stroke}
 use Rattle.nb_base.specs.Open.{AreMerged}
@@ -18,7 +18,7 @@ returns-in_err-finish-clause-takes g c t tells given full merged =
     let old = g.H.Host.world c.args.host.now in
     let new = g.H.Host.world c.finish.new.host in
     let is = subst (λ (h : Held). IsOpen old h t) (sym c.self.view_is) given in
-    let none = c.self.invariant.2 (λ e. absurd (omega (arith, e, ap (λ (h : Held). h.files.state) c.self.view_is, c.requires.merge))) in
+    let none = c.self.invariant.2 (ap (λ (h : Held). h.files.state) c.self.view_is ∙ c.requires.merge) in
     record {
       left = subst (λ (h : Held). Strikes old new h.files.name t (finish ∷ [])) c.self.view_is
           (strikes_left old new c.self.inside.files.name t (finish ∷ []) (c.finish.ensures.takes t tells (files_open old (the_view c.self.inside) t none is) full (subst (λ (h : Held). AreMerged old h.files (length h.files.entries)) (sym c.self.view_is) merged)).left);
@@ -26,11 +26,11 @@ returns-in_err-finish-clause-takes g c t tells given full merged =
     }
 
 pub drop_page-requires : goal.drop_page-requires
-drop_page-requires g c = none_found c.self.inside.cache.pages (c.self.invariant.2 (λ e. absurd (omega (arith, e, ap (λ (h : Held). h.files.state) c.self.view_is, c.requires.merge)))) 0
+drop_page-requires g c = none_found c.self.inside.cache.pages (c.self.invariant.2 (ap (λ (h : Held). h.files.state) c.self.view_is ∙ c.requires.merge)) 0
 
 pub invariant_of-self-2 : goal.invariant_of-self-2
 invariant_of-self-2 g c =
-    let none = c.self.invariant.2 (λ e. absurd (omega (arith, e, ap (λ (h : Held). h.files.state) c.self.view_is, c.requires.merge))) in (
+    let none = c.self.invariant.2 (ap (λ (h : Held). h.files.state) c.self.view_is ∙ c.requires.merge) in (
       valid_gone c.self.inside.cache c.drop_page.new.self c.self.inside.files.page_size c.finish.new.self.page_size c.self.invariant.0 c.finish.ensures.page_size c.drop_page.ensures,
       c.self.invariant.1 ∙ sym c.finish.ensures.page_size,
       (λ stalled. subst (λ (ps : Pages). NoneWaits ps) (sym (gone_behind c.self.inside.cache c.drop_page.new.self c.self.inside.files.page_size c.self.inside.files.page_size c.self.invariant.0 refl c.drop_page.ensures))
@@ -42,7 +42,7 @@ returns-clause-takes g c t tells given full merged =
     let old = g.H.Host.world c.args.host.now in
     let new = g.H.Host.world c.finish.new.host in
     let is = subst (λ (h : Held). IsOpen old h t) (sym c.self.view_is) given in
-    let none = c.self.invariant.2 (λ e. absurd (omega (arith, e, ap (λ (h : Held). h.files.state) c.self.view_is, c.requires.merge))) in
+    let none = c.self.invariant.2 (ap (λ (h : Held). h.files.state) c.self.view_is ∙ c.requires.merge) in
     let takes = c.in_ok-finish.ensures.takes t tells (files_open old (the_view c.self.inside) t none is) full (subst (λ (h : Held). AreMerged old h.files (length h.files.entries)) (sym c.self.view_is) merged) in
     let gone = gone_behind c.self.inside.cache c.drop_page.new.self c.self.inside.files.page_size c.self.inside.files.page_size c.self.invariant.0 refl c.drop_page.ensures in
     let now : Held = record { files = c.finish.new.self; pages = c.drop_page.new.self.pages; cap = c.drop_page.new.self.cap } in

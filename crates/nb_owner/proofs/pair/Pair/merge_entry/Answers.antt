@@ -1,4 +1,4 @@
-use Rattle.std.proofs.Common.{[], ap, sym, subst, arith}
+use Rattle.std.proofs.Common.{[], ap, sym, subst, ◌∙◌}
 use Rattle.nb_change.proofs.ResultLaws.{on_ok_then}
 use Rattle.nb_base.specs.Open.{AreMerged}
 use Rattle.nb_base.specs.Takes.{Strikes}
@@ -13,7 +13,7 @@ returns-clause-takes g c t tells given full =
     let old = g.H.Host.world c.args.host.now in
     let new = g.H.Host.world c.merge_entry.new.host in
     let is = subst (λ (h : Held). IsOpen old h t) (sym c.self.view_is) given in
-    let none = c.self.invariant.2 (λ e. absurd (omega (arith, e, ap (λ (h : Held). h.files.state) c.self.view_is, c.requires.merge))) in
+    let none = c.self.invariant.2 (ap (λ (h : Held). h.files.state) c.self.view_is ∙ c.requires.merge) in
     let takes = c.merge_entry.ensures.takes t tells (files_open old (the_view c.self.inside) t none is) full in
     let now : Held = record { files = c.merge_entry.new.self; pages = c.self.inside.cache.pages; cap = c.self.inside.cache.cap } in
     record {
@@ -25,5 +25,5 @@ pub returns-clause-merged : goal.returns-clause-merged
 returns-clause-merged g c t tells given full merged =
     let old = g.H.Host.world c.args.host.now in
     let is = subst (λ (h : Held). IsOpen old h t) (sym c.self.view_is) given in
-    let none = c.self.invariant.2 (λ e. absurd (omega (arith, e, ap (λ (h : Held). h.files.state) c.self.view_is, c.requires.merge))) in
+    let none = c.self.invariant.2 (ap (λ (h : Held). h.files.state) c.self.view_is ∙ c.requires.merge) in
     c.merge_entry.ensures.merged t tells (files_open old (the_view c.self.inside) t none is) full (subst (λ (h : Held). AreMerged old h.files c.args.k) (sym c.self.view_is) merged)

@@ -14,8 +14,8 @@ returns-in-Some-clause-next c =
     let goes : GoesFirst c.self.inside.cache.pages c.in-Some.number c.in-Some.field-0-1 = c.in-Some.ensures in
     (c.in-Some.field-0-1, sym (ap (λ (h : Held). rank_of h.pages c.in-Some.number) c.self.view_is) ∙ first_waits c.self.inside.cache.pages c.self.invariant.0.once c.in-Some.number c.in-Some.field-0-1 goes)
 
-pub returns-in-Some-clause-outside : goal.returns-in-Some-clause-outside
-returns-in-Some-clause-outside c stalled =
+pub returns-in-Some-clause-merge : goal.returns-in-Some-clause-merge
+returns-in-Some-clause-merge c merges =
     let goes : GoesFirst c.self.inside.cache.pages c.in-Some.number c.in-Some.field-0-1 = c.in-Some.ensures in
-    let none = c.self.invariant.2 (λ e. stalled (sym (ap (λ (h : Held). h.files.state) c.self.view_is) ∙ e)) in
+    let none = c.self.invariant.2 (ap (λ (h : Held). h.files.state) c.self.view_is ∙ merges) in
     absurd (none_some c.in-Some.field-0-1 (sym (none_found c.self.inside.cache.pages none c.in-Some.number) ∙ first_waits c.self.inside.cache.pages c.self.invariant.0.once c.in-Some.number c.in-Some.field-0-1 goes))

@@ -30,7 +30,7 @@ returns-in_ok-sync-in-Some-clause-out g c t is tells unsettled normal =
     let both = c.in_ok-put_scn_pages-in-Some.ensures.out is.sees t tells (start_way (g.H.Host.world c.args.host.now) c.args.self.now t is normal) unsettled in
     let out = subst (λ (h : Held). GoesOut mid h is.sees t (IsOnTheWay is.sees t)) (sym c.self.view_is) both.0 in
     let none = subst (λ (h : Held). NoScnWaits t h.pages) (sym c.self.view_is) both.1 in
-    let kept = c.in_ok-sync-in-Some.ensures.kept out.reads.base tells (reads_agree mid held is.sees t (IsOnTheWay is.sees t) out) out.reads.opens in
+    let kept = c.in_ok-sync-in-Some.ensures.kept out.reads.base tells (reads_agree mid held is.sees t (IsOnTheWay is.sees t) out) out.drafted out.reads.opens in
     let firm = synced_firm mid new held is.sees t out unsettled none (subst (λ (f : Rattle.nb_base.specs.Open.Held). AreOpen new f (settled out.reads.base)) c.sync.ensures.same kept) in (
       subst (λ (f : Rattle.nb_base.specs.Open.Held). let h : Held = record { files = f; pages = c.self.inside.cache.pages; cap = c.self.inside.cache.cap } in GoesOut new h is.sees t (IsFirm t)) (sym c.sync.ensures.same) firm,
       none,
@@ -42,5 +42,5 @@ returns-in-None-clause-left g c t tells is unsettled normal =
 
 pub returns-in-None-clause-out : goal.returns-in-None-clause-out
 returns-in-None-clause-out g c t is tells unsettled normal =
-    let none = none_scn t c.args.self.now.pages is.waits.each c.in-None.ensures in
+    let none = none_scn t c.args.self.now.pages normal is.waits.each c.in-None.ensures in
     (start_firm (g.H.Host.world c.args.host.now) c.args.self.now t is normal none, none)

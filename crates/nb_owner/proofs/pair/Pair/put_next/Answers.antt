@@ -34,8 +34,8 @@ invariant_of-self-2 g c =
     let same = ap (λ f. f.page_size) c.put_out.ensures.same in (
       valid_marked c.self.inside.cache c.clean.new.self c.self.inside.files.page_size c.put_out.new.self.page_size c.self.invariant.0 same c.args.number _ c.clean.ensures,
       c.self.invariant.1 ∙ sym same,
-      (λ stalled. subst (λ k. NoneWaits k) (sym (ap (λ (h : Rattle.nb_cache.specs.Held.Held). h.pages) c.clean.ensures))
-          (marked_none c.args.number c.self.inside.cache.pages (c.self.invariant.2 (λ e. stalled (ap (λ f. f.state) c.put_out.ensures.same ∙ e))))),
+      (λ merges. subst (λ k. NoneWaits k) (sym (ap (λ (h : Rattle.nb_cache.specs.Held.Held). h.pages) c.clean.ensures))
+          (marked_none c.args.number c.self.inside.cache.pages (c.self.invariant.2 (sym (ap (λ f. f.state) c.put_out.ensures.same) ∙ merges)))),
     )
 
 pub returns-clause-left : goal.returns-clause-left

@@ -69,4 +69,4 @@ returns-clause-left g c f t tells given cond = (c.loop-number.invariant.out f t 
 pub returns-clause-out : goal.returns-clause-out
 returns-clause-out g c f t tells given cond =
     let so = c.loop-number.invariant.out f t tells given cond in
-    (so.1, none_scn t c.loop-number.self.pages so.1.each c.in_default.ensures)
+    (so.1, none_scn t c.loop-number.self.pages so.1.normal so.1.each c.in_default.ensures)

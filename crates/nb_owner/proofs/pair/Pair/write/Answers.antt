@@ -1,9 +1,8 @@
 use Rattle.std.proofs.Common.{◌≡◌, ℕ, List, [], ◌∷◌, inl, refl, sym, subst, ap, ◌∙◌, arith}
-use Rattle.std.specs.Prelude.{true, false, is_some, nat_eq, Result, Ok, Err, IsErr, IsErrAnd}
+use Rattle.std.specs.Prelude.{is_some, nat_eq, Result, Ok, Err, IsErr, IsErrAnd}
 use Rattle.nb_host.specs.declared.faults.Fault.{Fault}
 use Rattle.std.proofs.lemmas.Bool.{true≢false}
 use Rattle.lru.specs.LruCache.{lru_cache, put_entries}
-use Rattle.nb_fields.specs.Places.{is_scn_place}
 use Rattle.nb_change.proofs.ChangesLaws.{begun, weaker_has}
 use Rattle.nb_change.proofs.ReachedLaws.{strokes_composed}
 use Rattle.nb_change.specs.Changes.{Reached}
@@ -13,29 +12,39 @@ use Rattle.nb_base.specs.Open.{OfFiles, AreMerged}
 use Rattle.nb_base.specs.Takes.{Strikes}
 use Rattle.nb_base.proofs.WriteLaws.{not_done}
 use Rattle.nb_cache.specs.Held.{Slot, rank_of}
-use Rattle.nb_owner.specs.Open.{Held, IsOpen, cache_of, bare, used}
+use Rattle.nb_owner.specs.Open.{Held, Pages, IsOpen, cache_of, bare, used}
 use Rattle.nb_owner.proofs.RankLaws.{marked_bare, rank_marked, rank_marked_other, rank_kept_other, slot_kept}
 use Rattle.nb_owner.proofs.OpenLaws.{bare_put}
-use Rattle.nb_owner.proofs.OutLaws.{rank_normal}
-use Rattle.nb_owner.proofs.WaitLaws.{may_wait_parts, wait_open}
+use Rattle.nb_owner.proofs.WaitLaws.{may_wait_parts, held_open}
 use Rattle.nb_owner.proofs.pair.Pair.write.Goals as goal
 
-pub hold-requires-clause-normal : goal.hold-requires-clause-normal
-hold-requires-clause-normal g c = (may_wait_parts c.args.self.now c.args.number c.args.forced (sym c.may_wait.ensures.value ∙ c.if-may_wait.true)).1
+pub hold-requires-clause-early : goal.hold-requires-clause-early
+hold-requires-clause-early g c = (may_wait_parts c.args.self.now c.args.number c.args.forced (sym c.may_wait.ensures.value ∙ c.if-may_wait.true)).1
 
 pub hold-requires-clause-drops_none : goal.hold-requires-clause-drops_none
 hold-requires-clause-drops_none g c = (may_wait_parts c.args.self.now c.args.number c.args.forced (sym c.may_wait.ensures.value ∙ c.if-may_wait.true)).4
+
+pub returns-in_err-hold-clause-takes : goal.returns-in_err-hold-clause-takes
+returns-in_err-hold-clause-takes g c t tells is fits forced =
+    let old = g.H.Host.world c.args.host.now in
+    let name = c.args.self.now.files.name in
+    record {
+      left = subst (λ host. Strikes old (g.H.Host.world host) name t (page c.args.number c.args.page.now ∷ [])) (sym c.hold.ensures.no_call)
+          (begun old (OfFiles name) (Reached after_stroke (StandsIn name) t (page c.args.number c.args.page.now ∷ [])) (g.met.H.Host.timely c.args.host.now) (λ files all. inl (is.left files all)));
+      done = not_done c.from_residual.result _ c.from_residual.ensures.0;
+    }
 
 pub returns-then-may_wait-clause-takes : goal.returns-then-may_wait-clause-takes
 returns-then-may_wait-clause-takes g c t tells is fits forced =
     let w = g.H.Host.world c.args.host.now in
     let name = c.args.self.now.files.name in
     let parts = may_wait_parts c.args.self.now c.args.number c.args.forced (sym c.may_wait.ensures.value ∙ c.if-may_wait.true) in
+    let ok = c.in_ok-hold.ensures in
     record {
-      left = begun w (OfFiles name) (Reached after_stroke (StandsIn name) t (page c.args.number c.args.page.now ∷ [])) (g.met.H.Host.timely c.args.host.now) (λ files all. inl (is.left files all));
-      done = subst (λ (h : Held). IsOpen w h (after_stroke (page c.args.number c.args.page.now) t)) (sym c.hold.ensures.held)
-          (wait_open w c.args.self.now t is c.may_wait.ensures.valid c.args.number _ c.args.page.now parts.2 parts.3 c.requires.most c.requires.some parts.1 (sym forced ∙ parts.0) parts.4
-          (ap (λ n. elim (is_scn_place n c.args.number) as (λ z. ℕ) [ true ↦ 2 | false ↦ 3 ]) is.agrees.page_size ∙ sym (rank_normal t.base.image c.args.number (sym is.agrees.state ∙ parts.1))));
+      left = subst (λ host. Strikes w (g.H.Host.world host) name t (page c.args.number c.args.page.now ∷ [])) (sym c.hold.ensures.no_call)
+          (begun w (OfFiles name) (Reached after_stroke (StandsIn name) t (page c.args.number c.args.page.now ∷ [])) (g.met.H.Host.timely c.args.host.now) (λ files all. inl (is.left files all)));
+      done = subst (λ host. IsOpen (g.H.Host.world host) c.hold.new.self (after_stroke (page c.args.number c.args.page.now) t)) (sym c.hold.ensures.no_call)
+          (held_open w c.args.self.now t is c.may_wait.ensures.valid c.args.number c.args.page.now parts.2 parts.3 c.requires.most c.requires.some parts.1 (sym forced ∙ parts.0) parts.4 c.hold.new.self ok.held ok.cap (λ normal. (ok.normal normal).1) ok.drafts);
     }
 
 pub returns-then-may_wait-clause-merged : goal.returns-then-may_wait-clause-merged
@@ -45,23 +54,24 @@ returns-then-may_wait-clause-merged g c t k tells is fits merges merged =
 
 pub returns-then-may_wait-clause-waits : goal.returns-then-may_wait-clause-waits
 returns-then-may_wait-clause-waits g c may = (
-  refl,
-  refl,
-  ap (λ (h : Held). is_some (rank_of h.pages c.args.number)) c.hold.ensures.held
+  (λ normal. refl),
+  tt,
+  c.hold.ensures.no_call,
+  ap (λ (ps : Pages). is_some (rank_of ps c.args.number)) c.in_ok-hold.ensures.held
       ∙ ap is_some (rank_marked c.args.number _ (put_entries nat_eq (lru_cache c.args.self.now.pages c.args.self.now.cap) c.args.number (record { bytes = c.args.page.now; rank = rank_of c.args.self.now.pages c.args.number }))
       (slot_kept c.args.number (record { bytes = c.args.page.now; rank = rank_of c.args.self.now.pages c.args.number }) c.args.self.now.pages c.args.self.now.cap)),
 )
 
 pub returns-then-may_wait-clause-used : goal.returns-then-may_wait-clause-used
 returns-then-may_wait-clause-used g c =
-    ap (λ (h : Held). bare h.pages) c.hold.ensures.held
+    ap (λ (ps : Pages). bare ps) c.in_ok-hold.ensures.held
     ∙ marked_bare c.args.number _ (put_entries nat_eq (lru_cache c.args.self.now.pages c.args.self.now.cap) c.args.number (record { bytes = c.args.page.now; rank = rank_of c.args.self.now.pages c.args.number }))
     ∙ bare_put c.args.number c.args.self.now.cap (record { bytes = c.args.page.now; rank = rank_of c.args.self.now.pages c.args.number }) c.args.self.now.pages
 
 pub returns-in_err-write_out-clause-takes : goal.returns-in_err-write_out-clause-takes
 returns-in_err-write_out-clause-takes g c t tells is fits forced = record {
   left = weaker_has (g.H.Host.world c.args.host.now) (g.H.Host.world c.write_out.new.host) (OfFiles c.args.self.now.files.name) _ _ (c.write_out.ensures.takes t tells is).left (λ files so. inl so);
-  done = not_done c.from_residual.result _ c.from_residual.ensures.0;
+  done = not_done c.from_residual-in_err-write_out.result _ c.from_residual-in_err-write_out.ensures.0;
 }
 
 pub returns-in_err-write_out-clause-waits : goal.returns-in_err-write_out-clause-waits
@@ -99,7 +109,7 @@ returns-clause-takes g c t tells is fits forced =
 
 pub returns-clause-merged : goal.returns-clause-merged
 returns-clause-merged g c t k tells is fits merges merged =
-    let idle = c.write_out.ensures.outside (λ e. absurd (omega (arith, e, merges))) in
+    let idle = c.write_out.ensures.outside merges in
     let first = c.in_ok-write_out.ensures.takes t tells is in
     c.in_ok-write_through.ensures.merged t k tells first.done fits (ap (λ (h : Held). h.files.state) idle.1 ∙ merges)
     (subst (λ (h : Held). AreMerged (g.H.Host.world c.write_out.new.host) h.files k) (sym idle.1) (subst (λ host. AreMerged (g.H.Host.world host) c.args.self.now.files k) (sym idle.2) merged))
@@ -128,7 +138,7 @@ returns-in_err-write_through-clause-on_memory g c t tells is memory =
 
 pub returns-in_err-write_through-clause-stays : goal.returns-in_err-write_through-clause-stays
 returns-in_err-write_through-clause-stays g c merges memory =
-    let idle = c.write_out.ensures.outside (λ e. absurd (omega (arith, e, merges))) in
+    let idle = c.write_out.ensures.outside merges in
     let same = c.in_err-write_through.ensures.on_memory (sym (passed_on c.from_residual-in_err-write_through.result _ c.from_residual-in_err-write_through.ensures) ∙ memory) in
     (same.0 ∙ idle.1, same.1 ∙ idle.2)
 
@@ -139,7 +149,7 @@ pub returns-then-may_wait-clause-others : goal.returns-then-may_wait-clause-othe
 returns-then-may_wait-clause-others g c may p other =
     let parts = may_wait_parts c.args.self.now c.args.number c.args.forced may in
     let slot : Slot = record { bytes = c.args.page.now; rank = rank_of c.args.self.now.pages c.args.number } in
-    ap (λ (h : Held). rank_of h.pages p) c.hold.ensures.held
+    ap (λ (ps : Pages). rank_of ps p) c.in_ok-hold.ensures.held
     ∙ rank_marked_other c.args.number p _ (put_entries nat_eq (lru_cache c.args.self.now.pages c.args.self.now.cap) c.args.number slot) other
     ∙ rank_kept_other (cache_of c.args.self.now) c.args.number slot c.may_wait.ensures.valid.some c.may_wait.ensures.valid.most parts.4 p other
 

@@ -1,0 +1,35 @@
+use Rattle.std.proofs.Common.{sym, subst}
+use Rattle.nb_change.specs.Changes.{Changes}
+use Rattle.nb_model.specs.Trail.{StandsIn}
+use Rattle.nb_base.specs.Open.{OfFiles}
+use Rattle.nb_cache.specs.Held.{NoneWaits}
+use Rattle.nb_owner.specs.Open.{Held, GoesSlot, waits}
+use Rattle.nb_owner.proofs.WaitLaws.{none_waits, open_settled}
+use Rattle.nb_owner.proofs.pair.Pair.enter.Goals as goal
+
+pub returns-in_err-enter-clause-left : goal.returns-in_err-enter-clause-left
+returns-in_err-enter-clause-left g c f t tells given =
+    let old = g.H.Host.world c.args.host.now in
+    let new = g.H.Host.world c.enter.new.host in
+    let out = subst (λ (h : Held). GoesSlot old h f t) (sym c.self.view_is) given in
+    let none = subst (λ (h : Held). NoneWaits h.pages) (sym c.self.view_is) c.requires.none in
+    subst (λ (h : Held). Changes old new (OfFiles h.files.name) (StandsIn h.files.name t)) c.self.view_is
+    (c.enter.ensures.left f t (waits c.self.inside.cache.pages) tells out.goes (none_waits c.self.inside.cache.pages none))
+
+pub returns-clause-left : goal.returns-clause-left
+returns-clause-left g c f t tells given =
+    let old = g.H.Host.world c.args.host.now in
+    let new = g.H.Host.world c.enter.new.host in
+    let out = subst (λ (h : Held). GoesSlot old h f t) (sym c.self.view_is) given in
+    let none = subst (λ (h : Held). NoneWaits h.pages) (sym c.self.view_is) c.requires.none in
+    subst (λ (h : Held). Changes old new (OfFiles h.files.name) (StandsIn h.files.name t)) c.self.view_is
+    (c.enter.ensures.left f t (waits c.self.inside.cache.pages) tells out.goes (none_waits c.self.inside.cache.pages none))
+
+pub returns-clause-out : goal.returns-clause-out
+returns-clause-out g c f t tells given =
+    let old = g.H.Host.world c.args.host.now in
+    let new = g.H.Host.world c.enter.new.host in
+    let out = subst (λ (h : Held). GoesSlot old h f t) (sym c.self.view_is) given in
+    let none = subst (λ (h : Held). NoneWaits h.pages) (sym c.self.view_is) c.requires.none in
+    let now : Held = record { files = c.enter.new.self; pages = c.self.inside.cache.pages; cap = c.self.inside.cache.cap } in
+    open_settled new now t none (c.in_ok-enter.ensures.done f t (waits c.self.inside.cache.pages) tells out.goes (none_waits c.self.inside.cache.pages none)) out.pages

@@ -1,0 +1,90 @@
+// The stalled state ends, and the pages of the difference file are merged back. Page 0 is held no longer where it changes.
+ghost use Rattle.std.specs.Prelude.{◌≡◌, ◌<◌, ◌+◌, [], ◌∷◌, length, IsTrue, OnOk};
+ghost use Rattle.nb_host.specs.Causes.{CountsFault};
+ghost use Rattle.nb_change.specs.Gave.{GaveNothing};
+ghost use Rattle.nb_model.specs.Sound.{HasNoZeros};
+ghost use Rattle.nb_model.specs.Strokes.{ends, finish as finish_stroke};
+ghost use Rattle.nb_model.specs.Trail.{Trail};
+ghost use Rattle.nb_base.specs.Open.{AreMerged};
+ghost use Rattle.nb_base.specs.Takes.{Takes};
+ghost use Rattle.nb_cache.specs.Held.{NoneWaits};
+ghost use Rattle.nb_owner.specs.Open.{IsOpen, bare, behind_first};
+
+use crate::Pair;
+use nb_host::{Host, HostFault};
+
+impl Pair {
+    /// Ends the stalled state: what waits is written out, and from now on the pages of the difference file may be merged back. Its state is
+    /// then 2, and its SCN one higher.
+    pub fn end<H: Host>(&mut self, host: &mut H) -> Result<(), HostFault>
+        requires stalled { self.old.files.state ≡ 1 }
+        ensures takes { (t : Trail) → IsTrue H.tells → IsOpen (H.world host.old) self.old t
+            → Takes result (H.world host.old) (H.world host.new) self.old.files.name (IsOpen (H.world host.new) self.new) t (ends ∷ []) }
+        ensures others { OnOk result (bare self.new.pages ≡ bare (behind_first self.old.pages)) }
+        ensures cap { self.new.cap ≡ self.old.cap }
+        ensures gave { GaveNothing (H.world host.old) (H.world host.new) }
+        ensures state { OnOk result (self.new.files.state ≡ 2) }
+        ensures name { self.new.files.name ≡ self.old.files.name }
+        ensures page_size { self.new.files.page_size ≡ self.old.files.page_size }
+        ensures entries { self.new.files.entries ≡ self.old.files.entries }
+        ensures cause { CountsFault result (H.faults host.old) (H.faults host.new) }
+    {
+        self.write_out(host)?;
+        self.end_files(host)?;
+        Ok(())
+    }
+
+    /// Ends the stalled state, where no page waits.
+    fn end_files<H: Host>(&mut self, host: &mut H) -> Result<(), HostFault>
+        requires stalled { self.old.files.state ≡ 1 }
+        requires none { NoneWaits self.old.pages }
+        requires no_drafts { self.old.files.drafted ≡ 0 }
+        ensures takes { (t : Trail) → IsTrue H.tells → IsOpen (H.world host.old) self.old t
+            → Takes result (H.world host.old) (H.world host.new) self.old.files.name (IsOpen (H.world host.new) self.new) t (ends ∷ []) }
+        ensures others { OnOk result (self.new.pages ≡ behind_first self.old.pages) }
+        ensures cap { self.new.cap ≡ self.old.cap }
+        ensures gave { GaveNothing (H.world host.old) (H.world host.new) }
+        ensures state { OnOk result (self.new.files.state ≡ 2) }
+        ensures name { self.new.files.name ≡ self.old.files.name }
+        ensures page_size { self.new.files.page_size ≡ self.old.files.page_size }
+        ensures entries { self.new.files.entries ≡ self.old.files.entries }
+        ensures cause { CountsFault result (H.faults host.old) (H.faults host.new) }
+    {
+        self.files.end(host)?;
+        self.cache.drop_page(0);
+        Ok(())
+    }
+
+    /// Writes the page of entry `k` from its slot into the main file. It changes no page of the database, and none in memory.
+    pub fn merge_entry<H: Host>(&mut self, host: &mut H, k: u32) -> Result<(), HostFault>
+        requires merge { self.old.files.state ≡ 2 }
+        requires inside { k < length self.old.files.entries }
+        ensures takes { (t : Trail) → IsTrue H.tells → IsOpen (H.world host.old) self.old t → HasNoZeros t.base.image
+            → Takes result (H.world host.old) (H.world host.new) self.old.files.name (IsOpen (H.world host.new) self.new) t [] }
+        ensures merged { (t : Trail) → IsTrue H.tells → IsOpen (H.world host.old) self.old t → HasNoZeros t.base.image → AreMerged (H.world host.old) self.old.files k
+            → OnOk result (AreMerged (H.world host.new) self.new.files (k + 1)) }
+        ensures gave { GaveNothing (H.world host.old) (H.world host.new) }
+        ensures same { self.new ≡ self.old }
+        ensures cause { CountsFault result (H.faults host.old) (H.faults host.new) }
+    {
+        self.files.merge_entry(host, k)
+    }
+
+    /// Ends the merge, once every entry is equal in both files: its state is 0 again, and the difference file is removed.
+    pub fn finish<H: Host>(&mut self, host: &mut H) -> Result<(), HostFault>
+        requires merge { self.old.files.state ≡ 2 }
+        ensures takes { (t : Trail) → IsTrue H.tells → IsOpen (H.world host.old) self.old t → HasNoZeros t.base.image → AreMerged (H.world host.old) self.old.files (length self.old.files.entries)
+            → Takes result (H.world host.old) (H.world host.new) self.old.files.name (IsOpen (H.world host.new) self.new) t (finish_stroke ∷ []) }
+        ensures others { OnOk result (self.new.pages ≡ behind_first self.old.pages) }
+        ensures cap { self.new.cap ≡ self.old.cap }
+        ensures gave { GaveNothing (H.world host.old) (H.world host.new) }
+        ensures state { OnOk result (self.new.files.state ≡ 0) }
+        ensures name { self.new.files.name ≡ self.old.files.name }
+        ensures page_size { self.new.files.page_size ≡ self.old.files.page_size }
+        ensures cause { CountsFault result (H.faults host.old) (H.faults host.new) }
+    {
+        self.files.finish(host)?;
+        self.cache.drop_page(0);
+        Ok(())
+    }
+}
