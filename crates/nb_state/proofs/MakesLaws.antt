@@ -17,14 +17,14 @@ use Rattle.nb_model.specs.Strokes.{Stroke, on_base, base_after}
 use Rattle.nb_model.specs.Trail.{Trail, StandsIn, settles_at, after_stroke, settled, bases_of}
 use Rattle.nb_base.specs.Open.{OfFiles, IsMerged}
 use Rattle.nb_base.specs.Takes.{Strikes, after_strokes, IsNoRefusal}
-use Rattle.nb_owner.proofs.WaitLaws.{quiet_open}
+use Rattle.nb_owner.proofs.WaitLaws.{still_open as pair_still}
 use Rattle.nb_state.specs.Open.{Held, IsOpen, but_pages, name_of, pair_of}
 use Rattle.nb_state.specs.Does.{WhereEnded, WhereRefused, Goes, Makes}
 
 -- a database stays open
 pub open_quiet : (old new : World) (held : Held) (t : Trail) → Quiet old new → IsOpen old held t → IsOpen new held t
 open_quiet old new held t quiet is = record {
-  files = quiet_open old new (pair_of held) t quiet is.files;
+  files = pair_still old new (pair_of held) t quiet.still is.files;
   agrees = is.agrees;
   merged = λ state j low inside. subst (λ (f : Files). IsMerged held.files f j) (sym quiet.still.files) (is.merged state j low inside);
   most = is.most;
