@@ -1,9 +1,8 @@
 -- What is open behind the turns of a backup.
-use Rattle.std.proofs.Common.{◌≡◌, ◌≢◌, ◌⊎◌, ⊎_elim, ℕ, ◌+◌, ◌<◌, ◌≤◌, List, [], ◌∷◌, ◌++◌, length, drop, refl, sym, ap, subst, ◌∙◌, arith, length-append, drop_at}
+use Rattle.std.proofs.Common.{◌≡◌, ◌⊎◌, ⊎_elim, ℕ, ◌+◌, ◌<◌, ◌≤◌, List, [], ◌∷◌, ◌++◌, length, drop, refl, sym, ap, subst, ◌∙◌, arith, length-append, drop_at}
 use Rattle.std.specs.Prelude.{Bool, true, false, Option, Some, None, Result, Ok, Err}
 use Rattle.std.proofs.lemmas.Bool.{eq-eqb, ne_eqb}
 use Rattle.nb_fields.specs.Header.{is_header, state_of}
-use Rattle.nb_host.specs.Files.{Files}
 use Rattle.nb_host.specs.World.{World}
 use Rattle.nb_host.specs.Calls.{IsStill}
 use Rattle.nb_host.specs.Moments.{IsNow, IsTimely, Passes}
@@ -31,22 +30,13 @@ use Rattle.nb_page.specs.Quiet.{Quiet}
 use Rattle.nb_change.specs.Gave.{GaveNothing}
 use Rattle.nb_base.specs.Takes.{after_strokes}
 use Rattle.nb_owner.specs.Open.{IsOpen as PairOpen, but_drafts}
-use Rattle.nb_owner.proofs.WaitLaws.{still_open as pair_still}
 use Rattle.nb_state.specs.Open.{Held, AgreesWith, IsOpen, name_of, pair_of}
 use Rattle.nb_state.specs.Does.{Tested, unless_by}
 use Rattle.nb_state.specs.Turns.{begin_cause, end_cause, Begins, Ends, Merges}
 use Rattle.nb_state.specs.declared.turns.Progress.{Progress}
 use Rattle.nb_state.proofs.AgreeLaws.{agrees_control}
 use Rattle.nb_state.proofs.MakesLaws.{none_yet, gave_none}
-
--- calls that change nothing leave the database open
-pub still_open : (old new : World) (held : Held) (t : Trail) → IsStill old new → IsOpen old held t → IsOpen new held t
-still_open old new held t still is = record {
-  files = pair_still old new (pair_of held) t still is.files;
-  agrees = is.agrees;
-  merged = λ two j low inside. subst (λ (f : Files). IsMerged held.files f j) (sym still.files) (is.merged two j low inside);
-  most = is.most;
-}
+pub use Rattle.nb_state.proofs.MakesLaws.{still_open}
 
 -- no call is quiet
 pub no_call : (w : World) → IsTimely w → Quiet w w
