@@ -1,7 +1,7 @@
 -- How runs of calls that make strokes go on.
 use Rattle.std.proofs.Common.{◌≡◌, ℕ, List, [], ◌∷◌, ◌++◌, refl, sym, ◌∙◌, subst, ap}
 use Rattle.std.proofs.lemmas.List.{append-nil}
-use Rattle.std.specs.Prelude.{Bool, true, false, Option, Result, Ok, Err, IsErr, IsErrAnd, IfErr}
+use Rattle.std.specs.Prelude.{Bool, true, false, Option, Result, Ok, Err, IfErr}
 use Rattle.nb_host.specs.Files.{Files}
 use Rattle.nb_host.specs.World.{World}
 use Rattle.nb_host.specs.declared.faults.Fault.{Fault}
@@ -48,11 +48,6 @@ pub after_base : (t : Trail) (xs : List Stroke) → (after_strokes t xs).base �
 unfolding base_after
 after_base t [] = refl
 after_base t (x ∷ xs) = after_base (after_stroke x t) xs ∙ ap (λ (b : Base). base_after b xs) (after_base_one t x)
-
--- what `?` passes on
-pub passed_on : {T : Type 0} (result : Result T Fault) (fault : Fault) → IsErr result × IsErrAnd result (λ f. f ≡ fault) → result ≡ Err fault
-passed_on (Ok value) fault is = absurd is.1
-passed_on (Err e) fault is = ap Err is.1
 
 -- what holds in any case holds where a call ended
 pub where_ended : {T : Type 0} (result : Result T Fault) (P : Type 0) → P → WhereEnded result P
