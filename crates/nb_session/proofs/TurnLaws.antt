@@ -11,7 +11,6 @@ use Rattle.nb_model.specs.declared.reply.Reply.{Reply}
 use Rattle.nb_model.specs.declared.reply.Reply.TheVariants.{Refused as RefusedBy}
 use Rattle.nb_model.specs.declared.statement.Statement.{Statement}
 use Rattle.nb_change.specs.Counts.{CountsDevice}
-use Rattle.nb_change.proofs.ResultLaws.{passed_on}
 use Rattle.nb_model.specs.Built.{is_built}
 use Rattle.nb_model.specs.Gifts.{Foretells}
 use Rattle.nb_model.specs.Going.{IsMaking}
@@ -25,6 +24,7 @@ use Rattle.nb_model.specs.Turns.{first_turn, turn}
 use Rattle.nb_model.proofs.TodoLaws.{IsSingle, built_never_usage, status_plain}
 use Rattle.nb_base.specs.Takes.{IsNoRefusal}
 use Rattle.nb_state.specs.Open.{Held}
+use Rattle.nb_state.proofs.MakesLaws.{passed_on}
 use Rattle.nb_session.specs.declared.stop.Stop.{Stop}
 use Rattle.nb_session.specs.declared.stop.Stop.TheVariants.{Device as DeviceStop, Memory as MemoryStop}
 use Rattle.nb_session.specs.declared.task.Left.{Left}
