@@ -128,7 +128,8 @@ impl TwoFiles {
     }
 
     /// Replaces page `number` of the database, or adds it at the end. It is kept for good where writes are forced, where it makes the
-    /// database longer, and where it is page 0 or an SCN inventory page.
+    /// database longer, and where it is page 0 or an SCN inventory page. In the normal state the difference file isn't touched, and in
+    /// the stalled state the main file isn't.
     ///
     /// Where it wants memory nothing has changed.
     pub fn write<H: Host>(
