@@ -27,7 +27,7 @@ use Rattle.nb_model.proofs.BehindLaws.{way_left, enter_left}
 use Rattle.nb_model.proofs.OwnerLaws.{named}
 use Rattle.nb_model.proofs.TrailLaws.{itself_firm}
 use Rattle.nb_model.proofs.WayLaws.{same_pages}
-use Rattle.nb_base.specs.Open.{Held, OfFiles, IsOpen}
+use Rattle.nb_base.specs.Open.{Held, IsOpen}
 use Rattle.nb_base.specs.Going.{StandsAs, HasPageIn, IsSlotted, GoesIn}
 use Rattle.nb_base.proofs.MergingLaws.{entry_named}
 use Rattle.nb_base.proofs.OwnedLaws.{Holds, holds, shows, base-length, base-page, base-state, base-size, owned-length, owned-page, owned-entry, owned-none, entry-front, entry-behind, entry-first, entry-later, later, slots_stay}
@@ -274,9 +274,9 @@ module _ (w : World) (reads : (n : List ℕ) → Leaves w n (w.files n)) (held :
           (subst (λ n. HasTable n d_ s.base.diverted) h_size (h.entries.some (omega (arith, h_one)))))
 
   module _ (new : World) (timely : IsTimely w) (changes : Changes w new (Only (delta_name held.name)) (Moved w (delta_name held.name) (FrontStep held.page_size f.base.diverted goes.behind.diverted.0 (w.files (delta_name held.name))))) where
-    pub enter_changes : Changes w new (OfFiles held.name) (StandsIn held.name t)
+    pub enter_changes : Changes w new (Only (delta_name held.name)) (StandsIn held.name t)
     enter_changes =
-        moved_on w w new (OfFiles name) (StandsAs name (IsOnTheWay f t)) (StandsIn name t) (delta_name name) (FrontStep held.page_size table drafts d) (begun w (OfFiles name) (StandsAs name (IsOnTheWay f t)) timely goes.left) changes (inr refl)
+        moved_on w w new (Only (delta_name name)) (StandsAs name (IsOnTheWay f t)) (StandsIn name t) (delta_name name) (FrontStep held.page_size table drafts d) (begun w (Only (delta_name name)) (StandsAs name (IsOnTheWay f t)) timely goes.left) changes refl
         (λ files s. record { base = s.base; opens = s.opens; left = way_left f t goes.behind s.base goes.unsettled s.is })
         (λ before files all s step others.
         ⊎_elim
@@ -324,10 +324,10 @@ module _ (w : World) (reads : (n : List ℕ) → Leaves w n (w.files n)) (held :
 
   -- Where none is drafted, the slots are kept for good.
   module _ (new : World) (still : IsStill w new) (no_drafts : held.drafted ≡ 0) where
-    pub kept_changes : IsTimely w → new.said ≡ w.said → Passes w new → Changes w new (OfFiles held.name) (StandsIn held.name t)
+    pub kept_changes : IsTimely w → new.said ≡ w.said → Passes w new → Changes w new (Only (delta_name held.name)) (StandsIn held.name t)
     kept_changes timely silent time =
-        still_more w w new (OfFiles name) (StandsIn name t)
-        (begun w (OfFiles name) (StandsIn name t) timely (λ files all. let s = goes.left files all in record { base = s.base; opens = s.opens; left = way_left f t goes.behind s.base goes.unsettled s.is }))
+        still_more w w new (Only (delta_name name)) (StandsIn name t)
+        (begun w (Only (delta_name name)) (StandsIn name t) timely (λ files all. let s = goes.left files all in record { base = s.base; opens = s.opens; left = way_left f t goes.behind s.base goes.unsettled s.is }))
         time still silent
 
     pub kept_open : IsDurable new (delta_name held.name) (new.files (delta_name held.name)) → IsOpen new held t

@@ -22,6 +22,7 @@ pub mod StateLaws
 pub mod StepLaws
 pub mod StrokeLaws
 pub mod SyncLaws
+pub mod TouchLaws
 pub mod WriteLaws
 pub mod WrittenLaws
 pub mod MergingLaws

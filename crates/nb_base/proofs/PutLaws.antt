@@ -6,7 +6,7 @@ use Rattle.nb_host.specs.World.{World}
 use Rattle.nb_host.specs.Crash.{PageLeft}
 use Rattle.nb_host.specs.Calls.{WritesPage}
 use Rattle.nb_host.specs.Moments.{IsTimely, Passes}
-use Rattle.nb_change.specs.Changes.{Changes}
+use Rattle.nb_change.specs.Changes.{Only, Changes}
 use Rattle.nb_change.proofs.NameLaws.{with_file-same, with_file-other}
 use Rattle.nb_change.proofs.ChangesLaws.{begun}
 use Rattle.nb_change.proofs.CallLaws.{page_more}
@@ -16,7 +16,6 @@ use Rattle.nb_model.specs.Owner.{delta_name, entry_for, owner}
 use Rattle.nb_model.specs.Strokes.{page, on_base}
 use Rattle.nb_model.specs.Trail.{settled, ShowsIn}
 use Rattle.nb_model.proofs.TrailLaws.{itself_firm}
-use Rattle.nb_base.specs.Open.{OfFiles}
 use Rattle.nb_base.specs.Seen.{IsWrite}
 use Rattle.nb_base.specs.Put.{MayPut, PutLeft}
 use Rattle.nb_base.proofs.OwnedLaws.{Holds, holds, shows, base-state}
@@ -49,10 +48,10 @@ module _ (b : Base) (p : ℕ) (bytes : Page) (may : MayPut b p bytes) where
 
 module _ (name : List ℕ) (p : ℕ) (bytes : Page) (old new : World) where
   pub put_left : {T E : Type 0} (tells : Bool) (result : Result T E) → IsTrue tells → IsTimely old → WritesPage tells result old new name (p * length bytes) bytes → new.said ≡ old.said → Passes old new
-      → Changes old new (OfFiles name) (PutLeft old name p bytes)
+      → Changes old new (Only name) (PutLeft old name p bytes)
   put_left tells result told timely writes silent time =
-      page_more tells result old old new (OfFiles name) (PutLeft old name p bytes) (PutLeft old name p bytes) name (p * length bytes) bytes told
-      (begun old (OfFiles name) (PutLeft old name p bytes) timely (λ files all. record { before = files; was = all; by = λ b opens may. inl opens })) (inl refl) writes silent time (λ files so_far. so_far)
+      page_more tells result old old new (Only name) (PutLeft old name p bytes) (PutLeft old name p bytes) name (p * length bytes) bytes told
+      (begun old (Only name) (PutLeft old name p bytes) timely (λ files all. record { before = files; was = all; by = λ b opens may. inl opens })) refl writes silent time (λ files so_far. so_far)
       (λ before files all so_far step others. record {
         before = before;
         was = all;

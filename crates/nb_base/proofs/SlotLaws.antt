@@ -22,7 +22,7 @@ use Rattle.nb_model.proofs.BehindLaws.{way_left}
 use Rattle.nb_model.proofs.OwnerLaws.{named}
 use Rattle.nb_model.proofs.TrailLaws.{itself_firm}
 use Rattle.nb_model.proofs.WayLaws.{put_same, put_other, put_first, put_long, put_frozen}
-use Rattle.nb_base.specs.Open.{Held, Agrees, OfFiles}
+use Rattle.nb_base.specs.Open.{Held, Agrees}
 use Rattle.nb_base.specs.Seen.{IsSeen, IsWrite}
 use Rattle.nb_base.specs.Going.{StandsAs, HasPageIn, MaySlot, IsSlotted, GoesIn}
 use Rattle.nb_base.proofs.LeftLaws.{stroke-stalled, noted-there}
@@ -219,15 +219,15 @@ module _ (w new : World) (held : Held) (f t : Trail) (waits : ℕ → Bool) (goe
             (b, shows name b m c (stays b is.long is.first more all_of m d c h table_c (λ i low. step.others i (λ same. absurd (omega (arith, same, low, past))))), is)
 
   module _ (changes : Changes w new (Only (delta_name held.name)) (Moved w (delta_name held.name) (SlotStep held.page_size k bytes))) (timely : IsTimely w) where
-    pub slot_way : Changes w new (OfFiles held.name) (StandsAs held.name (IsOnTheWay f t))
+    pub slot_way : Changes w new (Only (delta_name held.name)) (StandsAs held.name (IsOnTheWay f t))
     slot_way =
-        moved_on w w new (OfFiles name) (StandsAs name way) (StandsAs name way) (delta_name name) (SlotStep held.page_size k bytes) (begun w (OfFiles name) (StandsAs name way) timely goes.left) changes (inr refl) (λ files s. s)
+        moved_on w w new (Only (delta_name name)) (StandsAs name way) (StandsAs name way) (delta_name name) (SlotStep held.page_size k bytes) (begun w (Only (delta_name name)) (StandsAs name way) timely goes.left) changes refl (λ files s. s)
         (λ before files all s step others.
         let next = on_step s.base s.is (before name) (before (delta_name name)) (files (delta_name name)) s.opens step in
         record { base = next.0; opens = ap (λ (m : File). owner name m (files (delta_name name))) (others name (main_apart name)) ∙ next.1; is = next.2 })
 
-    pub slot_left : Changes w new (OfFiles held.name) (StandsIn held.name t)
-    slot_left = weaker_has w new (OfFiles name) (StandsAs name way) (StandsIn name t) slot_way (λ files s. record { base = s.base; opens = s.opens; left = way_left f t goes.behind s.base goes.unsettled s.is })
+    pub slot_left : Changes w new (Only (delta_name held.name)) (StandsIn held.name t)
+    slot_left = weaker_has w new (Only (delta_name name)) (StandsAs name way) (StandsIn name t) slot_way (λ files s. record { base = s.base; opens = s.opens; left = way_left f t goes.behind s.base goes.unsettled s.is })
 
     -- Once it is there, it waits no longer.
     module _ (put : SlotPut held.page_size k bytes (w.files (delta_name held.name)) (new.files (delta_name held.name))) (later : ℕ → Bool) (as_before : (q : ℕ) → q ≢ p → later q ≡ waits q) where

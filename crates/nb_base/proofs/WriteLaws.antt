@@ -183,6 +183,22 @@ module _ (name : List ℕ) (t : Trail) (p : ℕ) (bytes : Page) (is : IsWrite t 
         shows = add_shown;
       }
 
+-- the table of the difference file as it reads, by what its object knows
+pub seen_table : (name : List ℕ) (t : Trail) (w : World) → IsSeen w name t → image_state t.base.image ≡ 1 → (delta : List ℕ) (size : ℕ) (entries : List ℕ) → delta ≡ delta_name name → size ≡ image_size t.base.image → t.base.diverted ≡ entries
+    → HasTable size (w.files delta) entries
+seen_table name t w seen stalled delta size entries named size_is entries_are =
+    let h : Holds t.base (w.files name) (w.files (delta_name name)) = holds name t.base (w.files name) (w.files (delta_name name)) seen.shows in
+    let state : image_state h.main ≡ 1 = sym (base-state t.base (w.files name) (w.files (delta_name name)) h) ∙ stalled in
+    let same : image_size h.main ≡ size = sym (base-size t.base (w.files name) (w.files (delta_name name)) h) ∙ sym size_is in
+    subst (λ (d : List ℕ). HasTable size (w.files d) entries) (sym named) (subst (λ (x : List ℕ). HasTable size (w.files (delta_name name)) x) entries_are
+    (subst (λ n. HasTable n (w.files (delta_name name)) t.base.diverted) same (h.entries.some (omega (arith, state)))))
+
+-- in the normal state it isn't looked at
+pub no_entries : (name : List ℕ) (t : Trail) (w : World) → IsSeen w name t → image_state t.base.image ≡ 0 → t.base.diverted ≡ []
+no_entries name t w seen normal =
+    let h : Holds t.base (w.files name) (w.files (delta_name name)) = holds name t.base (w.files name) (w.files (delta_name name)) seen.shows in
+    h.entries.none (sym (base-state t.base (w.files name) (w.files (delta_name name)) h) ∙ normal)
+
 -- The same by what the object of the difference file knows.
 module _ (name : List ℕ) (t : Trail) (p : ℕ) (bytes : Page) (is : IsWrite t p bytes) (old : World) (timely : IsTimely old) (reads : (n : List ℕ) → Leaves old n (old.files n)) (seen : IsSeen old name t) where
   -- where a sync was wanted the file is durable, and otherwise the write waits
@@ -206,16 +222,6 @@ module _ (name : List ℕ) (t : Trail) (p : ℕ) (bytes : Page) (is : IsWrite t 
         (λ waits. stays_seen name t p bytes is old timely reads seen new waits left (slot_shown name t p bytes is old timely reads seen new diverts k at (of_slot changes) put_))
         (λ kept. slot_synced name t p bytes is old timely reads seen new diverts k at (of_slot changes) put_ (subst (λ (d : List ℕ). IsDurable new d (new.files d)) named kept))
         (synced_or synced delta new must durable)
-
-  -- the table of the difference file as it reads
-  module _ (stalled : image_state t.base.image ≡ 1) (delta : List ℕ) (size : ℕ) (entries : List ℕ) (named : delta ≡ delta_name name) (size_is : size ≡ image_size t.base.image) (entries_are : t.base.diverted ≡ entries) where
-    pub seen_table : HasTable size (old.files delta) entries
-    seen_table =
-        let h : Holds t.base (old.files name) (old.files (delta_name name)) = holds name t.base (old.files name) (old.files (delta_name name)) seen.shows in
-        let state : image_state h.main ≡ 1 = sym (base-state t.base (old.files name) (old.files (delta_name name)) h) ∙ stalled in
-        let same : image_size h.main ≡ size = sym (base-size t.base (old.files name) (old.files (delta_name name)) h) ∙ sym size_is in
-        subst (λ (d : List ℕ). HasTable size (old.files d) entries) (sym named) (subst (λ (x : List ℕ). HasTable size (old.files (delta_name name)) x) entries_are
-        (subst (λ n. HasTable n (old.files (delta_name name)) t.base.diverted) same (h.entries.some (omega (arith, state)))))
 
   module _ (new : World) (stalled : image_state t.base.image ≡ 1) (delta : List ℕ) (size : ℕ) (entries : List ℕ) (named : delta ≡ delta_name name) (size_is : size ≡ image_size t.base.image) (entries_are : t.base.diverted ≡ entries)
       (fresh : place_of entries p ≡ None) where
@@ -273,6 +279,10 @@ entry_none p = refl
 none_some : {k : ℕ} → None ≡ Some k → ⊥
 none_some e = cc
 
+-- where there are no entries, none names a page
+pub none_at : (p k : ℕ) (entries : List ℕ) → entries ≡ [] → entry_for p entries ≡ Some k → ⊥
+none_at p k entries none at = none_some (sym (entry_none p) ∙ ap (entry_for p) (sym none) ∙ at)
+
 -- where an entry names a page, but not in the stalled state, the state is the merge state
 pub merges_where : (name : List ℕ) (t : Trail) (w : World) → IsSeen w name t → image_state t.base.image ≢ 1 → (p k : ℕ) → entry_for p t.base.diverted ≡ Some k → image_state t.base.image ≡ 2
 merges_where name t w seen other p k at =
@@ -286,4 +296,4 @@ merges_where name t w seen other p k at =
     last (suc (suc s)) low a b = omega (arith, low)
 
     by : (s : ℕ) → s ≤ 2 → (s ≡ 0 → t.base.diverted ≡ []) → image_state t.base.image ≡ s → image_state t.base.image ≡ 2
-    by s opened none is = is ∙ last s opened (λ e. none_some (sym (entry_none p) ∙ ap (entry_for p) (sym (none e)) ∙ at)) (λ e. other (is ∙ e))
+    by s opened none is = is ∙ last s opened (λ e. none_at p k t.base.diverted (none e) at) (λ e. other (is ∙ e))

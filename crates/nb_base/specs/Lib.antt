@@ -3,6 +3,7 @@ pub mod Going
 pub mod Open
 pub mod Seen
 pub mod Takes
+pub mod Touches
 pub mod Beginnings
 pub mod Attach
 pub mod Control

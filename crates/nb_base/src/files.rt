@@ -16,6 +16,7 @@ ghost use Rattle.nb_base.specs.Firm.{must_sync};
 ghost use Rattle.nb_base.specs.Open.{IsOpen, Agrees, Fits, AreMerged};
 ghost use Rattle.nb_base.specs.Seen.{IsSeen, IsWrite, noted_in};
 ghost use Rattle.nb_base.specs.Takes.{TakesFirm, IsNoRefusal};
+ghost use Rattle.nb_base.specs.Touches.{WritesIn};
 ghost use Rattle.nb_base.specs.Beginnings.{Attaches, Creates};
 
 use crate::reads::{read_owned, read_page};
@@ -127,7 +128,8 @@ impl TwoFiles {
     }
 
     /// Replaces page `number` of the database, or adds it at the end. It is kept for good where writes are forced, where it makes the
-    /// database longer, and where it is page 0 or an SCN inventory page.
+    /// database longer, and where it is page 0 or an SCN inventory page. In the normal state the difference file isn't touched, and in
+    /// the stalled state the main file isn't.
     ///
     /// Where it wants memory nothing has changed.
     pub fn write<H: Host>(
@@ -143,6 +145,7 @@ impl TwoFiles {
         requires none_waits { self.old.drafted ≡ 0 }
         ensures takes { (t : Trail) → IsTrue H.tells → IsOpen (H.world host.old) self.old t → Fits number page.now t.base.image → forced ≡ is_forced t.base.image
             → TakesFirm result (H.world host.old) (H.world host.new) self.old.name (IsOpen (H.world host.new) self.new) t (page_stroke number page.now ∷ []) }
+        ensures touches { (t : Trail) → IsTrue H.tells → IsOpen (H.world host.old) self.old t → WritesIn (H.world host.old) (H.world host.new) self.old.state self.old.name }
         ensures merged { (t : Trail) (k : ℕ) → IsTrue H.tells → IsOpen (H.world host.old) self.old t → Fits number page.now t.base.image → self.old.state ≡ 2
             → AreMerged (H.world host.old) self.old k → OnOk result (AreMerged (H.world host.new) self.new k) }
         ensures gave { GaveNothing (H.world host.old) (H.world host.new) }
@@ -174,6 +177,7 @@ impl TwoFiles {
         requires none_waits { self.old.drafted ≡ 0 }
         ensures takes { (t : Trail) → IsTrue H.tells → IsOpen (H.world host.old) self.old t → IsWrite t number page.now → synced ≡ must_sync t.base.image number
             → TakesFirm result (H.world host.old) (H.world host.new) self.old.name (IsSeen (H.world host.new) self.old.name) t (page_stroke number page.now ∷ []) }
+        ensures touches { (t : Trail) → IsTrue H.tells → IsOpen (H.world host.old) self.old t → WritesIn (H.world host.old) (H.world host.new) self.old.state self.old.name }
         ensures merged { (t : Trail) (k : ℕ) → IsTrue H.tells → IsOpen (H.world host.old) self.old t → IsWrite t number page.now → self.old.state ≡ 2
             → AreMerged (H.world host.old) self.old k → OnOk result (AreMerged (H.world host.new) self.old k) }
         ensures known { OnOk result (self.new ≡ record self.old { entries = noted_in self.old.state number self.old.entries }) }

@@ -1,12 +1,11 @@
 // Pages that waited go out into the files.
 ghost use Rattle.std.specs.Prelude.{◌≡◌, length, IsTrue, OnOk};
 ghost use Rattle.nb_host.specs.Causes.{CountsFault};
-ghost use Rattle.nb_change.specs.Changes.{Changes};
+ghost use Rattle.nb_change.specs.Changes.{Only, Changes};
 ghost use Rattle.nb_change.specs.Gave.{GaveNothing};
 ghost use Rattle.nb_model.specs.Account.{Base};
 ghost use Rattle.nb_model.specs.Strokes.{page as page_stroke, on_base};
 ghost use Rattle.nb_model.specs.Trail.{ShowsIn};
-ghost use Rattle.nb_base.specs.Open.{OfFiles};
 ghost use Rattle.nb_base.specs.Put.{MayPut, PutLeft};
 
 use crate::TwoFiles;
@@ -22,7 +21,7 @@ impl TwoFiles {
         page: &[u8],
     ) -> Result<(), HostFault>
         requires size { length page.now ≡ self.old.page_size }
-        ensures left { IsTrue H.tells → Changes (H.world host.old) (H.world host.new) (OfFiles self.old.name) (PutLeft (H.world host.old) self.old.name number page.now) }
+        ensures left { IsTrue H.tells → Changes (H.world host.old) (H.world host.new) (Only self.old.name) (PutLeft (H.world host.old) self.old.name number page.now) }
         ensures put { (b : Base) → IsTrue H.tells → ShowsIn self.old.name b (H.world host.old).files → MayPut b number page.now
             → OnOk result (ShowsIn self.old.name (on_base (page_stroke number page.now) b) (H.world host.new).files) }
         ensures same { self.new ≡ self.old }

@@ -2,10 +2,11 @@
 ghost use Rattle.std.specs.Prelude.{◌≡◌, ◌≢◌, ◌<◌, ℕ, Bool, false, length, IsTrue, IfErr, OnOk, OnErr};
 ghost use Rattle.nb_host.specs.Causes.{CountsFault};
 ghost use Rattle.nb_host.specs.declared.faults.Fault.TheVariants.{Memory};
-ghost use Rattle.nb_change.specs.Changes.{Changes};
+ghost use Rattle.nb_change.specs.Changes.{Only, Changes};
 ghost use Rattle.nb_change.specs.Gave.{GaveNothing};
+ghost use Rattle.nb_model.specs.Owner.{delta_name};
 ghost use Rattle.nb_model.specs.Trail.{Trail, StandsIn};
-ghost use Rattle.nb_base.specs.Open.{IsOpen, OfFiles};
+ghost use Rattle.nb_base.specs.Open.{IsOpen};
 ghost use Rattle.nb_base.specs.Going.{GoesIn, MaySlot, Drafts};
 
 use crate::TwoFiles;
@@ -47,7 +48,7 @@ impl TwoFiles {
     ) -> Result<(), HostFault>
         requires size { length page.now ≡ self.old.page_size }
         ensures left { (f t : Trail) (waits : ℕ → Bool) → IsTrue H.tells → GoesIn (H.world host.old) self.old f t waits → MaySlot t number page.now
-            → Changes (H.world host.old) (H.world host.new) (OfFiles self.old.name) (StandsIn self.old.name t) }
+            → Changes (H.world host.old) (H.world host.new) (Only (delta_name self.old.name)) (StandsIn self.old.name t) }
         ensures put { (f t : Trail) (waits later : ℕ → Bool) → IsTrue H.tells → GoesIn (H.world host.old) self.old f t waits → MaySlot t number page.now → ((q : ℕ) → q ≢ number → later q ≡ waits q)
             → OnOk result (GoesIn (H.world host.new) self.new f t later) }
         ensures same { self.new ≡ self.old }
@@ -68,7 +69,7 @@ impl TwoFiles {
     pub fn enter<H: Host>(&mut self, host: &mut H) -> Result<(), HostFault>
         requires stalled { self.old.state ≡ 1 }
         ensures left { (f t : Trail) (waits : ℕ → Bool) → IsTrue H.tells → GoesIn (H.world host.old) self.old f t waits → ((p : ℕ) → waits p ≡ false)
-            → Changes (H.world host.old) (H.world host.new) (OfFiles self.old.name) (StandsIn self.old.name t) }
+            → Changes (H.world host.old) (H.world host.new) (Only (delta_name self.old.name)) (StandsIn self.old.name t) }
         ensures done { (f t : Trail) (waits : ℕ → Bool) → IsTrue H.tells → GoesIn (H.world host.old) self.old f t waits → ((p : ℕ) → waits p ≡ false)
             → OnOk result (IsOpen (H.world host.new) self.new t) }
         ensures known { OnOk result (self.new ≡ record self.old { drafted = 0 }) }

@@ -6,17 +6,19 @@ ghost use Rattle.nb_fields.specs.Table.{slot_place};
 ghost use Rattle.nb_host.specs.Calls.{IsSilent};
 ghost use Rattle.nb_host.specs.Files.{with_file, with_page};
 ghost use Rattle.nb_host.specs.Causes.{CountsFault};
+ghost use Rattle.nb_change.specs.Changes.{Only};
 ghost use Rattle.nb_change.specs.Counts.{CountsDevice};
 ghost use Rattle.nb_delta.specs.Entries.{place_of};
-ghost use Rattle.nb_delta.specs.Slots.{SlotPut};
+ghost use Rattle.nb_delta.specs.Slots.{HasTable, SlotPut};
 ghost use Rattle.nb_model.specs.Image.{image_size, image_state};
 ghost use Rattle.nb_model.specs.Strokes.{page as page_stroke, noted};
 ghost use Rattle.nb_model.specs.Owner.{delta_name, entry_for};
 ghost use Rattle.nb_model.specs.Trail.{Trail};
 ghost use Rattle.nb_base.specs.Firm.{is_kept_place, must_sync};
-ghost use Rattle.nb_base.specs.Open.{Held, AreMerged};
+ghost use Rattle.nb_base.specs.Open.{Held, OfFiles, AreMerged};
 ghost use Rattle.nb_base.specs.Seen.{IsSeen, IsWrite};
 ghost use Rattle.nb_base.specs.Takes.{TakesFirm, IsNoRefusal};
+ghost use Rattle.nb_base.specs.Touches.{Touches, WritesIn};
 
 use crate::control::{MERGE, STALLED};
 use nb_cases::syncs_of;
@@ -46,6 +48,7 @@ pub fn write_main<H: Host>(
     ensures takes { (t : Trail) → IsTrue H.tells → IsSeen (H.world host.old) name.now t → IsWrite t number page.now → image_state t.base.image ≢ 1 → entry_for number t.base.diverted ≡ None
         → synced ≡ must_sync t.base.image number
         → TakesFirm result (H.world host.old) (H.world host.new) name.now (IsSeen (H.world host.new) name.now) t (page_stroke number page.now ∷ []) }
+    ensures touches { IsTrue H.tells → Touches (H.world host.old) (H.world host.new) (Only name.now) }
     ensures put { IsTrue H.tells → OnOk result ((H.world host.new).files ≡ with_file (H.world host.old).files name.now (with_page ((H.world host.old).files name.now) (number * length page.now) page.now)) }
     ensures log { IsSilent (H.world host.old) (H.world host.new) }
     ensures cause { CountsFault result (H.faults host.old) (H.faults host.new) }
@@ -67,6 +70,7 @@ pub fn write_hidden<H: Host>(
     requires size { IsTrue (is_page_size (length page.now)) }
     ensures takes { (t : Trail) (k : ℕ) → IsTrue H.tells → IsSeen (H.world host.old) name.now t → IsWrite t number page.now → image_state t.base.image ≡ 2 → entry_for number t.base.diverted ≡ Some k
         → TakesFirm result (H.world host.old) (H.world host.new) name.now (IsSeen (H.world host.new) name.now) t [] }
+    ensures touches { IsTrue H.tells → Touches (H.world host.old) (H.world host.new) (Only name.now) }
     ensures put { IsTrue H.tells → OnOk result ((H.world host.new).files ≡ with_file (H.world host.old).files name.now (with_page ((H.world host.old).files name.now) (number * length page.now) page.now)) }
     ensures log { IsSilent (H.world host.old) (H.world host.new) }
     ensures cause { CountsFault result (H.faults host.old) (H.faults host.new) }
@@ -89,7 +93,7 @@ pub fn write_slot<H: Host>(
         → TakesFirm result (H.world host.old) (H.world host.new) name (IsSeen (H.world host.new) name) t (page_stroke number page.now ∷ []) }
     ensures put { IsTrue H.tells → (k : ℕ) → slot ≡ slot_place delta.old.page_size k
         → OnOk result (SlotPut delta.old.page_size k page.now ((H.world host.old).files delta.old.name) ((H.world host.new).files delta.old.name)) }
-    ensures others { IsTrue H.tells → (k : ℕ) → slot ≡ slot_place delta.old.page_size k → (m : List ℕ) → m ≢ delta.old.name → (H.world host.new).files m ≡ (H.world host.old).files m }
+    ensures touches { IsTrue H.tells → (k : ℕ) → slot ≡ slot_place delta.old.page_size k → Touches (H.world host.old) (H.world host.new) (Only delta.old.name) }
     ensures same { delta.new ≡ delta.old }
     ensures log { IsSilent (H.world host.old) (H.world host.new) }
     ensures cause { CountsFault result (H.faults host.old) (H.faults host.new) }
@@ -113,6 +117,7 @@ pub fn add_entry<H: Host>(
     ensures takes { (t : Trail) (name : List ℕ) → IsTrue H.tells → IsSeen (H.world host.old) name t → IsWrite t number page.now → image_state t.base.image ≡ 1 → t.base.diverted ≡ delta.old.entries
         → delta.old.name ≡ delta_name name → synced ≡ must_sync t.base.image number
         → TakesFirm result (H.world host.old) (H.world host.new) name (IsSeen (H.world host.new) name) t (page_stroke number page.now ∷ []) }
+    ensures touches { IsTrue H.tells → HasTable delta.old.page_size ((H.world host.old).files delta.old.name) delta.old.entries → Touches (H.world host.old) (H.world host.new) (Only delta.old.name) }
     ensures known { OnOk result (delta.new ≡ record delta.old { entries = delta.old.entries ++ number ∷ [] }) }
     ensures on_device { result ≡ Err Fault.Device → delta.new ≡ record delta.old { entries = delta.old.entries ++ number ∷ [] } }
     ensures on_memory { result ≡ Err Fault.Memory → (delta.new ≡ delta.old) × (host.new ≡ host.old) }
@@ -142,6 +147,7 @@ pub fn write_both<H: Host>(
     // Entries that are equal in both files stay so.
     ensures merged { (t : Trail) (held : Held) (n : ℕ) (k : ℕ) → IsTrue H.tells → IsSeen (H.world host.old) held.name t → IsWrite t number page.now → image_state t.base.image ≡ 2 → t.base.diverted ≡ held.entries
         → held.name ≡ name.now → held.page_size ≡ delta.old.page_size → delta.old.name ≡ delta_name name.now → entry_for number held.entries ≡ Some k → slot ≡ slot_place delta.old.page_size k → AreMerged (H.world host.old) held n → OnOk result (AreMerged (H.world host.new) held n) }
+    ensures touches { IsTrue H.tells → (k : ℕ) → delta.old.name ≡ delta_name name.now → slot ≡ slot_place delta.old.page_size k → Touches (H.world host.old) (H.world host.new) (OfFiles name.now) }
     ensures same { delta.new ≡ delta.old }
     ensures log { IsSilent (H.world host.old) (H.world host.new) }
     ensures cause { CountsFault result (H.faults host.old) (H.faults host.new) }
@@ -165,6 +171,7 @@ pub fn write_stalled<H: Host>(
     ensures takes { (t : Trail) (name : List ℕ) → IsTrue H.tells → IsSeen (H.world host.old) name t → IsWrite t number page.now → image_state t.base.image ≡ 1 → t.base.diverted ≡ delta.old.entries
         → delta.old.name ≡ delta_name name → synced ≡ must_sync t.base.image number
         → TakesFirm result (H.world host.old) (H.world host.new) name (IsSeen (H.world host.new) name) t (page_stroke number page.now ∷ []) }
+    ensures touches { IsTrue H.tells → HasTable delta.old.page_size ((H.world host.old).files delta.old.name) delta.old.entries → Touches (H.world host.old) (H.world host.new) (Only delta.old.name) }
     ensures known { OnOk result (delta.new ≡ record delta.old { entries = noted number delta.old.entries }) }
     ensures as_it_is { (delta.new ≡ delta.old) ⊎ (delta.new ≡ record delta.old { entries = delta.old.entries ++ number ∷ [] }) }
     ensures on_memory { result ≡ Err Fault.Memory → (delta.new ≡ delta.old) × (host.new ≡ host.old) }
@@ -207,6 +214,7 @@ pub fn write_plain<H: Host>(
     // Entries that are equal in both files stay so.
     ensures merged { (t : Trail) (held : Held) (n : ℕ) → IsTrue H.tells → IsSeen (H.world host.old) held.name t → IsWrite t number page.now → image_state t.base.image ≡ 2 → t.base.diverted ≡ held.entries
         → held.name ≡ name.now → held.page_size ≡ delta.old.page_size → delta.old.name ≡ delta_name name.now → held.entries ≡ delta.old.entries → AreMerged (H.world host.old) held n → OnOk result (AreMerged (H.world host.new) held n) }
+    ensures touches { IsTrue H.tells → (state ≡ 0 → delta.old.entries ≡ []) → delta.old.name ≡ delta_name name.now → WritesIn (H.world host.old) (H.world host.new) state name.now }
     ensures same { delta.new ≡ delta.old }
     ensures log { IsSilent (H.world host.old) (H.world host.new) }
     ensures cause { CountsFault result (H.faults host.old) (H.faults host.new) }

@@ -9,7 +9,7 @@ use Rattle.nb_host.specs.Files.{Files}
 use Rattle.nb_host.specs.World.{World}
 use Rattle.nb_host.specs.Crash.{LeavesAll}
 use Rattle.nb_host.specs.Moments.{IsTimely}
-use Rattle.nb_change.specs.Changes.{Names, Changes}
+use Rattle.nb_change.specs.Changes.{Names, Only, Changes}
 use Rattle.nb_change.proofs.ChangesLaws.{begun, rested, composed}
 use Rattle.nb_page.specs.Quiet.{Quiet}
 use Rattle.nb_model.specs.Image.{Page, Image, page_at, first_page, image_size, image_state}
@@ -21,7 +21,7 @@ use Rattle.nb_model.specs.Waiting.{rank_of as rank_for}
 use Rattle.nb_model.proofs.CoveredLaws.{firm_left}
 use Rattle.nb_model.proofs.BehindLaws.{behind_firm, way_left}
 use Rattle.nb_model.proofs.WayLaws.{way_start, way_put, firm_put, read_start, read_put, read_firm, read_done}
-use Rattle.nb_base.specs.Open.{IsOpen as AreOpen, Agrees, OfFiles}
+use Rattle.nb_base.specs.Open.{IsOpen as AreOpen, Agrees}
 use Rattle.nb_base.specs.Firm.{StandsFirm}
 use Rattle.nb_base.specs.Put.{MayPut, PutLeft}
 use Rattle.nb_cache.specs.Held.{rank_of, with_rank, NoneWaits}
@@ -64,14 +64,14 @@ module _ (held : Held) (f t : Trail) (P : Base → Type 0) (same : (b : Base) �
         (put.by s.base s.opens (may_put s.base is.0 is.1))
 
     -- At each moment a stop leaves what may be left of what was seen.
-    pub put_changes : ((b : Base) → P b → IsLeft t b) → (old : World) → Changes old w (OfFiles held.files.name) (StandsIn held.files.name t)
-        → Changes w new (OfFiles held.files.name) (PutLeft w held.files.name p (page_at t.base.image p)) → Changes old new (OfFiles held.files.name) (StandsIn held.files.name t)
+    pub put_changes : ((b : Base) → P b → IsLeft t b) → (old : World) → Changes old w (Only held.files.name) (StandsIn held.files.name t)
+        → Changes w new (Only held.files.name) (PutLeft w held.files.name p (page_at t.base.image p)) → Changes old new (Only held.files.name) (StandsIn held.files.name t)
     put_changes weak old before by =
-        composed old w new (OfFiles name) (StandsIn name t) (PutLeft w name p own) (StandsIn name t) before by (λ files is. is)
+        composed old w new (Only name) (StandsIn name t) (PutLeft w name p own) (StandsIn name t) before by (λ files is. is)
         (λ files put. let s : StandsAs name P files = stands_put files put in record { base = s.base; opens = s.opens; left = weak s.base s.is })
 
   -- Once it is out, it waits no longer.
-  pub put_out : (w new : World) → GoesOut w held f t P → rank_of held.pages p ≡ Some rank → Changes w new (OfFiles held.files.name) (PutLeft w held.files.name p (page_at t.base.image p))
+  pub put_out : (w new : World) → GoesOut w held f t P → rank_of held.pages p ≡ Some rank → Changes w new (Only held.files.name) (PutLeft w held.files.name p (page_at t.base.image p))
       → ((b : Base) → ShowsIn held.files.name b w.files → MayPut b p (page_at t.base.image p) → ShowsIn held.files.name (on_base (page p (page_at t.base.image p)) b) new.files)
       → GoesOut new (record held { pages = with_rank p None held.pages }) f t P
   put_out w new out at by reads = record {
@@ -206,11 +206,11 @@ module _ (w : World) (held : Held) (f t : Trail) (out : GoesOut w held f t (IsOn
   way_stands : (files : Files) → StandsAs held.files.name (IsOnTheWay f t) files → StandsIn held.files.name t files
   way_stands files s = record { base = s.base; opens = s.opens; left = way_left f t out.behind s.base unsettled s.is }
 
-  pub way_begun : IsTimely w → Changes w w (OfFiles held.files.name) (StandsIn held.files.name t)
-  way_begun timely = begun w (OfFiles held.files.name) (StandsIn held.files.name t) timely (λ files all. way_stands files (out.left files all))
+  pub way_begun : IsTimely w → Changes w w (Only held.files.name) (StandsIn held.files.name t)
+  way_begun timely = begun w (Only held.files.name) (StandsIn held.files.name t) timely (λ files all. way_stands files (out.left files all))
 
   module _ (new : World) (p rank : ℕ) (at : rank_of held.pages p ≡ Some rank) (low : rank ≤ 2) (size : length (page_at t.base.image p) ≡ held.files.page_size)
-      (by : Changes w new (OfFiles held.files.name) (PutLeft w held.files.name p (page_at t.base.image p))) where
+      (by : Changes w new (Only held.files.name) (PutLeft w held.files.name p (page_at t.base.image p))) where
     waiting : IsWaiting t p rank
     waiting = out.each p rank at
 
@@ -220,7 +220,7 @@ module _ (w : World) (held : Held) (f t : Trail) (out : GoesOut w held f t (IsOn
     put_scn : (b : Base) → IsOnTheWay f t b → IsOnTheWay f t (on_base (page p (page_at t.base.image p)) b)
     put_scn b way = way_put t p waiting.some waiting.low (λ stalled. absurd (omega (arith, stalled, out.normal))) f b (low_rank t p rank waiting out.normal low) way
 
-    pub way_changes : (old : World) → Changes old w (OfFiles held.files.name) (StandsIn held.files.name t) → Changes old new (OfFiles held.files.name) (StandsIn held.files.name t)
+    pub way_changes : (old : World) → Changes old w (Only held.files.name) (StandsIn held.files.name t) → Changes old new (Only held.files.name) (StandsIn held.files.name t)
     way_changes old before = put_changes held f t (IsOnTheWay f t) same p rank waiting out.normal (size ∙ out.agrees.page_size) put_scn w new out.left (λ b way. way_left f t out.behind b unsettled way) old before by
 
     pub way_more : ((b : Base) → ShowsIn held.files.name b w.files → MayPut b p (page_at t.base.image p) → ShowsIn held.files.name (on_base (page p (page_at t.base.image p)) b) new.files)
@@ -229,12 +229,12 @@ module _ (w : World) (held : Held) (f t : Trail) (out : GoesOut w held f t (IsOn
 
 -- and while the others do.
 module _ (w : World) (held : Held) (f t : Trail) (out : GoesOut w held f t (IsFirm t)) (none : NoScnWaits t held.pages) where
-  pub firm_begun : IsTimely w → Changes w w (OfFiles held.files.name) (StandsIn held.files.name t)
-  firm_begun timely = begun w (OfFiles held.files.name) (StandsIn held.files.name t) timely
+  pub firm_begun : IsTimely w → Changes w w (Only held.files.name) (StandsIn held.files.name t)
+  firm_begun timely = begun w (Only held.files.name) (StandsIn held.files.name t) timely
       (λ files all. let s : StandsAs held.files.name (IsFirm t) files = out.left files all in record { base = s.base; opens = s.opens; left = firm_left t s.base s.is })
 
   module _ (new : World) (p rank : ℕ) (at : rank_of held.pages p ≡ Some rank) (size : length (page_at t.base.image p) ≡ held.files.page_size)
-      (by : Changes w new (OfFiles held.files.name) (PutLeft w held.files.name p (page_at t.base.image p))) where
+      (by : Changes w new (Only held.files.name) (PutLeft w held.files.name p (page_at t.base.image p))) where
     waits_p : IsWaiting t p rank
     waits_p = out.each p rank at
 
@@ -251,7 +251,7 @@ module _ (w : World) (held : Held) (f t : Trail) (out : GoesOut w held f t (IsFi
     put_other : (b : Base) → IsFirm t b → IsFirm t (on_base (page p (page_at t.base.image p)) b)
     put_other b left = firm_put t p waits_p.some waits_p.low (λ stalled. absurd (omega (arith, stalled, out.normal))) b plain waits_p.unsettled left
 
-    pub firm_changes : (old : World) → Changes old w (OfFiles held.files.name) (StandsIn held.files.name t) → Changes old new (OfFiles held.files.name) (StandsIn held.files.name t)
+    pub firm_changes : (old : World) → Changes old w (Only held.files.name) (StandsIn held.files.name t) → Changes old new (Only held.files.name) (StandsIn held.files.name t)
     firm_changes old before = put_changes held f t (IsFirm t) same_firm p rank waits_p out.normal (size ∙ out.agrees.page_size) put_other w new out.left (firm_left t) old before by
 
     pub firm_more : ((b : Base) → ShowsIn held.files.name b w.files → MayPut b p (page_at t.base.image p) → ShowsIn held.files.name (on_base (page p (page_at t.base.image p)) b) new.files)

@@ -5,13 +5,12 @@ use Rattle.std.proofs.lemmas.Bool.{true≢false}
 use Rattle.std.proofs.lemmas.Bool.Decides.{eqb_tells}
 use Rattle.nb_host.specs.World.{World}
 use Rattle.nb_host.specs.Moments.{IsTimely}
-use Rattle.nb_change.specs.Changes.{Changes}
+use Rattle.nb_change.specs.Changes.{Only, Changes}
 use Rattle.nb_change.proofs.ChangesLaws.{begun}
 use Rattle.nb_model.specs.Image.{page_at}
-use Rattle.nb_model.specs.Owner.{entry_for}
+use Rattle.nb_model.specs.Owner.{delta_name, entry_for}
 use Rattle.nb_model.specs.Trail.{Trail, StandsIn}
 use Rattle.nb_model.proofs.BehindLaws.{way_left}
-use Rattle.nb_base.specs.Open.{OfFiles}
 use Rattle.nb_base.specs.Going.{GoesIn, MaySlot}
 use Rattle.nb_base.proofs.SlotLaws.{goes_in}
 use Rattle.nb_cache.specs.Held.{rank_of, with_rank}
@@ -34,8 +33,8 @@ start_slots w held t is stalled unsettled = record {
     by p (Some rank) e waiting = let one = is.waits.each p rank e in (one.some, one.low, one.named (sym is.agrees.state ∙ stalled))
 
 -- what a stop leaves then
-pub slots_begun : (w : World) (held : Held) (f t : Trail) → GoesSlot w held f t → IsTimely w → Changes w w (OfFiles held.files.name) (StandsIn held.files.name t)
-slots_begun w held f t out timely = begun w (OfFiles held.files.name) (StandsIn held.files.name t) timely
+pub slots_begun : (w : World) (held : Held) (f t : Trail) → GoesSlot w held f t → IsTimely w → Changes w w (Only (delta_name held.files.name)) (StandsIn held.files.name t)
+slots_begun w held f t out timely = begun w (Only (delta_name held.files.name)) (StandsIn held.files.name t) timely
     (λ files all. let s = out.goes.left files all in record { base = s.base; opens = s.opens; left = way_left f t out.goes.behind s.base out.goes.unsettled s.is })
 
 -- A page that waits may go.

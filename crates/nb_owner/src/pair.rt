@@ -11,6 +11,7 @@ ghost use Rattle.nb_model.specs.Strokes.{page as page_stroke};
 ghost use Rattle.nb_model.specs.Trail.{Trail, settled};
 ghost use Rattle.nb_base.specs.Open.{Fits, AreMerged};
 ghost use Rattle.nb_base.specs.Takes.{Takes, Strikes, IsNoRefusal};
+ghost use Rattle.nb_base.specs.Touches.{WritesIn};
 ghost use Rattle.nb_cache.specs.Held.{slot_of, rank_of, dropped, NoneWaits};
 ghost use Rattle.lru.specs.LruCache.{lru_cache, put_entries};
 ghost use Rattle.nb_owner.specs.Open.{IsOpen, may_wait, waits, cache_of, but_drafts, bare, used};
@@ -173,7 +174,8 @@ impl Pair {
     /// Where writes aren't forced, in the normal and the stalled state, a page below the length other than page 0 waits in memory, unless to
     /// keep it drops a page that waits: then no call is made, and it is seen at once. In the stalled state its entry is drafted, unless it has
     /// one, which may want memory. Every other write first writes out what waits. It is kept for good where writes are forced, where it
-    /// makes the database longer, and where it is page 0 or an SCN inventory page.
+    /// makes the database longer, and where it is page 0 or an SCN inventory page. In the normal state the difference file isn't touched, and
+    /// in the stalled state the main file isn't.
     ///
     /// Where it wants memory it has changed no page, and in the merge state it has made no call.
     pub fn write<H: Host>(
@@ -188,6 +190,7 @@ impl Pair {
         requires some { is_zeros page.now ≡ false }
         ensures takes { (t : Trail) → IsTrue H.tells → IsOpen (H.world host.old) self.old t → Fits number page.now t.base.image → forced ≡ is_forced t.base.image
             → Takes result (H.world host.old) (H.world host.new) self.old.files.name (IsOpen (H.world host.new) self.new) t (page_stroke number page.now ∷ []) }
+        ensures touches { (t : Trail) → IsTrue H.tells → IsOpen (H.world host.old) self.old t → WritesIn (H.world host.old) (H.world host.new) self.old.files.state self.old.files.name }
         ensures merged { (t : Trail) (k : ℕ) → IsTrue H.tells → IsOpen (H.world host.old) self.old t → Fits number page.now t.base.image → self.old.files.state ≡ 2
             → AreMerged (H.world host.old) self.old.files k → OnOk result (AreMerged (H.world host.new) self.new.files k) }
         ensures waits { may_wait self.old number forced ≡ true → (self.old.files.state ≡ 0 → IsOk result) × IfErr result (λ fault. fault ≡ Fault.Memory) × (host.new ≡ host.old) × OnOk result (waits self.new.pages number ≡ true) }
@@ -232,6 +235,7 @@ impl Pair {
         requires no_drafts { self.old.files.drafted ≡ 0 }
         ensures takes { (t : Trail) → IsTrue H.tells → IsOpen (H.world host.old) self.old t → Fits number page.now t.base.image → forced ≡ is_forced t.base.image
             → Takes result (H.world host.old) (H.world host.new) self.old.files.name (IsOpen (H.world host.new) self.new) t (page_stroke number page.now ∷ []) }
+        ensures touches { (t : Trail) → IsTrue H.tells → IsOpen (H.world host.old) self.old t → WritesIn (H.world host.old) (H.world host.new) self.old.files.state self.old.files.name }
         ensures merged { (t : Trail) (k : ℕ) → IsTrue H.tells → IsOpen (H.world host.old) self.old t → Fits number page.now t.base.image → self.old.files.state ≡ 2
             → AreMerged (H.world host.old) self.old.files k → OnOk result (AreMerged (H.world host.new) self.new.files k) }
         ensures used { OnOk result (bare self.new.pages ≡ used (bare self.old.pages) self.old.cap number page.now) }
@@ -257,6 +261,7 @@ impl Pair {
     pub fn sync<H: Host>(&mut self, host: &mut H) -> Result<(), HostFault>
         ensures takes { (t : Trail) → IsTrue H.tells → IsOpen (H.world host.old) self.old t
             → Takes result (H.world host.old) (H.world host.new) self.old.files.name (IsOpen (H.world host.new) self.new) t [] }
+        ensures touches { (t : Trail) → IsTrue H.tells → IsOpen (H.world host.old) self.old t → WritesIn (H.world host.old) (H.world host.new) self.old.files.state self.old.files.name }
         ensures settled { (t : Trail) → IsTrue H.tells → IsOpen (H.world host.old) self.old t → OnOk result (IsOpen (H.world host.new) self.new (settled t.base)) }
         ensures merged { (k : ℕ) → self.old.files.state ≡ 2 → AreMerged (H.world host.old) self.old.files k → AreMerged (H.world host.new) self.new.files k }
         ensures files { but_drafts self.new.files ≡ but_drafts self.old.files }

@@ -5,17 +5,18 @@ ghost use Rattle.std.specs.Prelude.{◌≡◌, ◌≢◌, ◌<◌, ◌≤◌, �
 ghost use Rattle.nb_fields.specs.Places.{is_page_size, is_scn_place};
 ghost use Rattle.nb_host.specs.Causes.{CountsFault};
 ghost use Rattle.nb_host.specs.declared.faults.Fault.TheVariants.{Memory};
-ghost use Rattle.nb_change.specs.Changes.{Changes};
+ghost use Rattle.nb_change.specs.Changes.{Only, Changes};
 ghost use Rattle.nb_change.specs.Gave.{GaveNothing};
 ghost use Rattle.nb_model.specs.Account.{Base};
 ghost use Rattle.nb_model.specs.Image.{page_at, image_state};
+ghost use Rattle.nb_model.specs.Owner.{delta_name};
 ghost use Rattle.nb_model.specs.Strokes.{page as page_stroke, on_base};
 ghost use Rattle.nb_model.specs.Trail.{Trail, IsFirm, StandsIn, ShowsIn};
 ghost use Rattle.nb_model.specs.Behind.{IsOnTheWay};
-ghost use Rattle.nb_base.specs.Open.{OfFiles};
 ghost use Rattle.nb_base.specs.Going.{Drafts};
 ghost use Rattle.nb_base.specs.Put.{MayPut, PutLeft};
 ghost use Rattle.nb_base.specs.Takes.{Takes};
+ghost use Rattle.nb_base.specs.Touches.{WritesIn};
 ghost use Rattle.nb_cache.specs.Held.{rank_of, with_rank, dropped, NoneWaits};
 ghost use Rattle.lru.specs.LruCache.{lru_cache, put_entries};
 ghost use Rattle.nb_owner.specs.Open.{IsOpen, AreOf, GoesOut, GoesSlot, IsValid, NoScnWaits, may_wait, cache_of, but_drafts, rank_in, bare};
@@ -130,7 +131,7 @@ impl Pair {
     fn put_next<H: Host>(&mut self, host: &mut H, number: u32) -> Result<(), HostFault>
         requires waits { (rank : ℕ) × (rank_of self.old.pages number ≡ Some rank) }
         ensures left { (t : Trail) → IsTrue H.tells → AreOf t.base.image self.old.pages
-            → Changes (H.world host.old) (H.world host.new) (OfFiles self.old.files.name) (PutLeft (H.world host.old) self.old.files.name number (page_at t.base.image number)) }
+            → Changes (H.world host.old) (H.world host.new) (Only self.old.files.name) (PutLeft (H.world host.old) self.old.files.name number (page_at t.base.image number)) }
         ensures put { (t : Trail) (b : Base) → IsTrue H.tells → AreOf t.base.image self.old.pages → ShowsIn self.old.files.name b (H.world host.old).files → MayPut b number (page_at t.base.image number)
             → OnOk result (ShowsIn self.old.files.name (on_base (page_stroke number (page_at t.base.image number)) b) (H.world host.new).files) }
         ensures long { (t : Trail) → AreOf t.base.image self.old.pages → length (page_at t.base.image number) ≡ self.old.files.page_size }
@@ -149,7 +150,7 @@ impl Pair {
     /// Writes each SCN page that waits.
     fn put_scn_pages<H: Host>(&mut self, host: &mut H) -> Result<(), HostFault>
         ensures left { (f t : Trail) → IsTrue H.tells → GoesOut (H.world host.old) self.old f t (IsOnTheWay f t) → t.earlier ≢ []
-            → Changes (H.world host.old) (H.world host.new) (OfFiles self.old.files.name) (StandsIn self.old.files.name t) }
+            → Changes (H.world host.old) (H.world host.new) (Only self.old.files.name) (StandsIn self.old.files.name t) }
         ensures out { (f t : Trail) → IsTrue H.tells → GoesOut (H.world host.old) self.old f t (IsOnTheWay f t) → t.earlier ≢ []
             → OnOk result (GoesOut (H.world host.new) self.new f t (IsOnTheWay f t) × NoScnWaits t self.new.pages) }
         ensures files { self.new.files ≡ self.old.files }
@@ -168,7 +169,7 @@ impl Pair {
     /// Writes each page that waits.
     fn put_pages<H: Host>(&mut self, host: &mut H) -> Result<(), HostFault>
         ensures left { (f t : Trail) → IsTrue H.tells → GoesOut (H.world host.old) self.old f t (IsFirm t) → NoScnWaits t self.old.pages
-            → Changes (H.world host.old) (H.world host.new) (OfFiles self.old.files.name) (StandsIn self.old.files.name t) }
+            → Changes (H.world host.old) (H.world host.new) (Only self.old.files.name) (StandsIn self.old.files.name t) }
         ensures out { (f t : Trail) → IsTrue H.tells → GoesOut (H.world host.old) self.old f t (IsFirm t) → NoScnWaits t self.old.pages
             → OnOk result (IsOpen (H.world host.new) self.new t) }
         ensures none { OnOk result (NoneWaits self.new.pages) }
@@ -188,7 +189,7 @@ impl Pair {
     /// Writes the SCN pages that wait, and keeps them for good.
     fn put_first<H: Host>(&mut self, host: &mut H) -> Result<(), HostFault>
         ensures left { (t : Trail) → IsTrue H.tells → IsOpen (H.world host.old) self.old t → t.earlier ≢ [] → image_state t.base.image ≡ 0
-            → Changes (H.world host.old) (H.world host.new) (OfFiles self.old.files.name) (StandsIn self.old.files.name t) }
+            → Changes (H.world host.old) (H.world host.new) (Only self.old.files.name) (StandsIn self.old.files.name t) }
         ensures out { (t : Trail) (is : IsOpen (H.world host.old) self.old t) → IsTrue H.tells → t.earlier ≢ [] → image_state t.base.image ≡ 0
             → OnOk result (GoesOut (H.world host.new) self.new is.sees t (IsFirm t) × NoScnWaits t self.new.pages) }
         ensures files { self.new.files ≡ self.old.files }
@@ -211,8 +212,9 @@ impl Pair {
     /// Writes all that waits in the normal state, where something does.
     fn put_main<H: Host>(&mut self, host: &mut H) -> Result<(), HostFault>
         requires some { (p rank : ℕ) × (rank_of self.old.pages p ≡ Some rank) }
-        ensures takes { (t : Trail) → IsTrue H.tells → IsOpen (H.world host.old) self.old t → image_state t.base.image ≡ 0
-            → Takes result (H.world host.old) (H.world host.new) self.old.files.name (IsOpen (H.world host.new) self.new) t [] }
+        ensures left { (t : Trail) → IsTrue H.tells → IsOpen (H.world host.old) self.old t → image_state t.base.image ≡ 0
+            → Changes (H.world host.old) (H.world host.new) (Only self.old.files.name) (StandsIn self.old.files.name t) }
+        ensures out { (t : Trail) → IsTrue H.tells → IsOpen (H.world host.old) self.old t → image_state t.base.image ≡ 0 → OnOk result (IsOpen (H.world host.new) self.new t) }
         ensures none { OnOk result (NoneWaits self.new.pages) }
         ensures files { self.new.files ≡ self.old.files }
         ensures bare { bare self.new.pages ≡ bare self.old.pages }
@@ -230,7 +232,7 @@ impl Pair {
     fn put_slot<H: Host>(&mut self, host: &mut H, number: u32) -> Result<(), HostFault>
         requires waits { (rank : ℕ) × (rank_of self.old.pages number ≡ Some rank) }
         ensures left { (f t : Trail) → IsTrue H.tells → GoesSlot (H.world host.old) self.old f t
-            → Changes (H.world host.old) (H.world host.new) (OfFiles self.old.files.name) (StandsIn self.old.files.name t) }
+            → Changes (H.world host.old) (H.world host.new) (Only (delta_name self.old.files.name)) (StandsIn self.old.files.name t) }
         ensures out { (f t : Trail) → IsTrue H.tells → GoesSlot (H.world host.old) self.old f t → OnOk result (GoesSlot (H.world host.new) self.new f t) }
         ensures done { OnOk result (self.new ≡ record self.old { pages = with_rank number None self.old.pages }) }
         ensures failed { OnErr result (self.new ≡ self.old) }
@@ -247,7 +249,7 @@ impl Pair {
     /// Writes each page that waits into its slot, in the stalled state.
     fn put_slots<H: Host>(&mut self, host: &mut H) -> Result<(), HostFault>
         ensures left { (f t : Trail) → IsTrue H.tells → GoesSlot (H.world host.old) self.old f t
-            → Changes (H.world host.old) (H.world host.new) (OfFiles self.old.files.name) (StandsIn self.old.files.name t) }
+            → Changes (H.world host.old) (H.world host.new) (Only (delta_name self.old.files.name)) (StandsIn self.old.files.name t) }
         ensures out { (f t : Trail) → IsTrue H.tells → GoesSlot (H.world host.old) self.old f t → OnOk result (GoesSlot (H.world host.new) self.new f t) }
         ensures none { OnOk result (NoneWaits self.new.pages) }
         ensures files { self.new.files ≡ self.old.files }
@@ -268,7 +270,7 @@ impl Pair {
         requires stalled { self.old.files.state ≡ 1 }
         requires none { NoneWaits self.old.pages }
         ensures left { (f t : Trail) → IsTrue H.tells → GoesSlot (H.world host.old) self.old f t
-            → Changes (H.world host.old) (H.world host.new) (OfFiles self.old.files.name) (StandsIn self.old.files.name t) }
+            → Changes (H.world host.old) (H.world host.new) (Only (delta_name self.old.files.name)) (StandsIn self.old.files.name t) }
         ensures out { (f t : Trail) → IsTrue H.tells → GoesSlot (H.world host.old) self.old f t → OnOk result (IsOpen (H.world host.new) self.new t) }
         ensures no_drafts { OnOk result (self.new.files.drafted ≡ 0) }
         ensures files { but_drafts self.new.files ≡ but_drafts self.old.files }
@@ -286,8 +288,9 @@ impl Pair {
     fn put_delta<H: Host>(&mut self, host: &mut H) -> Result<(), HostFault>
         requires stalled { self.old.files.state ≡ 1 }
         requires some { (p rank : ℕ) × (rank_of self.old.pages p ≡ Some rank) }
-        ensures takes { (t : Trail) → IsTrue H.tells → IsOpen (H.world host.old) self.old t
-            → Takes result (H.world host.old) (H.world host.new) self.old.files.name (IsOpen (H.world host.new) self.new) t [] }
+        ensures left { (t : Trail) → IsTrue H.tells → IsOpen (H.world host.old) self.old t
+            → Changes (H.world host.old) (H.world host.new) (Only (delta_name self.old.files.name)) (StandsIn self.old.files.name t) }
+        ensures out { (t : Trail) → IsTrue H.tells → IsOpen (H.world host.old) self.old t → OnOk result (IsOpen (H.world host.new) self.new t) }
         ensures none { OnOk result (NoneWaits self.new.pages) }
         ensures no_drafts { OnOk result (self.new.files.drafted ≡ 0) }
         ensures files { but_drafts self.new.files ≡ but_drafts self.old.files }
@@ -307,6 +310,7 @@ impl Pair {
         requires some { (p rank : ℕ) × (rank_of self.old.pages p ≡ Some rank) }
         ensures takes { (t : Trail) → IsTrue H.tells → IsOpen (H.world host.old) self.old t
             → Takes result (H.world host.old) (H.world host.new) self.old.files.name (IsOpen (H.world host.new) self.new) t [] }
+        ensures touches { (t : Trail) → IsTrue H.tells → IsOpen (H.world host.old) self.old t → WritesIn (H.world host.old) (H.world host.new) self.old.files.state self.old.files.name }
         ensures none { OnOk result (NoneWaits self.new.pages) }
         ensures no_drafts { OnOk result (self.new.files.drafted ≡ 0) }
         ensures files { but_drafts self.new.files ≡ but_drafts self.old.files }
@@ -330,6 +334,7 @@ impl Pair {
         requires none { NoneWaits self.old.pages }
         ensures takes { (t : Trail) → IsTrue H.tells → IsOpen (H.world host.old) self.old t
             → Takes result (H.world host.old) (H.world host.new) self.old.files.name (IsOpen (H.world host.new) self.new) t [] }
+        ensures touches { (t : Trail) → IsTrue H.tells → IsOpen (H.world host.old) self.old t → WritesIn (H.world host.old) (H.world host.new) self.old.files.state self.old.files.name }
         ensures no_drafts { OnOk result (self.new.files.drafted ≡ 0) }
         ensures idle { self.old.files.drafted ≡ 0 → IsOk result × (self.new ≡ self.old) × (host.new ≡ host.old) }
         ensures merge { self.old.files.state ≡ 2 → IsOk result × (self.new ≡ self.old) × (host.new ≡ host.old) }
@@ -354,6 +359,7 @@ impl Pair {
     pub fn write_out<H: Host>(&mut self, host: &mut H) -> Result<(), HostFault>
         ensures takes { (t : Trail) → IsTrue H.tells → IsOpen (H.world host.old) self.old t
             → Takes result (H.world host.old) (H.world host.new) self.old.files.name (IsOpen (H.world host.new) self.new) t [] }
+        ensures touches { (t : Trail) → IsTrue H.tells → IsOpen (H.world host.old) self.old t → WritesIn (H.world host.old) (H.world host.new) self.old.files.state self.old.files.name }
         ensures none { OnOk result (NoneWaits self.new.pages) }
         ensures no_drafts { OnOk result (self.new.files.drafted ≡ 0) }
         ensures idle { NoneWaits self.old.pages → self.old.files.drafted ≡ 0 → IsOk result × (self.new ≡ self.old) × (host.new ≡ host.old) }

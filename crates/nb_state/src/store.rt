@@ -12,6 +12,7 @@ ghost use Rattle.nb_model.specs.Strokes.{page as page_stroke};
 ghost use Rattle.nb_model.specs.Trail.{Trail, settled};
 ghost use Rattle.nb_base.specs.Open.{Fits};
 ghost use Rattle.nb_base.specs.Takes.{Takes, Strikes, IsNoRefusal};
+ghost use Rattle.nb_base.specs.Touches.{WritesIn};
 ghost use Rattle.nb_cache.specs.Held.{slot_of};
 ghost use Rattle.nb_owner.specs.Open.{may_wait};
 ghost use Rattle.nb_state.specs.Open.{IsOpen, NoPageWaits, but_pages, name_of, pair_of};
@@ -183,7 +184,7 @@ impl Store {
 
     /// Replaces page `number`, or adds it at the end, of page 0 what is behind the control block. It is kept for good where writes are
     /// forced, where it makes the database longer, and where it is page 0. Every other write may wait in memory, and then makes no call; in the stalled state
-    /// its entry may want memory.
+    /// its entry may want memory. In the normal state the difference file isn't touched, and in the stalled state the main file isn't.
     ///
     /// Where it wants memory it has changed no page.
     pub fn write<H: Host>(&mut self, host: &mut H, number: u32, page: &[u8]) -> Result<(), Fault>
@@ -192,6 +193,7 @@ impl Store {
         requires some { is_zeros page.now ≡ false }
         ensures makes { (t : Trail) → IsTrue H.tells → IsOpen (H.world host.old) self.old t → Fits number page.now t.base.image
             → Makes result (H.world host.old) (H.world host.new) self.old self.new t (page_stroke number page.now ∷ []) }
+        ensures touches { (t : Trail) → IsTrue H.tells → IsOpen (H.world host.old) self.old t → WritesIn (H.world host.old) (H.world host.new) self.old.files.state (name_of self.old) }
         ensures goes { Goes self.old self.new }
         ensures reads { (H.world host.new).reads ≡ (H.world host.old).reads }
         ensures cause { CountsDevice result (H.faults host.old) (H.faults host.new) }
@@ -222,6 +224,7 @@ impl Store {
     pub fn sync<H: Host>(&mut self, host: &mut H) -> Result<(), HostFault>
         ensures takes { (t : Trail) → IsTrue H.tells → IsOpen (H.world host.old) self.old t
             → Takes result (H.world host.old) (H.world host.new) (name_of self.old) (IsOpen (H.world host.new) self.new) t [] }
+        ensures touches { (t : Trail) → IsTrue H.tells → IsOpen (H.world host.old) self.old t → WritesIn (H.world host.old) (H.world host.new) self.old.files.state (name_of self.old) }
         ensures settled { (t : Trail) → IsTrue H.tells → IsOpen (H.world host.old) self.old t → OnOk result (IsOpen (H.world host.new) self.new (settled t.base)) }
         ensures same { but_pages self.new ≡ but_pages self.old }
         ensures gave { GaveNothing (H.world host.old) (H.world host.new) }
@@ -236,6 +239,7 @@ impl Store {
     pub fn write_out<H: Host>(&mut self, host: &mut H) -> Result<(), HostFault>
         ensures takes { (t : Trail) → IsTrue H.tells → IsOpen (H.world host.old) self.old t
             → Takes result (H.world host.old) (H.world host.new) (name_of self.old) (IsOpen (H.world host.new) self.new) t [] }
+        ensures touches { (t : Trail) → IsTrue H.tells → IsOpen (H.world host.old) self.old t → WritesIn (H.world host.old) (H.world host.new) self.old.files.state (name_of self.old) }
         ensures none { OnOk result (NoPageWaits self.new) }
         ensures idle { NoPageWaits self.old → IsOk result × (self.new ≡ self.old) × (host.new ≡ host.old) }
         ensures at_settled { (t : Trail) → IsTrue H.tells → IsOpen (H.world host.old) self.old t → t.earlier ≡ [] → IsOk result × (self.new ≡ self.old) × (host.new ≡ host.old) }

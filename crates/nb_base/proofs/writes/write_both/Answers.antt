@@ -1,4 +1,4 @@
-use Rattle.std.proofs.Common.{[], ◌∷◌, arith}
+use Rattle.std.proofs.Common.{inl, [], ◌∷◌, arith}
 use Rattle.nb_change.proofs.ReachedLaws.{strokes_composed}
 use Rattle.nb_model.specs.Strokes.{page}
 use Rattle.nb_model.specs.Trail.{after_stroke}
@@ -6,6 +6,7 @@ use Rattle.nb_base.specs.Firm.{StandsFirm}
 use Rattle.nb_base.specs.Open.{OfFiles}
 use Rattle.nb_base.proofs.OutcomeLaws.{write_later}
 use Rattle.nb_base.proofs.MergedLaws.{both_after}
+use Rattle.nb_base.proofs.TouchLaws.{delta_of, touched_joined, touched_more}
 use Rattle.nb_base.proofs.WriteLaws.{not_done, merges_later, entry_later}
 use Rattle.nb_base.proofs.writes.write_both.Goals as goal
 
@@ -42,4 +43,15 @@ returns-clause-takes g c t k tells seen is merges at named slot must =
 pub returns-clause-merged : goal.returns-clause-merged
 returns-clause-merged g c t held n k tells seen is merges entries named sized beside at slot merged =
     both_after (g.H.Host.world c.args.host.now) held t c.args.number c.args.page.now is seen merges entries c.args.name.now c.args.delta.now.name c.args.delta.now.page_size named sized beside c.requires.size c.requires.page
-    (g.H.Host.world c.write_slot.new.host) (g.H.Host.world c.write_hidden.new.host) k at (c.write_slot.ensures.others tells k slot) (c.in_ok-write_slot.ensures.put tells k slot) (c.in_ok-write_hidden.ensures.put tells) n merged
+    (g.H.Host.world c.write_slot.new.host) (g.H.Host.world c.write_hidden.new.host) k at (c.write_slot.ensures.touches tells k slot).others_read (c.in_ok-write_slot.ensures.put tells k slot) (c.in_ok-write_hidden.ensures.put tells) n merged
+
+pub returns-in_err-write_slot-clause-touches : goal.returns-in_err-write_slot-clause-touches
+returns-in_err-write_slot-clause-touches g c tells k named slot = delta_of _ _ c.args.name.now _ named (c.write_slot.ensures.touches tells k slot)
+
+pub returns-in_err-write_hidden-clause-touches : goal.returns-in_err-write_hidden-clause-touches
+returns-in_err-write_hidden-clause-touches g c tells k named slot =
+    touched_joined _ _ _ _ (delta_of _ _ c.args.name.now _ named (c.write_slot.ensures.touches tells k slot)) (touched_more _ _ _ _ (c.write_hidden.ensures.touches tells) (λ m one. inl one))
+
+pub returns-clause-touches : goal.returns-clause-touches
+returns-clause-touches g c tells k named slot =
+    touched_joined _ _ _ _ (delta_of _ _ c.args.name.now _ named (c.write_slot.ensures.touches tells k slot)) (touched_more _ _ _ _ (c.write_hidden.ensures.touches tells) (λ m one. inl one))

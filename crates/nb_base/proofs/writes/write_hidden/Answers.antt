@@ -1,3 +1,4 @@
+use Rattle.nb_base.proofs.TouchLaws.{page_touched}
 use Rattle.nb_base.proofs.WriteLaws.{not_done, struck_hidden, hidden_seen}
 use Rattle.nb_base.proofs.writes.write_hidden.Goals as goal
 
@@ -22,3 +23,11 @@ returns-clause-takes g c t k tells seen is merges at =
       done = hidden_seen c.args.name.now t c.args.number c.args.page.now is old (g.met.H.Host.timely c.args.host.now) (g.met.H.Host.reads_left c.args.host.now tells) seen mid merges k at
           (c.in_ok-write_page.ensures.files.files tells) left;
     }
+
+pub returns-in_err-write_page-clause-touches : goal.returns-in_err-write_page-clause-touches
+returns-in_err-write_page-clause-touches g c tells =
+    page_touched g.H.Host.tells c.write_page.result (g.H.Host.world c.args.host.now) (g.H.Host.world c.write_page.new.self) c.args.name.now _ c.args.page.now tells (g.met.H.Host.timely c.args.host.now) c.write_page.ensures.files c.write_page.ensures.log.said c.write_page.ensures.time
+
+pub returns-clause-touches : goal.returns-clause-touches
+returns-clause-touches g c tells =
+    page_touched g.H.Host.tells c.write_page.result (g.H.Host.world c.args.host.now) (g.H.Host.world c.write_page.new.self) c.args.name.now _ c.args.page.now tells (g.met.H.Host.timely c.args.host.now) c.write_page.ensures.files c.write_page.ensures.log.said c.write_page.ensures.time

@@ -1,5 +1,6 @@
 use Rattle.std.proofs.Common.{sym, ◌∙◌}
 use Rattle.nb_change.proofs.ChangesLaws.{still_more}
+use Rattle.nb_base.proofs.TouchLaws.{page_touched, still_touched}
 use Rattle.nb_base.proofs.WriteLaws.{not_done, struck_main, main_shown, main_synced, stays_seen}
 use Rattle.nb_base.proofs.writes.write_main.Goals as goal
 
@@ -47,3 +48,23 @@ returns-else-synced-clause-takes g c t tells seen is other none must =
       done = stays_seen c.args.name.now t c.args.number c.args.page.now is old timely reads seen mid (sym must ∙ c.if-synced.false) left
           (main_shown c.args.name.now t c.args.number c.args.page.now is old timely reads seen mid other none (c.in_ok-write_page.ensures.files.files tells));
     }
+
+pub returns-in_err-write_page-clause-touches : goal.returns-in_err-write_page-clause-touches
+returns-in_err-write_page-clause-touches g c tells =
+    page_touched g.H.Host.tells c.write_page.result (g.H.Host.world c.args.host.now) (g.H.Host.world c.write_page.new.self) c.args.name.now _ c.args.page.now tells (g.met.H.Host.timely c.args.host.now) c.write_page.ensures.files c.write_page.ensures.log.said c.write_page.ensures.time
+
+pub returns-else-synced-clause-touches : goal.returns-else-synced-clause-touches
+returns-else-synced-clause-touches g c tells =
+    page_touched g.H.Host.tells c.write_page.result (g.H.Host.world c.args.host.now) (g.H.Host.world c.write_page.new.self) c.args.name.now _ c.args.page.now tells (g.met.H.Host.timely c.args.host.now) c.write_page.ensures.files c.write_page.ensures.log.said c.write_page.ensures.time
+
+pub returns-in_err-sync-clause-touches : goal.returns-in_err-sync-clause-touches
+returns-in_err-sync-clause-touches g c tells =
+    still_touched _ _ (g.H.Host.world c.sync.new.self) _
+    (page_touched g.H.Host.tells c.write_page.result (g.H.Host.world c.args.host.now) (g.H.Host.world c.write_page.new.self) c.args.name.now _ c.args.page.now tells (g.met.H.Host.timely c.args.host.now) c.write_page.ensures.files c.write_page.ensures.log.said c.write_page.ensures.time)
+    c.sync.ensures.time c.sync.ensures.files.still c.sync.ensures.log.said
+
+pub returns-in_ok-sync-clause-touches : goal.returns-in_ok-sync-clause-touches
+returns-in_ok-sync-clause-touches g c tells =
+    still_touched _ _ (g.H.Host.world c.sync.new.self) _
+    (page_touched g.H.Host.tells c.write_page.result (g.H.Host.world c.args.host.now) (g.H.Host.world c.write_page.new.self) c.args.name.now _ c.args.page.now tells (g.met.H.Host.timely c.args.host.now) c.write_page.ensures.files c.write_page.ensures.log.said c.write_page.ensures.time)
+    c.sync.ensures.time c.sync.ensures.files.still c.sync.ensures.log.said

@@ -6,9 +6,11 @@ use Rattle.nb_model.specs.Owner.{entry_for}
 use Rattle.nb_cases.proofs.SyncLaws.{main_if_kept}
 use Rattle.nb_base.specs.Open.{AreMerged}
 use Rattle.nb_base.specs.Seen.{IsSeen}
+use Rattle.nb_base.specs.Touches.{WritesIn}
 use Rattle.nb_base.proofs.MergedLaws.{plain_after}
 use Rattle.nb_base.proofs.PlaceLaws.{slot_answered, none_found}
-use Rattle.nb_base.proofs.WriteLaws.{takes_passed, takes_done, merges_where}
+use Rattle.nb_base.proofs.TouchLaws.{main_in, both_in}
+use Rattle.nb_base.proofs.WriteLaws.{takes_passed, takes_done, merges_where, none_at}
 use Rattle.nb_base.proofs.writes.write_plain.Goals as goal
 
 pub returns-in_err-write_both-in-Some-clause-takes : goal.returns-in_err-write_both-in-Some-clause-takes
@@ -59,3 +61,31 @@ returns-in_ok-write_main-in-None-clause-merged g c t held n tells seen is merges
     let none = ap (entry_for c.args.number) knows ∙ none_found c.args.number c.args.delta.now.entries (c.in_ok-slot.ensures.none c.in-None.is) in
     plain_after (g.H.Host.world c.slot_of.new._host) held t c.args.number c.args.page.now is (subst (λ (w : World). IsSeen w held.name t) (sym same) seen) merges entries c.args.name.now c.args.delta.now.name c.args.delta.now.page_size
     named sized beside c.requires.size c.requires.page (g.H.Host.world c.write_main.new.host) none (c.in_ok-write_main-in-None.ensures.put tells) n (subst (λ (w : World). AreMerged w held n) (sym same) merged)
+
+pub returns-in_err-write_both-in-Some-clause-touches : goal.returns-in_err-write_both-in-Some-clause-touches
+returns-in_err-write_both-in-Some-clause-touches g c tells empty named =
+    let new = g.H.Host.world c.write_both.new.host in
+    let slot = slot_answered c.slot_of.result c.args.delta.now.page_size c.in-Some.slot c.args.number c.args.delta.now.entries c.in_ok-slot.field-0 c.in_ok-slot.was c.slot_of.ensures.slot c.in-Some.is in
+    subst (λ (w : World). WritesIn w new c.args.state c.args.name.now) (ap g.H.Host.world c.slot_of.ensures.no_call)
+    (both_in (g.H.Host.world c.slot_of.new._host) new c.args.state c.args.name.now (λ normal. none_at c.args.number slot.k c.args.delta.now.entries (empty normal) slot.at) c.requires.plain
+    (c.write_both.ensures.touches tells slot.k (ap (λ (k : Known). k.name) c.slot_of.ensures.same ∙ named) (slot.place ∙ ap (λ (k : Known). slot_place k.page_size slot.k) (sym c.slot_of.ensures.same))))
+
+pub returns-in_ok-write_both-in-Some-clause-touches : goal.returns-in_ok-write_both-in-Some-clause-touches
+returns-in_ok-write_both-in-Some-clause-touches g c tells empty named =
+    let new = g.H.Host.world c.write_both.new.host in
+    let slot = slot_answered c.slot_of.result c.args.delta.now.page_size c.in-Some.slot c.args.number c.args.delta.now.entries c.in_ok-slot.field-0 c.in_ok-slot.was c.slot_of.ensures.slot c.in-Some.is in
+    subst (λ (w : World). WritesIn w new c.args.state c.args.name.now) (ap g.H.Host.world c.slot_of.ensures.no_call)
+    (both_in (g.H.Host.world c.slot_of.new._host) new c.args.state c.args.name.now (λ normal. none_at c.args.number slot.k c.args.delta.now.entries (empty normal) slot.at) c.requires.plain
+    (c.write_both.ensures.touches tells slot.k (ap (λ (k : Known). k.name) c.slot_of.ensures.same ∙ named) (slot.place ∙ ap (λ (k : Known). slot_place k.page_size slot.k) (sym c.slot_of.ensures.same))))
+
+pub returns-in_err-write_main-in-None-clause-touches : goal.returns-in_err-write_main-in-None-clause-touches
+returns-in_err-write_main-in-None-clause-touches g c tells empty named =
+    let new = g.H.Host.world c.write_main.new.host in
+    subst (λ (w : World). WritesIn w new c.args.state c.args.name.now) (ap g.H.Host.world c.slot_of.ensures.no_call)
+    (main_in (g.H.Host.world c.slot_of.new._host) new c.args.state c.args.name.now c.requires.plain (c.write_main.ensures.touches tells))
+
+pub returns-in_ok-write_main-in-None-clause-touches : goal.returns-in_ok-write_main-in-None-clause-touches
+returns-in_ok-write_main-in-None-clause-touches g c tells empty named =
+    let new = g.H.Host.world c.write_main.new.host in
+    subst (λ (w : World). WritesIn w new c.args.state c.args.name.now) (ap g.H.Host.world c.slot_of.ensures.no_call)
+    (main_in (g.H.Host.world c.slot_of.new._host) new c.args.state c.args.name.now c.requires.plain (c.write_main.ensures.touches tells))

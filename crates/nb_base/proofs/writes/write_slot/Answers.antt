@@ -1,4 +1,5 @@
 use Rattle.std.proofs.Common.{sym, ◌∙◌}
+use Rattle.nb_base.proofs.TouchLaws.{touched}
 use Rattle.nb_base.proofs.WriteLaws.{not_done, slot_strikes, slot_seen}
 use Rattle.nb_base.proofs.writes.write_slot.Goals as goal
 
@@ -22,3 +23,9 @@ returns-clause-takes g c t name number k tells seen is diverts at named slot mus
       left = left;
       done = slot_seen name t number c.args.page.now is old timely reads seen new diverts k at _ _ named size (c.rewrite.ensures.changes tells k slot) left (c.in_ok-rewrite.ensures.put tells k slot) c.args.synced must (c.in_ok-rewrite.ensures.durable tells);
     }
+
+pub returns-in_err-rewrite-clause-touches : goal.returns-in_err-rewrite-clause-touches
+returns-in_err-rewrite-clause-touches g c tells k slot = touched _ _ _ _ (c.rewrite.ensures.changes tells k slot)
+
+pub returns-clause-touches : goal.returns-clause-touches
+returns-clause-touches g c tells k slot = touched _ _ _ _ (c.rewrite.ensures.changes tells k slot)

@@ -2,11 +2,13 @@ use Rattle.std.proofs.Common.{sym, subst, ap, ◌∙◌, arith}
 use Rattle.nb_host.specs.World.{World}
 use Rattle.nb_fields.specs.Table.{slot_place}
 use Rattle.nb_delta.specs.Known.{Known}
+use Rattle.nb_delta.specs.Slots.{HasTable}
 use Rattle.nb_model.specs.Strokes.{noted}
 use Rattle.nb_model.specs.Owner.{entry_for}
 use Rattle.nb_base.specs.Seen.{IsSeen}
 use Rattle.nb_base.proofs.LeftLaws.{noted-there, noted-new}
 use Rattle.nb_base.proofs.PlaceLaws.{slot_answered, none_found, kept_entries, more_entries, kept_more}
+use Rattle.nb_base.proofs.TouchLaws.{touched_from}
 use Rattle.nb_base.proofs.WriteLaws.{takes_passed, takes_done}
 use Rattle.nb_base.proofs.writes.write_stalled.Goals as goal
 
@@ -51,3 +53,31 @@ pub returns-in_ok-add_entry-in-None-clause-known : goal.returns-in_ok-add_entry-
 returns-in_ok-add_entry-in-None-clause-known g c =
     c.in_ok-add_entry-in-None.ensures.known ∙ more_entries c.slot_of.new.self c.args.delta.now c.args.number c.slot_of.ensures.same
     ∙ kept_more c.args.delta.now c.args.number (noted-new c.args.number c.args.delta.now.entries (none_found c.args.number c.args.delta.now.entries (c.in_ok-slot.ensures.none c.in-None.is)))
+
+pub returns-in_err-write_slot-in-Some-clause-touches : goal.returns-in_err-write_slot-in-Some-clause-touches
+returns-in_err-write_slot-in-Some-clause-touches g c tells table =
+    let slot = slot_answered c.slot_of.result c.args.delta.now.page_size c.in-Some.slot c.args.number c.args.delta.now.entries c.in_ok-slot.field-0 c.in_ok-slot.was c.slot_of.ensures.slot c.in-Some.is in
+    touched_from (g.H.Host.world c.args.host.now) (g.H.Host.world c.slot_of.new._host) (g.H.Host.world c.write_slot.new.host) _ _ (ap g.H.Host.world c.slot_of.ensures.no_call) (ap (λ (k : Known). k.name) c.slot_of.ensures.same)
+    (c.write_slot.ensures.touches tells slot.k (slot.place ∙ ap (λ (k : Known). slot_place k.page_size slot.k) (sym c.slot_of.ensures.same)))
+
+pub returns-in_ok-write_slot-in-Some-clause-touches : goal.returns-in_ok-write_slot-in-Some-clause-touches
+returns-in_ok-write_slot-in-Some-clause-touches g c tells table =
+    let slot = slot_answered c.slot_of.result c.args.delta.now.page_size c.in-Some.slot c.args.number c.args.delta.now.entries c.in_ok-slot.field-0 c.in_ok-slot.was c.slot_of.ensures.slot c.in-Some.is in
+    touched_from (g.H.Host.world c.args.host.now) (g.H.Host.world c.slot_of.new._host) (g.H.Host.world c.write_slot.new.host) _ _ (ap g.H.Host.world c.slot_of.ensures.no_call) (ap (λ (k : Known). k.name) c.slot_of.ensures.same)
+    (c.write_slot.ensures.touches tells slot.k (slot.place ∙ ap (λ (k : Known). slot_place k.page_size slot.k) (sym c.slot_of.ensures.same)))
+
+pub returns-in_err-add_entry-in-None-clause-touches : goal.returns-in_err-add_entry-in-None-clause-touches
+returns-in_err-add_entry-in-None-clause-touches g c tells table =
+    let same = ap g.H.Host.world c.slot_of.ensures.no_call in
+    touched_from (g.H.Host.world c.args.host.now) (g.H.Host.world c.slot_of.new._host) (g.H.Host.world c.add_entry.new.host) _ _ same (ap (λ (k : Known). k.name) c.slot_of.ensures.same)
+    (c.add_entry.ensures.touches tells
+    (subst (λ (w : World). HasTable c.slot_of.new.self.page_size (w.files c.slot_of.new.self.name) c.slot_of.new.self.entries) (sym same)
+    (subst (λ (k : Known). HasTable k.page_size ((g.H.Host.world c.args.host.now).files k.name) k.entries) (sym c.slot_of.ensures.same) table)))
+
+pub returns-in_ok-add_entry-in-None-clause-touches : goal.returns-in_ok-add_entry-in-None-clause-touches
+returns-in_ok-add_entry-in-None-clause-touches g c tells table =
+    let same = ap g.H.Host.world c.slot_of.ensures.no_call in
+    touched_from (g.H.Host.world c.args.host.now) (g.H.Host.world c.slot_of.new._host) (g.H.Host.world c.add_entry.new.host) _ _ same (ap (λ (k : Known). k.name) c.slot_of.ensures.same)
+    (c.add_entry.ensures.touches tells
+    (subst (λ (w : World). HasTable c.slot_of.new.self.page_size (w.files c.slot_of.new.self.name) c.slot_of.new.self.entries) (sym same)
+    (subst (λ (k : Known). HasTable k.page_size ((g.H.Host.world c.args.host.now).files k.name) k.entries) (sym c.slot_of.ensures.same) table)))

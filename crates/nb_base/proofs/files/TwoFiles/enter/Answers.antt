@@ -4,8 +4,9 @@ use Rattle.nb_change.specs.Changes.{Changes, Only, Moved}
 use Rattle.nb_change.proofs.MomentLaws.{left_before}
 use Rattle.nb_delta.specs.Known.{Known}
 use Rattle.nb_delta.specs.Waiting.{Waits, FrontStep, HasAll}
+use Rattle.nb_model.specs.Owner.{delta_name}
 use Rattle.nb_model.specs.Trail.{StandsIn}
-use Rattle.nb_base.specs.Open.{Held, OfFiles, IsOpen}
+use Rattle.nb_base.specs.Open.{Held, IsOpen}
 use Rattle.nb_base.specs.Going.{GoesIn}
 use Rattle.nb_base.specs.contracts.files.TwoFiles.{the_view}
 use Rattle.nb_base.proofs.EnterLaws.{drafts_wait, enter_changes, enter_open, kept_changes, kept_open}
@@ -17,7 +18,7 @@ returns-in_err-sync-clause-left g c f t waits tells given none =
     let old = g.H.Host.world c.args.host.now in
     let new = g.H.Host.world c.sync.new.self in
     let goes = subst (λ (h : Held). GoesIn old h f t waits) (sym c.self.view_is) given in
-    subst (λ (h : Held). Changes old new (OfFiles h.name) (StandsIn h.name t)) c.self.view_is
+    subst (λ (h : Held). Changes old new (Only (delta_name h.name)) (StandsIn h.name t)) c.self.view_is
     (kept_changes old (g.met.H.Host.reads_left c.args.host.now tells) (the_view c.self.inside) f t waits goes none new c.sync.ensures.files.still (sym c.drafted.ensures.value ∙ c.if-drafted-eq0.true) (g.met.H.Host.timely c.args.host.now) c.sync.ensures.log.said c.sync.ensures.time)
 
 pub returns-in_ok-sync-clause-left : goal.returns-in_ok-sync-clause-left
@@ -25,7 +26,7 @@ returns-in_ok-sync-clause-left g c f t waits tells given none =
     let old = g.H.Host.world c.args.host.now in
     let new = g.H.Host.world c.sync.new.self in
     let goes = subst (λ (h : Held). GoesIn old h f t waits) (sym c.self.view_is) given in
-    subst (λ (h : Held). Changes old new (OfFiles h.name) (StandsIn h.name t)) c.self.view_is
+    subst (λ (h : Held). Changes old new (Only (delta_name h.name)) (StandsIn h.name t)) c.self.view_is
     (kept_changes old (g.met.H.Host.reads_left c.args.host.now tells) (the_view c.self.inside) f t waits goes none new c.sync.ensures.files.still (sym c.drafted.ensures.value ∙ c.if-drafted-eq0.true) (g.met.H.Host.timely c.args.host.now) c.sync.ensures.log.said c.sync.ensures.time)
 
 pub returns-in_ok-sync-clause-done : goal.returns-in_ok-sync-clause-done
@@ -48,7 +49,7 @@ returns-in_err-write_entries-clause-left g c f t waits tells given none =
     let wait = drafts_wait old reads (the_view c.self.inside) f t waits goes none c.drafted.ensures.apart in
     let changes = subst (λ (n : List ℕ). Changes old new (Only n) (Moved old n (FrontStep d.page_size f.base.diverted goes.behind.diverted.0 (old.files n)))) c.self.invariant.5
     (c.write_entries.ensures.changes tells f.base.diverted goes.behind.diverted.0 (subst (λ (n : List ℕ). Waits d.page_size d.entries d.drafted f.base.diverted goes.behind.diverted.0 (old.files n)) (sym c.self.invariant.5) wait)) in
-    subst (λ (h : Held). Changes old new (OfFiles h.name) (StandsIn h.name t)) c.self.view_is
+    subst (λ (h : Held). Changes old new (Only (delta_name h.name)) (StandsIn h.name t)) c.self.view_is
     (enter_changes old reads (the_view c.self.inside) f t waits goes none new (g.met.H.Host.timely c.args.host.now) changes)
 
 pub returns-in_ok-write_entries-clause-left : goal.returns-in_ok-write_entries-clause-left
@@ -61,7 +62,7 @@ returns-in_ok-write_entries-clause-left g c f t waits tells given none =
     let wait = drafts_wait old reads (the_view c.self.inside) f t waits goes none c.drafted.ensures.apart in
     let changes = subst (λ (n : List ℕ). Changes old new (Only n) (Moved old n (FrontStep d.page_size f.base.diverted goes.behind.diverted.0 (old.files n)))) c.self.invariant.5
     (c.write_entries.ensures.changes tells f.base.diverted goes.behind.diverted.0 (subst (λ (n : List ℕ). Waits d.page_size d.entries d.drafted f.base.diverted goes.behind.diverted.0 (old.files n)) (sym c.self.invariant.5) wait)) in
-    subst (λ (h : Held). Changes old new (OfFiles h.name) (StandsIn h.name t)) c.self.view_is
+    subst (λ (h : Held). Changes old new (Only (delta_name h.name)) (StandsIn h.name t)) c.self.view_is
     (enter_changes old reads (the_view c.self.inside) f t waits goes none new (g.met.H.Host.timely c.args.host.now) changes)
 
 pub returns-in_ok-write_entries-clause-done : goal.returns-in_ok-write_entries-clause-done

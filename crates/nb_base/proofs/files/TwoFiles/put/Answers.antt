@@ -1,8 +1,10 @@
 use Rattle.std.proofs.Common.{refl, sym, subst, ap, ◌∙◌}
 use Rattle.std.proofs.lemmas.Bool.{true≢false}
 use Rattle.nb_base.specs.Open.{Held, IsOpen, AreMerged}
+use Rattle.nb_base.specs.Touches.{WritesIn}
 use Rattle.nb_base.proofs.AgreeLaws.{open_seen, takes_named}
-use Rattle.nb_base.proofs.WriteLaws.{takes_passed, takes_done}
+use Rattle.nb_base.proofs.TouchLaws.{delta_in}
+use Rattle.nb_base.proofs.WriteLaws.{takes_passed, takes_done, seen_table, no_entries}
 use Rattle.nb_base.proofs.files.TwoFiles.put.Goals as goal
 
 pub returns-in_err-write_stalled-clause-takes : goal.returns-in_err-write_stalled-clause-takes
@@ -52,3 +54,39 @@ returns-in_ok-write_plain-clause-merged g c t k tells open_ is merges merged =
     subst (λ (h : Held). AreMerged new h k) c.self.view_is
     (c.in_ok-write_plain.ensures.merged t _ k tells (open_seen old _ t o) is (sym o.agrees.state ∙ state) (sym o.agrees.entries) refl refl c.self.invariant.5 refl
     (subst (λ (h : Held). AreMerged old h k) (sym c.self.view_is) merged))
+
+pub returns-in_err-write_stalled-clause-touches : goal.returns-in_err-write_stalled-clause-touches
+returns-in_err-write_stalled-clause-touches g c t tells open_ =
+    let old = g.H.Host.world c.args.host.now in
+    let new = g.H.Host.world c.write_stalled.new.host in
+    let o = subst (λ (h : Held). IsOpen old h t) (sym c.self.view_is) open_ in
+    let stalled = c.is_diverted.ensures.0 c.if-is_diverted.true in
+    subst (λ (h : Held). WritesIn old new h.state h.name) c.self.view_is
+    (delta_in old new c.self.inside.state c.self.inside.name c.self.inside.delta.name stalled c.self.invariant.5
+    (c.write_stalled.ensures.touches tells (seen_table c.self.inside.name t old (open_seen old _ t o) (sym o.agrees.state ∙ stalled) _ _ _ c.self.invariant.5 o.agrees.page_size (sym o.agrees.entries))))
+
+pub returns-in_ok-write_stalled-clause-touches : goal.returns-in_ok-write_stalled-clause-touches
+returns-in_ok-write_stalled-clause-touches g c t tells open_ =
+    let old = g.H.Host.world c.args.host.now in
+    let new = g.H.Host.world c.write_stalled.new.host in
+    let o = subst (λ (h : Held). IsOpen old h t) (sym c.self.view_is) open_ in
+    let stalled = c.is_diverted.ensures.0 c.if-is_diverted.true in
+    subst (λ (h : Held). WritesIn old new h.state h.name) c.self.view_is
+    (delta_in old new c.self.inside.state c.self.inside.name c.self.inside.delta.name stalled c.self.invariant.5
+    (c.write_stalled.ensures.touches tells (seen_table c.self.inside.name t old (open_seen old _ t o) (sym o.agrees.state ∙ stalled) _ _ _ c.self.invariant.5 o.agrees.page_size (sym o.agrees.entries))))
+
+pub returns-in_err-write_plain-clause-touches : goal.returns-in_err-write_plain-clause-touches
+returns-in_err-write_plain-clause-touches g c t tells open_ =
+    let old = g.H.Host.world c.args.host.now in
+    let new = g.H.Host.world c.write_plain.new.host in
+    let o = subst (λ (h : Held). IsOpen old h t) (sym c.self.view_is) open_ in
+    subst (λ (h : Held). WritesIn old new h.state h.name) c.self.view_is
+    (c.write_plain.ensures.touches tells (λ normal. o.agrees.entries ∙ no_entries c.self.inside.name t old (open_seen old _ t o) (sym o.agrees.state ∙ normal)) c.self.invariant.5)
+
+pub returns-in_ok-write_plain-clause-touches : goal.returns-in_ok-write_plain-clause-touches
+returns-in_ok-write_plain-clause-touches g c t tells open_ =
+    let old = g.H.Host.world c.args.host.now in
+    let new = g.H.Host.world c.write_plain.new.host in
+    let o = subst (λ (h : Held). IsOpen old h t) (sym c.self.view_is) open_ in
+    subst (λ (h : Held). WritesIn old new h.state h.name) c.self.view_is
+    (c.write_plain.ensures.touches tells (λ normal. o.agrees.entries ∙ no_entries c.self.inside.name t old (open_seen old _ t o) (sym o.agrees.state ∙ normal)) c.self.invariant.5)

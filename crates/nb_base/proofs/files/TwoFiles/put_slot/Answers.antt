@@ -1,11 +1,11 @@
 use Rattle.std.proofs.Common.{◌≡◌, ℕ, sym, ap, subst, ◌∙◌}
 use Rattle.std.specs.Prelude.{None, Some}
-use Rattle.nb_change.specs.Changes.{Changes}
+use Rattle.nb_change.specs.Changes.{Only, Changes}
 use Rattle.nb_delta.specs.Known.{Known}
 use Rattle.nb_fields.specs.Table.{slot_place}
-use Rattle.nb_model.specs.Owner.{entry_for}
+use Rattle.nb_model.specs.Owner.{delta_name, entry_for}
 use Rattle.nb_model.specs.Trail.{StandsIn}
-use Rattle.nb_base.specs.Open.{Held, OfFiles}
+use Rattle.nb_base.specs.Open.{Held}
 use Rattle.nb_base.specs.Going.{GoesIn}
 use Rattle.nb_base.specs.contracts.files.TwoFiles.{the_view}
 use Rattle.nb_base.proofs.PlaceLaws.{slot_answered, none_found}
@@ -23,7 +23,7 @@ returns-in_err-rewrite-in-Some-clause-left g c f t waits tells given may =
     let slot = slot_answered c.slot_of.result c.self.inside.delta.page_size c.in-Some.slot c.args.number c.self.inside.delta.entries c.in_ok-slot.field-0 c.in_ok-slot.was c.slot_of.ensures.slot c.in-Some.is in
     let changes = slot_changes old _ new c.self.inside.name _ c.self.inside.delta slot.k c.args.page.now (ap g.H.Host.world c.slot_of.ensures.no_call) c.slot_of.ensures.same c.self.invariant.5
     (c.rewrite.ensures.changes tells slot.k (slot.place ∙ ap (λ (d : Known). slot_place d.page_size slot.k) (sym c.slot_of.ensures.same))) in
-    subst (λ (h : Held). Changes old new (OfFiles h.name) (StandsIn h.name t)) c.self.view_is
+    subst (λ (h : Held). Changes old new (Only (delta_name h.name)) (StandsIn h.name t)) c.self.view_is
     (slot_left old new (the_view c.self.inside) f t waits goes c.args.number slot.k c.args.page.now may (ap (entry_for c.args.number) (sym goes.agrees.entries) ∙ slot.at) changes (g.met.H.Host.timely c.args.host.now))
 
 pub returns-in_ok-rewrite-in-Some-clause-left : goal.returns-in_ok-rewrite-in-Some-clause-left
@@ -34,7 +34,7 @@ returns-in_ok-rewrite-in-Some-clause-left g c f t waits tells given may =
     let slot = slot_answered c.slot_of.result c.self.inside.delta.page_size c.in-Some.slot c.args.number c.self.inside.delta.entries c.in_ok-slot.field-0 c.in_ok-slot.was c.slot_of.ensures.slot c.in-Some.is in
     let changes = slot_changes old _ new c.self.inside.name _ c.self.inside.delta slot.k c.args.page.now (ap g.H.Host.world c.slot_of.ensures.no_call) c.slot_of.ensures.same c.self.invariant.5
     (c.rewrite.ensures.changes tells slot.k (slot.place ∙ ap (λ (d : Known). slot_place d.page_size slot.k) (sym c.slot_of.ensures.same))) in
-    subst (λ (h : Held). Changes old new (OfFiles h.name) (StandsIn h.name t)) c.self.view_is
+    subst (λ (h : Held). Changes old new (Only (delta_name h.name)) (StandsIn h.name t)) c.self.view_is
     (slot_left old new (the_view c.self.inside) f t waits goes c.args.number slot.k c.args.page.now may (ap (entry_for c.args.number) (sym goes.agrees.entries) ∙ slot.at) changes (g.met.H.Host.timely c.args.host.now))
 
 pub returns-in_ok-rewrite-in-Some-clause-put : goal.returns-in_ok-rewrite-in-Some-clause-put

@@ -1,7 +1,7 @@
 use Rattle.std.proofs.Common.{sym, subst}
-use Rattle.nb_change.specs.Changes.{Changes}
+use Rattle.nb_change.specs.Changes.{Only, Changes}
+use Rattle.nb_model.specs.Owner.{delta_name}
 use Rattle.nb_model.specs.Trail.{StandsIn}
-use Rattle.nb_base.specs.Open.{OfFiles}
 use Rattle.nb_cache.specs.Held.{NoneWaits}
 use Rattle.nb_owner.specs.Open.{Held, GoesSlot, waits}
 use Rattle.nb_owner.proofs.WaitLaws.{none_waits, open_settled}
@@ -13,7 +13,7 @@ returns-in_err-enter-clause-left g c f t tells given =
     let new = g.H.Host.world c.enter.new.host in
     let out = subst (λ (h : Held). GoesSlot old h f t) (sym c.self.view_is) given in
     let none = subst (λ (h : Held). NoneWaits h.pages) (sym c.self.view_is) c.requires.none in
-    subst (λ (h : Held). Changes old new (OfFiles h.files.name) (StandsIn h.files.name t)) c.self.view_is
+    subst (λ (h : Held). Changes old new (Only (delta_name h.files.name)) (StandsIn h.files.name t)) c.self.view_is
     (c.enter.ensures.left f t (waits c.self.inside.cache.pages) tells out.goes (none_waits c.self.inside.cache.pages none))
 
 pub returns-clause-left : goal.returns-clause-left
@@ -22,7 +22,7 @@ returns-clause-left g c f t tells given =
     let new = g.H.Host.world c.enter.new.host in
     let out = subst (λ (h : Held). GoesSlot old h f t) (sym c.self.view_is) given in
     let none = subst (λ (h : Held). NoneWaits h.pages) (sym c.self.view_is) c.requires.none in
-    subst (λ (h : Held). Changes old new (OfFiles h.files.name) (StandsIn h.files.name t)) c.self.view_is
+    subst (λ (h : Held). Changes old new (Only (delta_name h.files.name)) (StandsIn h.files.name t)) c.self.view_is
     (c.enter.ensures.left f t (waits c.self.inside.cache.pages) tells out.goes (none_waits c.self.inside.cache.pages none))
 
 pub returns-clause-out : goal.returns-clause-out

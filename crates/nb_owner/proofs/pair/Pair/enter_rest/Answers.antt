@@ -15,3 +15,15 @@ returns-in_ok-enter-clause-takes g c t tells given =
     let is = subst (λ (h : Held). IsOpen (g.H.Host.world c.args.host.now) h t) (sym c.self.view_is) given in
     let none = subst (λ (h : Held). NoneWaits h.pages) (sym c.self.view_is) c.requires.none in
     absurd (c.if-drafted-eq0.false (c.drafted.ensures.value ∙ (none_drafted c.self.inside.cache.pages c.self.inside.files.drafted is.sees t (none_waits c.self.inside.cache.pages none) is.waits).0))
+
+pub returns-in_err-enter-clause-touches : goal.returns-in_err-enter-clause-touches
+returns-in_err-enter-clause-touches g c t tells given =
+    let is = subst (λ (h : Held). IsOpen (g.H.Host.world c.args.host.now) h t) (sym c.self.view_is) given in
+    let none = subst (λ (h : Held). NoneWaits h.pages) (sym c.self.view_is) c.requires.none in
+    absurd (c.if-drafted-eq0.false (c.drafted.ensures.value ∙ (none_drafted c.self.inside.cache.pages c.self.inside.files.drafted is.sees t (none_waits c.self.inside.cache.pages none) is.waits).0))
+
+pub returns-in_ok-enter-clause-touches : goal.returns-in_ok-enter-clause-touches
+returns-in_ok-enter-clause-touches g c t tells given =
+    let is = subst (λ (h : Held). IsOpen (g.H.Host.world c.args.host.now) h t) (sym c.self.view_is) given in
+    let none = subst (λ (h : Held). NoneWaits h.pages) (sym c.self.view_is) c.requires.none in
+    absurd (c.if-drafted-eq0.false (c.drafted.ensures.value ∙ (none_drafted c.self.inside.cache.pages c.self.inside.files.drafted is.sees t (none_waits c.self.inside.cache.pages none) is.waits).0))

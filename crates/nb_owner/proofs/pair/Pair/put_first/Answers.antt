@@ -1,8 +1,9 @@
 use Rattle.std.proofs.Common.{sym, subst}
+use Rattle.nb_change.specs.Changes.{Only}
 use Rattle.nb_change.proofs.ChangesLaws.{begun}
 use Rattle.nb_model.specs.Trail.{settled, IsFirm, StandsIn}
 use Rattle.nb_model.specs.Behind.{IsOnTheWay}
-use Rattle.nb_base.specs.Open.{OfFiles, Agrees, IsOpen as AreOpen}
+use Rattle.nb_base.specs.Open.{Agrees, IsOpen as AreOpen}
 use Rattle.nb_owner.specs.Open.{Held, GoesOut, NoScnWaits}
 use Rattle.nb_owner.specs.contracts.pair.Pair.{the_view}
 use Rattle.nb_owner.proofs.OutLaws.{start_way, start_firm, synced_firm, reads_agree, none_scn, quiet_more}
@@ -14,12 +15,12 @@ returns-in_err-put_scn_pages-in-Some-clause-left g c t tells is unsettled normal
 
 pub returns-in_err-sync-in-Some-clause-left : goal.returns-in_err-sync-in-Some-clause-left
 returns-in_err-sync-in-Some-clause-left g c t tells is unsettled normal =
-    quiet_more (g.H.Host.world c.args.host.now) (g.H.Host.world c.put_scn_pages.new.host) (g.H.Host.world c.sync.new.host) (OfFiles c.args.self.now.files.name) (StandsIn c.args.self.now.files.name t)
+    quiet_more (g.H.Host.world c.args.host.now) (g.H.Host.world c.put_scn_pages.new.host) (g.H.Host.world c.sync.new.host) (Only c.args.self.now.files.name) (StandsIn c.args.self.now.files.name t)
     (c.put_scn_pages.ensures.left is.sees t tells (start_way (g.H.Host.world c.args.host.now) c.args.self.now t is normal) unsettled) c.sync.ensures.quiet
 
 pub returns-in_ok-sync-in-Some-clause-left : goal.returns-in_ok-sync-in-Some-clause-left
 returns-in_ok-sync-in-Some-clause-left g c t tells is unsettled normal =
-    quiet_more (g.H.Host.world c.args.host.now) (g.H.Host.world c.put_scn_pages.new.host) (g.H.Host.world c.sync.new.host) (OfFiles c.args.self.now.files.name) (StandsIn c.args.self.now.files.name t)
+    quiet_more (g.H.Host.world c.args.host.now) (g.H.Host.world c.put_scn_pages.new.host) (g.H.Host.world c.sync.new.host) (Only c.args.self.now.files.name) (StandsIn c.args.self.now.files.name t)
     (c.put_scn_pages.ensures.left is.sees t tells (start_way (g.H.Host.world c.args.host.now) c.args.self.now t is normal) unsettled) c.sync.ensures.quiet
 
 pub returns-in_ok-sync-in-Some-clause-out : goal.returns-in_ok-sync-in-Some-clause-out
@@ -38,7 +39,7 @@ returns-in_ok-sync-in-Some-clause-out g c t is tells unsettled normal =
 
 pub returns-in-None-clause-left : goal.returns-in-None-clause-left
 returns-in-None-clause-left g c t tells is unsettled normal =
-    begun (g.H.Host.world c.args.host.now) (OfFiles c.args.self.now.files.name) (StandsIn c.args.self.now.files.name t) (g.met.H.Host.timely c.args.host.now) is.left
+    begun (g.H.Host.world c.args.host.now) (Only c.args.self.now.files.name) (StandsIn c.args.self.now.files.name t) (g.met.H.Host.timely c.args.host.now) is.left
 
 pub returns-in-None-clause-out : goal.returns-in-None-clause-out
 returns-in-None-clause-out g c t is tells unsettled normal =

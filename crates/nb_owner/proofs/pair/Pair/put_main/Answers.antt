@@ -1,40 +1,38 @@
 use Rattle.std.proofs.Common.{List, ℕ, subst, ap}
-use Rattle.nb_change.specs.Changes.{Changes}
+use Rattle.nb_change.specs.Changes.{Only, Changes}
 use Rattle.nb_change.proofs.ChangesLaws.{composed}
 use Rattle.nb_model.specs.Trail.{StandsIn}
-use Rattle.nb_base.specs.Open.{OfFiles}
-use Rattle.nb_base.proofs.WriteLaws.{not_done}
 use Rattle.nb_owner.proofs.pair.Pair.put_main.Goals as goal
 
-pub returns-in_err-put_first-clause-takes : goal.returns-in_err-put_first-clause-takes
-returns-in_err-put_first-clause-takes g c t tells is normal =
+pub returns-in_err-put_first-clause-left : goal.returns-in_err-put_first-clause-left
+returns-in_err-put_first-clause-left g c t tells is normal =
     let waiting = is.waits.each c.requires.some.0 c.requires.some.1 c.requires.some.2 in
-    record { left = c.put_first.ensures.left t tells is waiting.unsettled normal; done = not_done c.from_residual.result _ c.from_residual.ensures.0 }
+    c.put_first.ensures.left t tells is waiting.unsettled normal
 
-pub returns-in_err-put_pages-clause-takes : goal.returns-in_err-put_pages-clause-takes
-returns-in_err-put_pages-clause-takes g c t tells is normal =
+pub returns-in_err-put_pages-clause-left : goal.returns-in_err-put_pages-clause-left
+returns-in_err-put_pages-clause-left g c t tells is normal =
     let old = g.H.Host.world c.args.host.now in
     let mid = g.H.Host.world c.put_first.new.host in
     let new = g.H.Host.world c.put_pages.new.host in
     let name = c.args.self.now.files.name in
     let waiting = is.waits.each c.requires.some.0 c.requires.some.1 c.requires.some.2 in
     let out = c.in_ok-put_first.ensures.out t is tells waiting.unsettled normal in
-    record {
-      left = composed old mid new (OfFiles name) (StandsIn name t) (StandsIn name t) (StandsIn name t) (c.put_first.ensures.left t tells is waiting.unsettled normal)
-          (subst (λ (n : List ℕ). Changes mid new (OfFiles n) (StandsIn n t)) (ap (λ f. f.name) c.put_first.ensures.files) (c.put_pages.ensures.left is.sees t tells out.0 out.1)) (λ files so. so) (λ files so. so);
-      done = not_done c.from_residual-in_err-put_pages.result _ c.from_residual-in_err-put_pages.ensures.0;
-    }
+    composed old mid new (Only name) (StandsIn name t) (StandsIn name t) (StandsIn name t) (c.put_first.ensures.left t tells is waiting.unsettled normal)
+    (subst (λ (n : List ℕ). Changes mid new (Only n) (StandsIn n t)) (ap (λ f. f.name) c.put_first.ensures.files) (c.put_pages.ensures.left is.sees t tells out.0 out.1)) (λ files so. so) (λ files so. so)
 
-pub returns-clause-takes : goal.returns-clause-takes
-returns-clause-takes g c t tells is normal =
+pub returns-clause-left : goal.returns-clause-left
+returns-clause-left g c t tells is normal =
     let old = g.H.Host.world c.args.host.now in
     let mid = g.H.Host.world c.put_first.new.host in
     let new = g.H.Host.world c.put_pages.new.host in
     let name = c.args.self.now.files.name in
     let waiting = is.waits.each c.requires.some.0 c.requires.some.1 c.requires.some.2 in
     let out = c.in_ok-put_first.ensures.out t is tells waiting.unsettled normal in
-    record {
-      left = composed old mid new (OfFiles name) (StandsIn name t) (StandsIn name t) (StandsIn name t) (c.put_first.ensures.left t tells is waiting.unsettled normal)
-          (subst (λ (n : List ℕ). Changes mid new (OfFiles n) (StandsIn n t)) (ap (λ f. f.name) c.put_first.ensures.files) (c.put_pages.ensures.left is.sees t tells out.0 out.1)) (λ files so. so) (λ files so. so);
-      done = c.in_ok-put_pages.ensures.out is.sees t tells out.0 out.1;
-    }
+    composed old mid new (Only name) (StandsIn name t) (StandsIn name t) (StandsIn name t) (c.put_first.ensures.left t tells is waiting.unsettled normal)
+    (subst (λ (n : List ℕ). Changes mid new (Only n) (StandsIn n t)) (ap (λ f. f.name) c.put_first.ensures.files) (c.put_pages.ensures.left is.sees t tells out.0 out.1)) (λ files so. so) (λ files so. so)
+
+pub returns-clause-out : goal.returns-clause-out
+returns-clause-out g c t tells is normal =
+    let waiting = is.waits.each c.requires.some.0 c.requires.some.1 c.requires.some.2 in
+    let out = c.in_ok-put_first.ensures.out t is tells waiting.unsettled normal in
+    c.in_ok-put_pages.ensures.out is.sees t tells out.0 out.1

@@ -1,10 +1,9 @@
 use Rattle.std.proofs.Common.{◌≡◌, length, sym, subst, ap, ◌∙◌, arith}
 use Rattle.std.proofs.lemmas.List.{take_at}
-use Rattle.nb_change.specs.Changes.{Changes}
+use Rattle.nb_change.specs.Changes.{Only, Changes}
 use Rattle.nb_model.specs.Image.{page_at}
 use Rattle.nb_model.specs.Strokes.{page, on_base}
 use Rattle.nb_model.specs.Trail.{ShowsIn}
-use Rattle.nb_base.specs.Open.{OfFiles}
 use Rattle.nb_base.specs.Put.{MayPut, PutLeft}
 use Rattle.nb_cache.specs.Held.{rank_of, NoneWaits}
 use Rattle.nb_owner.specs.Open.{Held, AreOf}
@@ -19,8 +18,8 @@ returns-in_err-put_out-clause-left g c t tells pages =
     let into : length c.peek.new.into ≡ c.self.inside.page.len = omega (arith, c.peek.auto.into, c.deref_mut.ensures.len) in
     let is : c.deref.result.now ≡ page_at t.base.image c.args.number = c.deref.ensures.value ∙ take_at c.peek.new.into _ c.self.inside.page.len into
     ∙ peeked t.base.image c.self.inside.cache.pages c.args.number c.requires.waits.0 c.peek.new.into _ (ap (λ (h : Held). rank_of h.pages c.args.number) c.self.view_is ∙ c.requires.waits.1) (subst (λ (h : Held). AreOf t.base.image h.pages) (sym c.self.view_is) pages) c.peek.ensures.filled in
-    subst (λ (h : Held). Changes old new (OfFiles h.files.name) (PutLeft old h.files.name c.args.number (page_at t.base.image c.args.number))) c.self.view_is
-    (subst (λ bytes. Changes old new (OfFiles c.self.inside.files.name) (PutLeft old c.self.inside.files.name c.args.number bytes)) is (c.put_out.ensures.left tells))
+    subst (λ (h : Held). Changes old new (Only h.files.name) (PutLeft old h.files.name c.args.number (page_at t.base.image c.args.number))) c.self.view_is
+    (subst (λ bytes. Changes old new (Only c.self.inside.files.name) (PutLeft old c.self.inside.files.name c.args.number bytes)) is (c.put_out.ensures.left tells))
 
 pub returns-in_err-put_out-clause-long : goal.returns-in_err-put_out-clause-long
 returns-in_err-put_out-clause-long g c t pages =
@@ -45,8 +44,8 @@ returns-clause-left g c t tells pages =
     let into : length c.peek.new.into ≡ c.self.inside.page.len = omega (arith, c.peek.auto.into, c.deref_mut.ensures.len) in
     let is : c.deref.result.now ≡ page_at t.base.image c.args.number = c.deref.ensures.value ∙ take_at c.peek.new.into _ c.self.inside.page.len into
     ∙ peeked t.base.image c.self.inside.cache.pages c.args.number c.requires.waits.0 c.peek.new.into _ (ap (λ (h : Held). rank_of h.pages c.args.number) c.self.view_is ∙ c.requires.waits.1) (subst (λ (h : Held). AreOf t.base.image h.pages) (sym c.self.view_is) pages) c.peek.ensures.filled in
-    subst (λ (h : Held). Changes old new (OfFiles h.files.name) (PutLeft old h.files.name c.args.number (page_at t.base.image c.args.number))) c.self.view_is
-    (subst (λ bytes. Changes old new (OfFiles c.self.inside.files.name) (PutLeft old c.self.inside.files.name c.args.number bytes)) is (c.put_out.ensures.left tells))
+    subst (λ (h : Held). Changes old new (Only h.files.name) (PutLeft old h.files.name c.args.number (page_at t.base.image c.args.number))) c.self.view_is
+    (subst (λ bytes. Changes old new (Only c.self.inside.files.name) (PutLeft old c.self.inside.files.name c.args.number bytes)) is (c.put_out.ensures.left tells))
 
 pub returns-clause-put : goal.returns-clause-put
 returns-clause-put g c t b tells pages shows may =

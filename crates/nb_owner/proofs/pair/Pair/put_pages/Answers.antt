@@ -1,8 +1,7 @@
 use Rattle.std.proofs.Common.{◌<◌, ℕ, List, refl, sym, subst, ap, ◌∙◌}
-use Rattle.nb_change.specs.Changes.{Changes}
+use Rattle.nb_change.specs.Changes.{Only, Changes}
 use Rattle.nb_change.proofs.GaveLaws.{nothing_joined}
 use Rattle.nb_model.specs.Trail.{IsFirm, StandsIn}
-use Rattle.nb_base.specs.Open.{OfFiles}
 use Rattle.nb_owner.specs.Open.{Held, GoesOut, NoScnWaits, bare}
 use Rattle.nb_owner.proofs.RankLaws.{waiting_count, fewer_wait, marked_bare}
 use Rattle.nb_owner.proofs.OutLaws.{firm_begun, firm_changes, firm_more, none_more, out_open}
@@ -44,8 +43,8 @@ loop-number-preserved g c =
           let so = loop.out f t tells given cond in
           let by = c.put_next.ensures.left t tells so.1.pages in
           let size = c.put_next.ensures.long t so.1.pages in (
-            subst (λ (n : List ℕ). Changes old new (OfFiles n) (StandsIn n t)) name
-                (firm_changes mid c.loop-number.self f t so.1 so.2 new c.in-Some.number c.in-Some.ensures.next.0 c.in-Some.ensures.next.1 size by old (subst (λ (n : List ℕ). Changes old mid (OfFiles n) (StandsIn n t)) (sym name) so.0)),
+            subst (λ (n : List ℕ). Changes old new (Only n) (StandsIn n t)) name
+                (firm_changes mid c.loop-number.self f t so.1 so.2 new c.in-Some.number c.in-Some.ensures.next.0 c.in-Some.ensures.next.1 size by old (subst (λ (n : List ℕ). Changes old mid (Only n) (StandsIn n t)) (sym name) so.0)),
             subst (λ (h : Held). GoesOut new h f t (IsFirm t)) (sym ok.done)
                 (firm_more mid c.loop-number.self f t so.1 so.2 new c.in-Some.number c.in-Some.ensures.next.0 c.in-Some.ensures.next.1 size by (λ b shows may. ok.put t b tells so.1.pages shows may)),
             subst (λ (h : Held). NoScnWaits t h.pages) (sym ok.done) (none_more mid c.loop-number.self f t so.1 so.2 new c.in-Some.number c.in-Some.ensures.next.0 c.in-Some.ensures.next.1 size by),
@@ -60,9 +59,9 @@ returns-in_err-put_next-clause-left g c f t tells given cond =
     let loop = c.loop-number.invariant in
     let name = ap (λ f. f.name) loop.files in
     let so = loop.out f t tells given cond in
-    subst (λ (n : List ℕ). Changes old new (OfFiles n) (StandsIn n t)) name
+    subst (λ (n : List ℕ). Changes old new (Only n) (StandsIn n t)) name
     (firm_changes mid c.loop-number.self f t so.1 so.2 new c.in-Some.number c.in-Some.ensures.next.0 c.in-Some.ensures.next.1 (c.put_next.ensures.long t so.1.pages) (c.put_next.ensures.left t tells so.1.pages) old
-    (subst (λ (n : List ℕ). Changes old mid (OfFiles n) (StandsIn n t)) (sym name) so.0))
+    (subst (λ (n : List ℕ). Changes old mid (Only n) (StandsIn n t)) (sym name) so.0))
 
 pub returns-clause-left : goal.returns-clause-left
 returns-clause-left g c f t tells given cond = (c.loop-number.invariant.out f t tells given cond).0

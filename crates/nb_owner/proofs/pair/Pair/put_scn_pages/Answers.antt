@@ -1,9 +1,8 @@
 use Rattle.std.proofs.Common.{◌<◌, ℕ, List, refl, sym, subst, ap, ◌∙◌}
-use Rattle.nb_change.specs.Changes.{Changes}
+use Rattle.nb_change.specs.Changes.{Only, Changes}
 use Rattle.nb_change.proofs.GaveLaws.{nothing_joined}
 use Rattle.nb_model.specs.Trail.{StandsIn}
 use Rattle.nb_model.specs.Behind.{IsOnTheWay}
-use Rattle.nb_base.specs.Open.{OfFiles}
 use Rattle.nb_owner.specs.Open.{Held, GoesOut, bare}
 use Rattle.nb_owner.proofs.RankLaws.{waiting_count, fewer_wait, marked_bare}
 use Rattle.nb_owner.proofs.OutLaws.{way_begun, way_changes, way_more, none_scn}
@@ -44,8 +43,8 @@ loop-number-preserved g c =
           let so = loop.out f t tells given cond in
           let by = c.put_next.ensures.left t tells so.1.pages in
           let size = c.put_next.ensures.long t so.1.pages in (
-            subst (λ (n : List ℕ). Changes old new (OfFiles n) (StandsIn n t)) name
-                (way_changes mid c.loop-number.self f t so.1 cond new c.in-Some.number c.in-Some.ensures.0 c.in-Some.ensures.1 c.in-Some.ensures.2 size by old (subst (λ (n : List ℕ). Changes old mid (OfFiles n) (StandsIn n t)) (sym name) so.0)),
+            subst (λ (n : List ℕ). Changes old new (Only n) (StandsIn n t)) name
+                (way_changes mid c.loop-number.self f t so.1 cond new c.in-Some.number c.in-Some.ensures.0 c.in-Some.ensures.1 c.in-Some.ensures.2 size by old (subst (λ (n : List ℕ). Changes old mid (Only n) (StandsIn n t)) (sym name) so.0)),
             subst (λ (h : Held). GoesOut new h f t (IsOnTheWay f t)) (sym ok.done)
                 (way_more mid c.loop-number.self f t so.1 cond new c.in-Some.number c.in-Some.ensures.0 c.in-Some.ensures.1 c.in-Some.ensures.2 size by (λ b shows may. ok.put t b tells so.1.pages shows may)),
           );
@@ -59,9 +58,9 @@ returns-in_err-put_next-clause-left g c f t tells given cond =
     let loop = c.loop-number.invariant in
     let name = ap (λ f. f.name) loop.files in
     let so = loop.out f t tells given cond in
-    subst (λ (n : List ℕ). Changes old new (OfFiles n) (StandsIn n t)) name
+    subst (λ (n : List ℕ). Changes old new (Only n) (StandsIn n t)) name
     (way_changes mid c.loop-number.self f t so.1 cond new c.in-Some.number c.in-Some.ensures.0 c.in-Some.ensures.1 c.in-Some.ensures.2 (c.put_next.ensures.long t so.1.pages) (c.put_next.ensures.left t tells so.1.pages) old
-    (subst (λ (n : List ℕ). Changes old mid (OfFiles n) (StandsIn n t)) (sym name) so.0))
+    (subst (λ (n : List ℕ). Changes old mid (Only n) (StandsIn n t)) (sym name) so.0))
 
 pub returns-clause-left : goal.returns-clause-left
 returns-clause-left g c f t tells given cond = (c.loop-number.invariant.out f t tells given cond).0

@@ -1,10 +1,9 @@
 use Rattle.std.proofs.Common.{◌≡◌, ◌≢◌, []}
 use Rattle.std.specs.Prelude.{IsTrue}
-use Rattle.nb_change.specs.Changes.{Changes}
+use Rattle.nb_change.specs.Changes.{Only, Changes}
 use Rattle.nb_change.specs.Gave.{GaveNothing}
 use Rattle.nb_model.specs.Trail.{Trail, StandsIn}
 use Rattle.nb_model.specs.Behind.{IsOnTheWay}
-use Rattle.nb_base.specs.Open.{OfFiles}
 use Rattle.nb_owner.specs.Open.{GoesOut, bare}
 use Rattle.nb_owner.proofs.RankLaws.{waiting_count}
 use Rattle.nb_owner.proofs.pair.Pair.put_scn_pages.Given as goal
@@ -18,7 +17,7 @@ invariant-loop-number g l = record {
   reads : (g.H.Host.world l.host).reads ≡ (g.H.Host.world l.fn.host).reads;
   cause : g.H.Host.faults l.host ≡ g.H.Host.faults l.fn.host;
   out : (f t : Trail) → IsTrue g.H.Host.tells → GoesOut (g.H.Host.world l.fn.host) l.fn.self f t (IsOnTheWay f t) → t.earlier ≢ []
-      → Changes (g.H.Host.world l.fn.host) (g.H.Host.world l.host) (OfFiles l.fn.self.files.name) (StandsIn l.fn.self.files.name t) × GoesOut (g.H.Host.world l.host) l.self f t (IsOnTheWay f t);
+      → Changes (g.H.Host.world l.fn.host) (g.H.Host.world l.host) (Only l.fn.self.files.name) (StandsIn l.fn.self.files.name t) × GoesOut (g.H.Host.world l.host) l.self f t (IsOnTheWay f t);
 }
 
 -- one page less waits each time

@@ -1,10 +1,10 @@
 use Rattle.std.proofs.Common.{◌≡◌, ℕ, length, sym, subst, ap, ◌∙◌, arith}
 use Rattle.std.specs.Prelude.{None}
 use Rattle.std.proofs.lemmas.List.{take_at}
-use Rattle.nb_change.specs.Changes.{Changes}
+use Rattle.nb_change.specs.Changes.{Only, Changes}
 use Rattle.nb_model.specs.Image.{Page, page_at}
+use Rattle.nb_model.specs.Owner.{delta_name}
 use Rattle.nb_model.specs.Trail.{StandsIn}
-use Rattle.nb_base.specs.Open.{OfFiles}
 use Rattle.nb_base.specs.Going.{GoesIn, MaySlot}
 use Rattle.nb_cache.specs.Held.{rank_of, with_rank, NoneWaits}
 use Rattle.nb_owner.specs.Open.{Held, GoesSlot, waits}
@@ -24,7 +24,7 @@ returns-in_err-put_slot-clause-left g c f t tells given =
     let peek : c.peek.new.into ≡ page_at t.base.image c.args.number = peeked t.base.image c.self.inside.cache.pages c.args.number c.requires.waits.0 c.peek.new.into _ at out.pages c.peek.ensures.filled in
     let is : c.deref.result.now ≡ page_at t.base.image c.args.number = c.deref.ensures.value ∙ take_at c.peek.new.into _ c.self.inside.page.len into ∙ peek in
     let may = may_slot old (the_view c.self.inside) f t out c.args.number c.requires.waits.0 at (sym (ap length peek) ∙ into ∙ c.self.invariant.1) in
-    subst (λ (h : Held). Changes old new (OfFiles h.files.name) (StandsIn h.files.name t)) c.self.view_is
+    subst (λ (h : Held). Changes old new (Only (delta_name h.files.name)) (StandsIn h.files.name t)) c.self.view_is
     (c.put_slot.ensures.left f t (waits c.self.inside.cache.pages) tells out.goes (subst (λ (x : Page). MaySlot t c.args.number x) (sym is) may))
 
 pub invariant_of-self-2 : goal.invariant_of-self-2
@@ -46,7 +46,7 @@ returns-clause-left g c f t tells given =
     let peek : c.peek.new.into ≡ page_at t.base.image c.args.number = peeked t.base.image c.self.inside.cache.pages c.args.number c.requires.waits.0 c.peek.new.into _ at out.pages c.peek.ensures.filled in
     let is : c.deref.result.now ≡ page_at t.base.image c.args.number = c.deref.ensures.value ∙ take_at c.peek.new.into _ c.self.inside.page.len into ∙ peek in
     let may = may_slot old (the_view c.self.inside) f t out c.args.number c.requires.waits.0 at (sym (ap length peek) ∙ into ∙ c.self.invariant.1) in
-    subst (λ (h : Held). Changes old new (OfFiles h.files.name) (StandsIn h.files.name t)) c.self.view_is
+    subst (λ (h : Held). Changes old new (Only (delta_name h.files.name)) (StandsIn h.files.name t)) c.self.view_is
     (c.put_slot.ensures.left f t (waits c.self.inside.cache.pages) tells out.goes (subst (λ (x : Page). MaySlot t c.args.number x) (sym is) may))
 
 pub returns-clause-out : goal.returns-clause-out

@@ -1,9 +1,9 @@
 use Rattle.std.proofs.Common.{◌<◌, ℕ, List, refl, sym, subst, ap, ◌∙◌}
-use Rattle.nb_change.specs.Changes.{Changes}
+use Rattle.nb_change.specs.Changes.{Only, Changes}
 use Rattle.nb_change.proofs.ChangesLaws.{composed}
 use Rattle.nb_change.proofs.GaveLaws.{nothing_joined}
+use Rattle.nb_model.specs.Owner.{delta_name}
 use Rattle.nb_model.specs.Trail.{StandsIn}
-use Rattle.nb_base.specs.Open.{OfFiles}
 use Rattle.nb_owner.specs.Open.{Held, bare}
 use Rattle.nb_owner.proofs.RankLaws.{waiting_count, fewer_wait, marked_bare}
 use Rattle.nb_owner.proofs.SlotLaws.{slots_begun}
@@ -42,8 +42,8 @@ loop-number-preserved g c =
       cause = ok.cause ∙ loop.cause;
       out = λ f t tells given.
           let so = loop.out f t tells given in (
-            composed old mid new (OfFiles c.args.self.now.files.name) (StandsIn c.args.self.now.files.name t) (StandsIn c.args.self.now.files.name t) (StandsIn c.args.self.now.files.name t) so.0
-                (subst (λ (n : List ℕ). Changes mid new (OfFiles n) (StandsIn n t)) name (c.put_slot.ensures.left f t tells so.1)) (λ files is. is) (λ files is. is),
+            composed old mid new (Only (delta_name c.args.self.now.files.name)) (StandsIn c.args.self.now.files.name t) (StandsIn c.args.self.now.files.name t) (StandsIn c.args.self.now.files.name t) so.0
+                (subst (λ (n : List ℕ). Changes mid new (Only (delta_name n)) (StandsIn n t)) name (c.put_slot.ensures.left f t tells so.1)) (λ files is. is) (λ files is. is),
             ok.out f t tells so.1,
           );
     }
@@ -55,8 +55,8 @@ returns-in_err-put_slot-clause-left g c f t tells given =
     let new = g.H.Host.world c.put_slot.new.host in
     let loop = c.loop-number.invariant in
     let so = loop.out f t tells given in
-    composed old mid new (OfFiles c.args.self.now.files.name) (StandsIn c.args.self.now.files.name t) (StandsIn c.args.self.now.files.name t) (StandsIn c.args.self.now.files.name t) so.0
-    (subst (λ (n : List ℕ). Changes mid new (OfFiles n) (StandsIn n t)) (ap (λ f. f.name) loop.files) (c.put_slot.ensures.left f t tells so.1)) (λ files is. is) (λ files is. is)
+    composed old mid new (Only (delta_name c.args.self.now.files.name)) (StandsIn c.args.self.now.files.name t) (StandsIn c.args.self.now.files.name t) (StandsIn c.args.self.now.files.name t) so.0
+    (subst (λ (n : List ℕ). Changes mid new (Only (delta_name n)) (StandsIn n t)) (ap (λ f. f.name) loop.files) (c.put_slot.ensures.left f t tells so.1)) (λ files is. is) (λ files is. is)
 
 pub returns-clause-left : goal.returns-clause-left
 returns-clause-left g c f t tells given = (c.loop-number.invariant.out f t tells given).0

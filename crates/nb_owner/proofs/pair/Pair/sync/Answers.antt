@@ -1,5 +1,6 @@
 use Rattle.nb_model.specs.Trail.{StandsIn}
 use Rattle.nb_base.specs.Open.{OfFiles}
+use Rattle.nb_base.proofs.TouchLaws.{touched_joined, quiet_touched}
 use Rattle.nb_base.proofs.WriteLaws.{not_done}
 use Rattle.nb_owner.proofs.OutLaws.{quiet_more}
 use Rattle.nb_owner.proofs.pair.Pair.sync.Goals as goal
@@ -25,3 +26,15 @@ returns-clause-takes g c t tells is =
 
 pub returns-clause-settled : goal.returns-clause-settled
 returns-clause-settled g c t tells is = c.in_ok-sync_files.ensures.settled t tells (c.in_ok-write_out.ensures.takes t tells is).done
+
+pub returns-in_err-sync_files-clause-touches : goal.returns-in_err-sync_files-clause-touches
+returns-in_err-sync_files-clause-touches g c t tells is =
+    let mid = g.H.Host.world c.write_out.new.host in
+    let new = g.H.Host.world c.sync_files.new.host in
+    touched_joined (g.H.Host.world c.args.host.now) mid new _ (c.write_out.ensures.touches t tells is) (quiet_touched mid new _ c.sync_files.ensures.quiet)
+
+pub returns-clause-touches : goal.returns-clause-touches
+returns-clause-touches g c t tells is =
+    let mid = g.H.Host.world c.write_out.new.host in
+    let new = g.H.Host.world c.sync_files.new.host in
+    touched_joined (g.H.Host.world c.args.host.now) mid new _ (c.write_out.ensures.touches t tells is) (quiet_touched mid new _ c.sync_files.ensures.quiet)

@@ -10,6 +10,8 @@ use Rattle.nb_model.specs.Strokes.{page}
 use Rattle.nb_model.specs.Trail.{StandsIn, after_stroke}
 use Rattle.nb_base.specs.Open.{OfFiles, AreMerged}
 use Rattle.nb_base.specs.Takes.{Strikes}
+use Rattle.nb_base.specs.Touches.{WritesIn}
+use Rattle.nb_base.proofs.TouchLaws.{none_touched, touched_joined}
 use Rattle.nb_base.proofs.WriteLaws.{not_done}
 use Rattle.nb_cache.specs.Held.{Slot, rank_of}
 use Rattle.nb_owner.specs.Open.{Held, Pages, IsOpen, cache_of, bare, used}
@@ -156,3 +158,23 @@ returns-in_err-write_through-clause-others g c may = absurd (true≢false (sym m
 
 pub returns-clause-others : goal.returns-clause-others
 returns-clause-others g c may = absurd (true≢false (sym may ∙ sym c.may_wait.ensures.value ∙ c.if-may_wait.false))
+
+pub returns-in_err-hold-clause-touches : goal.returns-in_err-hold-clause-touches
+returns-in_err-hold-clause-touches g c t tells is = none_touched (g.H.Host.world c.args.host.now) (g.H.Host.world c.hold.new.host) _ (g.met.H.Host.timely c.args.host.now) (ap g.H.Host.world c.hold.ensures.no_call)
+
+pub returns-then-may_wait-clause-touches : goal.returns-then-may_wait-clause-touches
+returns-then-may_wait-clause-touches g c t tells is = none_touched (g.H.Host.world c.args.host.now) (g.H.Host.world c.hold.new.host) _ (g.met.H.Host.timely c.args.host.now) (ap g.H.Host.world c.hold.ensures.no_call)
+
+pub returns-in_err-write_through-clause-touches : goal.returns-in_err-write_through-clause-touches
+returns-in_err-write_through-clause-touches g c t tells is =
+    let mid = g.H.Host.world c.write_out.new.host in
+    let new = g.H.Host.world c.write_through.new.host in
+    touched_joined (g.H.Host.world c.args.host.now) mid new _ (c.write_out.ensures.touches t tells is)
+    (subst (λ (f : Rattle.nb_base.specs.Open.Held). WritesIn mid new f.state f.name) c.write_out.ensures.files (c.write_through.ensures.touches t tells (c.in_ok-write_out.ensures.takes t tells is).done))
+
+pub returns-clause-touches : goal.returns-clause-touches
+returns-clause-touches g c t tells is =
+    let mid = g.H.Host.world c.write_out.new.host in
+    let new = g.H.Host.world c.write_through.new.host in
+    touched_joined (g.H.Host.world c.args.host.now) mid new _ (c.write_out.ensures.touches t tells is)
+    (subst (λ (f : Rattle.nb_base.specs.Open.Held). WritesIn mid new f.state f.name) c.write_out.ensures.files (c.write_through.ensures.touches t tells (c.in_ok-write_out.ensures.takes t tells is).done))

@@ -2,6 +2,7 @@ use Rattle.std.proofs.Common.{[], ◌∷◌, refl, ap, sym, subst, ◌∙◌}
 use Rattle.nb_model.specs.Strokes.{page}
 use Rattle.nb_model.specs.Trail.{after_stroke}
 use Rattle.nb_base.specs.Takes.{Strikes}
+use Rattle.nb_base.specs.Touches.{WritesIn}
 use Rattle.nb_base.proofs.FirmLaws.{strikes_left}
 use Rattle.nb_base.proofs.WriteLaws.{not_done}
 use Rattle.nb_cache.specs.Held.{NoneWaits, rank_of}
@@ -72,3 +73,19 @@ returns-clause-none g c =
     let none = subst (λ (h : Held). NoneWaits h.pages) (sym c.self.view_is) c.requires.none in
     subst (λ (ps : Pages). NoneWaits ps) (sym (kept_pages c.self.inside.cache c.keep.new.self c.self.inside.files.page_size c.self.inside.files.page_size c.self.invariant.0 refl c.args.number _ c.keep.ensures))
     (none_waits_kept c.self.inside.cache.pages c.self.invariant.0.once c.self.inside.cache.cap c.args.number c.args.page.now none)
+
+pub returns-in_err-write-clause-touches : goal.returns-in_err-write-clause-touches
+returns-in_err-write-clause-touches g c t tells given =
+    let old = g.H.Host.world c.args.host.now in
+    let new = g.H.Host.world c.write.new.host in
+    let is = subst (λ (h : Held). IsOpen old h t) (sym c.self.view_is) given in
+    let none = subst (λ (h : Held). NoneWaits h.pages) (sym c.self.view_is) c.requires.none in
+    subst (λ (h : Held). WritesIn old new h.files.state h.files.name) c.self.view_is (c.write.ensures.touches t tells (files_open old (the_view c.self.inside) t none is))
+
+pub returns-clause-touches : goal.returns-clause-touches
+returns-clause-touches g c t tells given =
+    let old = g.H.Host.world c.args.host.now in
+    let new = g.H.Host.world c.write.new.host in
+    let is = subst (λ (h : Held). IsOpen old h t) (sym c.self.view_is) given in
+    let none = subst (λ (h : Held). NoneWaits h.pages) (sym c.self.view_is) c.requires.none in
+    subst (λ (h : Held). WritesIn old new h.files.state h.files.name) c.self.view_is (c.write.ensures.touches t tells (files_open old (the_view c.self.inside) t none is))

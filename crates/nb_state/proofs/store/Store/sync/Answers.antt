@@ -1,6 +1,7 @@
 use Rattle.std.proofs.Common.{[], refl, sym, subst}
 use Rattle.nb_model.specs.Trail.{settled}
 use Rattle.nb_base.specs.Takes.{Strikes}
+use Rattle.nb_base.specs.Touches.{WritesIn}
 use Rattle.nb_base.proofs.WriteLaws.{not_done}
 use Rattle.nb_state.specs.Open.{Held, IsOpen, name_of}
 use Rattle.nb_state.proofs.TurnLaws.{open_out}
@@ -33,3 +34,17 @@ returns-clause-settled g c t tells given =
     let new = g.H.Host.world c.sync.new.host in
     let is = subst (λ (h : Held). IsOpen old h t) (sym c.self.view_is) given in
     open_out old new _ c.sync.new.self t (settled t.base) is refl c.sync.ensures.files (c.in_ok-sync.ensures.settled t tells is.files) (c.sync.ensures.merged _)
+
+pub returns-in_err-sync-clause-touches : goal.returns-in_err-sync-clause-touches
+returns-in_err-sync-clause-touches g c t tells given =
+    let old = g.H.Host.world c.args.host.now in
+    let new = g.H.Host.world c.sync.new.host in
+    let is = subst (λ (h : Held). IsOpen old h t) (sym c.self.view_is) given in
+    subst (λ (h : Held). WritesIn old new h.files.state (name_of h)) c.self.view_is (c.sync.ensures.touches t tells is.files)
+
+pub returns-clause-touches : goal.returns-clause-touches
+returns-clause-touches g c t tells given =
+    let old = g.H.Host.world c.args.host.now in
+    let new = g.H.Host.world c.sync.new.host in
+    let is = subst (λ (h : Held). IsOpen old h t) (sym c.self.view_is) given in
+    subst (λ (h : Held). WritesIn old new h.files.state (name_of h)) c.self.view_is (c.sync.ensures.touches t tells is.files)

@@ -3,6 +3,7 @@ use Rattle.nb_fields.proofs.SizeLemmas.{size_facts}
 use Rattle.nb_host.specs.World.{World}
 use Rattle.nb_model.specs.Strokes.{page}
 use Rattle.nb_base.specs.Takes.{Strikes}
+use Rattle.nb_base.specs.Touches.{WritesIn}
 use Rattle.nb_state.specs.Open.{Held, IsOpen, name_of}
 use Rattle.nb_state.specs.Does.{Goes, Makes}
 use Rattle.nb_state.proofs.AgreeLaws.{open_written, goes_files, goes_written}
@@ -59,3 +60,17 @@ returns-in_err-write-clause-on_memory g c t tells given memory =
       subst (λ (h : Held). Strikes old new (name_of h) t []) c.self.view_is on_memory.0,
       open_wanting old new _ c.write.new.self t is wrote.state on_memory.1 (λ two. let same = wrote.stays two wants in (same.0, ap (λ host. g.H.Host.world host) same.1)),
     )
+
+pub returns-in_err-write-clause-touches : goal.returns-in_err-write-clause-touches
+returns-in_err-write-clause-touches g c t tells given =
+    let old = g.H.Host.world c.args.host.now in
+    let new = g.H.Host.world c.write.new.host in
+    let is = subst (λ (h : Held). IsOpen old h t) (sym c.self.view_is) given in
+    subst (λ (h : Held). WritesIn old new h.files.state (name_of h)) c.self.view_is (c.write.ensures.touches t tells is.files)
+
+pub returns-clause-touches : goal.returns-clause-touches
+returns-clause-touches g c t tells given =
+    let old = g.H.Host.world c.args.host.now in
+    let new = g.H.Host.world c.write.new.host in
+    let is = subst (λ (h : Held). IsOpen old h t) (sym c.self.view_is) given in
+    subst (λ (h : Held). WritesIn old new h.files.state (name_of h)) c.self.view_is (c.write.ensures.touches t tells is.files)

@@ -1,6 +1,7 @@
 use Rattle.std.proofs.Common.{[], refl, sym, subst, ap, ◌∙◌, true≢false}
 use Rattle.nb_base.specs.Open.{AreMerged}
 use Rattle.nb_base.specs.Takes.{Strikes}
+use Rattle.nb_base.specs.Touches.{WritesIn}
 use Rattle.nb_base.proofs.WriteLaws.{not_done}
 use Rattle.nb_state.specs.Open.{Held, IsOpen, name_of}
 use Rattle.nb_state.proofs.TurnLaws.{open_out}
@@ -43,3 +44,17 @@ returns-clause-at_settled g c t tells given none =
           same.1 ∙ c.self.view_is,
       same.2,
     )
+
+pub returns-in_err-write_out-clause-touches : goal.returns-in_err-write_out-clause-touches
+returns-in_err-write_out-clause-touches g c t tells given =
+    let old = g.H.Host.world c.args.host.now in
+    let new = g.H.Host.world c.write_out.new.host in
+    let is = subst (λ (h : Held). IsOpen old h t) (sym c.self.view_is) given in
+    subst (λ (h : Held). WritesIn old new h.files.state (name_of h)) c.self.view_is (c.write_out.ensures.touches t tells is.files)
+
+pub returns-clause-touches : goal.returns-clause-touches
+returns-clause-touches g c t tells given =
+    let old = g.H.Host.world c.args.host.now in
+    let new = g.H.Host.world c.write_out.new.host in
+    let is = subst (λ (h : Held). IsOpen old h t) (sym c.self.view_is) given in
+    subst (λ (h : Held). WritesIn old new h.files.state (name_of h)) c.self.view_is (c.write_out.ensures.touches t tells is.files)

@@ -1,0 +1,68 @@
+-- What calls touch: one call, calls one after another, and by the backup state.
+use Rattle.std.proofs.Common.{◌≡◌, ◌≢◌, inl, inr, ℕ, zero, suc, List, refl, sym, ◌∙◌, subst}
+use Rattle.std.specs.Prelude.{Bool, IsTrue, Result}
+use Rattle.nb_host.specs.Files.{Files}
+use Rattle.nb_host.specs.World.{World}
+use Rattle.nb_host.specs.Calls.{WritesPage, IsStill}
+use Rattle.nb_host.specs.Moments.{IsTimely, Passes}
+use Rattle.nb_change.specs.Changes.{Names, Only, Changes}
+use Rattle.nb_change.proofs.ChangesLaws.{begun, rested, weakened, composed, still_more}
+use Rattle.nb_change.proofs.CallLaws.{page_alone}
+use Rattle.nb_page.specs.Quiet.{Quiet}
+use Rattle.nb_model.specs.Owner.{delta_name}
+use Rattle.nb_base.specs.Open.{OfFiles}
+use Rattle.nb_base.specs.Touches.{Touches, WritesIn}
+
+-- whatever calls make of the files, those alone are touched
+pub touched : (old new : World) (names : Names) (P : Files → Type 0) → Changes old new names P → Touches old new names
+touched old new names P is = weakened old new names names P _ is (λ m one. one) (λ files others has. tt)
+
+-- more names
+pub touched_more : (old new : World) (few many : Names) → Touches old new few → ((m : List ℕ) → few m → many m) → Touches old new many
+touched_more old new few many is are = weakened old new few many _ _ is are (λ files others has. tt)
+
+-- calls after calls
+pub touched_joined : (old mid new : World) (names : Names) → Touches old mid names → Touches mid new names → Touches old new names
+touched_joined old mid new names first second = composed old mid new names _ _ _ first second (λ files has. tt) (λ files has. tt)
+
+-- no call
+pub none_touched : (old new : World) (names : Names) → IsTimely old → new ≡ old → Touches old new names
+none_touched old new names timely same = subst (λ (w : World). Touches old w names) (sym same) (begun old names _ timely (λ files left. tt))
+
+-- where the world and the name are the same under other words
+pub touched_from : (old mid new : World) (name same : List ℕ) → mid ≡ old → same ≡ name → Touches mid new (Only same) → Touches old new (Only name)
+touched_from old mid new name same still named is = subst (λ (w : World). Touches w new (Only name)) still (subst (λ (n : List ℕ). Touches mid new (Only n)) named is)
+
+-- calls that change nothing
+pub quiet_touched : (old new : World) (names : Names) → Quiet old new → Touches old new names
+quiet_touched old new names quiet = rested old new names _ quiet.still quiet.said quiet.moments (λ files left. tt)
+
+-- one call more that changes no file
+pub still_touched : (old mid new : World) (names : Names) → Touches old mid names → Passes mid new → IsStill mid new → new.said ≡ mid.said → Touches old new names
+still_touched old mid new names is time still silent = still_more old mid new names _ is time still silent
+
+-- a page write
+pub page_touched : {T E : Type 0} (tells : Bool) (result : Result T E) (old new : World) (name : List ℕ) (at : ℕ) (page : List ℕ) → IsTrue tells → IsTimely old
+    → WritesPage tells result old new name at page → new.said ≡ old.said → Passes old new → Touches old new (Only name)
+page_touched tells result old new name at page told timely writes silent time =
+    touched old new (Only name) _ (page_alone tells result old new name at page (λ b c. Unit {0}) told timely writes silent time (λ b c was left. tt))
+
+-- the difference file is one of the two
+pub delta_of : (old new : World) (name delta : List ℕ) → delta ≡ delta_name name → Touches old new (Only delta) → Touches old new (OfFiles name)
+delta_of old new name delta named is = touched_more old new (Only delta) (OfFiles name) is (λ m one. inr (one ∙ named))
+
+-- By the state: the main file but in the stalled one,
+pub main_in : (old new : World) (state : ℕ) (name : List ℕ) → state ≢ 1 → Touches old new (Only name) → WritesIn old new state name
+main_in old new zero name other is = is
+main_in old new (suc zero) name other is = absurd (other refl)
+main_in old new (suc (suc later)) name other is = touched_more old new (Only name) (OfFiles name) is (λ m one. inl one)
+
+-- the difference file in the stalled one,
+pub delta_in : (old new : World) (state : ℕ) (name delta : List ℕ) → state ≡ 1 → delta ≡ delta_name name → Touches old new (Only delta) → WritesIn old new state name
+delta_in old new state name delta stalled named is = subst (λ n. WritesIn old new n name) (sym stalled) (subst (λ (d : List ℕ). Touches old new (Only d)) named is)
+
+-- and both in the merge.
+pub both_in : (old new : World) (state : ℕ) (name : List ℕ) → state ≢ 0 → state ≢ 1 → Touches old new (OfFiles name) → WritesIn old new state name
+both_in old new zero name some other is = absurd (some refl)
+both_in old new (suc zero) name some other is = absurd (other refl)
+both_in old new (suc (suc later)) name some other is = is
