@@ -21,3 +21,6 @@ others Memory neither = inr (inr refl)
 
 pub returns-else-eq-clause-no_text : goal.returns-else-eq-clause-no_text
 returns-else-eq-clause-no_text g c = rw c.in-Err.is (λ other. others c.run-else-eq.result (c.run-else-eq.ensures.no_job no_words))
+
+pub returns-in-Ok-clause-grows : goal.returns-in-Ok-clause-grows
+returns-in-Ok-clause-grows g c = rw c.in-Ok.is (rw (sym c.as_slice.ensures.value) c.run.ensures.grows)
