@@ -1,4 +1,4 @@
-use Rattle.std.proofs.Common.{◌≡◌, ◌≢◌, ◌⊎◌, inl, inr, refl}
+use Rattle.std.proofs.Common.{◌≡◌, ◌≢◌, ◌⊎◌, inl, inr, refl, sym}
 use Rattle.std.specs.Prelude.{[], None}
 use Rattle.nb_model.specs.Words.{read_words, job_of_flags, job_read, job_of}
 use Rattle.nb_top.specs.Requests.{job_asked}
