@@ -1,33 +1,41 @@
 -- How calls go on that leave a database open, whatever stands in it.
 use Rattle.std.proofs.Common.{◌≡◌, inl, inr, ℕ, List, [], ◌∷◌, refl, sym, ap, subst, ◌∙◌}
-use Rattle.std.specs.Prelude.{Result, Ok, Err, IsErr, IsErrAnd}
+use Rattle.std.specs.Prelude.{Option, Result, Ok, Err, IsErr, IsErrAnd, IfErr}
 use Rattle.nb_host.specs.Files.{File, Files, with_file}
 use Rattle.nb_host.specs.World.{World}
 use Rattle.nb_host.specs.Crash.{Leaves, LeavesAll}
+use Rattle.nb_host.specs.Calls.{IsStill}
+use Rattle.nb_host.specs.Moments.{IsTimely, Passes}
 use Rattle.nb_host.specs.declared.faults.Fault.{Fault}
 use Rattle.nb_host.specs.declared.faults.Fault.TheVariants.{Refused, Device, Memory}
 use Rattle.nb_page.specs.Quiet.{Quiet}
 use Rattle.nb_change.specs.Changes.{Names, Other, Changes, Reached}
+use Rattle.nb_change.proofs.CallLaws.{still_alone}
 use Rattle.nb_change.proofs.ChangesLaws.{rested, weakened, composed, left_with}
 use Rattle.nb_change.proofs.MomentLaws.{left_before}
 use Rattle.nb_change.proofs.NameLaws.{with_file-same, with_file-other}
 use Rattle.nb_model.specs.declared.reply.Reply.{Reply}
-use Rattle.nb_model.specs.Account.{Base}
+use Rattle.nb_model.specs.Account.{Ask, Base}
 use Rattle.nb_model.specs.Causes.{Cause}
 use Rattle.nb_model.specs.Outcomes.{Outcome}
 use Rattle.nb_model.specs.Owner.{delta_name, owner}
-use Rattle.nb_model.specs.Strokes.{Stroke}
+use Rattle.nb_model.specs.Strokes.{Stroke, begin, finish}
 use Rattle.nb_model.specs.Trail.{Trail, StandsIn, after_stroke}
 use Rattle.nb_base.specs.Open.{OfFiles}
-use Rattle.nb_base.specs.Takes.{Strikes, after_strokes}
+use Rattle.nb_base.specs.Takes.{Strikes, after_strokes, IsNoRefusal}
 use Rattle.nb_base.proofs.WriteLaws.{main_apart}
 use Rattle.nb_state.specs.Open.{Held, IsOpen, but_pages, name_of}
 use Rattle.nb_state.specs.Does.{WhereEnded, unless_by, Makes, Does}
-use Rattle.nb_state.proofs.MakesLaws.{where_ended}
+use Rattle.nb_state.specs.Turns.{Merges}
+use Rattle.nb_state.specs.declared.turns.Progress.{Progress}
+use Rattle.nb_state.specs.declared.turns.Progress.TheVariants.{More, Finished}
+use Rattle.nb_state.proofs.MakesLaws.{open_running, open_still, where_ended}
 use Rattle.nb_state.proofs.ShownLaws.{open_beside}
+use Rattle.nb_state.proofs.TurnLaws.{still_open}
 use Rattle.nb_engine.specs.Make.{MakesSome}
 use Rattle.nb_engine.specs.Stays.{CanBeOpened, OfFilesOr, StaysOpen}
 use Rattle.nb_engine.specs.Tries.{Tries}
+use Rattle.nb_engine.specs.Turns.{DoesEnd, Starts, starting_cause}
 use Rattle.nb_engine.proofs.DoesLaws.{tries_passed}
 
 -- less is said of where a call ended
@@ -79,6 +87,32 @@ module _ {T : Type 0} (result : Result T Fault) (old new : World) (a b : Held) (
   pub stays_still : but_pages b ≡ but_pages a → Quiet old new → IsOpen old a t → IsOpen new b t → StaysOpen result old new a b others
   stays_still same quiet is opened = stays_quiet quiet is opened (ap (λ (h : Held). name_of h) same)
 
+-- nor does a call that a GUID or a time is asked of
+pub stays_passing : {T : Type 0} (result : Result T Fault) (old new : World) (a : Held) (t : Trail) (others : Names) → IsTimely old → IsStill old new → new.said ≡ old.said → Passes old new → IsOpen old a t → StaysOpen result old new a a others
+stays_passing result old new a t others timely still silent time is = record {
+  touched = still_alone old new (OfFilesOr (name_of a) others) (CanBeOpened (name_of a)) timely still silent time (opens_left old a t is);
+  opened = where_ended result ((u : Trail) × IsOpen new a u) (t, still_open old new a t still is);
+  name = refl;
+}
+
+-- the calls of a backup
+pub stays_starts : (result : Result ℕ Fault) (old new : World) (a b : Held) (t : Trail) (guid : List ℕ) (ask : Option Ask) (others : Names) → IsOpen old a t → Starts result old new a b t guid ask → StaysOpen result old new a b others
+stays_starts (Ok scn) old new a b t guid ask others is starts = stays_struck (Ok scn) old new a b t others (after_strokes t (begin guid ask ∷ [])) (unless_by (starting_cause t.base.image) (begin guid ask ∷ [])) starts.left starts.opened starts.name
+stays_starts (Err (Refused refusal)) old new a b t guid ask others is starts =
+    stays_struck (Err (Refused refusal)) old new a b t others t (unless_by (starting_cause t.base.image) (begin guid ask ∷ [])) starts.left (open_still old new a b t starts.refused.0 starts.refused.1 is) starts.name
+stays_starts (Err Device) old new a b t guid ask others is starts = stays_struck (Err Device) old new a b t others t (unless_by (starting_cause t.base.image) (begin guid ask ∷ [])) starts.left tt starts.name
+stays_starts (Err Memory) old new a b t guid ask others is starts = stays_struck (Err Memory) old new a b t others t (unless_by (starting_cause t.base.image) (begin guid ask ∷ [])) starts.left tt starts.name
+
+pub stays_ends : (result : Result ℕ Fault) (old new : World) (a b : Held) (t : Trail) (scn : ℕ) (turn : Outcome) (others : Names) → DoesEnd result old new a b t scn turn → StaysOpen result old new a b others
+stays_ends result old new a b t scn turn others ends = stays_struck result old new a b t others (after_strokes t turn.strokes) turn.strokes ends.left ends.opened ends.name
+
+pub stays_merges : (result : Result Progress Fault) (old new : World) (a b : Held) (t : Trail) (others : Names) → IfErr result IsNoRefusal → Merges result old new a b t → StaysOpen result old new a b others
+stays_merges (Ok More) old new a b t others sure merges = stays_struck (Ok More) old new a b t others t (finish ∷ []) merges.left merges.on.3 merges.name
+stays_merges (Ok Finished) old new a b t others sure merges = stays_struck (Ok Finished) old new a b t others (after_strokes t (finish ∷ [])) (finish ∷ []) merges.left merges.on.2 merges.name
+stays_merges (Err (Refused refusal)) old new a b t others sure merges = absurd sure
+stays_merges (Err Device) old new a b t others sure merges = stays_struck (Err Device) old new a b t others t (finish ∷ []) merges.left tt merges.name
+stays_merges (Err Memory) old new a b t others sure merges = stays_struck (Err Memory) old new a b t others t (finish ∷ []) merges.left tt merges.name
+
 module _ (old new : World) (a b : Held) where
   -- more files are allowed for
   pub stays_among : {T : Type 0} (result : Result T Fault) (few many : Names) → ((m : List ℕ) → few m → many m) → StaysOpen result old new a b few → StaysOpen result old new a b many
@@ -96,6 +130,14 @@ module _ (old new : World) (a b : Held) where
     -- another value is answered
     pub stays_valued : {S T : Type 0} (value : S) (other : T) → StaysOpen (Ok value) old new a b others → StaysOpen (Ok other) old new a b others
     stays_valued value other stays = record { touched = stays.touched; opened = stays.opened; name = stays.name }
+
+    -- whose copy or merge runs is noted, and another value is answered
+    pub stays_running : {S T : Type 0} (value : S) (other : T) (by : Option ℕ) (later : Held) → later ≡ record b { running = by } → StaysOpen (Ok value) old new a b others → StaysOpen (Ok other) old new a later others
+    stays_running value other by later same stays = subst (λ (h : Held). StaysOpen (Ok other) old new a h others) (sym same) (record {
+      touched = stays.touched;
+      opened = (stays.opened.0, open_running new b stays.opened.0 by stays.opened.1);
+      name = stays.name;
+    })
 
     -- a failure is the same of a result of another type
     pub stays_failed : (S T : Type 0) (fault : Fault) → StaysOpen {T = S} (Err fault) old new a b others → StaysOpen {T = T} (Err fault) old new a b others

@@ -104,20 +104,20 @@ returns-clause-turn g c s t tells same is sound =
     (tries_after {T = Unit {0}} (Ok tt) w _ after c.args.engine.now _ c.add_slot.new.engine t (no_room into) into.strokes found.same found.quiet is
     (c.in_ok-add_slot.ensures.tries t (RowsFrom rows.first) tells (found.open t tells is) here refl formed room last))
 
-pub returns-in_err-rows-clause-stays : goal.returns-in_err-rows-clause-stays
-returns-in_err-rows-clause-stays g c t tells is = let found = c.in_err-rows.ensures in stays_still _ _ _ _ _ t _ found.same found.quiet is (found.open t tells is)
+pub returns-in_err-rows-clause-stays_open : goal.returns-in_err-rows-clause-stays_open
+returns-in_err-rows-clause-stays_open g c t tells is = let found = c.in_err-rows.ensures in stays_still _ _ _ _ _ t _ found.same found.quiet is (found.open t tells is)
 
-pub returns-then-is_some-clause-stays : goal.returns-then-is_some-clause-stays
-returns-then-is_some-clause-stays g c t tells is = let found = c.in_ok-rows.ensures in stays_still _ _ _ _ _ t _ found.same found.quiet is (found.open t tells is)
+pub returns-then-is_some-clause-stays_open : goal.returns-then-is_some-clause-stays_open
+returns-then-is_some-clause-stays_open g c t tells is = let found = c.in_ok-rows.ensures in stays_still _ _ _ _ _ t _ found.same found.quiet is (found.open t tells is)
 
-pub returns-in_err-add_slot-clause-stays : goal.returns-in_err-add_slot-clause-stays
-returns-in_err-add_slot-clause-stays g c t tells is =
+pub returns-in_err-add_slot-clause-stays_open : goal.returns-in_err-add_slot-clause-stays_open
+returns-in_err-add_slot-clause-stays_open g c t tells is =
     let found = c.in_ok-rows.ensures in
     let opened = found.open t tells is in
-    stays_after _ _ _ _ _ _ _ t _ found.same found.quiet is opened (stays_passed _ _ _ _ _ (Unit {0}) (Unit {0}) _ c.in_err-add_slot.field-0.0 c.from_residual-in_err-add_slot.ensures (c.in_err-add_slot.ensures.stays t tells opened))
+    stays_after _ _ _ _ _ _ _ t _ found.same found.quiet is opened (stays_passed _ _ _ _ _ (Unit {0}) (Unit {0}) _ c.in_err-add_slot.field-0.0 c.from_residual-in_err-add_slot.ensures (c.in_err-add_slot.ensures.stays_open t tells opened))
 
-pub returns-clause-stays : goal.returns-clause-stays
-returns-clause-stays g c t tells is =
+pub returns-clause-stays_open : goal.returns-clause-stays_open
+returns-clause-stays_open g c t tells is =
     let found = c.in_ok-rows.ensures in
     let opened = found.open t tells is in
-    stays_after _ _ _ _ _ _ _ t _ found.same found.quiet is opened (c.in_ok-add_slot.ensures.stays t tells opened)
+    stays_after _ _ _ _ _ _ _ t _ found.same found.quiet is opened (c.in_ok-add_slot.ensures.stays_open t tells opened)

@@ -43,11 +43,11 @@ returns-clause-turn g c s t chain tells same is sound formed found =
     let low = placed.low in
     row_does (Ok tt) w _ _ _ t s chain c.args.key c.args.bytes.now row same well formed there low (c.in_ok-put_slot.ensures.tries t tells is sound (found_kind t.base.image chain formed c.args.key row there))
 
-pub returns-in_default-clause-stays : goal.returns-in_default-clause-stays
-returns-in_default-clause-stays g c t tells is = stays_still _ _ _ _ _ t _ refl (quiet_begun _ (g.met.H.Host.timely c.args.host.now)) is is
+pub returns-in_default-clause-stays_open : goal.returns-in_default-clause-stays_open
+returns-in_default-clause-stays_open g c t tells is = stays_still _ _ _ _ _ t _ refl (quiet_begun _ (g.met.H.Host.timely c.args.host.now)) is is
 
-pub returns-in_err-put_slot-clause-stays : goal.returns-in_err-put_slot-clause-stays
-returns-in_err-put_slot-clause-stays g c t tells is = stays_passed _ _ _ _ _ (Unit {0}) (Unit {0}) _ c.in_err-put_slot.field-0.0 c.from_residual.ensures (c.in_err-put_slot.ensures.stays t tells is)
+pub returns-in_err-put_slot-clause-stays_open : goal.returns-in_err-put_slot-clause-stays_open
+returns-in_err-put_slot-clause-stays_open g c t tells is = stays_passed _ _ _ _ _ (Unit {0}) (Unit {0}) _ c.in_err-put_slot.field-0.0 c.from_residual.ensures (c.in_err-put_slot.ensures.stays_open t tells is)
 
-pub returns-clause-stays : goal.returns-clause-stays
-returns-clause-stays g c t tells is = c.in_ok-put_slot.ensures.stays t tells is
+pub returns-clause-stays_open : goal.returns-clause-stays_open
+returns-clause-stays_open g c t tells is = c.in_ok-put_slot.ensures.stays_open t tells is

@@ -71,17 +71,17 @@ returns-clause-turn g c s t tells same is sound =
     table_does done (Ok tt) w after c.args.engine.now end t s (λ (x : Seen). update_turn x table key c.args.text.now) same rest goes
     (does_after done (Ok tt) w _ after c.args.engine.now _ end t rest found.same found.quiet is (c.in_ok-put_found.ensures.turn (seeing s t.base) t chain tells refl (found.open t tells is) here formed row))
 
-pub returns-in_err-rows-clause-stays : goal.returns-in_err-rows-clause-stays
-returns-in_err-rows-clause-stays g c t tells is = let found = c.in_err-rows.ensures in stays_still _ _ _ _ _ t _ found.same found.quiet is (found.open t tells is)
+pub returns-in_err-rows-clause-stays_open : goal.returns-in_err-rows-clause-stays_open
+returns-in_err-rows-clause-stays_open g c t tells is = let found = c.in_err-rows.ensures in stays_still _ _ _ _ _ t _ found.same found.quiet is (found.open t tells is)
 
-pub returns-in_err-put_found-clause-stays : goal.returns-in_err-put_found-clause-stays
-returns-in_err-put_found-clause-stays g c t tells is =
+pub returns-in_err-put_found-clause-stays_open : goal.returns-in_err-put_found-clause-stays_open
+returns-in_err-put_found-clause-stays_open g c t tells is =
     let found = c.in_ok-rows.ensures in
     let opened = found.open t tells is in
-    stays_after _ _ _ _ _ _ _ t _ found.same found.quiet is opened (stays_passed _ _ _ _ _ (Unit {0}) (Unit {0}) _ c.in_err-put_found.field-0.0 c.from_residual-in_err-put_found.ensures (c.in_err-put_found.ensures.stays t tells opened))
+    stays_after _ _ _ _ _ _ _ t _ found.same found.quiet is opened (stays_passed _ _ _ _ _ (Unit {0}) (Unit {0}) _ c.in_err-put_found.field-0.0 c.from_residual-in_err-put_found.ensures (c.in_err-put_found.ensures.stays_open t tells opened))
 
-pub returns-clause-stays : goal.returns-clause-stays
-returns-clause-stays g c t tells is =
+pub returns-clause-stays_open : goal.returns-clause-stays_open
+returns-clause-stays_open g c t tells is =
     let found = c.in_ok-rows.ensures in
     let opened = found.open t tells is in
-    stays_after _ _ _ _ _ _ _ t _ found.same found.quiet is opened (c.in_ok-put_found.ensures.stays t tells opened)
+    stays_after _ _ _ _ _ _ _ t _ found.same found.quiet is opened (c.in_ok-put_found.ensures.stays_open t tells opened)

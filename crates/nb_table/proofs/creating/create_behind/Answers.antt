@@ -96,26 +96,26 @@ returns-clause-tries g c t tells is sound last =
     tries_after (Ok tt) w mid new c.args.engine.now c.room_for.new.self c.data_grow.new.self t (no_room made) made.strokes room.same room.quiet is
     (behind_done t whole table left n m mid then new c.room_for.new.self c.data_new.new.self c.data_grow.new.self one value two)
 
-pub returns-in_err-room_for-clause-stays : goal.returns-in_err-room_for-clause-stays
-returns-in_err-room_for-clause-stays g c t tells is = let room = c.in_err-room_for.ensures in stays_still _ _ _ _ _ t _ room.same room.quiet is (room.open t tells is)
+pub returns-in_err-room_for-clause-stays_open : goal.returns-in_err-room_for-clause-stays_open
+returns-in_err-room_for-clause-stays_open g c t tells is = let room = c.in_err-room_for.ensures in stays_still _ _ _ _ _ t _ room.same room.quiet is (room.open t tells is)
 
-pub returns-in_err-first-clause-stays : goal.returns-in_err-first-clause-stays
-returns-in_err-first-clause-stays g c t tells is =
+pub returns-in_err-first-clause-stays_open : goal.returns-in_err-first-clause-stays_open
+returns-in_err-first-clause-stays_open g c t tells is =
     let room = c.in_ok-room_for.ensures in
     let opened = room.open t tells is in
     stays_after _ _ _ _ _ _ _ t _ room.same room.quiet is opened
     (stays_passed _ _ _ _ _ ℕ (Unit {0}) _ c.in_err-first.field-0.0 c.from_residual-in_err-first.ensures (stays_some _ _ _ _ _ t _ (c.in_err-first.ensures.some t tells opened)))
 
-pub returns-in_err-data_grow-clause-stays : goal.returns-in_err-data_grow-clause-stays
-returns-in_err-data_grow-clause-stays g c t tells is =
+pub returns-in_err-data_grow-clause-stays_open : goal.returns-in_err-data_grow-clause-stays_open
+returns-in_err-data_grow-clause-stays_open g c t tells is =
     let room = c.in_ok-room_for.ensures in
     let opened = room.open t tells is in
     stays_after _ _ _ _ _ _ _ t _ room.same room.quiet is opened
     (stays_then c.in_ok-first.first _ _ _ _ _ _ _ _ (stays_some _ _ _ _ _ t _ (c.in_ok-first.ensures.some t tells opened))
     (λ u here. stays_passed _ _ _ _ _ ℕ (Unit {0}) _ c.in_err-data_grow.field-0.0 c.from_residual-in_err-data_grow.ensures (stays_some _ _ _ _ _ u _ (c.in_err-data_grow.ensures.some u tells here))))
 
-pub returns-clause-stays : goal.returns-clause-stays
-returns-clause-stays g c t tells is =
+pub returns-clause-stays_open : goal.returns-clause-stays_open
+returns-clause-stays_open g c t tells is =
     let room = c.in_ok-room_for.ensures in
     let opened = room.open t tells is in
     stays_after _ _ _ _ _ _ _ t _ room.same room.quiet is opened

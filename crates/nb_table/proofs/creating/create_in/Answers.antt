@@ -61,13 +61,13 @@ returns-clause-tries g c t tells is sound kind =
     in_then t whole table place n (Ok tt) w mid new c.args.engine.now c.data_new.new.self c.put_slot.new.engine one (c.in_ok-first.ensures.value t tells is sound)
     (subst (λ (bs : List ℕ). Tries {T = Unit {0}} (Ok tt) mid new c.data_new.new.self c.put_slot.new.engine u None (put_slot place.page place.slot bs (drafted u.base.image)).strokes) c.table_bytes.ensures two)
 
-pub returns-in_err-first-clause-stays : goal.returns-in_err-first-clause-stays
-returns-in_err-first-clause-stays g c t tells is = stays_passed _ _ _ _ _ ℕ (Unit {0}) _ c.in_err-first.field-0.0 c.from_residual.ensures (stays_some _ _ _ _ _ t _ (c.in_err-first.ensures.some t tells is))
+pub returns-in_err-first-clause-stays_open : goal.returns-in_err-first-clause-stays_open
+returns-in_err-first-clause-stays_open g c t tells is = stays_passed _ _ _ _ _ ℕ (Unit {0}) _ c.in_err-first.field-0.0 c.from_residual.ensures (stays_some _ _ _ _ _ t _ (c.in_err-first.ensures.some t tells is))
 
-pub returns-in_err-put_slot-clause-stays : goal.returns-in_err-put_slot-clause-stays
-returns-in_err-put_slot-clause-stays g c t tells is =
+pub returns-in_err-put_slot-clause-stays_open : goal.returns-in_err-put_slot-clause-stays_open
+returns-in_err-put_slot-clause-stays_open g c t tells is =
     stays_then c.in_ok-first.first _ _ _ _ _ _ _ _ (stays_some _ _ _ _ _ t _ (c.in_ok-first.ensures.some t tells is))
-    (λ u here. stays_passed _ _ _ _ _ (Unit {0}) (Unit {0}) _ c.in_err-put_slot.field-0.0 c.from_residual-in_err-put_slot.ensures (c.in_err-put_slot.ensures.stays u tells here))
+    (λ u here. stays_passed _ _ _ _ _ (Unit {0}) (Unit {0}) _ c.in_err-put_slot.field-0.0 c.from_residual-in_err-put_slot.ensures (c.in_err-put_slot.ensures.stays_open u tells here))
 
-pub returns-clause-stays : goal.returns-clause-stays
-returns-clause-stays g c t tells is = stays_then c.in_ok-first.first _ _ _ _ _ _ _ _ (stays_some _ _ _ _ _ t _ (c.in_ok-first.ensures.some t tells is)) (λ u here. c.in_ok-put_slot.ensures.stays u tells here)
+pub returns-clause-stays_open : goal.returns-clause-stays_open
+returns-clause-stays_open g c t tells is = stays_then c.in_ok-first.first _ _ _ _ _ _ _ _ (stays_some _ _ _ _ _ t _ (c.in_ok-first.ensures.some t tells is)) (λ u here. c.in_ok-put_slot.ensures.stays_open u tells here)

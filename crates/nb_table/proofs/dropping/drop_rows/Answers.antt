@@ -56,13 +56,13 @@ returns-clause-tries g c t table tells is sound has =
     (c.in_ok-give_all_back.ensures.tries _ (found_pages (RowsFrom c.args.rows.now.first) t.base.image) tells (drop_opened t header sound table spot has w mid c.args.engine.now c.put_slot.new.engine one) after
     (drop_chain t header sound table spot has c.args.rows.now.first c.requires.first))
 
-pub returns-in_err-put_slot-clause-stays : goal.returns-in_err-put_slot-clause-stays
-returns-in_err-put_slot-clause-stays g c t tells is = stays_passed _ _ _ _ _ (Unit {0}) (Unit {0}) _ c.in_err-put_slot.field-0.0 c.from_residual.ensures (c.in_err-put_slot.ensures.stays t tells is)
+pub returns-in_err-put_slot-clause-stays_open : goal.returns-in_err-put_slot-clause-stays_open
+returns-in_err-put_slot-clause-stays_open g c t tells is = stays_passed _ _ _ _ _ (Unit {0}) (Unit {0}) _ c.in_err-put_slot.field-0.0 c.from_residual.ensures (c.in_err-put_slot.ensures.stays_open t tells is)
 
-pub returns-in_err-give_all_back-clause-stays : goal.returns-in_err-give_all_back-clause-stays
-returns-in_err-give_all_back-clause-stays g c t tells is =
-    stays_then tt _ _ _ _ _ _ _ _ (c.in_ok-put_slot.ensures.stays t tells is)
-    (λ u here. stays_passed _ _ _ _ _ (Unit {0}) (Unit {0}) _ c.in_err-give_all_back.field-0.0 c.from_residual-in_err-give_all_back.ensures (c.in_err-give_all_back.ensures.stays u tells here))
+pub returns-in_err-give_all_back-clause-stays_open : goal.returns-in_err-give_all_back-clause-stays_open
+returns-in_err-give_all_back-clause-stays_open g c t tells is =
+    stays_then tt _ _ _ _ _ _ _ _ (c.in_ok-put_slot.ensures.stays_open t tells is)
+    (λ u here. stays_passed _ _ _ _ _ (Unit {0}) (Unit {0}) _ c.in_err-give_all_back.field-0.0 c.from_residual-in_err-give_all_back.ensures (c.in_err-give_all_back.ensures.stays_open u tells here))
 
-pub returns-clause-stays : goal.returns-clause-stays
-returns-clause-stays g c t tells is = stays_then tt _ _ _ _ _ _ _ _ (c.in_ok-put_slot.ensures.stays t tells is) (λ u here. c.in_ok-give_all_back.ensures.stays u tells here)
+pub returns-clause-stays_open : goal.returns-clause-stays_open
+returns-clause-stays_open g c t tells is = stays_then tt _ _ _ _ _ _ _ _ (c.in_ok-put_slot.ensures.stays_open t tells is) (λ u here. c.in_ok-give_all_back.ensures.stays_open u tells here)

@@ -60,7 +60,7 @@ loop-left-preserved g c =
           giving_onward (RowsFrom c.args.first) pages (g.H.Host.world c.args.host.now) (g.H.Host.world l.host) c.args.engine.now l.engine t l.left l.number some giving c.in_ok-next.next (g.H.Host.world c.give_back.new.host) c.give_back.new.engine
           (c.in_ok-next.ensures.tries _ tells opened (giving_sound _ _ _ _ _ _ t l.left l.number giving) (giving_two _ _ _ _ _ _ t l.left l.number some giving) (giving_data _ _ _ _ _ _ t l.left l.number some giving))
           (c.in_ok-next.ensures.next _ tells opened) c.if-next-eq0.false;
-      stays = λ t tells is. stays_then tt _ _ _ _ _ _ _ _ (l.invariant.stays t tells is) (λ u here. stays_valued _ _ _ _ _ c.in_ok-next.next tt (c.in_ok-next.ensures.stays u tells here));
+      stays = λ t tells is. stays_then tt _ _ _ _ _ _ _ _ (l.invariant.stays t tells is) (λ u here. stays_valued _ _ _ _ _ c.in_ok-next.next tt (c.in_ok-next.ensures.stays_open u tells here));
       goes = goes_on _ _ _ l.invariant.goes c.in_ok-next.ensures.goes;
       room = search rules;
       cause = c.in_ok-next.ensures.cause ∙ l.invariant.cause;
@@ -71,13 +71,13 @@ returns-clause-tries g c t pages tells is sound found =
     let l = c.loop-left in
     absurd (giving_over (RowsFrom c.args.first) pages _ _ _ _ t l.left l.number (omega (arith, c.loop-left-test.false)) (l.invariant.giving t pages tells is sound found))
 
-pub returns-in_err-next-clause-stays : goal.returns-in_err-next-clause-stays
-returns-in_err-next-clause-stays g c t tells is =
-    stays_then tt _ _ _ _ _ _ _ _ (c.loop-left.invariant.stays t tells is) (λ u here. stays_passed _ _ _ _ _ ℕ (Unit {0}) _ c.in_err-next.field-0.0 c.from_residual.ensures (c.in_err-next.ensures.stays u tells here))
+pub returns-in_err-next-clause-stays_open : goal.returns-in_err-next-clause-stays_open
+returns-in_err-next-clause-stays_open g c t tells is =
+    stays_then tt _ _ _ _ _ _ _ _ (c.loop-left.invariant.stays t tells is) (λ u here. stays_passed _ _ _ _ _ ℕ (Unit {0}) _ c.in_err-next.field-0.0 c.from_residual.ensures (c.in_err-next.ensures.stays_open u tells here))
 
-pub returns-then-next-eq0-clause-stays : goal.returns-then-next-eq0-clause-stays
-returns-then-next-eq0-clause-stays g c t tells is =
-    stays_then tt _ _ _ _ _ _ _ _ (c.loop-left.invariant.stays t tells is) (λ u here. stays_valued _ _ _ _ _ c.in_ok-next.next tt (c.in_ok-next.ensures.stays u tells here))
+pub returns-then-next-eq0-clause-stays_open : goal.returns-then-next-eq0-clause-stays_open
+returns-then-next-eq0-clause-stays_open g c t tells is =
+    stays_then tt _ _ _ _ _ _ _ _ (c.loop-left.invariant.stays t tells is) (λ u here. stays_valued _ _ _ _ _ c.in_ok-next.next tt (c.in_ok-next.ensures.stays_open u tells here))
 
-pub returns-clause-stays : goal.returns-clause-stays
-returns-clause-stays g c t tells is = c.loop-left.invariant.stays t tells is
+pub returns-clause-stays_open : goal.returns-clause-stays_open
+returns-clause-stays_open g c t tells is = c.loop-left.invariant.stays t tells is

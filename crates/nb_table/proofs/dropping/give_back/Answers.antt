@@ -36,18 +36,18 @@ returns-clause-tries g c t tells is sound two none =
 pub returns-clause-next : goal.returns-clause-next
 returns-clause-next g c t tells is = c.get-next.ensures.value ∙ ap Rattle.nb_model.specs.Chains.next_in ((c.in_ok-data_read.ensures.reads t tells is).page)
 
-pub returns-in_err-data_read-clause-stays : goal.returns-in_err-data_read-clause-stays
-returns-in_err-data_read-clause-stays g c t tells is = let read = c.in_err-data_read.ensures in stays_still _ _ _ _ _ t _ read.same read.quiet is (read.open t tells is)
+pub returns-in_err-data_read-clause-stays_open : goal.returns-in_err-data_read-clause-stays_open
+returns-in_err-data_read-clause-stays_open g c t tells is = let read = c.in_err-data_read.ensures in stays_still _ _ _ _ _ t _ read.same read.quiet is (read.open t tells is)
 
-pub returns-in_err-data_free-clause-stays : goal.returns-in_err-data_free-clause-stays
-returns-in_err-data_free-clause-stays g c t tells is =
+pub returns-in_err-data_free-clause-stays_open : goal.returns-in_err-data_free-clause-stays_open
+returns-in_err-data_free-clause-stays_open g c t tells is =
     let read = c.in_ok-data_read.ensures in
     let opened = read.open t tells is in
     stays_after _ _ _ _ _ _ _ t _ read.same read.quiet is opened
     (stays_passed _ _ _ _ _ (Unit {0}) ℕ _ c.in_err-data_free.field-0.0 c.from_residual-in_err-data_free.ensures (stays_tries _ _ _ _ _ t _ _ _ (c.in_err-data_free.ensures.tries t tells opened)))
 
-pub returns-clause-stays : goal.returns-clause-stays
-returns-clause-stays g c t tells is =
+pub returns-clause-stays_open : goal.returns-clause-stays_open
+returns-clause-stays_open g c t tells is =
     let read = c.in_ok-data_read.ensures in
     let opened = read.open t tells is in
     stays_after _ _ _ _ _ _ _ t _ read.same read.quiet is opened (stays_valued _ _ _ _ _ tt c.get-next.result (stays_tries _ _ _ _ _ t _ _ _ (c.in_ok-data_free.ensures.tries t tells opened)))

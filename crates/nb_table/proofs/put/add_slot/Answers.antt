@@ -74,15 +74,15 @@ returns-in_ok-data_grow-in-None-clause-tries g c t chain tells is sound owner fo
     behind_tries t.base chain well formed bytes none {T = Unit {0}} (Ok tt) w new c.args.engine.now after t
     (tries_valued {S = ℕ} {T = Unit {0}} _ tt w new c.args.engine.now after t (no_room grows) grows.strokes (c.in_ok-data_grow-in-None.ensures.makes t chain pages tells is sound owner last there))
 
-pub returns-in_err-put_slot-in-Some-clause-stays : goal.returns-in_err-put_slot-in-Some-clause-stays
-returns-in_err-put_slot-in-Some-clause-stays g c t tells is = stays_passed _ _ _ _ _ (Unit {0}) (Unit {0}) _ c.in_err-put_slot-in-Some.field-0.0 c.from_residual.ensures (c.in_err-put_slot-in-Some.ensures.stays t tells is)
+pub returns-in_err-put_slot-in-Some-clause-stays_open : goal.returns-in_err-put_slot-in-Some-clause-stays_open
+returns-in_err-put_slot-in-Some-clause-stays_open g c t tells is = stays_passed _ _ _ _ _ (Unit {0}) (Unit {0}) _ c.in_err-put_slot-in-Some.field-0.0 c.from_residual.ensures (c.in_err-put_slot-in-Some.ensures.stays_open t tells is)
 
-pub returns-in_ok-put_slot-in-Some-clause-stays : goal.returns-in_ok-put_slot-in-Some-clause-stays
-returns-in_ok-put_slot-in-Some-clause-stays g c t tells is = c.in_ok-put_slot-in-Some.ensures.stays t tells is
+pub returns-in_ok-put_slot-in-Some-clause-stays_open : goal.returns-in_ok-put_slot-in-Some-clause-stays_open
+returns-in_ok-put_slot-in-Some-clause-stays_open g c t tells is = c.in_ok-put_slot-in-Some.ensures.stays_open t tells is
 
-pub returns-in_err-data_grow-in-None-clause-stays : goal.returns-in_err-data_grow-in-None-clause-stays
-returns-in_err-data_grow-in-None-clause-stays g c t tells is =
+pub returns-in_err-data_grow-in-None-clause-stays_open : goal.returns-in_err-data_grow-in-None-clause-stays_open
+returns-in_err-data_grow-in-None-clause-stays_open g c t tells is =
     stays_passed _ _ _ _ _ ℕ (Unit {0}) _ c.in_err-data_grow-in-None.field-0.0 c.from_residual-in_err-data_grow-in-None.ensures (stays_some _ _ _ _ _ t _ (c.in_err-data_grow-in-None.ensures.some t tells is))
 
-pub returns-in_ok-data_grow-in-None-clause-stays : goal.returns-in_ok-data_grow-in-None-clause-stays
-returns-in_ok-data_grow-in-None-clause-stays g c t tells is = stays_valued _ _ _ _ _ c.in_ok-data_grow-in-None.field-0 tt (stays_some _ _ _ _ _ t _ (c.in_ok-data_grow-in-None.ensures.some t tells is))
+pub returns-in_ok-data_grow-in-None-clause-stays_open : goal.returns-in_ok-data_grow-in-None-clause-stays_open
+returns-in_ok-data_grow-in-None-clause-stays_open g c t tells is = stays_valued _ _ _ _ _ c.in_ok-data_grow-in-None.field-0 tt (stays_some _ _ _ _ _ t _ (c.in_ok-data_grow-in-None.ensures.some t tells is))
