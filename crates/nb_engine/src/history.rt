@@ -139,7 +139,8 @@ impl Engine {
     {
         // Contracts ask for its range, which is known of what was read.
         let _scn = self.store.scn();
-        if room.page >= self.store.count() {
+        let count = self.store.count();
+        if room.page >= count {
             return Err(Fault::Refused(Refusal::NotDatabase { page: room.page }));
         }
         add_row(
