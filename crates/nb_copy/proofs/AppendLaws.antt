@@ -38,7 +38,7 @@ two_torn bs first second n b c long is (mid, one, two) =
 
 module _ (name : List ℕ) where
   -- the other files read as they did
-  two_others : {T E : Type 0} (result : Result T E) (old new : World) (first second : List ℕ) → AddsTwo result old new name first second → (m : List ℕ) → m ≢ name → new.files m ≡ old.files m
+  pub two_others : {T E : Type 0} (result : Result T E) (old new : World) (first second : List ℕ) → AddsTwo result old new name first second → (m : List ℕ) → m ≢ name → new.files m ≡ old.files m
   two_others (Ok x) old new first second adds m other = ap (λ (f : Files). f m) adds.files ∙ with_file-other old.files name _ m other
   two_others (Err e) old new first second adds m other = ⊎_elim (λ same. ap (λ (f : Files). f m) same) (λ some. ap (λ (f : Files). f m) some.1 ∙ with_file-other old.files name _ m other) adds.files
 

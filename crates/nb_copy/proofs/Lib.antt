@@ -26,3 +26,4 @@ pub mod StartLaws
 pub mod RoomStartLaws
 pub mod FileCopyLaws
 pub mod KeepLaws
+pub mod TouchLaws

@@ -1,4 +1,5 @@
 pub mod Making
+pub mod Touching
 pub mod Copying
 pub mod Gathering
 pub mod LevelCopying

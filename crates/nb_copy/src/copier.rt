@@ -1,6 +1,8 @@
-ghost use Rattle.std.specs.Prelude.{◌≡◌, ◌-◌, ◌<◌, ◌≤◌, ℕ, length, [], ◌∷◌, Option, Some, List, IsTrue, IfOk, OnOk};
+ghost use Rattle.std.specs.Prelude.{◌≡◌, ◌-◌, ◌<◌, ◌≤◌, ℕ, length, [], ◌∷◌, Option, Some, List, true, IsTrue, IfOk, OnOk};
 ghost use Rattle.nb_fields.specs.Places.{is_page_size};
+ghost use Rattle.nb_change.specs.Changes.{NoNames, Only};
 ghost use Rattle.nb_change.specs.Counts.{CountsDevice};
+ghost use Rattle.nb_page.specs.Free.{is_free_name};
 ghost use Rattle.nb_page.specs.Quiet.{Quiet};
 ghost use Rattle.nb_model.specs.Account.{Ask};
 ghost use Rattle.nb_model.specs.Backups.{backup_turn, since_turn, close_backup};
@@ -12,6 +14,7 @@ ghost use Rattle.nb_base.specs.Open.{OfFiles};
 ghost use Rattle.nb_state.specs.Open.{IsOpen, but_pages};
 ghost use Rattle.nb_state.specs.Does.{Goes, Tested};
 ghost use Rattle.nb_state.specs.Turns.{GaveAtMost};
+ghost use Rattle.nb_engine.specs.Stays.{StaysOpen};
 ghost use Rattle.nb_copy.specs.FileCopying.{file_count, file_next, file_written};
 ghost use Rattle.nb_copy.specs.Starting.{StartsBackup, BeginsFor, IsBackingUp, KnowsFree, IsNineAtMost, IsItsLevel, ask_by, ask_in, earlier_cause, file_cause, turn_since};
 ghost use Rattle.nb_copy.specs.Closing.{BackupTurn, BackupCounts, Closes, GaveTimeAtMost, ReadsTwo};
@@ -42,14 +45,14 @@ pub struct Copier {
 impl Model for Copier {
     ghost use Rattle.std.specs.Prelude.{◌≡◌, ◌≤◌};
     ghost use Rattle.nb_engine.specs.History.{IsPlaced};
-    ghost use Rattle.nb_copy.specs.FileCopying.{file_page_size};
+    ghost use Rattle.nb_copy.specs.FileCopying.{file_name, file_page_size};
     ghost use Rattle.nb_copy.specs.Starting.{Backed, ask_by};
 
     ghost Value = { Backed };
 
     ghost view = { λ c. record { backing = record { name = c.name; ask = ask_by c.head; scn = c.head.scn; guid = c.head.guid; page = c.room.page; slot = c.room.slot }; page_size = c.head.page_size; file = c.file } };
 
-    ghost invariant = { λ c. (c.head.level ≤ 9) × IsPlaced c.head.page_size c.room × (file_page_size c.file ≡ c.head.page_size) };
+    ghost invariant = { λ c. (c.head.level ≤ 9) × IsPlaced c.head.page_size c.room × (file_page_size c.file ≡ c.head.page_size) × (file_name c.file ≡ c.name) };
 }
 
 /// Tests whether a backup into a file of that name may begin. The refusals are `Access`, `WrongState` and `FileExists`, in this order.
@@ -57,6 +60,7 @@ fn check_file<H: Host>(host: &mut H, engine: &Engine, name: &Name) -> Result<(),
     ensures test { (s : Seen) (t : Trail) → IsTrue H.tells → t.base ≡ s.base → IsOpen (H.world host.old) engine.now t → KnowsFree 0 (H.world host.old).files s name.now
         → Tested result (file_cause s name.now) }
     ensures normal { OnOk result (engine.now.files.state ≡ 0) }
+    ensures free { IsTrue H.tells → OnOk result (is_free_name (H.world host.old).files name.now ≡ true) }
     ensures quiet { Quiet (H.world host.old) (H.world host.new) }
     ensures cause { CountsDevice result (H.faults host.old) (H.faults host.new) }
 {
@@ -89,6 +93,7 @@ fn check_start<H: Host>(
     ensures test { (s : Seen) (t : Trail) → IsTrue H.tells → t.base ≡ s.base → IsOpen (H.world host.old) engine.old t → KnowsFree 0 (H.world host.old).files s name.now
         → Tested result (first_cause (file_cause s name.now ∷ earlier_cause since.now t.base.image ∷ [])) }
     ensures normal { OnOk result (engine.old.files.state ≡ 0) }
+    ensures free { IsTrue H.tells → OnOk result (is_free_name (H.world host.old).files name.now ≡ true) }
     ensures head { (t : Trail) → IsTrue H.tells → IsOpen (H.world host.old) engine.old t → IfOk result (λ head. ask_by head ≡ ask_in since.now t.base.image) }
     ensures its_level { IfOk result (λ head. IsItsLevel since.now head.level) }
     ensures level { IfOk result (λ head. head.level ≤ 9) }
@@ -115,6 +120,7 @@ fn begin<H: Host>(
     ensures begins { (t : Trail) (guid : List ℕ) (ask : Option Ask) → IsTrue H.tells → IsOpen (H.world host.old) engine.old t → GaveAtMost (H.world host.old) (H.world host.new) guid
         → BeginsFor result (H.world host.old) (H.world host.new) engine.old engine.new t guid ask session head.now }
     ensures asks { IsTrue H.tells → (guid : List ℕ) × (length guid ≡ 16) × GaveAtMost (H.world host.old) (H.world host.new) guid }
+    ensures stays_open { (t : Trail) → IsTrue H.tells → IsOpen (H.world host.old) engine.old t → StaysOpen result (H.world host.old) (H.world host.new) engine.old engine.new NoNames }
     ensures level { IfOk result (λ begun. begun.level ≡ head.now.level) }
     ensures size { IfOk result (λ begun. begun.page_size ≡ head.now.page_size) }
     ensures page_size { engine.new.files.page_size ≡ engine.old.files.page_size }
@@ -147,6 +153,9 @@ fn start_from<H: Host>(
         → StartsBackup result (H.world host.old) (H.world host.new) engine.old engine.new t (next_guid s.given) (turn_since s session since name.now) }
     ensures asks { (t : Trail) → IsTrue H.tells → IsOpen (H.world host.old) engine.old t → (guid : List ℕ) × (length guid ≡ 16) × GaveAtMost (H.world host.old) (H.world host.new) guid }
     ensures stays { engine.old.files.state ≡ 2 → engine.new ≡ engine.old }
+    ensures stays_open { (t : Trail) → IsTrue H.tells → IsOpen (H.world host.old) engine.old t → StaysOpen result (H.world host.old) (H.world host.new) engine.old engine.new NoNames }
+    ensures free { IsTrue H.tells → OnOk result (is_free_name (H.world host.old).files name.now ≡ true) }
+    ensures named { IfOk result (λ copier. copier.backing.name ≡ name.now) }
     ensures its_level { IfOk result (λ copier. IsItsLevel since copier.backing.ask.level) }
     ensures size { IfOk result (λ copier. copier.page_size ≡ engine.old.files.page_size) }
     ensures page_size { engine.new.files.page_size ≡ engine.old.files.page_size }
@@ -188,6 +197,11 @@ impl Copier {
             → StartsBackup result (H.world host.old) (H.world host.new) engine.old engine.new t (next_guid s.given) (backup_turn s session level name.now) }
         ensures asks { (t : Trail) → IsTrue H.tells → IsOpen (H.world host.old) engine.old t → (guid : List ℕ) × (length guid ≡ 16) × GaveAtMost (H.world host.old) (H.world host.new) guid }
         ensures stays { engine.old.files.state ≡ 2 → engine.new ≡ engine.old }
+
+        // Whatever stands in the database: only its two files are touched, and it is open behind that.
+        ensures stays_open { (t : Trail) → IsTrue H.tells → IsOpen (H.world host.old) engine.old t → StaysOpen result (H.world host.old) (H.world host.new) engine.old engine.new NoNames }
+        ensures free { IsTrue H.tells → OnOk result (is_free_name (H.world host.old).files name.now ≡ true) }
+        ensures named { IfOk result (λ copier. copier.backing.name ≡ name.now) }
         ensures level { IfOk result (λ copier. copier.backing.ask.level ≡ level) }
         ensures size { IfOk result (λ copier. copier.page_size ≡ engine.old.files.page_size) }
         ensures page_size { engine.new.files.page_size ≡ engine.old.files.page_size }
@@ -212,6 +226,11 @@ impl Copier {
             → StartsBackup result (H.world host.old) (H.world host.new) engine.old engine.new t (next_guid s.given) (since_turn s session guid.now name.now) }
         ensures asks { (t : Trail) → IsTrue H.tells → IsOpen (H.world host.old) engine.old t → (guid : List ℕ) × (length guid ≡ 16) × GaveAtMost (H.world host.old) (H.world host.new) guid }
         ensures stays { engine.old.files.state ≡ 2 → engine.new ≡ engine.old }
+
+        // Whatever stands in the database: only its two files are touched, and it is open behind that.
+        ensures stays_open { (t : Trail) → IsTrue H.tells → IsOpen (H.world host.old) engine.old t → StaysOpen result (H.world host.old) (H.world host.new) engine.old engine.new NoNames }
+        ensures free { IsTrue H.tells → OnOk result (is_free_name (H.world host.old).files name.now ≡ true) }
+        ensures named { IfOk result (λ copier. copier.backing.name ≡ name.now) }
         ensures size { IfOk result (λ copier. copier.page_size ≡ engine.old.files.page_size) }
         ensures page_size { engine.new.files.page_size ≡ engine.old.files.page_size }
         ensures running { OnOk result (engine.new.running ≡ Some session) }
@@ -263,6 +282,7 @@ impl Copier {
             → GaveTimeAtMost (H.world host.old) (H.world host.new) (next_time s.given)
             → Closes result (H.world host.old) (H.world host.new) engine.old engine.new t (next_time s.given) (close_backup s self.now.backing).strokes }
         ensures asks { (t : Trail) → IsTrue H.tells → IsOpen (H.world host.old) engine.old t → self.now.backing.page < length t.base.image → (time : ℕ) × GaveTimeAtMost (H.world host.old) (H.world host.new) time }
+        ensures stays_open { (t : Trail) → IsTrue H.tells → IsOpen (H.world host.old) engine.old t → StaysOpen result (H.world host.old) (H.world host.new) engine.old engine.new NoNames }
         ensures goes { Goes engine.old engine.new }
         ensures cause { CountsDevice result (H.faults host.old) (H.faults host.new) }
     {
@@ -291,6 +311,10 @@ impl Copier {
             → BackupTurn result (H.world host.old) (H.world host.new) engine.old engine.new self.old self.new t (next_time s.given) (close_backup s self.old.backing).strokes }
         ensures asks { (t : Trail) → IsTrue H.tells → IsOpen (H.world host.old) engine.old t → engine.old.files.state ≡ 1 → IsBackingUp (H.world host.old) self.old t.base.frozen → self.old.backing.page < length t.base.image
             → (OfFiles engine.old.files.name self.old.backing.name → ⊥) → (time : ℕ) × GaveTimeAtMost (H.world host.old) (H.world host.new) time }
+
+        // Whatever stands in the database and in the file: only they are touched, and the database is open behind that.
+        ensures stays_open { (t : Trail) → IsTrue H.tells → IsOpen (H.world host.old) engine.old t → (OfFiles engine.old.files.name self.old.backing.name → ⊥)
+            → StaysOpen result (H.world host.old) (H.world host.new) engine.old engine.new (Only self.old.backing.name) }
         ensures same { self.new ≡ record self.old { file = self.new.file } }
         ensures counts { BackupCounts result self.old self.new }
         ensures twice { IsTrue H.tells → ReadsTwo result (H.world host.old) (H.world host.new) }

@@ -1,8 +1,11 @@
 // A copy of the frozen file of a stalled database, which no history names.
-ghost use Rattle.std.specs.Prelude.{◌≡◌, ◌+◌, ◌-◌, ◌≤◌, IsTrue, IfOk, IfErr, OnOk, None, Some};
+ghost use Rattle.std.specs.Prelude.{◌≡◌, ◌+◌, ◌-◌, ◌≤◌, IsTrue, IfOk, IfErr, OnOk, None, Some, Result, true};
 ghost use Rattle.nb_host.specs.Causes.{CountsFault};
+ghost use Rattle.nb_host.specs.declared.faults.Fault.{Fault};
+ghost use Rattle.nb_change.specs.Changes.{NoNames, Only};
 ghost use Rattle.nb_change.specs.Counts.{CountsDevice};
 ghost use Rattle.nb_change.specs.Gave.{GaveNothing};
+ghost use Rattle.nb_page.specs.Free.{is_free_name};
 ghost use Rattle.nb_page.specs.Quiet.{Quiet};
 ghost use Rattle.nb_model.specs.Backups.{copy_turn};
 ghost use Rattle.nb_model.specs.Outcomes.{Seen};
@@ -10,6 +13,8 @@ ghost use Rattle.nb_model.specs.Trail.{Trail};
 ghost use Rattle.nb_base.specs.Open.{OfFiles};
 ghost use Rattle.nb_state.specs.Does.{Tested};
 ghost use Rattle.nb_state.specs.Open.{IsOpen};
+ghost use Rattle.nb_state.specs.declared.turns.Progress.{Progress};
+ghost use Rattle.nb_engine.specs.Stays.{StaysOpen};
 ghost use Rattle.nb_copy.specs.Copying.{IsCopying};
 ghost use Rattle.nb_copy.specs.FileCopies.{CopiesFile, KnowsUnused, StartsCopy, copy_cause};
 ghost use Rattle.nb_copy.specs.Turns.{CopyCounts};
@@ -43,6 +48,7 @@ fn check_copy<H: Host>(host: &mut H, engine: &Engine, name: &Name) -> Result<(),
         → Tested result (copy_cause s name.now) }
     ensures stalled { OnOk result (engine.now.files.state ≡ 1) }
     ensures none { OnOk result (engine.now.running ≡ None) }
+    ensures free { IsTrue H.tells → OnOk result (is_free_name (H.world host.old).files name.now ≡ true) }
     ensures quiet { Quiet (H.world host.old) (H.world host.new) }
     ensures cause { CountsDevice result (H.faults host.old) (H.faults host.new) }
 {
@@ -78,6 +84,11 @@ impl FileCopier {
     ) -> Result<FileCopier, Fault>
         ensures turn { (s : Seen) (t : Trail) → IsTrue H.tells → t.base ≡ s.base → engine.old.running ≡ s.running → IsOpen (H.world host.old) engine.old t → KnowsUnused (H.world host.old).files s name.now
             → StartsCopy result (H.world host.old) (H.world host.new) engine.old engine.new t name.now (copy_turn s session name.now) }
+
+        // Whatever stands in the database.
+        ensures stays_open { (t : Trail) → IsTrue H.tells → IsOpen (H.world host.old) engine.old t → StaysOpen result (H.world host.old) (H.world host.new) engine.old engine.new NoNames }
+        ensures free { IsTrue H.tells → OnOk result (is_free_name (H.world host.old).files name.now ≡ true) }
+        ensures named { IfOk result (λ copy. copy.name ≡ name.now) }
         ensures size { IfOk result (λ copy. copy.size ≡ engine.old.files.page_size) }
         ensures none { OnOk result (engine.old.running ≡ None) }
         ensures held { OnOk result (engine.new ≡ record engine.old { running = Some session }) }
@@ -119,6 +130,10 @@ impl FileCopier {
         requires size { self.old.size ≡ engine.old.files.page_size }
         ensures turn { (t : Trail) → IsTrue H.tells → IsOpen (H.world host.old) engine.old t → engine.old.files.state ≡ 1 → IsCopying (H.world host.old) self.old t.base.frozen
             → (OfFiles engine.old.files.name self.old.name → ⊥) → CopiesFile result (H.world host.old) (H.world host.new) engine.old engine.new self.old self.new t }
+
+        // Whatever stands in the database and in the file: the file alone is touched, and the database stays open, also where the turn fails.
+        ensures stays_open { (answer : Result Progress Fault) (t : Trail) → IsTrue H.tells → IsOpen (H.world host.old) engine.old t → (OfFiles engine.old.files.name self.old.name → ⊥)
+            → StaysOpen answer (H.world host.old) (H.world host.new) engine.old engine.new (Only self.old.name) }
         ensures counts { CopyCounts result self.old self.new }
         ensures size { self.new.size ≡ self.old.size }
         ensures engine { engine.new ≡ engine.old }

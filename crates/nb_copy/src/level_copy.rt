@@ -11,6 +11,7 @@ ghost use Rattle.nb_state.specs.Open.{IsOpen};
 ghost use Rattle.nb_copy.specs.Gathering.{HasTaken};
 ghost use Rattle.nb_copy.specs.LevelCopying.{HasEntriesOf, IsFresh, IsLevelBegun, IsLevelCopying, IsLevelOf, taken_below, whole_level};
 ghost use Rattle.nb_copy.specs.Making.{IsUnfinished, IsUnfinishedOr};
+ghost use Rattle.nb_copy.specs.Touching.{Touches};
 ghost use Rattle.nb_copy.specs.Turns.{Fetched, LevelTurn, LevelCounts};
 
 use crate::level_file::LevelFile;
@@ -157,7 +158,9 @@ impl LevelCopy {
             → Changes (H.world host.old) (H.world host.new) (Only self.old.file.name) (Remade (H.world host.old) self.old.file.name IsUnfinished) }
         ensures begun { (t : Trail) → IsTrue H.tells → IsOpen (H.world host.old) engine.old t → engine.old.files.state ≡ 1 → IsLevelOf self.old t.base.frozen → IsFresh self.old
             → OnOk result (HasTaken (H.world host.new) self.new.file (taken_below 1 self.old t.base.frozen)) }
+        ensures touches { IsTrue H.tells → Touches (H.world host.old) (H.world host.new) self.old.file.name }
         ensures same { OnOk result (self.new ≡ record self.old { file = record self.old.file { written = self.new.file.written; run = self.new.file.run }; next = 1; page = self.new.page }) }
+        ensures name { self.new.file.name ≡ self.old.file.name }
         ensures size { self.new.file.head.page_size ≡ self.old.file.head.page_size }
         ensures engine { engine.new ≡ engine.old }
         ensures gave { GaveNothing (H.world host.old) (H.world host.new) }
@@ -181,7 +184,9 @@ impl LevelCopy {
             → OnOk result (HasTaken (H.world host.new) self.new.file (taken_below (self.old.next + 1) self.old t.base.frozen)) }
         ensures entries { (t : Trail) → IsTrue H.tells → IsOpen (H.world host.old) engine.old t → engine.old.files.state ≡ 1 → IsLevelOf self.old t.base.frozen → HasEntriesOf self.old t.base.frozen
             → OnOk result (self.new.scn_page ≡ page_at t.base.frozen (scn_page_of t.base.frozen self.old.next)) }
+        ensures touches { IsTrue H.tells → Touches (H.world host.old) (H.world host.new) self.old.file.name }
         ensures same { OnOk result (self.new ≡ record self.old { file = record self.old.file { written = self.new.file.written; run = self.new.file.run }; next = self.old.next + 1; scn_page = self.new.scn_page; page = self.new.page }) }
+        ensures name { self.new.file.name ≡ self.old.file.name }
         ensures size { self.new.file.head.page_size ≡ self.old.file.head.page_size }
         ensures engine { engine.new ≡ engine.old }
         ensures gave { GaveNothing (H.world host.old) (H.world host.new) }
@@ -212,7 +217,11 @@ impl LevelCopy {
             → Changes (H.world host.old) (H.world host.new) (Only self.old.file.name) (Remade (H.world host.old) self.old.file.name (IsUnfinishedOr (whole_level self.old t.base.frozen))) }
         ensures answer { (t : Trail) → IsTrue H.tells → IsOpen (H.world host.old) engine.old t → engine.old.files.state ≡ 1 → IsLevelCopying (H.world host.old) self.old t.base.frozen
             → LevelTurn result (H.world host.new) self.old self.new t.base.frozen }
+
+        // Whatever stands in the files: no other one is touched.
+        ensures touches { IsTrue H.tells → Touches (H.world host.old) (H.world host.new) self.old.file.name }
         ensures counts { LevelCounts result self.old self.new }
+        ensures name { self.new.file.name ≡ self.old.file.name }
         ensures size { self.new.file.head.page_size ≡ self.old.file.head.page_size }
         ensures engine { engine.new ≡ engine.old }
         ensures gave { GaveNothing (H.world host.old) (H.world host.new) }

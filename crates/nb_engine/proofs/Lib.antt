@@ -30,3 +30,4 @@ pub mod ContentLaws
 pub mod SecondLaws
 pub mod SearchReads
 pub mod NewReads
+pub mod StaysLaws

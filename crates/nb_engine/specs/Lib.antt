@@ -8,3 +8,4 @@ pub mod Make
 pub mod History
 pub mod Room
 pub mod Data
+pub mod Stays

@@ -22,7 +22,7 @@ use crate::Engine;
 use crate::room::{add_row, check_room, grow};
 use crate::rows::{HistoryRow, Wanted};
 use crate::walk::{Room, walk};
-use nb_host::{Fault, Host};
+use nb_host::{Fault, Host, Refusal};
 
 impl Engine {
     /// The latest backup of that level in the history, and none exactly where it has none. Each page of the history is read once.
@@ -118,7 +118,8 @@ impl Engine {
 
     /// Writes a row into a slot that was kept for it. The SCN entry of its page is raised before, where that is below the current SCN.
     ///
-    /// The refusal is `NotDatabase` of the SCN page of that page. A refused call changes nothing.
+    /// The refusals are `NotDatabase` of that page, where it is past the end, and of its SCN page, in this order. A refused call changes
+    /// nothing.
     pub fn history_add<H: Host>(
         &mut self,
         host: &mut H,
@@ -130,11 +131,18 @@ impl Engine {
             → Tries result (H.world host.old) (H.world host.new) self.old self.new t (entry_cause t.base.image room.now.page)
             (put_slot room.now.page room.now.slot (backup_slot row.now.level row.now.scn row.now.time row.now.guid row.now.name) (drafted t.base.image)).strokes }
         ensures sure { (t : Trail) → IsTrue H.tells → IsOpen (H.world host.old) self.old t → room.now.page < length t.base.image → IsSoundImage t.base.image → IfErr result IsNoRefusal }
+
+        // Whatever is in the database: it makes some strokes and is open behind them, so only its two files are touched.
+        ensures some { (t : Trail) → IsTrue H.tells → IsOpen (H.world host.old) self.old t → MakesSome result (H.world host.old) (H.world host.new) self.old self.new t }
         ensures goes { Goes self.old self.new }
         ensures cause { CountsDevice result (H.faults host.old) (H.faults host.new) }
     {
         // Contracts ask for its range, which is known of what was read.
         let _scn = self.store.scn();
+        let count = self.store.count();
+        if room.page >= count {
+            return Err(Fault::Refused(Refusal::NotDatabase { page: room.page }));
+        }
         add_row(
             &mut self.store,
             host,

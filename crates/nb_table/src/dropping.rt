@@ -1,6 +1,7 @@
 // A table is dropped.
 ghost use Rattle.std.specs.Prelude.{◌≡◌, ◌≤◌, ℕ, List, IsTrue, IfOk, Ok, None, length};
 ghost use Rattle.nb_fields.specs.Places.{is_page_size};
+ghost use Rattle.nb_change.specs.Changes.{NoNames};
 ghost use Rattle.nb_change.specs.Counts.{CountsDevice};
 ghost use Rattle.nb_model.specs.Chains.{RowsFrom, first_in, next_in, pages_of};
 ghost use Rattle.nb_model.specs.Forms.{drafted, give_page};
@@ -11,6 +12,7 @@ ghost use Rattle.nb_model.specs.Tables.{all_given, drop_turn};
 ghost use Rattle.nb_model.specs.Trail.{Trail};
 ghost use Rattle.nb_engine.specs.Data.{not_data};
 ghost use Rattle.nb_engine.specs.Replies.{done};
+ghost use Rattle.nb_engine.specs.Stays.{StaysOpen};
 ghost use Rattle.nb_engine.specs.Tries.{Tries};
 ghost use Rattle.nb_state.specs.Open.{IsOpen};
 ghost use Rattle.nb_state.specs.Does.{Does, Goes};
@@ -39,6 +41,7 @@ fn give_back<H: Host>(
     ensures tries { (t : Trail) → IsTrue H.tells → IsOpen (H.world host.old) engine.old t → IsSoundImage t.base.image → 2 ≤ number → not_data t.base.image owner number ≡ None
         → Tries result (H.world host.old) (H.world host.new) engine.old engine.new t None (give_page number (drafted t.base.image)).strokes }
     ensures next { (t : Trail) → IsTrue H.tells → IsOpen (H.world host.old) engine.old t → IfOk result (λ next. next ≡ next_in (page_at t.base.image number)) }
+    ensures stays_open { (t : Trail) → IsTrue H.tells → IsOpen (H.world host.old) engine.old t → StaysOpen result (H.world host.old) (H.world host.new) engine.old engine.new NoNames }
     ensures goes { Goes engine.old engine.new }
     ensures cause { CountsDevice result (H.faults host.old) (H.faults host.new) }
 {
@@ -59,6 +62,7 @@ fn give_all_back<H: Host>(
     requires room { length page.old ≡ engine.old.files.page_size }
     ensures tries { (t : Trail) (pages : List ℕ) → IsTrue H.tells → IsOpen (H.world host.old) engine.old t → IsSoundImage t.base.image → pages_of (RowsFrom first) t.base.image ≡ Ok pages
         → Tries result (H.world host.old) (H.world host.new) engine.old engine.new t None (all_given pages (drafted t.base.image)).strokes }
+    ensures stays_open { (t : Trail) → IsTrue H.tells → IsOpen (H.world host.old) engine.old t → StaysOpen result (H.world host.old) (H.world host.new) engine.old engine.new NoNames }
     ensures goes { Goes engine.old engine.new }
     ensures cause { CountsDevice result (H.faults host.old) (H.faults host.new) }
 {
@@ -88,6 +92,7 @@ fn drop_rows<H: Host>(
     requires first { rows.now.first ≡ first_in rows.now.table.bytes }
     ensures tries { (t : Trail) (table : List ℕ) → IsTrue H.tells → IsOpen (H.world host.old) engine.old t → IsSoundImage t.base.image → IsWholeTable t.base.image table (spot_of rows.now.table)
         → Tries result (H.world host.old) (H.world host.new) engine.old engine.new t None (dropped t.base.image (spot_of rows.now.table)).strokes }
+    ensures stays_open { (t : Trail) → IsTrue H.tells → IsOpen (H.world host.old) engine.old t → StaysOpen result (H.world host.old) (H.world host.new) engine.old engine.new NoNames }
     ensures goes { Goes engine.old engine.new }
     ensures cause { CountsDevice result (H.faults host.old) (H.faults host.new) }
 {
@@ -107,6 +112,9 @@ pub fn drop_table<H: Host>(
 ) -> Result<(), Fault>
     ensures turn { (s : Seen) (t : Trail) → IsTrue H.tells → t.base ≡ s.base → IsOpen (H.world host.old) engine.old t → IsSoundImage s.base.image
         → Does done result (H.world host.old) (H.world host.new) engine.old engine.new t (drop_turn s table.now) }
+
+    // Whatever is in the database: only its two files are touched, and it is open behind that.
+    ensures stays_open { (t : Trail) → IsTrue H.tells → IsOpen (H.world host.old) engine.old t → StaysOpen result (H.world host.old) (H.world host.new) engine.old engine.new NoNames }
     ensures goes { Goes engine.old engine.new }
     ensures cause { CountsDevice result (H.faults host.old) (H.faults host.new) }
 {

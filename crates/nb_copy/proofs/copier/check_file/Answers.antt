@@ -48,3 +48,6 @@ pub returns-clause-normal : goal.returns-clause-normal
 returns-clause-normal g c =
     sym (c.state-state.ensures.value ∙ ap (λ (h : Held). h.files.state) c.store-store.ensures)
     ∙ only_normal c.state-state.result c.state-state.ensures.most c.case_of.result (same_false the_type c.case_of.result case.WrongState (sym c.eq.ensures ∙ c.if-eq.false)) c.case_of.ensures
+
+pub returns-clause-free : goal.returns-clause-free
+returns-clause-free g c tells = sym (c.in_ok-is_free.ensures.answer tells) ∙ c.if-not-branch.false

@@ -7,6 +7,7 @@ use Rattle.nb_engine.proofs.CauseLaws.{first_here}
 use Rattle.nb_engine.proofs.DoesLaws.{tested_on}
 use Rattle.nb_copy.specs.Starting.{earlier_cause, file_cause}
 use Rattle.nb_copy.proofs.StartCauses.{after_none}
+use Rattle.nb_change.proofs.ResultLaws.{on_ok}
 use Rattle.nb_copy.proofs.copier.check_start.Goals as goal
 
 pub returns-in_err-check_file-clause-test : goal.returns-in_err-check_file-clause-test
@@ -30,3 +31,6 @@ returns-clause-head g c t tells is =
 pub returns-clause-open : goal.returns-clause-open
 returns-clause-open g c t tells is =
     c.find.ensures.open t tells (open_quiet (g.H.Host.world c.args.host.now) (g.H.Host.world c.check_file.new.host) c.args.engine.now t c.check_file.ensures.quiet is)
+
+pub returns-clause-free : goal.returns-clause-free
+returns-clause-free g c tells = on_ok c.find.result (c.in_ok-check_file.ensures.free tells)

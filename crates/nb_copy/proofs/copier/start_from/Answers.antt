@@ -18,6 +18,8 @@ use Rattle.nb_copy.specs.Starting.{ask_in, ask_by}
 use Rattle.nb_state.proofs.TurnLaws.{given_guid}
 use Rattle.nb_copy.proofs.StartLaws.{start_failed, given_later, given_before}
 use Rattle.nb_copy.proofs.RoomStartLaws.{start_roomless, start_unbegun, start_done, started_is}
+use Rattle.nb_engine.proofs.StaysLaws.{stays_still, stays_after, stays_passed, stays_some, stays_then, stays_valued}
+use Rattle.nb_level.specs.declared.head.LevelHead.{LevelHead}
 use Rattle.nb_copy.proofs.copier.start_from.Goals as goal
 
 pub returns-in_err-head-clause-turn : goal.returns-in_err-head-clause-turn
@@ -142,3 +144,30 @@ returns-clause-turn g c s t tells same runs is sound free given =
 
 pub returns-clause-its_level : goal.returns-clause-its_level
 returns-clause-its_level g c = subst (IsItsLevel c.args.since) (sym c.in_ok-head-2.ensures.level) c.in_ok-head.ensures.its_level
+
+pub returns-in_err-head-clause-stays_open : goal.returns-in_err-head-clause-stays_open
+returns-in_err-head-clause-stays_open g c t tells is = let check = c.in_err-head.ensures in stays_still _ _ _ _ _ t _ check.same check.quiet is (check.open t tells is)
+
+pub returns-in_err-file-clause-stays_open : goal.returns-in_err-file-clause-stays_open
+returns-in_err-file-clause-stays_open g c t tells is = let check = c.in_ok-head.ensures in stays_still _ _ _ _ _ t _ check.same check.quiet is (check.open t tells is)
+
+pub returns-in_err-room-clause-stays_open : goal.returns-in_err-room-clause-stays_open
+returns-in_err-room-clause-stays_open g c t tells is =
+    let check = c.in_ok-head.ensures in
+    let opened = check.open t tells is in
+    stays_after _ _ _ _ _ _ _ t _ check.same check.quiet is opened (stays_passed _ _ _ _ _ Room Backed _ c.in_err-room.field-0.0 c.from_residual-in_err-room.ensures (stays_some _ _ _ _ _ t _ (c.in_err-room.ensures.some t tells opened)))
+
+pub returns-in_err-head-2-clause-stays_open : goal.returns-in_err-head-2-clause-stays_open
+returns-in_err-head-2-clause-stays_open g c t tells is =
+    let check = c.in_ok-head.ensures in
+    let opened = check.open t tells is in
+    stays_after _ _ _ _ _ _ _ t _ check.same check.quiet is opened
+    (stays_then c.in_ok-room.room _ _ _ _ _ _ _ _ (stays_some _ _ _ _ _ t _ (c.in_ok-room.ensures.some t tells opened))
+    (λ u here. stays_passed _ _ _ _ _ LevelHead Backed _ c.in_err-head-2.field-0.0 c.from_residual-in_err-head-2.ensures (c.in_err-head-2.ensures.stays_open u tells here)))
+
+pub returns-clause-stays_open : goal.returns-clause-stays_open
+returns-clause-stays_open g c t tells is =
+    let check = c.in_ok-head.ensures in
+    let opened = check.open t tells is in
+    stays_after _ _ _ _ _ _ _ t _ check.same check.quiet is opened
+    (stays_then c.in_ok-room.room _ _ _ _ _ _ _ _ (stays_some _ _ _ _ _ t _ (c.in_ok-room.ensures.some t tells opened)) (λ u here. stays_valued _ _ _ _ _ c.in_ok-head-2.head _ (c.in_ok-head-2.ensures.stays_open u tells here)))

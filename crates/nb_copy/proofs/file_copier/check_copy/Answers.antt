@@ -51,3 +51,6 @@ returns-clause-stalled g c =
 
 pub returns-clause-none : goal.returns-clause-none
 returns-clause-none g c = sym (ap (λ (h : Held). h.running) c.store-store.ensures) ∙ sym c.running.ensures ∙ none_of c.running.result (λ x e. c.in_default.not-Some x e)
+
+pub returns-clause-free : goal.returns-clause-free
+returns-clause-free g c tells = sym (c.in_ok-is_free.ensures.answer tells) ∙ c.if-not-branch.false

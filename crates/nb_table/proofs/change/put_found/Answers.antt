@@ -7,6 +7,7 @@ use Rattle.nb_model.specs.Chains.{row_spot, spots}
 use Rattle.nb_model.specs.Tables.{in_row}
 use Rattle.nb_engine.specs.Replies.{done}
 use Rattle.nb_engine.proofs.DoesLaws.{seeing, refused_does}
+use Rattle.nb_engine.proofs.StaysLaws.{stays_still, stays_passed}
 use Rattle.nb_table.specs.declared.look.Found.{Found}
 use Rattle.nb_table.specs.Walks.{IsPlaced}
 use Rattle.nb_table.proofs.InTableLaws.{does_passed}
@@ -41,3 +42,12 @@ returns-clause-turn g c s t chain tells same is sound formed found =
     let placed = subst (λ (o : Option Found). IfSome o (λ f. IsPlaced c.args.engine.now.files.page_size f.place)) c.in-Some.is c.requires.placed in
     let low = placed.low in
     row_does (Ok tt) w _ _ _ t s chain c.args.key c.args.bytes.now row same well formed there low (c.in_ok-put_slot.ensures.tries t tells is sound (found_kind t.base.image chain formed c.args.key row there))
+
+pub returns-in_default-clause-stays_open : goal.returns-in_default-clause-stays_open
+returns-in_default-clause-stays_open g c t tells is = stays_still _ _ _ _ _ t _ refl (quiet_begun _ (g.met.H.Host.timely c.args.host.now)) is is
+
+pub returns-in_err-put_slot-clause-stays_open : goal.returns-in_err-put_slot-clause-stays_open
+returns-in_err-put_slot-clause-stays_open g c t tells is = stays_passed _ _ _ _ _ (Unit {0}) (Unit {0}) _ c.in_err-put_slot.field-0.0 c.from_residual.ensures (c.in_err-put_slot.ensures.stays_open t tells is)
+
+pub returns-clause-stays_open : goal.returns-clause-stays_open
+returns-clause-stays_open g c t tells is = c.in_ok-put_slot.ensures.stays_open t tells is

@@ -12,6 +12,7 @@ use Rattle.nb_engine.proofs.CauseLaws.{unless_allowed}
 use Rattle.nb_engine.proofs.DoesLaws.{seeing, tested_does, tries_passed, tries_after, tries_does}
 use Rattle.nb_engine.proofs.NewTurn.{header_of}
 use Rattle.nb_state.specs.Does.{Does}
+use Rattle.nb_engine.proofs.StaysLaws.{stays_still, stays_after, stays_passed}
 use Rattle.nb_table.specs.declared.rows.Rows.{Rows}
 use Rattle.nb_table.specs.Drops.{dropped}
 use Rattle.nb_table.specs.Rows.{rows_cause}
@@ -66,3 +67,18 @@ returns-clause-turn g c s t tells same is sound =
     (drop_says now table none spot (header_of w c.args.engine.now t is scn) here has ∙ sym (unless_allowed now None (says now Done xs) refl)) refl
     (tries_after {T = Unit {0}} (Ok tt) w mid new c.args.engine.now c.find_rows.new.engine c.drop_rows.new.engine t None xs found.same found.quiet is
     (c.in_ok-drop_rows.ensures.tries t table tells (found.open t tells is) here has))
+
+pub returns-in_err-rows-clause-stays_open : goal.returns-in_err-rows-clause-stays_open
+returns-in_err-rows-clause-stays_open g c t tells is = let found = c.in_err-rows.ensures in stays_still _ _ _ _ _ t _ found.same found.quiet is (found.open t tells is)
+
+pub returns-in_err-drop_rows-clause-stays_open : goal.returns-in_err-drop_rows-clause-stays_open
+returns-in_err-drop_rows-clause-stays_open g c t tells is =
+    let found = c.in_ok-rows.ensures in
+    let opened = found.open t tells is in
+    stays_after _ _ _ _ _ _ _ t _ found.same found.quiet is opened (stays_passed _ _ _ _ _ (Unit {0}) (Unit {0}) _ c.in_err-drop_rows.field-0.0 c.from_residual-in_err-drop_rows.ensures (c.in_err-drop_rows.ensures.stays_open t tells opened))
+
+pub returns-clause-stays_open : goal.returns-clause-stays_open
+returns-clause-stays_open g c t tells is =
+    let found = c.in_ok-rows.ensures in
+    let opened = found.open t tells is in
+    stays_after _ _ _ _ _ _ _ t _ found.same found.quiet is opened (c.in_ok-drop_rows.ensures.stays_open t tells opened)

@@ -10,6 +10,7 @@ use Rattle.nb_copy.specs.LevelCopying.{LevelCopying}
 use Rattle.nb_copy.specs.Making.{IsUnfinished}
 use Rattle.nb_copy.proofs.QuietLaws.{renamed, quiet_then, remade_twice}
 use Rattle.nb_copy.proofs.LevelLaws.{next_taken, below_none, may_below}
+use Rattle.nb_copy.proofs.TouchLaws.{touches_named, touches_then, touches_quiet}
 use Rattle.nb_copy.proofs.level_copy.LevelCopy.begin.Goals as goal
 
 pub returns-in_err-make-clause-left : goal.returns-in_err-make-clause-left
@@ -50,3 +51,15 @@ returns-clause-begun g c t tells open_ stalled of fresh =
     let may = subst (λ (h : LevelHead). MayHave h ([] ++ taken_from 0 c.make.new.self.head.previous_scn (c.deref.result.now ∷ []))) (sym headed)
     (subst (MayHave c.args.self.now.file.head) (sym all) (may_below c.args.self.now frozen of 1 (omega (arith, of.sound.least)))) in
     subst (λ (rs : List Numbered). OnOk c.take.result (HasTaken (g.H.Host.world c.take.new.host) c.take.new.self rs)) all (c.take.ensures.taken tells [] made may)
+
+pub returns-in_err-read_main-clause-touches : goal.returns-in_err-read_main-clause-touches
+returns-in_err-read_main-clause-touches g c tells = touches_quiet _ _ _ c.in_err-read_main.ensures.quiet
+
+pub returns-in_err-make-clause-touches : goal.returns-in_err-make-clause-touches
+returns-in_err-make-clause-touches g c tells = touches_named _ _ _ _ (ap (λ (v : LevelCopying). v.file.name) c.self.view_is) (touches_then c.self.inside.file.name _ _ _ (touches_quiet _ _ _ c.in_ok-read_main.ensures.quiet) (c.in_err-make.ensures.touches tells))
+
+pub returns-clause-touches : goal.returns-clause-touches
+returns-clause-touches g c tells =
+    touches_named _ _ _ _ (ap (λ (v : LevelCopying). v.file.name) c.self.view_is)
+    (touches_then c.self.inside.file.name _ _ _ (touches_quiet _ _ _ c.in_ok-read_main.ensures.quiet)
+    (touches_then _ _ _ _ (c.in_ok-make.ensures.touches tells) (touches_named _ _ _ _ (ap (λ (v : LevelWriting). v.name) c.in_ok-make.ensures.same) (c.take.ensures.touches tells))))

@@ -9,6 +9,7 @@ use Rattle.nb_copy.specs.Making.{IsUnfinished}
 use Rattle.nb_copy.specs.Turns.{Fetched}
 use Rattle.nb_copy.proofs.QuietLaws.{renamed, quiet_then, quiet_alone}
 use Rattle.nb_copy.proofs.LevelLaws.{next_taken, next_passed, may_below, taken_quiet}
+use Rattle.nb_copy.proofs.TouchLaws.{touches_named, touches_then, touches_quiet}
 use Rattle.nb_copy.proofs.level_copy.LevelCopy.copy_page.Goals as goal
 
 pub returns-in_err-take-clause-left : goal.returns-in_err-take-clause-left
@@ -79,3 +80,15 @@ returns-else-may_be_changed-clause-copied g c t tells open_ stalled of begun =
     let has = subst (λ (f : LevelWriting). HasTaken (g.H.Host.world c.fetch.new.host) f (taken_below c.args.self.now.next c.args.self.now frozen)) (sym filed) (taken_quiet _ _ _ _ fetch.quiet begun.has) in
     let stamp = subst (λ (b : Bool). Fetched (Ok b) c.args.self.now c.fetch.new.self.page frozen) c.if-may_be_changed.false (fetch.fetched t tells open_ stalled of begun.entries) in
     subst (λ (rs : List Numbered). HasTaken (g.H.Host.world c.fetch.new.host) c.self-2.inside.file rs) (next_passed c.args.self.now frozen of c.args.self.now.next low stamp) has
+
+pub returns-in_err-may_be_changed-clause-touches : goal.returns-in_err-may_be_changed-clause-touches
+returns-in_err-may_be_changed-clause-touches g c tells = touches_quiet _ _ _ c.in_err-may_be_changed.ensures.quiet
+
+pub returns-in_err-take-clause-touches : goal.returns-in_err-take-clause-touches
+returns-in_err-take-clause-touches g c tells = touches_then _ _ _ _ (touches_quiet _ _ _ c.in_ok-may_be_changed.ensures.quiet) (touches_named _ _ _ _ (ap (λ (v : LevelCopying). v.file.name) c.self-2.view_is ∙ ap (λ (v : LevelCopying). v.file.name) c.in_ok-may_be_changed.ensures.same) (c.take.ensures.touches tells))
+
+pub returns-in_ok-take-clause-touches : goal.returns-in_ok-take-clause-touches
+returns-in_ok-take-clause-touches g c tells = touches_then _ _ _ _ (touches_quiet _ _ _ c.in_ok-may_be_changed.ensures.quiet) (touches_named _ _ _ _ (ap (λ (v : LevelCopying). v.file.name) c.self-2.view_is ∙ ap (λ (v : LevelCopying). v.file.name) c.in_ok-may_be_changed.ensures.same) (c.take.ensures.touches tells))
+
+pub returns-else-may_be_changed-clause-touches : goal.returns-else-may_be_changed-clause-touches
+returns-else-may_be_changed-clause-touches g c tells = touches_quiet _ _ _ c.in_ok-may_be_changed.ensures.quiet

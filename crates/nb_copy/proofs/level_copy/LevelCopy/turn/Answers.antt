@@ -8,6 +8,7 @@ use Rattle.nb_copy.specs.Gathering.{LevelWriting, HasTaken, MayHave}
 use Rattle.nb_copy.specs.LevelCopying.{LevelCopying, whole_level}
 use Rattle.nb_copy.specs.Making.{IsUnfinished, IsUnfinishedOr, IsKept}
 use Rattle.nb_copy.proofs.LevelLaws.{below_all, may_below, level_next}
+use Rattle.nb_copy.proofs.TouchLaws.{touches_named}
 use Rattle.nb_copy.proofs.level_copy.LevelCopy.turn.Goals as goal
 
 pub returns-in_err-close-clause-left : goal.returns-in_err-close-clause-left
@@ -63,3 +64,9 @@ returns-in_ok-copy_page-clause-answer g c t tells open_ stalled copying =
     let begun = copying.begun (omega (arith, c.if-self-eq0.false, ap (λ (v : LevelCopying). v.next) c.self.view_is)) in
     let done = c.in_ok-copy_page.ensures in
     level_next _ c.args.self.now c.copy_page.new.self t.base.frozen copying.of done.same (done.copied t tells open_ stalled copying.of begun) (done.entries t tells open_ stalled copying.of begun.entries)
+
+pub returns-in_err-close-clause-touches : goal.returns-in_err-close-clause-touches
+returns-in_err-close-clause-touches g c tells = touches_named _ _ _ _ (ap (λ (v : LevelCopying). v.file.name) c.self.view_is) (c.in_err-close.ensures.touches tells)
+
+pub returns-then-self-clause-touches : goal.returns-then-self-clause-touches
+returns-then-self-clause-touches g c tells = touches_named _ _ _ _ (ap (λ (v : LevelCopying). v.file.name) c.self.view_is) (c.in_ok-close.ensures.touches tells)

@@ -7,6 +7,7 @@ use Rattle.nb_copy.specs.Gathering.{LevelWriting, Reads, level_front}
 use Rattle.nb_copy.specs.Making.{IsUnfinished, IsUnfinishedOr, IsKept}
 use Rattle.nb_copy.proofs.QuietLaws.{renamed, sync_then, sync_kept}
 use Rattle.nb_copy.proofs.CloseLaws.{more_than, end_written, end_reads}
+use Rattle.nb_copy.proofs.TouchLaws.{touches_named, touches_then, touches_still, touches_bytes}
 use Rattle.nb_copy.proofs.level_file.LevelFile.close.Goals as goal
 
 pub returns-in_err-sync-clause-left : goal.returns-in_err-sync-clause-left
@@ -56,3 +57,24 @@ returns-clause-done g c tells rs has may =
     let sync = c.in_ok-sync.ensures in
     let there = end_reads c.self.inside.name head rs may g.H.Host.tells _ (g.H.Host.world c.args.host.now) _ _ _ tells reads sync.files _ c.self.inside.written counted c.in_ok-write_end.ensures.files in
     subst (λ (n : List ℕ). OnOk c.sync-2.result (IsKept (g.H.Host.world c.sync-2.new.self) n (level_bytes 102 (head_of head) rs))) named (sync_kept g.H.Host.tells _ _ _ c.self.inside.name (level_bytes 102 (head_of head) rs) tells there c.sync-2.ensures.files)
+
+pub returns-in_err-sync-clause-touches : goal.returns-in_err-sync-clause-touches
+returns-in_err-sync-clause-touches g c tells = let sync = c.in_err-sync.ensures in touches_then _ _ _ _ (c.in_ok-finish.ensures.touches tells) (touches_still _ _ _ (g.met.H.Host.timely _) sync.files.still sync.log.said sync.time)
+
+pub returns-in_err-write_end-clause-touches : goal.returns-in_err-write_end-clause-touches
+returns-in_err-write_end-clause-touches g c tells =
+    let named = ap (λ (v : LevelWriting). v.name) c.self.view_is ∙ ap (λ (v : LevelWriting). v.name) c.in_ok-finish.ensures.same in
+    let sync = c.in_ok-sync.ensures in
+    let end = c.in_err-write_end.ensures in
+    touches_then _ _ _ _ (c.in_ok-finish.ensures.touches tells)
+    (touches_then _ _ _ _ (touches_still _ _ _ (g.met.H.Host.timely _) sync.files.still sync.log.said sync.time) (touches_named _ _ _ _ named (touches_bytes _ _ _ _ _ _ tells (g.met.H.Host.timely _) end.files end.log.said end.time)))
+
+pub returns-clause-touches : goal.returns-clause-touches
+returns-clause-touches g c tells =
+    let named = ap (λ (v : LevelWriting). v.name) c.self.view_is ∙ ap (λ (v : LevelWriting). v.name) c.in_ok-finish.ensures.same in
+    let sync = c.in_ok-sync.ensures in
+    let end = c.in_ok-write_end.ensures in
+    let last = c.sync-2.ensures in
+    touches_then _ _ _ _ (c.in_ok-finish.ensures.touches tells)
+    (touches_then _ _ _ _ (touches_still _ _ _ (g.met.H.Host.timely _) sync.files.still sync.log.said sync.time)
+    (touches_then _ _ _ _ (touches_named _ _ _ _ named (touches_bytes _ _ _ _ _ _ tells (g.met.H.Host.timely _) end.files end.log.said end.time)) (touches_still _ _ _ (g.met.H.Host.timely _) last.files.still last.log.said last.time)))

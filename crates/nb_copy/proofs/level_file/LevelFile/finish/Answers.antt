@@ -8,6 +8,7 @@ use Rattle.nb_copy.specs.Making.{IsUnfinished}
 use Rattle.nb_copy.proofs.QuietLaws.{renamed}
 use Rattle.nb_copy.proofs.RunLaws.{no_both}
 use Rattle.nb_copy.proofs.CloseLaws.{all_there, last_left, last_read}
+use Rattle.nb_copy.proofs.TouchLaws.{touches_named, touches_none, touches_two}
 use Rattle.nb_copy.proofs.level_file.LevelFile.finish.Goals as goal
 
 pub returns-then-is_empty-clause-finished : goal.returns-then-is_empty-clause-finished
@@ -28,3 +29,9 @@ returns-clause-finished g c tells rs has may =
     let fits = subst (λ (v : LevelWriting). MayHave v.head rs) (sym c.self.view_is) may in
     let some : c.self.inside.run.count ≢ 0 = λ e. absurd (no_both _ (eq_yes c.self.inside.run.count 0 e) (sym c.is_empty.ensures ∙ c.if-is_empty.false)) in
     subst (λ (v : LevelWriting). OnOk c.append.result (Reads (g.H.Host.world c.append.new.host) v.name (level_front v.head (runs_of rs)))) c.self.view_is (last_read _ _ rs before fits some _ _ (c.append.ensures.adds tells))
+
+pub returns-then-is_empty-clause-touches : goal.returns-then-is_empty-clause-touches
+returns-then-is_empty-clause-touches g c tells = touches_none _ _ (g.met.H.Host.timely _)
+
+pub returns-clause-touches : goal.returns-clause-touches
+returns-clause-touches g c tells = let append = c.append.ensures in touches_named _ _ _ _ (ap (λ (v : LevelWriting). v.name) c.self.view_is) (touches_two _ _ _ _ _ _ (g.met.H.Host.timely _) (append.adds tells) append.log.said)

@@ -7,6 +7,7 @@ use Rattle.nb_copy.proofs.QuietLaws.{renamed}
 use Rattle.nb_copy.proofs.RunLaws.{one_run}
 use Rattle.nb_copy.proofs.WaitingLaws.{holds_one}
 use Rattle.nb_copy.proofs.GatherLaws.{Joined, joins_still, joins_full, other_run, completes_left, completes_taken}
+use Rattle.nb_copy.proofs.TouchLaws.{touches_named, touches_none, touches_two}
 use Rattle.nb_copy.proofs.level_file.LevelFile.gather.Goals as goal
 
 pub returns-in_err-append-clause-left : goal.returns-in_err-append-clause-left
@@ -77,3 +78,18 @@ returns-clause-taken g c tells rs has may =
     let add = c.add-2.ensures in
     let last = holds_one c.append-2.new.self c.add-2.new.self (c.args.number, c.args.page.now) add.first add.more add.alone add.bytes add.count c.in_ok-append-2.ensures.none in
     completes_taken self.head rs (c.args.number, c.args.page.now) self.run (one_run (c.args.number, c.args.page.now) ∷ []) other self.name _ _ _ self.written c.add-2.new.self before.counted last before.stands (c.in_ok-append-2.ensures.adds tells)
+
+pub returns-in_err-append-clause-touches : goal.returns-in_err-append-clause-touches
+returns-in_err-append-clause-touches g c tells = let append = c.append.ensures in touches_named _ _ _ _ (ap (λ (v : LevelWriting). v.name) c.self.view_is) (touches_two _ _ _ _ _ _ (g.met.H.Host.timely _) (append.adds tells) append.log.said)
+
+pub returns-in_ok-append-clause-touches : goal.returns-in_ok-append-clause-touches
+returns-in_ok-append-clause-touches g c tells = let append = c.append.ensures in touches_named _ _ _ _ (ap (λ (v : LevelWriting). v.name) c.self.view_is) (touches_two _ _ _ _ _ _ (g.met.H.Host.timely _) (append.adds tells) append.log.said)
+
+pub returns-else-is_full-clause-touches : goal.returns-else-is_full-clause-touches
+returns-else-is_full-clause-touches g c tells = touches_none _ _ (g.met.H.Host.timely _)
+
+pub returns-in_err-append-2-clause-touches : goal.returns-in_err-append-2-clause-touches
+returns-in_err-append-2-clause-touches g c tells = let append = c.append-2.ensures in touches_named _ _ _ _ (ap (λ (v : LevelWriting). v.name) c.self.view_is) (touches_two _ _ _ _ _ _ (g.met.H.Host.timely _) (append.adds tells) append.log.said)
+
+pub returns-clause-touches : goal.returns-clause-touches
+returns-clause-touches g c tells = let append = c.append-2.ensures in touches_named _ _ _ _ (ap (λ (v : LevelWriting). v.name) c.self.view_is) (touches_two _ _ _ _ _ _ (g.met.H.Host.timely _) (append.adds tells) append.log.said)

@@ -9,6 +9,7 @@ use Rattle.nb_change.proofs.MovedLaws.{remade_begun}
 use Rattle.nb_copy.specs.Gathering.{LevelWriting, HasTaken, MayHave}
 use Rattle.nb_copy.specs.Making.{IsUnfinished}
 use Rattle.nb_copy.proofs.CloseLaws.{taken_one, taken_none, stamp_in}
+use Rattle.nb_copy.proofs.TouchLaws.{touches_none}
 use Rattle.nb_copy.proofs.level_file.LevelFile.take.Goals as goal
 
 pub returns-then-read_head-self-clause-left : goal.returns-then-read_head-self-clause-left
@@ -33,3 +34,6 @@ returns-clause-taken g c tells rs has may =
     let above : c.args.self.now.head.previous_scn < stamp_of c.args.page.now = omega (arith, c.if-read_head-self.false, stamp, ap (λ (v : LevelWriting). v.head.previous_scn) c.self.view_is) in
     let one = ap (λ (xs : List Numbered). rs ++ xs) (taken_one c.args.number c.args.self.now.head.previous_scn c.args.page.now above) in
     subst (λ (xs : List Numbered). OnOk c.gather.result (HasTaken (g.H.Host.world c.gather.new.host) c.gather.new.self xs)) (sym one) (c.gather.ensures.taken tells rs has (subst (MayHave c.args.self.now.head) one may))
+
+pub returns-then-read_head-self-clause-touches : goal.returns-then-read_head-self-clause-touches
+returns-then-read_head-self-clause-touches g c tells = touches_none _ _ (g.met.H.Host.timely _)

@@ -6,6 +6,7 @@ use Rattle.nb_copy.specs.Copying.{Copying, IsOf, IsBegun}
 use Rattle.nb_copy.specs.Making.{IsFreeOr, IsKept}
 use Rattle.nb_copy.proofs.QuietLaws.{renamed, sync_then}
 use Rattle.nb_copy.proofs.CopyLaws.{page_is, close_synced, close_written, close_kept}
+use Rattle.nb_copy.proofs.TouchLaws.{touches_named, touches_then, touches_still, touches_page}
 use Rattle.nb_copy.proofs.page_copy.PageCopy.close.Goals as goal
 
 pub returns-in_err-write_page-clause-left : goal.returns-in_err-write_page-clause-left
@@ -51,3 +52,22 @@ returns-clause-done g c frozen tells of begun all =
     let writes = page_is g.H.Host.tells _ _ _ self.name _ _ c.deref.ensures.value write.files in
     subst (λ (n : List ℕ). OnOk c.sync-2.result (IsKept (g.H.Host.world c.sync-2.new.self) n (joined frozen))) (ap (λ (v : Copying). v.name) c.self.view_is)
     (close_kept _ copy frozen is before whole wide g.H.Host.tells _ _ _ _ _ _ tells sync.files writes c.sync-2.ensures.files)
+
+pub returns-in_err-sync-clause-touches : goal.returns-in_err-sync-clause-touches
+returns-in_err-sync-clause-touches g c tells = let sync = c.in_err-sync.ensures in touches_still _ _ _ (g.met.H.Host.timely _) sync.files.still sync.log.said sync.time
+
+pub returns-in_err-write_page-clause-touches : goal.returns-in_err-write_page-clause-touches
+returns-in_err-write_page-clause-touches g c tells =
+    let sync = c.in_ok-sync.ensures in
+    let write = c.in_err-write_page.ensures in
+    touches_named _ _ _ _ (ap (λ (v : Copying). v.name) c.self.view_is)
+    (touches_then c.self.inside.name _ _ _ (touches_still _ _ _ (g.met.H.Host.timely _) sync.files.still sync.log.said sync.time) (touches_page _ _ _ _ _ _ _ tells (g.met.H.Host.timely _) write.files write.log.said write.time))
+
+pub returns-clause-touches : goal.returns-clause-touches
+returns-clause-touches g c tells =
+    let sync = c.in_ok-sync.ensures in
+    let write = c.in_ok-write_page.ensures in
+    let last = c.sync-2.ensures in
+    touches_named _ _ _ _ (ap (λ (v : Copying). v.name) c.self.view_is)
+    (touches_then c.self.inside.name _ _ _ (touches_still _ _ _ (g.met.H.Host.timely _) sync.files.still sync.log.said sync.time)
+    (touches_then _ _ _ _ (touches_page _ _ _ _ _ _ _ tells (g.met.H.Host.timely _) write.files write.log.said write.time) (touches_still _ _ _ (g.met.H.Host.timely _) last.files.still last.log.said last.time)))

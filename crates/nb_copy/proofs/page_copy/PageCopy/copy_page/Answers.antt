@@ -6,6 +6,7 @@ use Rattle.nb_copy.specs.Copying.{Copying, IsOf, IsBegun}
 use Rattle.nb_copy.specs.Making.{IsBlank}
 use Rattle.nb_copy.proofs.QuietLaws.{named, renamed}
 use Rattle.nb_copy.proofs.CopyLaws.{page_written, quiet_keeps, begun_next}
+use Rattle.nb_copy.proofs.TouchLaws.{touches_named, touches_then, touches_quiet, touches_page}
 use Rattle.nb_copy.proofs.page_copy.PageCopy.copy_page.Goals as goal
 
 pub returns-in_err-write_page-clause-left : goal.returns-in_err-write_page-clause-left
@@ -47,3 +48,18 @@ returns-clause-copied g c t tells open_ stalled of begun =
     begun_next _ _ _ (g.H.Host.world c.write_page.new.self) (record { name = self.name; size = length self.page.items; count = self.count; next = self.next; first = self.first.items }) _ frozen c.deref.result.now is (quiet_keeps _ _ _ _ read.quiet before)
     (ap (λ n. record { name = self.name; size = n; count = self.count; next = self.next + 1; first = self.first.items }) size)
     (omega (arith, c.requires.some, next)) (omega (arith, c.requires.below, next, count)) (omega (arith, (size_facts (length c.self.inside.page.items) c.self.invariant.is_size).at_least, long)) long there write.files (named _ _ self.name _ (write.files.files tells))
+
+pub returns-in_err-read_main-clause-touches : goal.returns-in_err-read_main-clause-touches
+returns-in_err-read_main-clause-touches g c tells = touches_quiet _ _ _ c.in_err-read_main.ensures.quiet
+
+pub returns-in_err-write_page-clause-touches : goal.returns-in_err-write_page-clause-touches
+returns-in_err-write_page-clause-touches g c tells =
+    let write = c.in_err-write_page.ensures in
+    touches_named _ _ _ _ (ap (λ (v : Copying). v.name) c.self.view_is)
+    (touches_then c.self.inside.name _ _ _ (touches_quiet _ _ _ c.in_ok-read_main.ensures.quiet) (touches_page _ _ _ _ _ _ _ tells (g.met.H.Host.timely _) write.files write.log.said write.time))
+
+pub returns-clause-touches : goal.returns-clause-touches
+returns-clause-touches g c tells =
+    let write = c.in_ok-write_page.ensures in
+    touches_named _ _ _ _ (ap (λ (v : Copying). v.name) c.self.view_is)
+    (touches_then c.self.inside.name _ _ _ (touches_quiet _ _ _ c.in_ok-read_main.ensures.quiet) (touches_page _ _ _ _ _ _ _ tells (g.met.H.Host.timely _) write.files write.log.said write.time))

@@ -1,11 +1,16 @@
-use Rattle.std.proofs.Common.{◌<◌, ℕ, sym, subst, arith}
+use Rattle.std.proofs.Common.{◌<◌, ℕ, length, refl, sym, subst, arith}
 use Rattle.std.specs.Prelude.{Ok, Err, IfErr}
+use Rattle.nb_host.specs.declared.faults.Fault.TheVariants.{Refused}
+use Rattle.nb_host.specs.declared.refusals.Refusal.TheVariants.{NotDatabase}
+use Rattle.nb_page.proofs.QuietLemmas.{quiet_begun}
 use Rattle.nb_model.specs.Image.{image_scn}
 use Rattle.nb_model.specs.Forms.{drafted}
 use Rattle.nb_model.specs.Chains.{backup_slot, put_slot}
 use Rattle.nb_model.proofs.PutSound.{IsPlace}
 use Rattle.nb_base.specs.Takes.{IsNoRefusal}
 use Rattle.nb_state.specs.Open.{Held, IsOpen}
+use Rattle.nb_state.proofs.MakesLaws.{makes_none}
+use Rattle.nb_engine.specs.Make.{MakesSome}
 use Rattle.nb_engine.specs.Tries.{Tries}
 use Rattle.nb_engine.specs.Put.{entry_cause}
 use Rattle.nb_engine.proofs.DoesLaws.{tries_passed}
@@ -13,6 +18,42 @@ use Rattle.nb_engine.proofs.MakeLaws.{entry_none}
 use Rattle.nb_engine.proofs.NewTurn.{well_of}
 use Rattle.nb_engine.proofs.WhereLaws.{sure_of}
 use Rattle.nb_engine.proofs.engine.Engine.history_add.Goals as goal
+
+pub returns-then-room-count-clause-tries : goal.returns-then-room-count-clause-tries
+returns-then-room-count-clause-tries g c t tells is low =
+    let w = g.H.Host.world c.args.host.now in
+    let here = subst (λ (h : Held). IsOpen w h t) (sym c.self.view_is) is in
+    let row = c.args.row.now in
+    let strokes = (put_slot c.args.room.now.page c.args.room.now.slot (backup_slot row.level row.scn row.time row.guid row.name) (drafted t.base.image)).strokes in
+    absurd {A = Tries {T = Unit {0}} (Err (Refused (NotDatabase c.args.room.now.page))) w w c.args.self.now c.args.self.now t (entry_cause t.base.image c.args.room.now.page) strokes}
+    (omega (arith, low, here.files.agrees.count, c.count-count.ensures.value, c.if-room-count.true))
+
+pub returns-then-room-count-clause-sure : goal.returns-then-room-count-clause-sure
+returns-then-room-count-clause-sure g c t tells is low sound =
+    let here = subst (λ (h : Held). IsOpen (g.H.Host.world c.args.host.now) h t) (sym c.self.view_is) is in
+    absurd {A = ⊥} (omega (arith, low, here.files.agrees.count, c.count-count.ensures.value, c.if-room-count.true))
+
+pub returns-then-room-count-clause-some : goal.returns-then-room-count-clause-some
+returns-then-room-count-clause-some g c t tells is =
+    let w = g.H.Host.world c.args.host.now in
+    record { made = _; makes = makes_none {T = Unit {0}} (Err (Refused (NotDatabase c.args.room.now.page))) w w c.args.self.now c.args.self.now t refl (quiet_begun w (g.met.H.Host.timely c.args.host.now)) is is }
+
+pub returns-in_err-add_row-clause-some : goal.returns-in_err-add_row-clause-some
+returns-in_err-add_row-clause-some g c t tells is =
+    let w = g.H.Host.world c.args.host.now in
+    let here = subst (λ (h : Held). IsOpen w h t) (sym c.self.view_is) is in
+    let new = g.H.Host.world c.add_row.new.host in
+    let low : c.args.room.now.page < length t.base.image = omega (arith, here.files.agrees.count, c.count-count.ensures.value, c.if-room-count.false) in
+    let fault = c.in_err-add_row.field-0.0 in
+    tries_passed c.from_residual.result fault (λ r. MakesSome r w new c.args.self.now c.add_row.new.store t) c.from_residual.ensures
+    (subst (λ (h : Held). MakesSome {T = Unit {0}} (Err fault) w new h c.add_row.new.store t) c.self.view_is (record { made = _; makes = (c.in_err-add_row.ensures.tries t tells here low).makes }))
+
+pub returns-clause-some : goal.returns-clause-some
+returns-clause-some g c t tells is =
+    let w = g.H.Host.world c.args.host.now in
+    let here = subst (λ (h : Held). IsOpen w h t) (sym c.self.view_is) is in
+    let low : c.args.room.now.page < length t.base.image = omega (arith, here.files.agrees.count, c.count-count.ensures.value, c.if-room-count.false) in
+    subst (λ (h : Held). MakesSome {T = Unit {0}} (Ok tt) w (g.H.Host.world c.add_row.new.host) h c.add_row.new.store t) c.self.view_is (record { made = _; makes = (c.in_ok-add_row.ensures.tries t tells here low).makes })
 
 pub returns-in_err-add_row-clause-tries : goal.returns-in_err-add_row-clause-tries
 returns-in_err-add_row-clause-tries g c t tells is low =
