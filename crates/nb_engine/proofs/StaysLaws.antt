@@ -192,7 +192,14 @@ stays_then {t = t} value result old mid new a b c others first second =
 -- calls that change nothing before it
 pub stays_after : {T : Type 0} (result : Result T Fault) (old mid new : World) (a b c : Held) (t : Trail) (others : Names) → but_pages b ≡ but_pages a → Quiet old mid → IsOpen old a t → IsOpen mid b t → StaysOpen result mid new b c t others
     → StaysOpen result old new a c t others
-stays_after result old mid new a b c t others same quiet is opened second = stays_then tt result old mid new a b c others (stays_still (Ok tt) old mid a b t others same quiet is opened) (λ u here. second)
+stays_after result old mid new a b c t others same quiet is opened second =
+    let first = stays_still {T = Unit {0}} (Ok tt) old mid a b t others same quiet is opened in
+    record {
+      touched = composed old mid new (OfFilesOr (name_of a) others) (CanBeOpened (name_of a)) (CanBeOpened (name_of a)) (CanBeOpened (name_of a)) first.touched
+          (subst (λ (n : List ℕ). Changes mid new (OfFilesOr n others) (CanBeOpened n)) first.name second.touched) (λ files has. has) (λ files has. has);
+      opened = second.opened;
+      name = second.name ∙ first.name;
+    }
 
 -- A file that isn't the database's is touched alone.
 module _ (old new : World) (a : Held) (t : Trail) (is : IsOpen old a t) (reads : (m : List ℕ) → Leaves old m (old.files m)) (others : Names) (apart : (m : List ℕ) → others m → OfFiles (name_of a) m → ⊥)

@@ -43,3 +43,9 @@ returns-clause-once g c t tells is room there =
     let first = first_place t.base.image c.in_ok-page.page (c.in_ok-page.ensures.value t tells is) in
     let same : c.in_ok-page.page / bits_in c.args.store.now.files.page_size ≡ c.in_ok-page.page / bits_in (image_size t.base.image) = ap (λ (n : ℕ). c.in_ok-page.page / bits_in n) is.files.agrees.page_size in
     omega (arith, same, c.in_ok-page.ensures.up_to tells, c.in_ok-check_places.ensures.once t tells still first room there)
+
+pub returns-clause-open : goal.returns-clause-open
+returns-clause-open g c t tells is = c.in_ok-check_places.ensures.open t tells (c.in_ok-page.ensures.open t tells is)
+
+pub returns-in_err-check_places-clause-open : goal.returns-in_err-check_places-clause-open
+returns-in_err-check_places-clause-open g c t tells is = c.in_err-check_places.ensures.open t tells (c.in_ok-page.ensures.open t tells is)

@@ -9,6 +9,7 @@ use Rattle.nb_model.specs.Chains.{backup_slot, put_slot}
 use Rattle.nb_model.proofs.PutSound.{IsPlace}
 use Rattle.nb_base.specs.Takes.{IsNoRefusal}
 use Rattle.nb_state.specs.Open.{Held, IsOpen}
+use Rattle.nb_state.specs.Does.{unless_by}
 use Rattle.nb_state.proofs.MakesLaws.{makes_none}
 use Rattle.nb_engine.specs.Make.{MakesSome}
 use Rattle.nb_engine.specs.Tries.{Tries}
@@ -44,16 +45,22 @@ returns-in_err-add_row-clause-some g c t tells is =
     let here = subst (λ (h : Held). IsOpen w h t) (sym c.self.view_is) is in
     let new = g.H.Host.world c.add_row.new.host in
     let low : c.args.room.now.page < length t.base.image = omega (arith, here.files.agrees.count, c.count-count.ensures.value, c.if-room-count.false) in
+    let row = c.args.row.now in
+    let strokes = (put_slot c.args.room.now.page c.args.room.now.slot (backup_slot row.level row.scn row.time row.guid row.name) (drafted t.base.image)).strokes in
+    let cause = entry_cause t.base.image c.args.room.now.page in
     let fault = c.in_err-add_row.field-0.0 in
     tries_passed c.from_residual.result fault (λ r. MakesSome r w new c.args.self.now c.add_row.new.store t) c.from_residual.ensures
-    (subst (λ (h : Held). MakesSome {T = Unit {0}} (Err fault) w new h c.add_row.new.store t) c.self.view_is (record { made = _; makes = (c.in_err-add_row.ensures.tries t tells here low).makes }))
+    (subst (λ (h : Held). MakesSome {T = Unit {0}} (Err fault) w new h c.add_row.new.store t) c.self.view_is (record { made = unless_by cause strokes; makes = (c.in_err-add_row.ensures.tries t tells here low).makes }))
 
 pub returns-clause-some : goal.returns-clause-some
 returns-clause-some g c t tells is =
     let w = g.H.Host.world c.args.host.now in
     let here = subst (λ (h : Held). IsOpen w h t) (sym c.self.view_is) is in
     let low : c.args.room.now.page < length t.base.image = omega (arith, here.files.agrees.count, c.count-count.ensures.value, c.if-room-count.false) in
-    subst (λ (h : Held). MakesSome {T = Unit {0}} (Ok tt) w (g.H.Host.world c.add_row.new.host) h c.add_row.new.store t) c.self.view_is (record { made = _; makes = (c.in_ok-add_row.ensures.tries t tells here low).makes })
+    let row = c.args.row.now in
+    let strokes = (put_slot c.args.room.now.page c.args.room.now.slot (backup_slot row.level row.scn row.time row.guid row.name) (drafted t.base.image)).strokes in
+    let cause = entry_cause t.base.image c.args.room.now.page in
+    subst (λ (h : Held). MakesSome {T = Unit {0}} (Ok tt) w (g.H.Host.world c.add_row.new.host) h c.add_row.new.store t) c.self.view_is (record { made = unless_by cause strokes; makes = (c.in_ok-add_row.ensures.tries t tells here low).makes })
 
 pub returns-in_err-add_row-clause-tries : goal.returns-in_err-add_row-clause-tries
 returns-in_err-add_row-clause-tries g c t tells is low =
