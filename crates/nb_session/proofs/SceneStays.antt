@@ -8,12 +8,15 @@ use Rattle.nb_host.specs.Moments.{IsTimely}
 use Rattle.nb_host.specs.declared.faults.Fault.{Fault}
 use Rattle.nb_page.proofs.QuietLemmas.{quiet_begun}
 use Rattle.nb_model.specs.declared.statement.Statement.{Statement}
-use Rattle.nb_model.specs.Run.{all_sessions, rounds}
+use Rattle.nb_model.specs.Run.{all_sessions}
+use Rattle.nb_model.specs.Strokes.{Stroke}
 use Rattle.nb_sched.specs.Turns.{Scene, scene, agent_of, Moves, TakesTurns, EndsWith, FailsBehind}
 use Rattle.nb_sched.proofs.AgentLaws.{agent_of_set, agent_there}
 use Rattle.nb_sched.proofs.TurnLaws.{turns_hold}
 use Rattle.nb_script.specs.Scripts.{Plan, statements_of}
-use Rattle.nb_state.specs.Open.{Held, name_of}
+use Rattle.nb_base.specs.Open.{OfFiles}
+use Rattle.nb_base.specs.Takes.{Strikes}
+use Rattle.nb_state.specs.Open.{Held, IsOpen, but_pages, name_of}
 use Rattle.nb_engine.specs.Stays.{OfFilesOr}
 use Rattle.nb_session.specs.Askers.{Asker, any_refused, fresh_asker, first_askers}
 use Rattle.nb_session.specs.MadeNames.{AnyAsks, AnySessionAsks, MayMake, ScriptMakes}
@@ -23,7 +26,7 @@ use Rattle.nb_session.specs.StillOpen.{AskerStays, AskerTurnStays, IsAllowed, Is
 use Rattle.nb_session.specs.declared.stop.Stop.{Stop}
 use Rattle.nb_session.specs.declared.told.Told.{Told}
 use Rattle.nb_session.proofs.AskerStays.{asker_kept}
-use Rattle.nb_session.proofs.OthersLaws.{leaves_among, leaves_quiet, leaves_then, refusal_then, then_refusal}
+use Rattle.nb_session.proofs.OthersLaws.{leaves_among, leaves_changes, leaves_quiet, leaves_then, refusal_then, then_refusal}
 use Rattle.nb_session.proofs.ReadyLaws.{true_false}
 use Rattle.nb_session.proofs.SceneLaws.{sessions_kind, any_set}
 use Rattle.nb_session.proofs.WholeLaws.{first_agent}
@@ -89,7 +92,7 @@ module _ {H : Type 0} (tells : Bool) (told : IsTrue tells) (world : H → World)
     turn = made.stays_open may_merge told here.opened (here.goes session asker there)
 
     among : (m : List ℕ) → OfFilesOr (name_of s.shared) (MayMake asker) m → names m
-    among m (inl own) = inl (subst (λ (n : List ℕ). Rattle.nb_base.specs.Open.OfFiles n m) here.name own)
+    among m (inl own) = inl (subst (λ (n : List ℕ). OfFiles n m) here.name own)
     among m (inr makes) = inr (here.makes session asker there m makes)
 
     turn_leaves : LeavesOthers (world s.host) (world s'.host) names
@@ -145,10 +148,37 @@ module _ {H : Type 0} (tells : Bool) (told : IsTrue tells) (world : H → World)
 
       -- to the end of all
       pub script_stays : TakesTurns (sessions_kind tells world faults) order (scene (first_askers how plan) old before) (Ok tt) after → ScriptStays (Ok (any_refused after.agents)) (world old) (world after.host) before after.shared plan
-      script_stays turns = let done = ends (Ok tt) turns in record { leaves = done.leaves; opened = done.opened; says = done.says }
+      script_stays turns = let done = ends (Ok tt) turns in record { leaves = done.leaves; name = done.name; opened = done.opened; says = done.says }
 
       -- or until one ended early
       pub script_failed : (fault : Fault) (stop : Stop) → TakesTurns (sessions_kind tells world faults) order (scene (first_askers how plan) old before) (Err fault) after → ScriptStays (Err stop) (world old) (world after.host) before after.shared plan
       script_failed fault stop turns =
           let e : FailsBehind (sessions_kind tells world faults) Stays order fault after = ends (Err fault) turns in
-          record { leaves = leaves_so_far e.last after e.holds e.move.agent e.move.moved e.session e.move.there (Err fault) e.move.made; opened = tt; says = tt }
+          record {
+            leaves = leaves_so_far e.last after e.holds e.move.agent e.move.moved e.session e.move.there (Err fault) e.move.made;
+            name = (turn e.last after e.holds e.move.agent e.move.moved e.session e.move.there (Err fault) e.move.made).name ∙ e.holds.name;
+            opened = tt;
+            says = tt;
+          }
+
+-- What waits is written out behind them.
+module _ (old mid new : World) (a b c : Held) (plan : Plan) (refused : Bool) (first : ScriptStays (Ok refused) old mid a b plan) (xs : List Stroke) (struck : Strikes mid new (name_of b) first.opened.trail xs) (same : but_pages c ≡ but_pages b) where
+  abbrev touched : List ℕ → Type 0
+  touched = OfFilesOr (name_of a) (ScriptMakes plan)
+
+  out_leaves : LeavesOthers mid new touched
+  out_leaves = leaves_among mid new (OfFiles (name_of b)) touched (λ m own. inl (subst (λ (n : List ℕ). OfFiles n m) first.name own)) (leaves_changes mid new (OfFiles (name_of b)) _ struck)
+
+  all_leave : LeavesOthers old new touched
+  all_leave = leaves_then old mid new touched first.leaves out_leaves
+
+  pub script_out : IsOpen new c first.opened.trail → ScriptStays (Ok refused) old new a c plan
+  script_out opened = record {
+    leaves = all_leave;
+    name = ap (λ (h : Held). name_of h) same ∙ first.name;
+    opened = record { trail = first.opened.trail; opened = opened; no_zeros = first.opened.no_zeros };
+    says = λ yes. refusal_then old mid new (first.says yes) out_leaves.added;
+  }
+
+  pub script_stopped : (stop : Stop) → ScriptStays (Err stop) old new a c plan
+  script_stopped stop = record { leaves = all_leave; name = ap (λ (h : Held). name_of h) same ∙ first.name; opened = tt; says = tt }

@@ -8,7 +8,6 @@ use Rattle.nb_host.specs.Crash.{LeavesAll}
 use Rattle.nb_host.specs.Moments.{IsTimely}
 use Rattle.nb_host.specs.declared.faults.Fault.{Fault}
 use Rattle.nb_host.specs.declared.faults.Fault.TheVariants.{Refused, Device, Memory}
-use Rattle.nb_host.specs.declared.faults.HostFault.{HostFault}
 use Rattle.nb_host.specs.declared.refusals.Refusal.{Refusal}
 use Rattle.nb_change.specs.Changes.{Names, Only}
 use Rattle.nb_change.proofs.MomentLaws.{untouched_begun}
@@ -23,7 +22,7 @@ use Rattle.nb_model.specs.Outcomes.{Seen}
 use Rattle.nb_model.specs.Trail.{Trail}
 use Rattle.nb_model.proofs.StandsLaws.{delta_named}
 use Rattle.nb_base.specs.Open.{OfFiles}
-use Rattle.nb_base.specs.Takes.{Takes}
+use Rattle.nb_base.specs.Takes.{Strikes}
 use Rattle.nb_state.specs.Open.{Held, IsOpen, but_pages, name_of}
 use Rattle.nb_state.specs.Does.{WhereEnded}
 use Rattle.nb_state.proofs.MakesLaws.{open_running, where_ended}
@@ -36,7 +35,7 @@ use Rattle.nb_session.specs.MadeNames.{Asks, TaskMakes}
 use Rattle.nb_session.specs.Others.{LeavesOthers, SaysRefusal}
 use Rattle.nb_session.specs.Replies.{HasEnded, is_refusal}
 use Rattle.nb_session.specs.Says.{SaysLine}
-use Rattle.nb_session.specs.StillOpen.{IsAside, IsStillOpen, TaskStays, TurnStays}
+use Rattle.nb_session.specs.StillOpen.{IsAside, IsStillOpen, TaskStays, TurnStays, merges}
 use Rattle.nb_session.specs.Told.{told_line, told_reply}
 use Rattle.nb_session.specs.declared.task.Taken.{Taken}
 use Rattle.nb_session.specs.declared.task.Task.{Task}
@@ -64,10 +63,9 @@ still_none w = record { files = refl; left = untouched_begun w (λ _. Unit {0}) 
 pub seen_of : Trail → Option ℕ → Seen
 seen_of t running = record { base = t.base; cache = 0; running = running; entry = λ name. Missing; given = record { guids = []; times = []; holds = [] } }
 
--- Calls that make no stroke.
-pub stays_takes : {T E : Type 0} (value : T) (done : E) (old new : World) (a b : Held) (t : Trail) → but_pages b ≡ but_pages a → Takes {T = E} {E = HostFault} (Ok done) old new (name_of a) (IsOpen new b) t []
-    → StaysOpen (Ok value) old new a b t (λ m. ⊥)
-stays_takes value done old new a b t same takes = stays_struck (Ok value) old new a b t (λ m. ⊥) t [] takes.left takes.done (whole_same t.base.image) (ap (λ (h : Held). name_of h) same)
+-- a call that makes no stroke
+pub stays_out : {T : Type 0} (result : Result T Fault) (old new : World) (a b : Held) (t : Trail) (others : Names) → but_pages b ≡ but_pages a → Strikes old new (name_of a) t [] → WhereEnded result (IsOpen new b t) → StaysOpen result old new a b t others
+stays_out result old new a b t others same struck opened = stays_struck result old new a b t others t [] struck opened (where_ended result _ (whole_same t.base.image)) (ap (λ (h : Held). name_of h) same)
 
 -- The names of files that are made.
 aside : (w : World) (held : Held) (t : Trail) (name : List ℕ) → IsOpen w held t → is_free_name w.files name ≡ true → is_delta name ≡ false → IsAside held name
@@ -201,3 +199,22 @@ module _ (may_merge : Bool) (old new : World) (a b : Held) where
     makes = no_value answer _ failed;
     says = no_value answer _ failed;
   }
+
+-- Where a merge may come.
+pub backup_merges : (statement : Statement) → IsBackup statement → merges statement ≡ true
+backup_merges (BackupTo level name) is = refl
+backup_merges (BackupSince guid name) is = refl
+backup_merges other is = absurd is
+
+module _ {may_merge : Bool} {old new : World} {a b : Held} {S : Type 0} {refused : S → Bool} {task : S → Option Task} {answer : Result S Fault} where
+  pub turn_merging : {names : Names} → may_merge ≡ true → (IsStillOpen true old a → TurnStays true refused task answer old new a b names) → IsStillOpen may_merge old a → TurnStays may_merge refused task answer old new a b names
+  turn_merging {names} may turn still =
+      subst (λ (m : Bool). TurnStays m refused task answer old new a b names) (sym may) (turn (subst (λ (m : Bool). IsStillOpen m old a) may still))
+
+  -- by the task that was under way
+  pub turn_of : {under : Option Task} {now : Task} → under ≡ Some now → TurnStays may_merge refused task answer old new a b (TaskMakes (Some now)) → TurnStays may_merge refused task answer old new a b (TaskMakes under)
+  turn_of is turn = subst (λ (x : Option Task). TurnStays may_merge refused task answer old new a b (TaskMakes x)) (sym is) turn
+
+  -- what makes no file
+  pub turn_none : {now : Option Task} → TurnStays may_merge refused task answer old new a b (λ m. ⊥) → TurnStays may_merge refused task answer old new a b (TaskMakes now)
+  turn_none {now} turn = turn_among may_merge old new a b refused task answer (λ m. ⊥) (TaskMakes now) (λ m none. absurd none) turn

@@ -83,5 +83,6 @@ pub record AskerTurnStays (may_merge refused : Bool) (result : Result (Unit {0})
 -- to their end, the database open. Where a statement was refused, that was said.
 pub record ScriptStays (result : Result Bool Stop) (old new : World) (before after : Held) (plan : Plan) : Type 0 where
   pub leaves : LeavesOthers old new (OfFilesOr (name_of before) (ScriptMakes plan))
+  pub name : name_of after ≡ name_of before
   pub opened : OnOk result (IsStillOpen (script_merges plan) new after)
   pub says : IfOk result (λ refused. refused ≡ true → SaysRefusal old new)
