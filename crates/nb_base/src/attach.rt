@@ -15,6 +15,7 @@ ghost use Rattle.nb_model.specs.Owner.{behind_entries};
 ghost use Rattle.nb_base.specs.Attach.{Tested, length_cause, start_cause, main_cause, IsStart, AttachesFor};
 ghost use Rattle.nb_base.specs.Reads.{table_reads};
 
+use nb_cases::{Case, Event, case_of};
 use nb_delta::Delta;
 use nb_fields::are_zeros;
 use nb_fields::layouts::header;
@@ -26,9 +27,6 @@ use std::alloc::Global;
 const LEAST_PAGES: u64 = 5;
 
 const MOST_PAGES: u64 = 1_048_576;
-
-/// The backup state of a merge into a standby that was not finished.
-const APPLYING: u16 = 3;
 
 /// What the start of a main file says of a database.
 #[derive(Clone, Copy)]
@@ -80,7 +78,7 @@ fn start_of(first: &[u8], len: u64) -> Result<Start, Fault>
         return Err(Fault::Refused(Refusal::NotDatabase { page: 0 }));
     };
     let pages = count_pages(len, block.page_size)?;
-    if block.state == APPLYING {
+    if case_of(block.state, Event::Attach) == Case::Unfinished {
         return Err(Fault::Refused(Refusal::Unfinished));
     }
     Ok(Start {

@@ -1,4 +1,4 @@
-ghost use Rattle.std.specs.Prelude.{◌≡◌, ◌≢◌, ◌<◌, ◌≤◌, ◌+◌, ℕ, List, [], ◌∷◌, length, slice_index, IsTrue, IfErr, OnOk, Option, false};
+ghost use Rattle.std.specs.Prelude.{◌≡◌, ◌≢◌, ◌↔◌, ◌<◌, ◌≤◌, ◌+◌, ℕ, List, [], ◌∷◌, length, slice_index, IsTrue, IfErr, OnOk, Option, false};
 ghost use Rattle.nb_fields.specs.Bytes.{is_zeros};
 ghost use Rattle.nb_fields.specs.Places.{is_page_size};
 ghost use Rattle.nb_fields.specs.Fresh.{fresh};
@@ -21,10 +21,19 @@ ghost use Rattle.nb_base.specs.Beginnings.{Attaches, Creates};
 use crate::reads::{read_owned, read_page};
 use crate::sync::sync_both;
 use crate::writes::{is_synced, write_plain, write_stalled};
+use nb_cases::{Case, Event, case_of};
 use nb_delta::Delta;
 use nb_host::{Fault, Host, HostFault, Name};
 use std::alloc::Global;
 use std::marker::Model;
+
+/// Whether a page that is written goes to the difference file alone.
+fn is_diverted(state: u16) -> bool
+    requires { state ≤ 2 }
+    ensures { IsTrue result ↔ state ≡ 1 }
+{
+    case_of(state, Event::Write) == Case::Delta
+}
 
 /// The two files of one database.
 #[derive(Drop)]
@@ -177,11 +186,19 @@ impl TwoFiles {
         ensures not_refused { IfErr result IsNoRefusal }
         ensures on_memory { result ≡ Err Fault.Memory → (self.new ≡ self.old) × (host.new ≡ host.old) }
     {
-        if self.state == 1 {
+        if is_diverted(self.state) {
             write_stalled(host, &mut self.delta, number, page, synced)?;
             Ok(())
         } else {
-            write_plain(host, &self.name, &mut self.delta, number, page, synced)?;
+            write_plain(
+                host,
+                &self.name,
+                &mut self.delta,
+                self.state,
+                number,
+                page,
+                synced,
+            )?;
             Ok(())
         }
     }

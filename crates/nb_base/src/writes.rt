@@ -1,5 +1,5 @@
 // A page is written into the file that owns it, or into both.
-ghost use Rattle.std.specs.Prelude.{◌≡◌, ◌≢◌, ◌⊎◌, ◌++◌, ◌*◌, ◌<◌, ◌||◌, ℕ, List, [], ◌∷◌, length, IsTrue, IfErr, OnOk, Some, None, nat_le};
+ghost use Rattle.std.specs.Prelude.{◌≡◌, ◌≢◌, ◌⊎◌, ◌++◌, ◌*◌, ◌<◌, ◌≤◌, ◌||◌, ℕ, List, [], ◌∷◌, length, IsTrue, IfErr, OnOk, Some, None, nat_le};
 ghost use Rattle.nb_fields.specs.Bytes.{is_zeros};
 ghost use Rattle.nb_fields.specs.Places.{is_page_size};
 ghost use Rattle.nb_fields.specs.Table.{slot_place};
@@ -18,6 +18,8 @@ ghost use Rattle.nb_base.specs.Open.{Held, AreMerged};
 ghost use Rattle.nb_base.specs.Seen.{IsSeen, IsWrite};
 ghost use Rattle.nb_base.specs.Takes.{TakesFirm, IsNoRefusal};
 
+use crate::control::{MERGE, STALLED};
+use nb_cases::syncs_of;
 use nb_delta::Delta;
 use nb_fields::is_scn_place;
 use nb_host::{Fault, Host, HostFault, Name};
@@ -172,27 +174,33 @@ pub fn write_stalled<H: Host>(
 {
     match delta.slot_of(host, number)? {
         Some(slot) => {
-            write_slot(host, delta, slot, page, synced)?;
+            let syncs = syncs_of(STALLED, true, synced);
+            write_slot(host, delta, slot, page, syncs.slot)?;
             Ok(())
         }
         None => {
-            add_entry(host, delta, number, page, synced)?;
+            let syncs = syncs_of(STALLED, false, synced);
+            add_entry(host, delta, number, page, syncs.table)?;
             Ok(())
         }
     }
 }
 
-/// Writes a page in the normal or the merge state: into the main file, and into the slot of its entry before, where it has one.
+/// Writes a page in the normal or the merge state: into the main file, and into the slot of its entry before, where it has one. Entries
+/// are in the merge state alone.
 pub fn write_plain<H: Host>(
     host: &mut H,
     name: &Name,
     delta: &mut Delta,
+    state: u16,
     number: u32,
     page: &[u8],
     synced: bool,
 ) -> Result<(), HostFault>
     requires size { length page.now ≡ delta.old.page_size }
     requires page { IsTrue (is_page_size (length page.now)) }
+    requires opened { state ≤ 2 }
+    requires plain { state ≢ 1 }
     ensures takes { (t : Trail) → IsTrue H.tells → IsSeen (H.world host.old) name.now t → IsWrite t number page.now → image_state t.base.image ≢ 1 → t.base.diverted ≡ delta.old.entries
         → delta.old.name ≡ delta_name name.now → synced ≡ must_sync t.base.image number
         → TakesFirm result (H.world host.old) (H.world host.new) name.now (IsSeen (H.world host.new) name.now) t (page_stroke number page.now ∷ []) }
@@ -205,11 +213,13 @@ pub fn write_plain<H: Host>(
 {
     match delta.slot_of(host, number)? {
         Some(slot) => {
-            write_both(host, name, delta, slot, number, page, synced)?;
+            let syncs = syncs_of(MERGE, true, synced);
+            write_both(host, name, delta, slot, number, page, syncs.slot)?;
             Ok(())
         }
         None => {
-            write_main(host, name, number, page, synced)?;
+            let syncs = syncs_of(state, false, synced);
+            write_main(host, name, number, page, syncs.main)?;
             Ok(())
         }
     }

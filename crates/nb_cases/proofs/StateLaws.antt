@@ -1,15 +1,21 @@
--- In which states an open database lets an event go.
-use Rattle.std.proofs.Common.{◌≡◌, ◌≢◌, ◌≤◌, inl, inr, ℕ, zero, suc, [], ◌∷◌, ◌++◌, replicate, refl, sym, ap, ◌∙◌, arith}
-use Rattle.std.specs.Prelude.{Bool, not, ◌==◌, Some, None}
+-- Which state a case of the table tells.
+use Rattle.std.proofs.Common.{◌≡◌, ◌≢◌, ◌≤◌, inl, inr, ℕ, zero, suc, List, [], ◌∷◌, ◌++◌, replicate, refl, sym, ap, subst, ◌∙◌, arith}
+use Rattle.std.specs.Prelude.{Bool, not, ◌==◌, Some, None, Result, Ok, Err}
 use Rattle.std.proofs.lemmas.Bool.Decides.{eqb_tells}
 use Rattle.nb_fields.specs.Bytes.{number_in, number_of}
 use Rattle.nb_host.specs.declared.refusals.Refusal.{Refusal}
-use Rattle.nb_host.specs.declared.refusals.Refusal.TheVariants.{WrongState as in_state}
+use Rattle.nb_host.specs.declared.refusals.Refusal.TheVariants.{NoFile, WrongState as in_state, Unfinished as unfinished}
+use Rattle.nb_model.specs.Account.{Base, base_of}
 use Rattle.nb_model.specs.Causes.{Cause, when, not_state}
 use Rattle.nb_model.specs.Image.{Image, image_state}
-use Rattle.nb_cases.specs.Events.{OnOpen, none_to_end}
+use Rattle.nb_model.specs.Owner.{delta_name, owner_in, owner_with}
+use Rattle.nb_model.specs.Strokes.{noted}
+use Rattle.nb_cases.specs.Events.{Diverts, DivertsNone, OnAttach, OnOpen, OnWrite, none_to_end}
 use Rattle.nb_cases.specs.declared.events.Case.{Case}
 use Rattle.nb_cases.specs.declared.events.Case.TheVariants.{NoCall, Go, WrongState, Unfinished, Main, Delta, BothOrMain, GoWithDelta, GoWithoutDelta, GoOrUnfinished}
+use Rattle.nb_cases.proofs.EventLaws.{diverts_none_merge, diverts_none_normal, diverts_stalled}
+
+-- ---- an open database is asked for a turn
 
 some_none : (r : Refusal) → Some r ≡ None → ⊥
 some_none r e = cc
@@ -72,3 +78,83 @@ module _ (state : ℕ) (low : state ≤ 2) (case : Case) (other : case ≢ Wrong
   some_backup says =
       let is = image_is state low in
       some state (sym (ap (λ (n : ℕ). when (n == 0) (in_state 0)) is) ∙ goes none_to_end state low case says other (image_of state) is)
+
+-- ---- a page is written
+
+-- a page that has no entry gets one
+is_noted : noted 0 [] ≡ [] → ⊥
+unfolding noted
+is_noted e = cc
+
+-- in the stalled state, and in no other
+stalled_diverts : DivertsNone 1 → ⊥
+stalled_diverts none =
+    let b : Base = base_of (image_of 1) in
+    let is = image_is 1 (omega arith) in
+    is_noted (sym (diverts_stalled b 0 [] is) ∙ none b 0 [] is)
+
+only_stalled_diverts : (state : ℕ) → state ≤ 2 → Diverts state → state ≡ 1
+only_stalled_diverts zero low diverts =
+    let b : Base = base_of (image_of 0) in
+    let is = image_is 0 low in
+    absurd (is_noted (sym (diverts b 0 [] is) ∙ diverts_none_normal b 0 [] is))
+only_stalled_diverts (suc zero) low diverts = refl
+only_stalled_diverts (suc (suc zero)) low diverts =
+    let b : Base = base_of (image_of 2) in
+    let is = image_is 2 low in
+    absurd (is_noted (sym (diverts b 0 [] is) ∙ diverts_none_merge b 0 [] is))
+only_stalled_diverts (suc (suc (suc more))) low diverts = absurd (omega (arith, low))
+
+-- a page goes to the difference file alone in the stalled state
+pub diverted_stalled : (state : ℕ) → state ≤ 2 → OnWrite state Delta → state ≡ 1
+diverted_stalled state low says = only_stalled_diverts state low says.1
+
+-- and otherwise in another one
+pub plain_not_stalled : (state : ℕ) (case : Case) → OnWrite state case → case ≢ Delta → state ≢ 1
+plain_not_stalled state case says other stalled = by case (subst (λ (n : ℕ). OnWrite n case) stalled says) other
+  where
+    by : (case : Case) → OnWrite 1 case → case ≢ Delta → ⊥
+    by Delta says other = other refl
+    by Main says other = stalled_diverts says.1
+    by BothOrMain says other = stalled_diverts says.1
+    by NoCall says other = omega (arith, says)
+    by Go says other = says
+    by WrongState says other = says
+    by Unfinished says other = says
+    by GoWithDelta says other = says
+    by GoWithoutDelta says other = says
+    by GoOrUnfinished says other = says
+
+-- ---- a database is opened
+
+opened_refused : (b : Base) → Ok b ≡ Err unfinished → ⊥
+opened_refused b e = cc
+
+otherwise_refused : (name : List ℕ) → let other : Result Base Refusal = Err (NoFile name) in other ≡ Err unfinished → ⊥
+otherwise_refused name e = cc
+
+-- it is refused as unfinished where a merge into a standby was stopped
+pub unfinished_applying : (state : ℕ) → state ≤ 3 → OnAttach state Unfinished → state ≡ 3
+unfolding owner_in owner_with
+unfinished_applying zero low says = absurd (opened_refused _ (says [] [] None))
+unfinished_applying (suc zero) low says = absurd (otherwise_refused (delta_name []) (says [] [] None))
+unfinished_applying (suc (suc zero)) low says = absurd (otherwise_refused (delta_name []) (says [] [] None))
+unfinished_applying (suc (suc (suc zero))) low says = refl
+unfinished_applying (suc (suc (suc (suc more)))) low says = absurd (omega (arith, low))
+
+-- and in no other state
+pub opened_not_applying : (state : ℕ) (case : Case) → OnAttach state case → case ≢ Unfinished → state ≢ 3
+unfolding owner_in owner_with
+opened_not_applying state case says other applying = by case (subst (λ (n : ℕ). OnAttach n case) applying says) other
+  where
+    by : (case : Case) → OnAttach 3 case → case ≢ Unfinished → ⊥
+    by Unfinished says other = other refl
+    by Go says other = opened_refused _ (sym (says [] [] None))
+    by GoWithDelta says other = otherwise_refused (delta_name []) (sym (says [] [] None))
+    by NoCall says other = says
+    by WrongState says other = says
+    by Main says other = says
+    by Delta says other = says
+    by BothOrMain says other = says
+    by GoWithoutDelta says other = says
+    by GoOrUnfinished says other = says

@@ -1,13 +1,13 @@
 -- The table of the syncs of a page write: each cell has the syncs of its state.
-use Rattle.std.proofs.Common.{◌≡◌, ℕ, zero, suc, List, [], ◌∷◌, refl, sym, ap, ◌∙◌, arith}
-use Rattle.std.specs.Prelude.{Bool, true, false, Option, Some, None, is_some}
-use Rattle.std.proofs.lemmas.Bool.{true≢false}
+use Rattle.std.proofs.Common.{◌≡◌, ◌≢◌, ℕ, zero, suc, List, [], ◌∷◌, refl, sym, ap, ◌∙◌, arith}
+use Rattle.std.specs.Prelude.{Bool, true, false, not, ◌&&◌, Option, Some, None, is_some}
+use Rattle.std.proofs.lemmas.Bool.{true≢false, ne_eqb}
 use Rattle.nb_model.specs.Account.{Base}
 use Rattle.nb_model.specs.Image.{Page, image_state}
 use Rattle.nb_model.specs.Owner.{entry_for}
 use Rattle.nb_model.specs.Strokes.{noted, on_base, page}
 use Rattle.nb_model.proofs.EntryLaws.{noted_none}
-use Rattle.nb_cases.specs.Syncs.{AreTheSyncs, IsKept, syncs_at}
+use Rattle.nb_cases.specs.Syncs.{AreTheSyncs, IsKept, SyncsOf, syncs_at}
 use Rattle.nb_cases.specs.declared.syncs.Syncs.{Syncs}
 use Rattle.nb_cases.proofs.EventLaws.{diverts_none_merge, diverts_none_normal, diverts_stalled}
 
@@ -113,3 +113,7 @@ the_syncs (suc (suc zero)) false false low normal = record {
   keeps = λ b p bytes at is k. absurd (true≢false (sym k));
 }
 the_syncs (suc (suc (suc more))) has_entry kept low normal = absurd (omega (arith, low))
+
+-- of a page that stays without an entry the main file is synced, where the write is to be kept
+pub main_if_kept : (state : ℕ) (kept : Bool) (syncs : Syncs) → state ≢ 1 → SyncsOf state false kept syncs → syncs.main ≡ kept
+main_if_kept state kept syncs other is = is.main ∙ ap (λ (t : Bool). (not t && not false) && kept) (ne_eqb state 1 other)

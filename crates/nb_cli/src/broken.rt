@@ -1,11 +1,15 @@
 // The line of a script that breaks its form, for a reader.
-ghost use Rattle.std.specs.Prelude.{◌≡◌, Some, map, string_bytes, IfOk, IfSome};
+ghost use Rattle.std.specs.Prelude.{◌≡◌, Some, Err, map, string_bytes, IsTrue, IfOk, IfSome};
+ghost use Rattle.nb_host.specs.declared.refusals.Refusal.TheVariants.{BadScript};
+ghost use Rattle.nb_page.specs.Quiet.{Quiet};
 ghost use Rattle.nb_model.specs.Words.{job_of};
 ghost use Rattle.nb_model.specs.declared.job.Job.TheVariants.{Run};
+ghost use Rattle.nb_top.specs.Requests.{script_in};
 
 use nb_host::{Fault, Host, Name, Refusal};
 use nb_model::Job;
-use nb_script::{MOST_BYTES, parse};
+use nb_script::parse;
+use nb_top::read_file;
 use nb_words::read_job;
 use std::alloc::{AllocError, Global};
 
@@ -60,21 +64,21 @@ fn text_of(alloc: Global, bytes: &[u8], line: u32) -> Result<String, AllocError>
     }
 }
 
-/// The line that breaks the form of a script, none where the file spells one or isn't read for its length. It is read once more.
+/// The line that breaks the form of a script, none where the file spells one or isn't read for its length. It is read once more, and
+/// nothing changes.
 pub fn broken_line<H: Host>(
     alloc: Global,
     host: &mut H,
     script: &Name,
-) -> Result<Option<Broken>, Fault> {
-    let Some(size) = host.size(script)? else {
-        return Ok(None);
+) -> Result<Option<Broken>, Fault>
+    ensures line { IsTrue H.tells → IfOk result (λ found. IfSome found (λ broken. script_in script.now ((H.world host.old).files script.now) ≡ Err (BadScript broken.line))) }
+    ensures quiet { Quiet (H.world host.old) (H.world host.new) }
+{
+    let bytes = match read_file(alloc, host, script) {
+        Ok(bytes) => bytes,
+        Err(Fault::Refused(_)) => return Ok(None),
+        Err(fault) => return Err(fault),
     };
-    if size > MOST_BYTES as u64 {
-        return Ok(None);
-    }
-    let mut bytes = vec![in alloc; 0; size as usize]?;
-    let count = host.read_at(script, 0, &mut bytes)?;
-    bytes.truncate(count);
     match parse(alloc, &bytes) {
         Err(Fault::Refused(Refusal::BadScript { line })) => {
             let text = text_of(alloc, &bytes, line)?;

@@ -12,6 +12,7 @@ ghost use Rattle.nb_host.specs.Causes.{Rose};
 ghost use Rattle.nb_model.specs.Account.{Account};
 ghost use Rattle.nb_model.specs.Gifts.{Foretells};
 ghost use Rattle.nb_model.specs.Outcomes.{Given};
+ghost use Rattle.nb_session.specs.Acts.{Grows};
 ghost use Rattle.nb_top.specs.Performed.{Knows, MayBeGiven, Performs};
 ghost use Rattle.nb_top.specs.Requests.{job_asked, request_asked};
 ghost use Rattle.nb_cli.specs.Exit.{number_of};
@@ -21,14 +22,15 @@ mod broken;
 mod tests;
 
 use broken::{broken_line, script_of};
-use nb_file::FileHost;
+use nb_file::{Disk, FileHost};
 use nb_host::Host;
 use nb_top::{Status, run};
 use std::alloc::Global;
 use std::env;
 use std::io::{self, ErrorKind};
+use std::os::fd::AsRawFd;
 use std::process::ExitCode;
-use std::rt::Env;
+use std::rt::{Clock, Env, Files};
 
 /// What the words may be, for a reader.
 const USAGE: &str = "\
@@ -62,6 +64,7 @@ fn status_of<H: Host>(alloc: Global, words: io::Result<Vec<String>>, host: &mut 
     ensures performs { IfOk words (λ words. (account : Account) (given : Given) → IsTrue H.tells → Knows (H.world host.old).files account (request_asked (H.world host.old).files (map string_bytes words.items))
         → MayBeGiven given → Foretells given (H.world host.old) (H.world host.new)
         → Performs result (H.world host.old) (H.world host.new) (request_asked (H.world host.old).files (map string_bytes words.items)) account given) }
+    ensures grows { IfOk words (λ words. (account : Account) → IsTrue H.tells → Knows (H.world host.old).files account (request_asked (H.world host.old).files (map string_bytes words.items)) → Grows (H.world host.old) (H.world host.new)) }
 
     // Others make it Usage, where memory and the host suffice to say so.
     ensures no_text { IfErr words (λ error. error_kind error ≢ ErrorKind.OutOfMemory → (result ≡ Status.Usage) ⊎ (result ≡ Status.Device) ⊎ (result ≡ Status.Memory)) }
@@ -80,18 +83,22 @@ fn status_of<H: Host>(alloc: Global, words: io::Result<Vec<String>>, host: &mut 
     }
 }
 
-/// Behind a run of which no call failed, has the host write what it still holds of files. A reply would have it written, and the end of
-/// the program is none. It says nothing.
-fn write_rest<H: Host>(status: Status, host: &mut H) -> Status
+/// Behind a run of which no call failed, gives the system what still waits to be written of files. A reply would have done so, and the end
+/// of the program doesn't.
+fn write_rest<R: Files + Print + Eprint + Clock + Drop>(
+    status: Status,
+    host: &mut FileHost<R>,
+) -> Status
+where
+    R::File: Disk + AsRawFd,
     ensures same { (result ≡ status) ⊎ (result ≡ Status.Device) }
-    ensures device { result ≡ Status.Device → (status ≡ Status.Device) ⊎ Rose (H.faults host.old) (H.faults host.new) }
-    ensures no_device { result ≢ Status.Device → H.faults host.new ≡ H.faults host.old }
-    ensures files { (H.world host.new).files ≡ (H.world host.old).files }
-    ensures silent { IsTrue H.tells → (H.world host.new).said ≡ (H.world host.old).said }
+    ensures written { result ≢ Status.Device → result ≢ Status.Usage → host.new.waiting ≡ None }
+    ensures device { result ≡ Status.Device → (status ≡ Status.Device) ⊎ Rose host.old.faults host.new.faults }
+    ensures no_device { result ≢ Status.Device → host.new.faults ≡ host.old.faults }
 {
     match status {
         Status::Usage | Status::Device => status,
-        Status::Done | Status::Refused | Status::Memory => match host.say(&[]) {
+        Status::Done | Status::Refused | Status::Memory => match host.write_rest() {
             Ok(()) => status,
             Err(_) => Status::Device,
         },

@@ -1,5 +1,5 @@
 // The host.
-ghost use Rattle.std.specs.Prelude.{◌≡◌, ◌*◌, ◌≤◌, ℕ, false, length, Ok, IfOk};
+ghost use Rattle.std.specs.Prelude.{◌≡◌, ◌*◌, ◌≤◌, false, length, None, Ok, IfOk};
 ghost use Rattle.nb_host.specs.Causes.{Rose, CountsFault};
 ghost use Rattle.nb_file.specs.Nothing.{silence, silence_timely, untold};
 
@@ -16,7 +16,7 @@ use std::rt::{Clock, Files};
 
 /// Real files, the standard output, the system's random bytes and its clock.
 ///
-/// Contracts see it as its count of faults, since it tells nothing else.
+/// Contracts see its count of faults, and whether bytes wait to be written: of what its files hold it tells nothing.
 #[derive(Drop)]
 pub struct FileHost<R: Files + Drop>
 where
@@ -32,9 +32,11 @@ impl<R: Files + Drop> Model for FileHost<R>
 where
     R::File: Disk,
 {
-    ghost Value = { ℕ };
+    ghost use Rattle.nb_file.specs.Outside.{Outside};
 
-    ghost view = { λ host. host.faults };
+    ghost Value = { Outside };
+
+    ghost view = { λ host. record { faults = host.faults; waiting = host.files.waiting.name } };
 }
 
 impl<R: Files + Print + Eprint + Clock + Drop> FileHost<R>
@@ -43,7 +45,7 @@ where
 {
     /// A host with no file open and no fault.
     pub fn new(rt: R, alloc: Global) -> FileHost<R>
-        ensures { result ≡ 0 }
+        ensures { result ≡ record { faults = 0; waiting = None } }
     {
         FileHost {
             rt,
@@ -75,15 +77,26 @@ where
 
     /// How many calls have failed. At the last value of a `u64` it stands still.
     pub fn fault_count(&self) -> u64
-        ensures { result ≡ self.now }
+        ensures { result ≡ self.now.faults }
     {
         self.faults
+    }
+
+    /// Gives the system the bytes that wait to be written. A reply does so too; the end of the program doesn't. None wait behind it, also
+    /// where it fails.
+    pub fn write_rest(&mut self) -> Result<(), HostFault>
+        ensures none { self.new.waiting ≡ None }
+        ensures cause { CountsFault result self.old.faults self.new.faults }
+    {
+        let outcome = self.files.flush();
+        self.answer(outcome)
     }
 
     /// Counts a fault where the system failed, and says on the standard error what failed.
     fn answer<T: Drop>(&mut self, outcome: Result<T, Failure>) -> Result<T, HostFault>
         ensures value { IfOk result (λ value. outcome ≡ Ok value) }
-        ensures cause { CountsFault result self.old self.new }
+        ensures waiting { self.new.waiting ≡ self.old.waiting }
+        ensures cause { CountsFault result self.old.faults self.new.faults }
     {
         match outcome {
             Ok(value) => Ok(value),
@@ -98,7 +111,8 @@ where
 
     /// Writes what waits, and then the reply: no write that has its reply lies in memory.
     fn reply(&mut self, bytes: &[u8]) -> Result<(), Failure>
-        ensures { self.new ≡ self.old }
+        ensures none { self.new.waiting ≡ None }
+        ensures faults { self.new.faults ≡ self.old.faults }
     {
         self.files.flush()?;
         // The runtime has no buffer: each byte was given to the system before this answers Ok.
@@ -125,7 +139,7 @@ where
 
     ghost world = { λ _. silence };
 
-    ghost faults = { λ host. host };
+    ghost faults = { λ host. host.faults };
 
     ghost timely = { λ _. silence_timely };
 

@@ -39,7 +39,10 @@ impl<R: Files + Drop> Table<R>
 where
     R::File: Disk + AsRawFd,
 {
-    pub fn new(alloc: Global) -> Table<R> {
+    /// None is open, and nothing waits.
+    pub fn new(alloc: Global) -> Table<R>
+        ensures { result.waiting.name ≡ None }
+    {
         Table {
             alloc,
             files: Vec::new(alloc),

@@ -136,6 +136,54 @@ fn a_backup_has_what_waited(rt: HostRuntime) -> Result<(), Fail> {
     Ok(())
 }
 
+/// A page is written while the main file is frozen, and waits with the entries of its SCN page and of itself.
+const DIVERTED: &str = "1: open 'a.db'
+1: forced writes off
+1: sync
+1: alter database begin backup
+1: write 6 'x'
+1: show header
+";
+
+const DIVERTED_KEPT: &str = "1: open 'a.db'
+1: forced writes off
+1: sync
+1: alter database begin backup
+1: write 6 'x'
+1: sync
+";
+
+/// The length of the difference file, and the head of its table.
+fn table_of(host: &MemHost) -> Option<(usize, &[u8])> {
+    let name = Name::read("a.db.delta")?;
+    let file = host.file(&name)?;
+    Some((file.len(), file.get(..12)?))
+}
+
+/// Whether two entries are shown and none is in the table, where the script is stopped before its last five calls, by which they go out.
+fn entries_wait(alloc: Global) -> Result<bool, Fail> {
+    let whole = run_whole(alloc, CREATED, DIVERTED)?;
+    let host = stopped_at(alloc, CREATED, DIVERTED, whole.calls().saturating_sub(4))?;
+    Ok(
+        replies_of(&host) == 6
+            && host.output().ends_with(b" delta 2\n")
+            && table_of(&host) == Some((1024, &[0; 12])),
+    )
+}
+
+/// Whether a stop that loses all that isn't kept for good leaves both entries behind a sync.
+fn entries_are_kept(alloc: Global) -> Result<bool, Fail> {
+    let left = run_whole(alloc, CREATED, DIVERTED_KEPT)?.left(0)?;
+    Ok(table_of(&left) == Some((3072, b"\x02\0\0\0\x02\0\0\0\x06\0\0\0")))
+}
+
+#[test]
+fn entries_wait_for_a_sync(rt: HostRuntime) -> Result<(), Fail> {
+    assert!(rt; entries_wait(rt.alloc())?);
+    assert!(rt; entries_are_kept(rt.alloc())?);
+    Ok(())
+}
+
 /// A database whose SCN is above all entries, with forced writes off.
 const RAISED: &str = "1: create database 'a.db' page_size 1024 raw 8
 1: alter database begin backup
@@ -163,7 +211,20 @@ fn one_page_in_memory(rt: HostRuntime) -> Result<(), Fail> {
 }
 
 /// Pages come, are written, and go, a sync between them.
-const CHANGING: &str = "1: open 'a.db'
+struct Trial {
+    script: &'static str,
+    /// How many replies stand before that of the sync is said.
+    unsynced: usize,
+    /// What each line of a look at the database may be until then, and behind it.
+    before: &'static str,
+    behind: &'static str,
+}
+
+const LOOK_AT_ALL: &str =
+    "1: open 'a.db'\n1: read 6\n1: read 7\n1: read 8\n1: read 9\n1: read 13\n1: show pages\n";
+
+const NORMAL: Trial = Trial {
+    script: "1: open 'a.db'
 1: write 6 'a'
 1: page new
 1: free 7
@@ -171,30 +232,56 @@ const CHANGING: &str = "1: open 'a.db'
 1: write 6 'b'
 1: write 8 'c'
 1: free 9
-";
-
-const LOOK_AT_ALL: &str =
-    "1: open 'a.db'\n1: read 6\n1: read 7\n1: read 8\n1: read 9\n1: read 13\n1: show pages\n";
-
-/// What each line of it may be before the sync is acknowledged.
-const BEFORE_SYNC: &str = "1: ok pages 13 state 0|1: ok pages 14 state 0
+",
+    unsynced: 4,
+    before: "1: ok pages 13 state 0|1: ok pages 14 state 0
 1: ok ''|1: ok 'a'
 1: ok ''|1: refused 10 NotAllocated 7
 1: ok ''
 1: ok ''
 1: refused 9 PageRange 13 13|1: refused 10 NotAllocated 13|1: ok ''
 1: ok header 1 inventory 1 scn 1 data 2 raw 8 other 0 free 0|1: ok header 1 inventory 1 scn 1 data 2 raw 8 other 0 free 1
-";
-
-/// And what it may be behind that.
-const BEHIND_SYNC: &str = "1: ok pages 14 state 0
+",
+    behind: "1: ok pages 14 state 0
 1: ok 'a'|1: ok 'b'
 1: refused 10 NotAllocated 7
 1: ok ''|1: ok 'c'
 1: ok ''|1: refused 10 NotAllocated 9
 1: ok ''
 1: ok header 1 inventory 1 scn 1 data 2 raw 8 other 0 free 1|1: ok header 1 inventory 1 scn 1 data 2 raw 7 other 0 free 2
-";
+",
+};
+
+/// The same while the main file is frozen.
+const STALLED: Trial = Trial {
+    script: "1: open 'a.db'
+1: alter database begin backup
+1: write 6 'a'
+1: page new
+1: free 7
+1: sync
+1: write 6 'b'
+1: write 8 'c'
+1: free 9
+",
+    unsynced: 5,
+    before: "1: ok pages 13 state 0|1: ok pages 13 state 1|1: ok pages 14 state 1
+1: ok ''|1: ok 'a'
+1: ok ''|1: refused 10 NotAllocated 7
+1: ok ''
+1: ok ''
+1: refused 9 PageRange 13 13|1: refused 10 NotAllocated 13|1: ok ''
+1: ok header 1 inventory 1 scn 1 data 2 raw 8 other 0 free 0|1: ok header 1 inventory 1 scn 1 data 2 raw 8 other 0 free 1
+",
+    behind: "1: ok pages 14 state 1
+1: ok 'a'|1: ok 'b'
+1: refused 10 NotAllocated 7
+1: ok ''|1: ok 'c'
+1: ok ''|1: refused 10 NotAllocated 9
+1: ok ''
+1: ok header 1 inventory 1 scn 1 data 2 raw 8 other 0 free 1|1: ok header 1 inventory 1 scn 1 data 2 raw 7 other 0 free 2
+",
+};
 
 /// Whether that is one of the choices.
 fn is_one_of(line: &[u8], choices: &str) -> bool {
@@ -237,12 +324,12 @@ fn are_entered(file: &[u8]) -> bool {
 }
 
 /// Whether a stop now leaves by this pick what is right.
-fn is_left_right(alloc: Global, host: &MemHost, pick: u64) -> Result<bool, Fail> {
+fn is_left_right(alloc: Global, host: &MemHost, trial: &Trial, pick: u64) -> Result<bool, Fail> {
     let mut left = host.left(pick)?;
-    let choices = if replies_of(host) < 5 {
-        BEFORE_SYNC
+    let choices = if replies_of(host) <= trial.unsynced {
+        trial.before
     } else {
-        BEHIND_SYNC
+        trial.behind
     };
     let is_covered = are_entered(database(&left).ok_or("no file")?);
     let said = lines_of(alloc, &mut left, LOOK_AT_ALL)?;
@@ -250,10 +337,10 @@ fn is_left_right(alloc: Global, host: &MemHost, pick: u64) -> Result<bool, Fail>
 }
 
 /// The first of the picks 0 to 7 by which a stop at that call leaves something wrong.
-fn wrong_pick(alloc: Global, stop: u64) -> Result<Option<u64>, Fail> {
-    let host = stopped_at(alloc, RAISED, CHANGING, stop)?;
+fn wrong_pick(alloc: Global, trial: &Trial, stop: u64) -> Result<Option<u64>, Fail> {
+    let host = stopped_at(alloc, RAISED, trial.script, stop)?;
     for pick in 0..8u64 {
-        if !is_left_right(alloc, &host, pick)? {
+        if !is_left_right(alloc, &host, trial, pick)? {
             return Ok(Some(pick));
         }
     }
@@ -261,10 +348,10 @@ fn wrong_pick(alloc: Global, stop: u64) -> Result<Option<u64>, Fail> {
 }
 
 /// The first call at which a stop leaves something wrong, the one behind the last among them.
-fn wrong_stop(alloc: Global) -> Result<Option<u64>, Fail> {
-    let calls = run_whole(alloc, RAISED, CHANGING)?.calls();
+fn wrong_stop(alloc: Global, trial: &Trial) -> Result<Option<u64>, Fail> {
+    let calls = run_whole(alloc, RAISED, trial.script)?.calls();
     for stop in 1..=calls.saturating_add(1) {
-        if wrong_pick(alloc, stop)?.is_some() {
+        if wrong_pick(alloc, trial, stop)?.is_some() {
             return Ok(Some(stop));
         }
     }
@@ -274,6 +361,7 @@ fn wrong_stop(alloc: Global) -> Result<Option<u64>, Fail> {
 /// Each page is one that it was since the last sync, the inventories agree, and SCN entries cover the pages.
 #[test]
 fn stopped_while_pages_wait(rt: HostRuntime) -> Result<(), Fail> {
-    assert_eq!(rt; wrong_stop(rt.alloc())?, None);
+    assert_eq!(rt; wrong_stop(rt.alloc(), &NORMAL)?, None);
+    assert_eq!(rt; wrong_stop(rt.alloc(), &STALLED)?, None);
     Ok(())
 }

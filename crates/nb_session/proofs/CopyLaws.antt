@@ -35,7 +35,7 @@ use Rattle.nb_base.specs.Takes.{after_strokes}
 use Rattle.nb_state.specs.Open.{Held, IsOpen, name_of}
 use Rattle.nb_state.specs.declared.turns.Progress.{Progress}
 use Rattle.nb_state.specs.declared.turns.Progress.TheVariants.{More, Finished}
-use Rattle.nb_state.proofs.MakesLaws.{where_ended, none_yet, gave_none, open_quiet}
+use Rattle.nb_state.proofs.MakesLaws.{where_ended, none_yet, gave_none, open_quiet, open_running}
 use Rattle.nb_copy.specs.Making.{IsKept, IsUnfinishedOr}
 use Rattle.nb_copy.specs.Copying.{Copying, IsCopying}
 use Rattle.nb_copy.specs.FileCopies.{StartsCopy, IsCopyStarted, KnowsUnused}
@@ -57,15 +57,6 @@ use Rattle.nb_session.proofs.WayLaws.{copy_turns, copying_at}
 -- the name that is held
 pub name_kept : (a b : Held) → b ≡ a → name_of b ≡ name_of a
 name_kept a b same = ap (λ (h : Held). name_of h) same
-
--- who runs says nothing of the files
-pub open_running : (w : World) (held : Held) (t : Trail) (running : Option ℕ) → IsOpen w held t → IsOpen w (record held { running = running }) t
-open_running w held t running is = record {
-  files = is.files;
-  agrees = record { scn = is.agrees.scn; four = is.agrees.four; guid = is.agrees.guid; forced = is.agrees.forced; read_only = is.agrees.read_only };
-  merged = is.merged;
-  most = is.most;
-}
 
 -- the session that ran runs no more
 pub stopped_is : (a b d : Held) (session : ℕ) → b ≡ a → a.running ≡ Some session → (b.running ≡ Some session → d ≡ record b { running = None }) → d ≡ record a { running = None }

@@ -1,5 +1,6 @@
 -- What waits is written out behind the turns.
 use Rattle.std.proofs.Common.{◌≡◌, inl, inr, ℕ, List, [], ◌++◌, Bool, true, false, refl, sym, ap, subst, ◌∙◌, arith}
+use Rattle.std.proofs.lemmas.Bool.{true≢false}
 use Rattle.std.specs.Prelude.{Contains, Result, Ok, Err, ◌||◌}
 use Rattle.std.proofs.lemmas.List.{append-nil}
 use Rattle.nb_change.proofs.NameLaws.{decide}
@@ -30,7 +31,7 @@ use Rattle.nb_session.specs.Told.{told_turns}
 use Rattle.nb_session.proofs.GiftLaws.{given_nothing}
 use Rattle.nb_session.proofs.PlayLaws.{Leads, behind, trail_after, after_none, no_file, no_made, plays_by, plays_then, plays_failed}
 use Rattle.nb_session.proofs.ToldLaws.{told_among}
-use Rattle.nb_session.proofs.ReadyLaws.{not_free, free_same, beside_other, true_false}
+use Rattle.nb_session.proofs.ReadyLaws.{not_free, free_same, beside_other}
 
 -- Pages go out of a database that was ready: no turn is taken.
 module _ (old new : World) (before after : Held) (t : Trail) (now : Now) (ready : IsReady old before t now) (struck : Strikes old new (name_of before) t []) (same : but_pages after ≡ but_pages before) (gave : GaveNothing old new) where
@@ -61,7 +62,7 @@ module _ (old new : World) (before after : Held) (t : Trail) (now : Now) (ready 
           ap (is_free_name new.files) (own ∙ sym named) ∙ not_free new after t opened
           ∙ sym (ap (is_free_name old.files) own ∙ not_free old before t ready.opened)
       | inr off ↦ free_same old.files new.files m
-          (struck.others_read m (λ own. elim own [ inl e ↦ off e | inr e ↦ true_false (sym (delta_named (name_of before)) ∙ ap is_delta (sym e) ∙ plain) ]))
+          (struck.others_read m (λ own. elim own [ inl e ↦ off e | inr e ↦ true≢false (sym (delta_named (name_of before)) ∙ ap is_delta (sym e) ∙ plain) ]))
           (beside_other old new before after t t ready.opened opened named m
           (λ other. struck.others_read (delta_name m) (λ own. elim own [ inl e ↦ other e | inr e ↦ off (delta_same m (name_of before) e) ])))
     ]

@@ -1,6 +1,7 @@
 -- Behind a turn the database is ready for the next one.
 use Rattle.std.proofs.Common.{◌≡◌, ◌≢◌, ◌⊎◌, inl, inr, ℕ, zero, suc, ◌-◌, List, [], ◌∷◌, ◌++◌, length, Bool, true, false, arith, refl, sym, ap, subst, ◌∙◌}
 use Rattle.std.specs.Prelude.{Contains, Option, Some, None, is_some, not, nat_le, ◌&&◌}
+use Rattle.std.proofs.lemmas.Bool.{true≢false}
 use Rattle.std.specs.List.{slice_index_or}
 use Rattle.nb_fields.specs.Free.{is_free_file}
 use Rattle.nb_host.specs.Files.{File, Files}
@@ -33,12 +34,9 @@ use Rattle.nb_session.specs.Acts.{Touched, AreKept}
 use Rattle.nb_session.specs.Ready.{IsReady, IsApart}
 use Rattle.nb_session.proofs.MakesLaws.{makes_none, none_before, none_here}
 
-pub true_false : true ≡ false → ⊥
-true_false h = cc
-
 -- a difference file is none of these
 apart_delta : (held : Held) (name m : List ℕ) → IsApart held name → delta_name m ≢ name
-apart_delta held name m apart same = true_false (sym (delta_named m) ∙ ap is_delta same ∙ apart.plain)
+apart_delta held name m apart same = true≢false (sym (delta_named m) ∙ ap is_delta same ∙ apart.plain)
 
 -- nor is one of these one of the database's two files
 pub apart_files : (held : Held) (name : List ℕ) → IsApart held name → OfFiles (name_of held) name → ⊥
@@ -78,7 +76,7 @@ plain_entry bytes used = used
 -- a name that is free isn't that of the database
 pub not_own : (w : World) (held : Held) (t : Trail) (now : Now) (name : List ℕ) → IsReady w held t now → is_free_entry (now.account.entry name) ≡ true → name ≢ name_of held
 not_own w held t now name ready free same =
-    true_false (sym free ∙ ap (λ (n : List ℕ). is_free_entry (now.account.entry n)) (same ∙ ready.named) ∙ ap is_free_entry ready.there ∙ own_entry (base_now now))
+    true≢false (sym free ∙ ap (λ (n : List ℕ). is_free_entry (now.account.entry n)) (same ∙ ready.named) ∙ ap is_free_entry ready.there ∙ own_entry (base_now now))
 
 -- whether a name is free, by its two files
 pub free_same : (one two : Files) (m : List ℕ) → two m ≡ one m → is_some (two (delta_name m)) ≡ is_some (one (delta_name m)) → is_free_name two m ≡ is_free_name one m
@@ -192,7 +190,7 @@ module _ (old w : World) (e0 e1 : Held) (t : Trail) (now : Now) (session : ℕ) 
         let before : IsNoneOf (under_way now) m = none_before now session u (tail ++ more) here m o (makes_none session u now m unmade) none in
         let off : m ≢ name_of e0 = λ e. other (e ∙ ready.named) in
         let main : w.files m ≡ old.files m = read m (λ touched. elim touched [
-          | inl file ↦ elim file [ inl e ↦ off e | inr e ↦ true_false (sym (delta_named (name_of e0)) ∙ ap is_delta (sym e) ∙ plain) ]
+          | inl file ↦ elim file [ inl e ↦ off e | inr e ↦ true≢false (sym (delta_named (name_of e0)) ∙ ap is_delta (sym e) ∙ plain) ]
           | inr (bytes, there) ↦ none_here now session u (tail ++ more) here m (base_now now).frozen tail more refl before bytes there
         ]) in
         free_same old.files w.files m main (beside m off) ∙ ready.known m plain before ∙ ap is_free_entry (sym (other_then session (tail ++ more) o now m other (λ bytes is. unmade bytes (there_is m bytes is))))

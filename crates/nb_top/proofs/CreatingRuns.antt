@@ -1,6 +1,7 @@
 -- A run whose first statement creates its database.
 use Rattle.std.proofs.Common.{◌≡◌, ◌≢◌, inl, inr, ⊎_elim, ℕ, List, [], ◌∷◌, ◌++◌, length, take, true, false, refl, sym, ap, subst, ◌∙◌, arith}
 use Rattle.std.specs.Prelude.{Bool, Some, Result, Ok, Err, Contains}
+use Rattle.std.proofs.lemmas.Bool.{true≢false}
 use Rattle.std.proofs.lemmas.List.{append-nil, take-append-le, take_all}
 use Rattle.nb_fields.specs.Free.{is_free_file}
 use Rattle.nb_fields.specs.Fresh.{fresh}
@@ -90,9 +91,6 @@ module _ (old : World) (account : Account) (given : Given) (plan : Plan) (tellin
     finished = tt;
   }
 
-  true_false : true ≡ false → ⊥
-  true_false h = cc
-
   module _ (free : is_free_entry (account.entry name) ≡ true) where
     abbrev first : First account given plan
     first = first_created account given plan name size raw cache first_is free
@@ -100,7 +98,7 @@ module _ (old : World) (account : Account) (given : Given) (plan : Plan) (tellin
     -- it opens none
     small : HasSmallScn account (Some first.target)
     unfolding first_created
-    small e = absurd (true_false e)
+    small e = absurd (true≢false e)
 
     -- the account behind it
     created_behind : IsBehind account name first.now

@@ -11,7 +11,7 @@ use Rattle.nb_host.specs.Names.{is_name, is_delta}
 use Rattle.nb_host.specs.World.{World}
 use Rattle.nb_change.specs.Changes.{Other}
 use Rattle.nb_change.proofs.NameLaws.{decide}
-use Rattle.nb_page.specs.Free.{is_free_name, has_delta}
+use Rattle.nb_page.specs.Free.{is_free_name}
 use Rattle.nb_page.proofs.FreeLemmas.{is_free_name-false}
 use Rattle.nb_model.specs.declared.statement.Statement.{Statement}
 use Rattle.nb_model.specs.declared.statement.Statement.TheVariants.{Backup, BackupSince, CopyTo, CreateTable}
@@ -40,6 +40,7 @@ use Rattle.nb_script.specs.Scripts.{Plan}
 use Rattle.nb_script.specs.Words.{is_given}
 use Rattle.nb_session.specs.Ready.{IsReady}
 use Rattle.nb_session.proofs.NameLaws.{begun_plain, made_named}
+use Rattle.nb_session.proofs.ReadyLaws.{free_same}
 use Rattle.nb_top.specs.Performed.{KnowsNames, MayBeGiven}
 
 -- a name that a user may give, of so many bytes at most
@@ -69,12 +70,6 @@ in_use files name b shows =
     is_free_name-false files name
     (ap is_free_file main.there ∙ opened_in_use name main.bytes (files (delta_name name)) b (ap (λ (f : File). owner name f (files (delta_name name))) (sym main.there) ∙ shows))
 
--- whether a name is free, by its two files
-pub free_same : (one two : Files) (m : List ℕ) → two m ≡ one m → two (delta_name m) ≡ one (delta_name m) → is_free_name two m ≡ is_free_name one m
-unfolding is_free_name has_delta
-free_same one two m main beside =
-    ap (λ (f : File). is_free_file f && not (nat_le (length m) 94 && is_some (two (delta_name m)))) main ∙ ap (λ (f : File). is_free_file (one m) && not (nat_le (length m) 94 && is_some f)) beside
-
 own_entry : (b : Base) → is_free_entry (IsBase b) ≡ false
 unfolding is_free_entry
 own_entry b = refl
@@ -90,7 +85,7 @@ pub known_behind : (old mid : World) (before : Account) (name : List ℕ) (now :
 known_behind old mid before name now plain names behind shows read m is = elim (decide m name) [
   | inl own ↦ ap (is_free_name mid.files) own ∙ in_use mid.files name (base_now now) shows
       ∙ sym (ap (λ (n : List ℕ). is_free_entry (now.account.entry n)) own ∙ ap is_free_entry behind.here ∙ own_entry (base_now now))
-  | inr off ↦ free_same old.files mid.files m (read m (main off)) (read (delta_name m) (beside off)) ∙ names m is ∙ ap is_free_entry (sym (behind.others m off))
+  | inr off ↦ free_same old.files mid.files m (read m (main off)) (ap is_some (read (delta_name m) (beside off))) ∙ names m is ∙ ap is_free_entry (sym (behind.others m off))
 ]
   where
     main : m ≢ name → Other (OfFiles name) m

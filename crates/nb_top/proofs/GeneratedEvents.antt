@@ -2,6 +2,7 @@
 -- that name.
 use Rattle.std.proofs.Common.{◌≡◌, ◌≢◌, ℕ, List, [], true, false, refl, sym, ap, subst, ◌∙◌}
 use Rattle.std.specs.Prelude.{Bool, Option, Some, None, Result, Ok, Err, Contains, codes}
+use Rattle.std.proofs.lemmas.Bool.{true≢false}
 use Rattle.nb_host.specs.declared.refusals.Refusal.{Refusal}
 use Rattle.nb_host.specs.declared.refusals.Refusal.TheVariants.{FileExists}
 use Rattle.nb_model.specs.declared.reply.Reply.TheVariants.{Refused as RefusedReply}
@@ -29,9 +30,6 @@ use Rattle.nb_top.proofs.MadeRuns.{no_file}
 use Rattle.nb_top.proofs.SureRuns.{creating_sure, refused_creating, told_sure}
 use Rattle.nb_top.proofs.SureTargets.{IsSureRun}
 use Rattle.nb_top.proofs.ToldLaws.{performed_refused, performed_told, told_begins, told_files, told_steps}
-
-true_false : true ≡ false → ⊥
-true_false h = cc
 
 -- the account with the file
 abbrev pub with_script : (name bytes : List ℕ) → Account → Account
@@ -159,7 +157,7 @@ module _ (number : ℕ) (name : List ℕ) (account : Account) where
       in_use = text_in_use (generated number) (generated_text number)
 
   free_other : (m : List ℕ) → is_free_entry (then.entry m) ≡ true → m ≢ name
-  free_other m free same = true_false (sym free ∙ ap (λ (n : List ℕ). is_free_entry (then.entry n)) same ∙ taken)
+  free_other m free same = true≢false (sym free ∙ ap (λ (n : List ℕ). is_free_entry (then.entry n)) same ∙ taken)
 
   pub script_apart : (rest : List Event) (last : Account) → ReadRun then rest last → IsApart (its_target rest) name × IsNoneOf (files_made rest) name
   script_apart rest last (ends refused none leaves) = (

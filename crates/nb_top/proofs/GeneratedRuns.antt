@@ -1,6 +1,6 @@
 -- A run whose script is written first: what a stop leaves of both, and what stands at the end.
 use Rattle.std.proofs.Common.{◌≡◌, ◌≢◌, ◌⊎◌, ⊎_elim, inl, inr, ℕ, zero, suc, ◌≤◌, List, [], ◌∷◌, ◌++◌, length, take, true, false, true≢false, refl, sym, ap, subst, ◌∙◌, arith}
-use Rattle.std.specs.Prelude.{Bool, not, Option, Some, None, Result, Ok, Err, IfOk, OnOk, Contains}
+use Rattle.std.specs.Prelude.{Bool, not, Option, Some, None, is_some, Result, Ok, Err, IfOk, OnOk, Contains}
 use Rattle.std.proofs.lemmas.List.{append-nil}
 use Rattle.nb_fields.specs.Free.{is_free_file}
 use Rattle.nb_host.specs.Files.{File, Files, with_file}
@@ -48,7 +48,7 @@ use Rattle.nb_top.specs.declared.status.Status.TheVariants.{Refused as RefusedSt
 use Rattle.nb_top.specs.declared.telling.Telling.TheVariants.{Sparingly}
 use Rattle.nb_top.specs.Performed.{EndsIn, Finished, HasSmallScn, IsEnded, IsPerformed, IsReadRun, IsUnasked, Knows, KnowsNames, KnowsOpened, MayBeGiven, RunLeft, RunsTo, StandsAsked, Target, begins_refused, number_of, refused_at, script_made, seen_after, target_named, target_of}
 use Rattle.nb_top.specs.Requests.{Request, ToGenerate, ToRun}
-use Rattle.nb_top.proofs.FirstReady.{free_same}
+use Rattle.nb_session.proofs.ReadyLaws.{free_same}
 use Rattle.nb_top.proofs.GeneratedEvents.{IsApart, SomeRun, its_database, its_target, read_run, script_apart, some_run, with_script}
 use Rattle.nb_top.proofs.MadeRuns.{first_or, none_yet}
 use Rattle.nb_top.proofs.QuietRuns.{given_from, left_quietly, runs_quietly}
@@ -244,9 +244,6 @@ abbrev pub read_request : Result Plan Refusal → Result Request Refusal
 read_request (Ok plan) = Ok (ToRun plan Sparingly)
 read_request (Err refusal) = Err refusal
 
-true_false : true ≡ false → ⊥
-true_false h = cc
-
 module _ (old : World) (number : ℕ) (name : List ℕ) (account : Account) (given : Given) (plain : is_delta name ≡ false) (knows : KnowsNames old.files account) where
   abbrev bytes : List ℕ
   bytes = generated number
@@ -263,7 +260,7 @@ module _ (old : World) (number : ℕ) (name : List ℕ) (account : Account) (giv
     where
       by : (refused : Bool) → HasSmallScn account (elim refused as (λ z. Option Target) [ true ↦ None | false ↦ Some its_database ])
       by true = tt
-      by false = λ e. absurd (true_false e)
+      by false = λ e. absurd (true≢false e)
 
   -- the name isn't free
   module _ (taken : is_free_entry (account.entry name) ≡ false) where
@@ -329,7 +326,7 @@ module _ (old : World) (number : ℕ) (name : List ℕ) (account : Account) (giv
     knows_behind mid written kept m m_plain = elim (decide m name) [
       | inl same ↦ ap (is_free_name mid.files) same ∙ is_free_name-false mid.files name (ap is_free_file kept.reads ∙ text_in_use bytes (generated_text number))
           ∙ sym (ap (λ (n : List ℕ). is_free_entry (behind.entry n)) same ∙ ap is_free_entry (entry_same name (Plain bytes None) account) ∙ text_in_use bytes (generated_text number))
-      | inr off ↦ free_same old.files mid.files m (written.others_read m off) (written.others_read (delta_name m) (no_main m name plain)) ∙ knows m m_plain
+      | inr off ↦ free_same old.files mid.files m (written.others_read m off) (ap is_some (written.others_read (delta_name m) (no_main m name plain))) ∙ knows m m_plain
           ∙ ap is_free_entry (sym (entry_other name m (Plain bytes None) account off))
     ]
 

@@ -48,9 +48,6 @@ refused_restore files account db names refusal (inr broken) e = refused_chain fi
 same_links : (answer : Result (List Link) Refusal) (a b : List Link) → answer ≡ Ok a → answer ≡ Ok b → a ≡ b
 same_links answer a b e f = cc
 
-true_false : true ≡ false → ⊥
-true_false h = cc
-
 module _ (old : World) (account : Account) (given : Given) (db : List ℕ) (names : List (List ℕ)) (knows : is_free_name old.files db ≡ is_free_entry (account.entry db)) where
   abbrev asked : Result Request Refusal
   asked = Ok (ToRestore db names)
@@ -77,7 +74,7 @@ module _ (old : World) (account : Account) (given : Given) (db : List ℕ) (name
 
     -- it opens none
     small : HasSmallScn account (Some target)
-    small e = absurd (true_false e)
+    small e = absurd (true≢false e)
 
     -- what a stop leaves while it is made
     left_making : (files : Files) → RestoreLeft old db names files → TurnLeft old target (base_from links) files

@@ -20,4 +20,5 @@ pub use nb_gen::generate;
 pub use nb_lines::render;
 pub use nb_shown::image_digest;
 pub use program::run;
+pub use reading::read_file;
 pub use status::Status;

@@ -10,8 +10,8 @@ use nb_host::{Fault, Host, Name, Refusal};
 use nb_script::{MOST_BYTES, Script, parse};
 use std::alloc::Global;
 
-/// Reads a file of a script whole. The refusals are `NoFile` and `ScriptLong`.
-fn read_file<H: Host>(alloc: Global, host: &mut H, name: &Name) -> Result<Vec<u8>, Fault>
+/// Reads a file of a script whole. The refusals are `NoFile` and `ScriptLong`. It changes nothing.
+pub fn read_file<H: Host>(alloc: Global, host: &mut H, name: &Name) -> Result<Vec<u8>, Fault>
     ensures read { IsTrue H.tells → IsFileRead result name.now ((H.world host.old).files name.now) }
     ensures quiet { Quiet (H.world host.old) (H.world host.new) }
     ensures cause { CountsDevice result (H.faults host.old) (H.faults host.new) }

@@ -1,8 +1,13 @@
-use Rattle.std.proofs.Common.{◌≡◌, ℕ, length, ap, sym, subst, ◌∙◌, arith}
+use Rattle.std.proofs.Common.{◌≡◌, ℕ, length, ap, sym, subst, ◌∙◌, rules, arith}
 use Rattle.std.specs.Prelude.{true, None, Err}
+use denote.Enum.Bare.{same_true, same_false}
 use Rattle.std.proofs.lemmas.List.{length-take}
 use Rattle.nb_fields.specs.Header.{is_header, size_of}
 use Rattle.nb_model.specs.Causes.{not_database}
+use Rattle.nb_cases.specs.Events.{OnAttach}
+use Rattle.nb_cases.specs.contracts.events.Case.{the_type}
+use Rattle.nb_cases.specs.declared.events.Case.TheVariants as case
+use Rattle.nb_cases.proofs.StateLaws.{unfinished_applying, opened_not_applying}
 use Rattle.nb_base.specs.declared.attach.Start.{Start}
 use Rattle.nb_base.specs.Attach.{Tested, length_cause}
 use Rattle.nb_base.proofs.AttachLaws.{refusal_passed, unheaded, headed, start_broken, start_unfinished, start_is, start_short, first_header, block_size, block_state, length_refused}
@@ -23,13 +28,14 @@ returns-in_err-pages-clause-test c bytes long read =
     (length_refused bytes c.in-Some.block.page_size c.in_err-pages.field-0.0 header size
     (subst (λ (n : ℕ). Tested {T = ℕ} (Err c.in_err-pages.field-0.0) (length_cause n c.in-Some.block.page_size)) (sym long) c.in_err-pages.ensures.test))
 
-pub returns-then-block-eq-APPLYING-clause-test : goal.returns-then-block-eq-APPLYING-clause-test
-returns-then-block-eq-APPLYING-clause-test c bytes long read =
+pub returns-then-eq-clause-test : goal.returns-then-eq-clause-test
+returns-then-eq-clause-test c bytes long read =
     let header : is_header bytes ≡ true = sym (first_header c.args.first.now bytes read) ∙ sym c.in-Some.ensures.exact in
     let size = block_size c.args.first.now bytes read c.in-Some.block c.in-Some.ensures.value in
     let state = block_state c.args.first.now bytes read c.in-Some.block c.in-Some.ensures.value in
     let formed : not_database bytes ≡ None = headed bytes header ∙ ap (λ (n : ℕ). length_cause n (size_of bytes)) long ∙ ap (length_cause c.args.len) (sym size) ∙ c.in_ok-pages.ensures.test in
-    start_unfinished bytes formed (sym state ∙ c.if-block-eq-APPLYING.true)
+    let says : OnAttach c.in-Some.block.state case.Unfinished = subst (OnAttach c.in-Some.block.state) (same_true the_type (search rules) c.case_of.result case.Unfinished (sym c.eq.ensures ∙ c.if-eq.true)) c.case_of.ensures in
+    start_unfinished bytes formed (sym state ∙ unfinished_applying c.in-Some.block.state c.in-Some.ensures.form.state says)
 
 pub returns-clause-test : goal.returns-clause-test
 returns-clause-test c bytes long read =
@@ -37,17 +43,24 @@ returns-clause-test c bytes long read =
     let size = block_size c.args.first.now bytes read c.in-Some.block c.in-Some.ensures.value in
     let state = block_state c.args.first.now bytes read c.in-Some.block c.in-Some.ensures.value in
     let formed : not_database bytes ≡ None = headed bytes header ∙ ap (λ (n : ℕ). length_cause n (size_of bytes)) long ∙ ap (length_cause c.args.len) (sym size) ∙ c.in_ok-pages.ensures.test in
-    start_is bytes formed (λ e. c.if-block-eq-APPLYING.false (state ∙ e))
+    let other = same_false the_type c.case_of.result case.Unfinished (sym c.eq.ensures ∙ c.if-eq.false) in
+    start_is bytes formed (λ e. opened_not_applying c.in-Some.block.state c.case_of.result c.case_of.ensures other (state ∙ e))
 
 pub returns-clause-start : goal.returns-clause-start
 returns-clause-start c bytes long read =
     let first = c.args.first.now in
     let header : is_header bytes ≡ true = sym (first_header first bytes read) ∙ sym c.in-Some.ensures.exact in
     let size = block_size first bytes read c.in-Some.block c.in-Some.ensures.value in
+    let other = same_false the_type c.case_of.result case.Unfinished (sym c.eq.ensures ∙ c.if-eq.false) in
     record {
       formed = headed bytes header ∙ ap (λ (n : ℕ). length_cause n (size_of bytes)) long ∙ ap (length_cause c.args.len) (sym size) ∙ c.in_ok-pages.ensures.test;
       state = block_state first bytes read c.in-Some.block c.in-Some.ensures.value;
-      opened = omega (arith, c.if-block-eq-APPLYING.false, c.in-Some.ensures.form.state);
+      opened = omega (arith, opened_not_applying c.in-Some.block.state c.case_of.result c.case_of.ensures other, c.in-Some.ensures.form.state);
       page_size = size;
       pages = long ∙ c.in_ok-pages.ensures.whole;
     }
+
+pub returns-clause-opened : goal.returns-clause-opened
+returns-clause-opened c =
+    let other = same_false the_type c.case_of.result case.Unfinished (sym c.eq.ensures ∙ c.if-eq.false) in
+    omega (arith, opened_not_applying c.in-Some.block.state c.case_of.result c.case_of.ensures other, c.in-Some.ensures.form.state)

@@ -3,6 +3,7 @@ use Rattle.nb_host.specs.World.{World}
 use Rattle.nb_fields.specs.Table.{slot_place}
 use Rattle.nb_delta.specs.Known.{Known}
 use Rattle.nb_model.specs.Owner.{entry_for}
+use Rattle.nb_cases.proofs.SyncLaws.{main_if_kept}
 use Rattle.nb_base.specs.Open.{AreMerged}
 use Rattle.nb_base.specs.Seen.{IsSeen}
 use Rattle.nb_base.proofs.MergedLaws.{plain_after}
@@ -17,7 +18,7 @@ returns-in_err-write_both-in-Some-clause-takes g c t tells seen is other entries
     let at = ap (entry_for c.args.number) entries ∙ slot.at in
     takes_passed c.write_both.result c.from_residual-in_err-write_both-in-Some.result (g.H.Host.world c.args.host.now) (g.H.Host.world c.slot_of.new._host) (g.H.Host.world c.write_both.new.host) c.args.name.now _ _ t _ same
     (c.write_both.ensures.takes t slot.k tells (subst (λ (w : World). IsSeen w c.args.name.now t) (sym same) seen) is (merges_where c.args.name.now t (g.H.Host.world c.args.host.now) seen other c.args.number slot.k at) at
-    (ap (λ (k : Known). k.name) c.slot_of.ensures.same ∙ named) (slot.place ∙ ap (λ (k : Known). slot_place k.page_size slot.k) (sym c.slot_of.ensures.same)) must)
+    (ap (λ (k : Known). k.name) c.slot_of.ensures.same ∙ named) (slot.place ∙ ap (λ (k : Known). slot_place k.page_size slot.k) (sym c.slot_of.ensures.same)) (c.syncs_of-syncs.ensures.slot ∙ must))
     c.from_residual-in_err-write_both-in-Some.ensures.0
 
 pub returns-in_err-write_main-in-None-clause-takes : goal.returns-in_err-write_main-in-None-clause-takes
@@ -25,7 +26,7 @@ returns-in_err-write_main-in-None-clause-takes g c t tells seen is other entries
     let same = ap g.H.Host.world c.slot_of.ensures.no_call in
     let none = ap (entry_for c.args.number) entries ∙ none_found c.args.number c.args.delta.now.entries (c.in_ok-slot.ensures.none c.in-None.is) in
     takes_passed c.write_main.result c.from_residual-in_err-write_main-in-None.result (g.H.Host.world c.args.host.now) (g.H.Host.world c.slot_of.new._host) (g.H.Host.world c.write_main.new.host) c.args.name.now _ _ t _ same
-    (c.write_main.ensures.takes t tells (subst (λ (w : World). IsSeen w c.args.name.now t) (sym same) seen) is other none must)
+    (c.write_main.ensures.takes t tells (subst (λ (w : World). IsSeen w c.args.name.now t) (sym same) seen) is other none (main_if_kept c.args.state c.args.synced _ c.requires.plain c.syncs_of-syncs-in-None.ensures ∙ must))
     c.from_residual-in_err-write_main-in-None.ensures.0
 
 pub returns-in_ok-write_both-in-Some-clause-takes : goal.returns-in_ok-write_both-in-Some-clause-takes
@@ -35,14 +36,14 @@ returns-in_ok-write_both-in-Some-clause-takes g c t tells seen is other entries 
     let at = ap (entry_for c.args.number) entries ∙ slot.at in
     takes_done _ _ (g.H.Host.world c.args.host.now) (g.H.Host.world c.slot_of.new._host) (g.H.Host.world c.write_both.new.host) c.args.name.now _ t _ same
     (c.in_ok-write_both-in-Some.ensures.takes t slot.k tells (subst (λ (w : World). IsSeen w c.args.name.now t) (sym same) seen) is (merges_where c.args.name.now t (g.H.Host.world c.args.host.now) seen other c.args.number slot.k at) at
-    (ap (λ (k : Known). k.name) c.slot_of.ensures.same ∙ named) (slot.place ∙ ap (λ (k : Known). slot_place k.page_size slot.k) (sym c.slot_of.ensures.same)) must)
+    (ap (λ (k : Known). k.name) c.slot_of.ensures.same ∙ named) (slot.place ∙ ap (λ (k : Known). slot_place k.page_size slot.k) (sym c.slot_of.ensures.same)) (c.syncs_of-syncs.ensures.slot ∙ must))
 
 pub returns-in_ok-write_main-in-None-clause-takes : goal.returns-in_ok-write_main-in-None-clause-takes
 returns-in_ok-write_main-in-None-clause-takes g c t tells seen is other entries named must =
     let same = ap g.H.Host.world c.slot_of.ensures.no_call in
     let none = ap (entry_for c.args.number) entries ∙ none_found c.args.number c.args.delta.now.entries (c.in_ok-slot.ensures.none c.in-None.is) in
     takes_done _ _ (g.H.Host.world c.args.host.now) (g.H.Host.world c.slot_of.new._host) (g.H.Host.world c.write_main.new.host) c.args.name.now _ t _ same
-    (c.in_ok-write_main-in-None.ensures.takes t tells (subst (λ (w : World). IsSeen w c.args.name.now t) (sym same) seen) is other none must)
+    (c.in_ok-write_main-in-None.ensures.takes t tells (subst (λ (w : World). IsSeen w c.args.name.now t) (sym same) seen) is other none (main_if_kept c.args.state c.args.synced _ c.requires.plain c.syncs_of-syncs-in-None.ensures ∙ must))
 
 pub returns-in_ok-write_both-in-Some-clause-merged : goal.returns-in_ok-write_both-in-Some-clause-merged
 returns-in_ok-write_both-in-Some-clause-merged g c t held n tells seen is merges entries named sized beside knows merged =

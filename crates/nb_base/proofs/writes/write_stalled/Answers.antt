@@ -16,7 +16,7 @@ returns-in_err-write_slot-in-Some-clause-takes g c t name tells seen is stalled 
     let slot = slot_answered c.slot_of.result c.args.delta.now.page_size c.in-Some.slot c.args.number c.args.delta.now.entries c.in_ok-slot.field-0 c.in_ok-slot.was c.slot_of.ensures.slot c.in-Some.is in
     takes_passed c.write_slot.result c.from_residual-in_err-write_slot-in-Some.result (g.H.Host.world c.args.host.now) (g.H.Host.world c.slot_of.new._host) (g.H.Host.world c.write_slot.new.host) name _ _ t _ same
     (c.write_slot.ensures.takes t name c.args.number slot.k tells (subst (λ (w : World). IsSeen w name t) (sym same) seen) is (omega (arith, stalled)) (ap (entry_for c.args.number) entries ∙ slot.at)
-    (ap (λ (k : Known). k.name) c.slot_of.ensures.same ∙ named) (slot.place ∙ ap (λ (k : Known). slot_place k.page_size slot.k) (sym c.slot_of.ensures.same)) must)
+    (ap (λ (k : Known). k.name) c.slot_of.ensures.same ∙ named) (slot.place ∙ ap (λ (k : Known). slot_place k.page_size slot.k) (sym c.slot_of.ensures.same)) (c.syncs_of-syncs.ensures.slot ∙ must))
     c.from_residual-in_err-write_slot-in-Some.ensures.0
 
 pub returns-in_err-add_entry-in-None-clause-takes : goal.returns-in_err-add_entry-in-None-clause-takes
@@ -24,7 +24,7 @@ returns-in_err-add_entry-in-None-clause-takes g c t name tells seen is stalled e
     let same = ap g.H.Host.world c.slot_of.ensures.no_call in
     takes_passed c.add_entry.result c.from_residual-in_err-add_entry-in-None.result (g.H.Host.world c.args.host.now) (g.H.Host.world c.slot_of.new._host) (g.H.Host.world c.add_entry.new.host) name _ _ t _ same
     (c.add_entry.ensures.takes t name tells (subst (λ (w : World). IsSeen w name t) (sym same) seen) is stalled (entries ∙ ap (λ (k : Known). k.entries) (sym c.slot_of.ensures.same))
-    (ap (λ (k : Known). k.name) c.slot_of.ensures.same ∙ named) must)
+    (ap (λ (k : Known). k.name) c.slot_of.ensures.same ∙ named) (c.syncs_of-syncs-in-None.ensures.table ∙ must))
     c.from_residual-in_err-add_entry-in-None.ensures.0
 
 pub returns-in_ok-write_slot-in-Some-clause-takes : goal.returns-in_ok-write_slot-in-Some-clause-takes
@@ -33,7 +33,7 @@ returns-in_ok-write_slot-in-Some-clause-takes g c t name tells seen is stalled e
     let slot = slot_answered c.slot_of.result c.args.delta.now.page_size c.in-Some.slot c.args.number c.args.delta.now.entries c.in_ok-slot.field-0 c.in_ok-slot.was c.slot_of.ensures.slot c.in-Some.is in
     takes_done _ _ (g.H.Host.world c.args.host.now) (g.H.Host.world c.slot_of.new._host) (g.H.Host.world c.write_slot.new.host) name _ t _ same
     (c.in_ok-write_slot-in-Some.ensures.takes t name c.args.number slot.k tells (subst (λ (w : World). IsSeen w name t) (sym same) seen) is (omega (arith, stalled)) (ap (entry_for c.args.number) entries ∙ slot.at)
-    (ap (λ (k : Known). k.name) c.slot_of.ensures.same ∙ named) (slot.place ∙ ap (λ (k : Known). slot_place k.page_size slot.k) (sym c.slot_of.ensures.same)) must)
+    (ap (λ (k : Known). k.name) c.slot_of.ensures.same ∙ named) (slot.place ∙ ap (λ (k : Known). slot_place k.page_size slot.k) (sym c.slot_of.ensures.same)) (c.syncs_of-syncs.ensures.slot ∙ must))
 
 pub returns-in_ok-write_slot-in-Some-clause-known : goal.returns-in_ok-write_slot-in-Some-clause-known
 returns-in_ok-write_slot-in-Some-clause-known g c =
@@ -45,7 +45,7 @@ returns-in_ok-add_entry-in-None-clause-takes g c t name tells seen is stalled en
     let same = ap g.H.Host.world c.slot_of.ensures.no_call in
     takes_done _ _ (g.H.Host.world c.args.host.now) (g.H.Host.world c.slot_of.new._host) (g.H.Host.world c.add_entry.new.host) name _ t _ same
     (c.in_ok-add_entry-in-None.ensures.takes t name tells (subst (λ (w : World). IsSeen w name t) (sym same) seen) is stalled (entries ∙ ap (λ (k : Known). k.entries) (sym c.slot_of.ensures.same))
-    (ap (λ (k : Known). k.name) c.slot_of.ensures.same ∙ named) must)
+    (ap (λ (k : Known). k.name) c.slot_of.ensures.same ∙ named) (c.syncs_of-syncs-in-None.ensures.table ∙ must))
 
 pub returns-in_ok-add_entry-in-None-clause-known : goal.returns-in_ok-add_entry-in-None-clause-known
 returns-in_ok-add_entry-in-None-clause-known g c =

@@ -1,4 +1,5 @@
 use Rattle.std.proofs.Common.{refl, sym, subst, ap, ◌∙◌}
+use Rattle.std.proofs.lemmas.Bool.{true≢false}
 use Rattle.nb_base.specs.Open.{Held, IsOpen, AreMerged}
 use Rattle.nb_base.proofs.AgreeLaws.{open_seen, takes_named}
 use Rattle.nb_base.proofs.WriteLaws.{takes_passed, takes_done}
@@ -11,7 +12,7 @@ returns-in_err-write_stalled-clause-takes g c t tells open_ is must =
     let o = subst (λ (h : Held). IsOpen old h t) (sym c.self.view_is) open_ in
     takes_named c.from_residual.result old new _ _ t _ c.self.view_is
     (takes_passed c.write_stalled.result c.from_residual.result old old new c.self.inside.name _ _ t _ refl
-    (c.write_stalled.ensures.takes t c.self.inside.name tells (open_seen old _ t o) is (sym o.agrees.state ∙ c.if-self-eq1.true) (sym o.agrees.entries) c.self.invariant.5 must)
+    (c.write_stalled.ensures.takes t c.self.inside.name tells (open_seen old _ t o) is (sym o.agrees.state ∙ c.is_diverted.ensures.0 c.if-is_diverted.true) (sym o.agrees.entries) c.self.invariant.5 must)
     c.from_residual.ensures.0)
 
 pub returns-in_err-write_plain-clause-takes : goal.returns-in_err-write_plain-clause-takes
@@ -21,7 +22,7 @@ returns-in_err-write_plain-clause-takes g c t tells open_ is must =
     let o = subst (λ (h : Held). IsOpen old h t) (sym c.self.view_is) open_ in
     takes_named c.from_residual-in_err-write_plain.result old new _ _ t _ c.self.view_is
     (takes_passed c.write_plain.result c.from_residual-in_err-write_plain.result old old new c.self.inside.name _ _ t _ refl
-    (c.write_plain.ensures.takes t tells (open_seen old _ t o) is (λ e. c.if-self-eq1.false (o.agrees.state ∙ e)) (sym o.agrees.entries) c.self.invariant.5 must)
+    (c.write_plain.ensures.takes t tells (open_seen old _ t o) is (λ e. true≢false (sym (c.is_diverted.ensures.1 (o.agrees.state ∙ e)) ∙ c.if-is_diverted.false)) (sym o.agrees.entries) c.self.invariant.5 must)
     c.from_residual-in_err-write_plain.ensures.0)
 
 pub returns-in_ok-write_stalled-clause-takes : goal.returns-in_ok-write_stalled-clause-takes
@@ -31,7 +32,7 @@ returns-in_ok-write_stalled-clause-takes g c t tells open_ is must =
     let o = subst (λ (h : Held). IsOpen old h t) (sym c.self.view_is) open_ in
     takes_named _ old new _ _ t _ c.self.view_is
     (takes_done _ _ old old new c.self.inside.name _ t _ refl
-    (c.in_ok-write_stalled.ensures.takes t c.self.inside.name tells (open_seen old _ t o) is (sym o.agrees.state ∙ c.if-self-eq1.true) (sym o.agrees.entries) c.self.invariant.5 must))
+    (c.in_ok-write_stalled.ensures.takes t c.self.inside.name tells (open_seen old _ t o) is (sym o.agrees.state ∙ c.is_diverted.ensures.0 c.if-is_diverted.true) (sym o.agrees.entries) c.self.invariant.5 must))
 
 pub returns-in_ok-write_plain-clause-takes : goal.returns-in_ok-write_plain-clause-takes
 returns-in_ok-write_plain-clause-takes g c t tells open_ is must =
@@ -40,7 +41,7 @@ returns-in_ok-write_plain-clause-takes g c t tells open_ is must =
     let o = subst (λ (h : Held). IsOpen old h t) (sym c.self.view_is) open_ in
     takes_named _ old new _ _ t _ c.self.view_is
     (takes_done _ _ old old new c.self.inside.name _ t _ refl
-    (c.in_ok-write_plain.ensures.takes t tells (open_seen old _ t o) is (λ e. c.if-self-eq1.false (o.agrees.state ∙ e)) (sym o.agrees.entries) c.self.invariant.5 must))
+    (c.in_ok-write_plain.ensures.takes t tells (open_seen old _ t o) is (λ e. true≢false (sym (c.is_diverted.ensures.1 (o.agrees.state ∙ e)) ∙ c.if-is_diverted.false)) (sym o.agrees.entries) c.self.invariant.5 must))
 
 pub returns-in_ok-write_plain-clause-merged : goal.returns-in_ok-write_plain-clause-merged
 returns-in_ok-write_plain-clause-merged g c t k tells open_ is merges merged =

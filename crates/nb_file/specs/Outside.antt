@@ -1,0 +1,7 @@
+-- What a contract sees of real files.
+use Rattle.std.specs.Prelude.{ℕ, List, Option}
+
+-- how many calls have failed, and the name of the file whose bytes wait to be written, if any do
+pub record Outside : Type 0 where
+  pub faults : ℕ
+  pub waiting : Option (List ℕ)
