@@ -23,7 +23,7 @@ use Rattle.nb_model.specs.Forms.{drafted}
 use Rattle.nb_model.specs.Image.{Image, image_scn}
 use Rattle.nb_model.specs.Levels.{file_of, count_in}
 use Rattle.nb_model.specs.Outcomes.{Backing, Seen, next_time}
-use Rattle.nb_model.specs.Owner.{delta_name, owner}
+use Rattle.nb_model.specs.Owner.{delta_name}
 use Rattle.nb_model.specs.Sound.{IsSoundImage}
 use Rattle.nb_model.specs.Strokes.{Stroke}
 use Rattle.nb_model.specs.Trail.{Trail, StandsIn, StandsOn, after_stroke}

@@ -3,7 +3,7 @@ use Rattle.std.specs.Prelude.{Option, Some}
 use Rattle.nb_host.specs.declared.refusals.Refusal.TheVariants.{NoHistory}
 use Rattle.nb_level.specs.declared.head.LevelHead.{LevelHead}
 use Rattle.nb_model.specs.Causes.{broken_at}
-use Rattle.nb_model.specs.Chains.{History, Spot, pages_of}
+use Rattle.nb_model.specs.Chains.{History, pages_of}
 use Rattle.nb_engine.specs.declared.rows.HistoryRow.{HistoryRow}
 use Rattle.nb_engine.proofs.DoesLaws.{tested_on}
 use Rattle.nb_copy.specs.Starting.{earlier_cause}
