@@ -1,18 +1,17 @@
 -- A turn of a session leaves the database open whatever stands in it, and each session with what it needs.
-use Rattle.std.proofs.Common.{◌≡◌, inl, inr, ℕ, List, ◌∷◌, refl, sym, ap, subst, ◌∙◌}
-use Rattle.std.specs.Prelude.{Bool, true, Result, Ok, Err, IsErr, IfOk, OnOk, Option, Some, None}
+use Rattle.std.proofs.Common.{◌≡◌, inl, inr, ℕ, List, refl, sym, subst}
+use Rattle.std.specs.Prelude.{Bool, Result, Ok, IsErr, Option, Some, None}
 use Rattle.std.specs.List.{AllByRecursion}
 use Rattle.nb_host.specs.World.{World}
 use Rattle.nb_host.specs.declared.faults.Fault.{Fault}
 use Rattle.nb_change.specs.Changes.{Names}
 use Rattle.nb_model.specs.declared.statement.Statement.{Statement}
-use Rattle.nb_base.specs.Open.{OfFiles}
 use Rattle.nb_state.specs.Open.{Held, name_of}
 use Rattle.nb_engine.specs.Stays.{OfFilesOr}
 use Rattle.nb_session.specs.Askers.{Asker}
-use Rattle.nb_session.specs.MadeNames.{AnyAsks, MayMake, TaskMakes}
+use Rattle.nb_session.specs.MadeNames.{AnyAsks, MayMake}
 use Rattle.nb_session.specs.Others.{LeavesOthers}
-use Rattle.nb_session.specs.StillOpen.{AskerStays, AskerTurnStays, IsAllowed, IsAside, IsStillOpen, TaskStays, TurnStays}
+use Rattle.nb_session.specs.StillOpen.{AskerStays, AskerTurnStays, IsAllowed, IsStillOpen, TaskStays, TurnStays}
 use Rattle.nb_session.specs.declared.task.Task.{Task}
 use Rattle.nb_session.specs.declared.task.Task.TheVariants.{Backup, Copy, End, Merge}
 use Rattle.nb_session.proofs.OthersLaws.{leaves_among}

@@ -1,13 +1,13 @@
 -- How calls go on that leave other files alone, and what was said meanwhile.
-use Rattle.std.proofs.Common.{◌≡◌, ℕ, List, [], ◌++◌, refl, sym, ap, ◌∙◌, append_assoc}
-use Rattle.std.specs.Prelude.{Result, Ok}
+use Rattle.std.proofs.Common.{◌≡◌, ℕ, List, [], ◌++◌, sym, ap, ◌∙◌, append_assoc}
+use Rattle.std.specs.Prelude.{Result}
 use Rattle.std.proofs.lemmas.List.{append-nil}
 use Rattle.nb_host.specs.Files.{Files}
 use Rattle.nb_host.specs.World.{World}
 use Rattle.nb_host.specs.Crash.{LeavesAll}
 use Rattle.nb_host.specs.Moments.{IsTimely, AtEachMoment}
 use Rattle.nb_host.specs.declared.refusals.Refusal.{Refusal}
-use Rattle.nb_change.specs.Changes.{Names, Other, Changes}
+use Rattle.nb_change.specs.Changes.{Names, Changes}
 use Rattle.nb_change.proofs.ChangesLaws.{rested}
 use Rattle.nb_change.proofs.MomentLaws.{joined, weaker, left_before, untouched_joined, untouched_fewer}
 use Rattle.nb_page.specs.Quiet.{Quiet}

@@ -1,8 +1,8 @@
 -- The turns of a script's sessions leave the database open whatever stands in it, and other files alone.
-use Rattle.std.proofs.Common.{◌≡◌, inl, inr, ℕ, zero, suc, ◌-◌, List, [], ◌∷◌, ◌++◌, get_or, map, refl, sym, ap, subst, ◌∙◌, arith}
-use Rattle.std.specs.Prelude.{Bool, true, false, ◌||◌, IsTrue, Result, Ok, Err, Option, Some, None}
+use Rattle.std.proofs.Common.{◌≡◌, inl, inr, ℕ, zero, suc, ◌-◌, List, [], ◌∷◌, get_or, map, refl, sym, ap, subst, ◌∙◌}
+use Rattle.std.specs.Prelude.{Bool, true, false, ◌||◌, IsTrue, Result, Ok, Err, Some}
 use Rattle.std.specs.List.{AllByRecursion, list_any}
-use Rattle.std.proofs.lemmas.Bool.{or_cases}
+use Rattle.std.proofs.lemmas.Bool.{or_cases, true≢false}
 use Rattle.nb_host.specs.World.{World}
 use Rattle.nb_host.specs.Moments.{IsTimely}
 use Rattle.nb_host.specs.declared.faults.Fault.{Fault}
@@ -13,7 +13,7 @@ use Rattle.nb_model.specs.Strokes.{Stroke}
 use Rattle.nb_sched.specs.Turns.{Scene, scene, agent_of, Moves, TakesTurns, EndsWith, FailsBehind}
 use Rattle.nb_sched.proofs.AgentLaws.{agent_of_set, agent_there}
 use Rattle.nb_sched.proofs.TurnLaws.{turns_hold}
-use Rattle.nb_script.specs.Scripts.{Plan, statements_of}
+use Rattle.nb_script.specs.Scripts.{Plan}
 use Rattle.nb_base.specs.Open.{OfFiles}
 use Rattle.nb_base.specs.Takes.{Strikes}
 use Rattle.nb_state.specs.Open.{Held, IsOpen, but_pages, name_of}
@@ -27,13 +27,12 @@ use Rattle.nb_session.specs.declared.stop.Stop.{Stop}
 use Rattle.nb_session.specs.declared.told.Told.{Told}
 use Rattle.nb_session.proofs.AskerStays.{asker_kept}
 use Rattle.nb_session.proofs.OthersLaws.{leaves_among, leaves_changes, leaves_quiet, leaves_then, refusal_then, then_refusal}
-use Rattle.nb_session.proofs.ReadyLaws.{true_false}
 use Rattle.nb_session.proofs.SceneLaws.{sessions_kind, any_set}
 use Rattle.nb_session.proofs.WholeLaws.{first_agent}
 
 or_first : (a b : Bool) → a ≡ true → (a || b) ≡ true
 or_first true b is = refl
-or_first false b is = absurd (true_false (sym is))
+or_first false b is = absurd (true≢false (sym is))
 
 or_second : (a b : Bool) → b ≡ true → (a || b) ≡ true
 or_second true b is = refl
@@ -134,7 +133,7 @@ module _ {H : Type 0} (tells : Bool) (told : IsTrue tells) (world : H → World)
       opened = still;
       goes = λ session asker there. subst (λ (x : Asker). AskerStays may_merge before x) (sym (first_agent how plan session asker there)) (record { task = tt; statements = allowed_session may_merge plan.sessions (session - 1) (λ is. is) });
       makes = λ session asker there m makes. by session m (subst (λ (x : Asker). MayMake x m) (first_agent how plan session asker there) makes);
-      says = λ yes. absurd (true_false (sym yes ∙ none_refused how plan all_sessions));
+      says = λ yes. absurd (true≢false (sym yes ∙ none_refused how plan all_sessions));
     }
       where
         by : (session : ℕ) (m : List ℕ) → MayMake (fresh_asker how plan session) m → ScriptMakes plan m

@@ -1,6 +1,7 @@
 -- Turns leave a database open, whatever stands in it, and other files alone.
 use Rattle.std.proofs.Common.{◌≡◌, inl, inr, ℕ, List, [], ◌++◌, refl, sym, ap, subst, ◌∙◌}
-use Rattle.std.specs.Prelude.{Bool, true, false, Result, Ok, Err, IsErr, IsErrAnd, IfErr, IfOk, OnOk, Option, Some, None}
+use Rattle.std.specs.Prelude.{Bool, true, false, Result, Ok, Err, IsErr, IfOk, Option, Some, None}
+use Rattle.std.proofs.lemmas.Bool.{true≢false}
 use Rattle.nb_host.specs.Names.{is_delta}
 use Rattle.nb_host.specs.World.{World}
 use Rattle.nb_host.specs.Calls.{IsStill}
@@ -9,7 +10,7 @@ use Rattle.nb_host.specs.Moments.{IsTimely}
 use Rattle.nb_host.specs.declared.faults.Fault.{Fault}
 use Rattle.nb_host.specs.declared.faults.Fault.TheVariants.{Refused, Device, Memory}
 use Rattle.nb_host.specs.declared.refusals.Refusal.{Refusal}
-use Rattle.nb_change.specs.Changes.{Names, Only}
+use Rattle.nb_change.specs.Changes.{Names}
 use Rattle.nb_change.proofs.MomentLaws.{untouched_begun}
 use Rattle.nb_page.specs.Free.{is_free_name}
 use Rattle.nb_model.specs.declared.reply.Reply.{Reply}
@@ -41,7 +42,7 @@ use Rattle.nb_session.specs.declared.task.Taken.{Taken}
 use Rattle.nb_session.specs.declared.task.Task.{Task}
 use Rattle.nb_session.specs.declared.told.Told.{Told}
 use Rattle.nb_session.proofs.OthersLaws.{leaves_changes, leaves_line, leaves_then, leaves_among, refusal_said, then_refusal}
-use Rattle.nb_session.proofs.ReadyLaws.{not_free, true_false}
+use Rattle.nb_session.proofs.ReadyLaws.{not_free}
 use Rattle.nb_session.proofs.ToldLaws.{refusal_line}
 
 -- what is said of a value says nothing of a failure
@@ -60,7 +61,7 @@ still_none : (w : World) → IsStill w w
 still_none w = record { files = refl; left = untouched_begun w (λ _. Unit {0}) }
 
 -- what a turn may see of a database that is open
-pub seen_of : Trail → Option ℕ → Seen
+abbrev pub seen_of : Trail → Option ℕ → Seen
 seen_of t running = record { base = t.base; cache = 0; running = running; entry = λ name. Missing; given = record { guids = []; times = []; holds = [] } }
 
 -- a call that makes no stroke
@@ -69,8 +70,8 @@ stays_out result old new a b t others same struck opened = stays_struck result o
 
 -- The names of files that are made.
 aside : (w : World) (held : Held) (t : Trail) (name : List ℕ) → IsOpen w held t → is_free_name w.files name ≡ true → is_delta name ≡ false → IsAside held name
-aside w held t name is free plain (inl same) = true_false (sym free ∙ ap (λ (n : List ℕ). is_free_name w.files n) same ∙ not_free w held t is)
-aside w held t name is free plain (inr same) = true_false (sym (delta_named (name_of held)) ∙ ap is_delta (sym same) ∙ plain)
+aside w held t name is free plain (inl same) = true≢false (sym free ∙ ap (λ (n : List ℕ). is_free_name w.files n) same ∙ not_free w held t is)
+aside w held t name is free plain (inr same) = true≢false (sym (delta_named (name_of held)) ∙ ap is_delta (sym same) ∙ plain)
 
 -- the name is none of the database's behind a call either
 pub aside_then : (w : World) (a b : Held) (t : Trail) (asked name : List ℕ) → IsOpen w a t → is_free_name w.files asked ≡ true → is_delta asked ≡ false → name ≡ asked → name_of b ≡ name_of a → IsAside b name
@@ -88,7 +89,7 @@ asks_file other m is same = absurd is
 -- a refusal is told, however much is told
 pub refusal_told : (how : Told) (session : ℕ) (reply : Reply) (old new : World) → is_refusal reply ≡ true → new.said ≡ old.said ++ told_line session (told_reply how (Some reply)) → SaysRefusal old new
 refusal_told how session (RefusedBy refusal) old new is said = refusal_said old new session refusal (said ∙ ap (λ (l : List ℕ). old.said ++ l) (sym (refusal_line how session refusal)))
-refusal_told how session other old new is said = absurd (true_false (sym is))
+refusal_told how session other old new is said = absurd (true≢false (sym is))
 
 -- A call was made on an open database.
 module _ (may_merge : Bool) (old mid : World) (a b : Held) (names : Names) (still : IsStillOpen may_merge old a) {T : Type 0} (result : Result T Fault) (stays : StaysOpen result old mid a b still.trail names) where
@@ -128,7 +129,7 @@ module _ (may_merge : Bool) (old mid : World) (a b : Held) (names : Names) (stil
       opened = still_behind ended mid (still_none mid) c but;
       goes = goes;
       makes = makes;
-      says = λ yes. absurd (true_false (sym yes ∙ none));
+      says = λ yes. absurd (true≢false (sym yes ∙ none));
     }
 
     -- a line is said behind it, or a front of that
@@ -216,5 +217,5 @@ module _ {may_merge : Bool} {old new : World} {a b : Held} {S : Type 0} {refused
   turn_of is turn = subst (λ (x : Option Task). TurnStays may_merge refused task answer old new a b (TaskMakes x)) (sym is) turn
 
   -- what makes no file
-  pub turn_none : {now : Option Task} → TurnStays may_merge refused task answer old new a b (λ m. ⊥) → TurnStays may_merge refused task answer old new a b (TaskMakes now)
-  turn_none {now} turn = turn_among may_merge old new a b refused task answer (λ m. ⊥) (TaskMakes now) (λ m none. absurd none) turn
+  pub turn_none : (now : Option Task) → TurnStays may_merge refused task answer old new a b (λ m. ⊥) → TurnStays may_merge refused task answer old new a b (TaskMakes now)
+  turn_none now turn = turn_among may_merge old new a b refused task answer (λ m. ⊥) (TaskMakes now) (λ m none. absurd none) turn

@@ -8,7 +8,7 @@ ghost use Rattle.nb_model.specs.Run.{Now};
 ghost use Rattle.nb_model.specs.Trail.{Trail};
 ghost use Rattle.nb_base.specs.Takes.{IsNoRefusal};
 ghost use Rattle.nb_script.specs.Asked.{IsFurther};
-ghost use Rattle.nb_session.specs.Askers.{TaskFits, KeepsOthers, left_refused, left_task, task_left};
+ghost use Rattle.nb_session.specs.Askers.{TaskFits, KeepsOthers, left_task, task_left, left_refused};
 ghost use Rattle.nb_session.specs.Ready.{IsReady};
 ghost use Rattle.nb_session.specs.Steps.{GoesFurther, Turns};
 ghost use Rattle.nb_session.specs.MadeNames.{Asks, TaskMakes};

@@ -1,4 +1,4 @@
-use Rattle.std.proofs.Common.{◌≡◌, ◌-◌, ℕ, refl, sym, ap, subst, List, ◌∙◌}
+use Rattle.std.proofs.Common.{◌≡◌, ◌-◌, ℕ, refl, sym, ap, subst, ◌∙◌}
 use Rattle.std.specs.Prelude.{Ok, Err, None, Some, true}
 use Rattle.nb_host.specs.declared.faults.Fault.{Fault}
 use Rattle.nb_host.specs.declared.faults.Fault.TheVariants.{Refused, Device, Memory}
@@ -185,7 +185,7 @@ returns-in_err-say_refused-in-Err-Refused-clause-stays_open g c tells still asid
     let copier : Backed = c.args.copier.now in
     let refusal = c.in-Err-Refused.refusal in
     turn_unsaid true old mid a b (TaskMakes (Some (Backup copier))) still (Err (Refused refusal)) (stays_among old mid a b (Err (Refused refusal)) (Only copier.backing.name) (TaskMakes (Some (Backup copier))) (λ m is. is)
-    (subst (λ (f : Fault). StaysOpen (Err f) old mid a b t (Only copier.backing.name)) c.in-Err-Refused.field-0-is (c.in-Err-Refused.ensures.stays_open t tells still.opened aside))) left_refused (left_task _)
+    (subst (λ (f : Fault). StaysOpen {T = Progress} (Err f) old mid a b t (Only copier.backing.name)) c.in-Err-Refused.field-0-is (c.in-Err-Refused.ensures.stays_open t tells still.opened aside))) left_refused (left_task _)
     (g.H.Host.world c.say_refused.new.host) c.say_refused.result _ (g.met.H.Host.timely c.say_refused.new.host) (g.met.H.Host.reads_left c.say_refused.new.host tells) (c.say_refused.ensures.line tells) c.stop_running.new.engine c.stop_running.ensures.same c.from_residual.result c.from_residual.ensures.0
 
 pub returns-in_ok-say_refused-in-Err-Refused-clause-stays_open : goal.returns-in_ok-say_refused-in-Err-Refused-clause-stays_open
@@ -200,7 +200,7 @@ returns-in_ok-say_refused-in-Err-Refused-clause-stays_open g c tells still aside
     let d = c.stop_running.new.engine in
     let taken = c.in_ok-say_refused-in-Err-Refused.ensures.taken in
     turn_said true old mid a b (TaskMakes (Some (Backup copier))) still (Err (Refused refusal)) (stays_among old mid a b (Err (Refused refusal)) (Only copier.backing.name) (TaskMakes (Some (Backup copier))) (λ m is. is)
-    (subst (λ (f : Fault). StaysOpen (Err f) old mid a b t (Only copier.backing.name)) c.in-Err-Refused.field-0-is (c.in-Err-Refused.ensures.stays_open t tells still.opened aside))) left_refused (left_task _)
+    (subst (λ (f : Fault). StaysOpen {T = Progress} (Err f) old mid a b t (Only copier.backing.name)) c.in-Err-Refused.field-0-is (c.in-Err-Refused.ensures.stays_open t tells still.opened aside))) left_refused (left_task _)
     (g.H.Host.world c.say_refused.new.host) c.say_refused.result _ (g.met.H.Host.timely c.say_refused.new.host) (g.met.H.Host.reads_left c.say_refused.new.host tells) (c.say_refused.ensures.line tells) d c.stop_running.ensures.same (Other c.in_ok-say_refused-in-Err-Refused.field-0) tt
     (subst (λ (x : Taken). TaskStays true d x.task) (sym taken) tt) (λ m makes. absurd (subst (λ (x : Taken). TaskMakes x.task m) taken makes))
     (λ yes. refusal_said mid (g.H.Host.world c.say_refused.new.host) c.args.session refusal (c.in_ok-say_refused-in-Err-Refused.ensures.line tells).said)
@@ -214,7 +214,7 @@ returns-in-Err-Device-clause-stays_open g c tells still aside =
     let t = still.trail in
     let copier : Backed = c.args.copier.now in
     turn_failed true old mid a b (TaskMakes (Some (Backup copier))) still (Err Device) (stays_among old mid a b (Err Device) (Only copier.backing.name) (TaskMakes (Some (Backup copier))) (λ m is. is)
-    (subst (λ (f : Fault). StaysOpen (Err f) old mid a b t (Only copier.backing.name)) c.in-Err-Device.field-0-is (c.in-Err-Device.ensures.stays_open t tells still.opened aside))) left_refused (left_task _) (Err Device) refl
+    (subst (λ (f : Fault). StaysOpen {T = Progress} (Err f) old mid a b t (Only copier.backing.name)) c.in-Err-Device.field-0-is (c.in-Err-Device.ensures.stays_open t tells still.opened aside))) left_refused (left_task _) (Err Device) refl
 
 pub returns-in-Err-Memory-clause-stays_open : goal.returns-in-Err-Memory-clause-stays_open
 returns-in-Err-Memory-clause-stays_open g c tells still aside =
@@ -225,4 +225,4 @@ returns-in-Err-Memory-clause-stays_open g c tells still aside =
     let t = still.trail in
     let copier : Backed = c.args.copier.now in
     turn_failed true old mid a b (TaskMakes (Some (Backup copier))) still (Err Memory) (stays_among old mid a b (Err Memory) (Only copier.backing.name) (TaskMakes (Some (Backup copier))) (λ m is. is)
-    (subst (λ (f : Fault). StaysOpen (Err f) old mid a b t (Only copier.backing.name)) c.in-Err-Memory.field-0-is (c.in-Err-Memory.ensures.stays_open t tells still.opened aside))) left_refused (left_task _) (Err Memory) refl
+    (subst (λ (f : Fault). StaysOpen {T = Progress} (Err f) old mid a b t (Only copier.backing.name)) c.in-Err-Memory.field-0-is (c.in-Err-Memory.ensures.stays_open t tells still.opened aside))) left_refused (left_task _) (Err Memory) refl

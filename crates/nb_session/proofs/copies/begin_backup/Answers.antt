@@ -9,7 +9,7 @@ use Rattle.nb_model.specs.Run.{base_now}
 use Rattle.nb_model.specs.Sound.{IsSoundImage}
 use Rattle.nb_model.specs.Turns.{first_turn}
 use Rattle.nb_state.specs.Turns.{GaveAtMost}
-use Rattle.nb_copy.specs.Starting.{StartsBackup}
+use Rattle.nb_copy.specs.Starting.{Backed, StartsBackup}
 use Rattle.nb_session.specs.declared.task.Taken.{Taken}
 use Rattle.nb_session.specs.Askers.{file_asked}
 use Rattle.nb_session.specs.Steps.{IsBehind}
@@ -127,7 +127,7 @@ returns-in-Err-Refused-clause-stays_open g c tells still =
     let it = c.args.statement.now in
     let refusal = c.in-Err-Refused.refusal in
     turn_refused true old mid a b (Asks it) still (Err (Refused refusal)) (stays_among old mid a b (Err (Refused refusal)) NoNames (Asks it) (λ m none. absurd none)
-    (subst (λ (f : Fault). StaysOpen (Err f) old mid a b t NoNames) c.in-Err-Refused.field-0-is (c.in-Err-Refused.ensures.stays_open t tells still.opened)))
+    (subst (λ (f : Fault). StaysOpen {T = Backed} (Err f) old mid a b t NoNames) c.in-Err-Refused.field-0-is (c.in-Err-Refused.ensures.stays_open t tells still.opened)))
     (g.H.Host.world c.say_refused.new.host) c.args.session refusal c.say_refused.result (g.met.H.Host.timely c.say_refused.new.host) (g.met.H.Host.reads_left c.say_refused.new.host tells) tt b refl (c.say_refused.ensures.line tells) c.say_refused.ensures.taken
 
 pub returns-in-Err-Device-clause-stays_open : goal.returns-in-Err-Device-clause-stays_open
@@ -139,7 +139,7 @@ returns-in-Err-Device-clause-stays_open g c tells still =
     let t = still.trail in
     let it = c.args.statement.now in
     turn_failed true old mid a b (Asks it) still (Err Device) (stays_among old mid a b (Err Device) NoNames (Asks it) (λ m none. absurd none)
-    (subst (λ (f : Fault). StaysOpen (Err f) old mid a b t NoNames) c.in-Err-Device.field-0-is (c.in-Err-Device.ensures.stays_open t tells still.opened))) (λ (taken : Taken). taken.refused) (λ (taken : Taken). taken.task) (Err Device) refl
+    (subst (λ (f : Fault). StaysOpen {T = Backed} (Err f) old mid a b t NoNames) c.in-Err-Device.field-0-is (c.in-Err-Device.ensures.stays_open t tells still.opened))) (λ (taken : Taken). taken.refused) (λ (taken : Taken). taken.task) (Err Device) refl
 
 pub returns-in-Err-Memory-clause-stays_open : goal.returns-in-Err-Memory-clause-stays_open
 returns-in-Err-Memory-clause-stays_open g c tells still =
@@ -150,4 +150,4 @@ returns-in-Err-Memory-clause-stays_open g c tells still =
     let t = still.trail in
     let it = c.args.statement.now in
     turn_failed true old mid a b (Asks it) still (Err Memory) (stays_among old mid a b (Err Memory) NoNames (Asks it) (λ m none. absurd none)
-    (subst (λ (f : Fault). StaysOpen (Err f) old mid a b t NoNames) c.in-Err-Memory.field-0-is (c.in-Err-Memory.ensures.stays_open t tells still.opened))) (λ (taken : Taken). taken.refused) (λ (taken : Taken). taken.task) (Err Memory) refl
+    (subst (λ (f : Fault). StaysOpen {T = Backed} (Err f) old mid a b t NoNames) c.in-Err-Memory.field-0-is (c.in-Err-Memory.ensures.stays_open t tells still.opened))) (λ (taken : Taken). taken.refused) (λ (taken : Taken). taken.task) (Err Memory) refl

@@ -8,6 +8,7 @@ use Rattle.nb_model.specs.Backups.{copy_turn}
 use Rattle.nb_model.specs.Outcomes.{Begins}
 use Rattle.nb_model.specs.Run.{base_now}
 use Rattle.nb_state.specs.Open.{name_of}
+use Rattle.nb_copy.specs.Copying.{Copying}
 use Rattle.nb_copy.specs.FileCopies.{StartsCopy}
 use Rattle.nb_session.specs.declared.task.Taken.{Taken}
 use Rattle.nb_session.specs.Steps.{IsBehind}
@@ -102,7 +103,7 @@ returns-in-Err-Refused-clause-stays_open g c may_merge tells still =
     let t = still.trail in
     let refusal = c.in-Err-Refused.refusal in
     turn_refused may_merge old mid a b (Asks (CopyTo c.args.name.now)) still (Err (Refused refusal)) (stays_among old mid a b (Err (Refused refusal)) NoNames (Asks (CopyTo c.args.name.now)) (λ m none. absurd none)
-    (subst (λ (f : Fault). StaysOpen (Err f) old mid a b t NoNames) c.in-Err-Refused.field-0-is (c.in-Err-Refused.ensures.stays_open t tells still.opened)))
+    (subst (λ (f : Fault). StaysOpen {T = Copying} (Err f) old mid a b t NoNames) c.in-Err-Refused.field-0-is (c.in-Err-Refused.ensures.stays_open t tells still.opened)))
     (g.H.Host.world c.say_refused.new.host) c.args.session refusal c.say_refused.result (g.met.H.Host.timely c.say_refused.new.host) (g.met.H.Host.reads_left c.say_refused.new.host tells) tt b refl (c.say_refused.ensures.line tells) c.say_refused.ensures.taken
 
 pub returns-in-Err-Device-clause-stays_open : goal.returns-in-Err-Device-clause-stays_open
@@ -113,7 +114,7 @@ returns-in-Err-Device-clause-stays_open g c may_merge tells still =
     let b = c.start.new.engine in
     let t = still.trail in
     turn_failed may_merge old mid a b (Asks (CopyTo c.args.name.now)) still (Err Device) (stays_among old mid a b (Err Device) NoNames (Asks (CopyTo c.args.name.now)) (λ m none. absurd none)
-    (subst (λ (f : Fault). StaysOpen (Err f) old mid a b t NoNames) c.in-Err-Device.field-0-is (c.in-Err-Device.ensures.stays_open t tells still.opened))) (λ (taken : Taken). taken.refused) (λ (taken : Taken). taken.task) (Err Device) refl
+    (subst (λ (f : Fault). StaysOpen {T = Copying} (Err f) old mid a b t NoNames) c.in-Err-Device.field-0-is (c.in-Err-Device.ensures.stays_open t tells still.opened))) (λ (taken : Taken). taken.refused) (λ (taken : Taken). taken.task) (Err Device) refl
 
 pub returns-in-Err-Memory-clause-stays_open : goal.returns-in-Err-Memory-clause-stays_open
 returns-in-Err-Memory-clause-stays_open g c may_merge tells still =
@@ -123,4 +124,4 @@ returns-in-Err-Memory-clause-stays_open g c may_merge tells still =
     let b = c.start.new.engine in
     let t = still.trail in
     turn_failed may_merge old mid a b (Asks (CopyTo c.args.name.now)) still (Err Memory) (stays_among old mid a b (Err Memory) NoNames (Asks (CopyTo c.args.name.now)) (λ m none. absurd none)
-    (subst (λ (f : Fault). StaysOpen (Err f) old mid a b t NoNames) c.in-Err-Memory.field-0-is (c.in-Err-Memory.ensures.stays_open t tells still.opened))) (λ (taken : Taken). taken.refused) (λ (taken : Taken). taken.task) (Err Memory) refl
+    (subst (λ (f : Fault). StaysOpen {T = Copying} (Err f) old mid a b t NoNames) c.in-Err-Memory.field-0-is (c.in-Err-Memory.ensures.stays_open t tells still.opened))) (λ (taken : Taken). taken.refused) (λ (taken : Taken). taken.task) (Err Memory) refl

@@ -1,5 +1,6 @@
 use Rattle.std.proofs.Common.{◌≡◌, ◌-◌, ◌≤◌, ℕ, refl, sym, ap, subst, ◌∙◌, arith}
 use Rattle.std.specs.Prelude.{Ok, Err, None, Some, false}
+use Rattle.std.proofs.lemmas.Bool.{true≢false}
 use Rattle.nb_host.specs.declared.faults.Fault.TheVariants.{Device}
 use Rattle.nb_model.specs.declared.reply.Reply.TheVariants.{Pages}
 use Rattle.nb_model.specs.Outcomes.{ClosesCopy}
@@ -13,7 +14,7 @@ use Rattle.nb_session.specs.declared.task.Left.TheVariants.{Same, Other}
 use Rattle.nb_session.specs.Askers.{copy_first, copy_rest, left_refused, left_task}
 use Rattle.nb_session.proofs.CopyLaws.{stopped_is, copy_said, said_pages, copy_files, copy_fails, copy_more, copy_ends, more_behind, end_behind, copying_stalled, apart_one}
 use Rattle.nb_session.proofs.EventLaws.{marks_made}
-use Rattle.nb_session.proofs.ReadyLaws.{apart_files, true_false}
+use Rattle.nb_session.proofs.ReadyLaws.{apart_files}
 use Rattle.nb_session.proofs.TurnLaws.{turns_failed, turns_quiet, turns_unsaid, turns_said}
 use Rattle.nb_change.specs.Changes.{Only}
 use Rattle.nb_engine.proofs.StaysLaws.{stays_among}
@@ -159,4 +160,4 @@ returns-in_ok-tell-in-Finished-clause-stays_open g c may_merge tells still aside
     let copy : Copying = c.args.copier.now in
     turn_said may_merge old mid a b (TaskMakes (Some (Copy copy))) still (Ok Finished) (stays_among old mid a b (Ok Finished) (Only copy.name) (TaskMakes (Some (Copy copy))) (λ m is. is) (c.in_ok-turn.ensures.stays_open (Ok Finished) t tells still.opened aside)) left_refused (left_task _)
     (g.H.Host.world c.tell.new.host) c.tell.result _ (g.met.H.Host.timely c.tell.new.host) (g.met.H.Host.reads_left c.tell.new.host tells) (c.tell.ensures.line tells) c.stop_running.new.engine c.stop_running.ensures.same
-    (Other (record { task = None; refused = false })) tt tt (λ m none. absurd none) (λ yes. absurd (true_false (sym yes)))
+    (Other (record { task = None; refused = false })) tt tt (λ m none. absurd none) (λ yes. absurd (true≢false (sym yes)))

@@ -18,7 +18,7 @@ use Rattle.nb_session.proofs.TurnLaws.{turns_failed, turns_quiet, turns_unsaid, 
 use Rattle.nb_change.specs.Changes.{NoNames}
 use Rattle.nb_engine.proofs.StaysLaws.{stays_merges}
 use Rattle.nb_session.proofs.StayLaws.{turn_failed, turn_said, turn_unheard, turn_unsaid}
-use Rattle.nb_session.proofs.ReadyLaws.{true_false}
+use Rattle.std.proofs.lemmas.Bool.{true≢false}
 use Rattle.nb_session.proofs.merges.merge_on.Goals as goal
 
 pub returns-in_err-merge_turn-clause-turn : goal.returns-in_err-merge_turn-clause-turn
@@ -117,4 +117,4 @@ returns-in_ok-tell-in-Finished-clause-stays_open g c tells still =
     let t = still.trail in
     let merges = subst (λ (p : Progress). Merges (Ok p) old mid a b t) c.in-Finished.is (c.in_ok-merge_turn.ensures.merges t tells still.opened (still.no_zeros refl)) in
     turn_said true old mid a b NoNames still (Ok Finished) (stays_merges (Ok Finished) old mid a b t NoNames tt merges) left_refused (left_task _)
-    (g.H.Host.world c.tell.new.host) c.tell.result _ (g.met.H.Host.timely c.tell.new.host) (g.met.H.Host.reads_left c.tell.new.host tells) (c.tell.ensures.line tells) b refl (Other (record { task = None; refused = false })) tt tt (λ m none. none) (λ yes. absurd (true_false (sym yes)))
+    (g.H.Host.world c.tell.new.host) c.tell.result _ (g.met.H.Host.timely c.tell.new.host) (g.met.H.Host.reads_left c.tell.new.host tells) (c.tell.ensures.line tells) b refl (Other (record { task = None; refused = false })) tt tt (λ m none. none) (λ yes. absurd (true≢false (sym yes)))

@@ -1,5 +1,5 @@
 use Rattle.std.proofs.Common.{◌≡◌, ℕ, ◌-◌, List, [], ◌∷◌, sym, subst, refl, rules}
-use Rattle.std.specs.Prelude.{Result, Bool, None, true, Ok}
+use Rattle.std.specs.Prelude.{Result, Bool, None, Ok}
 use Rattle.std.specs.List.{slice_index_or}
 use Rattle.nb_host.specs.World.{World}
 use Rattle.nb_host.specs.declared.faults.Fault.{Fault}
@@ -14,9 +14,9 @@ use Rattle.nb_session.specs.Askers.{TaskFits, IsBackup}
 use Rattle.nb_session.specs.Steps.{Turns}
 use Rattle.nb_session.proofs.TurnLaws.{handed_turns, handed_none, handed_counts, handed_failure}
 use Rattle.nb_change.specs.Changes.{NoNames}
-use Rattle.nb_session.proofs.StayLaws.{backup_merges, no_value, turn_among, turn_handed}
+use Rattle.nb_session.proofs.StayLaws.{backup_merges, turn_among, turn_handed}
 use Rattle.nb_session.specs.MadeNames.{Asks}
-use Rattle.nb_session.specs.StillOpen.{IsAllowed, IsStillOpen, TurnStays, merges}
+use Rattle.nb_session.specs.StillOpen.{IsAllowed, IsStillOpen, TurnStays}
 use Rattle.nb_session.proofs.session.begin_statement.Goals as goal
 
 -- the first turn of a statement

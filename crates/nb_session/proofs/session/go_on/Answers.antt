@@ -1,12 +1,10 @@
 use Rattle.nb_session.proofs.TurnLaws.{under_is, further}
-use Rattle.std.proofs.Common.{◌≡◌, sym, subst}
-use Rattle.std.specs.Prelude.{Bool, true, Option, Some}
+use Rattle.std.proofs.Common.{subst}
+use Rattle.std.specs.Prelude.{Option, Some}
 use Rattle.nb_session.proofs.StayLaws.{turn_of, turn_merging, turn_none}
-use Rattle.nb_session.specs.StillOpen.{IsStillOpen, TaskStays, TurnStays}
-use Rattle.nb_session.specs.MadeNames.{TaskMakes}
-use Rattle.nb_session.specs.Askers.{left_refused, left_task}
+use Rattle.nb_session.specs.StillOpen.{TaskStays}
 use Rattle.nb_session.specs.declared.task.Task.{Task}
-use Rattle.nb_session.specs.declared.task.Task.TheVariants.{Backup, Copy, End, Merge}
+use Rattle.nb_session.specs.declared.task.Task.TheVariants.{End, Merge}
 use Rattle.nb_session.proofs.session.go_on.Goals as goal
 
 pub returns-in-Some-Backup-clause-turn : goal.returns-in-Some-Backup-clause-turn
@@ -37,10 +35,10 @@ pub returns-in-Some-End-clause-stays_open : goal.returns-in-Some-End-clause-stay
 returns-in-Some-End-clause-stays_open g c may_merge tells still goes =
     let is = under_is c.in-Some-End.is c.in-Some-End.field-0-is in
     let here = subst (λ (x : Option Task). TaskStays may_merge c.args.engine.now x) is goes in
-    turn_of is (turn_none (turn_merging here (λ now_still. c.end_backup.ensures.stays_open tells now_still) still))
+    turn_of is (turn_none (Some (End c.in-Some-End.reply)) (turn_merging here (λ now_still. c.end_backup.ensures.stays_open tells now_still) still))
 
 pub returns-in-Some-Merge-clause-stays_open : goal.returns-in-Some-Merge-clause-stays_open
 returns-in-Some-Merge-clause-stays_open g c may_merge tells still goes =
     let is = under_is c.in-Some-Merge.is c.in-Some-Merge.field-0-is in
     let here = subst (λ (x : Option Task). TaskStays may_merge c.args.engine.now x) is goes in
-    turn_of is (turn_none (turn_merging here (λ now_still. c.merge_on.ensures.stays_open tells now_still) still))
+    turn_of is (turn_none (Some (Merge c.in-Some-Merge.merging)) (turn_merging here (λ now_still. c.merge_on.ensures.stays_open tells now_still) still))
