@@ -120,7 +120,7 @@ fn begin<H: Host>(
     ensures begins { (t : Trail) (guid : List ℕ) (ask : Option Ask) → IsTrue H.tells → IsOpen (H.world host.old) engine.old t → GaveAtMost (H.world host.old) (H.world host.new) guid
         → BeginsFor result (H.world host.old) (H.world host.new) engine.old engine.new t guid ask session head.now }
     ensures asks { IsTrue H.tells → (guid : List ℕ) × (length guid ≡ 16) × GaveAtMost (H.world host.old) (H.world host.new) guid }
-    ensures stays_open { (t : Trail) → IsTrue H.tells → IsOpen (H.world host.old) engine.old t → StaysOpen result (H.world host.old) (H.world host.new) engine.old engine.new NoNames }
+    ensures stays_open { (t : Trail) → IsTrue H.tells → IsOpen (H.world host.old) engine.old t → StaysOpen result (H.world host.old) (H.world host.new) engine.old engine.new t NoNames }
     ensures level { IfOk result (λ begun. begun.level ≡ head.now.level) }
     ensures size { IfOk result (λ begun. begun.page_size ≡ head.now.page_size) }
     ensures page_size { engine.new.files.page_size ≡ engine.old.files.page_size }
@@ -153,7 +153,7 @@ fn start_from<H: Host>(
         → StartsBackup result (H.world host.old) (H.world host.new) engine.old engine.new t (next_guid s.given) (turn_since s session since name.now) }
     ensures asks { (t : Trail) → IsTrue H.tells → IsOpen (H.world host.old) engine.old t → (guid : List ℕ) × (length guid ≡ 16) × GaveAtMost (H.world host.old) (H.world host.new) guid }
     ensures stays { engine.old.files.state ≡ 2 → engine.new ≡ engine.old }
-    ensures stays_open { (t : Trail) → IsTrue H.tells → IsOpen (H.world host.old) engine.old t → StaysOpen result (H.world host.old) (H.world host.new) engine.old engine.new NoNames }
+    ensures stays_open { (t : Trail) → IsTrue H.tells → IsOpen (H.world host.old) engine.old t → StaysOpen result (H.world host.old) (H.world host.new) engine.old engine.new t NoNames }
     ensures free { IsTrue H.tells → OnOk result (is_free_name (H.world host.old).files name.now ≡ true) }
     ensures named { IfOk result (λ copier. copier.backing.name ≡ name.now) }
     ensures its_level { IfOk result (λ copier. IsItsLevel since copier.backing.ask.level) }
@@ -199,7 +199,7 @@ impl Copier {
         ensures stays { engine.old.files.state ≡ 2 → engine.new ≡ engine.old }
 
         // Whatever stands in the database: only its two files are touched, and it is open behind that.
-        ensures stays_open { (t : Trail) → IsTrue H.tells → IsOpen (H.world host.old) engine.old t → StaysOpen result (H.world host.old) (H.world host.new) engine.old engine.new NoNames }
+        ensures stays_open { (t : Trail) → IsTrue H.tells → IsOpen (H.world host.old) engine.old t → StaysOpen result (H.world host.old) (H.world host.new) engine.old engine.new t NoNames }
         ensures free { IsTrue H.tells → OnOk result (is_free_name (H.world host.old).files name.now ≡ true) }
         ensures named { IfOk result (λ copier. copier.backing.name ≡ name.now) }
         ensures level { IfOk result (λ copier. copier.backing.ask.level ≡ level) }
@@ -228,7 +228,7 @@ impl Copier {
         ensures stays { engine.old.files.state ≡ 2 → engine.new ≡ engine.old }
 
         // Whatever stands in the database: only its two files are touched, and it is open behind that.
-        ensures stays_open { (t : Trail) → IsTrue H.tells → IsOpen (H.world host.old) engine.old t → StaysOpen result (H.world host.old) (H.world host.new) engine.old engine.new NoNames }
+        ensures stays_open { (t : Trail) → IsTrue H.tells → IsOpen (H.world host.old) engine.old t → StaysOpen result (H.world host.old) (H.world host.new) engine.old engine.new t NoNames }
         ensures free { IsTrue H.tells → OnOk result (is_free_name (H.world host.old).files name.now ≡ true) }
         ensures named { IfOk result (λ copier. copier.backing.name ≡ name.now) }
         ensures size { IfOk result (λ copier. copier.page_size ≡ engine.old.files.page_size) }
@@ -282,7 +282,7 @@ impl Copier {
             → GaveTimeAtMost (H.world host.old) (H.world host.new) (next_time s.given)
             → Closes result (H.world host.old) (H.world host.new) engine.old engine.new t (next_time s.given) (close_backup s self.now.backing).strokes }
         ensures asks { (t : Trail) → IsTrue H.tells → IsOpen (H.world host.old) engine.old t → self.now.backing.page < length t.base.image → (time : ℕ) × GaveTimeAtMost (H.world host.old) (H.world host.new) time }
-        ensures stays_open { (t : Trail) → IsTrue H.tells → IsOpen (H.world host.old) engine.old t → StaysOpen result (H.world host.old) (H.world host.new) engine.old engine.new NoNames }
+        ensures stays_open { (t : Trail) → IsTrue H.tells → IsOpen (H.world host.old) engine.old t → StaysOpen result (H.world host.old) (H.world host.new) engine.old engine.new t NoNames }
         ensures goes { Goes engine.old engine.new }
         ensures cause { CountsDevice result (H.faults host.old) (H.faults host.new) }
     {
@@ -314,7 +314,7 @@ impl Copier {
 
         // Whatever stands in the database and in the file: only they are touched, and the database is open behind that.
         ensures stays_open { (t : Trail) → IsTrue H.tells → IsOpen (H.world host.old) engine.old t → (OfFiles engine.old.files.name self.old.backing.name → ⊥)
-            → StaysOpen result (H.world host.old) (H.world host.new) engine.old engine.new (Only self.old.backing.name) }
+            → StaysOpen result (H.world host.old) (H.world host.new) engine.old engine.new t (Only self.old.backing.name) }
         ensures same { self.new ≡ record self.old { file = self.new.file } }
         ensures counts { BackupCounts result self.old self.new }
         ensures twice { IsTrue H.tells → ReadsTwo result (H.world host.old) (H.world host.new) }

@@ -86,7 +86,7 @@ impl FileCopier {
             → StartsCopy result (H.world host.old) (H.world host.new) engine.old engine.new t name.now (copy_turn s session name.now) }
 
         // Whatever stands in the database.
-        ensures stays_open { (t : Trail) → IsTrue H.tells → IsOpen (H.world host.old) engine.old t → StaysOpen result (H.world host.old) (H.world host.new) engine.old engine.new NoNames }
+        ensures stays_open { (t : Trail) → IsTrue H.tells → IsOpen (H.world host.old) engine.old t → StaysOpen result (H.world host.old) (H.world host.new) engine.old engine.new t NoNames }
         ensures free { IsTrue H.tells → OnOk result (is_free_name (H.world host.old).files name.now ≡ true) }
         ensures named { IfOk result (λ copy. copy.name ≡ name.now) }
         ensures size { IfOk result (λ copy. copy.size ≡ engine.old.files.page_size) }
@@ -133,7 +133,7 @@ impl FileCopier {
 
         // Whatever stands in the database and in the file: the file alone is touched, and the database stays open, also where the turn fails.
         ensures stays_open { (answer : Result Progress Fault) (t : Trail) → IsTrue H.tells → IsOpen (H.world host.old) engine.old t → (OfFiles engine.old.files.name self.old.name → ⊥)
-            → StaysOpen answer (H.world host.old) (H.world host.new) engine.old engine.new (Only self.old.name) }
+            → StaysOpen answer (H.world host.old) (H.world host.new) engine.old engine.new t (Only self.old.name) }
         ensures counts { CopyCounts result self.old self.new }
         ensures size { self.new.size ≡ self.old.size }
         ensures engine { engine.new ≡ engine.old }

@@ -1,5 +1,5 @@
 -- How many reads the search for a new page makes.
-use Rattle.std.proofs.Common.{◌≡◌, inl, inr, ℕ, zero, suc, ◌+◌, ◌-◌, ◌*◌, ◌/◌, ◌<◌, ◌≤◌, refl, sym, ap, subst, ◌∙◌, arith, mul-le-mul_right}
+use Rattle.std.proofs.Common.{◌≡◌, inl, inr, ℕ, zero, suc, ◌+◌, ◌-◌, ◌*◌, ◌/◌, ◌<◌, ◌≤◌, subst, arith, mul-le-mul_right}
 use Rattle.std.specs.Prelude.{IsTrue, Option, Some, IfSome}
 use Rattle.std.proofs.Math.Nat.{div-zero, div-mul-le_self, lt-div-mul-add}
 use Rattle.std.proofs.lemmas.Bool.Decides.{leb_tells}

@@ -53,7 +53,7 @@ or_group true b r = refl
 or_group false b r = refl
 
 -- one session more was refused a statement, or not
-any_set : (askers : List Asker) (i : ℕ) (a b : Asker) (refused : Bool) → slice_get askers i ≡ Some a → b.refused ≡ (a.refused || refused) → any_refused (slice_set askers i b) ≡ any_refused askers || refused
+pub any_set : (askers : List Asker) (i : ℕ) (a b : Asker) (refused : Bool) → slice_get askers i ≡ Some a → b.refused ≡ (a.refused || refused) → any_refused (slice_set askers i b) ≡ any_refused askers || refused
 any_set [] i a b refused there noted = absurd cc
 any_set (x ∷ xs) zero a b refused there noted =
     let same : x ≡ a = cc in

@@ -8,3 +8,6 @@ pub mod Says
 pub mod Askers
 pub mod Acts
 pub mod Steps
+pub mod Others
+pub mod MadeNames
+pub mod StillOpen

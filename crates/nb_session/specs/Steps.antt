@@ -22,6 +22,7 @@ use Rattle.nb_session.specs.declared.task.Task.{Task}
 use Rattle.nb_session.specs.declared.told.Told.{Told}
 use Rattle.nb_session.specs.Askers.{Asker, HasTodo, KeepsOthers, left_refused, left_task, task_first, task_rest, task_todo}
 use Rattle.nb_session.specs.Ready.{IsReady, TaskGoes}
+use Rattle.nb_session.specs.StillOpen.{AskerStays, AskerTurnStays, IsStillOpen}
 use Rattle.nb_session.specs.Stops.{Plays}
 use Rattle.nb_session.specs.Told.{told_turns}
 
@@ -67,6 +68,8 @@ pub record Steps (tells : Bool) (result : Result (Unit {0}) Fault) (old new : Wo
   pub told : moved.told ≡ asker.told
   pub takes : (now : Now) (t : Trail) → IsTrue tells → IsReady old before t now → IsMaking now → HasTodo asker now → TaskGoes asker.number old before t.base.frozen asker.task
       → TakesNext refused result old new before after t now asker moved
+  -- whatever stands in the database
+  pub stays_open : (may_merge : Bool) → IsTrue tells → IsStillOpen may_merge old before → AskerStays may_merge before asker → AskerTurnStays may_merge refused result old new before after asker moved
   pub others : KeepsOthers asker.number before after
   pub cause : CountsDevice result faults faults'
   pub not_refused : IfErr result IsNoRefusal

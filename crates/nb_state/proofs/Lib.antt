@@ -1,3 +1,4 @@
+pub mod WholeLaws
 pub mod MakesLaws
 pub mod TestLaws
 pub mod ShownLaws

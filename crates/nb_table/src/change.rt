@@ -40,7 +40,7 @@ fn put_found<H: Host>(
     ensures turn { (s : Seen) (t : Trail) (chain : Chain) → IsTrue H.tells → t.base ≡ s.base → IsOpen (H.world host.old) engine.old t → IsSoundImage t.base.image → broken_at (pages_of chain t.base.image) ≡ None
         → found.now ≡ found_at (row_spot key (spots chain t.base.image))
         → Does done result (H.world host.old) (H.world host.new) engine.old engine.new t (in_row s chain key bytes.now) }
-    ensures stays_open { (t : Trail) → IsTrue H.tells → IsOpen (H.world host.old) engine.old t → StaysOpen result (H.world host.old) (H.world host.new) engine.old engine.new NoNames }
+    ensures stays_open { (t : Trail) → IsTrue H.tells → IsOpen (H.world host.old) engine.old t → StaysOpen result (H.world host.old) (H.world host.new) engine.old engine.new t NoNames }
     ensures goes { Goes engine.old engine.new }
     ensures cause { CountsDevice result (H.faults host.old) (H.faults host.new) }
 {
@@ -67,7 +67,7 @@ pub fn insert<H: Host>(
         → Does done result (H.world host.old) (H.world host.new) engine.old engine.new t (insert_turn s table.now key text.now) }
 
     // Whatever is in the database: only its two files are touched, and it is open behind that.
-    ensures stays_open { (t : Trail) → IsTrue H.tells → IsOpen (H.world host.old) engine.old t → StaysOpen result (H.world host.old) (H.world host.new) engine.old engine.new NoNames }
+    ensures stays_open { (t : Trail) → IsTrue H.tells → IsOpen (H.world host.old) engine.old t → StaysOpen result (H.world host.old) (H.world host.new) engine.old engine.new t NoNames }
     ensures goes { Goes engine.old engine.new }
     ensures cause { CountsDevice result (H.faults host.old) (H.faults host.new) }
 {
@@ -105,7 +105,7 @@ pub fn update<H: Host>(
         → Does done result (H.world host.old) (H.world host.new) engine.old engine.new t (update_turn s table.now key text.now) }
 
     // Whatever is in the database: only its two files are touched, and it is open behind that.
-    ensures stays_open { (t : Trail) → IsTrue H.tells → IsOpen (H.world host.old) engine.old t → StaysOpen result (H.world host.old) (H.world host.new) engine.old engine.new NoNames }
+    ensures stays_open { (t : Trail) → IsTrue H.tells → IsOpen (H.world host.old) engine.old t → StaysOpen result (H.world host.old) (H.world host.new) engine.old engine.new t NoNames }
     ensures goes { Goes engine.old engine.new }
     ensures cause { CountsDevice result (H.faults host.old) (H.faults host.new) }
 {
@@ -131,7 +131,7 @@ pub fn delete<H: Host>(
         → Does done result (H.world host.old) (H.world host.new) engine.old engine.new t (delete_turn s table.now key) }
 
     // Whatever is in the database: only its two files are touched, and it is open behind that.
-    ensures stays_open { (t : Trail) → IsTrue H.tells → IsOpen (H.world host.old) engine.old t → StaysOpen result (H.world host.old) (H.world host.new) engine.old engine.new NoNames }
+    ensures stays_open { (t : Trail) → IsTrue H.tells → IsOpen (H.world host.old) engine.old t → StaysOpen result (H.world host.old) (H.world host.new) engine.old engine.new t NoNames }
     ensures goes { Goes engine.old engine.new }
     ensures cause { CountsDevice result (H.faults host.old) (H.faults host.new) }
 {

@@ -72,7 +72,7 @@ fn create_in<H: Host>(
     requires placed { IsPlaced engine.old.files.page_size place }
     ensures tries { (t : Trail) → IsTrue H.tells → IsOpen (H.world host.old) engine.old t → IsSoundImage t.base.image → not_kind t.base.image 5 place.page ≡ None
         → Tries result (H.world host.old) (H.world host.new) engine.old engine.new t (no_room (created_in t.base.image table.now place)) (created_in t.base.image table.now place).strokes }
-    ensures stays_open { (t : Trail) → IsTrue H.tells → IsOpen (H.world host.old) engine.old t → StaysOpen result (H.world host.old) (H.world host.new) engine.old engine.new NoNames }
+    ensures stays_open { (t : Trail) → IsTrue H.tells → IsOpen (H.world host.old) engine.old t → StaysOpen result (H.world host.old) (H.world host.new) engine.old engine.new t NoNames }
     ensures goes { Goes engine.old engine.new }
     ensures cause { CountsDevice result (H.faults host.old) (H.faults host.new) }
 {
@@ -94,7 +94,7 @@ fn create_behind<H: Host>(
     requires high { last < 1048576 }
     ensures tries { (t : Trail) → IsTrue H.tells → IsOpen (H.world host.old) engine.old t → IsSoundImage t.base.image → IsLastOf t.base.image last
         → Tries result (H.world host.old) (H.world host.new) engine.old engine.new t (no_room (created_behind t.base.image table.now)) (created_behind t.base.image table.now).strokes }
-    ensures stays_open { (t : Trail) → IsTrue H.tells → IsOpen (H.world host.old) engine.old t → StaysOpen result (H.world host.old) (H.world host.new) engine.old engine.new NoNames }
+    ensures stays_open { (t : Trail) → IsTrue H.tells → IsOpen (H.world host.old) engine.old t → StaysOpen result (H.world host.old) (H.world host.new) engine.old engine.new t NoNames }
     ensures goes { Goes engine.old engine.new }
     ensures cause { CountsDevice result (H.faults host.old) (H.faults host.new) }
 {
@@ -114,7 +114,7 @@ pub fn create<H: Host>(host: &mut H, engine: &mut Engine, table: &TableName) -> 
         → Does done result (H.world host.old) (H.world host.new) engine.old engine.new t (create_turn s table.now) }
 
     // Whatever is in the database: only its two files are touched, and it is open behind that.
-    ensures stays_open { (t : Trail) → IsTrue H.tells → IsOpen (H.world host.old) engine.old t → StaysOpen result (H.world host.old) (H.world host.new) engine.old engine.new NoNames }
+    ensures stays_open { (t : Trail) → IsTrue H.tells → IsOpen (H.world host.old) engine.old t → StaysOpen result (H.world host.old) (H.world host.new) engine.old engine.new t NoNames }
     ensures goes { Goes engine.old engine.new }
     ensures cause { CountsDevice result (H.faults host.old) (H.faults host.new) }
 {

@@ -41,7 +41,7 @@ fn give_back<H: Host>(
     ensures tries { (t : Trail) → IsTrue H.tells → IsOpen (H.world host.old) engine.old t → IsSoundImage t.base.image → 2 ≤ number → not_data t.base.image owner number ≡ None
         → Tries result (H.world host.old) (H.world host.new) engine.old engine.new t None (give_page number (drafted t.base.image)).strokes }
     ensures next { (t : Trail) → IsTrue H.tells → IsOpen (H.world host.old) engine.old t → IfOk result (λ next. next ≡ next_in (page_at t.base.image number)) }
-    ensures stays_open { (t : Trail) → IsTrue H.tells → IsOpen (H.world host.old) engine.old t → StaysOpen result (H.world host.old) (H.world host.new) engine.old engine.new NoNames }
+    ensures stays_open { (t : Trail) → IsTrue H.tells → IsOpen (H.world host.old) engine.old t → StaysOpen result (H.world host.old) (H.world host.new) engine.old engine.new t NoNames }
     ensures goes { Goes engine.old engine.new }
     ensures cause { CountsDevice result (H.faults host.old) (H.faults host.new) }
 {
@@ -62,7 +62,7 @@ fn give_all_back<H: Host>(
     requires room { length page.old ≡ engine.old.files.page_size }
     ensures tries { (t : Trail) (pages : List ℕ) → IsTrue H.tells → IsOpen (H.world host.old) engine.old t → IsSoundImage t.base.image → pages_of (RowsFrom first) t.base.image ≡ Ok pages
         → Tries result (H.world host.old) (H.world host.new) engine.old engine.new t None (all_given pages (drafted t.base.image)).strokes }
-    ensures stays_open { (t : Trail) → IsTrue H.tells → IsOpen (H.world host.old) engine.old t → StaysOpen result (H.world host.old) (H.world host.new) engine.old engine.new NoNames }
+    ensures stays_open { (t : Trail) → IsTrue H.tells → IsOpen (H.world host.old) engine.old t → StaysOpen result (H.world host.old) (H.world host.new) engine.old engine.new t NoNames }
     ensures goes { Goes engine.old engine.new }
     ensures cause { CountsDevice result (H.faults host.old) (H.faults host.new) }
 {
@@ -92,7 +92,7 @@ fn drop_rows<H: Host>(
     requires first { rows.now.first ≡ first_in rows.now.table.bytes }
     ensures tries { (t : Trail) (table : List ℕ) → IsTrue H.tells → IsOpen (H.world host.old) engine.old t → IsSoundImage t.base.image → IsWholeTable t.base.image table (spot_of rows.now.table)
         → Tries result (H.world host.old) (H.world host.new) engine.old engine.new t None (dropped t.base.image (spot_of rows.now.table)).strokes }
-    ensures stays_open { (t : Trail) → IsTrue H.tells → IsOpen (H.world host.old) engine.old t → StaysOpen result (H.world host.old) (H.world host.new) engine.old engine.new NoNames }
+    ensures stays_open { (t : Trail) → IsTrue H.tells → IsOpen (H.world host.old) engine.old t → StaysOpen result (H.world host.old) (H.world host.new) engine.old engine.new t NoNames }
     ensures goes { Goes engine.old engine.new }
     ensures cause { CountsDevice result (H.faults host.old) (H.faults host.new) }
 {
@@ -114,7 +114,7 @@ pub fn drop_table<H: Host>(
         → Does done result (H.world host.old) (H.world host.new) engine.old engine.new t (drop_turn s table.now) }
 
     // Whatever is in the database: only its two files are touched, and it is open behind that.
-    ensures stays_open { (t : Trail) → IsTrue H.tells → IsOpen (H.world host.old) engine.old t → StaysOpen result (H.world host.old) (H.world host.new) engine.old engine.new NoNames }
+    ensures stays_open { (t : Trail) → IsTrue H.tells → IsOpen (H.world host.old) engine.old t → StaysOpen result (H.world host.old) (H.world host.new) engine.old engine.new t NoNames }
     ensures goes { Goes engine.old engine.new }
     ensures cause { CountsDevice result (H.faults host.old) (H.faults host.new) }
 {

@@ -40,7 +40,7 @@ pub(crate) fn put_slot<H: Host>(
     requires placed { IsPlaced engine.old.files.page_size place }
     ensures tries { (t : Trail) → IsTrue H.tells → IsOpen (H.world host.old) engine.old t → IsSoundImage t.base.image → not_kind t.base.image 5 place.page ≡ None
         → Tries result (H.world host.old) (H.world host.new) engine.old engine.new t None (put_slot place.page place.slot bytes.now (drafted t.base.image)).strokes }
-    ensures stays_open { (t : Trail) → IsTrue H.tells → IsOpen (H.world host.old) engine.old t → StaysOpen result (H.world host.old) (H.world host.new) engine.old engine.new NoNames }
+    ensures stays_open { (t : Trail) → IsTrue H.tells → IsOpen (H.world host.old) engine.old t → StaysOpen result (H.world host.old) (H.world host.new) engine.old engine.new t NoNames }
     ensures goes { Goes engine.old engine.new }
     ensures cause { CountsDevice result (H.faults host.old) (H.faults host.new) }
 {
@@ -71,7 +71,7 @@ pub(crate) fn add_slot<H: Host>(
         → room ≡ place_at (free_spot (spots chain t.base.image)) → last ≡ last_of (found_pages chain t.base.image)
         → Tries result (H.world host.old) (H.world host.new) engine.old engine.new t (no_room (place_slot chain (found_pages chain t.base.image) bytes.now (drafted t.base.image)))
         (place_slot chain (found_pages chain t.base.image) bytes.now (drafted t.base.image)).strokes }
-    ensures stays_open { (t : Trail) → IsTrue H.tells → IsOpen (H.world host.old) engine.old t → StaysOpen result (H.world host.old) (H.world host.new) engine.old engine.new NoNames }
+    ensures stays_open { (t : Trail) → IsTrue H.tells → IsOpen (H.world host.old) engine.old t → StaysOpen result (H.world host.old) (H.world host.new) engine.old engine.new t NoNames }
     ensures goes { Goes engine.old engine.new }
     ensures cause { CountsDevice result (H.faults host.old) (H.faults host.new) }
 {

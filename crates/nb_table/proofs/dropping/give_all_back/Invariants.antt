@@ -14,7 +14,7 @@ abbrev pub invariant-loop-left : goal.invariant-loop-left
 invariant-loop-left g l = record {
   giving : (t : Trail) (pages : List ℕ) → IsTrue g.H.Host.tells → IsOpen (g.H.Host.world l.fn.host) l.fn.engine t → IsSoundImage t.base.image → pages_of (RowsFrom l.fn.first) t.base.image ≡ Ok pages
       → IsGiving (RowsFrom l.fn.first) pages (g.H.Host.world l.fn.host) (g.H.Host.world l.host) l.fn.engine l.engine t l.left l.number;
-  stays : (t : Trail) → IsTrue g.H.Host.tells → IsOpen (g.H.Host.world l.fn.host) l.fn.engine t → StaysOpen {T = Unit {0}} (Ok tt) (g.H.Host.world l.fn.host) (g.H.Host.world l.host) l.fn.engine l.engine NoNames;
+  stays : (t : Trail) → IsTrue g.H.Host.tells → IsOpen (g.H.Host.world l.fn.host) l.fn.engine t → StaysOpen {T = Unit {0}} (Ok tt) (g.H.Host.world l.fn.host) (g.H.Host.world l.host) l.fn.engine l.engine t NoNames;
   goes : Goes l.fn.engine l.engine;
   room : length l.page ≡ length l.fn.page;
   cause : g.H.Host.faults l.host ≡ g.H.Host.faults l.fn.host;

@@ -37,4 +37,4 @@ returns-in_err-pages-clause-stays_open g c t tells is = let quiet = c.in_ok-chec
 pub returns-clause-stays_open : goal.returns-clause-stays_open
 returns-clause-stays_open g c t tells is =
     let quiet = c.in_ok-check_copy.ensures.quiet in
-    stays_running _ _ _ _ _ {S = Unit {0}} tt _ (Some c.args.session) _ c.set_running.ensures (stays_still {T = Unit {0}} (Ok tt) _ _ _ _ t _ refl quiet is (open_quiet _ _ _ t quiet is))
+    stays_running _ _ _ _ _ c.start.new.self _ (Some c.args.session) _ c.set_running.ensures (stays_still (Ok c.start.new.self) _ _ _ _ t _ refl quiet is (open_quiet _ _ _ t quiet is))

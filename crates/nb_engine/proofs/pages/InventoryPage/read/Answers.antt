@@ -1,4 +1,4 @@
-use Rattle.std.proofs.Common.{rules, ◌≡◌, ℕ, ◌≤◌, ◌<◌, ◌+◌, List, length, drop, subst, sym}
+use Rattle.std.proofs.Common.{rules, ◌≡◌, ℕ, List, length, drop, subst, sym}
 use Rattle.std.proofs.lemmas.List.{take_at}
 use Rattle.nb_model.specs.Causes.{not_kind}
 use Rattle.nb_engine.specs.Put.{Reads}
