@@ -41,3 +41,4 @@ pub mod FixedRuns
 pub mod GeneratedRuns
 pub mod GeneratedEvents
 pub mod GeneratedSure
+pub mod TouchLaws

@@ -1,5 +1,5 @@
 -- A run that restores a chain: what it does, and what a stop leaves of its target.
-use Rattle.std.proofs.Common.{true≢false, ◌≡◌, ◌≢◌, inl, inr, ⊎_elim, ℕ, List, [], ◌∷◌, ◌++◌, length, true, false, refl, sym, ap, subst, ◌∙◌}
+use Rattle.std.proofs.Common.{true≢false, ◌≡◌, ◌≢◌, inl, inr, ⊎_elim, ℕ, List, [], ◌∷◌, ◌++◌, length, true, refl, sym, ap, subst, ◌∙◌}
 use Rattle.std.specs.Prelude.{Some, Result, Ok, Err, IfOk, OnOk}
 use Rattle.nb_host.specs.Files.{Files}
 use Rattle.nb_host.specs.World.{World}

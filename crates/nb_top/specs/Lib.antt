@@ -1,3 +1,4 @@
 pub mod Requests
 pub mod Performed
 pub mod Worlds
+pub mod Touched

@@ -7,6 +7,7 @@ ghost use Rattle.nb_model.specs.Outcomes.{Given};
 ghost use Rattle.nb_session.specs.Causes.{CountsStop};
 ghost use Rattle.nb_top.specs.Performed.{Knows, RunsTo};
 ghost use Rattle.nb_top.specs.Requests.{ToFix};
+ghost use Rattle.nb_top.specs.Touched.{TouchesAsked};
 
 use crate::Status;
 use crate::script::{refuse, say_line, settled};
@@ -22,6 +23,7 @@ pub(crate) fn run_fix<H: Host>(alloc: Global, host: &mut H, db: &Name) -> Result
     ensures runs { (account : Account) (given : Given) → IsTrue H.tells → Knows (H.world host.old).files account (Ok (ToFix db.now))
         → Foretells given (H.world host.old) (H.world host.new) → RunsTo result (H.world host.old) (H.world host.new) (Ok (ToFix db.now)) account given }
     ensures gave { IsTrue H.tells → GaveNothing (H.world host.old) (H.world host.new) }
+    ensures touches { IsTrue H.tells → TouchesAsked result (H.world host.old) (H.world host.new) (Ok (ToFix db.now)) }
     ensures done { IfOk result (λ status. (status ≡ Status.Done) ⊎ (status ≡ Status.Refused)) }
     ensures cause { CountsStop result (H.faults host.old) (H.faults host.new) }
 {

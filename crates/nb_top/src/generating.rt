@@ -8,6 +8,7 @@ ghost use Rattle.nb_session.specs.Acts.{Grows};
 ghost use Rattle.nb_session.specs.Causes.{CountsStop};
 ghost use Rattle.nb_top.specs.Performed.{Knows, MayBeGiven, RunsTo};
 ghost use Rattle.nb_top.specs.Requests.{ToGenerate};
+ghost use Rattle.nb_top.specs.Touched.{TouchesAsked};
 
 use crate::Status;
 use crate::script::{refuse, run_script, settled};
@@ -31,6 +32,7 @@ pub(crate) fn run_generated<H: Host>(
     ensures runs { (account : Account) (given : Given) → IsTrue H.tells → Knows (H.world host.old).files account (Ok (ToGenerate number name.now)) → MayBeGiven given
         → Foretells given (H.world host.old) (H.world host.new) → RunsTo result (H.world host.old) (H.world host.new) (Ok (ToGenerate number name.now)) account given }
     ensures grows { (account : Account) → IsTrue H.tells → Knows (H.world host.old).files account (Ok (ToGenerate number name.now)) → Grows (H.world host.old) (H.world host.new) }
+    ensures touches { IsTrue H.tells → TouchesAsked result (H.world host.old) (H.world host.new) (Ok (ToGenerate number name.now)) }
     ensures done { IfOk result (λ status. (status ≡ Status.Done) ⊎ (status ≡ Status.Refused)) }
     ensures cause { CountsStop result (H.faults host.old) (H.faults host.new) }
 {

@@ -15,6 +15,7 @@ ghost use Rattle.nb_session.specs.Causes.{CountsStop};
 ghost use Rattle.nb_session.specs.Says.{SaysLine};
 ghost use Rattle.nb_top.specs.Performed.{Knows, MayBeGiven, Performs, RunsTo};
 ghost use Rattle.nb_top.specs.Requests.{FitsJob, ToRun, is_job_built, job_asked, plan_of, request_asked, request_of, script_in, to_run};
+ghost use Rattle.nb_top.specs.Touched.{IsWholeToMerge, TouchesAsked};
 
 use crate::Status;
 use crate::fixing::run_fix;
@@ -34,6 +35,7 @@ fn run_file<H: Host>(alloc: Global, host: &mut H, name: &Name) -> Result<Status,
     ensures runs { (account : Account) (given : Given) → IsTrue H.tells → Knows (H.world host.old).files account (to_run (script_in name.now ((H.world host.old).files name.now)))
         → MayBeGiven given → Foretells given (H.world host.old) (H.world host.new) → RunsTo result (H.world host.old) (H.world host.new) (to_run (script_in name.now ((H.world host.old).files name.now))) account given }
     ensures grows { (account : Account) → IsTrue H.tells → Knows (H.world host.old).files account (to_run (script_in name.now ((H.world host.old).files name.now))) → Grows (H.world host.old) (H.world host.new) }
+    ensures touches { IsTrue H.tells → IsWholeToMerge (H.world host.old).files (to_run (script_in name.now ((H.world host.old).files name.now))) → TouchesAsked result (H.world host.old) (H.world host.new) (to_run (script_in name.now ((H.world host.old).files name.now))) }
     ensures done { IfOk result (λ status. (status ≡ Status.Done) ⊎ (status ≡ Status.Refused)) }
     ensures cause { CountsStop result (H.faults host.old) (H.faults host.new) }
 {
@@ -55,6 +57,7 @@ fn run_asking<H: Host>(
     ensures runs { (account : Account) (given : Given) → IsTrue H.tells → Knows (H.world host.old).files account (Ok (ToRun (plan_of db.now (statement ∷ [])) telling)) → MayBeGiven given → Foretells given (H.world host.old) (H.world host.new)
         → RunsTo result (H.world host.old) (H.world host.new) (Ok (ToRun (plan_of db.now (statement ∷ [])) telling)) account given }
     ensures grows { (account : Account) → IsTrue H.tells → Knows (H.world host.old).files account (Ok (ToRun (plan_of db.now (statement ∷ [])) telling)) → Grows (H.world host.old) (H.world host.new) }
+    ensures touches { IsTrue H.tells → IsWholeToMerge (H.world host.old).files (Ok (ToRun (plan_of db.now (statement ∷ [])) telling)) → TouchesAsked result (H.world host.old) (H.world host.new) (Ok (ToRun (plan_of db.now (statement ∷ [])) telling)) }
     ensures done { IfOk result (λ status. (status ≡ Status.Done) ⊎ (status ≡ Status.Refused)) }
     ensures cause { CountsStop result (H.faults host.old) (H.faults host.new) }
 {
@@ -71,6 +74,7 @@ fn run_stat<H: Host>(alloc: Global, host: &mut H, db: &Name) -> Result<Status, S
         → Foretells given (H.world host.old) (H.world host.new)
         → RunsTo result (H.world host.old) (H.world host.new) (Ok (ToRun (plan_of db.now (ShowHeader ∷ ShowPages ∷ [])) Telling.Quietly)) account given }
     ensures grows { (account : Account) → IsTrue H.tells → Knows (H.world host.old).files account (Ok (ToRun (plan_of db.now (ShowHeader ∷ ShowPages ∷ [])) Telling.Quietly)) → Grows (H.world host.old) (H.world host.new) }
+    ensures touches { IsTrue H.tells → IsWholeToMerge (H.world host.old).files (Ok (ToRun (plan_of db.now (ShowHeader ∷ ShowPages ∷ [])) Telling.Quietly)) → TouchesAsked result (H.world host.old) (H.world host.new) (Ok (ToRun (plan_of db.now (ShowHeader ∷ ShowPages ∷ [])) Telling.Quietly)) }
     ensures done { IfOk result (λ status. (status ≡ Status.Done) ⊎ (status ≡ Status.Refused)) }
     ensures cause { CountsStop result (H.faults host.old) (H.faults host.new) }
 {
@@ -87,6 +91,7 @@ fn run_job<H: Host>(alloc: Global, host: &mut H, job: &Job) -> Result<Status, St
     ensures runs { (account : Account) (given : Given) → IsTrue H.tells → Knows (H.world host.old).files account (request_of (H.world host.old).files job.now)
         → MayBeGiven given → Foretells given (H.world host.old) (H.world host.new) → RunsTo result (H.world host.old) (H.world host.new) (request_of (H.world host.old).files job.now) account given }
     ensures grows { (account : Account) → IsTrue H.tells → Knows (H.world host.old).files account (request_of (H.world host.old).files job.now) → Grows (H.world host.old) (H.world host.new) }
+    ensures touches { IsTrue H.tells → IsWholeToMerge (H.world host.old).files (request_of (H.world host.old).files job.now) → TouchesAsked result (H.world host.old) (H.world host.new) (request_of (H.world host.old).files job.now) }
     ensures done { IfOk result (λ status. (status ≡ Status.Done) ⊎ (status ≡ Status.Refused)) }
     ensures cause { CountsStop result (H.faults host.old) (H.faults host.new) }
 {
@@ -147,6 +152,7 @@ fn do_job<H: Host>(alloc: Global, words: &[String], host: &mut H) -> Result<Stat
     ensures runs { (account : Account) (given : Given) → IsTrue H.tells → Knows (H.world host.old).files account (request_asked (H.world host.old).files (map string_bytes words.now))
         → MayBeGiven given → Foretells given (H.world host.old) (H.world host.new) → RunsTo result (H.world host.old) (H.world host.new) (request_asked (H.world host.old).files (map string_bytes words.now)) account given }
     ensures grows { (account : Account) → IsTrue H.tells → Knows (H.world host.old).files account (request_asked (H.world host.old).files (map string_bytes words.now)) → Grows (H.world host.old) (H.world host.new) }
+    ensures touches { IsTrue H.tells → IsWholeToMerge (H.world host.old).files (request_asked (H.world host.old).files (map string_bytes words.now)) → TouchesAsked result (H.world host.old) (H.world host.new) (request_asked (H.world host.old).files (map string_bytes words.now)) }
     ensures usage { IfOk result (λ status. (status ≡ Status.Usage) ↔ (job_asked (map string_bytes words.now) ≡ None)) }
     ensures done { IfOk result (λ status. (status ≡ Status.Usage) ⊎ ((status ≡ Status.Done) ⊎ (status ≡ Status.Refused))) }
     ensures cause { CountsStop result (H.faults host.old) (H.faults host.new) }
@@ -183,6 +189,13 @@ pub fn run<H: Host>(alloc: Global, words: &[String], host: &mut H) -> Status
     // There are such GUIDs and times.
     ensures grows { (account : Account) → IsTrue H.tells → Knows (H.world host.old).files account (request_asked (H.world host.old).files (map string_bytes words.now))
         → Grows (H.world host.old) (H.world host.new) }
+
+    // Whatever stands in the files, and with no account: at each moment, and at the end, no file is other than a stop would have left it before,
+    // or reads otherwise, but the two of the database that the words ask for and those that the job is to make: the files of the backups and copies that its
+    // statements name, and that of a script which it writes. The answer is Refused or Usage only where a line of a refusal was said. Where
+    // a statement ends in a merge, it is asked that no page of a database that is opened is all zeros.
+    ensures touches { IsTrue H.tells → IsWholeToMerge (H.world host.old).files (request_asked (H.world host.old).files (map string_bytes words.now))
+        → TouchesAsked (Ok result) (H.world host.old) (H.world host.new) (request_asked (H.world host.old).files (map string_bytes words.now)) }
 {
     match do_job(alloc, words, host) {
         Ok(status) => status,

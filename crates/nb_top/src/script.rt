@@ -23,9 +23,11 @@ ghost use Rattle.nb_session.specs.Acts.{Grows};
 ghost use Rattle.nb_session.specs.Causes.{CountsStop};
 ghost use Rattle.nb_session.specs.Ready.{IsReady};
 ghost use Rattle.nb_session.specs.Says.{SaysLine};
+ghost use Rattle.nb_session.specs.StillOpen.{IsStillOpen, ScriptStays, script_merges};
 ghost use Rattle.nb_session.specs.Told.{told_events};
 ghost use Rattle.nb_top.specs.Performed.{Knows, MayBeGiven, RunsTo, PlaysOpened, PlaysTold, first_event, is_all, opened_reply, told_first, told_later, number_of};
 ghost use Rattle.nb_top.specs.Requests.{ToRun};
+ghost use Rattle.nb_top.specs.Touched.{IsWholeToMerge, TouchesAsked};
 
 use crate::Status;
 use crate::telling::Telling;
@@ -161,6 +163,7 @@ fn take_told<H: Host>(
         → Foretells now.given (H.world host.old) (H.world host.new)
         → PlaysTold result (H.world host.old) (H.world host.new) engine.old engine.new t telling engine.old.files.count now script.now.schedule }
     ensures none_waits { IfOk result (λ refused. NoPageWaits engine.new) }
+    ensures stays_open { IsTrue H.tells → IsStillOpen (script_merges script.now) (H.world host.old) engine.old → ScriptStays result (H.world host.old) (H.world host.new) engine.old engine.new script.now }
     ensures grows { (now : Now) (t : Trail) → IsTrue H.tells → IsReady (H.world host.old) engine.old t now → now.todo ≡ begun script.now.sessions → IsMaking now
         → Grows (H.world host.old) (H.world host.new) }
     ensures cause { CountsStop result (H.faults host.old) (H.faults host.new) }
@@ -185,6 +188,7 @@ fn run_opened<H: Host>(
         → PlaysOpened result (H.world host.old) (H.world host.new) engine.old engine.new start
         (told_first telling (first_event script.now.first_session strokes (opened_reply script.now.first engine.old.files.count engine.old.files.state))) telling engine.old.files.count now script.now }
     ensures none_waits { IfOk result (λ refused. NoPageWaits engine.new) }
+    ensures stays_open { IsTrue H.tells → IsStillOpen (script_merges script.now) (H.world host.old) engine.old → ScriptStays result (H.world host.old) (H.world host.new) engine.old engine.new script.now }
     ensures grows { (now : Now) → IsTrue H.tells → IsReady (H.world host.old) engine.old (settled_trail (base_now now)) now → now.todo ≡ begun script.now.sessions → IsMaking now
         → Grows (H.world host.old) (H.world host.new) }
     ensures cause { CountsStop result (H.faults host.old) (H.faults host.new) }
@@ -217,6 +221,7 @@ pub fn run_script<H: Host>(
     ensures runs { (account : Account) (given : Given) → IsTrue H.tells → Knows (H.world host.old).files account (Ok (ToRun script.now telling)) → MayBeGiven given → Foretells given (H.world host.old) (H.world host.new)
         → RunsTo result (H.world host.old) (H.world host.new) (Ok (ToRun script.now telling)) account given }
     ensures grows { (account : Account) → IsTrue H.tells → Knows (H.world host.old).files account (Ok (ToRun script.now telling)) → Grows (H.world host.old) (H.world host.new) }
+    ensures touches { IsTrue H.tells → IsWholeToMerge (H.world host.old).files (Ok (ToRun script.now telling)) → TouchesAsked result (H.world host.old) (H.world host.new) (Ok (ToRun script.now telling)) }
     ensures done { IfOk result (λ status. (status ≡ Status.Done) ⊎ (status ≡ Status.Refused)) }
     ensures cause { CountsStop result (H.faults host.old) (H.faults host.new) }
 {

@@ -10,6 +10,9 @@ use Rattle.nb_top.proofs.JobRuns.{job_refused, unasked_runs, usage_number}
 use Rattle.nb_top.proofs.QuietRuns.{quiet_gave}
 use Rattle.nb_top.proofs.RequestLaws.{asked_read, asked_usage, unread_words}
 use Rattle.nb_top.proofs.ScriptRuns.{runs_err, settled_value, settled_refusal}
+use Rattle.nb_top.proofs.TouchLaws.{touches_err, touches_refused}
+use Rattle.nb_session.proofs.OthersLaws.{leaves_quiet}
+use Rattle.nb_top.specs.Touched.{MayTouch, IsWholeToMerge, TouchesAsked}
 use Rattle.nb_top.proofs.program.do_job.Goals as goal
 
 pub returns-in_err-job-clause-runs : goal.returns-in_err-job-clause-runs
@@ -53,3 +56,26 @@ returns-in-Err-clause-runs g c account given tells knows may told =
 
 pub returns-in-Err-clause-grows : goal.returns-in-Err-clause-grows
 returns-in-Err-clause-grows g c account tells knows = grows_none (g.H.Host.world c.args.host.now) (g.H.Host.world c.refuse_words.new.host) c.refuse_words.ensures.gave
+
+pub returns-in_err-job-clause-touches : goal.returns-in_err-job-clause-touches
+returns-in_err-job-clause-touches g c tells whole =
+    let old = g.H.Host.world c.args.host.now in
+    let request = request_asked old.files (map string_bytes c.args.words.now) in
+    touches_err old old request c.from_residual.result c.from_residual.ensures.0 (leaves_quiet old old (MayTouch request) (quiet_begun old (g.met.H.Host.timely c.args.host.now)))
+
+pub returns-in-Ok-clause-touches : goal.returns-in-Ok-clause-touches
+returns-in-Ok-clause-touches g c tells whole =
+    let old = g.H.Host.world c.args.host.now in
+    let new = g.H.Host.world c.run_job.new.host in
+    let words = map string_bytes c.args.words.now in
+    let read = settled_value c.in_ok-job.field-0 c.in-Ok.job (λ value. c.read_built.result ≡ Ok value) c.in-Ok.is c.in_ok-job.ensures.value in
+    let is = asked_read old.files words c.read_built.result c.in-Ok.job read c.read_built.ensures.job in
+    subst (λ asked. TouchesAsked c.run_job.result old new asked) (sym is) (c.run_job.ensures.touches tells (subst (λ asked. IsWholeToMerge old.files asked) is whole))
+
+pub returns-in-Err-clause-touches : goal.returns-in-Err-clause-touches
+returns-in-Err-clause-touches g c tells whole =
+    let old = g.H.Host.world c.args.host.now in
+    let new = g.H.Host.world c.refuse_words.new.host in
+    let request = request_asked old.files (map string_bytes c.args.words.now) in
+    touches_refused old old new request (leaves_quiet old old (MayTouch request) (quiet_begun old (g.met.H.Host.timely c.args.host.now))) (g.met.H.Host.timely c.refuse_words.new.host) (g.met.H.Host.reads_left c.refuse_words.new.host tells)
+    c.refuse_words.result _ _ (c.refuse_words.ensures.line tells)

@@ -8,6 +8,10 @@ use Rattle.nb_top.specs.Requests.{ToRun, script_in, to_run}
 use Rattle.nb_top.proofs.QuietRuns.{runs_quietly, knows_quietly, quiet_gave, foretold_from}
 use Rattle.nb_top.proofs.JobRuns.{unread_runs, job_refused, script_number}
 use Rattle.nb_top.proofs.ScriptRuns.{runs_err, settled_value, settled_refusal}
+use Rattle.nb_top.proofs.TouchLaws.{touches_err, touches_refused, touches_then}
+use Rattle.nb_session.proofs.OthersLaws.{leaves_quiet}
+use Rattle.nb_top.specs.Touched.{MayTouch, IsWholeToMerge}
+use Rattle.nb_host.specs.Files.{Files}
 use Rattle.nb_top.proofs.program.run_file.Goals as goal
 
 pub returns-in_err-script-clause-runs : goal.returns-in_err-script-clause-runs
@@ -73,3 +77,38 @@ returns-in-Err-clause-grows g c account tells knows =
     let mid = g.H.Host.world c.read_script.new.host in
     let new = g.H.Host.world c.refuse.new.host in
     grows_joined old mid new (grows_none old mid (quiet_gave old mid c.read_script.ensures.quiet)) (grows_none mid new c.refuse.ensures.gave)
+
+pub returns-in_err-script-clause-touches : goal.returns-in_err-script-clause-touches
+returns-in_err-script-clause-touches g c tells whole =
+    let old = g.H.Host.world c.args.host.now in
+    let mid = g.H.Host.world c.read_script.new.host in
+    let name = c.args.name.now in
+    let request = to_run (script_in name (old.files name)) in
+    let quiet = c.read_script.ensures.quiet in
+    let leaves = leaves_quiet old mid (MayTouch request) quiet in
+    touches_err old mid request c.from_residual.result c.from_residual.ensures.0 leaves
+
+pub returns-in-Ok-clause-touches : goal.returns-in-Ok-clause-touches
+returns-in-Ok-clause-touches g c tells whole =
+    let old = g.H.Host.world c.args.host.now in
+    let mid = g.H.Host.world c.read_script.new.host in
+    let name = c.args.name.now in
+    let request = to_run (script_in name (old.files name)) in
+    let quiet = c.read_script.ensures.quiet in
+    let leaves = leaves_quiet old mid (MayTouch request) quiet in
+    let new = g.H.Host.world c.run_script.new.host in
+    let is = settled_value c.in_ok-script.field-0 c.in-Ok.script (λ value. c.read_script.result ≡ Ok value) c.in-Ok.is c.in_ok-script.ensures.value in
+    let read : request ≡ Ok (ToRun c.in-Ok.script All) = ap to_run (subst (λ r. IsRead r (script_in name (old.files name))) is (c.read_script.ensures.read tells)) in
+    touches_then old mid new request leaves c.run_script.result (Ok (ToRun c.in-Ok.script All)) (λ m may. subst (λ asked. MayTouch asked m) (sym read) may)
+    (c.run_script.ensures.touches tells (subst (λ (files : Files). IsWholeToMerge files (Ok (ToRun c.in-Ok.script All))) (sym quiet.still.files) (subst (λ asked. IsWholeToMerge old.files asked) read whole)))
+
+pub returns-in-Err-clause-touches : goal.returns-in-Err-clause-touches
+returns-in-Err-clause-touches g c tells whole =
+    let old = g.H.Host.world c.args.host.now in
+    let mid = g.H.Host.world c.read_script.new.host in
+    let name = c.args.name.now in
+    let request = to_run (script_in name (old.files name)) in
+    let quiet = c.read_script.ensures.quiet in
+    let leaves = leaves_quiet old mid (MayTouch request) quiet in
+    let new = g.H.Host.world c.refuse.new.host in
+    touches_refused old mid new request leaves (g.met.H.Host.timely c.refuse.new.host) (g.met.H.Host.reads_left c.refuse.new.host tells) c.refuse.result _ _ (c.refuse.ensures.line tells)

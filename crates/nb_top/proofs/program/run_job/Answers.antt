@@ -9,6 +9,7 @@ use Rattle.nb_top.specs.Performed.{RunsTo, Knows}
 use Rattle.nb_top.specs.Requests.{FitsJob, ToRun, ToRestore, plan_of, request_of}
 use Rattle.nb_top.specs.declared.telling.Telling.TheVariants.{Quietly}
 use Rattle.nb_top.proofs.RequestLaws.{backup_askable, since_askable}
+use Rattle.nb_top.specs.Touched.{IsWholeToMerge, TouchesAsked}
 use Rattle.nb_top.proofs.program.run_job.Goals as goal
 
 pub returns-in-Run-clause-runs : goal.returns-in-Run-clause-runs
@@ -145,3 +146,70 @@ returns-in-BackupSince-clause-grows g c account tells knows =
     c.run_asking-in-BackupSince.ensures.grows account tells
     (subst (λ name. Knows old.files account (Ok (ToRun (plan_of c.in-BackupSince.db (BackupOf c.in-BackupSince.guid name ∷ [])) Quietly))) (sym c.copied-name-in-BackupSince.ensures)
     (subst (λ job. Knows old.files account (request_of old.files job)) c.in-BackupSince.is knows))
+
+pub returns-in-Run-clause-touches : goal.returns-in-Run-clause-touches
+returns-in-Run-clause-touches g c tells whole =
+    let old = g.H.Host.world c.args.host.now in
+    let new = g.H.Host.world c.run_file.new.host in
+    subst (λ job. TouchesAsked c.run_file.result old new (request_of old.files job)) (sym c.in-Run.is) (c.run_file.ensures.touches tells (subst (λ job. IsWholeToMerge old.files (request_of old.files job)) c.in-Run.is whole))
+
+pub returns-in-Lock-clause-touches : goal.returns-in-Lock-clause-touches
+returns-in-Lock-clause-touches g c tells whole =
+    let old = g.H.Host.world c.args.host.now in
+    let new = g.H.Host.world c.run_asking-in-Lock.new.host in
+    subst (λ job. TouchesAsked c.run_asking-in-Lock.result old new (request_of old.files job)) (sym c.in-Lock.is) (c.run_asking-in-Lock.ensures.touches tells (subst (λ job. IsWholeToMerge old.files (request_of old.files job)) c.in-Lock.is whole))
+
+pub returns-in-Unlock-clause-touches : goal.returns-in-Unlock-clause-touches
+returns-in-Unlock-clause-touches g c tells whole =
+    let old = g.H.Host.world c.args.host.now in
+    let new = g.H.Host.world c.run_asking-in-Unlock.new.host in
+    subst (λ job. TouchesAsked c.run_asking-in-Unlock.result old new (request_of old.files job)) (sym c.in-Unlock.is) (c.run_asking-in-Unlock.ensures.touches tells (subst (λ job. IsWholeToMerge old.files (request_of old.files job)) c.in-Unlock.is whole))
+
+pub returns-in-LockWithSize-clause-touches : goal.returns-in-LockWithSize-clause-touches
+returns-in-LockWithSize-clause-touches g c tells whole =
+    let old = g.H.Host.world c.args.host.now in
+    let new = g.H.Host.world c.run_asking-in-LockWithSize.new.host in
+    subst (λ job. TouchesAsked c.run_asking-in-LockWithSize.result old new (request_of old.files job)) (sym c.in-LockWithSize.is) (c.run_asking-in-LockWithSize.ensures.touches tells (subst (λ job. IsWholeToMerge old.files (request_of old.files job)) c.in-LockWithSize.is whole))
+
+pub returns-in-Stat-clause-touches : goal.returns-in-Stat-clause-touches
+returns-in-Stat-clause-touches g c tells whole =
+    let old = g.H.Host.world c.args.host.now in
+    let new = g.H.Host.world c.run_stat.new.host in
+    subst (λ job. TouchesAsked c.run_stat.result old new (request_of old.files job)) (sym c.in-Stat.is) (c.run_stat.ensures.touches tells (subst (λ job. IsWholeToMerge old.files (request_of old.files job)) c.in-Stat.is whole))
+
+pub returns-in-Restore-clause-touches : goal.returns-in-Restore-clause-touches
+returns-in-Restore-clause-touches g c tells whole =
+    let old = g.H.Host.world c.args.host.now in
+    let new = g.H.Host.world c.run_restore.new.host in
+    subst (λ job. TouchesAsked c.run_restore.result old new (request_of old.files job)) (sym c.in-Restore.is)
+    (subst (λ names. TouchesAsked c.run_restore.result old new (Ok (ToRestore c.in-Restore.db names))) c.as_slice.ensures (c.run_restore.ensures.touches tells))
+
+pub returns-in-Fixup-clause-touches : goal.returns-in-Fixup-clause-touches
+returns-in-Fixup-clause-touches g c tells whole =
+    let old = g.H.Host.world c.args.host.now in
+    let new = g.H.Host.world c.run_fix.new.host in
+    subst (λ job. TouchesAsked c.run_fix.result old new (request_of old.files job)) (sym c.in-Fixup.is) (c.run_fix.ensures.touches tells)
+
+pub returns-in-Gen-clause-touches : goal.returns-in-Gen-clause-touches
+returns-in-Gen-clause-touches g c tells whole =
+    let old = g.H.Host.world c.args.host.now in
+    let new = g.H.Host.world c.run_generated.new.host in
+    subst (λ job. TouchesAsked c.run_generated.result old new (request_of old.files job)) (sym c.in-Gen.is) (c.run_generated.ensures.touches tells)
+
+pub returns-in-Backup-clause-touches : goal.returns-in-Backup-clause-touches
+returns-in-Backup-clause-touches g c tells whole =
+    let old = g.H.Host.world c.args.host.now in
+    let new = g.H.Host.world c.run_asking.new.host in
+    let is = c.copied-name.ensures in
+    subst (λ job. TouchesAsked c.run_asking.result old new (request_of old.files job)) (sym c.in-Backup.is)
+    (subst (λ name. TouchesAsked c.run_asking.result old new (Ok (ToRun (plan_of c.in-Backup.db (Backup c.in-Backup.level name ∷ [])) Quietly))) is
+    (c.run_asking.ensures.touches tells (subst (λ name. IsWholeToMerge old.files (Ok (ToRun (plan_of c.in-Backup.db (Backup c.in-Backup.level name ∷ [])) Quietly))) (sym is) (subst (λ job. IsWholeToMerge old.files (request_of old.files job)) c.in-Backup.is whole))))
+
+pub returns-in-BackupSince-clause-touches : goal.returns-in-BackupSince-clause-touches
+returns-in-BackupSince-clause-touches g c tells whole =
+    let old = g.H.Host.world c.args.host.now in
+    let new = g.H.Host.world c.run_asking-in-BackupSince.new.host in
+    let is = c.copied-name-in-BackupSince.ensures in
+    subst (λ job. TouchesAsked c.run_asking-in-BackupSince.result old new (request_of old.files job)) (sym c.in-BackupSince.is)
+    (subst (λ name. TouchesAsked c.run_asking-in-BackupSince.result old new (Ok (ToRun (plan_of c.in-BackupSince.db (BackupOf c.in-BackupSince.guid name ∷ [])) Quietly))) is
+    (c.run_asking-in-BackupSince.ensures.touches tells (subst (λ name. IsWholeToMerge old.files (Ok (ToRun (plan_of c.in-BackupSince.db (BackupOf c.in-BackupSince.guid name ∷ [])) Quietly))) (sym is) (subst (λ job. IsWholeToMerge old.files (request_of old.files job)) c.in-BackupSince.is whole))))

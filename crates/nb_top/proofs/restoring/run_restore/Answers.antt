@@ -1,10 +1,13 @@
-use Rattle.std.proofs.Common.{◌≡◌}
+use Rattle.std.proofs.Common.{◌≡◌, inl, refl}
 use Rattle.std.specs.Prelude.{Ok, Err}
 use Rattle.nb_host.specs.declared.faults.Fault.TheVariants.{Refused}
 use Rattle.nb_top.specs.Performed.{RunsTo}
 use Rattle.nb_top.specs.Requests.{ToRestore}
 use Rattle.nb_top.proofs.RestoringRuns.{restore_fails, restore_refused, restore_unsaid, restore_done}
 use Rattle.nb_top.proofs.ScriptRuns.{runs_err, settled_value, settled_refusal}
+use Rattle.nb_top.proofs.TouchLaws.{touches_err, touches_refused, touches_done, leaves_only, leaves_said}
+use Rattle.nb_top.specs.Touched.{MayTouch}
+use Rattle.nb_top.specs.declared.status.Status.TheVariants.{Done}
 use Rattle.nb_top.proofs.restoring.run_restore.Goals as goal
 
 pub returns-in_err-pages-clause-runs : goal.returns-in_err-pages-clause-runs
@@ -52,3 +55,40 @@ returns-in-Err-clause-runs g c account given tells knows told =
     let is = settled_refusal c.in_ok-pages.field-0 refusal (λ r. c.restore.result ≡ Err (Refused r)) c.in-Err.is c.in_ok-pages.ensures.refusal in
     let says = c.refuse.ensures.line tells in
     restore_refused old account given db names knows mid c.restore.result (c.restore.ensures.restores tells) refusal is c.refuse.result c.refuse.result new says c.refuse.ensures.ok says.said
+
+pub returns-in_err-pages-clause-touches : goal.returns-in_err-pages-clause-touches
+returns-in_err-pages-clause-touches g c tells =
+    let old = g.H.Host.world c.args.host.now in
+    let mid = g.H.Host.world c.restore.new.host in
+    let request = Ok (ToRestore c.args.db.now c.args.files.now) in
+    let leaves = leaves_only old mid c.args.db.now _ (MayTouch request) (inl (inl refl)) (c.restore.ensures.restores tells).left in
+    touches_err old mid request c.from_residual.result c.from_residual.ensures.0 leaves
+
+pub returns-in_err-say_line-in-Ok-clause-touches : goal.returns-in_err-say_line-in-Ok-clause-touches
+returns-in_err-say_line-in-Ok-clause-touches g c tells =
+    let old = g.H.Host.world c.args.host.now in
+    let mid = g.H.Host.world c.restore.new.host in
+    let request = Ok (ToRestore c.args.db.now c.args.files.now) in
+    let leaves = leaves_only old mid c.args.db.now _ (MayTouch request) (inl (inl refl)) (c.restore.ensures.restores tells).left in
+    let new = g.H.Host.world c.say_line.new.host in
+    touches_err old new request c.from_residual-in_err-say_line-in-Ok.result c.from_residual-in_err-say_line-in-Ok.ensures.0
+    (leaves_said old mid new request leaves (g.met.H.Host.timely c.say_line.new.host) (g.met.H.Host.reads_left c.say_line.new.host tells) c.say_line.result _ (c.say_line.ensures.line tells))
+
+pub returns-in_ok-say_line-in-Ok-clause-touches : goal.returns-in_ok-say_line-in-Ok-clause-touches
+returns-in_ok-say_line-in-Ok-clause-touches g c tells =
+    let old = g.H.Host.world c.args.host.now in
+    let mid = g.H.Host.world c.restore.new.host in
+    let request = Ok (ToRestore c.args.db.now c.args.files.now) in
+    let leaves = leaves_only old mid c.args.db.now _ (MayTouch request) (inl (inl refl)) (c.restore.ensures.restores tells).left in
+    let new = g.H.Host.world c.say_line.new.host in
+    touches_done old new request Done refl
+    (leaves_said old mid new request leaves (g.met.H.Host.timely c.say_line.new.host) (g.met.H.Host.reads_left c.say_line.new.host tells) c.say_line.result _ (c.say_line.ensures.line tells))
+
+pub returns-in-Err-clause-touches : goal.returns-in-Err-clause-touches
+returns-in-Err-clause-touches g c tells =
+    let old = g.H.Host.world c.args.host.now in
+    let mid = g.H.Host.world c.restore.new.host in
+    let request = Ok (ToRestore c.args.db.now c.args.files.now) in
+    let leaves = leaves_only old mid c.args.db.now _ (MayTouch request) (inl (inl refl)) (c.restore.ensures.restores tells).left in
+    let new = g.H.Host.world c.refuse.new.host in
+    touches_refused old mid new request leaves (g.met.H.Host.timely c.refuse.new.host) (g.met.H.Host.reads_left c.refuse.new.host tells) c.refuse.result _ _ (c.refuse.ensures.line tells)

@@ -11,7 +11,8 @@ use Rattle.nb_top.specs.Requests.{ToRun}
 use Rattle.nb_top.proofs.Beginnings.{script_refused, script_now, script_todo, script_given, script_ready, script_making, script_trail, script_ends_early, script_ends}
 use Rattle.nb_top.proofs.BegunRuns.{start}
 use Rattle.nb_top.proofs.QuietRuns.{foretold_from, no_given}
-use Rattle.nb_top.proofs.ScriptRuns.{runs_err, settled_value, settled_refusal, script_begins, first_gave}
+use Rattle.nb_top.proofs.ScriptRuns.{runs_err, settled_value, settled_refusal, script_begins, first_gave, first_opens}
+use Rattle.nb_top.proofs.TouchLaws.{touches_err, touches_refused, opening_leaves, begun_still, turns_leave, turns_end}
 use Rattle.nb_top.proofs.script.run_script.Goals as goal
 
 pub returns-in_err-engine-clause-runs : goal.returns-in_err-engine-clause-runs
@@ -122,3 +123,57 @@ returns-in-Err-clause-grows g c account tells knows =
     grows_joined old mid new (grows_none old mid (first_gave old account no_given plan c.args.telling c.requires.askable knows mid c.open.result
     (λ name size raw cache is. c.open.ensures.creates name size raw cache tells (c.first.ensures ∙ is)) (λ name cache is. c.open.ensures.quiet name cache (c.first.ensures ∙ is))))
     (grows_none mid new c.refuse.ensures.gave)
+
+pub returns-in_err-engine-clause-touches : goal.returns-in_err-engine-clause-touches
+returns-in_err-engine-clause-touches g c tells whole =
+    let old = g.H.Host.world c.args.host.now in
+    let mid = g.H.Host.world c.open.new.host in
+    let plan = c.args.script.now in
+    let first = first_opens plan.first c.requires.askable.first in
+    touches_err old mid (Ok (ToRun plan c.args.telling)) c.from_residual.result c.from_residual.ensures.0 (opening_leaves old mid plan c.args.telling first c.open.result
+    (λ name size raw cache is. c.open.ensures.creates name size raw cache tells (c.first.ensures ∙ is)) (λ name cache is. c.open.ensures.attaches name cache tells (c.first.ensures ∙ is))
+    (λ name cache is. c.open.ensures.quiet name cache (c.first.ensures ∙ is)))
+
+pub returns-in_err-refused-in-Ok-clause-touches : goal.returns-in_err-refused-in-Ok-clause-touches
+returns-in_err-refused-in-Ok-clause-touches g c tells whole =
+    let old = g.H.Host.world c.args.host.now in
+    let mid = g.H.Host.world c.open.new.host in
+    let plan = c.args.script.now in
+    let first = first_opens plan.first c.requires.askable.first in
+    let new = g.H.Host.world c.run_opened.new.host in
+    let held = c.in-Ok.engine in
+    let is = settled_value c.in_ok-engine.field-0 held (λ value. c.open.result ≡ Ok value) c.in-Ok.is c.in_ok-engine.ensures.value in
+    let still = begun_still old mid plan c.args.telling first c.open.result
+    (λ name size raw cache is. c.open.ensures.creates name size raw cache tells (c.first.ensures ∙ is)) (λ name cache is. c.open.ensures.attaches name cache tells (c.first.ensures ∙ is))
+    (λ name cache is. c.open.ensures.quiet name cache (c.first.ensures ∙ is)) held is whole in
+    touches_err old new (Ok (ToRun plan c.args.telling)) c.from_residual-in_err-refused-in-Ok.result c.from_residual-in_err-refused-in-Ok.ensures.0
+    (turns_leave old mid plan c.args.telling first c.open.result
+    (λ name size raw cache is. c.open.ensures.creates name size raw cache tells (c.first.ensures ∙ is)) (λ name cache is. c.open.ensures.attaches name cache tells (c.first.ensures ∙ is))
+    (λ name cache is. c.open.ensures.quiet name cache (c.first.ensures ∙ is)) held is whole new c.run_opened.new.engine _ (c.in_err-refused-in-Ok.ensures.stays_open tells still))
+
+pub returns-in_ok-refused-in-Ok-clause-touches : goal.returns-in_ok-refused-in-Ok-clause-touches
+returns-in_ok-refused-in-Ok-clause-touches g c tells whole =
+    let old = g.H.Host.world c.args.host.now in
+    let mid = g.H.Host.world c.open.new.host in
+    let plan = c.args.script.now in
+    let first = first_opens plan.first c.requires.askable.first in
+    let new = g.H.Host.world c.run_opened.new.host in
+    let held = c.in-Ok.engine in
+    let is = settled_value c.in_ok-engine.field-0 held (λ value. c.open.result ≡ Ok value) c.in-Ok.is c.in_ok-engine.ensures.value in
+    let still = begun_still old mid plan c.args.telling first c.open.result
+    (λ name size raw cache is. c.open.ensures.creates name size raw cache tells (c.first.ensures ∙ is)) (λ name cache is. c.open.ensures.attaches name cache tells (c.first.ensures ∙ is))
+    (λ name cache is. c.open.ensures.quiet name cache (c.first.ensures ∙ is)) held is whole in
+    turns_end old mid plan c.args.telling first c.open.result
+    (λ name size raw cache is. c.open.ensures.creates name size raw cache tells (c.first.ensures ∙ is)) (λ name cache is. c.open.ensures.attaches name cache tells (c.first.ensures ∙ is))
+    (λ name cache is. c.open.ensures.quiet name cache (c.first.ensures ∙ is)) held is whole new c.run_opened.new.engine c.in_ok-refused-in-Ok.refused c.ended.result c.ended.ensures.ended c.ended.ensures.number (c.in_ok-refused-in-Ok.ensures.stays_open tells still)
+
+pub returns-in-Err-clause-touches : goal.returns-in-Err-clause-touches
+returns-in-Err-clause-touches g c tells whole =
+    let old = g.H.Host.world c.args.host.now in
+    let mid = g.H.Host.world c.open.new.host in
+    let plan = c.args.script.now in
+    let first = first_opens plan.first c.requires.askable.first in
+    let new = g.H.Host.world c.refuse.new.host in
+    touches_refused old mid new (Ok (ToRun plan c.args.telling)) (opening_leaves old mid plan c.args.telling first c.open.result
+    (λ name size raw cache is. c.open.ensures.creates name size raw cache tells (c.first.ensures ∙ is)) (λ name cache is. c.open.ensures.attaches name cache tells (c.first.ensures ∙ is))
+    (λ name cache is. c.open.ensures.quiet name cache (c.first.ensures ∙ is))) (g.met.H.Host.timely c.refuse.new.host) (g.met.H.Host.reads_left c.refuse.new.host tells) c.refuse.result _ _ (c.refuse.ensures.line tells)

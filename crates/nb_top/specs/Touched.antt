@@ -1,0 +1,69 @@
+-- What a run leaves alone, whatever stands in the files.
+--
+-- A page of zeros in the main file is no page of the database there, so at the end of a merge such a page would be none. Where a statement of the run
+-- ends in a merge, it is asked that no page of the database that it opens is all zeros. One that it creates has none.
+use Rattle.std.specs.Prelude.{◌≡◌, ◌⊎◌, Bool, true, false, Option, None, Some, Result, Ok, Err, IfOk}
+use Rattle.nb_host.specs.Files.{Files}
+use Rattle.nb_host.specs.World.{World}
+use Rattle.nb_host.specs.declared.refusals.Refusal.{Refusal}
+use Rattle.nb_change.specs.Changes.{Names}
+use Rattle.nb_model.specs.declared.statement.Statement.{Statement}
+use Rattle.nb_model.specs.declared.statement.Statement.TheVariants.{OpenDb}
+use Rattle.nb_model.specs.Account.{Base}
+use Rattle.nb_model.specs.Generated.{generated}
+use Rattle.nb_model.specs.Sound.{HasNoZeros}
+use Rattle.nb_model.specs.Trail.{ShowsIn}
+use Rattle.nb_base.specs.Open.{OfFiles}
+use Rattle.nb_script.specs.Scripts.{Plan, script_of}
+use Rattle.nb_session.specs.MadeNames.{ScriptMakes}
+use Rattle.nb_session.specs.Others.{LeavesOthers, SaysRefusal}
+use Rattle.nb_session.specs.StillOpen.{script_merges}
+use Rattle.nb_session.specs.declared.stop.Stop.{Stop}
+use Rattle.nb_top.specs.declared.status.Status.{Status}
+use Rattle.nb_top.specs.declared.status.Status.TheVariants.{Refused as RefusedStatus, Usage as UsageStatus}
+use Rattle.nb_top.specs.Requests.{Request, ToRun, ToGenerate, ToRestore, ToFix}
+use Rattle.nb_top.specs.Performed.{Target, target_asked}
+
+-- the two files of the database that is asked for
+abbrev pub OfTarget : Option Target → Names
+OfTarget None m = ⊥
+OfTarget (Some target) m = OfFiles target.name m
+
+-- the files that a script may make, where one was read
+abbrev pub ReadMakes : Result Plan Refusal → Names
+ReadMakes (Err refusal) m = ⊥
+ReadMakes (Ok plan) m = ScriptMakes plan m
+
+-- The files that are to be made: those of the backups and copies that statements ask for, and that of a script which is written first.
+abbrev pub AsksToMake : Request → Names
+AsksToMake (ToRun plan telling) m = ScriptMakes plan m
+AsksToMake (ToGenerate number name) m = (m ≡ name) ⊎ ReadMakes (script_of (generated number)) m
+AsksToMake (ToRestore db names) m = ⊥
+AsksToMake (ToFix db) m = ⊥
+
+-- all files that a run may touch
+abbrev pub MayTouch : Result Request Refusal → Names
+MayTouch (Err refusal) m = ⊥
+MayTouch (Ok request) m = OfTarget (target_asked request) m ⊎ AsksToMake request m
+
+-- no page of the database that is opened is all zeros
+abbrev pub OpensWhole : Files → (first : Statement) → Type 0
+OpensWhole files (OpenDb name cache) = (b : Base) → ShowsIn name b files → HasNoZeros b.image
+OpensWhole files other = Unit {0}
+
+-- nor where the script ends in a merge
+abbrev pub IsWholeToMerge : Files → Result Request Refusal → Type 0
+IsWholeToMerge files (Ok (ToRun plan telling)) = script_merges plan ≡ true → OpensWhole files plan.first
+IsWholeToMerge files other = Unit {0}
+
+-- a run that ends so has refused something
+abbrev pub ends_refused : Status → Bool
+ends_refused RefusedStatus = true
+ends_refused UsageStatus = true
+ends_refused other = false
+
+-- Whatever stands in the files: at each moment, and now, of every file that the run may not touch a stop leaves what it would have left before, and
+-- it reads as it did. Where the run ends as one that has refused something, a line said so.
+pub record TouchesAsked (result : Result Status Stop) (old new : World) (asked : Result Request Refusal) : Type 0 where
+  pub leaves : LeavesOthers old new (MayTouch asked)
+  pub says : IfOk result (λ status. ends_refused status ≡ true → SaysRefusal old new)
