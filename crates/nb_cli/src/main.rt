@@ -5,7 +5,7 @@
 //! breaks its form.
 #![tactic(auto)]
 
-ghost use Rattle.std.specs.Prelude.{◌≡◌, ◌≢◌, ◌⊎◌, None, map, string_bytes, IsTrue, IfOk, IfErr};
+ghost use Rattle.std.specs.Prelude.{◌≡◌, ◌≢◌, ◌⊎◌, None, Ok, map, string_bytes, IsTrue, IfOk, IfErr};
 ghost use Rattle.std.specs.Process.{exit_status};
 ghost use Rattle.std.specs.IoError.{error_kind};
 ghost use Rattle.nb_host.specs.Causes.{Rose};
@@ -15,6 +15,7 @@ ghost use Rattle.nb_model.specs.Outcomes.{Given};
 ghost use Rattle.nb_session.specs.Acts.{Grows};
 ghost use Rattle.nb_top.specs.Performed.{Knows, MayBeGiven, Performs};
 ghost use Rattle.nb_top.specs.Requests.{job_asked, request_asked};
+ghost use Rattle.nb_top.specs.Touched.{IsWholeToMerge, TouchesAsked};
 ghost use Rattle.nb_cli.specs.Exit.{number_of};
 
 mod broken;
@@ -65,6 +66,8 @@ fn status_of<H: Host>(alloc: Global, words: io::Result<Vec<String>>, host: &mut 
         → MayBeGiven given → Foretells given (H.world host.old) (H.world host.new)
         → Performs result (H.world host.old) (H.world host.new) (request_asked (H.world host.old).files (map string_bytes words.items)) account given) }
     ensures grows { IfOk words (λ words. (account : Account) → IsTrue H.tells → Knows (H.world host.old).files account (request_asked (H.world host.old).files (map string_bytes words.items)) → Grows (H.world host.old) (H.world host.new)) }
+    ensures touches { IfOk words (λ words. IsTrue H.tells → IsWholeToMerge (H.world host.old).files (request_asked (H.world host.old).files (map string_bytes words.items))
+        → TouchesAsked (Ok result) (H.world host.old) (H.world host.new) (request_asked (H.world host.old).files (map string_bytes words.items))) }
 
     // Others make it Usage, where memory and the host suffice to say so.
     ensures no_text { IfErr words (λ error. error_kind error ≢ ErrorKind.OutOfMemory → (result ≡ Status.Usage) ⊎ (result ≡ Status.Device) ⊎ (result ≡ Status.Memory)) }

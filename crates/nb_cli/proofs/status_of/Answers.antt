@@ -24,3 +24,6 @@ returns-else-eq-clause-no_text g c = rw c.in-Err.is (λ other. others c.run-else
 
 pub returns-in-Ok-clause-grows : goal.returns-in-Ok-clause-grows
 returns-in-Ok-clause-grows g c = rw c.in-Ok.is (rw (sym c.as_slice.ensures.value) c.run.ensures.grows)
+
+pub returns-in-Ok-clause-touches : goal.returns-in-Ok-clause-touches
+returns-in-Ok-clause-touches g c = rw c.in-Ok.is (rw (sym c.as_slice.ensures.value) c.run.ensures.touches)
