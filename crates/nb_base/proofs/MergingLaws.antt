@@ -10,6 +10,7 @@ use Rattle.nb_fields.specs.Bytes.{is_zeros}
 use Rattle.nb_fields.specs.Table.{page_in, slot_place}
 use Rattle.nb_host.specs.Files.{File, Files, bytes_of, with_file, with_page as with_page_at}
 use Rattle.nb_host.specs.World.{World}
+use Rattle.nb_host.specs.Calls.{IsStill}
 use Rattle.nb_change.proofs.NameLaws.{with_file-same, with_file-other}
 use Rattle.nb_change.proofs.ChangesLaws.{rested, composed, all_before}
 use Rattle.nb_delta.specs.Entries.{AreEntries}
@@ -48,10 +49,10 @@ some_same : {j k : ℕ} → Some j ≡ Some k → j ≡ k
 some_same e = cc
 
 -- calls that change nothing
-pub seen_quiet : (old new : World) (name : List ℕ) (t : Trail) → Quiet old new → IsSeen old name t → IsSeen new name t
-seen_quiet old new name t quiet seen = record {
-  left = λ files left. seen.left files (all_before old new quiet.still.left files left);
-  shows = subst (λ (f : Files). ShowsIn name t.base f) (sym quiet.still.files) seen.shows;
+pub seen_still : (old new : World) (name : List ℕ) (t : Trail) → IsStill old new → IsSeen old name t → IsSeen new name t
+seen_still old new name t still seen = record {
+  left = λ files left. seen.left files (all_before old new still.left files left);
+  shows = subst (λ (f : Files). ShowsIn name t.base f) (sym still.files) seen.shows;
 }
 
 pub struck_quiet : (old new : World) (name : List ℕ) (t : Trail) → Quiet old new → IsSeen old name t → StrikesFirm old new name t []

@@ -1,6 +1,6 @@
--- What holds under Ok.
-use Rattle.std.proofs.Common.{◌≡◌}
-use Rattle.std.specs.Prelude.{Result, Ok, Err, OnOk}
+-- What holds under Ok, and what an error that is passed on is.
+use Rattle.std.proofs.Common.{◌≡◌, ap}
+use Rattle.std.specs.Prelude.{Result, Ok, Err, IsErr, IsErrAnd, OnOk}
 use Rattle.nb_host.specs.Calls.{WholeOrNot}
 
 -- at Ok it was done whole
@@ -19,3 +19,8 @@ on_ok_then (Err e) f p = tt
 pub on_ok_both : {T E P Q R : Type 0} (result : Result T E) → (P → Q → R) → OnOk result P → OnOk result Q → OnOk result R
 on_ok_both (Ok x) f p q = f p q
 on_ok_both (Err e) f p q = tt
+
+-- what `?` passes on
+pub passed_on : {T E : Type 0} (result : Result T E) (fault : E) → IsErr result × IsErrAnd result (λ e. e ≡ fault) → result ≡ Err fault
+passed_on (Ok value) fault is = absurd is.1
+passed_on (Err e) fault is = ap Err is.1

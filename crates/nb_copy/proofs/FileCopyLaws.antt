@@ -1,6 +1,7 @@
 -- A copy of the frozen file begins, and its turns.
 use Rattle.std.proofs.Common.{◌≡◌, ⊎_elim, inl, inr, ℕ, ◌≤◌, List, [], ◌∷◌, ◌++◌, length, replicate, refl, sym, ap, subst, ◌∙◌, arith, length-append}
 use Rattle.std.specs.Prelude.{Result, Ok, Err, Some, None}
+use Rattle.nb_fields.specs.Header.{size_of, state_of}
 use Rattle.nb_host.specs.Files.{File}
 use Rattle.nb_host.specs.World.{World}
 use Rattle.nb_host.specs.Crash.{Leaves}
@@ -57,8 +58,8 @@ frozen_parts w held t is stalled =
     let m : File = w.files (name_of held) in
     let d : File = w.files (delta_name (name_of held)) in
     let h : Holds b m d = holds (name_of held) b m d is.files.files.shows in
-    let state : image_state h.main ≡ 1 = sym (base-state b m d h) ∙ sym is.files.files.agrees.state ∙ stalled in
-    let size : image_size h.main ≡ held.files.page_size = sym (base-size b m d h) ∙ sym is.files.files.agrees.page_size in
+    let state : image_state h.main ≡ 1 = sym (base-state b m d h) ∙ ap state_of is.files.waits.behind.first ∙ sym is.files.agrees.state ∙ stalled in
+    let size : image_size h.main ≡ held.files.page_size = sym (base-size b m d h) ∙ ap size_of is.files.waits.behind.first ∙ sym is.files.agrees.page_size in
     subst (IsFrozenOf held.files.page_size) (sym (h.frozen.stalled state) ∙ is.files.waits.behind.frozen) (laid_parts held.files.page_size h.main h.has.bytes h.has.laid size)
 
 -- a copy that begins

@@ -9,9 +9,9 @@ use Rattle.lru.specs.LruCache.{lru_cache, put_entries}
 use Rattle.nb_fields.specs.Bytes.{is_zeros, number_in}
 use Rattle.nb_fields.specs.Places.{is_scn_place}
 use Rattle.nb_fields.specs.Header.{is_header, state_of, size_of}
+use Rattle.nb_host.specs.Calls.{IsStill}
 use Rattle.nb_host.specs.World.{World}
 use Rattle.std.specs.Option.{option_and_then}
-use Rattle.nb_page.specs.Quiet.{Quiet}
 use Rattle.nb_model.specs.Image.{Page, Image, page_at, first_page, image_size, image_state, is_forced}
 use Rattle.nb_model.specs.Account.{Base}
 use Rattle.nb_model.specs.Owner.{entry_for}
@@ -26,7 +26,7 @@ use Rattle.nb_base.specs.Firm.{StandsFirm}
 use Rattle.nb_base.specs.Seen.{IsSeen}
 use Rattle.nb_base.specs.Going.{Drafts}
 use Rattle.nb_base.proofs.LeftLaws.{stroke-stalled, noted-there, noted-new}
-use Rattle.nb_base.proofs.MergingLaws.{seen_quiet}
+use Rattle.nb_base.proofs.MergingLaws.{seen_still}
 use Rattle.nb_base.proofs.OwnedLaws.{entry-first, entry-later, entry-added, entry-front, entry_at, later}
 use Rattle.nb_cache.specs.Held.{Slot, slot_of, rank_of, with_rank, dropped, NoneWaits}
 use Rattle.nb_owner.specs.Open.{Held, Pages, AreOf, waits, IsWaiting, AreDrafted, Waits, IsOpen, IsValid, may_wait, cache_of, rank_in}
@@ -122,8 +122,8 @@ settled_none w held t is none p = by (rank_of held.pages p) refl
     by (Some rank) at = absurd ((is.waits.each p rank at).unsettled none)
 
 -- Calls that change nothing leave it open.
-pub quiet_open : (old new : World) (held : Held) (t : Trail) → Quiet old new → IsOpen old held t → IsOpen new held t
-quiet_open old new held t quiet is = open_of new held is.sees t (seen_quiet old new held.files.name is.sees quiet is.files) is.agrees is.waits is.pages
+pub still_open : (old new : World) (held : Held) (t : Trail) → IsStill old new → IsOpen old held t → IsOpen new held t
+still_open old new held t still is = open_of new held is.sees t (seen_still old new held.files.name is.sees still is.files) is.agrees is.waits is.pages
 
 -- Other pages in memory, of which the same wait.
 wait_same : (es after : Pages) (ps : List ℕ) → ((q : ℕ) → waits es q ≡ true → waits after q ≡ true) → AllByRecursion (λ p. waits es p ≡ true) ps → AllByRecursion (λ p. waits after p ≡ true) ps

@@ -1,8 +1,9 @@
 -- How runs of calls that make strokes go on.
 use Rattle.std.proofs.Common.{◌≡◌, ℕ, List, [], ◌∷◌, ◌++◌, refl, sym, ◌∙◌, subst, ap}
 use Rattle.std.proofs.lemmas.List.{append-nil}
-use Rattle.std.specs.Prelude.{Bool, true, false, Option, Result, Ok, Err, IsErr, IsErrAnd, IfErr}
+use Rattle.std.specs.Prelude.{Bool, true, false, Option, Result, Ok, Err, IfErr}
 use Rattle.nb_host.specs.Files.{Files}
+use Rattle.nb_host.specs.Calls.{IsStill}
 use Rattle.nb_host.specs.World.{World}
 use Rattle.nb_host.specs.declared.faults.Fault.{Fault}
 use Rattle.nb_host.specs.declared.faults.Fault.TheVariants.{Refused, Device, Memory}
@@ -12,23 +13,27 @@ use Rattle.nb_change.proofs.ChangesLaws.{rested}
 use Rattle.nb_change.proofs.ReachedLaws.{after_all-joined, reached_first, reached_front, strokes_composed}
 use Rattle.nb_change.proofs.ChangesLaws.{weaker_has}
 use Rattle.nb_change.proofs.GaveLaws.{nothing_joined}
+pub use Rattle.nb_change.proofs.ResultLaws.{passed_on}
 use Rattle.nb_model.specs.Account.{Base}
 use Rattle.nb_model.specs.Strokes.{Stroke, on_base, base_after}
 use Rattle.nb_model.specs.Trail.{Trail, StandsIn, settles_at, after_stroke, settled, bases_of}
 use Rattle.nb_base.specs.Open.{OfFiles, IsMerged}
 use Rattle.nb_base.specs.Takes.{Strikes, after_strokes, IsNoRefusal}
-use Rattle.nb_owner.proofs.WaitLaws.{quiet_open}
+use Rattle.nb_owner.proofs.WaitLaws.{still_open as pair_still}
 use Rattle.nb_state.specs.Open.{Held, IsOpen, but_pages, name_of, pair_of}
 use Rattle.nb_state.specs.Does.{WhereEnded, WhereRefused, Goes, Makes}
 
 -- a database stays open
-pub open_quiet : (old new : World) (held : Held) (t : Trail) → Quiet old new → IsOpen old held t → IsOpen new held t
-open_quiet old new held t quiet is = record {
-  files = quiet_open old new (pair_of held) t quiet is.files;
+pub still_open : (old new : World) (held : Held) (t : Trail) → IsStill old new → IsOpen old held t → IsOpen new held t
+still_open old new held t still is = record {
+  files = pair_still old new (pair_of held) t still is.files;
   agrees = is.agrees;
-  merged = λ state j low inside. subst (λ (f : Files). IsMerged held.files f j) (sym quiet.still.files) (is.merged state j low inside);
+  merged = λ state j low inside. subst (λ (f : Files). IsMerged held.files f j) (sym still.files) (is.merged state j low inside);
   most = is.most;
 }
+
+pub open_quiet : (old new : World) (held : Held) (t : Trail) → Quiet old new → IsOpen old held t → IsOpen new held t
+open_quiet old new held t quiet is = still_open old new held t quiet.still is
 
 -- and so does what is held of it
 pub open_still : (old new : World) (a b : Held) (t : Trail) → b ≡ a → Quiet old new → IsOpen old a t → IsOpen new b t
@@ -48,11 +53,6 @@ pub after_base : (t : Trail) (xs : List Stroke) → (after_strokes t xs).base �
 unfolding base_after
 after_base t [] = refl
 after_base t (x ∷ xs) = after_base (after_stroke x t) xs ∙ ap (λ (b : Base). base_after b xs) (after_base_one t x)
-
--- what `?` passes on
-pub passed_on : {T : Type 0} (result : Result T Fault) (fault : Fault) → IsErr result × IsErrAnd result (λ f. f ≡ fault) → result ≡ Err fault
-passed_on (Ok value) fault is = absurd is.1
-passed_on (Err e) fault is = ap Err is.1
 
 -- what holds in any case holds where a call ended
 pub where_ended : {T : Type 0} (result : Result T Fault) (P : Type 0) → P → WhereEnded result P

@@ -1,9 +1,8 @@
 -- What is open behind the turns of a backup.
-use Rattle.std.proofs.Common.{◌≡◌, ◌≢◌, ◌⊎◌, ⊎_elim, ℕ, ◌+◌, ◌<◌, ◌≤◌, List, [], ◌∷◌, ◌++◌, length, drop, refl, sym, ap, subst, ◌∙◌, arith, length-append, drop_at}
+use Rattle.std.proofs.Common.{◌≡◌, ◌⊎◌, ⊎_elim, ℕ, ◌+◌, ◌<◌, ◌≤◌, List, [], ◌∷◌, ◌++◌, length, drop, refl, sym, ap, subst, ◌∙◌, arith, length-append, drop_at}
 use Rattle.std.specs.Prelude.{Bool, true, false, Option, Some, None, Result, Ok, Err}
 use Rattle.std.proofs.lemmas.Bool.{eq-eqb, ne_eqb}
 use Rattle.nb_fields.specs.Header.{is_header, state_of}
-use Rattle.nb_host.specs.Files.{Files}
 use Rattle.nb_host.specs.World.{World}
 use Rattle.nb_host.specs.Calls.{IsStill}
 use Rattle.nb_host.specs.Moments.{IsNow, IsTimely, Passes}
@@ -11,54 +10,33 @@ use Rattle.nb_host.specs.declared.refusals.Refusal.{Refusal}
 use Rattle.nb_host.specs.declared.faults.Fault.{Fault}
 use Rattle.nb_host.specs.declared.faults.Fault.TheVariants.{Refused, Device, Memory}
 use Rattle.nb_change.proofs.MomentLaws.{started, untouched_begun}
-use Rattle.nb_change.proofs.ChangesLaws.{all_before, weaker_has}
+use Rattle.nb_change.proofs.ChangesLaws.{weaker_has}
 use Rattle.nb_change.proofs.CallLaws.{still_alone}
 use Rattle.nb_change.proofs.ReachedLaws.{strokes_composed, reached_front}
 use Rattle.nb_model.specs.Image.{Image, first_page, image_state, image_scn, image_guid}
 use Rattle.nb_model.specs.Account.{Ask, Base}
 use Rattle.nb_model.specs.Causes.{Cause}
 use Rattle.nb_model.specs.Strokes.{Stroke, begin, ends, finish, on_base, with_control}
-use Rattle.nb_model.specs.Trail.{Trail, ShowsIn, StandsIn, after_stroke}
+use Rattle.nb_model.specs.Trail.{Trail, StandsIn, after_stroke}
 use Rattle.nb_model.specs.Pages.{end_strokes, end_scn}
 use Rattle.nb_model.proofs.ControlLaws.{control_state}
 use Rattle.nb_model.proofs.HeaderLaws.{header-long, header-room}
 use Rattle.nb_model.proofs.MainLaws.{some_page}
 use Rattle.nb_model.proofs.TrailLaws.{trail_base}
 use Rattle.nb_base.specs.Open.{OfFiles, IsMerged, AreMerged}
-use Rattle.nb_base.specs.Seen.{IsSeen}
 use Rattle.nb_base.specs.Takes.{Strikes}
 use Rattle.nb_base.proofs.ControlLaws.{with_control-first}
 use Rattle.nb_page.specs.Quiet.{Quiet}
 use Rattle.nb_change.specs.Gave.{GaveNothing}
 use Rattle.nb_base.specs.Takes.{after_strokes}
 use Rattle.nb_owner.specs.Open.{IsOpen as PairOpen, but_drafts}
-use Rattle.nb_owner.proofs.WaitLaws.{open_of}
 use Rattle.nb_state.specs.Open.{Held, AgreesWith, IsOpen, name_of, pair_of}
 use Rattle.nb_state.specs.Does.{Tested, unless_by}
 use Rattle.nb_state.specs.Turns.{begin_cause, end_cause, Begins, Ends, Merges}
 use Rattle.nb_state.specs.declared.turns.Progress.{Progress}
 use Rattle.nb_state.proofs.AgreeLaws.{agrees_control}
 use Rattle.nb_state.proofs.MakesLaws.{none_yet, gave_none}
-
--- the two files hold what they held
-still_files : (old new : World) (name : List ℕ) (t : Trail) → IsStill old new → IsSeen old name t → IsSeen new name t
-still_files old new name t still is = record {
-  left = λ files left. is.left files (all_before old new still.left files left);
-  shows = subst (λ (f : Files). ShowsIn name t.base f) (sym still.files) is.shows;
-}
-
--- with what waits
-pub still_pair : (old new : World) (held : Rattle.nb_owner.specs.Open.Held) (t : Trail) → IsStill old new → PairOpen old held t → PairOpen new held t
-still_pair old new held t still is = open_of new held is.sees t (still_files old new held.files.name is.sees still is.files) is.agrees is.waits is.pages
-
--- and so does the database
-pub still_open : (old new : World) (held : Held) (t : Trail) → IsStill old new → IsOpen old held t → IsOpen new held t
-still_open old new held t still is = record {
-  files = still_pair old new (pair_of held) t still is.files;
-  agrees = is.agrees;
-  merged = λ two j low inside. subst (λ (f : Files). IsMerged held.files f j) (sym still.files) (is.merged two j low inside);
-  most = is.most;
-}
+pub use Rattle.nb_state.proofs.MakesLaws.{still_open}
 
 -- no call is quiet
 pub no_call : (w : World) → IsTimely w → Quiet w w

@@ -10,7 +10,7 @@ use Rattle.nb_base.specs.Takes.{StrikesFirm}
 use Rattle.nb_base.specs.contracts.files.TwoFiles.{the_view}
 use Rattle.nb_base.proofs.AgreeLaws.{open_seen, seen_open}
 use Rattle.nb_base.proofs.StrokeLaws.{h0}
-use Rattle.nb_base.proofs.MergingLaws.{number_is, seen_quiet, struck_quiet, struck_joined, its_entry, two, read_as, read_formed, read_size, its_write, merged_next}
+use Rattle.nb_base.proofs.MergingLaws.{number_is, seen_still, struck_quiet, struck_joined, its_entry, two, read_as, read_formed, read_size, its_write, merged_next}
 use Rattle.nb_base.proofs.WriteLaws.{not_done, struck_hidden, hidden_seen}
 use Rattle.nb_base.proofs.files.TwoFiles.merge_entry.Goals as goal
 
@@ -39,7 +39,7 @@ returns-in_err-write_page-clause-takes g c t tells given full =
     let entry = its_entry first _ t is merges full c.args.k inside c.in_ok-number.ensures.apart c.in_ok-number.number names c.in_ok-number.ensures.below c.deref.result.now long in
     let merging = two first _ t is merges full c.args.k inside c.in_ok-number.ensures.apart c.in_ok-number.number names c.in_ok-number.ensures.below c.deref.result.now long in
     let quiet = c.in_ok-read_owned.ensures.quiet in
-    let seen = seen_quiet first mid c.self.inside.name t quiet (open_seen first _ t is) in
+    let seen = seen_still first mid c.self.inside.name t quiet.still (open_seen first _ t is) in
     let hidden =
     struck_hidden c.self.inside.name t c.in_ok-number.number c.deref.result.now write mid (g.met.H.Host.timely _) (g.met.H.Host.reads_left c.read_owned.new.host tells) seen (g.H.Host.world c.write_page.new.self) merging c.args.k entry
     g.H.Host.tells c.write_page.result tells c.write_page.ensures.files c.write_page.ensures.log.said c.write_page.ensures.time in
@@ -74,7 +74,7 @@ returns-clause-takes g c t tells given full =
     let entry = its_entry first _ t is merges full c.args.k inside c.in_ok-number.ensures.apart c.in_ok-number.number names c.in_ok-number.ensures.below c.deref.result.now long in
     let merging = two first _ t is merges full c.args.k inside c.in_ok-number.ensures.apart c.in_ok-number.number names c.in_ok-number.ensures.below c.deref.result.now long in
     let quiet = c.in_ok-read_owned.ensures.quiet in
-    let seen = seen_quiet first mid c.self.inside.name t quiet (open_seen first _ t is) in
+    let seen = seen_still first mid c.self.inside.name t quiet.still (open_seen first _ t is) in
     let hidden =
     struck_hidden c.self.inside.name t c.in_ok-number.number c.deref.result.now write mid (g.met.H.Host.timely _) (g.met.H.Host.reads_left c.read_owned.new.host tells) seen (g.H.Host.world c.write_page.new.self) merging c.args.k entry
     g.H.Host.tells c.write_page.result tells c.write_page.ensures.files c.write_page.ensures.log.said c.write_page.ensures.time in

@@ -4,7 +4,7 @@ use Rattle.nb_base.specs.Open.{AreMerged}
 use Rattle.nb_cache.specs.Held.{NoneWaits}
 use Rattle.nb_owner.specs.Open.{Held, IsOpen}
 use Rattle.nb_owner.specs.contracts.pair.Pair.{the_view}
-use Rattle.nb_owner.proofs.WaitLaws.{quiet_open, files_open, open_settled}
+use Rattle.nb_owner.proofs.WaitLaws.{still_open, files_open, open_settled}
 use Rattle.nb_owner.proofs.pair.Pair.sync_files.Goals as goal
 
 pub returns-in_err-sync-clause-open : goal.returns-in_err-sync-clause-open
@@ -13,7 +13,7 @@ returns-in_err-sync-clause-open g c t tells given =
     let new = g.H.Host.world c.sync.new.host in
     let is = subst (λ (h : Held). IsOpen old h t) (sym c.self.view_is) given in
     subst (λ (f : Rattle.nb_base.specs.Open.Held). let h : Held = record { files = f; pages = c.self.inside.cache.pages; cap = c.self.inside.cache.cap } in IsOpen new h t) (sym c.sync.ensures.same)
-    (quiet_open old new (the_view c.self.inside) t c.sync.ensures.quiet is)
+    (still_open old new (the_view c.self.inside) t c.sync.ensures.quiet.still is)
 
 pub returns-in_err-sync-clause-merged : goal.returns-in_err-sync-clause-merged
 returns-in_err-sync-clause-merged g c k merged = c.sync.ensures.merged k (subst (λ (h : Held). AreMerged (g.H.Host.world c.args.host.now) h.files k) (sym c.self.view_is) merged)
@@ -24,7 +24,7 @@ returns-clause-open g c t tells given =
     let new = g.H.Host.world c.sync.new.host in
     let is = subst (λ (h : Held). IsOpen old h t) (sym c.self.view_is) given in
     subst (λ (f : Rattle.nb_base.specs.Open.Held). let h : Held = record { files = f; pages = c.self.inside.cache.pages; cap = c.self.inside.cache.cap } in IsOpen new h t) (sym c.sync.ensures.same)
-    (quiet_open old new (the_view c.self.inside) t c.sync.ensures.quiet is)
+    (still_open old new (the_view c.self.inside) t c.sync.ensures.quiet.still is)
 
 pub returns-clause-settled : goal.returns-clause-settled
 returns-clause-settled g c t tells given =

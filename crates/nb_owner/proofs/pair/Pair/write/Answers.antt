@@ -1,10 +1,10 @@
-use Rattle.std.proofs.Common.{◌≡◌, ℕ, List, [], ◌∷◌, inl, refl, sym, subst, ap, ◌∙◌, arith}
-use Rattle.std.specs.Prelude.{is_some, nat_eq, Result, Ok, Err, IsErr, IsErrAnd}
-use Rattle.nb_host.specs.declared.faults.Fault.{Fault}
+use Rattle.std.proofs.Common.{ℕ, List, [], ◌∷◌, inl, refl, sym, subst, ap, ◌∙◌, arith}
+use Rattle.std.specs.Prelude.{is_some, nat_eq}
 use Rattle.std.proofs.lemmas.Bool.{true≢false}
 use Rattle.lru.specs.LruCache.{lru_cache, put_entries}
 use Rattle.nb_change.proofs.ChangesLaws.{begun, weaker_has}
 use Rattle.nb_change.proofs.ReachedLaws.{strokes_composed}
+use Rattle.nb_change.proofs.ResultLaws.{passed_on}
 use Rattle.nb_change.specs.Changes.{Reached}
 use Rattle.nb_model.specs.Strokes.{page}
 use Rattle.nb_model.specs.Trail.{StandsIn, after_stroke}
@@ -121,11 +121,6 @@ pub returns-clause-used : goal.returns-clause-used
 returns-clause-used g c =
     c.in_ok-write_through.ensures.used ∙ ap (λ ps. used ps c.write_out.new.self.cap c.args.number c.args.page.now) c.write_out.ensures.bare
     ∙ ap (λ cap. used (bare c.args.self.now.pages) cap c.args.number c.args.page.now) c.write_out.ensures.cap
-
--- what `?` passes on
-passed_on : {T : Type 0} (result : Result T Fault) (fault : Fault) → IsErr result × IsErrAnd result (λ f. f ≡ fault) → result ≡ Err fault
-passed_on (Ok value) fault is = absurd is.1
-passed_on (Err e) fault is = ap Err is.1
 
 pub returns-in_err-write_through-clause-on_memory : goal.returns-in_err-write_through-clause-on_memory
 returns-in_err-write_through-clause-on_memory g c t tells is memory =
