@@ -1,7 +1,7 @@
 // Statements on tables that were drawn, in every backup state, beside maps that say what each must answer.
 ghost use Rattle.std.specs.Prelude.{◌<◌};
 
-use crate::tests::{host_after, lines_of};
+use crate::runs::{host_after, lines_of};
 use nb_mem::MemHost;
 use std::alloc::Global;
 use std::collections::BTreeMap;

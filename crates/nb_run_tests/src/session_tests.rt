@@ -36,50 +36,6 @@ fn is_told(
     Ok(refused == is_refused && host.output() == lines)
 }
 
-const MERGED: &[u8] = b"1: create database 'm.db' page_size 1024 raw 8
-schedule 1 1 1 1 1 1 1 1 1 2
-1: alter database begin backup
-1: write 5 'x'
-1: write 6 'x'
-1: write 7 'x'
-1: write 8 'x'
-1: alter database end backup
-2: write 6 'y'
-";
-
-#[test]
-fn a_page_is_written_while_another_session_merges(rt: HostRuntime) -> Result<(), Fail> {
-    let wanted = b"1: ok scn 2
-1: ok
-1: ok
-1: ok
-1: ok
-2: ok
-1: ok scn 3
-";
-    assert!(rt; is_told(rt.alloc(), MERGED, Told::Whole, false, wanted)?);
-    Ok(())
-}
-
-const ENDED_TWICE: &[u8] = b"1: create database 'm.db' page_size 1024 raw 8
-schedule 1 1 1 2
-1: alter database begin backup
-1: write 6 'x'
-1: alter database end backup
-2: alter database end backup
-";
-
-#[test]
-fn no_other_session_ends_it_meanwhile(rt: HostRuntime) -> Result<(), Fail> {
-    let wanted = b"1: ok scn 2
-1: ok
-2: refused 27 BackupRunning 1
-1: ok scn 3
-";
-    assert!(rt; is_told(rt.alloc(), ENDED_TWICE, Told::Whole, true, wanted)?);
-    Ok(())
-}
-
 const FEW: &[u8] = b"1: create database 'm.db' page_size 1024 raw 8
 1: write 5 'x'
 1: read 99
