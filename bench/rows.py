@@ -1,6 +1,6 @@
 """Sessions on real files, with every line that they must say, how they end, and what their files then have.
 
-The same sessions run over a host in memory in `nb_run_tests`. GUIDs are drawn anew on real files: the k-th that is said stands for `Gk`,
+Sessions such as these are played on a host in memory by `nb_trials`. GUIDs are drawn anew on real files: the k-th that is said stands for `Gk`,
 here as there. Each session begins in a folder of its own, or goes on from the files of the one that it names.
 """
 

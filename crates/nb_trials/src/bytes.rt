@@ -1,4 +1,5 @@
 // Bytes as a text of trials has them: a number in hex for each, and `00*12` for twelve zeros.
+use crate::line::number_in;
 use anyhow::{Context, Result};
 use std::alloc::{AllocError, Global};
 
@@ -31,7 +32,7 @@ fn write_each(text: &mut String, bytes: &[u8]) -> Result<(), AllocError> {
 fn read_equal(word: &str) -> Option<(u8, usize)> {
     let (byte, count) = word.split_once('*').unwrap_or((word, "1"));
     let byte = u8::from_str_radix(byte, 16).ok()?;
-    Some((byte, count.parse().ok()?))
+    Some((byte, number_in(count)?))
 }
 
 /// The bytes of such a text.

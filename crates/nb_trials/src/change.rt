@@ -1,6 +1,6 @@
 // What is done to a file between two runs.
 use crate::bytes::read_bytes;
-use crate::line::{Line, text_below};
+use crate::line::{Line, number_in, text_below};
 use anyhow::{Context, Result};
 use nb_host::Name;
 use nb_mem::MemHost;
@@ -29,9 +29,9 @@ impl<'a> Change<'a> {
             "put" => Some(Change::Put(rest)),
             "set" => {
                 let (at, bytes) = rest.split_once(' ')?;
-                Some(Change::Set(at.parse().ok()?, bytes))
+                Some(Change::Set(number_in(at)?, bytes))
             }
-            "cut" => Some(Change::Cut(rest.parse().ok()?)),
+            "cut" => Some(Change::Cut(number_in(rest)?)),
             "copy" => Some(Change::Copy(rest)),
             _ => None,
         }

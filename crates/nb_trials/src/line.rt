@@ -34,13 +34,18 @@ pub fn parted<'a>(lines: &'a [Line<'a>], word: &str) -> (&'a [Line<'a>], &'a [Li
     lines.split_at_checked(count).unwrap_or((lines, &[]))
 }
 
+/// The number that a word says.
+pub fn number_in(word: &str) -> Option<usize> {
+    word.parse().ok()
+}
+
 /// A line for each number from the first to the last, in place of `#`.
 fn push_each(
     alloc: Global,
     text: &mut String,
     line: &str,
-    first: u32,
-    last: u32,
+    first: usize,
+    last: usize,
 ) -> Result<(), AllocError> {
     for number in first..=last {
         let number = format!(in alloc; "{number}")?;
@@ -52,10 +57,10 @@ fn push_each(
 }
 
 /// `FIRST LAST LINE`: the line for each of these numbers.
-fn numbered(line: &str) -> Option<(u32, u32, &str)> {
+fn numbered(line: &str) -> Option<(usize, usize, &str)> {
     let (first, behind) = line.split_once(' ')?;
     let (last, line) = behind.split_once(' ')?;
-    Some((first.parse().ok()?, last.parse().ok()?, line))
+    Some((number_in(first)?, number_in(last)?, line))
 }
 
 fn push_line(alloc: Global, text: &mut String, line: &str) -> Result<(), AllocError> {

@@ -2,7 +2,7 @@
 //! end, and what was asked of the files is told, in the order of the text.
 //!
 //! It rests on `nb_top`, whose `run` is the whole program, and on `nb_mem`. The text is data, so a trial costs no proof. `stdin` has the
-//! trials, with the words of `change`, `show`, `play` and `stop`, and `stdout` what they must tell.
+//! trials, and says at its head how they are written, and `stdout` what they must tell.
 #![tactic(auto)]
 
 mod bytes;
@@ -13,6 +13,7 @@ mod row;
 mod show;
 mod stop;
 mod trial;
+mod verdict;
 
 use anyhow::{Context, Result};
 use change::keep;

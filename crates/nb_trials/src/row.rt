@@ -1,12 +1,17 @@
 // What may be said of a database that a stop leaves.
-use crate::line::Line;
+use crate::line::{Line, number_in};
 
-/// Whether a number of replies is that of a row, or within its range: `3`, or `0-4`.
-fn is_within(numbers: &str, replies: usize) -> bool {
+/// The first and the last number of replies of a row: `3`, or `0-4`.
+fn replies_in(numbers: &str) -> Option<(usize, usize)> {
     let (first, last) = numbers.split_once('-').unwrap_or((numbers, numbers));
-    match (first.parse::<usize>(), last.parse::<usize>()) {
-        (Ok(first), Ok(last)) => first <= replies && replies <= last,
-        _ => false,
+    Some((number_in(first)?, number_in(last)?))
+}
+
+/// Whether a row is for so many replies.
+fn is_within(numbers: &str, replies: usize) -> bool {
+    match replies_in(numbers) {
+        Some((first, last)) => first <= replies && replies <= last,
+        None => false,
     }
 }
 

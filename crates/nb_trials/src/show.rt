@@ -1,6 +1,7 @@
 // What is told of a file.
 use crate::bytes::write_bytes;
 use crate::change::file_of;
+use crate::line::number_in;
 use nb_mem::MemHost;
 use sha2::{Digest, Sha256};
 use std::alloc::{AllocError, Global};
@@ -33,9 +34,9 @@ impl<'a> Show<'a> {
             "length" => Some(Show::Length),
             "bytes" => {
                 let (at, count) = rest.split_once(' ')?;
-                Some(Show::Bytes(at.parse().ok()?, count.parse().ok()?))
+                Some(Show::Bytes(number_in(at)?, number_in(count)?))
             }
-            "line" => Some(Show::Line(rest.parse().ok()?)),
+            "line" => Some(Show::Line(number_in(rest)?)),
             "digest" => Some(Show::Digest),
             "same" => Some(Show::Same(rest)),
             "between" => {

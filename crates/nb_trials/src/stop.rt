@@ -3,6 +3,7 @@ use crate::change::{file_of, keep};
 use crate::play::{Told, play, tell_line};
 use crate::row::may_be_said;
 use crate::trial::Trial;
+use crate::verdict::{Calls, Kind, Verdict};
 use anyhow::{Context, Result};
 use nb_mem::MemHost;
 use std::alloc::{AllocError, Global};
@@ -13,67 +14,6 @@ pub struct Case<'a> {
     pub trial: Trial<'a>,
     pub base: &'a MemHost,
     pub whole: &'a MemHost,
-}
-
-#[derive(Clone, Copy)]
-enum Kind {
-    /// The call fails, and each one behind it.
-    Stopped,
-    /// It fails alone.
-    Failing,
-}
-
-/// Which calls are stopped, one in each run.
-#[derive(Clone, Copy)]
-enum Calls {
-    /// Each one, and where it is a stop, the one behind the last, so that nothing is stopped.
-    All,
-    /// `to NUMBER`: those up to that one.
-    To(u64),
-    /// `last NUMBER`: the first of so many at the end.
-    Last(u64),
-    /// `before REPLY NUMBER`: so many calls before the one that says that reply.
-    Before(usize, u64),
-}
-
-/// What is judged: `stops PICKS` or `fails PICKS`, and of which calls.
-#[derive(Clone, Copy)]
-struct Verdict {
-    kind: Kind,
-    /// So many picks are tried of what a stop then leaves.
-    picks: u64,
-    calls: Calls,
-}
-
-fn read_calls(words: &str) -> Option<Calls> {
-    let (word, rest) = words.split_once(' ').unwrap_or((words, ""));
-    match word {
-        "" => Some(Calls::All),
-        "to" => Some(Calls::To(rest.parse().ok()?)),
-        "last" => Some(Calls::Last(rest.parse().ok()?)),
-        "before" => {
-            let (reply, number) = rest.split_once(' ')?;
-            Some(Calls::Before(reply.parse().ok()?, number.parse().ok()?))
-        }
-        _ => None,
-    }
-}
-
-impl Verdict {
-    fn read(line: &str) -> Option<Verdict> {
-        let (word, rest) = line.split_once(' ')?;
-        let kind = match word {
-            "stops" => Kind::Stopped,
-            "fails" => Kind::Failing,
-            _ => return None,
-        };
-        let (picks, calls) = rest.split_once(' ').unwrap_or((rest, ""));
-        Some(Verdict {
-            kind,
-            picks: picks.parse().ok()?,
-            calls: read_calls(calls)?,
-        })
-    }
 }
 
 fn replies_of(host: &MemHost) -> usize {

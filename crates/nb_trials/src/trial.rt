@@ -8,9 +8,9 @@ pub const TITLE: &str = "== ";
 #[derive(Clone, Copy)]
 pub struct Trial<'a> {
     pub name: &'a str,
-    /// What is done before the trial begins. None of it is stopped.
+    /// What is done first. None of it is stopped.
     pub before: &'a [Line<'a>],
-    /// `begin NAME..`: the trial begins on a new host with these files.
+    /// `begin NAME..`: what is stopped begins on a new host with these files.
     pub kept: &'a str,
     pub steps: &'a [Line<'a>],
     /// `look`: what is asked of what a stop leaves.
@@ -32,16 +32,11 @@ fn parted_below<'a>(lines: &'a [Line<'a>]) -> (&'a [Line<'a>], &'a [Line<'a>]) {
     lines.split_at_checked(count).unwrap_or((lines, &[]))
 }
 
-/// The steps before the trial begins, the names of the files with which it does, and the steps behind.
-fn parted_where_begun<'a>(lines: &'a [Line<'a>]) -> (&'a [Line<'a>], &'a str, &'a [Line<'a>]) {
-    let (before, rest) = parted(lines, "begin ");
-    match rest.split_first() {
-        Some((begin, steps)) => (
-            before,
-            begin.text.strip_prefix("begin ").unwrap_or(""),
-            steps,
-        ),
-        None => (&[], "", lines),
+/// The names in the line that begins what is stopped.
+fn names_in<'a>(begun: &'a [Line<'a>]) -> &'a str {
+    match begun.first() {
+        Some(line) => line.text.strip_prefix("begin").unwrap_or(""),
+        None => "",
     }
 }
 
@@ -51,14 +46,14 @@ impl<'a> Trial<'a> {
         let (title, body) = lines.split_first()?;
         let name = title.text.strip_prefix(TITLE)?;
         let (played, judged) = parted(body, "look");
-        let (before, kept, steps) = parted_where_begun(played);
+        let (before, begun) = parted(played, "begin");
         let (look, judged) = parted(behind(judged), "rows");
         let (rows, verdicts) = parted_below(behind(judged));
         Some(Trial {
             name,
             before,
-            kept,
-            steps,
+            kept: names_in(begun),
+            steps: behind(begun),
             look,
             rows,
             verdicts,
