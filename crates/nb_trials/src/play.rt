@@ -20,6 +20,10 @@ enum Step<'a> {
     Change(&'a str, Change<'a>),
     /// Something is asked of the file of that name.
     Show(&'a str, Show<'a>),
+    /// `calls`: how many calls of the host the last run made.
+    Calls,
+    /// `reads`: how many of them read bytes of a file.
+    Reads,
 }
 
 impl<'a> Step<'a> {
@@ -29,6 +33,8 @@ impl<'a> Step<'a> {
             "run" => Some(Step::Script(below)),
             "words" => Some(Step::Words(rest)),
             "keep" => Some(Step::Keep(rest)),
+            "calls" => Some(Step::Calls),
+            "reads" => Some(Step::Reads),
             _ => {
                 let (name, rest) = rest.split_once(' ').unwrap_or((rest, ""));
                 match Change::read(verb, rest, below) {
@@ -46,6 +52,9 @@ pub struct Told {
     pub text: String,
     /// Whether it is told, too, how each run ends.
     pub with_ends: bool,
+    /// How many calls, and reads, the host had counted as the last run began.
+    calls: u64,
+    reads: u64,
 }
 
 impl Told {
@@ -53,6 +62,8 @@ impl Told {
         Told {
             text: String::new(alloc),
             with_ends,
+            calls: 0,
+            reads: 0,
         }
     }
 }
@@ -84,9 +95,16 @@ fn tell_run(host: &MemHost, before: usize, status: Status, told: &mut Told) -> R
 /// Does what the words of a line ask, and tells it. It answers whether the host can go on.
 pub fn tell_line(alloc: Global, host: &mut MemHost, line: &str, told: &mut Told) -> Result<bool> {
     let before = host.output().len();
+    told.calls = host.calls();
+    told.reads = host.read_count();
     let status = run_line(alloc, host, line)?;
     tell_run(host, before, status, told)?;
     Ok(status != Status::Device)
+}
+
+/// Tells how far a count has gone since the last run began.
+fn tell_count(count: u64, before: u64, what: &str, text: &mut String) -> Result<(), AllocError> {
+    write!(text, "{} {what}\n", count.saturating_sub(before))
 }
 
 fn do_step(alloc: Global, host: &mut MemHost, step: Step, told: &mut Told) -> Result<bool> {
@@ -99,6 +117,8 @@ fn do_step(alloc: Global, host: &mut MemHost, step: Step, told: &mut Told) -> Re
         Step::Keep(names) => keep_alone(alloc, host, names)?,
         Step::Change(name, change) => change_file(alloc, host, name, change)?,
         Step::Show(name, asked) => tell_file(alloc, host, name, asked, &mut told.text)?,
+        Step::Calls => tell_count(host.calls(), told.calls, "calls", &mut told.text)?,
+        Step::Reads => tell_count(host.read_count(), told.reads, "reads", &mut told.text)?,
     }
     Ok(true)
 }
