@@ -9,6 +9,7 @@ use Rattle.nb_model.specs.Turns.{first_turn}
 use Rattle.nb_engine.specs.Replies.{done, page_made, valued, scn_is}
 use Rattle.nb_shown.specs.Replies.{pages_shown, image_shown}
 use Rattle.nb_state.specs.Open.{Held}
+use Rattle.nb_session.specs.Askers.{GoesByInventories}
 use Rattle.nb_session.specs.Replies.{some_said}
 use Rattle.nb_session.proofs.ActLaws.{some_by, does_acts, may_passed, may_then_memory, may_value, sync_acts, sync_failed, begin_acts}
 use Rattle.nb_session.proofs.HeaderLaws.{header_does}
@@ -65,7 +66,7 @@ returns-in_err-page-in-PageNew-clause-turn g c now t session tells ready sound =
     let s = seen_now now in
     may_passed (some_by page_made) some_said _ _ _ _ t now session _ [] _ c.from_residual-in_err-page-in-PageNew.result c.from_residual-in_err-page-in-PageNew.ensures
     (does_acts page_made _ _ _ _ _ t now session c.args.statement.now _ c.in-PageNew.is refl refl c.requires.asked.is_built _ refl ready (λ value tells. absurd (true≢false (sym tells)))
-    (c.in_err-page-in-PageNew.ensures.turn s t tells ready.base ready.opened (subst (λ (b : Base). IsSoundImage b.image) ready.base sound)))
+    (c.in_err-page-in-PageNew.ensures.turn s t tells ready.base ready.opened (subst (λ (b : Base). IsSoundImage b.image) ready.base (sound (subst GoesByInventories (sym c.in-PageNew.is) tt)))))
 
 pub returns-in_ok-page-in-PageNew-clause-turn : goal.returns-in_ok-page-in-PageNew-clause-turn
 unfolding first_turn
@@ -73,7 +74,7 @@ returns-in_ok-page-in-PageNew-clause-turn g c now t session tells ready sound =
     let s = seen_now now in
     may_value (some_by page_made) some_said _ _ _ _ t now session _ [] c.in_ok-page-in-PageNew.page (PageMade c.in_ok-page-in-PageNew.page) refl
     (does_acts page_made _ _ _ _ _ t now session c.args.statement.now _ c.in-PageNew.is refl refl c.requires.asked.is_built _ refl ready (λ value tells. absurd (true≢false (sym tells)))
-    (c.in_ok-page-in-PageNew.ensures.turn s t tells ready.base ready.opened (subst (λ (b : Base). IsSoundImage b.image) ready.base sound)))
+    (c.in_ok-page-in-PageNew.ensures.turn s t tells ready.base ready.opened (subst (λ (b : Base). IsSoundImage b.image) ready.base (sound (subst GoesByInventories (sym c.in-PageNew.is) tt)))))
 
 pub returns-in_err-page_free-in-Free-clause-turn : goal.returns-in_err-page_free-in-Free-clause-turn
 unfolding first_turn
