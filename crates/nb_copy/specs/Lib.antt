@@ -1,5 +1,4 @@
 pub mod Making
-pub mod Touching
 pub mod Copying
 pub mod Gathering
 pub mod LevelCopying

@@ -10,7 +10,7 @@ ghost use Rattle.nb_state.specs.Open.{IsOpen};
 ghost use Rattle.nb_copy.specs.FileCopying.{file_name, file_page_size, file_count, file_next, file_written, whole_file, IsFileCopying, IsSameFile, FileTurn, FileCounts};
 ghost use Rattle.nb_copy.specs.FileStarting.{IsNewFile, IsStartedFile};
 ghost use Rattle.nb_copy.specs.Making.{IsUnfinishedOr};
-ghost use Rattle.nb_copy.specs.Touching.{Touches};
+ghost use Rattle.nb_base.specs.Touches.{Touches};
 
 use crate::level_copy::LevelCopy;
 use crate::page_copy::PageCopy;
@@ -86,7 +86,7 @@ impl FileCopy {
             → Changes (H.world host.old) (H.world host.new) (Only (file_name self.old)) (Remade (H.world host.old) (file_name self.old) (IsUnfinishedOr (whole_file self.old t.base.frozen))) }
         ensures answer { (t : Trail) → IsTrue H.tells → IsOpen (H.world host.old) engine.old t → engine.old.files.state ≡ 1 → IsFileCopying (H.world host.old) self.old t.base.frozen
             → FileTurn result (H.world host.new) self.old self.new t.base.frozen }
-        ensures touches { IsTrue H.tells → Touches (H.world host.old) (H.world host.new) (file_name self.old) }
+        ensures touches { IsTrue H.tells → Touches (H.world host.old) (H.world host.new) (Only (file_name self.old)) }
         ensures same { (frozen : Image) → OnOk result (IsSameFile self.old self.new frozen) }
         ensures counts { FileCounts result self.old self.new }
         ensures name { file_name self.new ≡ file_name self.old }

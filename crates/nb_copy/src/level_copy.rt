@@ -11,7 +11,7 @@ ghost use Rattle.nb_state.specs.Open.{IsOpen};
 ghost use Rattle.nb_copy.specs.Gathering.{HasTaken};
 ghost use Rattle.nb_copy.specs.LevelCopying.{HasEntriesOf, IsFresh, IsLevelBegun, IsLevelCopying, IsLevelOf, taken_below, whole_level};
 ghost use Rattle.nb_copy.specs.Making.{IsUnfinished, IsUnfinishedOr};
-ghost use Rattle.nb_copy.specs.Touching.{Touches};
+ghost use Rattle.nb_base.specs.Touches.{Touches};
 ghost use Rattle.nb_copy.specs.Turns.{Fetched, LevelTurn, LevelCounts};
 
 use crate::level_file::LevelFile;
@@ -158,7 +158,7 @@ impl LevelCopy {
             → Changes (H.world host.old) (H.world host.new) (Only self.old.file.name) (Remade (H.world host.old) self.old.file.name IsUnfinished) }
         ensures begun { (t : Trail) → IsTrue H.tells → IsOpen (H.world host.old) engine.old t → engine.old.files.state ≡ 1 → IsLevelOf self.old t.base.frozen → IsFresh self.old
             → OnOk result (HasTaken (H.world host.new) self.new.file (taken_below 1 self.old t.base.frozen)) }
-        ensures touches { IsTrue H.tells → Touches (H.world host.old) (H.world host.new) self.old.file.name }
+        ensures touches { IsTrue H.tells → Touches (H.world host.old) (H.world host.new) (Only self.old.file.name) }
         ensures same { OnOk result (self.new ≡ record self.old { file = record self.old.file { written = self.new.file.written; run = self.new.file.run }; next = 1; page = self.new.page }) }
         ensures name { self.new.file.name ≡ self.old.file.name }
         ensures size { self.new.file.head.page_size ≡ self.old.file.head.page_size }
@@ -184,7 +184,7 @@ impl LevelCopy {
             → OnOk result (HasTaken (H.world host.new) self.new.file (taken_below (self.old.next + 1) self.old t.base.frozen)) }
         ensures entries { (t : Trail) → IsTrue H.tells → IsOpen (H.world host.old) engine.old t → engine.old.files.state ≡ 1 → IsLevelOf self.old t.base.frozen → HasEntriesOf self.old t.base.frozen
             → OnOk result (self.new.scn_page ≡ page_at t.base.frozen (scn_page_of t.base.frozen self.old.next)) }
-        ensures touches { IsTrue H.tells → Touches (H.world host.old) (H.world host.new) self.old.file.name }
+        ensures touches { IsTrue H.tells → Touches (H.world host.old) (H.world host.new) (Only self.old.file.name) }
         ensures same { OnOk result (self.new ≡ record self.old { file = record self.old.file { written = self.new.file.written; run = self.new.file.run }; next = self.old.next + 1; scn_page = self.new.scn_page; page = self.new.page }) }
         ensures name { self.new.file.name ≡ self.old.file.name }
         ensures size { self.new.file.head.page_size ≡ self.old.file.head.page_size }
@@ -219,7 +219,7 @@ impl LevelCopy {
             → LevelTurn result (H.world host.new) self.old self.new t.base.frozen }
 
         // Whatever stands in the files: no other one is touched.
-        ensures touches { IsTrue H.tells → Touches (H.world host.old) (H.world host.new) self.old.file.name }
+        ensures touches { IsTrue H.tells → Touches (H.world host.old) (H.world host.new) (Only self.old.file.name) }
         ensures counts { LevelCounts result self.old self.new }
         ensures name { self.new.file.name ≡ self.old.file.name }
         ensures size { self.new.file.head.page_size ≡ self.old.file.head.page_size }

@@ -8,7 +8,7 @@ ghost use Rattle.nb_model.specs.Image.{Numbered};
 ghost use Rattle.nb_model.specs.Levels.{level_bytes, runs_of, taken_from};
 ghost use Rattle.nb_copy.specs.Gathering.{HasTaken, IsHeaded, MayHave, Reads, level_front};
 ghost use Rattle.nb_copy.specs.Making.{IsKept, IsUnfinished, IsUnfinishedOr};
-ghost use Rattle.nb_copy.specs.Touching.{Touches};
+ghost use Rattle.nb_base.specs.Touches.{Touches};
 
 use crate::run::Run;
 use nb_host::{Host, HostFault, Name};
@@ -87,7 +87,7 @@ impl LevelFile {
     pub(crate) fn make<H: Host>(&mut self, host: &mut H) -> Result<(), HostFault>
         ensures left { IsTrue H.tells → IsHeaded (head_of self.old.head) → Changes (H.world host.old) (H.world host.new) (Only self.old.name) (Remade (H.world host.old) self.old.name IsUnfinished) }
         ensures made { IsTrue H.tells → self.old.run.count ≡ 0 → self.old.written ≡ 0 → OnOk result (HasTaken (H.world host.new) self.new []) }
-        ensures touches { IsTrue H.tells → Touches (H.world host.old) (H.world host.new) self.old.name }
+        ensures touches { IsTrue H.tells → Touches (H.world host.old) (H.world host.new) (Only self.old.name) }
         ensures same { self.new ≡ self.old }
         ensures log { IsSilent (H.world host.old) (H.world host.new) }
         ensures cause { CountsFault result (H.faults host.old) (H.faults host.new) }
@@ -103,7 +103,7 @@ impl LevelFile {
         ensures left { IsTrue H.tells → (rs : List Numbered) → HasTaken (H.world host.old) self.old rs → MayHave self.old.head (rs ++ (number, page.now) ∷ [])
             → Changes (H.world host.old) (H.world host.new) (Only self.old.name) (Remade (H.world host.old) self.old.name IsUnfinished) }
         ensures taken { IsTrue H.tells → (rs : List Numbered) → HasTaken (H.world host.old) self.old rs → MayHave self.old.head (rs ++ (number, page.now) ∷ []) → OnOk result (HasTaken (H.world host.new) self.new (rs ++ (number, page.now) ∷ [])) }
-        ensures touches { IsTrue H.tells → Touches (H.world host.old) (H.world host.new) self.old.name }
+        ensures touches { IsTrue H.tells → Touches (H.world host.old) (H.world host.new) (Only self.old.name) }
         ensures same { self.new ≡ record self.old { written = self.new.written; run = self.new.run } }
         ensures more { self.new.written ≡ self.old.written + 1 }
         ensures log { IsSilent (H.world host.old) (H.world host.new) }
@@ -136,7 +136,7 @@ impl LevelFile {
             → Changes (H.world host.old) (H.world host.new) (Only self.old.name) (Remade (H.world host.old) self.old.name IsUnfinished) }
         ensures taken { IsTrue H.tells → (rs : List Numbered) → HasTaken (H.world host.old) self.old rs → MayHave self.old.head (rs ++ taken_from number self.old.head.previous_scn (page.now ∷ []))
             → OnOk result (HasTaken (H.world host.new) self.new (rs ++ taken_from number self.old.head.previous_scn (page.now ∷ []))) }
-        ensures touches { IsTrue H.tells → Touches (H.world host.old) (H.world host.new) self.old.name }
+        ensures touches { IsTrue H.tells → Touches (H.world host.old) (H.world host.new) (Only self.old.name) }
         ensures same { self.new ≡ record self.old { written = self.new.written; run = self.new.run } }
         ensures most { self.new.written ≤ self.old.written + 1 }
         ensures log { IsSilent (H.world host.old) (H.world host.new) }
@@ -153,7 +153,7 @@ impl LevelFile {
         ensures left { IsTrue H.tells → (rs : List Numbered) → HasTaken (H.world host.old) self.old rs → MayHave self.old.head rs
             → Changes (H.world host.old) (H.world host.new) (Only self.old.name) (Remade (H.world host.old) self.old.name IsUnfinished) }
         ensures finished { IsTrue H.tells → (rs : List Numbered) → HasTaken (H.world host.old) self.old rs → MayHave self.old.head rs → OnOk result (Reads (H.world host.new) self.old.name (level_front self.old.head (runs_of rs))) }
-        ensures touches { IsTrue H.tells → Touches (H.world host.old) (H.world host.new) self.old.name }
+        ensures touches { IsTrue H.tells → Touches (H.world host.old) (H.world host.new) (Only self.old.name) }
         ensures same { self.new ≡ record self.old { run = self.new.run } }
         ensures log { IsSilent (H.world host.old) (H.world host.new) }
         ensures cause { CountsFault result (H.faults host.old) (H.faults host.new) }
@@ -169,7 +169,7 @@ impl LevelFile {
         ensures left { IsTrue H.tells → (rs : List Numbered) → HasTaken (H.world host.old) self.old rs → MayHave self.old.head rs
             → Changes (H.world host.old) (H.world host.new) (Only self.old.name) (Remade (H.world host.old) self.old.name (IsUnfinishedOr (level_bytes 102 (head_of self.old.head) rs))) }
         ensures done { IsTrue H.tells → (rs : List Numbered) → HasTaken (H.world host.old) self.old rs → MayHave self.old.head rs → OnOk result (IsKept (H.world host.new) self.old.name (level_bytes 102 (head_of self.old.head) rs)) }
-        ensures touches { IsTrue H.tells → Touches (H.world host.old) (H.world host.new) self.old.name }
+        ensures touches { IsTrue H.tells → Touches (H.world host.old) (H.world host.new) (Only self.old.name) }
         ensures same { self.new ≡ record self.old { run = self.new.run } }
         ensures log { IsSilent (H.world host.old) (H.world host.new) }
         ensures cause { CountsFault result (H.faults host.old) (H.faults host.new) }

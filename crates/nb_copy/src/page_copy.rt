@@ -10,7 +10,7 @@ ghost use Rattle.nb_state.specs.Open.{IsOpen};
 ghost use Rattle.nb_copy.specs.Copying.{IsOf, IsBegun, IsCopying};
 ghost use Rattle.nb_copy.specs.Turns.{CopyTurn, CopyCounts};
 ghost use Rattle.nb_copy.specs.Making.{IsBlank, IsFreeOr, IsKept};
-ghost use Rattle.nb_copy.specs.Touching.{Touches};
+ghost use Rattle.nb_base.specs.Touches.{Touches};
 
 use nb_engine::Engine;
 use nb_host::{Host, HostFault, Name};
@@ -116,7 +116,7 @@ impl PageCopy {
         ensures left { (frozen : Image) → IsTrue H.tells → IsBegun (H.world host.old) self.old frozen → Changes (H.world host.old) (H.world host.new) (Only self.old.name) (Remade (H.world host.old) self.old.name IsBlank) }
         ensures copied { (t : Trail) → IsTrue H.tells → IsOpen (H.world host.old) engine.old t → engine.old.files.state ≡ 1 → IsOf self.old t.base.frozen → IsBegun (H.world host.old) self.old t.base.frozen
             → OnOk result (IsBegun (H.world host.new) self.new t.base.frozen) }
-        ensures touches { IsTrue H.tells → Touches (H.world host.old) (H.world host.new) self.old.name }
+        ensures touches { IsTrue H.tells → Touches (H.world host.old) (H.world host.new) (Only self.old.name) }
         ensures next { OnOk result (self.new ≡ record self.old { next = self.old.next + 1 }) }
         ensures name { self.new.name ≡ self.old.name }
         ensures size { self.new.size ≡ self.old.size }
@@ -137,7 +137,7 @@ impl PageCopy {
             → Changes (H.world host.old) (H.world host.new) (Only self.old.name) (Remade (H.world host.old) self.old.name (IsFreeOr (joined frozen))) }
         ensures done { (frozen : Image) → IsTrue H.tells → IsOf self.old frozen → IsBegun (H.world host.old) self.old frozen → self.old.next ≡ self.old.count
             → OnOk result (IsKept (H.world host.new) self.old.name (joined frozen)) }
-        ensures touches { IsTrue H.tells → Touches (H.world host.old) (H.world host.new) self.old.name }
+        ensures touches { IsTrue H.tells → Touches (H.world host.old) (H.world host.new) (Only self.old.name) }
         ensures same { self.new ≡ self.old }
         ensures gave { GaveNothing (H.world host.old) (H.world host.new) }
         ensures reads { (H.world host.new).reads ≡ (H.world host.old).reads }
@@ -165,7 +165,7 @@ impl PageCopy {
             → CopyTurn result (H.world host.new) self.old self.new t.base.frozen }
 
         // Whatever stands in the files: no other one is touched.
-        ensures touches { IsTrue H.tells → Touches (H.world host.old) (H.world host.new) self.old.name }
+        ensures touches { IsTrue H.tells → Touches (H.world host.old) (H.world host.new) (Only self.old.name) }
         ensures counts { CopyCounts result self.old self.new }
         ensures name { self.new.name ≡ self.old.name }
         ensures size { self.new.size ≡ self.old.size }

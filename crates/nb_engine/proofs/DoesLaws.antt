@@ -17,7 +17,8 @@ use Rattle.nb_model.specs.Outcomes.{Seen, Outcome, says, unless}
 use Rattle.nb_base.specs.Takes.{after_strokes, IsNoRefusal}
 use Rattle.nb_state.specs.Open.{Held, IsOpen, but_pages}
 use Rattle.nb_state.specs.Does.{Tested, Answers, WhereRefused, unless_by, Makes, Does}
-use Rattle.nb_state.proofs.MakesLaws.{passed_on, never_refused, makes_none, makes_not, makes_then, makes_front, makes_after}
+use Rattle.nb_change.proofs.ResultLaws.{passed_on}
+use Rattle.nb_state.proofs.MakesLaws.{never_refused, makes_none, makes_not, makes_then, makes_front, makes_after}
 use Rattle.nb_engine.specs.Tries.{Tries}
 
 -- the strokes by the cause

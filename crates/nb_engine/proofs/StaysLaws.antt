@@ -32,9 +32,8 @@ use Rattle.nb_state.specs.Turns.{Merges}
 use Rattle.nb_state.specs.declared.turns.Progress.{Progress}
 use Rattle.nb_state.specs.declared.turns.Progress.TheVariants.{More, Finished}
 use Rattle.nb_state.specs.Whole.{StaysWhole}
-use Rattle.nb_state.proofs.MakesLaws.{ended_both, ended_more, open_running, open_still, where_ended}
+use Rattle.nb_state.proofs.MakesLaws.{ended_both, ended_more, open_running, open_still, still_open, where_ended}
 use Rattle.nb_state.proofs.ShownLaws.{open_beside}
-use Rattle.nb_state.proofs.TurnLaws.{still_open}
 use Rattle.nb_state.proofs.WholeLaws.{whole_same, whole_then, begin_whole, ends_whole, finish_whole}
 use Rattle.nb_engine.specs.Make.{MakesSome}
 use Rattle.nb_engine.specs.Stays.{CanBeOpened, OfFilesOr, StaysOpen}

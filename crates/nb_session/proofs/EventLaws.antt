@@ -32,7 +32,7 @@ use Rattle.nb_base.specs.Takes.{after_strokes}
 use Rattle.nb_copy.specs.Making.{IsKept, IsUnfinishedOr}
 use Rattle.nb_state.specs.Open.{Held, IsOpen, name_of}
 use Rattle.nb_state.specs.Does.{WhereEnded}
-use Rattle.nb_state.proofs.TurnLaws.{still_open}
+use Rattle.nb_state.proofs.MakesLaws.{still_open}
 use Rattle.nb_session.specs.declared.stop.Stop.{Stop}
 use Rattle.nb_session.specs.declared.told.Told.{Told}
 use Rattle.nb_session.specs.Acts.{AreKept, Acts}

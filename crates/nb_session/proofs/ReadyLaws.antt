@@ -43,17 +43,20 @@ pub apart_files : (held : Held) (name : List ℕ) → IsApart held name → OfFi
 apart_files held name apart (inl same) = apart.other same
 apart_files held name apart (inr same) = apart_delta held name (name_of held) apart (sym same)
 
--- a database that is open is there, and its name isn't free
+-- a database that is open is there
 is_there : (w : World) (held : Held) (t : Trail) → IsOpen w held t → (bytes : List ℕ) × (w.files (name_of held) ≡ Some bytes)
 is_there w held t opened = let main : HasMain opened.files.sees.base (w.files (name_of held)) = has_main (name_of held) opened.files.sees.base (w.files (name_of held)) (w.files (delta_name (name_of held))) opened.files.files.shows in (main.bytes, main.there)
 
+-- the name of a database that is shown isn't free
+pub in_use : (files : Files) (name : List ℕ) (b : Base) → ShowsIn name b files → is_free_name files name ≡ false
+in_use files name b shows =
+    let main : HasMain b (files name) = has_main name b (files name) (files (delta_name name)) shows in
+    is_free_name-false files name
+    (ap is_free_file main.there ∙ opened_in_use name main.bytes (files (delta_name name)) b (ap (λ (f : File). owner name f (files (delta_name name))) (sym main.there) ∙ shows))
+
+-- nor is that of one that is open
 pub not_free : (w : World) (held : Held) (t : Trail) → IsOpen w held t → is_free_name w.files (name_of held) ≡ false
-not_free w held t opened =
-    let there = is_there w held t opened in
-    is_free_name-false w.files (name_of held)
-    (ap is_free_file there.1
-    ∙ opened_in_use (name_of held) there.0 (w.files (delta_name (name_of held))) opened.files.sees.base
-    (ap (λ (f : File). owner (name_of held) f (w.files (delta_name (name_of held)))) (sym there.1) ∙ opened.files.files.shows))
+not_free w held t opened = in_use w.files (name_of held) opened.files.sees.base opened.files.files.shows
 
 -- Of a difference file beside a name that isn't the database's it stays whether it is there.
 module _ (old new : World) (before after : Held) (t u : Trail) (was : IsOpen old before t) (is : IsOpen new after u) (same : name_of after ≡ name_of before) where

@@ -24,7 +24,7 @@ use Rattle.nb_model.specs.Turns.{first_turn, turn}
 use Rattle.nb_model.proofs.TodoLaws.{IsSingle, built_never_usage, status_plain}
 use Rattle.nb_base.specs.Takes.{IsNoRefusal}
 use Rattle.nb_state.specs.Open.{Held}
-use Rattle.nb_state.proofs.MakesLaws.{passed_on}
+use Rattle.nb_change.proofs.ResultLaws.{passed_on}
 use Rattle.nb_session.specs.declared.stop.Stop.{Stop}
 use Rattle.nb_session.specs.declared.stop.Stop.TheVariants.{Device as DeviceStop, Memory as MemoryStop}
 use Rattle.nb_session.specs.declared.task.Left.{Left}

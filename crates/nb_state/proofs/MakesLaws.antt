@@ -13,7 +13,6 @@ use Rattle.nb_change.proofs.ChangesLaws.{rested}
 use Rattle.nb_change.proofs.ReachedLaws.{after_all-joined, reached_first, reached_front, strokes_composed}
 use Rattle.nb_change.proofs.ChangesLaws.{weaker_has}
 use Rattle.nb_change.proofs.GaveLaws.{nothing_joined}
-pub use Rattle.nb_change.proofs.ResultLaws.{passed_on}
 use Rattle.nb_model.specs.Account.{Base}
 use Rattle.nb_model.specs.Strokes.{Stroke, on_base, base_after}
 use Rattle.nb_model.specs.Trail.{Trail, StandsIn, settles_at, after_stroke, settled, bases_of}

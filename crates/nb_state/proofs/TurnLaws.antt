@@ -36,7 +36,6 @@ use Rattle.nb_state.specs.Turns.{begin_cause, end_cause, Begins, Ends, Merges}
 use Rattle.nb_state.specs.declared.turns.Progress.{Progress}
 use Rattle.nb_state.proofs.AgreeLaws.{agrees_control}
 use Rattle.nb_state.proofs.MakesLaws.{none_yet, gave_none}
-pub use Rattle.nb_state.proofs.MakesLaws.{still_open}
 
 -- no call is quiet
 pub no_call : (w : World) → IsTimely w → Quiet w w

@@ -4,7 +4,6 @@ use Rattle.std.specs.Prelude.{Bool, true, false, not, nat_le, is_some, ◌&&◌,
 use Rattle.std.specs.List.{AllByRecursion}
 use Rattle.std.proofs.lemmas.Bool.{and_parts, true≢false}
 use Rattle.std.proofs.lemmas.List.Elements.{Contains-append_left}
-use Rattle.nb_fields.specs.Free.{is_free_file}
 use Rattle.nb_fields.specs.Header.{is_header}
 use Rattle.nb_host.specs.Files.{File, Files}
 use Rattle.nb_host.specs.Names.{is_name, is_delta}
@@ -12,7 +11,6 @@ use Rattle.nb_host.specs.World.{World}
 use Rattle.nb_change.specs.Changes.{Other}
 use Rattle.nb_change.proofs.NameLaws.{decide}
 use Rattle.nb_page.specs.Free.{is_free_name}
-use Rattle.nb_page.proofs.FreeLemmas.{is_free_name-false}
 use Rattle.nb_model.specs.declared.statement.Statement.{Statement}
 use Rattle.nb_model.specs.declared.statement.Statement.TheVariants.{Backup, BackupSince, CopyTo, CreateTable}
 use Rattle.nb_model.specs.Account.{Base, IsBase, Account}
@@ -22,14 +20,12 @@ use Rattle.nb_model.specs.Going.{IsNamed, IsMaking}
 use Rattle.nb_model.specs.Image.{Image, first_page, image_state}
 use Rattle.nb_model.specs.Making.{MadeFile, under_way}
 use Rattle.nb_model.specs.Outcomes.{Begins}
-use Rattle.nb_model.specs.Owner.{delta_name, owner}
+use Rattle.nb_model.specs.Owner.{delta_name}
 use Rattle.nb_model.specs.Run.{Now, Played, base_now, begun, play, files_made}
 use Rattle.nb_model.specs.Sound.{HasHeader, IsSoundImage}
 use Rattle.nb_model.specs.Trail.{ShowsIn, settled}
 use Rattle.nb_model.proofs.GoingLaws.{begun_going, begun_making, own_in_use}
 use Rattle.nb_model.proofs.MakingLaws.{free_play}
-use Rattle.nb_model.proofs.OpenedLaws.{HasMain, has_main}
-use Rattle.nb_model.proofs.OpeningLaws.{opened_in_use}
 use Rattle.nb_model.proofs.StandsLaws.{delta_named, delta_same, no_main}
 use Rattle.nb_base.specs.Open.{OfFiles}
 use Rattle.nb_base.proofs.OwnedLaws.{Holds, holds, base-state}
@@ -40,7 +36,7 @@ use Rattle.nb_script.specs.Scripts.{Plan}
 use Rattle.nb_script.specs.Words.{is_given}
 use Rattle.nb_session.specs.Ready.{IsReady}
 use Rattle.nb_session.proofs.NameLaws.{begun_plain, made_named}
-use Rattle.nb_session.proofs.ReadyLaws.{free_same}
+use Rattle.nb_session.proofs.ReadyLaws.{free_same, in_use}
 use Rattle.nb_top.specs.Performed.{KnowsNames, MayBeGiven}
 
 -- a name that a user may give, of so many bytes at most
@@ -62,13 +58,6 @@ given_name most name is =
 -- that of a database
 pub base_name : (name : List ℕ) → is_given 94 name ≡ true → GivenName 94 name
 base_name name is = given_name 94 name is
-
--- the name of a database that is shown isn't free
-in_use : (files : Files) (name : List ℕ) (b : Base) → ShowsIn name b files → is_free_name files name ≡ false
-in_use files name b shows =
-    let main : HasMain b (files name) = has_main name b (files name) (files (delta_name name)) shows in
-    is_free_name-false files name
-    (ap is_free_file main.there ∙ opened_in_use name main.bytes (files (delta_name name)) b (ap (λ (f : File). owner name f (files (delta_name name))) (sym main.there) ∙ shows))
 
 own_entry : (b : Base) → is_free_entry (IsBase b) ≡ false
 unfolding is_free_entry

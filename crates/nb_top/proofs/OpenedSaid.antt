@@ -18,7 +18,7 @@ use Rattle.nb_model.specs.Trail.{Trail, StandsIn, settled}
 use Rattle.nb_model.proofs.MakingLaws.{made_once}
 use Rattle.nb_model.proofs.StepsLaws.{steps_one, acked_steps_most}
 use Rattle.nb_state.specs.Open.{Held, name_of}
-use Rattle.nb_state.proofs.TurnLaws.{still_open}
+use Rattle.nb_state.proofs.MakesLaws.{still_open}
 use Rattle.nb_script.specs.Asked.{IsAskable}
 use Rattle.nb_script.specs.Scripts.{Plan}
 use Rattle.nb_session.specs.declared.stop.Stop.{Stop}

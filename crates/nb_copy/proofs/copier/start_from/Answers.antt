@@ -5,7 +5,7 @@ use Rattle.nb_host.specs.declared.faults.Fault.TheVariants.{Memory}
 use Rattle.nb_model.specs.Account.{Base}
 use Rattle.nb_model.specs.Image.{image_state}
 use Rattle.nb_model.specs.Outcomes.{Seen, next_guid}
-use Rattle.nb_state.proofs.MakesLaws.{passed_on}
+use Rattle.nb_change.proofs.ResultLaws.{passed_on}
 use Rattle.nb_copy.specs.Starting.{Backed, StartsBackup, IsItsLevel, turn_since}
 use Rattle.nb_change.proofs.GaveLaws.{nothing_joined}
 use Rattle.nb_base.specs.Takes.{after_strokes}

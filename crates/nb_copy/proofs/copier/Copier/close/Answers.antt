@@ -6,8 +6,8 @@ use Rattle.nb_model.specs.Chains.{backup_slot, put_slot}
 use Rattle.nb_model.specs.Forms.{drafted}
 use Rattle.nb_model.specs.Outcomes.{next_time}
 use Rattle.nb_model.specs.Strokes.{Stroke}
-use Rattle.nb_state.proofs.TurnLaws.{still_open}
-use Rattle.nb_state.proofs.MakesLaws.{passed_on}
+use Rattle.nb_state.proofs.MakesLaws.{still_open}
+use Rattle.nb_change.proofs.ResultLaws.{passed_on}
 use Rattle.nb_model.specs.Backups.{close_backup}
 use Rattle.nb_copy.specs.Starting.{Backed}
 use Rattle.nb_copy.specs.Closing.{Closes}

@@ -7,7 +7,7 @@ use Rattle.nb_model.specs.Outcomes.{Backing, next_time}
 use Rattle.nb_model.specs.Strokes.{Stroke}
 use Rattle.nb_state.specs.Open.{Held, name_of}
 use Rattle.nb_state.specs.declared.turns.Progress.{Progress}
-use Rattle.nb_state.proofs.MakesLaws.{passed_on}
+use Rattle.nb_change.proofs.ResultLaws.{passed_on}
 use Rattle.nb_copy.specs.declared.file_copy.FileCopy.{FileCopy}
 use Rattle.nb_copy.specs.FileCopying.{IsFileCopying, FileTurn, FileCounts, file_count, file_next, whole_count}
 use Rattle.nb_copy.specs.Starting.{Backed, ask_by}

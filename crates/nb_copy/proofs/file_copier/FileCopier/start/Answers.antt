@@ -2,7 +2,8 @@ use Rattle.std.proofs.Common.{refl, sym, ap, subst, ◌∙◌}
 use Rattle.std.specs.Prelude.{Result, Ok, Some}
 use Rattle.nb_host.specs.declared.faults.Fault.{Fault}
 use Rattle.nb_model.specs.Backups.{copy_turn}
-use Rattle.nb_state.proofs.MakesLaws.{passed_on, open_quiet}
+use Rattle.nb_change.proofs.ResultLaws.{passed_on}
+use Rattle.nb_state.proofs.MakesLaws.{open_quiet}
 use Rattle.nb_copy.specs.Copying.{Copying}
 use Rattle.nb_copy.specs.FileCopies.{StartsCopy}
 use Rattle.nb_copy.proofs.FileCopyLaws.{copy_failed, copy_begun}

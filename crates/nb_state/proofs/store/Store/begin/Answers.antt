@@ -5,8 +5,9 @@ use Rattle.nb_host.specs.declared.faults.Fault.TheVariants.{Device}
 use Rattle.nb_model.specs.Strokes.{begin}
 use Rattle.nb_state.specs.Open.{Held}
 use Rattle.nb_state.specs.Turns.{Begins}
-use Rattle.nb_state.proofs.MakesLaws.{passed_on}
-use Rattle.nb_state.proofs.TurnLaws.{still_open, still_struck, given_guid, begin_failed, begin_done}
+use Rattle.nb_change.proofs.ResultLaws.{passed_on}
+use Rattle.nb_state.proofs.MakesLaws.{still_open}
+use Rattle.nb_state.proofs.TurnLaws.{still_struck, given_guid, begin_failed, begin_done}
 use Rattle.nb_state.proofs.store.Store.begin.Goals as goal
 
 pub returns-in_err-scn-clause-begins : goal.returns-in_err-scn-clause-begins

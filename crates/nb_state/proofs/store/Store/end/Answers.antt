@@ -9,7 +9,8 @@ use Rattle.nb_model.proofs.HeaderLaws.{header-room}
 use Rattle.nb_base.specs.Takes.{Strikes, after_strokes}
 use Rattle.nb_state.specs.Open.{Held, IsOpen, name_of}
 use Rattle.nb_state.specs.Turns.{Ends}
-use Rattle.nb_state.proofs.MakesLaws.{passed_on, none_yet, gave_none}
+use Rattle.nb_change.proofs.ResultLaws.{passed_on}
+use Rattle.nb_state.proofs.MakesLaws.{none_yet, gave_none}
 use Rattle.nb_state.proofs.TurnLaws.{no_call, open_struck, end_stalled, end_other, scn_stalled, scn_other, end_refused, end_failed, end_done}
 use Rattle.nb_state.proofs.store.Store.end.Goals as goal
 

@@ -4,7 +4,7 @@ use Rattle.nb_host.specs.declared.faults.Fault.TheVariants.{Device}
 use Rattle.nb_model.specs.Strokes.{finish}
 use Rattle.nb_base.specs.Takes.{Strikes}
 use Rattle.nb_state.specs.Open.{Held, IsOpen, name_of}
-use Rattle.nb_state.proofs.MakesLaws.{passed_on}
+use Rattle.nb_change.proofs.ResultLaws.{passed_on}
 use Rattle.nb_state.proofs.TurnLaws.{struck_front, open_more, open_finished, all_merged, merge_failed}
 use Rattle.nb_state.proofs.store.Store.merge_turn.Goals as goal
 

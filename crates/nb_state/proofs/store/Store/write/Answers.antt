@@ -7,7 +7,8 @@ use Rattle.nb_base.specs.Touches.{WritesIn}
 use Rattle.nb_state.specs.Open.{Held, IsOpen, name_of}
 use Rattle.nb_state.specs.Does.{Goes, Makes}
 use Rattle.nb_state.proofs.AgreeLaws.{page_whole, open_written, goes_files, goes_written}
-use Rattle.nb_state.proofs.MakesLaws.{passed_on, never_ended}
+use Rattle.nb_change.proofs.ResultLaws.{passed_on}
+use Rattle.nb_state.proofs.MakesLaws.{never_ended}
 use Rattle.nb_state.proofs.TurnLaws.{open_wanting}
 use Rattle.nb_state.proofs.store.Store.write.Goals as goal
 
