@@ -20,7 +20,7 @@ use Rattle.nb_model.specs.Owner.{delta_name, owner}
 use Rattle.nb_model.specs.Run.{Now, Event, Played, base_now, with_made, account_after, outcome, event_of, stands_then, take_turn, one_turn, files_made}
 use Rattle.nb_model.specs.Steps.{steps_in, after_steps}
 use Rattle.nb_model.specs.Strokes.{base_in, base_after}
-use Rattle.nb_model.specs.Trail.{Trail}
+use Rattle.nb_model.specs.Trail.{Trail, ShowsIn}
 use Rattle.nb_model.proofs.MakingLaws.{made_used}
 use Rattle.nb_model.proofs.OpenedLaws.{HasMain, has_main}
 use Rattle.nb_model.proofs.OpeningLaws.{opened_in_use}
