@@ -1,4 +1,4 @@
-//! The tests of the crates below the store: of the hosts, of pages in memory, of the files of a backup, and of scripts and words.
+//! The tests of the crates below the store: of the hosts, of pages in memory, of the files of a backup, of scripts and words, and of turns.
 //!
 //! They stand in a crate of their own, over the crates that they test, since a crate with tests is proved twice.
 #![tactic(auto)]
@@ -23,6 +23,8 @@ mod model_tests;
 mod restore_tests;
 #[cfg(test)]
 mod sample;
+#[cfg(test)]
+mod sched_tests;
 #[cfg(test)]
 mod script_tests;
 #[cfg(test)]
