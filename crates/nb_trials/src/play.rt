@@ -3,7 +3,9 @@ use crate::change::{Change, change_file, keep_alone, put, put_text};
 use crate::line::{Line, is_below, number_in, text_below};
 use crate::show::{Show, tell_file};
 use anyhow::{Context, Result};
+use nb_host::Name;
 use nb_mem::MemHost;
+use nb_top::broken::broken_line;
 use nb_top::{Status, run};
 use std::alloc::{AllocError, Global};
 
@@ -16,6 +18,8 @@ enum Step<'a> {
     Scripts(usize, usize, &'a [Line<'a>]),
     /// `words WORD..`: a run by these words.
     Words(&'a str),
+    /// `broken NAME`: which line of that script breaks its form.
+    Broken(&'a str),
     /// `keep NAME..`: the trial goes on with these files alone, on a new host.
     Keep(&'a str),
     /// A change of the file of that name.
@@ -38,6 +42,7 @@ impl<'a> Step<'a> {
                 Some(Step::Scripts(number_in(first)?, number_in(last)?, below))
             }
             "words" => Some(Step::Words(rest)),
+            "broken" => Some(Step::Broken(rest)),
             "keep" => Some(Step::Keep(rest)),
             "calls" => Some(Step::Calls),
             "reads" => Some(Step::Reads),
@@ -129,6 +134,16 @@ fn run_each(
     Ok(true)
 }
 
+/// Tells the number of the line of a script that breaks its form and what is shown of it, or that the script is whole.
+fn tell_broken(alloc: Global, host: &mut MemHost, name: &str, text: &mut String) -> Result<()> {
+    let script = Name::read(name).context("no name of a file")?;
+    match broken_line(alloc, host, &script)? {
+        Some(broken) => write!(text, "{name}: line {}: {}\n", broken.line, broken.text)?,
+        None => write!(text, "{name}: whole\n")?,
+    }
+    Ok(())
+}
+
 /// Tells how far a count has gone since the last run began.
 fn tell_count(count: u64, before: u64, what: &str, text: &mut String) -> Result<(), AllocError> {
     write!(text, "{} {what}\n", count.saturating_sub(before))
@@ -144,6 +159,7 @@ fn do_step(alloc: Global, host: &mut MemHost, step: Step, told: &mut Told) -> Re
             return run_each(alloc, host, first, last, lines, told);
         }
         Step::Words(line) => return tell_line(alloc, host, line, told),
+        Step::Broken(name) => tell_broken(alloc, host, name, &mut told.text)?,
         Step::Keep(names) => keep_alone(alloc, host, names)?,
         Step::Change(name, change) => change_file(alloc, host, name, change)?,
         Step::Show(name, asked) => tell_file(alloc, host, name, asked, &mut told.text)?,
