@@ -18,14 +18,13 @@ ghost use Rattle.nb_top.specs.Requests.{job_asked, request_asked};
 ghost use Rattle.nb_top.specs.Touched.{IsWholeToMerge, TouchesAsked};
 ghost use Rattle.nb_cli.specs.Exit.{number_of};
 
-mod broken;
-#[cfg(test)]
-mod tests;
+mod script;
 
-use broken::{broken_line, script_of};
 use nb_file::{Disk, FileHost};
 use nb_host::Host;
+use nb_top::broken::broken_line;
 use nb_top::{Status, run};
+use script::script_of;
 use std::alloc::Global;
 use std::env;
 use std::io::{self, ErrorKind};

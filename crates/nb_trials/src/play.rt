@@ -1,9 +1,11 @@
 // The steps of a trial, one after another on a host in memory.
-use crate::change::{Change, change_file, keep_alone, put_text};
-use crate::line::{Line, is_below};
+use crate::change::{Change, change_file, keep_alone, put, put_text};
+use crate::line::{Line, is_below, number_in, text_below};
 use crate::show::{Show, tell_file};
 use anyhow::{Context, Result};
+use nb_host::Name;
 use nb_mem::MemHost;
+use nb_top::broken::broken_line;
 use nb_top::{Status, run};
 use std::alloc::{AllocError, Global};
 
@@ -12,8 +14,12 @@ use std::alloc::{AllocError, Global};
 enum Step<'a> {
     /// `run`: the script below is placed as `s`, and run.
     Script(&'a [Line<'a>]),
+    /// `runs FIRST LAST`: the same for each of these numbers, with the number in place of every `#`.
+    Scripts(usize, usize, &'a [Line<'a>]),
     /// `words WORD..`: a run by these words.
     Words(&'a str),
+    /// `broken NAME`: which line of that script breaks its form.
+    Broken(&'a str),
     /// `keep NAME..`: the trial goes on with these files alone, on a new host.
     Keep(&'a str),
     /// A change of the file of that name.
@@ -31,7 +37,12 @@ impl<'a> Step<'a> {
         let (verb, rest) = line.split_once(' ').unwrap_or((line, ""));
         match verb {
             "run" => Some(Step::Script(below)),
+            "runs" => {
+                let (first, last) = rest.split_once(' ')?;
+                Some(Step::Scripts(number_in(first)?, number_in(last)?, below))
+            }
             "words" => Some(Step::Words(rest)),
+            "broken" => Some(Step::Broken(rest)),
             "keep" => Some(Step::Keep(rest)),
             "calls" => Some(Step::Calls),
             "reads" => Some(Step::Reads),
@@ -102,6 +113,37 @@ pub fn tell_line(alloc: Global, host: &mut MemHost, line: &str, told: &mut Told)
     Ok(status != Status::Device)
 }
 
+/// Runs a script for each of these numbers. It answers whether the host can go on.
+fn run_each(
+    alloc: Global,
+    host: &mut MemHost,
+    first: usize,
+    last: usize,
+    lines: &[Line],
+    told: &mut Told,
+) -> Result<bool> {
+    let text = text_below(alloc, lines)?;
+    for number in first..=last {
+        let number = format!(in alloc; "{number}")?;
+        let script = text.replace(alloc, '#', &number)?;
+        put(host, "s", script.as_bytes())?;
+        if !tell_line(alloc, host, "run s", told)? {
+            return Ok(false);
+        }
+    }
+    Ok(true)
+}
+
+/// Tells the number of the line of a script that breaks its form and what is shown of it, or that the script is whole.
+fn tell_broken(alloc: Global, host: &mut MemHost, name: &str, text: &mut String) -> Result<()> {
+    let script = Name::read(name).context("no name of a file")?;
+    match broken_line(alloc, host, &script)? {
+        Some(broken) => write!(text, "{name}: line {}: {}\n", broken.line, broken.text)?,
+        None => write!(text, "{name}: whole\n")?,
+    }
+    Ok(())
+}
+
 /// Tells how far a count has gone since the last run began.
 fn tell_count(count: u64, before: u64, what: &str, text: &mut String) -> Result<(), AllocError> {
     write!(text, "{} {what}\n", count.saturating_sub(before))
@@ -113,7 +155,11 @@ fn do_step(alloc: Global, host: &mut MemHost, step: Step, told: &mut Told) -> Re
             put_text(alloc, host, "s", lines)?;
             return tell_line(alloc, host, "run s", told);
         }
+        Step::Scripts(first, last, lines) => {
+            return run_each(alloc, host, first, last, lines, told);
+        }
         Step::Words(line) => return tell_line(alloc, host, line, told),
+        Step::Broken(name) => tell_broken(alloc, host, name, &mut told.text)?,
         Step::Keep(names) => keep_alone(alloc, host, names)?,
         Step::Change(name, change) => change_file(alloc, host, name, change)?,
         Step::Show(name, asked) => tell_file(alloc, host, name, asked, &mut told.text)?,

@@ -1,16 +1,12 @@
 // The line of a script that breaks its form, for a reader.
-ghost use Rattle.std.specs.Prelude.{◌≡◌, Some, Err, map, string_bytes, IsTrue, IfOk, IfSome};
+ghost use Rattle.std.specs.Prelude.{◌≡◌, Err, IsTrue, IfOk, IfSome};
 ghost use Rattle.nb_host.specs.declared.refusals.Refusal.TheVariants.{BadScript};
 ghost use Rattle.nb_page.specs.Quiet.{Quiet};
-ghost use Rattle.nb_model.specs.Words.{job_of};
-ghost use Rattle.nb_model.specs.declared.job.Job.TheVariants.{Run};
 ghost use Rattle.nb_top.specs.Requests.{script_in};
 
+use crate::reading::read_file;
 use nb_host::{Fault, Host, Name, Refusal};
-use nb_model::Job;
 use nb_script::parse;
-use nb_top::read_file;
-use nb_words::read_job;
 use std::alloc::{AllocError, Global};
 
 /// How many bytes of a line are shown at most.
@@ -23,17 +19,6 @@ pub struct Broken {
     pub line: u32,
     /// What is shown of it.
     pub text: String,
-}
-
-/// The script that the words ask to run, if that is what they ask.
-pub fn script_of(alloc: Global, words: &[String]) -> Result<Option<Name>, Fault>
-    ensures { IfOk result (λ script. IfSome script (λ name. job_of (map string_bytes words.now) ≡ Some (Run name))) }
-{
-    let job = read_job(alloc, words)?;
-    match &job {
-        Job::Run { script } => Ok(Some(script.copied())),
-        _ => Ok(None),
-    }
 }
 
 /// The bytes of a line for a reader: what isn't printable as its number, and at most 200 bytes of it, behind which dots stand for the rest.

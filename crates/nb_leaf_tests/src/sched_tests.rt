@@ -6,6 +6,7 @@ ghost use Rattle.nb_sched.specs.Within.{IsWithin};
 
 use nb_host::Fault;
 use nb_sched::{Agent, take_turns};
+use std::alloc::Global;
 use std::test::Fail;
 
 /// A host that fails once so much was said.
@@ -79,34 +80,35 @@ fn with_turns(session: u32, turns: u64) -> Speaker
     Speaker { session, turns }
 }
 
+/// How the turns of three speakers end, what was said in them, and what each of them has left.
+fn three_speak(
+    alloc: Global,
+    most: usize,
+    schedule: &[u32],
+) -> (Result<(), Fault>, Vec<u32>, [(u64, u64); 3]) {
+    let mut speakers = [with_turns(1, 3), with_turns(2, 2), with_turns(3, 3)];
+    let mut said = Vec::new(alloc);
+    let answer = speak(&mut speakers, &mut Voice { most }, &mut said, schedule);
+    let left = [speakers[0].left(), speakers[1].left(), speakers[2].left()];
+    (answer, said, left)
+}
+
 #[test]
 fn turns_by_schedule_and_then_round_robin(rt: HostRuntime) -> Result<(), Fail> {
-    let mut speakers = [with_turns(1, 3), with_turns(2, 2), with_turns(3, 3)];
-    let mut said = Vec::new(rt.alloc());
-    let schedule = [2, 7, 0, 2, 2, 1, 2];
-    assert!(rt;
-        speak(
-            &mut speakers,
-            &mut Voice { most: 100 },
-            &mut said,
-            &schedule
-        )
-        .is_ok()
+    let (answer, said, left) = three_speak(rt.alloc(), 100, &[2, 7, 0, 2, 2, 1, 2]);
+    assert_eq!(rt;
+        (answer.is_ok(), said.as_slice(), left),
+        (true, [2, 2, 1, 1, 3, 1, 3, 3].as_slice(), [(0, 0); 3])
     );
-    assert_eq!(rt; said.as_slice(), [2, 2, 1, 1, 3, 1, 3, 3].as_slice());
-    assert!(rt; speakers.iter().all(|speaker| speaker.finished()));
     Ok(())
 }
 
 #[test]
 fn an_error_ends_all(rt: HostRuntime) -> Result<(), Fail> {
-    let mut speakers = [with_turns(1, 3), with_turns(2, 2), with_turns(3, 3)];
-    let mut said = Vec::new(rt.alloc());
-    let answer = speak(&mut speakers, &mut Voice { most: 3 }, &mut said, &[3, 3]);
-    assert!(rt; matches!(answer, Err(Fault::Device)));
-    assert_eq!(rt; said.as_slice(), [3, 3, 1].as_slice());
-    assert_eq!(rt; speakers[0].left(), (0, 2));
-    assert_eq!(rt; speakers[1].left(), (0, 2));
-    assert_eq!(rt; speakers[2].left(), (0, 1));
+    let (answer, said, left) = three_speak(rt.alloc(), 3, &[3, 3]);
+    assert_eq!(rt;
+        (matches!(answer, Err(Fault::Device)), said.as_slice(), left),
+        (true, [3, 3, 1].as_slice(), [(0, 2), (0, 2), (0, 1)])
+    );
     Ok(())
 }

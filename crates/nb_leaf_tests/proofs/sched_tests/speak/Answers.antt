@@ -1,7 +1,7 @@
 use Rattle.std.proofs.Common.{◌++◌}
 use Rattle.nb_model.specs.Run.{rounds}
 use Rattle.nb_sched.proofs.WithinLaws.{said_within}
-use Rattle.nb_run_tests.proofs.sched_tests.speak.Goals as goal
+use Rattle.nb_leaf_tests.proofs.sched_tests.speak.Goals as goal
 
 pub returns : goal.returns
 returns c =
