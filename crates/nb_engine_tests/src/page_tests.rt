@@ -1,7 +1,7 @@
 // Calls of the engine: which pages are in memory, and data pages that no chain leads to.
 use crate::sample::base_name;
 use nb_engine::Engine;
-use nb_host::{Fault, Refusal};
+use nb_host::{Fault, Host, Refusal};
 use nb_mem::MemHost;
 use std::alloc::Global;
 use std::test::Fail;
@@ -86,5 +86,33 @@ fn raw_pages(host: &mut MemHost, engine: &mut Engine) -> Result<[Option<u32>; 2]
 fn a_raw_page_is_no_data_page(rt: HostRuntime) -> Result<(), Fail> {
     let host = MemHost::new(rt.alloc())?;
     assert_eq!(rt; on_new_base(rt.alloc(), host, raw_pages)?, [Some(5); 2]);
+    Ok(())
+}
+
+/// The number of a new page behind one that was given back, which was tested before.
+fn number_again(host: &mut MemHost, engine: &mut Engine) -> Result<u32, Fault> {
+    engine.data_new(host, None, &[])?;
+    engine.data_ready(host, 13, true)?;
+    engine.data_free(host, 13)?;
+    engine.data_new(host, None, &[])
+}
+
+#[test]
+fn a_data_page_is_given_back(rt: HostRuntime) -> Result<(), Fail> {
+    let host = MemHost::new(rt.alloc())?;
+    assert_eq!(rt; on_new_base(rt.alloc(), host, number_again)?, 13);
+    Ok(())
+}
+
+/// The page that page 3 names as it is got ready where page 2 isn't the SCN page.
+fn spoilt_page(host: &mut MemHost, engine: &mut Engine) -> Result<Option<u32>, Fault> {
+    host.write_page(&base_name()?, 2, &[8; 1024])?;
+    Ok(page_in(engine.data_ready(host, 3, false)))
+}
+
+#[test]
+fn a_page_is_not_ready_without_its_scn_page(rt: HostRuntime) -> Result<(), Fail> {
+    let host = MemHost::new(rt.alloc())?;
+    assert_eq!(rt; on_new_base(rt.alloc(), host, spoilt_page)?, Some(2));
     Ok(())
 }
