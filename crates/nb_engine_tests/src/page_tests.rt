@@ -1,23 +1,23 @@
-// The calls of the engine in turn.
-use crate::sample::{on_new_base, open_again};
+// Calls of the engine: which pages are in memory, and data pages that no chain leads to.
+use crate::sample::base_name;
 use nb_engine::Engine;
-use nb_host::{Fault, Refusal};
+use nb_host::{Fault, Host, Refusal};
 use nb_mem::MemHost;
-use nb_state::Progress;
 use std::alloc::Global;
 use std::test::Fail;
 
-fn is_read_again(alloc: Global, host: &mut MemHost, engine: &mut Engine) -> Result<bool, Fail> {
-    engine.page_write(host, 6, b"hello")?;
-    open_again(alloc, host, engine, 4)?;
-    let text = engine.page_read(host, 6)?;
-    Ok(text.as_slice() == b"hello".as_slice())
-}
-
-#[test]
-fn a_page_is_read_again(rt: HostRuntime) -> Result<(), Fail> {
-    assert!(rt; on_new_base(rt.alloc(), 8, is_read_again)?);
-    Ok(())
+/// What these steps answer on a new database of 13 pages of 1,024 bytes, which was opened with room for two pages in memory. They borrow it,
+/// so that it is dropped in one place.
+fn on_new_base<T, F: FnOnce(&mut MemHost, &mut Engine) -> Result<T, Fault>>(
+    alloc: Global,
+    mut host: MemHost,
+    steps: F,
+) -> Result<T, Fault>
+    requires { F.IsAlwaysCallable steps }
+{
+    Engine::create(alloc, &mut host, &base_name()?, 1024, 8, 4)?;
+    let mut engine = Engine::attach(alloc, &mut host, &base_name()?, 2)?;
+    steps(&mut host, &mut engine)
 }
 
 /// How often the host is asked as page 6 is read.
@@ -28,12 +28,7 @@ fn reads_of(host: &mut MemHost, engine: &mut Engine) -> Result<u64, Fault> {
 }
 
 /// The reads of page 6, of page 6 once more, and how many pages are in memory then and may be.
-fn two_reads(
-    alloc: Global,
-    host: &mut MemHost,
-    engine: &mut Engine,
-) -> Result<(u64, u64, u32, u32), Fail> {
-    open_again(alloc, host, engine, 2)?;
+fn two_reads(host: &mut MemHost, engine: &mut Engine) -> Result<(u64, u64, u32, u32), Fault> {
     let first = reads_of(host, engine)?;
     let second = reads_of(host, engine)?;
     Ok((first, second, engine.held(), engine.capacity()))
@@ -41,94 +36,83 @@ fn two_reads(
 
 #[test]
 fn a_second_read_asks_nothing(rt: HostRuntime) -> Result<(), Fail> {
+    let host = MemHost::new(rt.alloc())?;
     // The page and its inventory page.
-    assert_eq!(rt; on_new_base(rt.alloc(), 8, two_reads)?, (2, 0, 2, 2));
+    assert_eq!(rt; on_new_base(rt.alloc(), host, two_reads)?, (2, 0, 2, 2));
     Ok(())
 }
 
-/// Both flags, once they were set and the database was opened again.
-fn flags(alloc: Global, host: &mut MemHost, engine: &mut Engine) -> Result<(bool, u32), Fail> {
-    engine.set_forced(host, false)?;
-    engine.set_access(host, true)?;
-    open_again(alloc, host, engine, 4)?;
-    Ok((engine.forced(), engine.access()))
+/// The kind of page 3, and a byte of it, once it was written with another kind in its head and another byte behind.
+fn written(host: &mut MemHost, engine: &mut Engine) -> Result<(u8, u8), Fault> {
+    let mut page = [0; 1024];
+    if engine.page_size() != 1024 {
+        return Err(Fault::Device);
+    }
+    engine.data_read(host, 3, 0, &mut page)?;
+    page[0] = 8;
+    page[40] = 9;
+    engine.data_write(host, 3, &page)?;
+    engine.data_read(host, 3, 0, &mut page)?;
+    Ok((page[0], page[40]))
 }
 
+/// The head that is given doesn't count: the page is a data page still, one of the catalogue.
 #[test]
-fn flags_are_kept(rt: HostRuntime) -> Result<(), Fail> {
-    assert_eq!(rt; on_new_base(rt.alloc(), 8, flags)?, (false, 1));
+fn a_page_is_written_behind_its_head(rt: HostRuntime) -> Result<(), Fail> {
+    let host = MemHost::new(rt.alloc())?;
+    assert_eq!(rt; on_new_base(rt.alloc(), host, written)?, (5, 9));
     Ok(())
 }
 
-/// How many calls a write makes that waits beside another of its page, and how long its text is once the database was opened again.
-fn second_write(
-    alloc: Global,
-    host: &mut MemHost,
-    engine: &mut Engine,
-) -> Result<(u64, usize), Fail> {
-    engine.set_forced(host, false)?;
-    engine.page_write(host, 6, b"first")?;
-    let before = host.calls();
-    engine.page_write(host, 6, b"second")?;
-    let calls = host.calls().saturating_sub(before);
-    open_again(alloc, host, engine, 4)?;
-    let text = engine.page_read(host, 6)?;
-    Ok((calls, text.len()))
+/// The page that a call names as none of a database.
+fn page_in(answer: Result<(), Fault>) -> Option<u32> {
+    match answer {
+        Err(Fault::Refused(Refusal::NotDatabase { page })) => Some(page),
+        _ => None,
+    }
+}
+
+/// The pages that a read and a write of page 5 name, as one of the catalogue. It is a raw page.
+fn raw_pages(host: &mut MemHost, engine: &mut Engine) -> Result<[Option<u32>; 2], Fault> {
+    let mut page = [0; 1024];
+    if engine.page_size() != 1024 {
+        return Err(Fault::Device);
+    }
+    let read = page_in(engine.data_read(host, 5, 0, &mut page));
+    Ok([read, page_in(engine.data_write(host, 5, &page))])
 }
 
 #[test]
-fn a_text_that_waits_asks_nothing(rt: HostRuntime) -> Result<(), Fail> {
-    assert_eq!(rt; on_new_base(rt.alloc(), 8, second_write)?, (0, 0));
+fn a_raw_page_is_no_data_page(rt: HostRuntime) -> Result<(), Fail> {
+    let host = MemHost::new(rt.alloc())?;
+    assert_eq!(rt; on_new_base(rt.alloc(), host, raw_pages)?, [Some(5); 2]);
     Ok(())
 }
 
-fn is_given_back(_alloc: Global, host: &mut MemHost, engine: &mut Engine) -> Result<bool, Fail> {
-    engine.page_free(host, 6)?;
-    Ok(matches!(
-        engine.page_read(host, 6),
-        Err(Fault::Refused(Refusal::NotAllocated { page: 6 }))
-    ))
+/// The number of a new page behind one that was given back, which was tested before.
+fn number_again(host: &mut MemHost, engine: &mut Engine) -> Result<u32, Fault> {
+    engine.data_new(host, None, &[])?;
+    engine.data_ready(host, 13, true)?;
+    engine.data_free(host, 13)?;
+    engine.data_new(host, None, &[])
 }
 
 #[test]
-fn a_page_is_given_back(rt: HostRuntime) -> Result<(), Fail> {
-    assert!(rt; on_new_base(rt.alloc(), 8, is_given_back)?);
+fn a_data_page_is_given_back(rt: HostRuntime) -> Result<(), Fail> {
+    let host = MemHost::new(rt.alloc())?;
+    assert_eq!(rt; on_new_base(rt.alloc(), host, number_again)?, 13);
     Ok(())
 }
 
-/// The number of a new page, and how often the host is asked for it.
-fn new_page(_alloc: Global, host: &mut MemHost, engine: &mut Engine) -> Result<(u32, u64), Fail> {
-    let before = host.read_count();
-    let number = engine.page_new(host)?;
-    Ok((number, host.read_count().saturating_sub(before)))
+/// The page that page 3 names as it is got ready where page 2 isn't the SCN page.
+fn spoilt_page(host: &mut MemHost, engine: &mut Engine) -> Result<Option<u32>, Fault> {
+    host.write_page(&base_name()?, 2, &[8; 1024])?;
+    Ok(page_in(engine.data_ready(host, 3, false)))
 }
 
 #[test]
-fn a_new_page_reads_its_inventory_once(rt: HostRuntime) -> Result<(), Fail> {
-    // Page 248 is an SCN inventory page, so the last of them is page 305.
-    // The inventory page, the SCN page of the new page and that of the inventory page, each once.
-    assert_eq!(rt; on_new_base(rt.alloc(), 300, new_page)?, (306, 3));
-    Ok(())
-}
-
-/// The SCNs that a backup begins and ends with, and what the first turn of its merge did.
-fn backup(
-    _alloc: Global,
-    host: &mut MemHost,
-    engine: &mut Engine,
-) -> Result<(u32, u32, Progress), Fail> {
-    let begun = engine.begin(host)?;
-    let ended = engine.end(host, 1)?;
-    let progress = engine.merge_turn(host)?;
-    Ok((begun, ended, progress))
-}
-
-#[test]
-fn a_backup_begins_and_ends(rt: HostRuntime) -> Result<(), Fail> {
-    // Nothing was changed meanwhile.
-    assert_eq!(rt;
-        on_new_base(rt.alloc(), 8, backup)?,
-        (2, 3, Progress::Finished)
-    );
+fn a_page_is_not_ready_without_its_scn_page(rt: HostRuntime) -> Result<(), Fail> {
+    let host = MemHost::new(rt.alloc())?;
+    assert_eq!(rt; on_new_base(rt.alloc(), host, spoilt_page)?, Some(2));
     Ok(())
 }
