@@ -1,4 +1,5 @@
-//! The tests of the crates below the store: of the hosts, of pages in memory, of the files of a backup, and of scripts and words.
+//! The tests of the crates below the store that no whole run can say: of the hosts, of pages in memory, of single calls of a difference
+//! file and of the reader of a level, of lists, and of scripts and words as values. What whole runs say of these crates is in `nb_trials`.
 //!
 //! They stand in a crate of their own, over the crates that they test, since a crate with tests is proved twice.
 #![tactic(auto)]
@@ -6,21 +7,15 @@
 #[cfg(test)]
 mod cache_tests;
 #[cfg(test)]
-mod chain_tests;
-#[cfg(test)]
 mod delta_tests;
 #[cfg(test)]
 mod file_tests;
-#[cfg(test)]
-mod fixup_tests;
 #[cfg(test)]
 mod level_tests;
 #[cfg(test)]
 mod mem_tests;
 #[cfg(test)]
 mod model_tests;
-#[cfg(test)]
-mod restore_tests;
 #[cfg(test)]
 mod sample;
 #[cfg(test)]
