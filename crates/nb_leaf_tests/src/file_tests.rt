@@ -159,7 +159,10 @@ fn files_are_written_and_read(rt: HostRuntime) -> Result<(), Fail> {
     let other = name_of("nb_file_test.level")?;
     let mut host = FileHost::new(rt, rt.alloc());
     let pages = pages_are_read(&rt, &mut host, &name);
-    let end = (read_at_end(&mut host, &name), read_past_end(&mut host, &name));
+    let end = (
+        read_at_end(&mut host, &name),
+        read_past_end(&mut host, &name),
+    );
     let order = writes_keep_their_order(&rt, &mut host, &name, &other);
     let system = system_answers(&mut host);
     let is_gone = host.remove(&name);

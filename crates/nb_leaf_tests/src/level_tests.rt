@@ -96,9 +96,6 @@ fn a_read_that_fails_is_made_again(rt: HostRuntime) -> Result<(), Fail> {
     let name = name_of("a.1")?;
     let mut host = MemHost::failing(rt.alloc(), &[12])?;
     let said = write_and_read(rt.alloc(), &mut host, &name)?;
-    assert_eq!(rt;
-        (said, host.fault_count()),
-        ((101, HEAD, [0, 9, 2, 3]), 1)
-    );
+    assert_eq!(rt; (said, host.fault_count()), ((101, HEAD, [0, 9, 2, 3]), 1));
     Ok(())
 }

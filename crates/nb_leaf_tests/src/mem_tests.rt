@@ -29,10 +29,7 @@ fn files_come_and_go(rt: HostRuntime) -> Result<(), Fail> {
     host.put_file(&name, b"abc")?;
     let come = (file_comes(&mut host, &name), has(&host, &name, b"tail"));
     let gone = (file_goes(&mut host, &name), host.memory_count());
-    assert_eq!(rt;
-        (come, gone),
-        ((Ok(Some(4)), true), (Ok(None), 0))
-    );
+    assert_eq!(rt; (come, gone), ((Ok(Some(4)), true), (Ok(None), 0)));
     Ok(())
 }
 
@@ -56,7 +53,10 @@ fn pages_and_bytes_are_read_as_written(rt: HostRuntime) -> Result<(), Fail> {
     let mut host = MemHost::new(rt.alloc())?;
     host.write_page(&name, 1, &[7; 1024])?;
     let pages = [page_at(&mut host, &name, 1), page_at(&mut host, &name, 2)];
-    let bytes = [bytes_at(&mut host, &name, 1948), bytes_at(&mut host, &name, u64::MAX)];
+    let bytes = [
+        bytes_at(&mut host, &name, 1948),
+        bytes_at(&mut host, &name, u64::MAX),
+    ];
     assert_eq!(rt;
         (pages, bytes, host.read_count()),
         (
@@ -139,10 +139,7 @@ fn picks_leave_different_files(rt: HostRuntime) -> Result<(), Fail> {
     let torn = two_left(&host.left(22)?, &written, &made);
     assert_eq!(rt;
         (lost, torn),
-        (
-            [Some((1, 1)), None],
-            [Some((1, 1)), Some((b'a', 0))]
-        )
+        ([Some((1, 1)), None], [Some((1, 1)), Some((b'a', 0))])
     );
     Ok(())
 }
