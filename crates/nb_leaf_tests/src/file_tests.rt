@@ -180,27 +180,6 @@ fn files_are_written_and_read(rt: HostRuntime) -> Result<(), Fail> {
     Ok(())
 }
 
-/// What is answered of one file that two hosts write, and how often a call of each has failed.
-fn two_writers<R: Files>(
-    host: &mut FileHost<R>,
-    writer: &mut FileHost<R>,
-    name: &Name,
-    same: &Name,
-) -> ([bool; 14], (u64, u64)) {
-    let answers = file_is_held(host, writer, name, same);
-    (answers, (host.fault_count(), writer.fault_count()))
-}
-
-/// What is answered of one file that two hosts read, and how often a call of each has failed.
-fn two_readers<R: Files>(
-    host: &mut FileHost<R>,
-    reader: &mut FileHost<R>,
-    name: &Name,
-) -> ([bool; 3], (u64, u64)) {
-    let answers = readers_share(host, reader, name);
-    (answers, (host.fault_count(), reader.fault_count()))
-}
-
 #[test]
 fn files_are_locked(rt: HostRuntime) -> Result<(), Fail> {
     let name = name_of("nb_file_lock.db")?;
@@ -209,15 +188,23 @@ fn files_are_locked(rt: HostRuntime) -> Result<(), Fail> {
     let below = name_of("nb_file_lock.db/x")?;
     let mut host = FileHost::new(rt, rt.alloc());
     let mut writer = FileHost::new(rt, rt.alloc());
-    let held = two_writers(&mut host, &mut writer, &name, &same);
+    let held = file_is_held(&mut host, &mut writer, &name, &same);
+    let write_faults = (host.fault_count(), writer.fault_count());
     drop(writer);
     let mut reader = FileHost::new(rt, rt.alloc());
-    let shared = two_readers(&mut host, &mut reader, &name);
+    let shared = readers_share(&mut host, &mut reader, &name);
+    let read_faults = (host.fault_count(), reader.fault_count());
     drop(reader);
     let is_gone = host.remove(&name);
     let none = folder_is_no_file(&mut host, &folder, &below);
     assert_eq!(rt;
-        (held, shared, is_gone, none, host.fault_count()),
+        (
+            (held, write_faults),
+            (shared, read_faults),
+            is_gone,
+            none,
+            host.fault_count()
+        ),
         (
             ([true; 14], (2, 3)),
             ([true; 3], (3, 0)),
