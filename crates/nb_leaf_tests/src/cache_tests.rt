@@ -25,26 +25,60 @@ fn drop_page(cache: &mut Cache, page: u32)
     }
 }
 
+// What is answered of three pages, of which two are held, the last used ones.
+fn three_kept(cache: &mut Cache) -> (bool, [u8; 4], [bool; 2], u32)
+    requires { cache.old.page_size ≡ 4 }
+    ensures { cache.new.page_size ≡ cache.old.page_size }
+{
+    let mut page = [0; 4];
+    keep(cache, 7, b'a');
+    keep(cache, 8, b'b');
+    let is_found = cache.look(7, &mut page);
+    keep(cache, 9, b'c');
+    let are_held = [cache.peek(8, &mut [0; 4]), cache.peek(9, &mut [0; 4])];
+    (is_found, page, are_held, cache.held())
+}
+
+// Which pages can wait, and which goes out first, before and after one of them has.
+fn two_waiting(cache: &mut Cache) -> ([bool; 3], [Option<(u32, u8)>; 2], Option<u32>)
+    requires { cache.old.page_size ≡ 4 }
+    ensures { cache.new.page_size ≡ cache.old.page_size }
+{
+    let do_wait = [cache.dirty(7, 3), cache.dirty(9, 2), cache.dirty(8, 1)];
+    let first = cache.next_dirty();
+    let would_drop = cache.would_drop(8);
+    if cache.peek(9, &mut [0; 4]) {
+        cache.clean(9);
+    }
+    (do_wait, [first, cache.next_dirty()], would_drop)
+}
+
+// What is left of a page that is dropped.
+fn one_dropped(cache: &mut Cache) -> (bool, u32, Option<u32>)
+    requires { cache.old.page_size ≡ 4 }
+{
+    drop_page(cache, 7);
+    (
+        cache.look(7, &mut [0; 4]),
+        cache.held(),
+        cache.would_drop(8),
+    )
+}
+
 #[test]
 fn last_used_pages_are_held(rt: HostRuntime) -> Result<(), Fault> {
     let mut cache = Cache::new(rt.alloc(), 2, 4)?;
-    let mut page = [0; 4];
-    keep(&mut cache, 7, b'a');
-    keep(&mut cache, 8, b'b');
-    assert!(rt; cache.look(7, &mut page) && page == *b"aaaa");
-    keep(&mut cache, 9, b'c');
-    assert!(rt; !cache.peek(8, &mut page) && cache.peek(9, &mut page));
-    assert_eq!(rt; cache.held(), 2);
-    assert!(rt; cache.dirty(7, 3) && cache.dirty(9, 2) && !cache.dirty(8, 1));
-    assert_eq!(rt; cache.next_dirty(), Some((9, 2)));
-    assert_eq!(rt; cache.would_drop(8), Some(7));
-    if cache.peek(9, &mut page) {
-        cache.clean(9);
-    }
-    assert_eq!(rt; cache.next_dirty(), Some((7, 3)));
-    drop_page(&mut cache, 7);
-    assert!(rt; !cache.look(7, &mut page) && cache.held() == 1);
-    assert_eq!(rt; cache.would_drop(8), None);
+    let kept = three_kept(&mut cache);
+    let waiting = two_waiting(&mut cache);
+    let dropped = one_dropped(&mut cache);
+    assert_eq!(rt;
+        (kept, waiting, dropped),
+        (
+            (true, *b"aaaa", [false, true], 2),
+            ([true, true, false], [Some((9, 2)), Some((7, 3))], Some(7)),
+            (false, 1, None)
+        )
+    );
     Ok(())
 }
 

@@ -1,8 +1,8 @@
 // The calls on real files. What lies in the files is asked of the system, beside the host.
+use crate::sample::name_of;
 use nb_file::FileHost;
 use nb_host::{Host, HostFault, Name};
 use std::fs;
-use std::process::Abort;
 use std::rt::Files;
 use std::test::Fail;
 
@@ -44,120 +44,174 @@ fn len_in_system<R: Files>(rt: &R, path: &str) -> Option<u64> {
     }
 }
 
-/// Pages and bytes are read as they were written, while they wait and when they are written, and nothing past the end.
-fn writes_are_read<A: Abort + Files, H: Host>(rt: &A, host: &mut H, name: &Name) {
-    assert_eq!(rt; host.make(name), Ok(()));
-    assert_eq!(rt; write_pages(host, name), 200);
-    assert_eq!(rt; host.append(name, &[5; 3]), Ok(()));
-    assert_eq!(rt; len_in_system(rt, name.as_str()), Some(0));
-    assert_eq!(rt; read_pages(host, name), 200);
-    assert_eq!(rt; len_in_system(rt, name.as_str()), Some(204_803));
-    assert_eq!(rt; host.size(name), Ok(Some(204_803)));
-    assert_eq!(rt; host.write_page(name, 7, &page_of(7)), Ok(()));
-    assert_eq!(rt; read_pages(host, name), 200);
-    let mut page = page_of(0);
-    assert_eq!(rt; host.read_page(name, 200, &mut page), Ok(false));
-    assert_eq!(rt; host.read_at(name, 204_800, &mut page), Ok(3));
-    assert_eq!(rt; page[2], 5);
-    assert_eq!(rt; host.read_at(name, u64::MAX, &mut page), Ok(0));
+/// Whether the file is that long for the system.
+fn is_long<R: Files>(rt: &R, name: &Name, len: u64) -> bool {
+    len_in_system(rt, name.as_str()) == Some(len)
 }
 
-/// What waits is written before another file is, before a reply and before a sync.
-fn writes_keep_their_order<A: Abort + Files, H: Host>(
-    rt: &A,
+/// Whether pages are read as they were written, while they wait and when they are written.
+fn pages_are_read<R: Files, H: Host>(rt: &R, host: &mut H, name: &Name) -> [bool; 9] {
+    [
+        host.make(name) == Ok(()),
+        write_pages(host, name) == 200,
+        host.append(name, &[5; 3]) == Ok(()),
+        is_long(rt, name, 0),
+        read_pages(host, name) == 200,
+        is_long(rt, name, 204_803),
+        host.size(name) == Ok(Some(204_803)),
+        host.write_page(name, 7, &page_of(7)) == Ok(()),
+        read_pages(host, name) == 200,
+    ]
+}
+
+/// What is read of pages and bytes at the end, and the last of these bytes.
+fn read_at_end<H: Host>(
+    host: &mut H,
+    name: &Name,
+) -> (Result<bool, HostFault>, Result<usize, HostFault>, u8) {
+    let mut page = page_of(0);
+    let is_page = host.read_page(name, 200, &mut page);
+    let count = host.read_at(name, 204_800, &mut page);
+    (is_page, count, page[2])
+}
+
+/// What is read past the end of all files.
+fn read_past_end<H: Host>(host: &mut H, name: &Name) -> Result<usize, HostFault> {
+    host.read_at(name, u64::MAX, &mut page_of(0))
+}
+
+/// Whether what waits is written before another file is, before a reply and before a sync.
+fn writes_keep_their_order<R: Files, H: Host>(
+    rt: &R,
     host: &mut H,
     name: &Name,
     other: &Name,
-) {
-    assert_eq!(rt; host.write_page(name, 300, &page_of(1)), Ok(()));
-    assert_eq!(rt; len_in_system(rt, name.as_str()), Some(204_803));
-    assert_eq!(rt; host.append(other, &[1]), Ok(()));
-    assert_eq!(rt; len_in_system(rt, name.as_str()), Some(308_224));
-    assert_eq!(rt; len_in_system(rt, other.as_str()), Some(0));
-    assert_eq!(rt; host.say(b"real files\n"), Ok(()));
-    assert_eq!(rt; len_in_system(rt, other.as_str()), Some(1));
-    assert_eq!(rt; host.append(other, &[2]), Ok(()));
-    assert_eq!(rt; host.sync(name), Ok(()));
-    assert_eq!(rt; len_in_system(rt, other.as_str()), Some(2));
-    assert_eq!(rt; host.append(other, &[3]), Ok(()));
-    assert_eq!(rt; host.remove(other), Ok(()));
-    assert_eq!(rt; len_in_system(rt, other.as_str()), None);
+) -> [bool; 13] {
+    [
+        host.write_page(name, 300, &page_of(1)) == Ok(()),
+        is_long(rt, name, 204_803),
+        host.append(other, &[1]) == Ok(()),
+        is_long(rt, name, 308_224),
+        is_long(rt, other, 0),
+        host.say(b"real files\n") == Ok(()),
+        is_long(rt, other, 1),
+        host.append(other, &[2]) == Ok(()),
+        host.sync(name) == Ok(()),
+        is_long(rt, other, 2),
+        host.append(other, &[3]) == Ok(()),
+        host.remove(other) == Ok(()),
+        len_in_system(rt, other.as_str()).is_none(),
+    ]
 }
 
-/// A file that is written is held against everyone else, and one that is only read against those who write.
-fn file_is_held<A: Abort, H: Host>(rt: &A, host: &mut H, other: &mut H, name: &Name, same: &Name) {
-    let mut page = page_of(0);
-    assert_eq!(rt; host.write_page(name, 0, &page), Ok(()));
-    assert_eq!(rt; host.read_page(same, 0, &mut page), Err(HostFault));
-    assert_eq!(rt; other.size(name), Err(HostFault));
-    assert_eq!(rt; other.make(name), Err(HostFault));
-    assert_eq!(rt; other.remove(name), Err(HostFault));
-    assert_eq!(rt; host.size(name), Ok(Some(1024)));
-    assert_eq!(rt; host.remove(name), Ok(()));
-    assert_eq!(rt; host.append(name, &[1]), Ok(()));
-    assert_eq!(rt; host.remove(name), Ok(()));
-    assert_eq!(rt; host.remove(name), Ok(()));
-    assert_eq!(rt; host.sync(name), Ok(()));
-    assert_eq!(rt; other.append(name, &[1, 2]), Ok(()));
-    assert_eq!(rt; other.sync(name), Ok(()));
-    assert_eq!(rt; host.size(name), Err(HostFault));
+/// Whether a file that is written is held against everyone else, and one that is only read against those who write.
+fn file_is_held<H: Host>(host: &mut H, other: &mut H, name: &Name, same: &Name) -> [bool; 14] {
+    [
+        host.write_page(name, 0, &page_of(0)) == Ok(()),
+        host.read_page(same, 0, &mut page_of(0)) == Err(HostFault),
+        other.size(name) == Err(HostFault),
+        other.make(name) == Err(HostFault),
+        other.remove(name) == Err(HostFault),
+        host.size(name) == Ok(Some(1024)),
+        host.remove(name) == Ok(()),
+        host.append(name, &[1]) == Ok(()),
+        host.remove(name) == Ok(()),
+        host.remove(name) == Ok(()),
+        host.sync(name) == Ok(()),
+        other.append(name, &[1, 2]) == Ok(()),
+        other.sync(name) == Ok(()),
+        host.size(name) == Err(HostFault),
+    ]
 }
 
-/// Two may read a file, and neither may write it then.
-fn readers_share<A: Abort, H: Host>(rt: &A, host: &mut H, other: &mut H, name: &Name) {
-    assert_eq!(rt; host.size(name), Ok(Some(2)));
-    assert_eq!(rt; other.size(name), Ok(Some(2)));
-    assert_eq!(rt; host.append(name, &[3]), Err(HostFault));
+/// Whether two may read a file, and neither may write it then.
+fn readers_share<H: Host>(host: &mut H, other: &mut H, name: &Name) -> [bool; 3] {
+    [
+        host.size(name) == Ok(Some(2)),
+        other.size(name) == Ok(Some(2)),
+        host.append(name, &[3]) == Err(HostFault),
+    ]
 }
 
-/// A folder is no file, and a name below a file is none either.
-fn folder_is_no_file<A: Abort, H: Host>(rt: &A, host: &mut H, folder: &Name, below: &Name) {
-    let mut page = page_of(0);
-    assert_eq!(rt; host.size(folder), Err(HostFault));
-    assert_eq!(rt; host.read_page(folder, 0, &mut page), Err(HostFault));
-    assert_eq!(rt; host.remove(folder), Err(HostFault));
-    assert_eq!(rt; host.size(below), Ok(None));
+/// Whether a folder is no file, and a name below a file is none either.
+fn folder_is_no_file<H: Host>(host: &mut H, folder: &Name, below: &Name) -> [bool; 4] {
+    [
+        host.size(folder) == Err(HostFault),
+        host.read_page(folder, 0, &mut page_of(0)) == Err(HostFault),
+        host.remove(folder) == Err(HostFault),
+        host.size(below) == Ok(None),
+    ]
 }
 
-/// A GUID of version 4 each time another, and this century's time.
-fn system_answers<A: Abort, H: Host>(rt: &A, host: &mut H) -> Result<(), Fail> {
+/// Whether a GUID is one of version 4, the next another, and the time this century's.
+fn system_answers<H: Host>(host: &mut H) -> Result<[bool; 3], HostFault> {
     let guid = host.guid()?;
-    assert_eq!(rt; (guid[6] / 16, guid[8] / 64), (4, 2));
-    assert_ne!(rt; host.guid()?, guid);
-    assert!(rt; host.seconds()? > 1_700_000_000);
-    Ok(())
+    Ok([
+        (guid[6] / 16, guid[8] / 64) == (4, 2),
+        host.guid()? != guid,
+        host.seconds()? > 1_700_000_000,
+    ])
 }
 
 #[test]
 fn files_are_written_and_read(rt: HostRuntime) -> Result<(), Fail> {
+    let name = name_of("nb_file_test.db")?;
+    let other = name_of("nb_file_test.level")?;
     let mut host = FileHost::new(rt, rt.alloc());
-    let name = Name::read("nb_file_test.db").ok_or("no name")?;
-    let other = Name::read("nb_file_test.level").ok_or("no name")?;
-    writes_are_read(&rt, &mut host, &name);
-    writes_keep_their_order(&rt, &mut host, &name, &other);
-    system_answers(&rt, &mut host)?;
-    assert_eq!(rt; host.remove(&name), Ok(()));
-    assert_eq!(rt; host.fault_count(), 0);
+    let pages = pages_are_read(&rt, &mut host, &name);
+    let end = (
+        read_at_end(&mut host, &name),
+        read_past_end(&mut host, &name),
+    );
+    let order = writes_keep_their_order(&rt, &mut host, &name, &other);
+    let system = system_answers(&mut host);
+    let is_gone = host.remove(&name);
+    assert_eq!(rt;
+        (pages, end, order, system, is_gone, host.fault_count()),
+        (
+            [true; 9],
+            ((Ok(false), Ok(3), 5), Ok(0)),
+            [true; 13],
+            Ok([true; 3]),
+            Ok(()),
+            0
+        )
+    );
     Ok(())
 }
 
 #[test]
 fn files_are_locked(rt: HostRuntime) -> Result<(), Fail> {
-    let name = Name::read("nb_file_lock.db").ok_or("no name")?;
-    let same = Name::read("./nb_file_lock.db").ok_or("no name")?;
+    let name = name_of("nb_file_lock.db")?;
+    let same = name_of("./nb_file_lock.db")?;
+    let folder = name_of(".")?;
+    let below = name_of("nb_file_lock.db/x")?;
     let mut host = FileHost::new(rt, rt.alloc());
     let mut writer = FileHost::new(rt, rt.alloc());
-    file_is_held(&rt, &mut host, &mut writer, &name, &same);
-    assert_eq!(rt; (host.fault_count(), writer.fault_count()), (2, 3));
+    let held = file_is_held(&mut host, &mut writer, &name, &same);
+    let write_faults = (host.fault_count(), writer.fault_count());
     drop(writer);
     let mut reader = FileHost::new(rt, rt.alloc());
-    readers_share(&rt, &mut host, &mut reader, &name);
-    assert_eq!(rt; (host.fault_count(), reader.fault_count()), (3, 0));
+    let shared = readers_share(&mut host, &mut reader, &name);
+    let read_faults = (host.fault_count(), reader.fault_count());
     drop(reader);
-    assert_eq!(rt; host.remove(&name), Ok(()));
-    let folder = Name::read(".").ok_or("no name")?;
-    let below = Name::read("nb_file_lock.db/x").ok_or("no name")?;
-    folder_is_no_file(&rt, &mut host, &folder, &below);
-    assert_eq!(rt; host.fault_count(), 6);
+    let is_gone = host.remove(&name);
+    let none = folder_is_no_file(&mut host, &folder, &below);
+    assert_eq!(rt;
+        (
+            (held, write_faults),
+            (shared, read_faults),
+            is_gone,
+            none,
+            host.fault_count()
+        ),
+        (
+            ([true; 14], (2, 3)),
+            ([true; 3], (3, 0)),
+            Ok(()),
+            [true; 4],
+            6
+        )
+    );
     Ok(())
 }

@@ -1,5 +1,6 @@
-//! The tests of the crates below the store: of the hosts, of fields and pages, of pages in memory, of the files of a backup, of scripts and
-//! words, and of turns.
+//! The tests of the crates below the store that no whole run can say: of the hosts, of fields and pages, of pages in memory, of single calls
+//! of a difference file and of the reader of a level, of lists, of scripts and words as values, and of turns. What whole runs say of these
+//! crates is in `nb_trials`.
 //!
 //! They stand in a crate of their own, over the crates that they test, since a crate with tests is proved twice.
 #![tactic(auto)]
@@ -9,15 +10,11 @@ mod cache_tests;
 #[cfg(test)]
 mod cases_tests;
 #[cfg(test)]
-mod chain_tests;
-#[cfg(test)]
 mod delta_tests;
 #[cfg(test)]
 mod fields_tests;
 #[cfg(test)]
 mod file_tests;
-#[cfg(test)]
-mod fixup_tests;
 #[cfg(test)]
 mod level_tests;
 #[cfg(test)]
@@ -28,8 +25,6 @@ mod model_tests;
 mod page_tests;
 #[cfg(test)]
 mod pip_tests;
-#[cfg(test)]
-mod restore_tests;
 #[cfg(test)]
 mod sample;
 #[cfg(test)]

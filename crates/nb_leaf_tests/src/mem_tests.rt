@@ -3,9 +3,23 @@ use nb_host::{Host, HostFault, Name};
 use nb_mem::MemHost;
 use std::test::Fail;
 
-/// The bytes of a file, or these where there is none.
-fn bytes_of<'a>(host: &'a MemHost, name: &Name) -> &'a [u8] {
-    host.file(name).unwrap_or(b"none")
+/// The length of a file, in bytes, that was placed, made again, filled and synced.
+fn file_comes(host: &mut MemHost, name: &Name) -> Result<Option<u64>, HostFault> {
+    host.make(name)?;
+    host.append(name, b"tail")?;
+    host.sync(name)?;
+    host.size(name)
+}
+
+/// What its length is without it.
+fn file_goes(host: &mut MemHost, name: &Name) -> Result<Option<u64>, HostFault> {
+    host.remove(name)?;
+    host.size(name)
+}
+
+/// Whether the file has these bytes.
+fn has(host: &MemHost, name: &Name, bytes: &[u8]) -> bool {
+    host.file(name) == Some(bytes)
 }
 
 #[test]
@@ -13,30 +27,24 @@ fn files_come_and_go(rt: HostRuntime) -> Result<(), Fail> {
     let name = name_of("a.db")?;
     let mut host = MemHost::new(rt.alloc())?;
     host.put_file(&name, b"abc")?;
-    host.make(&name)?;
-    host.append(&name, b"tail")?;
-    host.sync(&name)?;
-    assert_eq!(rt;
-        (host.size(&name)?, bytes_of(&host, &name)),
-        (Some(4), b"tail".as_slice())
-    );
-    host.remove(&name)?;
-    assert_eq!(rt; (host.size(&name)?, host.memory_count()), (None, 0));
+    let come = (file_comes(&mut host, &name), has(&host, &name, b"tail"));
+    let gone = (file_goes(&mut host, &name), host.memory_count());
+    assert_eq!(rt; (come, gone), ((Ok(Some(4)), true), (Ok(None), 0)));
     Ok(())
 }
 
 /// Whether a page is read whole, and its first byte and its last one, of which each was 9.
-fn page_at(host: &mut MemHost, name: &Name, index: u32) -> Result<(bool, u8, u8), HostFault> {
+fn page_at(host: &mut MemHost, name: &Name, index: u32) -> (Result<bool, HostFault>, u8, u8) {
     let mut page = [9; 1024];
-    let is_whole = host.read_page(name, index, &mut page)?;
-    Ok((is_whole, page[0], page[1023]))
+    let is_whole = host.read_page(name, index, &mut page);
+    (is_whole, page[0], page[1023])
 }
 
 /// How many bytes are read, and the first of 1,024 and the last one, of which each was 9.
-fn bytes_at(host: &mut MemHost, name: &Name, at: u64) -> Result<(usize, u8, u8), HostFault> {
+fn bytes_at(host: &mut MemHost, name: &Name, at: u64) -> (Result<usize, HostFault>, u8, u8) {
     let mut bytes = [9; 1024];
-    let count = host.read_at(name, at, &mut bytes)?;
-    Ok((count, bytes[0], bytes[1023]))
+    let count = host.read_at(name, at, &mut bytes);
+    (count, bytes[0], bytes[1023])
 }
 
 #[test]
@@ -44,44 +52,62 @@ fn pages_and_bytes_are_read_as_written(rt: HostRuntime) -> Result<(), Fail> {
     let name = name_of("a.db")?;
     let mut host = MemHost::new(rt.alloc())?;
     host.write_page(&name, 1, &[7; 1024])?;
-    assert_eq!(rt; page_at(&mut host, &name, 1)?, (true, 7, 7));
-    assert_eq!(rt; page_at(&mut host, &name, 2)?, (false, 9, 9));
-    assert_eq!(rt; bytes_at(&mut host, &name, 1948)?, (100, 7, 9));
+    let pages = [page_at(&mut host, &name, 1), page_at(&mut host, &name, 2)];
+    let bytes = [
+        bytes_at(&mut host, &name, 1948),
+        bytes_at(&mut host, &name, u64::MAX),
+    ];
     assert_eq!(rt;
-        (bytes_at(&mut host, &name, u64::MAX)?, host.read_count()),
-        ((0, 9, 9), 4)
+        (pages, bytes, host.read_count()),
+        (
+            [(Ok(true), 7, 7), (Ok(false), 9, 9)],
+            [(Ok(100), 7, 9), (Ok(0), 9, 9)],
+            4
+        )
     );
     Ok(())
+}
+
+/// The second GUID and the second time, around a reply.
+fn second_answers(host: &mut MemHost) -> Result<([u8; 16], u64), HostFault> {
+    host.guid()?;
+    host.seconds()?;
+    host.say(b"x")?;
+    Ok((host.guid()?, host.seconds()?))
 }
 
 #[test]
 fn output_guids_and_times(rt: HostRuntime) -> Result<(), Fail> {
     let mut host = MemHost::new(rt.alloc())?;
-    host.guid()?;
-    host.seconds()?;
-    host.say(b"x")?;
+    let answers = second_answers(&mut host)?;
     assert_eq!(rt;
-        (host.guid()?, host.seconds()?),
-        (*b"\0\0\0\0\0\0\0\0\0\0\0\0\0\0\0\x02", 1_000_000_001)
+        (answers, host.output(), host.calls()),
+        (
+            (*b"\0\0\0\0\0\0\0\0\0\0\0\0\0\0\0\x02", 1_000_000_001),
+            b"x".as_slice(),
+            5
+        )
     );
-    assert_eq!(rt; (host.output(), host.calls()), (b"x".as_slice(), 5));
     Ok(())
+}
+
+/// What three calls answer, and how many of them have failed.
+fn three_calls(host: &mut MemHost) -> ([Result<(), HostFault>; 3], u64) {
+    let answers = [host.say(b"x"), host.say(b"x"), host.say(b"x")];
+    (answers, host.fault_count())
 }
 
 #[test]
 fn chosen_calls_fail(rt: HostRuntime) -> Result<(), Fail> {
-    let mut failing = MemHost::failing(rt.alloc(), &[2])?;
+    let failing = three_calls(&mut MemHost::failing(rt.alloc(), &[2])?);
+    let fused = three_calls(&mut MemHost::fused(rt.alloc(), 2)?);
     assert_eq!(rt;
-        (failing.say(b"x"), failing.say(b"x")),
-        (Ok(()), Err(HostFault))
+        (failing, fused),
+        (
+            ([Ok(()), Err(HostFault), Ok(())], 1),
+            ([Ok(()), Err(HostFault), Err(HostFault)], 2)
+        )
     );
-    assert_eq!(rt; (failing.say(b"x"), failing.fault_count()), (Ok(()), 1));
-    let mut fused = MemHost::fused(rt.alloc(), 2)?;
-    assert_eq!(rt;
-        (fused.say(b"x"), fused.say(b"x")),
-        (Ok(()), Err(HostFault))
-    );
-    assert_eq!(rt; (fused.say(b"x"), fused.fault_count()), (Err(HostFault), 2));
     Ok(())
 }
 
@@ -91,23 +117,29 @@ fn ends_of(host: &MemHost, name: &Name) -> Option<(u8, u8)> {
     Some((*bytes.first()?, *bytes.last()?))
 }
 
+/// Writes a page of a file that is kept, and makes another file.
+fn write_and_make(host: &mut MemHost, written: &Name, made: &Name) -> Result<(), HostFault> {
+    host.write_page(written, 0, &[2; 1024])?;
+    host.make(made)?;
+    host.append(made, b"abcd")
+}
+
+/// What is left of the two files.
+fn two_left(host: &MemHost, written: &Name, made: &Name) -> [Option<(u8, u8)>; 2] {
+    [ends_of(host, written), ends_of(host, made)]
+}
+
 #[test]
 fn picks_leave_different_files(rt: HostRuntime) -> Result<(), Fail> {
     let (written, made) = (name_of("written")?, name_of("made")?);
     let mut host = MemHost::new(rt.alloc())?;
     host.put_file(&written, &[1; 1024])?;
-    host.write_page(&written, 0, &[2; 1024])?;
-    host.make(&made)?;
-    host.append(&made, b"abcd")?;
-    let lost = host.left(0)?;
+    write_and_make(&mut host, &written, &made)?;
+    let lost = two_left(&host.left(0)?, &written, &made);
+    let torn = two_left(&host.left(22)?, &written, &made);
     assert_eq!(rt;
-        (ends_of(&lost, &written), ends_of(&lost, &made)),
-        (Some((1, 1)), None)
-    );
-    let torn = host.left(22)?;
-    assert_eq!(rt;
-        (ends_of(&torn, &written), ends_of(&torn, &made)),
-        (Some((1, 1)), Some((b'a', 0)))
+        (lost, torn),
+        ([Some((1, 1)), None], [Some((1, 1)), Some((b'a', 0))])
     );
     Ok(())
 }

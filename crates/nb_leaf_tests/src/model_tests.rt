@@ -34,23 +34,42 @@ fn two_names(alloc: Global) -> usize {
 
 #[test]
 fn lists_take_what_is_pushed(rt: HostRuntime) {
-    assert_eq!(rt; a_text(rt.alloc()), 5);
-    let rows = two_rows(rt.alloc());
-    assert_eq!(rt; rows.0, 2);
-    assert_eq!(rt; rows.1, 9);
-    assert_eq!(rt; two_names(rt.alloc()), 2);
+    let alloc = rt.alloc();
+    assert_eq!(rt;
+        (a_text(alloc), two_rows(alloc), two_names(alloc)),
+        (5, (2, 9), 2)
+    );
+}
+
+/// Whether each of these may be a table's name.
+fn are_names() -> [bool; 4] {
+    [
+        TableName::read("t_1").is_some(),
+        TableName::read("1t").is_some(),
+        TableName::read("").is_some(),
+        TableName::read("abcdefghijklmnopqrstuvwxyzabcde").is_some(),
+    ]
+}
+
+/// Whether each of these is done today.
+fn are_built() -> [bool; 5] {
+    [
+        is_built(&Statement::Read { page: 0 }),
+        is_built(&Statement::Free { page: 5 }),
+        is_built(&Statement::EndBackup),
+        is_built(&Statement::ShowPages),
+        is_built(&Statement::ShowCache),
+    ]
 }
 
 #[test]
-fn names_of_tables(rt: HostRuntime) {
-    assert!(rt; TableName::read("t_1").is_some());
-    assert!(rt; TableName::read("1t").is_none());
-    assert!(rt; TableName::read("").is_none());
-    assert!(rt; TableName::read("abcdefghijklmnopqrstuvwxyzabcde").is_none());
-    assert!(rt; is_built(&Statement::Read { page: 0 }));
-    assert!(rt; is_built(&Statement::Free { page: 5 }));
-    assert!(rt; is_built(&Statement::EndBackup));
-    assert!(rt; is_built(&Statement::ShowPages));
-    assert!(rt; !is_built(&Statement::ShowCache));
-    assert!(rt; are_schedules_built());
+fn names_of_tables_and_statements(rt: HostRuntime) {
+    assert_eq!(rt;
+        (are_names(), are_built(), are_schedules_built()),
+        (
+            [true, false, false, false],
+            [true, true, true, true, false],
+            true
+        )
+    );
 }
