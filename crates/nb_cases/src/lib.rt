@@ -10,6 +10,3 @@ mod syncs;
 
 pub use events::{Case, Event, case_of};
 pub use syncs::{Syncs, syncs_of};
-
-#[cfg(test)]
-mod tests;

@@ -22,6 +22,3 @@ pub use places::{
     MOST_PAGES, bits_in, entries_in, is_inventory_place, is_page_size, is_scn_place,
     is_system_place, most_pages,
 };
-
-#[cfg(test)]
-mod tests;

@@ -20,6 +20,3 @@ pub use fresh_page::fresh;
 pub use header::{Header, read_header, write_header};
 pub use page::{PageHead, read_head, stamp};
 pub use text::{put_text, raw_text};
-
-#[cfg(test)]
-mod tests;

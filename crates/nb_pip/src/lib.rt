@@ -10,8 +10,6 @@
 mod bits;
 mod fresh;
 mod places;
-#[cfg(test)]
-mod tests;
 
 pub use bits::{give, is_used, lowest_free, take};
 pub use fresh::fill;

@@ -7,8 +7,6 @@
 
 mod entries;
 mod places;
-#[cfg(test)]
-mod tests;
 
 pub use entries::{entry, fill, raise};
 pub use places::{covers, is_place, place_of};
