@@ -5,12 +5,12 @@ use nb_page::{
 use std::test::Fail;
 
 /// How many pages a new database with eight raw pages has, and one of them.
-fn new_page(number: u32) -> (u32, [u8; 1024])
-    requires { number < 13 }
-{
+fn new_page(number: u32) -> (u32, [u8; 1024]) {
     let mut page = [7; 1024];
     let count = fresh_count(1024, 8);
-    fresh(&mut page, 8, number);
+    if number < count {
+        fresh(&mut page, 8, number);
+    }
     (count, page)
 }
 
@@ -24,8 +24,12 @@ fn a_new_database_is_as_the_format_says(rt: HostRuntime) -> Result<(), Fail> {
     let (count, first) = new_page(0);
     let (_, inventory) = new_page(1);
     assert_eq!(rt;
-        (count, &first[..80], &inventory[32..35]),
-        (13, FIRST.as_slice(), b"\0\xe0\xff".as_slice())
+        (
+            count,
+            first.starts_with(FIRST),
+            inventory[32..].starts_with(b"\0\xe0\xff")
+        ),
+        (13, true, true)
     );
     Ok(())
 }

@@ -18,21 +18,6 @@ fn stand_at(size: u32, page: u32) -> [bool; 4]
 }
 
 #[test]
-fn last_places(rt: HostRuntime) {
-    assert_eq!(rt;
-        [
-            place_of(1024, 4228),
-            place_of(2048, 2080),
-            place_of(4096, 1032),
-            place_of(8192, 514),
-            place_of(16384, 256),
-            place_of(32768, 128),
-        ],
-        [1048544, 1048320, 1048512, 1048560, 1046528, 1047552]
-    );
-}
-
-#[test]
 fn first_places(rt: HostRuntime) {
     assert_eq!(rt;
         [
@@ -62,24 +47,33 @@ fn no_place_behind_the_last(rt: HostRuntime) {
     );
 }
 
+/// Where the entry of that page stands: the page that has it, that page's number among them, and the entry's number.
+fn entry_place(size: u32, page: u32) -> (u32, u32, u32)
+    requires size { IsTrue (is_page_size size) }
+    requires page { page < 2 ^ 20 }
+{
+    let (k, index) = covers(size, page);
+    (place_of(size, k), k, index)
+}
+
 #[test]
-fn entries_of_pages(rt: HostRuntime) {
+fn entries_of_the_last_places(rt: HostRuntime) {
     assert_eq!(rt;
         [
-            covers(1024, 1048551),
-            covers(2048, 1048327),
-            covers(4096, 1048519),
-            covers(8192, 1048567),
-            covers(16384, 1046535),
-            covers(32768, 1047559),
+            entry_place(1024, 1048551),
+            entry_place(2048, 1048327),
+            entry_place(4096, 1048519),
+            entry_place(8192, 1048567),
+            entry_place(16384, 1046535),
+            entry_place(32768, 1047559),
         ],
         [
-            (4228, 7),
-            (2080, 7),
-            (1032, 7),
-            (514, 7),
-            (256, 7),
-            (128, 7)
+            (1048544, 4228, 7),
+            (1048320, 2080, 7),
+            (1048512, 1032, 7),
+            (1048560, 514, 7),
+            (1046528, 256, 7),
+            (1047552, 128, 7),
         ]
     );
 }
