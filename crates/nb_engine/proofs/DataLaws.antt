@@ -9,12 +9,11 @@ use Rattle.nb_host.specs.declared.refusals.Refusal.{Refusal}
 use Rattle.nb_host.specs.declared.refusals.Refusal.TheVariants.{NotDatabase}
 use Rattle.nb_model.specs.Image.{Image, page_at, first_page}
 use Rattle.nb_model.specs.Forms.{is_kind}
-use Rattle.nb_model.specs.Causes.{Cause, when, not_kind}
+use Rattle.nb_model.specs.Causes.{when, not_kind}
 use Rattle.nb_model.specs.Chains.{owner_in}
 use Rattle.nb_model.proofs.HeaderLaws.{header-kind}
 use Rattle.nb_model.proofs.ReadLaws.{eq_no, eq_yes}
-use Rattle.nb_engine.specs.Data.{not_data, data_cause, ready_cause}
-use Rattle.nb_engine.specs.Mark.{mark_cause}
+use Rattle.nb_engine.specs.Data.{not_data, data_cause}
 use Rattle.nb_engine.specs.Put.{entry_cause}
 use Rattle.nb_engine.proofs.CauseLaws.{first_next, first_here, one_cause}
 use Rattle.nb_engine.proofs.PutLaws.{is_kind-parts, none_of}
@@ -78,23 +77,3 @@ behind_payload old bytes same = ap (λ (xs : List ℕ). take 16 old ++ xs) (sym 
 pub put_rest : (page rest : List ℕ) → take 16 page ++ (rest ++ drop (length page - 16) (drop 16 page)) ≡ take 16 page ++ rest
 put_rest page rest =
     ap (λ (xs : List ℕ). take 16 page ++ (rest ++ xs)) (drop_all (length page - 16) (drop 16 page) (omega (arith, length-drop 16 page))) ∙ ap (λ (xs : List ℕ). take 16 page ++ xs) (append-nil rest)
-
--- why it may not be written, or not be given back
-module _ (image : Image) (p : ℕ) where
-  abbrev marked : (free : Bool) → Cause
-  marked free = elim free [ true ↦ mark_cause image p | false ↦ None ]
-
-  pub not_ready_kind : (free : Bool) (r : Refusal) → not_kind image 5 p ≡ Some r → ready_cause image p free ≡ Some r
-  not_ready_kind free r e = first_here (not_kind image 5 p) (entry_cause image p ∷ marked free ∷ []) r e
-
-  pub not_ready_entry : (free : Bool) (r : Refusal) → not_kind image 5 p ≡ None → entry_cause image p ≡ Some r → ready_cause image p free ≡ Some r
-  not_ready_entry free r kind e = first_next (not_kind image 5 p) (entry_cause image p ∷ marked free ∷ []) kind ∙ first_here (entry_cause image p) (marked free ∷ []) r e
-
-  pub ready_by : (free : Bool) → not_kind image 5 p ≡ None → entry_cause image p ≡ None → ready_cause image p free ≡ marked free
-  ready_by free kind entry = first_next (not_kind image 5 p) (entry_cause image p ∷ marked free ∷ []) kind ∙ first_next (entry_cause image p) (marked free ∷ []) entry ∙ one_cause (marked free)
-
-  pub ready_bit : (free : Bool) → not_kind image 5 p ≡ None → entry_cause image p ≡ None → free ≡ true → ready_cause image p free ≡ mark_cause image p
-  ready_bit free kind entry e = ready_by free kind entry ∙ ap marked e
-
-  pub ready_write : (free : Bool) → not_kind image 5 p ≡ None → entry_cause image p ≡ None → free ≡ false → ready_cause image p free ≡ None
-  ready_write free kind entry e = ready_by free kind entry ∙ ap marked e

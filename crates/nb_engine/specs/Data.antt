@@ -1,5 +1,5 @@
 -- Data pages: what is read, made, written and given back of them.
-use Rattle.std.specs.Prelude.{ℕ, List, [], ◌∷◌, drop, Option, Some, None, Bool, true, false, not, ◌&&◌, ◌==◌}
+use Rattle.std.specs.Prelude.{ℕ, List, [], ◌∷◌, drop, Option, Some, None, Bool, not, ◌&&◌, ◌==◌}
 use Rattle.nb_fields.specs.Payloads.{data_payload}
 use Rattle.nb_host.specs.declared.refusals.Refusal.TheVariants.{NotDatabase}
 use Rattle.nb_model.specs.Image.{Page, Image, page_at}
@@ -7,7 +7,6 @@ use Rattle.nb_model.specs.Forms.{Draft, drafted, is_kind, put, new_page}
 use Rattle.nb_model.specs.Causes.{Cause, first_cause, when, not_kind}
 use Rattle.nb_model.specs.Chains.{Chain, owner_of, owner_in}
 use Rattle.nb_engine.specs.Put.{entry_cause}
-use Rattle.nb_engine.specs.Mark.{mark_cause}
 use Rattle.nb_engine.specs.Make.{new_of}
 
 -- page p is a data page of that owner
@@ -41,7 +40,3 @@ put_data p page image = put p 5 (drop 16 page) (drafted image)
 -- why it doesn't: it is no data page yet, or its SCN page isn't of its kind
 abbrev pub data_cause : Image → ℕ → Cause
 data_cause image p = first_cause (not_kind image 5 p ∷ entry_cause image p ∷ [])
-
--- why page p may not be written, or, where that is asked, not be given back
-abbrev pub ready_cause : Image → (p : ℕ) → (free : Bool) → Cause
-ready_cause image p free = first_cause (not_kind image 5 p ∷ entry_cause image p ∷ elim free [ true ↦ mark_cause image p | false ↦ None ] ∷ [])

@@ -10,17 +10,16 @@ ghost use Rattle.nb_model.specs.Sound.{IsSoundImage};
 ghost use Rattle.nb_model.specs.Trail.{Trail};
 ghost use Rattle.nb_base.specs.Takes.{IsNoRefusal};
 ghost use Rattle.nb_state.specs.Open.{IsOpen, but_pages};
-ghost use Rattle.nb_state.specs.Does.{Tested, Goes};
-ghost use Rattle.nb_engine.specs.Data.{not_data, put_data, data_cause, ready_cause};
+ghost use Rattle.nb_state.specs.Does.{Goes};
+ghost use Rattle.nb_engine.specs.Data.{not_data, put_data, data_cause};
 ghost use Rattle.nb_engine.specs.Mark.{mark_cause};
 ghost use Rattle.nb_engine.specs.Put.{Reads};
 ghost use Rattle.nb_engine.specs.Tries.{Tries};
 
 use crate::Engine;
 use crate::make::put_page;
-use crate::mark::{check_mark, mark};
+use crate::mark::mark;
 use crate::pages::ScnPage;
-use crate::put::must_raise;
 use crate::reads::take_system;
 use nb_fields::PageKind;
 use nb_fields::layouts::data;
@@ -151,46 +150,6 @@ impl Engine {
             host,
             number,
             true,
-            &mut self.map,
-            &mut self.scn_page,
-        )?;
-        Ok(())
-    }
-
-    /// Tests that page `number`, a data page, may be written, and, where that is asked, that it may be given back. It changes nothing but
-    /// which pages are in memory.
-    ///
-    /// The refusals are `NotDatabase` of the page, where it is past the end or no data page, of its SCN page, and, where it is to be given
-    /// back, of its inventory page and of the SCN page of that, in this order.
-    pub fn data_ready<H: Host>(
-        &mut self,
-        host: &mut H,
-        number: u32,
-        free: bool,
-    ) -> Result<(), Fault>
-        ensures test { (t : Trail) → IsTrue H.tells → IsOpen (H.world host.old) self.old t → Tested result (ready_cause t.base.image number free) }
-        ensures open { (t : Trail) → IsTrue H.tells → IsOpen (H.world host.old) self.old t → IsOpen (H.world host.new) self.new t }
-        ensures same { but_pages self.new ≡ but_pages self.old }
-        ensures quiet { Quiet (H.world host.old) (H.world host.new) }
-        ensures cause { CountsDevice result (H.faults host.old) (H.faults host.new) }
-    {
-        // A page that is read is below the length, and so below the most pages that there may be.
-        let _count = self.store.count();
-        take_system(
-            &mut self.store,
-            host,
-            number,
-            PageKind::Data,
-            &mut self.page,
-        )?;
-        must_raise(&mut self.store, host, number, &mut self.scn_page)?;
-        if !free {
-            return Ok(());
-        }
-        check_mark(
-            &mut self.store,
-            host,
-            number,
             &mut self.map,
             &mut self.scn_page,
         )?;

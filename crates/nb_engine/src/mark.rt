@@ -2,20 +2,19 @@
 ghost use Rattle.std.specs.Prelude.{◌≡◌, ◌+◌, ◌<◌, ◌≤◌, [], ◌∷◌, IsTrue, IfErr, None, length};
 ghost use Rattle.nb_fields.specs.Places.{bits_in};
 ghost use Rattle.nb_change.specs.Counts.{CountsDevice};
-ghost use Rattle.nb_page.specs.Quiet.{Quiet};
 ghost use Rattle.nb_model.specs.Image.{page_at};
 ghost use Rattle.nb_model.specs.Forms.{inventory_of};
 ghost use Rattle.nb_model.specs.Causes.{not_kind};
 ghost use Rattle.nb_model.specs.Trail.{Trail};
 ghost use Rattle.nb_base.specs.Takes.{IsNoRefusal};
-ghost use Rattle.nb_state.specs.Open.{IsOpen, but_pages};
-ghost use Rattle.nb_state.specs.Does.{Tested, Goes, Makes};
+ghost use Rattle.nb_state.specs.Open.{IsOpen};
+ghost use Rattle.nb_state.specs.Does.{Goes, Makes};
 ghost use Rattle.nb_engine.specs.Tries.{Tries};
 ghost use Rattle.nb_engine.specs.Put.{entry_cause};
 ghost use Rattle.nb_engine.specs.Mark.{bit_for, bit_stroke, mark_cause, mark_strokes};
 
 use crate::pages::{InventoryPage, ScnPage};
-use crate::put::{must_raise, raise_entry};
+use crate::put::raise_entry;
 use nb_host::{Fault, Host};
 use nb_pip::{covers, place_of};
 use nb_state::Store;
@@ -100,32 +99,5 @@ pub(crate) fn mark<H: Host>(
     let (k, _) = covers(page_size, number);
     map.read(store, host, place_of(page_size, k))?;
     put_map(store, host, number, free, map, scn_page)?;
-    Ok(())
-}
-
-/// Tests what `mark` tests of page `number`, in its order, and changes nothing.
-pub(crate) fn check_mark<H: Host>(
-    store: &mut Store,
-    host: &mut H,
-    number: u32,
-    map: &mut InventoryPage,
-    scn_page: &mut ScnPage,
-) -> Result<(), Fault>
-    requires map_room { length map.old ≡ store.old.files.page_size }
-    requires scn_room { length scn_page.old ≡ store.old.files.page_size }
-    requires number { number < 1048576 }
-    ensures test { (t : Trail) → IsTrue H.tells → IsOpen (H.world host.old) store.old t → Tested result (mark_cause t.base.image number) }
-    ensures map_room { length map.new ≡ length map.old }
-    ensures scn_room { length scn_page.new ≡ length scn_page.old }
-    ensures open { (t : Trail) → IsTrue H.tells → IsOpen (H.world host.old) store.old t → IsOpen (H.world host.new) store.new t }
-    ensures same { but_pages store.new ≡ but_pages store.old }
-    ensures quiet { Quiet (H.world host.old) (H.world host.new) }
-    ensures cause { CountsDevice result (H.faults host.old) (H.faults host.new) }
-{
-    let page_size = store.page_size();
-    let (k, _) = covers(page_size, number);
-    let place = place_of(page_size, k);
-    map.read(store, host, place)?;
-    must_raise(store, host, place, scn_page)?;
     Ok(())
 }

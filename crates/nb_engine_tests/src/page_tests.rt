@@ -89,10 +89,9 @@ fn a_raw_page_is_no_data_page(rt: HostRuntime) -> Result<(), Fail> {
     Ok(())
 }
 
-/// The number of a new page behind one that was given back, which was tested before.
+/// The number of a new page behind one that was given back.
 fn number_again(host: &mut MemHost, engine: &mut Engine) -> Result<u32, Fault> {
     engine.data_new(host, None, &[])?;
-    engine.data_ready(host, 13, true)?;
     engine.data_free(host, 13)?;
     engine.data_new(host, None, &[])
 }
@@ -104,14 +103,17 @@ fn a_data_page_is_given_back(rt: HostRuntime) -> Result<(), Fail> {
     Ok(())
 }
 
-/// The page that page 3 names as it is got ready where page 2 isn't the SCN page.
+/// The page that a write of page 3 names where page 2 isn't the SCN page.
 fn spoilt_page(host: &mut MemHost, engine: &mut Engine) -> Result<Option<u32>, Fault> {
+    if engine.page_size() != 1024 {
+        return Err(Fault::Device);
+    }
     host.write_page(&base_name()?, 2, &[8; 1024])?;
-    Ok(page_in(engine.data_ready(host, 3, false)))
+    Ok(page_in(engine.data_write(host, 3, &[0; 1024])))
 }
 
 #[test]
-fn a_page_is_not_ready_without_its_scn_page(rt: HostRuntime) -> Result<(), Fail> {
+fn a_page_is_not_written_without_its_scn_page(rt: HostRuntime) -> Result<(), Fail> {
     let host = MemHost::new(rt.alloc())?;
     assert_eq!(rt; on_new_base(rt.alloc(), host, spoilt_page)?, Some(2));
     Ok(())
