@@ -70,7 +70,7 @@ fn draft_and_clear(
     Ok((slot, before, counts(delta)))
 }
 
-/// All of it.
+/// The page of the second entry, and what drafting and clearing answer behind it.
 fn said(
     host: &mut MemHost,
     delta: &mut Delta,
