@@ -6,6 +6,7 @@ ghost use Rattle.nb_file.specs.Nothing.{silence, silence_timely, untold};
 use crate::disk::Disk;
 use crate::failure::Failure;
 use crate::guid::draw;
+use crate::held::place_of;
 use crate::progress::{Progress, Shown};
 use crate::table::Table;
 use nb_host::{Host, HostFault, Name};
@@ -151,14 +152,6 @@ where
     }
 }
 
-/// Where page `index` begins, counted in pages of the length of `page`.
-fn place_of(index: u32, page: &[u8]) -> u64
-    requires { length page.now ≤ 32768 }
-    ensures { result ≡ index * length page.now }
-{
-    u64::from(index) * page.len() as u64
-}
-
 impl<R: Files + Print + Eprint + Clock + Drop> Host for FileHost<R>
 where
     R::File: Disk + AsRawFd,
@@ -196,9 +189,7 @@ where
     }
 
     fn write_page(&mut self, name: &Name, index: u32, page: &[u8]) -> Result<(), HostFault> {
-        let outcome = self
-            .files
-            .write(&self.rt, name, place_of(index, page), page);
+        let outcome = self.files.write_page(&self.rt, name, index, page);
         self.note_progress(name);
         self.answer(outcome)
     }

@@ -15,6 +15,7 @@ mod ahead;
 mod disk;
 mod failure;
 mod folder;
+mod growth;
 mod guid;
 mod held;
 mod host;

@@ -327,12 +327,20 @@ where
         }
     }
 
-    pub fn write(&mut self, rt: &R, name: &Name, at: u64, bytes: &[u8]) -> Result<(), Failure>
+    pub fn write_page(
+        &mut self,
+        rt: &R,
+        name: &Name,
+        index: u32,
+        page: &[u8],
+    ) -> Result<(), Failure>
+        requires some { 0 < length page.now }
+        requires short { length page.now ≤ 32768 }
         ensures { OnOk result (IsFreeFor self.new.waiting.name name.now) }
     {
         self.turn_to(name)?;
         let i = self.claim_or_make(rt, name)?;
-        let outcome = self.files[i].write(&mut self.waiting, at, bytes);
+        let outcome = self.files[i].write_page(&mut self.waiting, index, page);
         named(outcome, name, Call::Write)
     }
 
