@@ -19,6 +19,7 @@ mod growth;
 mod guid;
 mod held;
 mod host;
+mod lock;
 mod progress;
 mod state;
 mod table;
