@@ -3,11 +3,10 @@ use crate::disk::{Disk, Sharing};
 use crate::failure::{Call, Failure, named};
 use nb_host::Name;
 use std::fs::{OpenFile, OpenOptions};
-use std::io;
 use std::os::fd::AsRawFd;
 use std::rt::{Clock, Files};
-use std::thread;
 use std::time::Duration;
+use std::{io, thread};
 
 /// For so many milliseconds a lock isn't tried again.
 const PAUSE: u64 = 50;
@@ -46,11 +45,7 @@ where
 }
 
 /// The file, open and locked: alone where it is opened to write, else with those who read it. None where another program has it.
-fn try_locked<R: Files>(
-    rt: &R,
-    name: &Name,
-    how: &OpenOptions,
-) -> Result<Option<R::File>, Failure>
+fn try_locked<R: Files>(rt: &R, name: &Name, how: &OpenOptions) -> Result<Option<R::File>, Failure>
 where
     R::File: Disk + AsRawFd,
 {
