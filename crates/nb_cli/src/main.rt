@@ -21,16 +21,18 @@ ghost use Rattle.nb_cli.specs.Exit.{number_of};
 mod script;
 
 use nb_file::{Disk, FileHost};
-use nb_host::Host;
+use nb_host::{Host, Name};
+use nb_model::Job;
 use nb_top::broken::broken_line;
 use nb_top::{Status, run};
+use nb_words::read_job;
 use script::script_of;
 use std::alloc::Global;
-use std::env;
 use std::io::{self, ErrorKind};
 use std::os::fd::AsRawFd;
 use std::process::ExitCode;
 use std::rt::{Clock, Env, Files};
+use std::{env, fs};
 
 /// What the words may be, for a reader.
 const USAGE: &str = "\
@@ -107,11 +109,32 @@ where
     }
 }
 
-/// Whether it is asked for that the standard error tells how far files are written.
-fn wants_progress(rt: &(impl Env + AllocGlobal)) -> bool {
-    match env::var(rt, "NEHUMIRO_PROGRESS") {
-        Ok(value) => value.as_str() == "1",
-        Err(_) => false,
+/// How many seconds a lock is waited for.
+fn patience(rt: &(impl Env + AllocGlobal)) -> u64 {
+    match env::var(rt, "NEHUMIRO_WAIT") {
+        Ok(value) => value.as_str().parse::<u64>().unwrap_or(0),
+        Err(_) => 0,
+    }
+}
+
+/// The first name in a script, that of its database.
+fn first_name<R: Files + AllocGlobal>(rt: &R, script: &Name) -> Option<Name> {
+    let text = fs::read_to_string(rt, script.as_str()).ok()?;
+    let (_, rest) = text.as_str().split_once('\'')?;
+    let (name, _) = rest.split_once('\'')?;
+    Name::read(name)
+}
+
+/// The database that is changed.
+fn changed<R: Files + AllocGlobal>(rt: &R, job: &Job) -> Option<Name> {
+    match job {
+        Job::Run { script } => first_name(rt, script),
+        Job::Lock { db }
+        | Job::LockWithSize { db }
+        | Job::Unlock { db }
+        | Job::Backup { db, .. }
+        | Job::BackupSince { db, .. } => Some(db.copied()),
+        _ => None,
     }
 }
 
@@ -126,8 +149,13 @@ fn main(rt: HostRuntime) -> ExitCode {
     let alloc = rt.alloc();
     let words = words(&rt);
     let mut host = FileHost::new(rt, alloc);
-    if wants_progress(&rt) {
-        host.show_progress();
+    host.wait_for_locks(patience(&rt));
+    if let Ok(words) = &words {
+        if let Ok(job) = read_job(alloc, words.as_slice()) {
+            if let Some(name) = changed(&rt, &job) {
+                host.hold_alone(name);
+            }
+        }
     }
     let script = match &words {
         Ok(words) => script_of(alloc, words.as_slice()),
