@@ -36,7 +36,8 @@ use Rattle.nb_script.specs.Scripts.{Plan}
 use Rattle.nb_script.specs.Words.{is_given}
 use Rattle.nb_session.specs.Ready.{IsReady}
 use Rattle.nb_session.proofs.NameLaws.{begun_plain, made_named}
-use Rattle.nb_session.proofs.ReadyLaws.{free_same, in_use}
+use Rattle.nb_copy.proofs.InUseLaws.{in_use}
+use Rattle.nb_session.proofs.ReadyLaws.{free_same}
 use Rattle.nb_top.specs.Performed.{KnowsNames, MayBeGiven}
 
 -- a name that a user may give, of so many bytes at most
