@@ -5,7 +5,6 @@ use Rattle.std.specs.List.{AllByRecursion}
 use Rattle.std.proofs.lemmas.Bool.{and_parts, true≢false}
 use Rattle.std.proofs.lemmas.List.Elements.{Contains-append_left}
 use Rattle.nb_fields.specs.Header.{is_header}
-use Rattle.nb_host.specs.Files.{Files}
 use Rattle.nb_host.specs.Names.{is_name, is_delta}
 use Rattle.nb_host.specs.World.{World}
 use Rattle.nb_change.specs.Changes.{Other}
