@@ -22,6 +22,12 @@ def program():
     return path
 
 
+def in_memory():
+    """Where no disk is measured, what a run leaves lies in memory, if the system has such a place and BENCH_DIR names no other."""
+    if os.path.isdir("/dev/shm"):
+        os.environ.setdefault("BENCH_DIR", "/dev/shm")
+
+
 class Folder:
     """A fresh folder on the disk that is measured: BENCH_DIR, or where the script is started."""
 
