@@ -6,7 +6,7 @@ ghost use Rattle.nb_file.specs.Nothing.{silence, silence_timely, untold};
 use crate::disk::Disk;
 use crate::failure::Failure;
 use crate::guid::draw;
-use crate::progress::Progress;
+use crate::progress::{Progress, Shown};
 use crate::table::Table;
 use nb_host::{Host, HostFault, Name};
 use std::alloc::Global;
@@ -25,7 +25,8 @@ where
     rt: R,
     files: Table<R>,
     faults: u64,
-    progress: Progress,
+    shown: Shown,
+    last_said: Vec<u8>,
 }
 
 impl<R: Files + Drop> Model for FileHost<R>
@@ -51,22 +52,49 @@ where
             rt,
             files: Table::new(alloc),
             faults: 0,
-            progress: Progress::none(),
+            shown: Shown::none(),
+            last_said: Vec::new(alloc),
         }
     }
 
-    /// From now on it is said on the standard error, at most once a second, which file is written and how long it is.
-    pub fn show_progress(&mut self)
+    /// From now on it is shown on the standard error how far the run has come.
+    pub fn show_progress(&mut self, progress: Progress)
         ensures { self.new ≡ self.old }
     {
-        self.progress.start(&self.rt);
+        self.shown.start(&self.rt, progress);
+    }
+
+    /// Takes away the line that shows it, if one stands on the terminal, and shows it no longer.
+    pub fn end_progress(&mut self)
+        ensures { self.new ≡ self.old }
+    {
+        self.shown = Shown::none();
+    }
+
+    /// From now on the file of that name is held alone from its first use of any kind, as a run does that changes it.
+    pub fn hold_alone(&mut self, name: Name)
+        ensures { self.new ≡ self.old }
+    {
+        self.files.alone = Some(name);
+    }
+
+    /// From now on a lock that another program has is tried again until so many seconds have passed.
+    pub fn wait_for_locks(&mut self, seconds: u64)
+        ensures { self.new ≡ self.old }
+    {
+        self.files.patience = seconds;
+    }
+
+    /// The bytes that were said last, at most the first 4,096 of them.
+    pub fn last_said(&self) -> &[u8] {
+        self.last_said.as_slice()
     }
 
     /// Says how long the file is that is written, where that is due.
     fn note_progress(&mut self, name: &Name)
         ensures { self.new ≡ self.old }
     {
-        if !self.progress.is_due(&self.rt) {
+        if !self.shown.is_due(&self.rt) {
             return;
         }
         if let Some(len) = self.files.known_length(name) {

@@ -25,3 +25,4 @@ mod waiting;
 
 pub use disk::{Disk, Sharing};
 pub use host::FileHost;
+pub use progress::{Counted, Manner, Progress};

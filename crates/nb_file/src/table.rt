@@ -32,6 +32,10 @@ where
     alloc: Global,
     files: Vec<Held<R::File>>,
     waiting: Waiting,
+    /// The file that is held alone from its first use of any kind on.
+    pub alone: Option<Name>,
+    /// For how many seconds a lock that another program has is tried again.
+    pub patience: u64,
     ghost few: { vec_len files ≤ 64 },
 }
 
@@ -47,6 +51,8 @@ where
             alloc,
             files: Vec::new(alloc),
             waiting: Waiting::new(alloc),
+            alone: None,
+            patience: 0,
         }
     }
 
