@@ -52,10 +52,10 @@ pub(crate) fn unlock(
 pub(crate) fn not_free(
     alloc: Global,
     name: &str,
-    there: There,
+    seen: &Seen,
 ) -> Result<Option<String>, AllocError> {
-    let text = match there {
-        There::Beside => format!(in alloc;
+    let text = match seen.there {
+        There::Unknown | There::Unfinished if seen.has_delta => format!(in alloc;
             "{name} is no free name, since {name}.delta stands beside it: move that away where nothing needs it, or choose another name"
         )?,
         There::PartOfLevel => format!(in alloc;
@@ -119,7 +119,7 @@ pub(crate) fn backup(
 ) -> Result<Option<String>, AllocError> {
     let [value, _, _] = refused.values;
     match refused.name {
-        "FileExists" => not_free(alloc, value, seen.there),
+        "FileExists" => not_free(alloc, value, seen),
         "NoHistory" => no_level(alloc, db, value, seen),
         "NoGuid" => no_guid(alloc, db, seen),
         "Full" => Ok(Some(format!(in alloc;

@@ -59,7 +59,7 @@ pub(crate) fn restore(
     let [file, found, wanted] = refused.values;
     let before = before(files, file);
     let text = match refused.name {
-        "FileExists" => return not_free(alloc, file, seen.there),
+        "FileExists" => return not_free(alloc, file, seen),
         "NoFile" => return no_file(alloc, file),
         "BadLevel" => return broken_file(alloc, file, found, seen),
         "ChainLevel" => format!(in alloc;

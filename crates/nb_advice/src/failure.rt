@@ -22,7 +22,7 @@ fn of_backup(
             "{db} is locked{whose}, and {file} isn't whole: end it with: nehumiro -N {db}"
         )?,
         (Some(1), true) => format!(in alloc;
-            "{db} is locked{whose}, and {file} is whole, but the history may lack it: end it with: nehumiro -N {db}"
+            "{db} is locked{whose}, and its history may lack {file}: end it with: nehumiro -N {db}, and make it again under another name"
         )?,
         (Some(2), true) => format!(in alloc;
             "{file} is whole, and {db} isn't merged yet: end that with: nehumiro -N {db}"

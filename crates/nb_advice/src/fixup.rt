@@ -1,7 +1,7 @@
 // A copy that wasn't made a database.
 use crate::opening::no_file;
 use crate::refused::Refused;
-use crate::seen::{Seen, There};
+use crate::seen::Seen;
 use nb_host::Name;
 use std::alloc::{AllocError, Global};
 
@@ -24,7 +24,7 @@ pub(crate) fn fixup(
         "WrongState" if value == "0" => {
             format!(in alloc; "{db} is a database of its own already: nothing is to be done")?
         }
-        "WrongState" if value == "2" && seen.there == There::Beside => format!(in alloc;
+        "WrongState" if value == "2" && seen.has_delta => format!(in alloc;
             "{db} is the database itself, not merged yet behind its last backup: end that with: nehumiro -N {db}"
         )?,
         "WrongState" => format!(in alloc;

@@ -1,6 +1,15 @@
 // Which levels of backups a history has.
 use std::alloc::{AllocError, Global};
 
+/// The bytes of a data page before its slots, of a slot, the type of such a page, and its owner where it is the history's.
+const HEAD: usize = 32;
+
+const SLOT: usize = 256;
+
+const DATA: u8 = 5;
+
+const OF_HISTORY: u8 = 1;
+
 /// Of each level, 0 to 9, whether the history of a database has a backup of it.
 #[derive(Clone, Copy, Debug, PartialEq, Eq)]
 pub struct Levels {
@@ -18,6 +27,20 @@ impl Levels {
         if let Some(has) = self.has.get_mut(usize::from(level)) {
             *has = true;
         }
+    }
+
+    /// Adds the backups that a page of the history has, and answers which page comes next, 0 for none. None where it is no such page.
+    pub fn add_page(&mut self, page: &[u8]) -> Option<u32> {
+        let (head, slots) = page.split_at_checked(HEAD)?;
+        if head[0] != DATA || head[20] != OF_HISTORY {
+            return None;
+        }
+        for slot in slots.chunks_exact(SLOT) {
+            if slot[0] == 1 {
+                self.add(slot[1]);
+            }
+        }
+        Some(u32::from_le_bytes([head[16], head[17], head[18], head[19]]))
     }
 
     /// The lowest level that no backup is of, the next one to make.

@@ -10,6 +10,7 @@ mod chain;
 mod failure;
 mod fixup;
 mod levels;
+mod memory;
 mod moment;
 mod opening;
 mod refusal;
@@ -20,6 +21,7 @@ mod word;
 
 pub use failure::standing;
 pub use levels::Levels;
+pub use memory::shortage;
 pub use refusal::advice;
 pub use refused::Refused;
 pub use seen::{Seen, There};

@@ -44,7 +44,7 @@ pub(crate) fn broken_page(
 /// No file has that name.
 pub(crate) fn no_file(alloc: Global, name: &str) -> Result<Option<String>, AllocError> {
     let text = format!(in alloc;
-        "there is no file {name}: names are those from the folder in which the program is started"
+        "there is no file {name}: a name counts from the folder in which the program is started"
     )?;
     Ok(Some(text))
 }

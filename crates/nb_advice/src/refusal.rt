@@ -4,7 +4,7 @@ use crate::chain::restore;
 use crate::fixup::fixup;
 use crate::opening::opening;
 use crate::refused::Refused;
-use crate::seen::{Seen, There};
+use crate::seen::Seen;
 use nb_model::Job;
 use std::alloc::{AllocError, Global};
 
@@ -23,7 +23,7 @@ pub fn advice(
         Job::Restore { files, .. } => restore(alloc, files.as_slice(), refused, seen),
         Job::Fixup { db } => fixup(alloc, db, refused, seen),
         Job::Gen { .. } if refused.name == "FileExists" => {
-            not_free(alloc, refused.values[0], There::Unknown)
+            not_free(alloc, refused.values[0], &Seen::nothing())
         }
         Job::Gen { .. } | Job::Run { .. } | Job::Apply { .. } => Ok(None),
     }

@@ -2,6 +2,7 @@
 use std::str;
 
 /// A refusal, as its line says it: its name, and the values behind that, an empty text for each that it lacks.
+#[derive(Clone, Copy)]
 pub struct Refused<'a> {
     pub name: &'a str,
     pub values: [&'a str; 3],

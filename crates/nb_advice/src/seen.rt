@@ -7,8 +7,6 @@ use nb_page::{Header, read_header};
 pub enum There {
     /// Nothing, or it couldn't be looked at.
     Unknown,
-    /// A difference file beside it, while the name itself is free.
-    Beside,
     /// What a stopped creation, copy or restore left, which is a free name.
     Unfinished,
     /// A database in that backup state, or a copy of one.
@@ -31,6 +29,8 @@ pub struct Seen {
     pub written: Option<u64>,
     /// What stands under the name that the job's file has, or its database, where it names no other.
     pub there: There,
+    /// Whether a difference file stands beside that name.
+    pub has_delta: bool,
     /// How many bytes the file has that the refusal names.
     pub length: Option<u64>,
     /// Which backups the history of the job's database has.
@@ -44,6 +44,7 @@ impl Seen {
             state: None,
             written: None,
             there: There::Unknown,
+            has_delta: false,
             length: None,
             levels: None,
         }

@@ -173,13 +173,20 @@ fn wrong_plain(alloc: Global, plain: &[&str]) -> Result<Option<String>, AllocErr
     }
 }
 
-/// What is wrong with flags that name no job together.
+/// What is wrong with flags that name no job.
 fn wrong_set(alloc: Global, set: &str) -> Result<Option<String>, AllocError> {
-    let mut text = String::from_str(alloc, "these flags name no job together:")?;
+    let mut text = String::new(alloc);
     for flag in set.chars() {
-        text.push_str(" -")?;
+        text.push('-')?;
         text.push(flag)?;
+        text.push(' ')?;
     }
+    let why = if set.len() == 1 {
+        "names no job by itself"
+    } else {
+        "name no job together"
+    };
+    text.push_str(why)?;
     Ok(Some(text))
 }
 
