@@ -1,5 +1,4 @@
 // What the standard error says behind a run.
-use crate::asked::script_of;
 use crate::changed::script_in;
 use crate::look::look_at;
 use crate::seeing::seen;
@@ -84,11 +83,14 @@ where
 }
 
 /// What the cache of a script asks for, where it can be read.
-fn shortage_of<R: Files>(alloc: Global, rt: &R, name: &Name) -> Option<String>
+fn shortage_of<R: Files>(alloc: Global, rt: &R, job: &Job) -> Option<String>
 where
     R::File: FileExt,
 {
-    let script = script_in(alloc, rt, name)?;
+    let Job::Run { script } = job else {
+        return None;
+    };
+    let script = script_in(alloc, rt, script)?;
     let (cache, page_size) = match script.first() {
         Statement::CreateDb {
             cache,
@@ -103,15 +105,9 @@ where
     shortage(alloc, cache, page_size).ok()
 }
 
-/// That memory ran out, and how much of it a script asked for.
-pub fn show_shortage<R: Files + Eprint>(alloc: Global, rt: &R, job: Option<&Job>)
-where
-    R::File: FileExt,
-{
-    let of_script = job
-        .and_then(script_of)
-        .and_then(|script| shortage_of(alloc, rt, script));
-    match of_script {
+/// That memory ran out, with the text that tells how much was asked for, if there is one.
+fn show_shortage<R: Eprint>(rt: &R, asked: Option<String>) {
+    match asked {
         Some(text) => say(rt, Ok(Some(text))),
         None => {
             let _ = eprintln!(rt; "nehumiro: memory ran out");
@@ -119,12 +115,14 @@ where
     }
 }
 
-/// What is to be said behind a run: why its words name no job, what to do about a refusal, or what stands where it ended early.
+/// What is to be said behind a run: why its words name no job, why a script wasn't read, what to do about a refusal, what stands where it ended
+/// early.
 pub fn explain<R: Files + Print + Eprint + Clock + Drop>(
     alloc: Global,
     rt: &R,
     host: &mut FileHost<R>,
-    job: &Job,
+    words: &io::Result<Vec<String>>,
+    job: Option<&Job>,
     status: Status,
     before: Option<u16>,
 )
@@ -132,10 +130,16 @@ where
     R::File: Disk + AsRawFd + FileExt,
 {
     match (status, job) {
-        (Status::Refused, Job::Run { script }) => show_broken(alloc, rt, host, script),
-        (Status::Refused, _) => show_advice(alloc, rt, job, host.last_said()),
-        (Status::Device, _) => show_standing(alloc, rt, job, before),
-        (Status::Memory, _) => show_standing(alloc, rt, job, before),
-        (Status::Done | Status::Usage, _) => {}
+        (Status::Done, _) => {}
+        (Status::Usage, _) => show_usage(alloc, rt, words),
+        (Status::Refused, Some(Job::Run { script })) => show_broken(alloc, rt, host, script),
+        (Status::Refused, Some(job)) => show_advice(alloc, rt, job, host.last_said()),
+        (Status::Device, Some(job)) => show_standing(alloc, rt, job, before),
+        (Status::Memory, Some(job)) => {
+            show_shortage(rt, shortage_of(alloc, rt, job));
+            show_standing(alloc, rt, job, before);
+        }
+        (Status::Memory, None) => show_shortage(rt, None),
+        (Status::Refused | Status::Device, None) => {}
     }
 }

@@ -1,9 +1,7 @@
-// The job that the words name, and the script that it runs.
+// The job that the words name.
 ghost use Rattle.std.specs.Prelude.{◌≡◌, Some, map, string_bytes, IfOk, IfSome};
 ghost use Rattle.nb_model.specs.Words.{job_of};
-ghost use Rattle.nb_model.specs.declared.job.Job.TheVariants.{Run};
 
-use nb_host::Name;
 use nb_model::Job;
 use nb_words::read_job;
 use std::alloc::Global;
@@ -16,15 +14,5 @@ pub fn job_asked(alloc: Global, words: &io::Result<Vec<String>>) -> Option<Job>
     match words {
         Ok(words) => read_job(alloc, words.as_slice()).ok(),
         Err(_) => None,
-    }
-}
-
-/// The script that a job runs.
-pub fn script_of(job: &Job) -> Option<&Name>
-    ensures { IfSome result (λ name. job.now ≡ Run name.now) }
-{
-    match job {
-        Job::Run { script } => Some(script),
-        _ => None,
     }
 }

@@ -44,6 +44,11 @@ pub fn look_at<R: Files>(rt: &R, name: &str) -> Option<Look<R::File>> {
     })
 }
 
+/// Where a page begins, in bytes.
+fn place_of(number: u32, size: u32) -> u64 {
+    u64::from(number) * u64::from(size)
+}
+
 impl<F: FileExt + Drop> Look<F> {
     /// Fills `into` from that place on. Where the file ends before, it answers false.
     fn read(&self, at: u64, into: &mut [u8]) -> bool {
@@ -103,7 +108,7 @@ impl<F: FileExt + Drop> Look<F> {
         let mut levels = Levels::none();
         let mut number = HISTORY;
         for _ in 0..MOST_PAGES {
-            if !self.read(u64::from(number) * u64::from(size), &mut page) {
+            if !self.read(place_of(number, size), &mut page) {
                 return None;
             }
             number = levels.add_page(&page)?;

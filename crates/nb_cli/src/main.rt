@@ -1,8 +1,9 @@
 //! The program: the words of the command line, real files, and the exit status.
 //!
-//! It rests on `nb_top`, whose `run` is the whole program, and on `nb_file` for the outside. On the standard output it says nothing
-//! itself. On the standard error it says which words there are, where those that it was given name no job, and the line of a script that
-//! breaks its form.
+//! It rests on `nb_top`, whose `run` is the whole program, on `nb_file` for the outside, and on `nb_advice` for what the standard error says.
+//! On the standard output it says nothing itself. Before a run it tells the host which database the run changes and how long locks are waited
+//! for; behind it the standard error has which word is wrong, which line of a script, what to do about a refusal, or what stands where the
+//! run ended early. For that it looks at files by itself (`look`), without a lock, and changes nothing.
 #![tactic(auto)]
 
 ghost use Rattle.std.specs.Prelude.{◌≡◌, ◌≢◌, ◌⊎◌, None, Ok, map, string_bytes, IsTrue, IfOk, IfErr};
@@ -26,7 +27,7 @@ mod progress;
 mod seeing;
 mod settings;
 
-use after::{explain, show_shortage, show_usage};
+use after::explain;
 use asked::job_asked;
 use changed::changed;
 use nb_file::{Disk, FileHost};
@@ -104,24 +105,25 @@ where
     }
 }
 
-/// Says how long the run waits for locks, which database it holds alone, and how its progress is shown. Answers the backup state that the
-/// database of a job by words is in before.
+/// Says how long the run waits for locks, which database it holds alone, and how its progress is shown. Answers the backup state in which
+/// the database of a job by words is before it.
 fn prepare<R: Files + Print + Eprint + Clock + Env + AllocGlobal + Drop>(
     alloc: Global,
     rt: &R,
     host: &mut FileHost<R>,
-    job: &Job,
+    job: Option<&Job>,
     is_terminal: bool,
 ) -> Option<u16>
 where
     R::File: Disk + AsRawFd + FileExt,
     ensures { host.new ≡ host.old }
 {
+    let job = job?;
     match patience(rt) {
         Some(seconds) => host.wait_for_locks(seconds),
         None => {
             let _ = eprintln!(rt;
-                "nehumiro: NEHUMIRO_WAIT is no number of seconds: no lock is waited for"
+                "nehumiro: NEHUMIRO_WAIT is no number of seconds, so no lock is waited for"
             );
         }
     }
@@ -143,25 +145,28 @@ fn exit_code(status: Status) -> ExitCode
     ExitCode::from(status as u8)
 }
 
-fn main(rt: HostRuntime) -> ExitCode {
-    let alloc = rt.alloc();
-    let words = words(&rt);
+/// Does what the words ask over real files, and says on the standard error what there is to say of it.
+fn serve<R: Files + Print + Eprint + Clock + Env + AllocGlobal + Drop>(
+    alloc: Global,
+    rt: &R,
+    host: &mut FileHost<R>,
+    is_terminal: bool,
+) -> Status
+where
+    R::File: Disk + AsRawFd + FileExt,
+{
+    let words = words(rt);
     let job = job_asked(alloc, &words);
-    let mut host = FileHost::new(rt, alloc);
-    let before = match &job {
-        Some(job) => prepare(alloc, &rt, &mut host, job, rt.stderr().is_terminal()),
-        None => None,
-    };
-    let status = status_of(alloc, &words, &mut host);
-    let status = write_rest(status, &mut host);
+    let before = prepare(alloc, rt, host, job.as_ref(), is_terminal);
+    let status = status_of(alloc, &words, host);
+    let status = write_rest(status, host);
     host.end_progress();
-    match &job {
-        _ if status == Status::Usage => show_usage(alloc, &rt, &words),
-        Some(job) => explain(alloc, &rt, &mut host, job, status, before),
-        None => {}
-    }
-    if status == Status::Memory {
-        show_shortage(alloc, &rt, job.as_ref());
-    }
-    exit_code(status)
+    explain(alloc, rt, host, &words, job.as_ref(), status, before);
+    status
+}
+
+fn main(rt: HostRuntime) -> ExitCode {
+    let is_terminal = rt.stderr().is_terminal();
+    let mut host = FileHost::new(rt, rt.alloc());
+    exit_code(serve(rt.alloc(), &rt, &mut host, is_terminal))
 }
