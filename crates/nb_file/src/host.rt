@@ -107,14 +107,15 @@ where
         }
     }
 
-    /// From now on the file of that name is held alone from its first use of any kind, as a run does that changes it.
+    /// From now on the file of that name, and its difference file, are held alone from their first use of any kind on, as by a run that
+    /// changes them. Where there is no right to write one, it is opened to read and shared.
     pub fn hold_alone(&mut self, name: Name)
         ensures { self.new ≡ self.old }
     {
         self.files.alone = Some(name);
     }
 
-    /// From now on a lock that another program has is tried again until so many seconds have passed.
+    /// From now on a lock that another program has is tried again until so many seconds have passed. At first it is not.
     pub fn wait_for_locks(&mut self, seconds: u64)
         ensures { self.new ≡ self.old }
     {

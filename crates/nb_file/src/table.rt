@@ -1,5 +1,6 @@
 // The open files.
-ghost use Rattle.std.specs.Prelude.{◌≡◌, ◌+◌, ◌<◌, ◌≤◌, false, length, None, IfOk, IfSome, OnOk, MatchOption, vec_len};
+ghost use Rattle.std.specs.Prelude.{◌≡◌, ◌≢◌, ◌+◌, ◌++◌, ◌<◌, ◌≤◌, ℕ, List, false, IsTrue, length, None, IfOk, IfSome, OnOk, MatchOption, vec_len};
+ghost use Rattle.nb_host.specs.Names.{is_name, delta_suffix};
 ghost use Rattle.nb_file.specs.Gathered.{IsFreeFor, is_owner};
 ghost use Rattle.nb_file.specs.Named.{IsNamedAt};
 
@@ -24,8 +25,8 @@ const MOST_OPEN: usize = 64;
 /// stay open.
 ///
 /// A file that is only read or synced is opened to read and locked with other readers. Before it is written, emptied or removed it
-/// is opened to write and locked against everyone, by whatever name they have it, and the file that is held alone is so from its first
-/// use on.
+/// is opened to write and locked against everyone, by whatever name they have it. The file that is held alone is so from its first
+/// use on, and its difference file too.
 #[derive(Drop)]
 pub struct Table<R: Files + Drop>
 where
@@ -120,13 +121,17 @@ where
         self.find_to_read(rt, name)
     }
 
-    /// Whether it is the file that is held alone.
+    /// Whether it is the file that is held alone, or its difference file.
     fn is_alone(&self, name: &Name) -> bool
-        ensures { result ≡ is_owner self.now.alone name.now }
+        ensures main { ((main : List ℕ) → name.now ≢ main ++ delta_suffix) → result ≡ is_owner self.now.alone name.now }
+        ensures delta { (main : List ℕ) → IsTrue (is_name main) → name.now ≡ main ++ delta_suffix → result ≡ is_owner self.now.alone main }
     {
-        match &self.alone {
-            Some(alone) => alone == name,
-            None => false,
+        let Some(alone) = &self.alone else {
+            return false;
+        };
+        match main_of(name) {
+            Some(main) => main == *alone,
+            None => name == alone,
         }
     }
 
@@ -194,8 +199,8 @@ where
         }
     }
 
-    /// Claims the main file of a difference file, where that is what has this name. Who may not write the one makes no other beside it,
-    /// which nobody else could write. What waits is written before.
+    /// Claims the main file, where the name is that of a difference file: who may not write the one would leave the other in the way of
+    /// those who may. What waits is written before.
     fn claim_main(&mut self, rt: &R, name: &Name) -> Result<(), Failure>
         ensures free { IsFreeFor self.old.waiting.name name.now → IsFreeFor self.new.waiting.name name.now }
     {

@@ -49,13 +49,14 @@ fn is_long<R: Files>(rt: &R, name: &Name, len: u64) -> bool {
     len_in_system(rt, name.as_str()) == Some(len)
 }
 
-/// Whether pages are read as they were written, while they wait and when they are written.
-fn pages_are_read<R: Files, H: Host>(rt: &R, host: &mut H, name: &Name) -> [bool; 9] {
+/// Whether pages are read as they were written, while they wait and when they are written, and bytes behind them wait by themselves.
+fn pages_are_read<R: Files, H: Host>(rt: &R, host: &mut H, name: &Name) -> [bool; 10] {
     [
         host.make(name) == Ok(()),
         write_pages(host, name) == 200,
-        host.append(name, &[5; 3]) == Ok(()),
         is_long(rt, name, 0),
+        host.append(name, &[5; 3]) == Ok(()),
+        is_long(rt, name, 204_800),
         read_pages(host, name) == 200,
         is_long(rt, name, 204_803),
         host.size(name) == Ok(Some(204_803)),
@@ -198,7 +199,7 @@ fn files_are_written_and_read(rt: HostRuntime) -> Result<(), Fail> {
     assert_eq!(rt;
         (pages, end, order, system, is_gone, host.fault_count()),
         (
-            [true; 9],
+            [true; 10],
             ((Ok(false), Ok(3), 5), Ok(0)),
             [true; 13],
             Ok([true; 3]),

@@ -1,4 +1,4 @@
-use Rattle.std.proofs.Common.{◌≡◌, ◌∙◌, ◌+◌, ◌<◌, ◌≤◌, ◌⊎◌, inl, inr, ℕ, List, length, refl, sym, ap, subst, arith, IsTrue, max, OnOk}
+use Rattle.std.proofs.Common.{◌≡◌, ◌∙◌, ◌+◌, ◌<◌, ◌≤◌, ◌⊎◌, inl, inr, ℕ, List, length, refl, sym, ap, subst, arith, IsTrue, OnOk}
 use Rattle.nb_host.specs.Files.{put_at}
 use Rattle.nb_file.specs.Resized.{resized, IsBegun}
 use Rattle.nb_file.specs.Whole.{IsWhole}

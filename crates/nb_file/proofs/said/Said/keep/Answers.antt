@@ -1,4 +1,4 @@
-use Rattle.std.proofs.Common.{◌≡◌, ◌⊎◌, inl, inr, ◌∙◌, ◌++◌, ap, min, List, [], ℕ, length, take, Result, Ok, Err, is_ok, if◌then◌else◌}
+use Rattle.std.proofs.Common.{◌≡◌, ◌⊎◌, inl, inr, ◌∙◌, ◌++◌, ap, List, [], ℕ, take, Result, Ok, Err, is_ok, if◌then◌else◌}
 use Rattle.std.proofs.lemmas.List.{take_min}
 use Rattle.nb_file.proofs.said.Said.keep.Goals as goal
 

@@ -1,0 +1,95 @@
+// The database that a run changes, which it is to hold alone from its first use on.
+use crate::look::look_at;
+use nb_host::Name;
+use nb_model::{Job, Statement};
+use nb_script::{MOST_BYTES, Script, parse};
+use std::alloc::Global;
+use std::os::unix::fs::FileExt;
+use std::rt::Files;
+
+/// The database that a first statement creates or opens.
+fn database_of(first: &Statement) -> Option<Name> {
+    match first {
+        Statement::CreateDb { name, .. } | Statement::OpenDb { name, .. } => Some(name.copied()),
+        _ => None,
+    }
+}
+
+/// Whether a statement may write to the database.
+fn changes(statement: &Statement) -> bool {
+    match statement {
+        Statement::OpenDb { .. }
+        | Statement::Read { .. }
+        | Statement::CopyTo { .. }
+        | Statement::Get { .. }
+        | Statement::Scan { .. }
+        | Statement::ShowHeader
+        | Statement::ShowPages
+        | Statement::ShowImage
+        | Statement::ShowCache => false,
+        Statement::CreateDb { .. }
+        | Statement::PageNew
+        | Statement::Write { .. }
+        | Statement::Free { .. }
+        | Statement::BeginBackup
+        | Statement::EndBackup
+        | Statement::Backup { .. }
+        | Statement::BackupSince { .. }
+        | Statement::CreateTable { .. }
+        | Statement::DropTable { .. }
+        | Statement::Insert { .. }
+        | Statement::Update { .. }
+        | Statement::Delete { .. }
+        | Statement::Forced { .. }
+        | Statement::Access { .. }
+        | Statement::Sync => true,
+    }
+}
+
+/// Whether a statement of a script may write to its database.
+fn script_changes(script: &Script) -> bool {
+    changes(script.first())
+        || (1..=16).any(|session| script.statements(session).iter().any(changes))
+}
+
+/// The script of that name, where it can be read.
+pub fn script_in<R: Files>(alloc: Global, rt: &R, name: &Name) -> Option<Script>
+where
+    R::File: FileExt,
+{
+    let bytes = look_at(rt, name.as_str())?.bytes(alloc, MOST_BYTES as u64)?;
+    parse(alloc, &bytes).ok()
+}
+
+/// The database that a script changes, none where it only reads. Where it can't be read the run says why.
+fn changed_by_script<R: Files>(alloc: Global, rt: &R, name: &Name) -> Option<Name>
+where
+    R::File: FileExt,
+{
+    let script = script_in(alloc, rt, name)?;
+    if script_changes(&script) {
+        database_of(script.first())
+    } else {
+        None
+    }
+}
+
+/// The database that a job changes, and none where it only reads one.
+pub fn changed<R: Files>(alloc: Global, rt: &R, job: &Job) -> Option<Name>
+where
+    R::File: FileExt,
+{
+    match job {
+        Job::Run { script } => changed_by_script(alloc, rt, script),
+        Job::Gen { .. } => Name::read("gen.db"),
+        Job::Stat { .. } => None,
+        Job::Backup { db, .. }
+        | Job::BackupSince { db, .. }
+        | Job::Restore { db, .. }
+        | Job::Apply { db, .. }
+        | Job::Lock { db }
+        | Job::LockWithSize { db }
+        | Job::Unlock { db }
+        | Job::Fixup { db } => Some(db.copied()),
+    }
+}
