@@ -7,6 +7,9 @@ has the number and the text of the first line that does.
 
 Then what others do with a database: a user who may not write it makes no difference file beside it, runs that only read it never fail each
 other, and one that changes it waits for them as long as NEHUMIRO_WAIT says, and is refused at once where that says nothing.
+
+Then a backup that is cut off at each of its syncs: behind the line of the failure the standard error says what stands exactly where the database is
+locked or half merged, and what it says to do helps. And memory that runs out is said, with what the cache of a script asks for.
 """
 
 import fcntl
@@ -196,6 +199,53 @@ def looks_beside_backups(path):
                 yield "one of two looks side by side failed"
 
 
+def standing(path):
+    """What is said otherwise of a backup of level 1 at each of its syncs that fails, and behind it."""
+    said_of = {
+        1: r"x\.db is locked by this backup, and (b\.1 isn't whole: end it with: nehumiro -N x\.db|"
+        r"its history may lack b\.1: end it with: nehumiro -N x\.db, and make it again under another name)",
+        2: r"b\.1 is whole, and x\.db isn't merged yet: end that with: nehumiro -N x\.db",
+    }
+    states = set()
+    with Folder() as folder:
+        create(folder, path)
+        run(folder, [path, "-B", "0", "x.db", "b.0"])
+        for when in range(1, 100):
+            words = ["strace", "-f", "-qq", "-o", "/dev/null", "-e", "trace=fdatasync", "-e", f"inject=fdatasync:error=EIO:when={when}"]
+            status, _, said = run(folder, words + [path, "-B", "1", "x.db", "b.1"])
+            if status == 0:
+                break
+            with open(folder.file("x.db"), "rb") as file:
+                state = file.read(24)[22]
+            states.add(state)
+            line = f"nehumiro: {said_of[state]}\n" if state else ""
+            if not re.fullmatch(rf"nehumiro: [a-z0-9.]+: sync: Input/output error \(os error 5\)\n{line}", said):
+                yield f"{said!r} in the state {state}, behind the sync {when}"
+            if state and run(folder, [path, "-N", "x.db"])[0] != 0:
+                yield f"the backup isn't ended behind the sync {when}"
+            if os.path.exists(folder.file("b.1")):
+                os.remove(folder.file("b.1"))
+        if status or states != {0, 1, 2}:
+            yield f"a backup ends with {status}, and was cut off in the states {states}"
+
+
+def little_memory():
+    """The process gets 40 MB."""
+    resource.setrlimit(resource.RLIMIT_AS, (40_000_000, 40_000_000))
+
+
+def shortages(path):
+    """What is said otherwise where memory runs out."""
+    with Folder() as folder:
+        create(folder, path)
+        for first, asked in [("1: open 'x.db' cache 4096", None), ("1: create database 'y.db' page_size 32768 raw 8 cache 4096", "32768 bytes alone asks for 128")]:
+            folder.write_script("script", [first])
+            ran = run(folder, [path, "run", "script"], prepare=little_memory)
+            line = f"nehumiro: memory ran out; the script's cache of 4096 pages of {asked} MiB\n"
+            if asked and ran != (4, [], line) or not asked and ran[0] != 0:
+                yield f"{ran} where the first statement is {first}"
+
+
 def main():
     path = program()
     if not shutil.which("strace"):
@@ -213,12 +263,13 @@ def main():
     wrong += broken_scripts(path)
     broken = len(wrong) - failed
     shared = [*without_rights(path), *locks(path), *looks_beside_backups(path)]
+    stands = [*standing(path), *shortages(path)]
     report(
         "faults",
-        not wrong and not shared,
+        not wrong and not shared and not stands,
         f"{len(cases) - failed} of {len(cases)} failures end the run and are said, {len(BROKEN) - broken} of {len(BROKEN)} broken scripts are shown, "
-        f"{len(shared)} times one run failed another that it mustn't, or didn't"
-        f"{''.join(' ' + text for text in (wrong + shared)[:3])}",
+        f"{len(shared)} times one run failed another that it mustn't, or didn't, and {len(stands)} times what stands was said otherwise"
+        f"{''.join(' ' + text for text in (wrong + shared + stands)[:3])}",
     )
 
 

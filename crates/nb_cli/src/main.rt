@@ -145,7 +145,27 @@ fn exit_code(status: Status) -> ExitCode
     ExitCode::from(status as u8)
 }
 
-/// Does what the words ask over real files, and says on the standard error what there is to say of it.
+/// Does a run, and says on the standard error what there is to say of it.
+fn answer<R: Files + Print + Eprint + Clock + Env + AllocGlobal + Drop>(
+    alloc: Global,
+    rt: &R,
+    host: &mut FileHost<R>,
+    words: &io::Result<Vec<String>>,
+    job: Option<&Job>,
+    is_terminal: bool,
+) -> Status
+where
+    R::File: Disk + AsRawFd + FileExt,
+{
+    let before = prepare(alloc, rt, host, job, is_terminal);
+    let status = status_of(alloc, words, host);
+    let status = write_rest(status, host);
+    host.end_progress();
+    explain(alloc, rt, host, words, job, status, before);
+    status
+}
+
+/// Does what the words ask.
 fn serve<R: Files + Print + Eprint + Clock + Env + AllocGlobal + Drop>(
     alloc: Global,
     rt: &R,
@@ -157,12 +177,7 @@ where
 {
     let words = words(rt);
     let job = job_asked(alloc, &words);
-    let before = prepare(alloc, rt, host, job.as_ref(), is_terminal);
-    let status = status_of(alloc, &words, host);
-    let status = write_rest(status, host);
-    host.end_progress();
-    explain(alloc, rt, host, &words, job.as_ref(), status, before);
-    status
+    answer(alloc, rt, host, &words, job.as_ref(), is_terminal)
 }
 
 fn main(rt: HostRuntime) -> ExitCode {
