@@ -4,7 +4,7 @@ use Rattle.std.specs.Prelude.{None}
 use Rattle.nb_host.specs.Files.{File, Files, with_file}
 use Rattle.nb_host.specs.World.{World}
 use Rattle.nb_host.specs.Crash.{Leaves}
-use Rattle.nb_change.specs.Changes.{Changes, Only, Reached, Remade}
+use Rattle.nb_change.specs.Changes.{Names, Other, Changes, Only, Reached, Remade}
 use Rattle.nb_change.proofs.ChangesLaws.{rested, weakened, weaker_has, composed_within, remade_on, left_with}
 use Rattle.nb_change.proofs.NameLaws.{with_file-same}
 use Rattle.nb_change.proofs.ReachedLaws.{reached_first, reached_front, reached_back}
@@ -68,6 +68,6 @@ module _ (name db : List ℕ) (apart : OfFiles db name → ⊥) (t : Trail) (tur
       weaker_has old new (OfStart name db turn) (StartLeft old name db t xs) (StartLeft old name db t (xs ++ ys)) makes
       (λ files has. record { database = reached_front after_stroke (StandsIn db) t xs ys files has.database; file = has.file })
 
-  -- strokes leave the file as it was made
-  pub made_struck : (old new : World) (xs : List Stroke) → Strikes old new db t xs → IsMade old name → IsMade new name
-  made_struck old new xs struck made = record { reads = struck.others_read name apart ∙ made.reads; only = λ c now. made.only c (struck.others.now name c apart now) }
+-- calls on others leave a file as it was made
+pub made_kept : (old new : World) (names : Names) (P : Files → Type 0) (name : List ℕ) → Changes old new names P → Other names name → IsMade old name → IsMade new name
+made_kept old new names P name changes other made = record { reads = changes.others_read name other ∙ made.reads; only = λ c now. made.only c (changes.others.now name c other now) }

@@ -46,7 +46,7 @@ use Rattle.nb_copy.proofs.StartCauses.{scn_room}
 use Rattle.nb_copy.proofs.BegunLaws.{begun_image, begun_frozen, begun_long, begun_size, begun_state}
 use Rattle.nb_copy.proofs.FileStartLaws.{file_first, file_starts}
 use Rattle.nb_copy.proofs.RoomedLaws.{IsLike, roomed_is, roomed_like}
-use Rattle.nb_copy.proofs.BesideLaws.{starts_struck, starts_made, starts_then, starts_more, made_struck}
+use Rattle.nb_copy.proofs.BesideLaws.{starts_struck, starts_made, starts_then, starts_more, made_kept}
 use Rattle.nb_copy.proofs.StartLaws.{early, strokes, started, struck_some, struck_most, turn_late, turn_strokes, turn_started}
 
 -- what a page 0 says of why no backup begins
@@ -209,7 +209,7 @@ module _ (old mid : World) (a b : Held) (t : Trail) (s : Seen) (session : ℕ) (
         begun_left result begins = starts_then name (name_of a) apart t (started s session since name) old there new xs (begin guid (Some ask) ∷ []) (room_made (started s session since name) refl) left (begin_struck result begins)
 
         pub still_made : (result : Result LevelHead Fault) → BeginsFor result there new b d u guid (Some ask) session bare → IsMade new name
-        still_made result begins = made_struck name (name_of a) apart u (started s session since name) there new (begin guid (Some ask) ∷ []) (begin_struck result begins) made
+        still_made result begins = made_kept there new (OfFiles (name_of a)) _ name (begin_struck result begins) apart made
 
         pub start_unbegun : (fault : Fault) → BeginsFor (Err fault) there new b d u guid (Some ask) session bare → StartsBackup (Err fault) old new a d t name guid outcome
         start_unbegun (RefusedFault r) begins = absurd (none_some (sym starts_there ∙ begins.test))

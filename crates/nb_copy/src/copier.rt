@@ -1,7 +1,8 @@
-ghost use Rattle.std.specs.Prelude.{◌≡◌, ◌-◌, ◌<◌, ◌≤◌, ℕ, length, [], ◌∷◌, Option, Some, List, true, IsTrue, IfOk, OnOk};
+ghost use Rattle.std.specs.Prelude.{◌≡◌, ◌⊎◌, ◌-◌, ◌<◌, ◌≤◌, ℕ, length, [], ◌∷◌, Option, Some, List, true, IsTrue, IfOk, OnOk};
 ghost use Rattle.nb_fields.specs.Places.{is_page_size};
 ghost use Rattle.nb_change.specs.Changes.{NoNames, Only};
 ghost use Rattle.nb_change.specs.Counts.{CountsDevice};
+ghost use Rattle.nb_change.specs.Gave.{GaveNothing};
 ghost use Rattle.nb_page.specs.Free.{is_free_name};
 ghost use Rattle.nb_page.specs.Quiet.{Quiet};
 ghost use Rattle.nb_model.specs.Account.{Ask};
@@ -17,6 +18,7 @@ ghost use Rattle.nb_state.specs.Does.{Goes, Tested};
 ghost use Rattle.nb_state.specs.Turns.{GaveAtMost};
 ghost use Rattle.nb_engine.specs.Stays.{StaysOpen};
 ghost use Rattle.nb_copy.specs.FileCopying.{file_count, file_next, file_written};
+ghost use Rattle.nb_copy.specs.Making.{IsMade};
 ghost use Rattle.nb_copy.specs.Starting.{StartsBackup, BeginsFor, IsBackingUp, KnowsFree, IsNineAtMost, IsItsLevel, ask_by, ask_in, earlier_cause, file_cause, turn_since};
 ghost use Rattle.nb_copy.specs.Closing.{BackupTurn, BackupCounts, Closes, GaveTimeAtMost, ReadsTwo};
 
@@ -157,6 +159,8 @@ fn start_from<H: Host>(
     ensures stays { engine.old.files.state ≡ 2 → engine.new ≡ engine.old }
     ensures stays_open { (t : Trail) → IsTrue H.tells → IsOpen (H.world host.old) engine.old t → (name.now ≡ delta_name engine.old.files.name → ⊥)
         → StaysOpen result (H.world host.old) (H.world host.new) engine.old engine.new t (Only name.now) }
+    ensures made_first { (t : Trail) → IsTrue H.tells → IsOpen (H.world host.old) engine.old t → (name.now ≡ delta_name engine.old.files.name → ⊥)
+        → (GaveNothing (H.world host.old) (H.world host.new) × Goes engine.old engine.new) ⊎ IsMade (H.world host.new) name.now }
     ensures free { IsTrue H.tells → OnOk result (is_free_name (H.world host.old).files name.now ≡ true) }
     ensures named { IfOk result (λ copier. copier.backing.name ≡ name.now) }
     ensures its_level { IfOk result (λ copier. IsItsLevel since copier.backing.ask.level) }
@@ -206,6 +210,10 @@ impl Copier {
         // Whatever stands in the database: only its two files and that of the backup are touched, and it is open behind that.
         ensures stays_open { (t : Trail) → IsTrue H.tells → IsOpen (H.world host.old) engine.old t → (name.now ≡ delta_name engine.old.files.name → ⊥)
             → StaysOpen result (H.world host.old) (H.world host.new) engine.old engine.new t (Only name.now) }
+
+        // And however it ends, no GUID was taken and the state stays, or the file was made.
+        ensures made_first { (t : Trail) → IsTrue H.tells → IsOpen (H.world host.old) engine.old t → (name.now ≡ delta_name engine.old.files.name → ⊥)
+            → (GaveNothing (H.world host.old) (H.world host.new) × Goes engine.old engine.new) ⊎ IsMade (H.world host.new) name.now }
         ensures free { IsTrue H.tells → OnOk result (is_free_name (H.world host.old).files name.now ≡ true) }
         ensures named { IfOk result (λ copier. copier.backing.name ≡ name.now) }
         ensures level { IfOk result (λ copier. copier.backing.ask.level ≡ level) }
@@ -236,6 +244,10 @@ impl Copier {
         // Whatever stands in the database: only its two files and that of the backup are touched, and it is open behind that.
         ensures stays_open { (t : Trail) → IsTrue H.tells → IsOpen (H.world host.old) engine.old t → (name.now ≡ delta_name engine.old.files.name → ⊥)
             → StaysOpen result (H.world host.old) (H.world host.new) engine.old engine.new t (Only name.now) }
+
+        // And however it ends, no GUID was taken and the state stays, or the file was made.
+        ensures made_first { (t : Trail) → IsTrue H.tells → IsOpen (H.world host.old) engine.old t → (name.now ≡ delta_name engine.old.files.name → ⊥)
+            → (GaveNothing (H.world host.old) (H.world host.new) × Goes engine.old engine.new) ⊎ IsMade (H.world host.new) name.now }
         ensures free { IsTrue H.tells → OnOk result (is_free_name (H.world host.old).files name.now ≡ true) }
         ensures named { IfOk result (λ copier. copier.backing.name ≡ name.now) }
         ensures size { IfOk result (λ copier. copier.page_size ≡ engine.old.files.page_size) }

@@ -1,4 +1,4 @@
-use Rattle.std.proofs.Common.{◌≡◌, inl, ◌≤◌, ℕ, List, length, replicate, refl, sym, ap, subst, ◌∙◌}
+use Rattle.std.proofs.Common.{◌≡◌, inl, inr, ⊎_elim, ◌≤◌, ℕ, List, length, replicate, refl, sym, ap, subst, ◌∙◌}
 use Rattle.std.specs.Prelude.{Result, Ok, Err, Some}
 use Rattle.nb_host.specs.declared.faults.Fault.{Fault}
 use Rattle.nb_host.specs.declared.faults.Fault.TheVariants.{Device, Memory}
@@ -26,7 +26,9 @@ use Rattle.nb_copy.proofs.QuietLaws.{is_made}
 use Rattle.nb_copy.proofs.RoomStartLaws.{start_roomless, start_unmade, made_open, start_unbegun, start_done, started_is}
 use Rattle.nb_base.specs.Open.{OfFiles}
 use Rattle.nb_state.specs.Open.{name_of}
-use Rattle.nb_engine.proofs.StaysLaws.{stays_still, stays_after, stays_among, stays_aside, stays_passed, stays_some, stays_then, stays_valued}
+use Rattle.nb_state.proofs.MakesLaws.{goes_nowhere, goes_on}
+use Rattle.nb_copy.proofs.BesideLaws.{made_kept}
+use Rattle.nb_engine.proofs.StaysLaws.{open_aside, stays_still, stays_after, stays_among, stays_aside, stays_passed, stays_some, stays_then, stays_valued}
 use Rattle.nb_level.specs.declared.head.LevelHead.{LevelHead}
 use Rattle.nb_copy.proofs.copier.start_from.Goals as goal
 
@@ -265,3 +267,50 @@ returns-clause-stays_open g c t tells is plain =
     (λ u here. stays_then {S = Unit {0}} tt _ _ _ _ _ _ _ _
     (stays_aside _ _ b u here (λ m. g.met.H.Host.reads_left _ tells m) (Only name) (λ m same its. apart (subst (λ (n : List ℕ). OfFiles n name) own (subst (OfFiles (name_of b)) same its))) _ file (Ok tt) b refl)
     (λ v there. stays_among _ _ _ _ _ NoNames (Only name) (λ m nothing. absurd nothing) (stays_valued _ _ _ _ _ c.in_ok-head-2.head _ (c.in_ok-head-2.ensures.stays_open v tells there)))))
+
+pub returns-in_err-head-clause-made_first : goal.returns-in_err-head-clause-made_first
+returns-in_err-head-clause-made_first g c t tells is plain = let check = c.in_err-head.ensures in inl (quiet_gave _ _ check.quiet, goes_nowhere _ _ check.same)
+
+pub returns-in_err-file-clause-made_first : goal.returns-in_err-file-clause-made_first
+returns-in_err-file-clause-made_first g c t tells is plain = let check = c.in_ok-head.ensures in inl (quiet_gave _ _ check.quiet, goes_nowhere _ _ check.same)
+
+pub returns-in_err-room-clause-made_first : goal.returns-in_err-room-clause-made_first
+returns-in_err-room-clause-made_first g c t tells is plain =
+    let check = c.in_ok-head.ensures in
+    let makes = (c.in_err-room.ensures.some t tells (check.open t tells is)).makes in
+    inl (nothing_joined _ _ _ (quiet_gave _ _ check.quiet) makes.gave, goes_on _ _ _ (goes_nowhere _ _ check.same) makes.goes)
+
+pub returns-in_err-make-clause-made_first : goal.returns-in_err-make-clause-made_first
+returns-in_err-make-clause-made_first g c t tells is plain =
+    let check = c.in_ok-head.ensures in
+    let log = c.in_err-make.ensures.log in
+    let makes = (c.in_ok-room.ensures.some t tells (check.open t tells is)).makes in
+    inl (nothing_joined _ _ _ (nothing_joined _ _ _ (quiet_gave _ _ check.quiet) makes.gave) (record { guids = log.guids; times = log.times }), goes_on _ _ _ (goes_nowhere _ _ check.same) makes.goes)
+
+pub returns-in_err-head-2-clause-made_first : goal.returns-in_err-head-2-clause-made_first
+returns-in_err-head-2-clause-made_first g c t tells is plain =
+    let check = c.in_ok-head.ensures in
+    let a = c.args.engine.now in
+    let b = c.history_room.new.self in
+    let name : List ℕ = c.args.name.now in
+    let make = c.in_ok-make.ensures in
+    let makes = (c.in_ok-room.ensures.some t tells (check.open t tells is)).makes in
+    let file = remade_alone _ _ (g.H.Host.world c.history_room.new.host) (g.H.Host.world c.make.new.self) name _ IsEmpty tells (g.met.H.Host.timely _) make.files make.log.said make.time refl in
+    let own = makes.goes.name ∙ ap name_of check.same in
+    let apart : OfFiles (name_of b) name → ⊥ = λ its. free_apart (g.H.Host.world c.args.host.now) a t name is (check.free tells) plain (subst (λ (n : List ℕ). OfFiles n name) own its) in
+    let opened = open_aside _ _ b _ makes.opened (λ m. g.met.H.Host.reads_left _ tells m) (Only name) (λ m same its. apart (subst (OfFiles (name_of b)) same its)) _ file in
+    inr (made_kept _ _ _ _ name (c.in_err-head-2.ensures.stays_open _ tells opened).touched (λ its. ⊎_elim apart (λ none. none) its) (is_made _ _ _ _ name tells make.files))
+
+pub returns-clause-made_first : goal.returns-clause-made_first
+returns-clause-made_first g c t tells is plain =
+    let check = c.in_ok-head.ensures in
+    let a = c.args.engine.now in
+    let b = c.history_room.new.self in
+    let name : List ℕ = c.args.name.now in
+    let make = c.in_ok-make.ensures in
+    let makes = (c.in_ok-room.ensures.some t tells (check.open t tells is)).makes in
+    let file = remade_alone _ _ (g.H.Host.world c.history_room.new.host) (g.H.Host.world c.make.new.self) name _ IsEmpty tells (g.met.H.Host.timely _) make.files make.log.said make.time refl in
+    let own = makes.goes.name ∙ ap name_of check.same in
+    let apart : OfFiles (name_of b) name → ⊥ = λ its. free_apart (g.H.Host.world c.args.host.now) a t name is (check.free tells) plain (subst (λ (n : List ℕ). OfFiles n name) own its) in
+    let opened = open_aside _ _ b _ makes.opened (λ m. g.met.H.Host.reads_left _ tells m) (Only name) (λ m same its. apart (subst (OfFiles (name_of b)) same its)) _ file in
+    inr (made_kept _ _ _ _ name (c.in_ok-head-2.ensures.stays_open _ tells opened).touched (λ its. ⊎_elim apart (λ none. none) its) (is_made _ _ _ _ name tells make.files))
