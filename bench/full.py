@@ -384,7 +384,7 @@ def main():
     for kind, name, row in lines:
         print(f"{kind:22}{name:18}" + "".join(f"{count:12}" for count in row.values()))
     seconds = time.monotonic() - began
-    said = f"{tried} stops, {wrong['unopenable']} databases unopenable, {wrong['missing']} with an acknowledged write missing, {wrong['unfinished']} jobs that didn't end with room again, {seconds:.0f} s"
+    said = f"{tried} trials, {wrong['unopenable']} databases unopenable, {wrong['missing']} with an acknowledged write missing, {wrong['unfinished']} jobs that didn't end with room again, {seconds:.0f} s"
     report("full", not any(wrong.values()), said)
 
 

@@ -11,7 +11,7 @@ use std::io;
 ///
 /// Where pages end behind the file, it is made longer first, by a call of the system that does all or nothing, so that no part of a page
 /// is ever its end: not where the disk fills up or a limit is met within the bytes, nor where a stop cuts them off. Where they can't be put, the
-/// file gets its length back; where that fails too, whole pages of zeros stand behind it.
+/// file gets its length back; where that fails too, whole pages stand behind it, of zeros from where the write stopped.
 pub fn put_whole<F: Disk>(
     file: &mut F,
     len: u64,
@@ -36,7 +36,7 @@ pub fn put_whole<F: Disk>(
     match file.put(at, bytes) {
         Ok(()) => Ok(()),
         Err(error) => {
-            // Where this fails too, the file is still whole pages long.
+            // Where this fails too, the file is whole pages long all the same.
             let _ = file.resize(len);
             Err(error)
         }

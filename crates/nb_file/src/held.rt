@@ -101,6 +101,7 @@ impl<F: Disk + Drop> Held<F> {
         ensures none { waiting.new.name ≡ None }
         ensures bytes { IsTrue F.tells → OnOk result (F.bytes self.new.file ≡ with_waiting waiting.old self.old.name (F.bytes self.old.file)) }
         ensures whole { IsTrue F.tells → (page : ℕ) → AreOf page waiting.old.name waiting.old.piece → IsWhole page (length (F.bytes self.old.file)) → IsWhole page (length (F.bytes self.new.file)) }
+        ensures undone { IsTrue F.tells → 1 < waiting.old.piece → OnErr result (F.failed self.new.file ≡ F.failed self.old.file + 1 → IsSameUpTo waiting.old.at (F.bytes self.old.file) (F.bytes self.new.file)) }
         ensures sure { OnOk result (self.new.state.is_lost ≡ self.old.state.is_lost) }
         ensures lost { OnErr result (self.new.state.is_lost ≡ true) }
         ensures same { (self.new.name ≡ self.old.name) × (self.new.can_write ≡ self.old.can_write) × (self.new.state.is_kept ≡ self.old.state.is_kept) }

@@ -8,7 +8,7 @@ use std::rt::{Clock, Files};
 use std::time::Duration;
 use std::{io, thread};
 
-/// For so many milliseconds a lock isn't tried again.
+/// How long it is until a lock is tried again, in milliseconds.
 const PAUSE: u64 = 50;
 
 /// How often it is tried in a second.
@@ -17,7 +17,8 @@ const TRIES_A_SECOND: u64 = 20;
 /// Opens the file and locks it. Where another program has it, that is tried again until so many seconds have passed.
 ///
 /// Each time it is opened anew: what the other program has may be a file that it removes, or puts another in the place of, and then
-/// a lock of it says nothing of the file that has the name. A file that is made is not tried again, since it is there then.
+/// a lock of it says nothing of the file that has the name. Where a file is to be made no lock is waited for: by then it is there, and
+/// can't be made once more.
 pub fn open_locked<R: Files + Clock>(
     rt: &R,
     name: &Name,
