@@ -9,6 +9,7 @@ import contextlib
 import datetime
 import fcntl
 import os
+import random
 import signal
 import subprocess
 import time
@@ -18,6 +19,7 @@ from common import Folder, program, report
 NIGHTLY = os.path.join(os.path.dirname(os.path.dirname(os.path.abspath(__file__))), "examples", "nightly")
 PAGE_SIZE, RAW = 4096, 12_000
 KEEP = 2
+KILLS = 12
 FIRST = datetime.date(2026, 11, 25)  # a Wednesday
 
 
@@ -183,6 +185,22 @@ def killed(place):
         yield f"the night was killed in the state {place.state()}"
 
 
+def killed_anywhere(place):
+    """A night is killed at moments that a seed chooses, and the next one has to mend what that left, whatever it is."""
+    chance = random.Random(1)
+    states = set()
+    for _ in range(KILLS):
+        running = place.begin()
+        time.sleep(chance.uniform(0, 0.6))
+        os.killpg(running.pid, signal.SIGKILL)
+        finished(running)
+        states.add(place.state())
+        yield from place.next_night()
+        place.day += 1
+    if not states >= {0, 1}:
+        yield f"the states that were met are {states}"
+
+
 def terminated(place):
     running = place.begun()
     os.kill(running.pid, signal.SIGTERM)
@@ -294,6 +312,7 @@ CASES = [
     ("another user, without rights", no_rights),
     ("a full file system", full_disk),
     ("all killed by SIGKILL", killed),
+    ("the same, at any moment", killed_anywhere),
     ("stopped by SIGTERM", terminated),
     ("the program alone killed", program_killed),
     ("another program has it", in_use),

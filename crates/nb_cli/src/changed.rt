@@ -1,4 +1,7 @@
 // The database that a run changes, which it is to hold alone from its first use on.
+ghost use Rattle.std.specs.Prelude.{◌≡◌, Some, IfSome};
+ghost use Rattle.nb_cli.specs.Changed.{changed_by_words, database_in};
+
 use crate::look::look_at;
 use nb_host::Name;
 use nb_model::{Job, Statement};
@@ -7,8 +10,13 @@ use std::alloc::Global;
 use std::os::unix::fs::FileExt;
 use std::rt::Files;
 
+/// The database that a generated script creates.
+const GENERATED: &str = "gen.db";
+
 /// The database that a first statement creates or opens.
-fn database_of(first: &Statement) -> Option<Name> {
+fn database_of(first: &Statement) -> Option<Name>
+    ensures { result ≡ database_in first.now }
+{
     match first {
         Statement::CreateDb { name, .. } | Statement::OpenDb { name, .. } => Some(name.copied()),
         _ => None,
@@ -61,28 +69,24 @@ where
     parse(alloc, &bytes).ok()
 }
 
-/// The database that a script changes, none where it only reads. Where it can't be read the run says why.
-fn changed_by_script<R: Files>(alloc: Global, rt: &R, name: &Name) -> Option<Name>
-where
-    R::File: FileExt,
+/// The database that a script changes, none where it only reads.
+fn changed_by_script(script: &Script) -> Option<Name>
+    ensures { IfSome result (λ name. database_in script.now.first ≡ Some name) }
 {
-    let script = script_in(alloc, rt, name)?;
-    if script_changes(&script) {
+    if script_changes(script) {
         database_of(script.first())
     } else {
         None
     }
 }
 
-/// The database that a job changes, and none where it only reads one.
-pub fn changed<R: Files>(alloc: Global, rt: &R, job: &Job) -> Option<Name>
-where
-    R::File: FileExt,
+/// The database that words change, and none where they only read one, or name a script.
+fn changed_by_words(job: &Job) -> Option<Name>
+    ensures { result ≡ changed_by_words job.now }
 {
     match job {
-        Job::Run { script } => changed_by_script(alloc, rt, script),
-        Job::Gen { .. } => Name::read("gen.db"),
-        Job::Stat { .. } => None,
+        Job::Run { .. } | Job::Stat { .. } => None,
+        Job::Gen { .. } => Name::read(GENERATED),
         Job::Backup { db, .. }
         | Job::BackupSince { db, .. }
         | Job::Restore { db, .. }
@@ -91,5 +95,16 @@ where
         | Job::LockWithSize { db }
         | Job::Unlock { db }
         | Job::Fixup { db } => Some(db.copied()),
+    }
+}
+
+/// The database that a job changes, and none where it only reads one. Where a script can't be read the run says why.
+pub fn changed<R: Files>(alloc: Global, rt: &R, job: &Job) -> Option<Name>
+where
+    R::File: FileExt,
+{
+    match job {
+        Job::Run { script } => changed_by_script(&script_in(alloc, rt, script)?),
+        _ => changed_by_words(job),
     }
 }
