@@ -490,6 +490,15 @@ def go_on(runs, backup):
     return backup.image.as_it_stands()
 
 
+def clear(runs, model):
+    """Takes away the files that no further backup goes on from."""
+    last = [backup for backup in map(model.last_of, range(10)) if backup]
+    needed = {name for backup in last for name in backup.chain()}
+    for name in os.listdir(runs.folder.path):
+        if name.startswith("b.") and name not in needed:
+            os.remove(runs.folder.file(name))
+
+
 def main():
     path = program()
     in_memory()
@@ -504,6 +513,7 @@ def main():
                 break
             if number % 3 == 2 and script.backups:
                 model = go_on(runs, script.backups[-1])
+            clear(runs, model)
             first = "open 'x.db'"
     least, most, files = min(runs.memory), max(runs.memory), max(runs.files)
     report(
