@@ -104,7 +104,7 @@ def write(folder, name, text):
 
 def build(folder):
     """The program, proved and built."""
-    without_out = shutil.ignore_patterns("out", "must-fail")
+    without_out = shutil.ignore_patterns("out", "must-fail", "wrong")
     for crate in ("nb_host", "nb_cache"):
         shutil.copytree(os.path.join(HERE, "..", "crates", crate), os.path.join(folder, "crates", crate), ignore=without_out)
     write(folder, "crates.txt", "nb_host: arrayvec thiserror\nnb_cache: nb_host lru\ncache_bench: nb_cache nb_host\n")

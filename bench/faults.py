@@ -4,6 +4,12 @@ Each case makes one call of the system fail: the output by /dev/full, a write by
 strace, which answers them with an error and does not make them, the rest by what stands under a name. No reply comes after a
 failed sync or write of its page. Then scripts that break their form end the run with status 1, and one line on the standard error
 has the number and the text of the first line that does.
+
+Then what others do with a database: a user who may not write it makes no difference file beside it, runs that only read it never fail each
+other, and one that changes it waits for them as long as NEHUMIRO_WAIT says, and is refused at once where that says nothing.
+
+Then a backup that is cut off at each of its syncs: behind the line of the failure the standard error says what stands exactly where the database is
+locked or half merged, and what it says to do helps. And memory that runs out is said, with what the cache of a script asks for.
 """
 
 import fcntl
@@ -14,10 +20,14 @@ import shutil
 import signal
 import subprocess
 import sys
+import threading
+import time
 
 from common import CREATE, PAGE_SIZE, Folder, program, report, write_line, writes
 
 COUNT = 20
+LOOKS = 50
+NOBODY = ["setpriv", "--reuid=65534", "--regid=65534", "--clear-groups"]
 
 # Scripts that break their form: the number of the first line that does, and what is shown of it.
 BROKEN = [
@@ -98,6 +108,144 @@ def broken_scripts(path):
                 yield f"{ran} for line {line}: {shown}"
 
 
+def create(folder, path):
+    folder.write_script("create", [CREATE])
+    run(folder, [path, "run", "create"])
+
+
+def without_rights(path):
+    """What is wrong where a user who may read a database, and make files beside it, begins a backup of it."""
+    with Folder() as folder:
+        create(folder, path)
+        shutil.copy(path, folder.file("nehumiro"))
+        os.chmod(folder.path, 0o777)
+        os.chmod(folder.file("nehumiro"), 0o755)
+        os.chmod(folder.file("x.db"), 0o644)
+        program = [folder.file("nehumiro")]
+        if os.getuid() != 0 or run(folder, NOBODY + program)[0] != 2:
+            print("faults: no other user can be tried here: that takes root, setpriv, and a folder that all may reach", flush=True)
+            return
+        ran = run(folder, NOBODY + program + ["-L", "x.db"])
+        if ran != (3, [], "nehumiro: x.db: open: Permission denied (os error 13)\n"):
+            yield f"{ran} of a user who may not write"
+        if os.path.exists(folder.file("x.db.delta")):
+            yield "a difference file of a user who may not write the database"
+        for words, reply in ((["-L", "x.db"], "1: ok scn 2"), (["-N", "x.db"], "1: ok scn 3")):
+            ran = run(folder, program + words)
+            if ran != (0, [reply], ""):
+                yield f"{ran} of the owner"
+
+
+def with_lock(folder, kind, seconds, words, wait):
+    """What a run says, and how many seconds it takes, while a lock is held that is given up behind so many."""
+    with open(folder.file("x.db"), "rb") as file:
+        fcntl.flock(file, kind)
+        timer = threading.Timer(seconds, fcntl.flock, (file, fcntl.LOCK_UN))
+        timer.start()
+        began = time.monotonic()
+        ran = subprocess.run(words, cwd=folder.path, capture_output=True, env={**os.environ, "NEHUMIRO_WAIT": str(wait)}, check=False)
+        took = time.monotonic() - began
+        timer.cancel()
+    return (ran.returncode, ran.stderr.decode()), took
+
+
+def locks(path):
+    """What is wrong with locks that are waited for, and with those that aren't."""
+    done, in_use = (0, ""), (3, "nehumiro: x.db is in use\n")
+    look, lock, end = [path, "stat", "x.db"], [path, "-L", "x.db"], [path, "-N", "x.db"]
+    with Folder() as folder:
+        create(folder, path)
+        # The kind of the lock, when it is given up, what is run beside it and how long that waits: how it ends, and after how long at least.
+        for kind, seconds, words, wait, wanted, least in [
+            (fcntl.LOCK_SH, 9, look, 0, done, 0),
+            (fcntl.LOCK_SH, 9, lock, 0, in_use, 0),
+            (fcntl.LOCK_EX, 9, look, 0, in_use, 0),
+            (fcntl.LOCK_EX, 9, look, 1, in_use, 0.9),
+            (fcntl.LOCK_EX, 0.4, look, 8, done, 0.4),
+            (fcntl.LOCK_SH, 0.4, lock, 8, done, 0.4),
+            (fcntl.LOCK_SH, 0.4, end, 8, done, 0.4),
+        ]:
+            ran, took = with_lock(folder, kind, seconds, words, wait)
+            if ran != wanted or not least <= took < 8:
+                yield f"{ran} in {took:.1f} s beside a lock {kind} of {words[1]} that waits {wait} s"
+
+
+def looks_beside_backups(path):
+    """What fails where a database is looked at again and again while it is backed up."""
+    with Folder() as folder:
+        create(folder, path)
+        os.environ["NEHUMIRO_WAIT"] = "60"
+        looks = []
+
+        def look():
+            for _ in range(LOOKS):
+                looks.append(run(folder, [path, "stat", "x.db"]))
+
+        lookers = [threading.Thread(target=look) for _ in range(2)]
+        for looker in lookers:
+            looker.start()
+        backups = []
+        while any(looker.is_alive() for looker in lookers):
+            backups.append(run(folder, [path, "-B", "1" if backups else "0", "x.db", f"x.{len(backups)}"]))
+        del os.environ["NEHUMIRO_WAIT"]
+        for ran in looks + backups:
+            if ran[0] != 0 or ran[2]:
+                yield f"{ran} of {2 * LOOKS} looks and {len(backups)} backups side by side"
+    with Folder() as folder:
+        create(folder, path)
+        for _ in range(LOOKS):
+            pair = [subprocess.Popen([path, "stat", "x.db"], cwd=folder.path, stdout=subprocess.DEVNULL, stderr=subprocess.DEVNULL) for _ in range(2)]
+            if any([looker.wait() for looker in pair]):
+                yield "one of two looks side by side failed"
+
+
+def standing(path):
+    """What is said otherwise of a backup of level 1 at each of its syncs that fails, and behind it."""
+    said_of = {
+        1: r"x\.db is locked by this backup, and (b\.1 isn't whole: end it with: nehumiro -N x\.db|"
+        r"its history may lack b\.1: end it with: nehumiro -N x\.db, and make it again under another name)",
+        2: r"b\.1 is whole, and x\.db isn't merged yet: end that with: nehumiro -N x\.db",
+    }
+    states = set()
+    with Folder() as folder:
+        create(folder, path)
+        run(folder, [path, "-B", "0", "x.db", "b.0"])
+        for when in range(1, 100):
+            words = ["strace", "-f", "-qq", "-o", "/dev/null", "-e", "trace=fdatasync", "-e", f"inject=fdatasync:error=EIO:when={when}"]
+            status, _, said = run(folder, words + [path, "-B", "1", "x.db", "b.1"])
+            if status == 0:
+                break
+            with open(folder.file("x.db"), "rb") as file:
+                state = file.read(24)[22]
+            states.add(state)
+            line = f"nehumiro: {said_of[state]}\n" if state else ""
+            if not re.fullmatch(rf"nehumiro: [a-z0-9.]+: sync: Input/output error \(os error 5\)\n{line}", said):
+                yield f"{said!r} in the state {state}, behind the sync {when}"
+            if state and run(folder, [path, "-N", "x.db"])[0] != 0:
+                yield f"the backup isn't ended behind the sync {when}"
+            if os.path.exists(folder.file("b.1")):
+                os.remove(folder.file("b.1"))
+        if status or states != {0, 1, 2}:
+            yield f"a backup ends with {status}, and was cut off in the states {states}"
+
+
+def little_memory():
+    """The process gets 40 MB."""
+    resource.setrlimit(resource.RLIMIT_AS, (40_000_000, 40_000_000))
+
+
+def shortages(path):
+    """What is said otherwise where memory runs out."""
+    with Folder() as folder:
+        create(folder, path)
+        for first, asked in [("1: open 'x.db' cache 4096", None), ("1: create database 'y.db' page_size 32768 raw 8 cache 4096", "32768 bytes alone asks for 128")]:
+            folder.write_script("script", [first])
+            ran = run(folder, [path, "run", "script"], prepare=little_memory)
+            line = f"nehumiro: memory ran out; the script's cache of 4096 pages of {asked} MiB\n"
+            if asked and ran != (4, [], line) or not asked and ran[0] != 0:
+                yield f"{ran} where the first statement is {first}"
+
+
 def main():
     path = program()
     if not shutil.which("strace"):
@@ -113,11 +261,15 @@ def main():
                 wrong.append(f"status {status}, {len(replies)} replies for {wanted}, {said!r} for {line!r}")
     failed = len(wrong)
     wrong += broken_scripts(path)
+    broken = len(wrong) - failed
+    shared = [*without_rights(path), *locks(path), *looks_beside_backups(path)]
+    stands = [*standing(path), *shortages(path)]
     report(
         "faults",
-        not wrong,
-        f"{len(cases) - failed} of {len(cases)} failures end the run and are said, {len(BROKEN) + failed - len(wrong)} of {len(BROKEN)} broken scripts are shown"
-        f"{''.join(' ' + text for text in wrong[:3])}",
+        not wrong and not shared and not stands,
+        f"{len(cases) - failed} of {len(cases)} failures end the run and are said, {len(BROKEN) - broken} of {len(BROKEN)} broken scripts are shown, "
+        f"{len(shared)} times one run failed another that it mustn't, or didn't, and {len(stands)} times what stands was said otherwise"
+        f"{''.join(' ' + text for text in (wrong + shared + stands)[:3])}",
     )
 
 

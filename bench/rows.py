@@ -1,16 +1,20 @@
 """Sessions on real files, with every line that they must say, how they end, and what their files then have.
 
 Sessions such as these are played on a host in memory by `nb_trials`. GUIDs are drawn anew on real files: the k-th that is said stands for `Gk`,
-here as there. Each session begins in a folder of its own, or goes on from the files of the one that it names.
+here as there. Each session begins in a folder of its own, or goes on from the files of the one that it names. Then files that something else has
+changed, and what the standard error says of words that name no job and of jobs that are refused.
 """
 
+import hashlib
 import os
 import re
 import shutil
+import subprocess
 
 from common import Folder, program, report
 
 GUID = re.compile(r"[0-9a-f]{8}(?:-[0-9a-f]{4}){3}-[0-9a-f]{12}")
+DIGEST = re.compile(r"\b[0-9a-f]{64}\b")
 NIL = "00000000-0000-0000-0000-000000000000"
 CREATE = "1: create database 'a.db' page_size 1024 raw 8"
 OPEN = "1: open 'a.db'"
@@ -28,7 +32,8 @@ def words(text):
 
 
 class Case:
-    """Steps one after another, each a script (a list that begins with `1: ..`) or words, with the lines that it says and its exit status."""
+    """Steps one after another, each a script (a list that begins with `1: ..`) or words, with the lines that it says and its exit status; or what
+    something else does to the files."""
 
     def __init__(self, name, steps, after=None, check=None):
         self.name, self.steps, self.after, self.check = name, steps, after, check
@@ -77,6 +82,28 @@ def is_level_1(folder):
 def is_restored(folder):
     """The chain's database is in the normal state: byte 22 is 0, and the level 0 that it came from has 1 there."""
     return part(folder, "b.db", 22, 1) == b"\0" and len(whole(folder, "b.db")) == 13312
+
+
+def copied(name, to):
+    return lambda folder: shutil.copy(folder.file(name), folder.file(to))
+
+
+def linked(name, to):
+    return lambda folder: os.link(folder.file(name), folder.file(to))
+
+
+def removed(name):
+    return lambda folder: os.remove(folder.file(name))
+
+
+def left(name, content):
+    """A file that something else leaves."""
+
+    def change(folder):
+        with open(folder.file(name), "wb") as file:
+            file.write(content)
+
+    return change
 
 
 def no_c(folder):
@@ -350,6 +377,83 @@ CASES = [
         "create, write, read",
     ),
     Case(
+        "a copy by hand is in no history",
+        [
+            (words("-L a.db"), "1: ok scn 2", 0),
+            copied("a.db", "h.0"),
+            (words("-N a.db"), "1: ok scn 3", 0),
+            (words("-B 1 a.db a.1"), "1: refused 14 NoHistory 0", 1),
+            (words("-R c.db h.0"), "1: ok pages 13", 0),
+        ],
+        "create, write, read",
+    ),
+    Case(
+        "a restored database lacks its last backup",
+        [
+            (words("-B 1 b.db b.1"), "1: ok level 1 scn 4 pages 4 guid G3", 0),
+            (words("-B 2 a.db a.2"), "1: ok level 2 scn 5 pages 4 guid G4", 0),
+            (words("-R c.db a.0 a.1 a.2"), "1: ok pages 13", 0),
+            (words("-B 3 c.db c.3"), "1: refused 14 NoHistory 2", 1),
+            (words("-B G4 c.db c.3"), "1: refused 30 NoGuid G4", 1),
+            copied("a.0", "f.db"),
+            (words("-F f.db"), "1: ok", 0),
+            (words("-B 1 f.db f.1"), "1: refused 14 NoHistory 0", 1),
+        ],
+        "a chain restored",
+    ),
+    Case(
+        "a name that begins with 64 zeros is free",
+        [
+            left("z", bytes(64) + b"something"),
+            (words("-B 0 a.db z"), "1: ok level 0 scn 1 pages 13 guid G1", 0),
+            left("y", bytes(63) + b"something"),
+            (words("-B 0 a.db y"), "1: refused 4 FileExists y", 1),
+        ],
+        "create, write, read",
+        lambda folder: len(whole(folder, "z")) == 13312,
+    ),
+    Case(
+        "a fixup by another name loses what was written since",
+        [
+            linked("a.db", "h.db"),
+            (words("-F h.db"), "1: ok", 0),
+            (script(OPEN, "1: read 6"), "1: ok pages 13 state 0|1: ok 'hello'", 0),
+        ],
+        "a write while stalled",
+    ),
+    Case(
+        "a difference file is lost",
+        [
+            removed("a.db.delta"),
+            (words("-N a.db"), "1: refused 3 NoFile a.db.delta", 1),
+            copied("a.db", "f.db"),
+            (words("-F f.db"), "1: ok", 0),
+            (script("1: open 'f.db'", "1: read 6"), "1: ok pages 13 state 0|1: ok 'hello'", 0),
+        ],
+        "a write while stalled",
+    ),
+    Case(
+        "flags of the header under a backup",
+        [
+            (script(OPEN, BEGIN, "1: access read_only", "1: forced writes off"), "1: ok pages 13 state 0|1: ok scn 2|1: refused 6 WrongState 1|1: ok", 1),
+            (words("-N a.db"), "1: ok scn 3", 0),
+            (script(OPEN, "1: access read_only", BEGIN), "1: ok pages 13 state 0|1: ok|1: refused 20 Access 1", 1),
+        ],
+        "create, write, read",
+    ),
+    Case(
+        "the digest of what is frozen is that of the backup file",
+        [
+            (
+                script(OPEN, "schedule 1 2 2", "1: backup 0 to 'a.0'", "2: show header", "2: show image"),
+                "1: ok pages 13 state 0|2: ok size 1024 pages 13 state 1 scn 2 guid G1 forced 1 access 0 delta 0|2: ok pages 13 sha256 H|1: ok level 0 scn 1 pages 13 guid G1",
+                0,
+            ),
+        ],
+        "create, write, read",
+        lambda folder: hashlib.sha256(whole(folder, "a.0")).hexdigest() == folder.digest,
+    ),
+    Case(
         "a generated script",
         [
             (words("gen 7 g.s"), "1: ok header 1 inventory 1 scn 1 data 24 raw 100 other 0 free 0", 0),
@@ -378,7 +482,8 @@ def write_at(name, at, data):
     return change
 
 
-# Files that something else has changed, each from the files of a session: the change, the words or script, and what they say.
+# Files that something else has changed, each from the files of a session: the change, the words or script, and what they say. The last ones show what
+# isn't seen: that a level 0 has all its pages, and a byte of a page.
 HOSTILE = [
     ("level 1", cut("a.1", 4187), words("-R c.db a.0 a.1"), "1: refused 15 BadLevel a.1 4187"),
     ("level 1", cut("a.1", 4180), words("-R c.db a.0 a.1"), "1: refused 15 BadLevel a.1 4180"),
@@ -389,8 +494,75 @@ HOSTILE = [
     ("a write while stalled", write_at("a.db.delta", 0, b"\0\1"), script(OPEN), "1: refused 7 BadDelta 0"),
     ("a write while stalled", write_at("a.db.delta", 8, b"\2"), script(OPEN), "1: refused 7 BadDelta 0"),
     ("a table's second page", write_at("a.db", 5 * 1024 + 16, b"\5"), script(OPEN, "1: scan t"), "1: ok pages 7 state 0|1: refused 5 NotDatabase 5"),
+    # A page that a row needed wasn't kept, while the one that leads to it was, as a crash may leave it where forced writes are off.
+    ("a table's second page", write_at("a.db", 6 * 1024, b"\x08"), script(OPEN, "1: get t 1"), "1: ok pages 7 state 0|1: refused 5 NotDatabase 6"),
     ("a write while stalled", cut("a.db.delta", 2048), script(OPEN), "1: refused 7 BadDelta 2"),
-    ("a write while stalled", lambda folder: os.remove(folder.file("a.db.delta")), script(OPEN), "1: refused 3 NoFile a.db.delta"),
+    ("a write while stalled", removed("a.db.delta"), script(OPEN), "1: refused 3 NoFile a.db.delta"),
+    ("level 1", cut("a.0", 10240), words("-R c.db a.0 a.1"), "1: ok pages 10"),
+    ("level 1", write_at("a.0", 7 * 1024 + 20, b"x"), words("-R c.db a.0 a.1"), "1: ok pages 13"),
+    ("level 1", write_at("a.1", 700, b"x"), words("-R c.db a.0 a.1"), "1: ok pages 13"),
+]
+
+TIME = r"\d{4}-\d\d-\d\d \d\d:\d\d:\d\d UTC"
+LONG = "a" * 101
+
+# What the standard error says first where words name no job.
+USAGE = [
+    ([], "no words say what to do"),
+    (["restore", "a.db"], '"restore" is no job'),
+    (["-B", "0", "a.db"], "there are too few words for: nehumiro -B LEVEL DB FILE"),
+    (["-B", "0", "a.db", "x", "y"], "there are too many words for: nehumiro -B LEVEL DB FILE"),
+    (["-B", "10", "a.db", "x"], '"10" is no level: levels are 0 to 9'),
+    (["-B", "x", "a.db", "x"], '"x" is neither a level, 0 to 9, nor a GUID, 32 hexadecimal digits in groups of 8, 4, 4, 4 and 12'),
+    (["-B", "0", "my db", "x"], '"my db" is no name of a database: no name has a space'),
+    (["-B", "0", "a.db", "x\ty"], '"x\\ty" is no name of a file: no name has the character \'\\t\''),
+    (["-B", "0", "a.db", "x.delta"], '"x.delta" is no name of a file: names that end in .delta are those of difference files'),
+    (["-L", LONG[:95]], f'"{LONG[:60]}".. is no name of a database: it has 95 bytes, and 94 at most are allowed'),
+    (["run", LONG], f'"{LONG[:60]}".. is no name of a file: it has 101 bytes, and 100 at most are allowed'),
+    (["-L", ""], "the name of a database is empty"),
+    (["-L", "-L", "a.db"], "-L is given twice"),
+    (["-Z", "a.db"], '"-Z" is no flag; a name that begins with - stands behind a word --'),
+    (["--help"], '"--help" is no flag; a name that begins with - stands behind a word --'),
+    (["-S", "a.db"], "-S names no job by itself"),
+    (["-B", "-R", "x", "y"], "-B -R name no job together"),
+    (["-R", "a", *"bcdefghijkl"], "a chain has 10 files at most"),
+    (["gen", "007", "s"], '"007" is no number of 0 to 18446744073709551615'),
+    ([b"stat", b"\xff"], "a word is no text"),
+]
+
+# What it says of a job that is refused, each from the files of a session: what is changed before, the words, and the line.
+LOST = f"with all that was written to a.db since {TIME}: put it back; where it is lost, a copy of a.db becomes the database as it was then, by: nehumiro -F COPY"
+ADVICE = [
+    ("a write while stalled", None, "-B 0 a.db f", f"a.db is locked since {TIME}: end that backup with: nehumiro -N a.db"),
+    ("a write while stalled", None, "-L a.db", f"a.db is locked since {TIME}: end that backup with: nehumiro -N a.db"),
+    ("create, write, read", None, "-N a.db", "a.db isn't locked: there is no backup to end"),
+    ("a write while stalled", write_at("a.db", 22, b"\2"), "-B 0 a.db f", "a.db isn't merged yet behind its last backup: end that with: nehumiro -N a.db"),
+    ("level 1", write_at("a.db", 65, b"\1"), "-L a.db", "a.db is read-only, and a backup writes to it: a script with the line '1: access read_write' lifts that"),
+    ("level 1", None, "-B 0 a.db a.1", "a.1 is there already: choose another name, or move it away"),
+    ("level 1", cut("a.1", 4000), "-B 1 a.db a.1", "a.1 is there already, and isn't whole: a stopped backup left it, and it may be removed"),
+    ("level 1", left("f.delta", b""), "-B 1 a.db f", "f is no free name, since f.delta stands beside it: move that away where nothing needs it, or choose another name"),
+    ("create, write, read", None, "-B 2 a.db f", r"the history of a.db has no backup to go on from \(a copy made by hand is none\): first make: nehumiro -B 0 a.db FILE"),
+    ("level 1", None, "-B 4 a.db f", "the history of a.db has backups of the levels 0 and 1, and none of level 3 to go on from: first make: nehumiro -B 2 a.db FILE"),
+    ("level 0", None, f"-B {NIL} a.db f", r"the history of a.db has backups of the level 0, and none with this GUID \(a restore loses the last one\): give a level, as: nehumiro -B 0 a.db FILE"),
+    ("level 1", None, "-B 0 no.db f", "there is no file no.db: a name counts from the folder in which the program is started"),
+    ("level 1", None, "stat a.1", "a.1 is no database, since it doesn't begin with the header of one"),
+    ("level 1", write_at("a.db", 13312, b"x"), "-L a.db", "page 13 of a.db is damaged: restore a chain: nehumiro -R NEW FILE.."),
+    ("level 1", write_at("a.db", 22, b"\3"), "-L a.db", "a.db isn't whole, since its restore or its creation was stopped: give the same words again"),
+    ("a write while stalled", removed("a.db.delta"), "-N a.db", f"a.db.delta is gone, {LOST}"),
+    ("a write while stalled", cut("a.db.delta", 2048), "-N a.db", f"a.db.delta is damaged at its page 2, {LOST}"),
+    ("chains refused", None, "-R a.db a.0", "a.db is there already: choose another name, or move it away"),
+    ("chains refused", None, "-R c.db no.0", "there is no file no.0: a name counts from the folder in which the program is started"),
+    ("chains refused", None, "-R c.db a.0 a.2", "a.2 is of level 2, and one of level 1 has to stand in its place: give a file of each level, that of level 0 first"),
+    ("chains refused", None, "-R c.db z.0 a.1", "a.1 doesn't go on from z.0, which is the backup G4, but from the backup G1: give the file of that one before it"),
+    ("chains refused", write_at("a.1", 48, b"\2"), "-R c.db a.0 a.1", "a.1 goes on from SCN 2 and a.0 has 1, though their GUIDs agree: one of them was changed"),
+    ("level 1", cut("a.1", 4180), "-R c.db a.0 a.1", "a.1 isn't whole, as a stopped backup or copy leaves it: take another copy of it, or a chain without it"),
+    ("level 1", write_at("a.1", 4188, b"x"), "-R c.db a.0 a.1", "a.1 is damaged at its byte 4188: take another copy of it, or a chain without it"),
+    ("level 1", left("f", b"something"), "-R c.db f", "f is no backup file: give those that -B made, or a copy of a locked database"),
+    ("level 1", None, "-R c.db a.db", "a.db is no backup: it is a database, or was copied while none was locked"),
+    ("lock, copy, fixup", None, "-F a.db", "a.db.delta stands beside a.db, so it is the locked database itself and no copy: end its backup with: nehumiro -N a.db"),
+    ("lock, copy, fixup", None, "-F k.db", "k.db is a database of its own already: nothing is to be done"),
+    ("a write while stalled", write_at("a.db", 22, b"\2"), "-F a.db", "a.db is the database itself, not merged yet behind its last backup: end that with: nehumiro -N a.db"),
+    ("a generated script", None, "gen 8 i.s", "gen.db is there already: choose another name, or move it away"),
 ]
 
 
@@ -400,7 +572,7 @@ def with_guids(line, guids):
 
 
 def run(folder, path, step, guids):
-    """What a step says, and its exit status. New GUIDs are noted."""
+    """What a step says, and its exit status. New GUIDs, and the last digest, are noted."""
     if step and step[0].startswith(tuple("123456789")):
         folder.write_script("s", step)
         step = ["run", "s"]
@@ -410,40 +582,82 @@ def run(folder, path, step, guids):
     for guid in GUID.findall(said):
         if guid != NIL and guid not in guids:
             guids.append(guid)
-    return "|".join(said.splitlines()), running.returncode
+    for digest in DIGEST.findall(said):
+        folder.digest = digest
+    return "|".join(DIGEST.sub("H", said).splitlines()), running.returncode
+
+
+class Kept:
+    """The folders of the sessions, each with the GUIDs that were said in it."""
+
+    def __init__(self, base):
+        self.base, self.made = base, {}
+
+    def folder(self, name, after):
+        """A folder of its own, empty or with the files of a session, and the GUIDs of that."""
+        folder = Folder()
+        folder.path = self.base.file(str(name))
+        if after is None:
+            os.mkdir(folder.path)
+            return folder, []
+        shutil.copytree(self.made[after][0].path, folder.path)
+        return folder, list(self.made[after][1])
+
+
+def sessions(path, kept):
+    """What sessions say and leave that they mustn't."""
+    for number, case in enumerate(CASES):
+        folder, guids = kept.folder(number, case.after)
+        for step in case.steps:
+            if callable(step):
+                step(folder)
+                continue
+            asked, lines, status = step
+            said, ended = run(folder, path, asked, guids)
+            if (said, ended) != (with_guids(lines, guids), status):
+                yield f"{case.name}: {said} ({ended})"
+        if case.check is not None and not case.check(folder):
+            yield f"{case.name}: its files"
+        kept.made[case.name] = (folder, guids)
+
+
+def changed_files(path, kept):
+    """What is said otherwise of files that something else has changed."""
+    for number, (after, change, step, line) in enumerate(HOSTILE):
+        folder, guids = kept.folder(f"h{number}", after)
+        change(folder)
+        said, ended = run(folder, path, step, guids)
+        if (said, ended) != (line, int("refused" in line)):
+            yield f"{line}: {said} ({ended})"
+
+
+def errors(path, kept):
+    """What the standard error says otherwise."""
+    for wrong, line in USAGE:
+        said = subprocess.run([path, *wrong], cwd=kept.base.path, capture_output=True, check=False).stderr.decode()
+        if not said.startswith(f"nehumiro: {line}\nNehumiro 1.0"):
+            yield f"{wrong}: {said.splitlines()[:1]}"
+    for number, (after, change, asked, line) in enumerate(ADVICE):
+        folder, guids = kept.folder(f"a{number}", after)
+        if change is not None:
+            change(folder)
+        said = subprocess.run([path, *asked.split()], cwd=folder.path, capture_output=True, check=False).stderr.decode()
+        if not re.fullmatch(f"nehumiro: {with_guids(line, guids)}\n", said):
+            yield f"{asked}: {said}"
 
 
 def main():
     path = program()
-    kept, wrong = {}, []
     with Folder() as base:
-        for number, case in enumerate(CASES):
-            folder = Folder()
-            folder.path = base.file(str(number))
-            if case.after is None:
-                os.mkdir(folder.path)
-                guids = []
-            else:
-                shutil.copytree(kept[case.after][0].path, folder.path)
-                guids = list(kept[case.after][1])
-            for step, lines, status in case.steps:
-                said, ended = run(folder, path, step, guids)
-                if (said, ended) != (with_guids(lines, guids), status):
-                    wrong.append(f"{case.name}: {said} ({ended})")
-            if case.check is not None and not case.check(folder):
-                wrong.append(f"{case.name}: its files")
-            kept[case.name] = (folder, guids)
-        for number, (after, change, step, line) in enumerate(HOSTILE):
-            folder = Folder()
-            folder.path = base.file(f"h{number}")
-            shutil.copytree(kept[after][0].path, folder.path)
-            change(folder)
-            said, ended = run(folder, path, step, list(kept[after][1]))
-            if (said, ended) != (line, 1):
-                wrong.append(f"{line}: {said} ({ended})")
+        kept = Kept(base)
+        wrong = [*sessions(path, kept), *changed_files(path, kept), *errors(path, kept)]
     for text in wrong:
         print(text)
-    report("rows", not wrong, f"{len(CASES)} sessions and {len(HOSTILE)} changed files say and leave what they must, but for {len(wrong)}")
+    report(
+        "rows",
+        not wrong,
+        f"{len(CASES)} sessions, {len(HOSTILE)} changed files and {len(USAGE) + len(ADVICE)} lines of the standard error say and leave what they must, but for {len(wrong)}",
+    )
 
 
 if __name__ == "__main__":

@@ -155,7 +155,7 @@ impl TwoFiles {
         ensures page_size { self.new.page_size ≡ self.old.page_size }
         ensures cause { CountsFault result (H.faults host.old) (H.faults host.new) }
     {
-        host.sync(&self.name)?;
+        host.sync(&self.name)?; // What was merged is kept for good before the state says so.
         control_block(host, &self.name, &mut self.page, NORMAL, None)?;
         self.state = NORMAL;
         self.main_count = self.count;

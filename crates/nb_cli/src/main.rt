@@ -1,8 +1,9 @@
 //! The program: the words of the command line, real files, and the exit status.
 //!
-//! It rests on `nb_top`, whose `run` is the whole program, and on `nb_file` for the outside. On the standard output it says nothing
-//! itself. On the standard error it says which words there are, where those that it was given name no job, and the line of a script that
-//! breaks its form.
+//! It rests on `nb_top`, whose `run` is the whole program, on `nb_file` for the outside, and on `nb_advice` for what the standard error says.
+//! On the standard output it says nothing itself. Before a run it tells the host which database the run changes and how long locks are waited
+//! for; behind it the standard error has which word is wrong, which line of a script, what to do about a refusal, or what stands where the
+//! run ended early. For that it looks at files by itself (`look`), without a lock, and changes nothing.
 #![tactic(auto)]
 
 ghost use Rattle.std.specs.Prelude.{◌≡◌, ◌≢◌, ◌⊎◌, None, Ok, map, string_bytes, IsTrue, IfOk, IfErr};
@@ -18,34 +19,31 @@ ghost use Rattle.nb_top.specs.Requests.{job_asked, request_asked};
 ghost use Rattle.nb_top.specs.Touched.{IsWholeToMerge, TouchesAsked};
 ghost use Rattle.nb_cli.specs.Exit.{number_of};
 
-mod script;
+mod after;
+mod asked;
+mod changed;
+mod look;
+mod progress;
+mod seeing;
+mod settings;
 
+use after::explain;
+use asked::job_asked;
+use changed::changed;
 use nb_file::{Disk, FileHost};
 use nb_host::Host;
-use nb_top::broken::broken_line;
+use nb_model::Job;
 use nb_top::{Status, run};
-use script::script_of;
+use progress::{manner, progress_of};
+use seeing::{database_of, state_of};
+use settings::{patience, wants_progress};
 use std::alloc::Global;
 use std::env;
-use std::io::{self, ErrorKind};
+use std::io::{self, ErrorKind, IsTerminal};
 use std::os::fd::AsRawFd;
+use std::os::unix::fs::FileExt;
 use std::process::ExitCode;
 use std::rt::{Clock, Env, Files};
-
-/// What the words may be, for a reader.
-const USAGE: &str = "\
-Nehumiro 1.0: physical backup of a database
-usage: nehumiro run SCRIPT          runs the statements of a script
-       nehumiro stat DB             shows the header of a database, and its pages by kind
-       nehumiro -L DB               locks a database: its file stays as it is until -N
-       nehumiro -L -S DB            the same, and says how many pages it has
-       nehumiro -N DB               unlocks it, and merges back what was written meanwhile
-       nehumiro -B LEVEL DB FILE    backs it up into a new file: level 0 all of it, 1 to 9 what changed since the level below
-       nehumiro -B GUID DB FILE     backs up what changed since the backup of that GUID
-       nehumiro -R DB FILE..        restores a new database from a chain of backup files, that of level 0 first
-       nehumiro -F FILE             makes a copy of a locked database a database of its own
-       nehumiro gen N SCRIPT        writes the script of the number N to a new file, and runs it: for trials
-";
 
 /// The words of the command line, without the program's own name.
 fn words(rt: &(impl Env + AllocGlobal)) -> io::Result<Vec<String>> {
@@ -57,20 +55,20 @@ fn words(rt: &(impl Env + AllocGlobal)) -> io::Result<Vec<String>> {
 }
 
 /// Does what the words ask, or tells why they couldn't be read: a word that is no text names no job.
-fn status_of<H: Host>(alloc: Global, words: io::Result<Vec<String>>, host: &mut H) -> Status
+fn status_of<H: Host>(alloc: Global, words: &io::Result<Vec<String>>, host: &mut H) -> Status
     // Words that were read are those of the run.
-    ensures usage { result ≡ Status.Usage → IfOk words (λ words. job_asked (map string_bytes words.items) ≡ None) }
-    ensures no_job { IfOk words (λ words. job_asked (map string_bytes words.items) ≡ None → result ≢ Status.Done × result ≢ Status.Refused) }
-    ensures performs { IfOk words (λ words. (account : Account) (given : Given) → IsTrue H.tells → Knows (H.world host.old).files account (request_asked (H.world host.old).files (map string_bytes words.items))
+    ensures usage { result ≡ Status.Usage → IfOk words.now (λ words. job_asked (map string_bytes words.items) ≡ None) }
+    ensures no_job { IfOk words.now (λ words. job_asked (map string_bytes words.items) ≡ None → result ≢ Status.Done × result ≢ Status.Refused) }
+    ensures performs { IfOk words.now (λ words. (account : Account) (given : Given) → IsTrue H.tells → Knows (H.world host.old).files account (request_asked (H.world host.old).files (map string_bytes words.items))
         → MayBeGiven given → Foretells given (H.world host.old) (H.world host.new)
         → Performs result (H.world host.old) (H.world host.new) (request_asked (H.world host.old).files (map string_bytes words.items)) account given) }
-    ensures grows { IfOk words (λ words. (account : Account) → IsTrue H.tells → Knows (H.world host.old).files account (request_asked (H.world host.old).files (map string_bytes words.items)) → Grows (H.world host.old) (H.world host.new)) }
-    ensures touches { IfOk words (λ words. IsTrue H.tells → IsWholeToMerge (H.world host.old).files (request_asked (H.world host.old).files (map string_bytes words.items))
+    ensures grows { IfOk words.now (λ words. (account : Account) → IsTrue H.tells → Knows (H.world host.old).files account (request_asked (H.world host.old).files (map string_bytes words.items)) → Grows (H.world host.old) (H.world host.new)) }
+    ensures touches { IfOk words.now (λ words. IsTrue H.tells → IsWholeToMerge (H.world host.old).files (request_asked (H.world host.old).files (map string_bytes words.items))
         → TouchesAsked (Ok result) (H.world host.old) (H.world host.new) (request_asked (H.world host.old).files (map string_bytes words.items))) }
 
     // Others make it Usage, where memory and the host suffice to say so.
-    ensures no_text { IfErr words (λ error. error_kind error ≢ ErrorKind.OutOfMemory → (result ≡ Status.Usage) ⊎ (result ≡ Status.Device) ⊎ (result ≡ Status.Memory)) }
-    ensures memory { IfErr words (λ error. error_kind error ≡ ErrorKind.OutOfMemory → result ≡ Status.Memory × host.new ≡ host.old) }
+    ensures no_text { IfErr words.now (λ error. error_kind error ≢ ErrorKind.OutOfMemory → (result ≡ Status.Usage) ⊎ (result ≡ Status.Device) ⊎ (result ≡ Status.Memory)) }
+    ensures memory { IfErr words.now (λ error. error_kind error ≡ ErrorKind.OutOfMemory → result ≡ Status.Memory × host.new ≡ host.old) }
 
     ensures device { result ≡ Status.Device → Rose (H.faults host.old) (H.faults host.new) }
     ensures no_device { result ≢ Status.Device → H.faults host.new ≡ H.faults host.old }
@@ -107,12 +105,37 @@ where
     }
 }
 
-/// Whether it is asked for that the standard error tells how far files are written.
-fn wants_progress(rt: &(impl Env + AllocGlobal)) -> bool {
-    match env::var(rt, "NEHUMIRO_PROGRESS") {
-        Ok(value) => value.as_str() == "1",
-        Err(_) => false,
+/// Says how long the run waits for locks, which database it holds alone, and how its progress is shown. Answers the backup state in which
+/// the database of a job by words is before it.
+fn prepare<R: Files + Print + Eprint + Clock + Env + AllocGlobal + Drop>(
+    alloc: Global,
+    rt: &R,
+    host: &mut FileHost<R>,
+    job: Option<&Job>,
+    is_terminal: bool,
+) -> Option<u16>
+where
+    R::File: Disk + AsRawFd + FileExt,
+    ensures { host.new ≡ host.old }
+{
+    let job = job?;
+    match patience(rt) {
+        Some(seconds) => host.wait_for_locks(seconds),
+        None => {
+            let _ = eprintln!(rt;
+                "nehumiro: NEHUMIRO_WAIT is no number of seconds, so no lock is waited for"
+            );
+        }
     }
+    if let Some(db) = changed(alloc, rt, job) {
+        host.hold_alone(db);
+    }
+    if let Some(manner) = manner(wants_progress(rt), is_terminal) {
+        if let Ok(Some(progress)) = progress_of(alloc, job, manner) {
+            host.show_progress(progress);
+        }
+    }
+    state_of(rt, database_of(job)?)
 }
 
 /// The exit status of a run that ended so.
@@ -122,29 +145,43 @@ fn exit_code(status: Status) -> ExitCode
     ExitCode::from(status as u8)
 }
 
+/// Does a run, and says on the standard error what there is to say of it.
+fn answer<R: Files + Print + Eprint + Clock + Env + AllocGlobal + Drop>(
+    alloc: Global,
+    rt: &R,
+    host: &mut FileHost<R>,
+    words: &io::Result<Vec<String>>,
+    job: Option<&Job>,
+    is_terminal: bool,
+) -> Status
+where
+    R::File: Disk + AsRawFd + FileExt,
+{
+    let before = prepare(alloc, rt, host, job, is_terminal);
+    let status = status_of(alloc, words, host);
+    let status = write_rest(status, host);
+    host.end_progress();
+    explain(alloc, rt, host, words, job, status, before);
+    status
+}
+
+/// Does what the words ask.
+fn serve<R: Files + Print + Eprint + Clock + Env + AllocGlobal + Drop>(
+    alloc: Global,
+    rt: &R,
+    host: &mut FileHost<R>,
+    is_terminal: bool,
+) -> Status
+where
+    R::File: Disk + AsRawFd + FileExt,
+{
+    let words = words(rt);
+    let job = job_asked(alloc, &words);
+    answer(alloc, rt, host, &words, job.as_ref(), is_terminal)
+}
+
 fn main(rt: HostRuntime) -> ExitCode {
-    let alloc = rt.alloc();
-    let words = words(&rt);
-    let mut host = FileHost::new(rt, alloc);
-    if wants_progress(&rt) {
-        host.show_progress();
-    }
-    let script = match &words {
-        Ok(words) => script_of(alloc, words.as_slice()),
-        Err(_) => Ok(None),
-    };
-    let status = status_of(alloc, words, &mut host);
-    let status = write_rest(status, &mut host);
-    // Nothing is left to do where the standard error fails.
-    if matches!(status, Status::Usage) {
-        let _ = eprint!(rt; "{USAGE}");
-    }
-    if matches!(status, Status::Refused) {
-        if let Ok(Some(script)) = &script {
-            if let Ok(Some(broken)) = broken_line(alloc, &mut host, script) {
-                let _ = eprintln!(rt; "nehumiro: {script}:{}: {}", broken.line, broken.text);
-            }
-        }
-    }
-    exit_code(status)
+    let is_terminal = rt.stderr().is_terminal();
+    let mut host = FileHost::new(rt, rt.alloc());
+    exit_code(serve(rt.alloc(), &rt, &mut host, is_terminal))
 }

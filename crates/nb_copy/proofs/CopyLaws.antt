@@ -12,7 +12,7 @@ use Rattle.nb_change.proofs.MovedLaws.{remade_begun}
 use Rattle.nb_page.specs.Quiet.{Quiet}
 use Rattle.nb_model.specs.Image.{Page, Image, page_at, first_page}
 use Rattle.nb_model.specs.Levels.{joined}
-use Rattle.nb_copy.specs.Making.{IsBlank, IsFreeOr, IsKept}
+use Rattle.nb_copy.specs.Making.{IsBlank, IsFreeOr, IsKept, IsMade}
 use Rattle.nb_copy.specs.Copying.{Copying, front_pages, IsOf, IsBegun, IsCopying}
 use Rattle.nb_copy.proofs.QuietLaws.{quiet_then, sync_then, sync_kept, named}
 use Rattle.nb_copy.proofs.BlankLaws.{zeros-grown, blank_empty, blank_free, blank_left}
@@ -22,13 +22,11 @@ use Rattle.nb_copy.proofs.FrontLaws.{front_next, front_whole, front_blank}
 pub others_keep : (old new : World) (names : Names) (P : Files → Type 0) (copy : Copying) (frozen : Image) → Changes old new names P → Other names copy.name → IsCopying old copy frozen → IsCopying new copy frozen
 others_keep old new names P copy frozen changes other is = record {
   of = is.of;
-  begun = λ some.
-      let begun = is.begun some in
-      record {
-        first = begun.first;
-        reads = changes.others_read copy.name other ∙ begun.reads;
-        blank = λ c now. begun.blank c (changes.others.now copy.name c other now);
-      };
+  begun = record {
+    first = is.begun.first;
+    reads = changes.others_read copy.name other ∙ is.begun.reads;
+    blank = λ c now. is.begun.blank c (changes.others.now copy.name c other now);
+  };
 }
 
 -- and calls that change nothing
@@ -45,10 +43,9 @@ far_behind n size some wide = let low : 1 * size ≤ n * size = mul-le-mul_right
 
 module _ (name : List ℕ) where
   -- the file is made, also where that fails
-  pub made : {T E : Type 0} (tells : Bool) (result : Result T E) (old mid new : World) → IsTrue tells → Quiet old mid → IsTimely mid → Remakes tells result mid new name (Some []) → new.said ≡ mid.said → Passes mid new
+  pub made : {T E : Type 0} (tells : Bool) (result : Result T E) (old new : World) → IsTrue tells → IsTimely old → Remakes tells result old new name (Some []) → new.said ≡ old.said → Passes old new
       → Changes old new (Only name) (Remade old name IsBlank)
-  made tells result old mid new told quiet timely remakes silent time =
-      quiet_then name IsBlank old mid new quiet (remade_alone tells result mid new name (Some []) IsBlank told timely remakes silent time blank_empty)
+  made tells result old new told timely remakes silent time = remade_alone tells result old new name (Some []) IsBlank told timely remakes silent time blank_empty
 
   -- a page is written, also where that fails
   pub page_written : {T E : Type 0} (tells : Bool) (result : Result T E) (old mid new : World) (k : ℕ) (page : Page) → IsTrue tells → Quiet old mid → IsTimely mid → ((c : File) → old.now name c → IsBlank c) → 1 ≤ k → 1024 ≤ length page
@@ -68,13 +65,23 @@ module _ (name : List ℕ) where
       durable.only (λ c is. is) (λ c d e step. left d (subst (λ (f : File). PageLeft (0 * length page) page f d) e step))
 
 -- The file was made.
-pub begun_made : (w : World) (copy : Copying) (frozen : Image) → copy.next ≡ 1 → copy.first ≡ first_page frozen → w.files copy.name ≡ Some [] → ((c : File) → w.now copy.name c → c ≡ Some []) → IsBegun w copy frozen
+pub begun_made : (w : World) (copy : Copying) (frozen : Image) → copy.next ≡ 0 → IsMade w copy.name → IsBegun w copy frozen
 unfolding front_pages
-begun_made w copy frozen next first reads known = record {
-  first = first;
-  reads = reads ∙ ap (λ n. Some (joined (front_pages copy.size n frozen))) (sym next);
-  blank = λ c now. subst IsBlank (sym (known c now)) blank_empty;
+begun_made w copy frozen next made = record {
+  first = λ some. absurd (omega (arith, some, next));
+  reads = made.reads ∙ ap (λ n. Some (joined (front_pages copy.size n frozen))) (sym next);
+  blank = λ c now. subst IsBlank (sym (made.only c now)) blank_empty;
 }
+
+-- Page 0 was taken.
+pub begun_first : (old new : World) (before after : Copying) (frozen : Image) → Quiet old new → IsBegun old before frozen → before.next ≡ 0 → after ≡ record before { next = 1; first = after.first } → after.first ≡ first_page frozen → IsBegun new after frozen
+unfolding front_pages
+begun_first old new before after frozen quiet begun none same first =
+    subst (λ (c : Copying). IsBegun new c frozen) (sym same) (record {
+      first = λ some. first;
+      reads = ap (λ (f : Files). f before.name) quiet.still.files ∙ begun.reads ∙ ap (λ n. Some (joined (front_pages before.size n frozen))) none;
+      blank = λ c now. begun.blank c (quiet.still.left.now before.name c tt now);
+    })
 
 -- A page more was written.
 pub begun_next : {T E : Type 0} (tells : Bool) (result : Result T E) (old new : World) (before after : Copying) (frozen : Image) (page : Page) → IsOf before frozen → IsBegun old before frozen
@@ -82,7 +89,7 @@ pub begun_next : {T E : Type 0} (tells : Bool) (result : Result T E) (old new : 
     → WritesPage tells result old new before.name (before.next * length page) page → new.files before.name ≡ with_page (old.files before.name) (before.next * length page) page → IsBegun new after frozen
 begun_next tells result old new before after frozen page of begun same some low wide long is writes put =
     subst (λ (c : Copying). IsBegun new c frozen) (sym same) (record {
-      first = begun.first;
+      first = λ more. begun.first some;
       reads = put ∙ ap (λ (f : File). with_page f (before.next * length page) page) begun.reads
           ∙ ap (λ n. with_page (Some (joined (front_pages before.size before.next frozen))) (before.next * n) page) long
           ∙ ap Some (front_next before.size before.next frozen page of.sizes some (omega (arith, low, of.long)) is long);
@@ -96,7 +103,7 @@ module _ (w : World) (copy : Copying) (frozen : Image) (of : IsOf copy frozen) (
   before_whole = joined (front_pages copy.size copy.next frozen)
 
   pub whole_put : with_page (Some before_whole) (0 * length copy.first) copy.first ≡ Some (joined frozen)
-  whole_put = ap Some (front_whole copy.size copy.next frozen copy.first of.sizes (omega (arith, of.least, of.long, all)) (omega (arith, of.long, all)) begun.first)
+  whole_put = ap Some (front_whole copy.size copy.next frozen copy.first of.sizes (omega (arith, of.least, of.long, all)) (omega (arith, of.long, all)) (begun.first (omega (arith, of.least, of.long, all))))
 
   module _ (wide : 64 ≤ copy.size) where
     pub before_blank : IsBlank (Some before_whole)

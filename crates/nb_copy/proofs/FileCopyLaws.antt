@@ -31,9 +31,11 @@ use Rattle.nb_state.specs.Open.{Held, IsOpen, name_of}
 use Rattle.nb_state.specs.declared.turns.Progress.{Progress}
 use Rattle.nb_copy.specs.Copying.{Copying}
 use Rattle.nb_copy.specs.FileCopies.{CopiesFile, StartsCopy, copy_cause}
-use Rattle.nb_copy.specs.Making.{IsFreeOr, IsUnfinishedOr}
+use Rattle.nb_copy.specs.Making.{IsBlank, IsFreeOr, IsUnfinishedOr}
 use Rattle.nb_copy.specs.Turns.{CopyTurn}
+use Rattle.nb_copy.proofs.BlankLaws.{blank_free}
 use Rattle.nb_copy.proofs.ClosingLaws.{open_other}
+use Rattle.nb_copy.proofs.QuietLaws.{remade_twice}
 
 all_front : {A : Type 0} (P : A → Type 0) (xs ys : List A) → Rattle.std.specs.List.AllByRecursion P (xs ++ ys) → Rattle.std.specs.List.AllByRecursion P xs
 all_front P [] ys all = tt
@@ -115,6 +117,14 @@ module _ (old new : World) (a b : Held) (t : Trail) (s : Seen) (session : ℕ) (
           };
         };
       }
+
+-- The file is made, and a page is dealt with.
+module _ (name whole : List ℕ) where
+  pub made_free : (old new : World) → Changes old new (Only name) (Remade old name IsBlank) → Changes old new (Only name) (Remade old name (IsFreeOr whole))
+  made_free old new made = remade_weaker old new (Only name) name IsBlank (IsFreeOr whole) made (λ f blank. inl (blank_free f blank))
+
+  pub made_then : (old mid new : World) → Leaves mid name (mid.files name) → Changes old mid (Only name) (Remade old name IsBlank) → Changes mid new (Only name) (Remade mid name (IsFreeOr whole)) → Changes old new (Only name) (Remade old name (IsFreeOr whole))
+  made_then old mid new reads made turn = remade_twice old mid new name (IsFreeOr whole) reads (made_free old mid made) turn
 
 -- A turn of it, by what its file is.
 pub copies_file : (result : Result Progress HostFault) (old new : World) (a b : Held) (copy later : Copying) (t : Trail) → IsOpen old a t → a.files.state ≡ 1 → (OfFiles (name_of a) copy.name → ⊥) → Leaves old copy.name (old.files copy.name) → b ≡ a

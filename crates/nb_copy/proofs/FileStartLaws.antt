@@ -15,9 +15,11 @@ use Rattle.nb_copy.specs.declared.file_copy.FileCopy.TheVariants.{Pages, Level}
 use Rattle.nb_copy.specs.Copying.{Copying}
 use Rattle.nb_copy.specs.LevelCopying.{LevelCopying}
 use Rattle.nb_copy.specs.Gathering.{IsHeaded}
+use Rattle.nb_copy.specs.Making.{IsMade}
 use Rattle.nb_copy.specs.FileStarting.{IsNewFile, IsStartedFile}
 use Rattle.nb_copy.specs.FileCopying.{file_count, file_next}
 use Rattle.nb_copy.specs.Starting.{Backed, IsBackingUp, ask_by}
+use Rattle.nb_copy.proofs.CopyLaws.{begun_made}
 
 -- it was never dealt with, and knows how many pages are frozen
 pub file_first : (name : List ℕ) (bare head : LevelHead) (count : ℕ) (f g : FileCopy) → IsNewFile name bare f → IsStartedFile f g head count → (file_count g ≡ count) × (file_next g ≡ 0)
@@ -68,7 +70,7 @@ both true false p q = q
 both false b p q = p
 
 module _ (w : World) (name : List ℕ) (bare head : LevelHead) (guid : List ℕ) (scn count : ℕ) (frozen : Image) (page slot : ℕ) (head_is : head ≡ record bare { guid = guid; scn = scn }) (nine : bare.level ≤ 9) (sixteen : length guid ≡ 16) (previous : length bare.previous ≡ 16)
-    (four : scn < 4294967296) (wide : IsTrue (is_page_size bare.page_size)) (size : bare.page_size ≡ image_size frozen) (counted : count ≡ length frozen) (sound : IsSoundImage frozen) where
+    (four : scn < 4294967296) (wide : IsTrue (is_page_size bare.page_size)) (size : bare.page_size ≡ image_size frozen) (counted : count ≡ length frozen) (sound : IsSoundImage frozen) (made : IsMade w name) where
   abbrev backing : Backing
   backing = record { name = name; ask = ask_by head; scn = head.scn; guid = head.guid; page = page; slot = slot }
 
@@ -100,7 +102,7 @@ module _ (w : World) (name : List ℕ) (bare head : LevelHead) (guid : List ℕ)
             most = sound.most;
             sizes = subst (λ (n : ℕ). IsOfSize n frozen) sized sound.sizes;
           };
-          begun = λ some. absurd (omega (arith, some, next));
+          begun = begun_made w g frozen next (subst (IsMade w) (sym (ap (λ (c : Copying). c.name) started ∙ new.0)) made);
         };
       }
 
@@ -128,6 +130,7 @@ module _ (w : World) (name : List ℕ) (bare head : LevelHead) (guid : List ℕ)
             no_run = ap (λ (c : LevelCopying). c.file.run.count) started ∙ new.3.no_run;
             no_page = ap (λ (c : LevelCopying). c.file.written) started ∙ new.3.no_page;
           };
+          made = λ none. subst (IsMade w) (sym (ap (λ (c : LevelCopying). c.file.name) started ∙ new.0)) made;
           begun = λ one. absurd (omega (arith, one, next));
         };
       }

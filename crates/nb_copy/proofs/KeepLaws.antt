@@ -16,6 +16,9 @@ module _ (old new : World) (names : Names) (P : Files → Type 0) (changes : Cha
   level_kept copy other is = record {
     of = is.of;
     fresh = is.fresh;
+    made = λ none.
+        let made = is.made none in
+        record { reads = changes.others_read copy.file.name other ∙ made.reads; only = λ c now. made.only c (changes.others.now copy.file.name c other now) };
     begun = λ some.
         let begun = is.begun some in
         record {

@@ -100,6 +100,7 @@ level_next w before after frozen of same has entries =
     record {
       of = subst (λ (v : LevelCopying). IsLevelOf v frozen) (sym same) (record { long = of.long; sound = of.sound; size = of.size; formed = of.formed });
       fresh = λ none. absurd (omega (arith, none, next));
+      made = λ none. absurd (omega (arith, none, next));
       begun = λ some. record {
         has = subst (λ (v : LevelCopying). HasTaken w after.file (taken_below v.next v frozen)) (sym same) has;
         entries = λ two. entries ∙ ap (λ n. page_at frozen (scn_page_of frozen n)) (let e : before.next ≡ after.next - 1 = omega (arith, next) in e);

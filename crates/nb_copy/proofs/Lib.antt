@@ -22,6 +22,8 @@ pub mod ClosingLaws
 pub mod FirstLaws
 pub mod RoomedLaws
 pub mod FileStartLaws
+pub mod InUseLaws
+pub mod BesideLaws
 pub mod StartLaws
 pub mod RoomStartLaws
 pub mod FileCopyLaws

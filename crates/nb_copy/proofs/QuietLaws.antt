@@ -1,10 +1,10 @@
 -- Calls on the one file that is made, behind calls that change nothing.
-use Rattle.std.proofs.Common.{◌≡◌, refl, inl, inr, ⊎_elim, ℕ, List, ap, subst, ◌∙◌}
-use Rattle.std.specs.Prelude.{Bool, IsTrue, Result, Some, OnOk}
+use Rattle.std.proofs.Common.{◌≡◌, refl, inl, inr, ⊎_elim, ℕ, List, [], ap, subst, ◌∙◌}
+use Rattle.std.specs.Prelude.{Bool, IsTrue, Result, Ok, Some, OnOk}
 use Rattle.nb_host.specs.Files.{File, Files, with_file}
 use Rattle.nb_host.specs.World.{World}
 use Rattle.nb_host.specs.Crash.{IsDurable, Leaves}
-use Rattle.nb_host.specs.Calls.{Syncs}
+use Rattle.nb_host.specs.Calls.{Remakes, Syncs}
 use Rattle.nb_host.specs.Moments.{Passes}
 use Rattle.nb_change.specs.Changes.{Changes, Only, Remade}
 use Rattle.nb_change.specs.Gave.{GaveNothing}
@@ -14,7 +14,7 @@ use Rattle.nb_change.proofs.NameLaws.{with_file-same}
 use Rattle.nb_change.proofs.ResultLaws.{on_ok_then}
 use Rattle.nb_change.proofs.SettledLaws.{synced}
 use Rattle.nb_page.specs.Quiet.{Quiet}
-use Rattle.nb_copy.specs.Making.{IsKept}
+use Rattle.nb_copy.specs.Making.{IsKept, IsMade}
 
 module _ (name : List ℕ) (made : File → Type 0) where
   -- calls that change nothing
@@ -38,6 +38,14 @@ quiet_gave old new quiet = record { guids = quiet.guids; times = quiet.times }
 -- the file under a name that was just given to it
 pub named : (old new : Files) (name : List ℕ) (file : File) → new ≡ with_file old name file → new name ≡ file
 named old new name file is = ap (λ (f : Files). f name) is ∙ with_file-same old name file
+
+-- a file that was made
+pub is_made : {T E : Type 0} (tells : Bool) (value : T) (old new : World) (name : List ℕ) → IsTrue tells → Remakes {E = E} tells (Ok value) old new name (Some []) → IsMade new name
+is_made tells value old new name told makes = record { reads = named old.files new.files name (Some []) (makes.files told); only = makes.done }
+
+-- and calls that change nothing keep it so
+pub made_quiet : (old new : World) (name : List ℕ) → Quiet old new → IsMade old name → IsMade new name
+made_quiet old new name quiet made = record { reads = ap (λ (f : Files). f name) quiet.still.files ∙ made.reads; only = λ c now. made.only c (quiet.still.left.now name c tt now) }
 
 -- a sync keeps what reads
 pub sync_kept : {T E : Type 0} (tells : Bool) (result : Result T E) (old new : World) (name bytes : List ℕ) → IsTrue tells → old.files name ≡ Some bytes → Syncs tells result old new name → OnOk result (IsKept new name bytes)

@@ -1,26 +1,30 @@
--- The start of a backup behind its tests: room in the history, and the begin.
-use Rattle.std.proofs.Common.{◌≡◌, ℕ, ◌+◌, ◌<◌, ◌≤◌, List, [], ◌∷◌, ◌++◌, length, replicate, refl, sym, ap, subst, ◌∙◌, arith}
+-- The start of a backup behind its tests: room in the history, the file, and the begin.
+use Rattle.std.proofs.Common.{◌≡◌, inl, inr, ℕ, ◌+◌, ◌<◌, ◌≤◌, List, [], ◌∷◌, ◌++◌, length, replicate, refl, sym, ap, subst, ◌∙◌, arith}
 use Rattle.std.specs.Prelude.{not, ◌==◌, nat_lt, IsTrue, Some, None, Result, Ok, Err}
 use Rattle.nb_fields.specs.Bytes.{number_in}
 use Rattle.nb_fields.specs.Header.{state_of, scn_of, size_of}
 use Rattle.nb_fields.specs.Places.{is_page_size}
 use Rattle.nb_host.specs.World.{World}
+use Rattle.nb_host.specs.Crash.{Leaves}
 use Rattle.nb_host.specs.declared.faults.Fault.{Fault}
 use Rattle.nb_host.specs.declared.faults.Fault.TheVariants.{Refused as RefusedFault, Device, Memory}
 use Rattle.nb_host.specs.declared.refusals.Refusal.TheVariants.{Access, WrongState, ScnExhausted}
-use Rattle.nb_change.proofs.ReachedLaws.{after_all-joined, strokes_composed}
+use Rattle.nb_change.specs.Changes.{Changes, Only, Remade}
+use Rattle.nb_change.specs.Gave.{GaveNothing}
+use Rattle.nb_change.proofs.ReachedLaws.{after_all-joined}
 use Rattle.nb_base.specs.Open.{OfFiles}
 use Rattle.nb_base.specs.Takes.{Strikes, after_strokes}
 use Rattle.nb_level.specs.declared.head.LevelHead.{LevelHead}
+use Rattle.nb_model.specs.declared.reply.Reply.TheVariants.{Refused}
 use Rattle.nb_model.specs.Account.{Ask, Base}
 use Rattle.nb_model.specs.Backups.{room_in}
 use Rattle.nb_model.specs.Causes.{Cause, first_cause, when, read_only, not_state, not_free, no_scn, no_room, not_of_form, broken_at}
 use Rattle.nb_model.specs.Chains.{History, pages_of}
 use Rattle.nb_model.specs.Image.{Page, Image, first_page, image_scn, image_size}
-use Rattle.nb_model.specs.Outcomes.{Backing, Outcome, Copies, ClosesBackup, Seen, next_guid}
+use Rattle.nb_model.specs.Outcomes.{Backing, Outcome, Copies, ClosesBackup, Seen, next_guid, says}
 use Rattle.nb_model.specs.Sound.{IsSoundImage, HasHeader}
 use Rattle.nb_model.specs.Strokes.{Stroke, begin}
-use Rattle.nb_model.specs.Trail.{Trail, StandsIn, after_stroke}
+use Rattle.nb_model.specs.Trail.{Trail, after_stroke}
 use Rattle.nb_model.proofs.ControlMay.{may_begin}
 use Rattle.nb_model.proofs.ControlSound.{control_sound}
 use Rattle.nb_model.proofs.PutSound.{no_first}
@@ -31,16 +35,19 @@ use Rattle.nb_engine.specs.Tries.{Tries}
 use Rattle.nb_engine.specs.Turns.{starting_cause}
 use Rattle.nb_engine.proofs.CauseLaws.{first_none, first_next}
 use Rattle.nb_engine.proofs.DoesLaws.{unless_none, unless_some, tries_opened}
-use Rattle.nb_copy.specs.Starting.{Backed, StartsBackup, IsStarted, BeginsFor, earlier_cause, file_cause, ask_in, ask_by, turn_since}
+use Rattle.nb_engine.proofs.StaysLaws.{open_aside}
+use Rattle.nb_copy.specs.Starting.{Backed, StartMakes, HasNotBegun, StartsBackup, IsStarted, BeginsFor, earlier_cause, file_cause, ask_in, ask_by, turn_since}
 use Rattle.nb_copy.specs.declared.since.Since.{Since}
 use Rattle.nb_copy.specs.declared.file_copy.FileCopy.{FileCopy}
 use Rattle.nb_copy.specs.FileStarting.{IsNewFile, IsStartedFile}
 use Rattle.nb_copy.specs.FileCopying.{file_count}
+use Rattle.nb_copy.specs.Making.{IsEmpty, IsMade}
 use Rattle.nb_copy.proofs.StartCauses.{scn_room}
 use Rattle.nb_copy.proofs.BegunLaws.{begun_image, begun_frozen, begun_long, begun_size, begun_state}
 use Rattle.nb_copy.proofs.FileStartLaws.{file_first, file_starts}
 use Rattle.nb_copy.proofs.RoomedLaws.{IsLike, roomed_is, roomed_like}
-use Rattle.nb_copy.proofs.StartLaws.{early, strokes, started, struck_some, turn_late, turn_strokes, turn_started}
+use Rattle.nb_copy.proofs.BesideLaws.{starts_struck, starts_made, starts_then, starts_more, made_kept}
+use Rattle.nb_copy.proofs.StartLaws.{early, strokes, started, struck_some, struck_most, turn_late, turn_strokes, turn_started}
 
 -- what a page 0 says of why no backup begins
 abbrev starting_of : Page → Cause
@@ -48,7 +55,8 @@ starting_of p =
     first_cause (when (not (number_in 65 1 p == 0)) (Access 1) ∷ when (not (state_of p == 0)) (WrongState (state_of p)) ∷ when (nat_lt 4294967293 (scn_of p)) (ScnExhausted (scn_of p)) ∷ [])
 
 -- Behind the tests.
-module _ (old mid new : World) (a b d : Held) (t : Trail) (s : Seen) (session : ℕ) (since : Since) (name : List ℕ) (runs : a.running ≡ s.running) (at : t.base ≡ s.base) (is : IsOpen old a t) (sound : IsSoundImage t.base.image) (none : early s session since name ≡ None) where
+module _ (old mid : World) (a b : Held) (t : Trail) (s : Seen) (session : ℕ) (since : Since) (name : List ℕ) (runs : a.running ≡ s.running) (at : t.base ≡ s.base) (is : IsOpen old a t) (sound : IsSoundImage t.base.image) (apart : OfFiles (name_of a) name → ⊥)
+    (none : early s session since name ≡ None) where
   abbrev image : Image
   image = s.base.image
 
@@ -64,43 +72,60 @@ module _ (old mid new : World) (a b d : Held) (t : Trail) (s : Seen) (session : 
   abbrev outcome : Outcome
   outcome = turn_since s session since name
 
+  not_begun : (w : World) (o : Outcome) → w.guids ≡ old.guids → StartMakes old w name (name_of a) t o xs → HasNotBegun old w name (name_of a) t o
+  not_begun w o guids makes = record { guids = guids; room = subst (λ (x : Base). StartMakes old w name (name_of a) t o (room_in x.image).draft.strokes) (sym at) makes }
+
   -- no room was made
-  pub start_roomless : (T : Type 0) (fault : Fault) → Tries {T = T} (Err fault) old new a d t (room_cause image) xs → StartsBackup (Err fault) old new a d t guid outcome
-  start_roomless T (RefusedFault r) tries =
-      let nothing = unless_some (room_cause image) xs r tries.test in
-      subst (λ (x : Outcome). StartsBackup (Err (RefusedFault r)) old new a d t guid x) (sym (turn_late s session since name none r tries.test)) (record {
-        says = refl;
-        left = subst (λ (ss : List Stroke). Strikes old new (name_of a) t ss) nothing tries.makes.left;
-        opened = subst (λ (ss : List Stroke). IsOpen new d (after_strokes t ss)) nothing tries.makes.opened;
-        running = tries.makes.goes.running ∙ runs;
-        gave = tt;
-        times = tries.makes.gave.times;
-        refused = tries.refused;
-        name = tries.makes.goes.name;
-        started = tt;
-      })
-  start_roomless T Device tries = record {
-    says = tt;
-    left = subst (λ (ss : List Stroke). Strikes old new (name_of a) t ss) (sym (turn_strokes s session since name none)) (struck_some old new (name_of a) t (room_cause image) xs (begin guid (Some ask) ∷ []) tries.makes.left);
-    opened = tt;
-    running = tt;
-    gave = tt;
-    times = tries.makes.gave.times;
-    refused = tt;
-    name = tries.makes.goes.name;
-    started = tt;
-  }
-  start_roomless T Memory tries = record {
-    says = tt;
-    left = subst (λ (ss : List Stroke). Strikes old new (name_of a) t ss) (sym (turn_strokes s session since name none)) (struck_some old new (name_of a) t (room_cause image) xs (begin guid (Some ask) ∷ []) tries.makes.left);
-    opened = tt;
-    running = tt;
-    gave = tt;
-    times = tries.makes.gave.times;
-    refused = tt;
-    name = tries.makes.goes.name;
-    started = tt;
-  }
+  module _ (T : Type 0) where
+    roomless : (fault : Fault) (o : Outcome) → Tries {T = T} (Err fault) old mid a b t (room_cause image) xs → HasNotBegun old mid name (name_of a) t o
+    roomless fault o tries = not_begun mid o tries.makes.gave.guids (starts_struck name (name_of a) apart t o old mid xs (struck_most old mid (name_of a) t (room_cause image) xs tries.makes.left))
+
+    -- strokes that more would have followed
+    roomless_left : (fault : Fault) → Tries {T = T} (Err fault) old mid a b t (room_cause image) xs → StartMakes old mid name (name_of a) t outcome outcome.strokes
+    roomless_left fault tries =
+        starts_struck name (name_of a) apart t outcome old mid outcome.strokes
+        (subst (λ (ss : List Stroke). Strikes old mid (name_of a) t ss) (sym (turn_strokes s session since name none)) (struck_some old mid (name_of a) t (room_cause image) xs (begin guid (Some ask) ∷ []) tries.makes.left))
+
+    pub start_roomless : (fault : Fault) → Tries {T = T} (Err fault) old mid a b t (room_cause image) xs → StartsBackup (Err fault) old mid a b t name guid outcome
+    start_roomless (RefusedFault r) tries =
+        let nothing = unless_some (room_cause image) xs r tries.test in
+        let o : Outcome = says s (Refused r) [] in
+        subst (λ (x : Outcome). StartsBackup (Err (RefusedFault r)) old mid a b t name guid x) (sym (turn_late s session since name none r tries.test)) (record {
+          says = refl;
+          left = starts_struck name (name_of a) apart t o old mid [] (subst (λ (ss : List Stroke). Strikes old mid (name_of a) t ss) nothing tries.makes.left);
+          begun = inl (roomless (RefusedFault r) o tries);
+          opened = subst (λ (ss : List Stroke). IsOpen mid b (after_strokes t ss)) nothing tries.makes.opened;
+          running = tries.makes.goes.running ∙ runs;
+          gave = tt;
+          times = tries.makes.gave.times;
+          refused = tries.refused;
+          name = tries.makes.goes.name;
+          started = tt;
+        })
+    start_roomless Device tries = record {
+      says = tt;
+      left = roomless_left Device tries;
+      begun = inl (roomless Device outcome tries);
+      opened = tt;
+      running = tt;
+      gave = tt;
+      times = tries.makes.gave.times;
+      refused = tt;
+      name = tries.makes.goes.name;
+      started = tt;
+    }
+    start_roomless Memory tries = record {
+      says = tt;
+      left = roomless_left Memory tries;
+      begun = inl (roomless Memory outcome tries);
+      opened = tt;
+      running = tt;
+      gave = tt;
+      times = tries.makes.gave.times;
+      refused = tt;
+      name = tries.makes.goes.name;
+      started = tt;
+    }
 
   -- room was made
   module _ (T : Type 0) (value : T) (tries : Tries (Ok value) old mid a b t (room_cause image) xs) where
@@ -146,107 +171,143 @@ module _ (old mid new : World) (a b d : Held) (t : Trail) (s : Seen) (session : 
     room_left : Strikes old mid (name_of a) t xs
     room_left = subst (λ (ss : List Stroke). Strikes old mid (name_of a) t ss) (unless_none (room_cause image) xs tries.test) tries.makes.left
 
-    module _ (bare : LevelHead) where
-      begun_left : (result : Result LevelHead Fault) → BeginsFor result mid new b d u guid (Some ask) session bare → Strikes old new (name_of a) t (xs ++ begin guid (Some ask) ∷ [])
-      begun_left result begins =
-          strokes_composed after_stroke (StandsIn (name_of a)) (OfFiles (name_of a)) old mid new t xs (begin guid (Some ask) ∷ []) room_left
-          (subst (λ (n : List ℕ). Strikes mid new n u (begin guid (Some ask) ∷ [])) tries.makes.goes.name
-          (subst (λ (ss : List Stroke). Strikes mid new (name_of b) u ss) (unless_none (starting_cause u.base.image) (begin guid (Some ask) ∷ []) starts_there) begins.left))
+    -- a call on the file of the backup
+    module _ (there : World) (reads : (m : List ℕ) → Leaves mid m (mid.files m)) (makes : Changes mid there (Only name) (Remade mid name IsEmpty)) (gave : GaveNothing mid there) where
+      room_made : (o : Outcome) → o.reply ≡ None → StartMakes old there name (name_of a) t o xs
+      room_made o silent = starts_made name (name_of a) apart t o old mid there xs silent room_left (reads name) makes
 
-      pub start_unbegun : (fault : Fault) → BeginsFor (Err fault) mid new b d u guid (Some ask) session bare → StartsBackup (Err fault) old new a d t guid outcome
-      start_unbegun (RefusedFault r) begins = absurd (none_some (sym starts_there ∙ begins.test))
-        where
-          none_some : None ≡ Some r → ⊥
-          none_some e = cc
-      start_unbegun Device begins =
-          subst (λ (x : Outcome). StartsBackup (Err Device) old new a d t guid x) (sym (turn_started s session since name none tries.test)) (record {
+      pub made_gave : GaveNothing old there
+      made_gave = record { guids = gave.guids ∙ tries.makes.gave.guids; times = gave.times ∙ tries.makes.gave.times }
+
+      -- the file couldn't be made
+      pub start_unmade : StartsBackup (Err Device) old there a b t name guid outcome
+      start_unmade =
+          subst (λ (x : Outcome). StartsBackup (Err Device) old there a b t name guid x) (sym (turn_started s session since name none tries.test)) (record {
             says = tt;
-            left = begun_left (Err Device) begins;
+            left = starts_more name (name_of a) apart t (started s session since name) old there xs (begin guid (Some ask) ∷ []) (room_made (started s session since name) refl);
+            begun = inl (not_begun there (started s session since name) made_gave.guids (room_made (started s session since name) refl));
             opened = tt;
             running = tt;
             gave = tt;
-            times = begins.times ∙ tries.makes.gave.times;
+            times = made_gave.times;
             refused = tt;
-            name = begins.name ∙ tries.makes.goes.name;
-            started = tt;
-          })
-      start_unbegun Memory begins =
-          subst (λ (x : Outcome). StartsBackup (Err Memory) old new a d t guid x) (sym (turn_started s session since name none tries.test)) (record {
-            says = tt;
-            left = begun_left (Err Memory) begins;
-            opened = tt;
-            running = tt;
-            gave = tt;
-            times = begins.times ∙ tries.makes.gave.times;
-            refused = tt;
-            name = begins.name ∙ tries.makes.goes.name;
+            name = tries.makes.goes.name;
             started = tt;
           })
 
-      -- it has begun
-      module _ (begun : LevelHead) (begins : BeginsFor (Ok begun) mid new b d u guid (Some ask) session bare) where
-        abbrev v : Trail
-        v = after_strokes u (begin guid (Some ask) ∷ [])
+      -- it was made, and the database is open beside it
+      pub made_open : IsOpen there b u
+      made_open = open_aside mid there b u room_open reads (Only name) (λ m same own. apart (subst (λ (n : List ℕ). OfFiles n name) tries.makes.goes.name (subst (OfFiles (name_of b)) same own))) (Remade mid name IsEmpty) makes
 
-        all_strokes : after_strokes t (strokes s session since name) ≡ v
-        all_strokes = after_all-joined after_stroke t xs (begin guid (Some ask) ∷ [])
+      module _ (new : World) (d : Held) (made : IsMade there name) (left : (m : List ℕ) → Leaves there m (there.files m)) (bare : LevelHead) where
+        begin_struck : (result : Result LevelHead Fault) → BeginsFor result there new b d u guid (Some ask) session bare → Strikes there new (name_of a) u (begin guid (Some ask) ∷ [])
+        begin_struck result begins =
+            subst (λ (n : List ℕ). Strikes there new n u (begin guid (Some ask) ∷ [])) tries.makes.goes.name
+            (subst (λ (ss : List Stroke). Strikes there new (name_of b) u ss) (unless_none (starting_cause u.base.image) (begin guid (Some ask) ∷ []) starts_there) begins.left)
 
-        pub start_done : (copier : Backed) → IsStarted new d v copier (started s session since name) → StartsBackup (Ok copier) old new a d t guid outcome
-        start_done copier is_started =
-            subst (λ (x : Outcome). StartsBackup (Ok copier) old new a d t guid x) (sym (turn_started s session since name none tries.test)) (record {
-              says = refl;
-              left = begun_left (Ok begun) begins;
-              opened = subst (λ (w : Trail). IsOpen new d w) (sym all_strokes) begins.opened;
-              running = begins.running;
-              gave = begins.gave ∙ ap (λ (gs : List (List ℕ)). gs ++ guid ∷ []) tries.makes.gave.guids;
-              times = begins.times ∙ tries.makes.gave.times;
+        begun_left : (result : Result LevelHead Fault) → BeginsFor result there new b d u guid (Some ask) session bare → StartMakes old new name (name_of a) t (started s session since name) (xs ++ begin guid (Some ask) ∷ [])
+        begun_left result begins = starts_then name (name_of a) apart t (started s session since name) old there new xs (begin guid (Some ask) ∷ []) (room_made (started s session since name) refl) left (begin_struck result begins)
+
+        pub still_made : (result : Result LevelHead Fault) → BeginsFor result there new b d u guid (Some ask) session bare → IsMade new name
+        still_made result begins = made_kept there new (OfFiles (name_of a)) _ name (begin_struck result begins) apart made
+
+        pub start_unbegun : (fault : Fault) → BeginsFor (Err fault) there new b d u guid (Some ask) session bare → StartsBackup (Err fault) old new a d t name guid outcome
+        start_unbegun (RefusedFault r) begins = absurd (none_some (sym starts_there ∙ begins.test))
+          where
+            none_some : None ≡ Some r → ⊥
+            none_some e = cc
+        start_unbegun Device begins =
+            subst (λ (x : Outcome). StartsBackup (Err Device) old new a d t name guid x) (sym (turn_started s session since name none tries.test)) (record {
+              says = tt;
+              left = begun_left (Err Device) begins;
+              begun = inr (still_made (Err Device) begins);
+              opened = tt;
+              running = tt;
+              gave = tt;
+              times = begins.times ∙ made_gave.times;
               refused = tt;
               name = begins.name ∙ tries.makes.goes.name;
-              started = subst (λ (w : Trail). IsStarted new d w copier (started s session since name)) (sym all_strokes) is_started;
+              started = tt;
+            })
+        start_unbegun Memory begins =
+            subst (λ (x : Outcome). StartsBackup (Err Memory) old new a d t name guid x) (sym (turn_started s session since name none tries.test)) (record {
+              says = tt;
+              left = begun_left (Err Memory) begins;
+              begun = inr (still_made (Err Memory) begins);
+              opened = tt;
+              running = tt;
+              gave = tt;
+              times = begins.times ∙ made_gave.times;
+              refused = tt;
+              name = begins.name ∙ tries.makes.goes.name;
+              started = tt;
             })
 
-        -- its copier
-        module _ (kept : Kept) (f g : FileCopy) (count : ℕ) (sixteen : length guid ≡ 16) (asked : ask_by bare ≡ ask) (roomed : IsRoomIn image kept) (low : kept.page < length (room_in image).draft.image) (is_new : IsNewFile name bare f) (file : IsStartedFile f g begun count)
-            (counted : count ≡ d.files.count) (nine : bare.level ≤ 9) (previous : length bare.previous ≡ 16) (wide : IsTrue (is_page_size bare.page_size)) (size : bare.page_size ≡ a.files.page_size) where
-          abbrev its : Backing
-          its = record { name = name; ask = ask_by begun; scn = begun.scn; guid = begun.guid; page = kept.page; slot = kept.slot }
+        -- it has begun
+        module _ (begun : LevelHead) (begins : BeginsFor (Ok begun) there new b d u guid (Some ask) session bare) where
+          abbrev v : Trail
+          v = after_strokes u (begin guid (Some ask) ∷ [])
 
-          u_header : HasHeader u.base.image
-          u_header = record { header = room_open.files.agrees.header; scn = omega (arith, room_open.agrees.scn, room_open.agrees.four) }
+          all_strokes : after_strokes t (strokes s session since name) ≡ v
+          all_strokes = after_all-joined after_stroke t xs (begin guid (Some ask) ∷ [])
 
-          long : length v.base.image ≡ length (room_in image).draft.image
-          long = begun_long u guid (Some ask) ∙ ap length seen
+          pub start_done : (copier : Backed) → IsStarted new d v copier (started s session since name) → StartsBackup (Ok copier) old new a d t name guid outcome
+          start_done copier is_started =
+              subst (λ (x : Outcome). StartsBackup (Ok copier) old new a d t name guid x) (sym (turn_started s session since name none tries.test)) (record {
+                says = refl;
+                left = begun_left (Ok begun) begins;
+                begun = inr (still_made (Ok begun) begins);
+                opened = subst (λ (w : Trail). IsOpen new d w) (sym all_strokes) begins.opened;
+                running = begins.running;
+                gave = begins.gave ∙ ap (λ (gs : List (List ℕ)). gs ++ guid ∷ []) made_gave.guids;
+                times = begins.times ∙ made_gave.times;
+                refused = tt;
+                name = begins.name ∙ tries.makes.goes.name;
+                started = subst (λ (w : Trail). IsStarted new d w copier (started s session since name)) (sym all_strokes) is_started;
+              })
 
-          count_is : count ≡ length v.base.image
-          count_is = counted ∙ begins.opened.files.agrees.count
+          -- its copier
+          module _ (kept : Kept) (f g : FileCopy) (count : ℕ) (sixteen : length guid ≡ 16) (asked : ask_by bare ≡ ask) (roomed : IsRoomIn image kept) (low : kept.page < length (room_in image).draft.image) (is_new : IsNewFile name bare f) (file : IsStartedFile f g begun count)
+              (counted : count ≡ d.files.count) (nine : bare.level ≤ 9) (previous : length bare.previous ≡ 16) (wide : IsTrue (is_page_size bare.page_size)) (size : bare.page_size ≡ a.files.page_size) where
+            abbrev its : Backing
+            its = record { name = name; ask = ask_by begun; scn = begun.scn; guid = begun.guid; page = kept.page; slot = kept.slot }
 
-          backing_is : ◌≡◌ {A = Backing} (record { name = name; ask = ask; scn = image_scn image; guid = guid; page = (room_in image).page; slot = (room_in image).slot }) its
-          backing_is =
-              let head = begins.head in
-              ap (λ (x : Ask). record { name = name; ask = x; scn = image_scn image; guid = guid; page = (room_in image).page; slot = (room_in image).slot }) (sym (ap (λ (h : LevelHead). ask_by h) head ∙ asked))
-              ∙ ap (λ (n : ℕ). record { name = name; ask = ask_by begun; scn = n; guid = guid; page = (room_in image).page; slot = (room_in image).slot }) (sym (ap (λ (h : LevelHead). h.scn) head ∙ ap scn_of same_first))
-              ∙ ap (λ (x : List ℕ). record { name = name; ask = ask_by begun; scn = begun.scn; guid = x; page = (room_in image).page; slot = (room_in image).slot }) (sym (ap (λ (h : LevelHead). h.guid) head))
-              ∙ ap (λ (n : ℕ). record { name = name; ask = ask_by begun; scn = begun.scn; guid = begun.guid; page = n; slot = (room_in image).slot }) (sym roomed.page)
-              ∙ ap (λ (n : ℕ). record { name = name; ask = ask_by begun; scn = begun.scn; guid = begun.guid; page = kept.page; slot = n }) (sym roomed.slot)
+            u_header : HasHeader u.base.image
+            u_header = record { header = room_open.files.agrees.header; scn = omega (arith, room_open.agrees.scn, room_open.agrees.four) }
 
-          sized : bare.page_size ≡ image_size v.base.frozen
-          sized =
-              size ∙ is.files.agrees.page_size ∙ ap (λ (x : Base). image_size x.image) at ∙ sym (ap size_of same_first) ∙ sym (begun_size u guid (Some ask) u_header.header sixteen) ∙ ap image_size (sym (begun_frozen u guid (Some ask)))
+            long : length v.base.image ≡ length (room_in image).draft.image
+            long = begun_long u guid (Some ask) ∙ ap length seen
 
-          frozen_sound : IsSoundImage v.base.frozen
-          frozen_sound =
-              subst IsSoundImage (sym (begun_frozen u guid (Some ask) ∙ begun_image u guid (Some ask)))
-              (control_sound 1 (image_scn u.base.image + 1) guid u.base.image u_header still_sound (may_begin u.base.image u_header guid sixteen (scn_room u.base.image starts_there)))
+            count_is : count ≡ length v.base.image
+            count_is = counted ∙ begins.opened.files.agrees.count
 
-          pub started_is : IsStarted new d v (record { backing = its; page_size = begun.page_size; file = g }) (started s session since name)
-          started_is =
-              let firsts = file_first name bare begun count f g is_new file in
-              record {
-                turns = ap (λ (n : ℕ). replicate n Copies ++ ClosesBackup (record { name = name; ask = ask; scn = image_scn image; guid = guid; page = (room_in image).page; slot = (room_in image).slot }) ∷ []) (sym (firsts.0 ∙ count_is ∙ long))
-                    ∙ ap (λ (x : Backing). replicate (file_count g) Copies ++ ClosesBackup x ∷ []) backing_is;
-                first = firsts.1;
-                stalled = begins.opened.files.agrees.state ∙ begun_state u guid (Some ask) u_header.header sixteen;
-                below = omega (arith, low, long);
-                goes =
-                    file_starts new name bare begun guid (image_scn u.base.image) count v.base.frozen kept.page kept.slot begins.head nine sixteen previous u_header.scn wide sized (count_is ∙ ap length (sym (begun_frozen u guid (Some ask)))) frozen_sound f g is_new file;
-              }
+            backing_is : ◌≡◌ {A = Backing} (record { name = name; ask = ask; scn = image_scn image; guid = guid; page = (room_in image).page; slot = (room_in image).slot }) its
+            backing_is =
+                let head = begins.head in
+                ap (λ (x : Ask). record { name = name; ask = x; scn = image_scn image; guid = guid; page = (room_in image).page; slot = (room_in image).slot }) (sym (ap (λ (h : LevelHead). ask_by h) head ∙ asked))
+                ∙ ap (λ (n : ℕ). record { name = name; ask = ask_by begun; scn = n; guid = guid; page = (room_in image).page; slot = (room_in image).slot }) (sym (ap (λ (h : LevelHead). h.scn) head ∙ ap scn_of same_first))
+                ∙ ap (λ (x : List ℕ). record { name = name; ask = ask_by begun; scn = begun.scn; guid = x; page = (room_in image).page; slot = (room_in image).slot }) (sym (ap (λ (h : LevelHead). h.guid) head))
+                ∙ ap (λ (n : ℕ). record { name = name; ask = ask_by begun; scn = begun.scn; guid = begun.guid; page = n; slot = (room_in image).slot }) (sym roomed.page)
+                ∙ ap (λ (n : ℕ). record { name = name; ask = ask_by begun; scn = begun.scn; guid = begun.guid; page = kept.page; slot = n }) (sym roomed.slot)
+
+            sized : bare.page_size ≡ image_size v.base.frozen
+            sized =
+                size ∙ is.files.agrees.page_size ∙ ap (λ (x : Base). image_size x.image) at ∙ sym (ap size_of same_first) ∙ sym (begun_size u guid (Some ask) u_header.header sixteen) ∙ ap image_size (sym (begun_frozen u guid (Some ask)))
+
+            frozen_sound : IsSoundImage v.base.frozen
+            frozen_sound =
+                subst IsSoundImage (sym (begun_frozen u guid (Some ask) ∙ begun_image u guid (Some ask)))
+                (control_sound 1 (image_scn u.base.image + 1) guid u.base.image u_header still_sound (may_begin u.base.image u_header guid sixteen (scn_room u.base.image starts_there)))
+
+            pub started_is : IsStarted new d v (record { backing = its; page_size = begun.page_size; file = g }) (started s session since name)
+            started_is =
+                let firsts = file_first name bare begun count f g is_new file in
+                record {
+                  turns = ap (λ (n : ℕ). replicate n Copies ++ ClosesBackup (record { name = name; ask = ask; scn = image_scn image; guid = guid; page = (room_in image).page; slot = (room_in image).slot }) ∷ []) (sym (firsts.0 ∙ count_is ∙ long))
+                      ∙ ap (λ (x : Backing). replicate (file_count g) Copies ++ ClosesBackup x ∷ []) backing_is;
+                  first = firsts.1;
+                  stalled = begins.opened.files.agrees.state ∙ begun_state u guid (Some ask) u_header.header sixteen;
+                  below = omega (arith, low, long);
+                  goes =
+                      file_starts new name bare begun guid (image_scn u.base.image) count v.base.frozen kept.page kept.slot begins.head nine sixteen previous u_header.scn wide sized (count_is ∙ ap length (sym (begun_frozen u guid (Some ask)))) frozen_sound (still_made (Ok begun) begins) f g is_new file;
+                }

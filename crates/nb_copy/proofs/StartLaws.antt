@@ -1,5 +1,5 @@
 -- The start of a backup: tests, room in the history, and the begin.
-use Rattle.std.proofs.Common.{◌≡◌, ◌⊎◌, ℕ, zero, suc, List, [], ◌∷◌, ◌++◌, length, replicate, refl, sym, ap, subst, ◌∙◌}
+use Rattle.std.proofs.Common.{◌≡◌, ◌⊎◌, inl, ℕ, zero, suc, List, [], ◌∷◌, ◌++◌, length, replicate, refl, sym, ap, subst, ◌∙◌}
 use Rattle.std.specs.Prelude.{Option, Some, None, is_none, Err}
 use Rattle.nb_host.specs.World.{World}
 use Rattle.nb_host.specs.declared.faults.Fault.{Fault}
@@ -19,16 +19,16 @@ use Rattle.nb_model.specs.Image.{Image, image_scn}
 use Rattle.nb_model.specs.Outcomes.{Outcome, Copies, ClosesBackup, Seen, next_guid, without_guid, says, unless}
 use Rattle.nb_model.specs.Strokes.{Stroke, begin}
 use Rattle.nb_model.specs.Trail.{Trail}
-use Rattle.nb_state.specs.Open.{Held, IsOpen, but_pages}
+use Rattle.nb_state.specs.Open.{Held, IsOpen, but_pages, name_of}
 use Rattle.nb_state.specs.Does.{Tested, unless_by}
 use Rattle.nb_state.specs.Turns.{GaveAtMost}
-use Rattle.nb_state.proofs.MakesLaws.{none_yet}
 use Rattle.nb_state.proofs.TurnLaws.{struck_front}
 use Rattle.nb_engine.specs.Room.{room_cause}
 use Rattle.nb_engine.proofs.CauseLaws.{unless_refused, unless_allowed, first_here}
-use Rattle.nb_copy.specs.Starting.{StartsBackup, earlier_row, row_cause, earlier_cause, file_cause, ask_in, turn_since}
+use Rattle.nb_copy.specs.Starting.{HasNotBegun, StartsBackup, earlier_row, row_cause, earlier_cause, file_cause, ask_in, turn_since}
 use Rattle.nb_copy.specs.declared.since.Since.{Since}
 use Rattle.nb_copy.specs.declared.since.Since.TheVariants.{Level, Guid}
+use Rattle.nb_copy.proofs.BesideLaws.{starts_quiet}
 use Rattle.nb_copy.proofs.StartCauses.{after_none}
 
 -- the tests in the order of the calls are those of the turn
@@ -109,6 +109,10 @@ pub struck_some : (old new : World) (n : List ℕ) (t : Trail) (cause : Cause) (
 struck_some old new n t None xs ys struck = struck_front old new n t xs ys struck
 struck_some old new n t (Some r) xs ys struck = struck
 
+pub struck_most : (old new : World) (n : List ℕ) (t : Trail) (cause : Cause) (xs : List Stroke) → Strikes old new n t (unless_by cause xs) → Strikes old new n t xs
+struck_most old new n t None xs struck = struck
+struck_most old new n t (Some r) xs struck = struck_front old new n t [] xs struck
+
 -- The turn, by what the calls found.
 module _ (s : Seen) (session : ℕ) (since : Since) (name : List ℕ) where
   abbrev turn : Outcome
@@ -140,13 +144,17 @@ module _ (old mid : World) (a b : Held) (t : Trail) (s : Seen) (session : ℕ) (
   abbrev outcome : Outcome
   outcome = turn_since s session since name
 
+  none_begun : (o : Outcome) → HasNotBegun old mid name (name_of a) t o
+  none_begun o = record { guids = quiet.guids; room = starts_quiet old mid a t name o (room_in t.base.image).draft.strokes quiet is }
+
   -- it was refused, or failed, before room was made
-  pub start_refused : (r : Refusal) → early s session since name ≡ Some r → StartsBackup (Err (RefusedFault r)) old mid a b t (next_guid s.given) outcome
+  pub start_refused : (r : Refusal) → early s session since name ≡ Some r → StartsBackup (Err (RefusedFault r)) old mid a b t name (next_guid s.given) outcome
   start_refused r e =
       let o = turn_early s session since name r e in
-      subst (λ (x : Outcome). StartsBackup (Err (RefusedFault r)) old mid a b t (next_guid s.given) x) (sym o) (record {
+      subst (λ (x : Outcome). StartsBackup (Err (RefusedFault r)) old mid a b t name (next_guid s.given) x) (sym o) (record {
         says = refl;
-        left = none_yet old mid a t [] quiet is;
+        left = starts_quiet old mid a t name (says s (Refused r) []) [] quiet is;
+        begun = inl (none_begun (says s (Refused r) []));
         opened = still;
         running = ap (λ (h : Held). h.running) same ∙ runs;
         gave = tt;
@@ -156,10 +164,32 @@ module _ (old mid : World) (a b : Held) (t : Trail) (s : Seen) (session : ℕ) (
         started = tt;
       })
 
-  pub start_failed : (fault : Fault) → Tested {T = LevelHead} (Err fault) (early s session since name) → StartsBackup (Err fault) old mid a b t (next_guid s.given) outcome
+  pub start_failed : (fault : Fault) → Tested {T = LevelHead} (Err fault) (early s session since name) → StartsBackup (Err fault) old mid a b t name (next_guid s.given) outcome
   start_failed (RefusedFault r) e = start_refused r e
-  start_failed Device e = record { says = tt; left = none_yet old mid a t outcome.strokes quiet is; opened = tt; running = tt; gave = tt; times = quiet.times; refused = tt; name = ap (λ (h : Held). h.files.name) same; started = tt }
-  start_failed Memory e = record { says = tt; left = none_yet old mid a t outcome.strokes quiet is; opened = tt; running = tt; gave = tt; times = quiet.times; refused = tt; name = ap (λ (h : Held). h.files.name) same; started = tt }
+  start_failed Device e = record {
+    says = tt;
+    left = starts_quiet old mid a t name outcome outcome.strokes quiet is;
+    begun = inl (none_begun outcome);
+    opened = tt;
+    running = tt;
+    gave = tt;
+    times = quiet.times;
+    refused = tt;
+    name = ap (λ (h : Held). h.files.name) same;
+    started = tt;
+  }
+  start_failed Memory e = record {
+    says = tt;
+    left = starts_quiet old mid a t name outcome outcome.strokes quiet is;
+    begun = inl (none_begun outcome);
+    opened = tt;
+    running = tt;
+    gave = tt;
+    times = quiet.times;
+    refused = tt;
+    name = ap (λ (h : Held). h.files.name) same;
+    started = tt;
+  }
 
 -- the GUID is asked for behind the room
 pub given_later : (old mid new : World) (id : List ℕ) → GaveNothing old mid → GaveAtMost old new id → GaveAtMost mid new id

@@ -32,15 +32,15 @@ pub record IsOf (copy : Copying) (frozen : Image) : Type 0 where
 
 -- Its file was made: it reads as the front of what is to be written, and whatever was made since, page 0 isn't in it.
 pub record IsBegun (w : World) (copy : Copying) (frozen : Image) : Type 0 where
-  pub first : copy.first ≡ first_page frozen
+  pub first : 1 ≤ copy.next → copy.first ≡ first_page frozen
   pub reads : w.files copy.name ≡ Some (joined (front_pages copy.size copy.next frozen))
   pub blank : (c : File) → w.now copy.name c → IsBlank c
 
 -- A copy of this image goes on: so many of its pages were dealt with, and each of those from page 1 on stands at its place in the file.
--- Before the first turn nothing is said of the file.
+-- Before the first turn the file is empty.
 pub record IsCopying (w : World) (copy : Copying) (frozen : Image) : Type 0 where
   pub of : IsOf copy frozen
-  pub begun : 1 ≤ copy.next → IsBegun w copy frozen
+  pub begun : IsBegun w copy frozen
 
 -- what holds of the fields of every copier
 pub record IsCopier (size count next first page : ℕ) : Type 0 where

@@ -1,5 +1,5 @@
 -- A copy of the frozen file of a stalled database, which no history names.
-use Rattle.std.specs.Prelude.{◌≡◌, ℕ, List, [], ◌∷◌, ◌++◌, replicate, Result, None, IfOk}
+use Rattle.std.specs.Prelude.{◌≡◌, ℕ, ◌≤◌, List, [], ◌∷◌, ◌++◌, replicate, Result, None, IfOk}
 use Rattle.nb_host.specs.Files.{Files}
 use Rattle.nb_host.specs.World.{World}
 use Rattle.nb_host.specs.declared.faults.Fault.{Fault}
@@ -9,6 +9,7 @@ use Rattle.nb_change.specs.Gave.{GaveNothing}
 use Rattle.nb_page.specs.Free.{is_free_name}
 use Rattle.nb_page.specs.Quiet.{Quiet}
 use Rattle.nb_model.specs.Causes.{Cause, first_cause, is_free_entry, not_free, not_state, runs_any}
+use Rattle.nb_model.specs.Image.{Image}
 use Rattle.nb_model.specs.Levels.{joined}
 use Rattle.nb_model.specs.Outcomes.{Copies, ClosesCopy, Outcome, Seen}
 use Rattle.nb_model.specs.Trail.{Trail}
@@ -16,7 +17,7 @@ use Rattle.nb_state.specs.Open.{Held, IsOpen}
 use Rattle.nb_state.specs.Does.{WhereEnded}
 use Rattle.nb_state.specs.declared.turns.Progress.{Progress}
 use Rattle.nb_engine.specs.Turns.{SaysNone}
-use Rattle.nb_copy.specs.Copying.{Copying, IsCopying}
+use Rattle.nb_copy.specs.Copying.{Copying, IsOf, IsBegun}
 use Rattle.nb_copy.specs.Making.{IsUnfinishedOr}
 use Rattle.nb_copy.specs.Turns.{CopyTurn}
 
@@ -28,13 +29,18 @@ copy_cause s name = first_cause (not_state 1 s.base.image ∷ runs_any s.running
 abbrev pub KnowsUnused : Files → Seen → (name : List ℕ) → Type 0
 KnowsUnused files s name = s.running ≡ None → is_free_name files name ≡ is_free_entry (s.entry name)
 
+-- A copy that makes its file in its first turn goes on. Before that nothing is said of the file.
+pub record IsCopyingTo (w : World) (copy : Copying) (frozen : Image) : Type 0 where
+  pub of : IsOf copy frozen
+  pub begun : 1 ≤ copy.next → IsBegun w copy frozen
+
 -- A copy that was started: its session has one turn left for each frozen page, and one for the close.
 pub record IsCopyStarted (w : World) (held : Held) (t : Trail) (copy : Copying) (name : List ℕ) (turn : Outcome) : Type 0 where
   pub turns : turn.next ≡ replicate copy.count Copies ++ ClosesCopy name ∷ []
   pub first : copy.next ≡ 0
   pub named : copy.name ≡ name
   pub stalled : held.files.state ≡ 1
-  pub goes : IsCopying w copy t.base.frozen
+  pub goes : IsCopyingTo w copy t.base.frozen
 
 -- A copy is started, as its turn says, or it is refused. No file changes either way.
 pub record StartsCopy (result : Result Copying Fault) (old new : World) (before after : Held) (t : Trail) (name : List ℕ) (turn : Outcome) : Type 0 where

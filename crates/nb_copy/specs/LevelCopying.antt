@@ -8,6 +8,7 @@ use Rattle.nb_model.specs.Forms.{scn_page_of}
 use Rattle.nb_model.specs.Levels.{level_bytes, taken}
 use Rattle.nb_model.specs.Sound.{IsSoundImage}
 use Rattle.nb_copy.specs.Gathering.{LevelWriting, IsHeaded, HasTaken}
+use Rattle.nb_copy.specs.Making.{IsMade}
 
 -- What a contract sees of such a copier: its file, how many pages the frozen image has, which one the next turn deals with, the SCN page
 -- that was read last, and the page that was dealt with last.
@@ -37,7 +38,7 @@ pub record IsLevelOf (copy : LevelCopying) (frozen : Image) : Type 0 where
 abbrev pub HasEntriesOf : LevelCopying → Image → Type 0
 HasEntriesOf copy frozen = 2 ≤ copy.next → copy.scn_page ≡ page_at frozen (scn_page_of frozen (copy.next - 1))
 
--- Its file was made, and of the pages that were dealt with it took those whose stamp is above the SCN of the earlier backup.
+-- The head stands in its file, and of the pages that were dealt with it took those whose stamp is above the SCN of the earlier backup.
 pub record IsLevelBegun (w : World) (copy : LevelCopying) (frozen : Image) : Type 0 where
   pub has : HasTaken w copy.file (taken_below copy.next copy frozen)
   pub entries : HasEntriesOf copy frozen
@@ -47,10 +48,11 @@ pub record IsFresh (copy : LevelCopying) : Type 0 where
   pub no_run : copy.file.run.count ≡ 0
   pub no_page : copy.file.written ≡ 0
 
--- A level of this image goes on. Before the first turn nothing is said of the file.
+-- A level of this image goes on. Before the first turn the file is empty.
 pub record IsLevelCopying (w : World) (copy : LevelCopying) (frozen : Image) : Type 0 where
   pub of : IsLevelOf copy frozen
   pub fresh : copy.next ≡ 0 → IsFresh copy
+  pub made : copy.next ≡ 0 → IsMade w copy.file.name
   pub begun : 1 ≤ copy.next → IsLevelBegun w copy frozen
 
 -- what holds of the fields of every copier

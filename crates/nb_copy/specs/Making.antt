@@ -1,5 +1,5 @@
 -- What a stop leaves of a backup file that is made.
-use Rattle.std.specs.Prelude.{◌≡◌, ◌⊎◌, ℕ, List, take, Some, Ok, true, false}
+use Rattle.std.specs.Prelude.{◌≡◌, ◌⊎◌, ℕ, List, [], take, Some, Ok, true, false}
 use Rattle.nb_fields.specs.Bytes.{is_zeros}
 use Rattle.nb_fields.specs.Free.{is_free_file}
 use Rattle.nb_fields.specs.Header.{is_header}
@@ -7,6 +7,10 @@ use Rattle.nb_host.specs.Files.{File, bytes_of}
 use Rattle.nb_host.specs.World.{World}
 use Rattle.nb_host.specs.Crash.{IsDurable}
 use Rattle.nb_model.specs.Levels.{Contents, read_level}
+
+-- it is there and empty, so its name is free
+abbrev pub IsEmpty : File → Type 0
+IsEmpty file = file ≡ Some []
 
 -- its first 64 bytes, or all of a shorter one, are zeros, so its name is free
 abbrev pub IsBlank : File → Type 0
@@ -28,6 +32,11 @@ IsUnfinished file = (is_free_file file ≡ true) ⊎ IsNoBackup file
 -- it is unfinished, or it has these bytes
 abbrev pub IsUnfinishedOr : (whole : List ℕ) → File → Type 0
 IsUnfinishedOr whole file = IsUnfinished file ⊎ (file ≡ Some whole)
+
+-- the file was made: it reads as empty, and nothing else was made of it since
+pub record IsMade (w : World) (name : List ℕ) : Type 0 where
+  pub reads : IsEmpty (w.files name)
+  pub only : (c : File) → w.now name c → IsEmpty c
 
 -- a stop leaves these bytes of the file and nothing else, and so it reads
 pub record IsKept (w : World) (name bytes : List ℕ) : Type 0 where

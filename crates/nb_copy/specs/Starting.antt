@@ -1,24 +1,26 @@
 -- The start of a backup.
-use Rattle.std.specs.Prelude.{◌≡◌, ℕ, zero, suc, ◌<◌, ◌≤◌, List, [], ◌∷◌, ◌++◌, length, replicate, Option, Some, None, is_none, nat_eq, Result, OnOk, IfOk}
+use Rattle.std.specs.Prelude.{◌≡◌, ◌⊎◌, ℕ, zero, suc, ◌<◌, ◌≤◌, List, [], ◌∷◌, ◌++◌, length, replicate, Option, Some, None, is_none, nat_eq, Result, OnOk, IfOk}
 use Rattle.nb_host.specs.Files.{Files}
 use Rattle.nb_host.specs.World.{World}
 use Rattle.nb_host.specs.declared.faults.Fault.{Fault}
 use Rattle.nb_host.specs.Names.{same_name}
 use Rattle.nb_host.specs.declared.refusals.Refusal.{Refusal}
 use Rattle.nb_host.specs.declared.refusals.Refusal.TheVariants.{NoHistory, NoGuid}
+use Rattle.nb_change.specs.Changes.{Names, Changes, Reached, Remade}
 use Rattle.nb_page.specs.Free.{is_free_name}
 use Rattle.nb_page.specs.Quiet.{Quiet}
 use Rattle.nb_level.specs.declared.head.LevelHead.{LevelHead}
 use Rattle.nb_model.specs.Image.{Image, image_state, image_scn}
 use Rattle.nb_model.specs.Account.{Ask}
-use Rattle.nb_model.specs.Backups.{ask_of, level_behind, backup_turn, since_turn}
+use Rattle.nb_model.specs.Backups.{ask_of, level_behind, room_in, backup_turn, since_turn}
 use Rattle.nb_model.specs.Causes.{Cause, first_cause, when, read_only, not_state, not_free, is_free_entry, broken_at}
 use Rattle.nb_model.specs.Chains.{History, Spot, pages_of, backup_spot, level_in, guid_in}
 use Rattle.nb_model.specs.Levels.{file_of, count_in}
 use Rattle.nb_model.specs.Making.{kept_of}
-use Rattle.nb_model.specs.Strokes.{begin}
+use Rattle.nb_model.specs.Strokes.{Stroke, begin}
 use Rattle.nb_model.specs.Outcomes.{Backing, Copies, ClosesBackup, Seen, Outcome}
-use Rattle.nb_model.specs.Trail.{Trail}
+use Rattle.nb_model.specs.Trail.{Trail, StandsIn, after_stroke}
+use Rattle.nb_base.specs.Open.{OfFiles}
 use Rattle.nb_base.specs.Takes.{Strikes, after_strokes}
 use Rattle.nb_state.specs.Open.{Held, IsOpen, name_of}
 use Rattle.nb_state.specs.Does.{Tested, WhereEnded, WhereRefused, unless_by}
@@ -27,6 +29,7 @@ use Rattle.nb_copy.specs.declared.file_copy.FileCopy.{FileCopy}
 use Rattle.nb_copy.specs.declared.since.Since.{Since}
 use Rattle.nb_copy.specs.declared.since.Since.TheVariants.{Level, Guid}
 use Rattle.nb_copy.specs.FileCopying.{file_name, file_count, file_next, whole_file, whole_count, IsFileCopying}
+use Rattle.nb_copy.specs.Making.{IsEmpty, IsMade}
 
 -- What a contract sees of a copier: what its close needs, the size of each page, and the file that it makes.
 pub record Backed : Type 0 where
@@ -49,10 +52,30 @@ pub record IsStarted (w : World) (held : Held) (t : Trail) (copier : Backed) (tu
   pub below : copier.backing.page < length t.base.image
   pub goes : IsBackingUp w copier t.base.frozen
 
--- A backup is started, as its turn says; or it is refused, and changes nothing.
-pub record StartsBackup (result : Result Backed Fault) (old new : World) (before after : Held) (t : Trail) (guid : List ℕ) (turn : Outcome) : Type 0 where
+-- the two files of the database, and, where nothing refuses the backup, its own
+abbrev pub OfStart : (name db : List ℕ) → Outcome → Names
+OfStart name db turn m = OfFiles db m ⊎ ((m ≡ name) × (turn.reply ≡ None))
+
+-- What a stop leaves: the database behind a front of these strokes, and the file of the backup as it was, or empty.
+pub record StartLeft (old : World) (name db : List ℕ) (t : Trail) (strokes : List Stroke) (files : Files) : Type 0 where
+  pub database : Reached after_stroke (StandsIn db) t strokes files
+  pub file : Remade old name IsEmpty files
+
+-- No strokes were made but these, and no file was touched but those of the start.
+abbrev pub StartMakes : (old new : World) (name db : List ℕ) → Trail → Outcome → List Stroke → Type 0
+StartMakes old new name db t turn strokes = Changes old new (OfStart name db turn) (StartLeft old name db t strokes)
+
+-- Nothing has begun: no GUID was given, and no strokes were made but those that make room in the history.
+pub record HasNotBegun (old new : World) (name db : List ℕ) (t : Trail) (turn : Outcome) : Type 0 where
+  pub guids : new.guids ≡ old.guids
+  pub room : StartMakes old new name db t turn (room_in t.base.image).draft.strokes
+
+-- A backup into the file of that name is started, as its turn says; or it is refused, and changes nothing. However the call ends, nothing has
+-- begun, or the file was made.
+pub record StartsBackup (result : Result Backed Fault) (old new : World) (before after : Held) (t : Trail) (file guid : List ℕ) (turn : Outcome) : Type 0 where
   pub says : SaysNone result turn.reply
-  pub left : Strikes old new (name_of before) t turn.strokes
+  pub left : StartMakes old new file (name_of before) t turn turn.strokes
+  pub begun : HasNotBegun old new file (name_of before) t turn ⊎ IsMade new file
   pub opened : WhereEnded result (IsOpen new after (after_strokes t turn.strokes))
   pub running : WhereEnded result (after.running ≡ turn.running)
   pub gave : OnOk result (new.guids ≡ old.guids ++ guid ∷ [])

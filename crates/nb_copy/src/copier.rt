@@ -1,13 +1,15 @@
-ghost use Rattle.std.specs.Prelude.{◌≡◌, ◌-◌, ◌<◌, ◌≤◌, ℕ, length, [], ◌∷◌, Option, Some, List, true, IsTrue, IfOk, OnOk};
+ghost use Rattle.std.specs.Prelude.{◌≡◌, ◌⊎◌, ◌-◌, ◌<◌, ◌≤◌, ℕ, length, [], ◌∷◌, Option, Some, List, true, IsTrue, IfOk, OnOk};
 ghost use Rattle.nb_fields.specs.Places.{is_page_size};
 ghost use Rattle.nb_change.specs.Changes.{NoNames, Only};
 ghost use Rattle.nb_change.specs.Counts.{CountsDevice};
+ghost use Rattle.nb_change.specs.Gave.{GaveNothing};
 ghost use Rattle.nb_page.specs.Free.{is_free_name};
 ghost use Rattle.nb_page.specs.Quiet.{Quiet};
 ghost use Rattle.nb_model.specs.Account.{Ask};
 ghost use Rattle.nb_model.specs.Backups.{backup_turn, since_turn, close_backup};
 ghost use Rattle.nb_model.specs.Causes.{first_cause};
 ghost use Rattle.nb_model.specs.Outcomes.{Seen, next_guid, next_time};
+ghost use Rattle.nb_model.specs.Owner.{delta_name};
 ghost use Rattle.nb_model.specs.Sound.{IsSoundImage};
 ghost use Rattle.nb_model.specs.Trail.{Trail};
 ghost use Rattle.nb_base.specs.Open.{OfFiles};
@@ -16,6 +18,7 @@ ghost use Rattle.nb_state.specs.Does.{Goes, Tested};
 ghost use Rattle.nb_state.specs.Turns.{GaveAtMost};
 ghost use Rattle.nb_engine.specs.Stays.{StaysOpen};
 ghost use Rattle.nb_copy.specs.FileCopying.{file_count, file_next, file_written};
+ghost use Rattle.nb_copy.specs.Making.{IsMade};
 ghost use Rattle.nb_copy.specs.Starting.{StartsBackup, BeginsFor, IsBackingUp, KnowsFree, IsNineAtMost, IsItsLevel, ask_by, ask_in, earlier_cause, file_cause, turn_since};
 ghost use Rattle.nb_copy.specs.Closing.{BackupTurn, BackupCounts, Closes, GaveTimeAtMost, ReadsTwo};
 
@@ -137,8 +140,9 @@ fn begin<H: Host>(
     })
 }
 
-/// Begins a backup that goes on from an earlier one into a file of that name, for a session, whose copy runs then. Room for the row is made
-/// in the history before it begins. All is tested before the first write, and the memory is taken before it.
+/// Begins a backup that goes on from an earlier one into a file of that name, for a session, whose copy runs then. All is tested before the
+/// first write, and the memory is taken before it. Room for the row is made in the history, and then the file, before it begins: where the
+/// file can't be made the database isn't locked.
 fn start_from<H: Host>(
     alloc: Global,
     host: &mut H,
@@ -149,11 +153,14 @@ fn start_from<H: Host>(
 ) -> Result<Copier, Fault>
     requires level { IsNineAtMost since }
     ensures turn { (s : Seen) (t : Trail) → IsTrue H.tells → t.base ≡ s.base → engine.old.running ≡ s.running → IsOpen (H.world host.old) engine.old t → IsSoundImage t.base.image
-        → KnowsFree 0 (H.world host.old).files s name.now → GaveAtMost (H.world host.old) (H.world host.new) (next_guid s.given)
-        → StartsBackup result (H.world host.old) (H.world host.new) engine.old engine.new t (next_guid s.given) (turn_since s session since name.now) }
+        → KnowsFree 0 (H.world host.old).files s name.now → (name.now ≡ delta_name engine.old.files.name → ⊥) → GaveAtMost (H.world host.old) (H.world host.new) (next_guid s.given)
+        → StartsBackup result (H.world host.old) (H.world host.new) engine.old engine.new t name.now (next_guid s.given) (turn_since s session since name.now) }
     ensures asks { (t : Trail) → IsTrue H.tells → IsOpen (H.world host.old) engine.old t → (guid : List ℕ) × (length guid ≡ 16) × GaveAtMost (H.world host.old) (H.world host.new) guid }
     ensures stays { engine.old.files.state ≡ 2 → engine.new ≡ engine.old }
-    ensures stays_open { (t : Trail) → IsTrue H.tells → IsOpen (H.world host.old) engine.old t → StaysOpen result (H.world host.old) (H.world host.new) engine.old engine.new t NoNames }
+    ensures stays_open { (t : Trail) → IsTrue H.tells → IsOpen (H.world host.old) engine.old t → (name.now ≡ delta_name engine.old.files.name → ⊥)
+        → StaysOpen result (H.world host.old) (H.world host.new) engine.old engine.new t (Only name.now) }
+    ensures made_first { (t : Trail) → IsTrue H.tells → IsOpen (H.world host.old) engine.old t → (name.now ≡ delta_name engine.old.files.name → ⊥)
+        → (GaveNothing (H.world host.old) (H.world host.new) × Goes engine.old engine.new) ⊎ IsMade (H.world host.new) name.now }
     ensures free { IsTrue H.tells → OnOk result (is_free_name (H.world host.old).files name.now ≡ true) }
     ensures named { IfOk result (λ copier. copier.backing.name ≡ name.now) }
     ensures its_level { IfOk result (λ copier. IsItsLevel since copier.backing.ask.level) }
@@ -165,6 +172,7 @@ fn start_from<H: Host>(
     let head = check_start(host, engine, &since, name)?;
     let mut file = FileCopy::new(alloc, name, &head)?;
     let room = engine.history_room(host)?;
+    host.make(name)?;
     let head = begin(host, engine, session, &head)?;
     file.start(&head, engine.count());
     Ok(Copier {
@@ -177,12 +185,13 @@ fn start_from<H: Host>(
 
 impl Copier {
     /// Begins a backup of that level, 0 to 9, into a file of that name, for a session, whose copy runs then. A level of 1 to 9 goes on
-    /// from the latest backup of the level below. Room for the row is made in the history before it begins.
+    /// from the latest backup of the level below. Room for the row is made in the history, and then the file, empty, before it begins: where
+    /// the file can't be made, the answer is `Device` and the database is in the normal state.
     ///
     /// The refusals are `Access`, `WrongState`, `FileExists`, `NotDatabase` of the first page of the history that breaks the form,
     /// `NoHistory`, `NotDatabase` of an inventory page that isn't of its kind or of a page of the history whose bit is free, `Full` and
     /// `ScnExhausted`, in this order. All is tested before the first write, and the memory is taken before it. Where the inventories agree
-    /// with the pages, a refused call changes nothing.
+    /// with the pages, a refused call changes nothing. What else fails leaves the file as it was, or empty, so that its name is free.
     pub fn start<H: Host>(
         alloc: Global,
         host: &mut H,
@@ -193,13 +202,18 @@ impl Copier {
     ) -> Result<Copier, Fault>
         requires level { level ≤ 9 }
         ensures turn { (s : Seen) (t : Trail) → IsTrue H.tells → t.base ≡ s.base → engine.old.running ≡ s.running → IsOpen (H.world host.old) engine.old t → IsSoundImage t.base.image
-            → KnowsFree 0 (H.world host.old).files s name.now → GaveAtMost (H.world host.old) (H.world host.new) (next_guid s.given)
-            → StartsBackup result (H.world host.old) (H.world host.new) engine.old engine.new t (next_guid s.given) (backup_turn s session level name.now) }
+            → KnowsFree 0 (H.world host.old).files s name.now → (name.now ≡ delta_name engine.old.files.name → ⊥) → GaveAtMost (H.world host.old) (H.world host.new) (next_guid s.given)
+            → StartsBackup result (H.world host.old) (H.world host.new) engine.old engine.new t name.now (next_guid s.given) (backup_turn s session level name.now) }
         ensures asks { (t : Trail) → IsTrue H.tells → IsOpen (H.world host.old) engine.old t → (guid : List ℕ) × (length guid ≡ 16) × GaveAtMost (H.world host.old) (H.world host.new) guid }
         ensures stays { engine.old.files.state ≡ 2 → engine.new ≡ engine.old }
 
-        // Whatever stands in the database: only its two files are touched, and it is open behind that.
-        ensures stays_open { (t : Trail) → IsTrue H.tells → IsOpen (H.world host.old) engine.old t → StaysOpen result (H.world host.old) (H.world host.new) engine.old engine.new t NoNames }
+        // Whatever stands in the database: only its two files and that of the backup are touched, and it is open behind that.
+        ensures stays_open { (t : Trail) → IsTrue H.tells → IsOpen (H.world host.old) engine.old t → (name.now ≡ delta_name engine.old.files.name → ⊥)
+            → StaysOpen result (H.world host.old) (H.world host.new) engine.old engine.new t (Only name.now) }
+
+        // And however it ends, no GUID was taken and the state stays, or the file was made.
+        ensures made_first { (t : Trail) → IsTrue H.tells → IsOpen (H.world host.old) engine.old t → (name.now ≡ delta_name engine.old.files.name → ⊥)
+            → (GaveNothing (H.world host.old) (H.world host.new) × Goes engine.old engine.new) ⊎ IsMade (H.world host.new) name.now }
         ensures free { IsTrue H.tells → OnOk result (is_free_name (H.world host.old).files name.now ≡ true) }
         ensures named { IfOk result (λ copier. copier.backing.name ≡ name.now) }
         ensures level { IfOk result (λ copier. copier.backing.ask.level ≡ level) }
@@ -222,13 +236,18 @@ impl Copier {
         name: &Name,
     ) -> Result<Copier, Fault>
         ensures turn { (s : Seen) (t : Trail) → IsTrue H.tells → t.base ≡ s.base → engine.old.running ≡ s.running → IsOpen (H.world host.old) engine.old t → IsSoundImage t.base.image
-            → KnowsFree 0 (H.world host.old).files s name.now → GaveAtMost (H.world host.old) (H.world host.new) (next_guid s.given)
-            → StartsBackup result (H.world host.old) (H.world host.new) engine.old engine.new t (next_guid s.given) (since_turn s session guid.now name.now) }
+            → KnowsFree 0 (H.world host.old).files s name.now → (name.now ≡ delta_name engine.old.files.name → ⊥) → GaveAtMost (H.world host.old) (H.world host.new) (next_guid s.given)
+            → StartsBackup result (H.world host.old) (H.world host.new) engine.old engine.new t name.now (next_guid s.given) (since_turn s session guid.now name.now) }
         ensures asks { (t : Trail) → IsTrue H.tells → IsOpen (H.world host.old) engine.old t → (guid : List ℕ) × (length guid ≡ 16) × GaveAtMost (H.world host.old) (H.world host.new) guid }
         ensures stays { engine.old.files.state ≡ 2 → engine.new ≡ engine.old }
 
-        // Whatever stands in the database: only its two files are touched, and it is open behind that.
-        ensures stays_open { (t : Trail) → IsTrue H.tells → IsOpen (H.world host.old) engine.old t → StaysOpen result (H.world host.old) (H.world host.new) engine.old engine.new t NoNames }
+        // Whatever stands in the database: only its two files and that of the backup are touched, and it is open behind that.
+        ensures stays_open { (t : Trail) → IsTrue H.tells → IsOpen (H.world host.old) engine.old t → (name.now ≡ delta_name engine.old.files.name → ⊥)
+            → StaysOpen result (H.world host.old) (H.world host.new) engine.old engine.new t (Only name.now) }
+
+        // And however it ends, no GUID was taken and the state stays, or the file was made.
+        ensures made_first { (t : Trail) → IsTrue H.tells → IsOpen (H.world host.old) engine.old t → (name.now ≡ delta_name engine.old.files.name → ⊥)
+            → (GaveNothing (H.world host.old) (H.world host.new) × Goes engine.old engine.new) ⊎ IsMade (H.world host.new) name.now }
         ensures free { IsTrue H.tells → OnOk result (is_free_name (H.world host.old).files name.now ≡ true) }
         ensures named { IfOk result (λ copier. copier.backing.name ≡ name.now) }
         ensures size { IfOk result (λ copier. copier.page_size ≡ engine.old.files.page_size) }
@@ -301,7 +320,7 @@ impl Copier {
     /// Deals with one page of the frozen image, and answers `More`; or, where all were dealt with before, makes the file whole and keeps it
     /// for good, asks the clock, writes the row of the history, and answers `Finished`.
     ///
-    /// A stop leaves the file as it was before the first turn, or unfinished, or whole; the row stands only where the file is whole.
+    /// A stop leaves the file as it was before the backup, or unfinished, or whole; the row stands only where the file is whole.
     /// A copier that has answered `Finished` or a fault isn't used again.
     pub fn turn<H: Host>(&mut self, host: &mut H, engine: &mut Engine) -> Result<Progress, Fault>
         requires size { self.old.page_size ≡ engine.old.files.page_size }

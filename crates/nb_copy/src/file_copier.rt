@@ -1,13 +1,15 @@
 // A copy of the frozen file of a stalled database, which no history names.
 ghost use Rattle.std.specs.Prelude.{◌≡◌, ◌+◌, ◌-◌, ◌≤◌, IsTrue, IfOk, IfErr, OnOk, None, Some, Result, true};
+ghost use Rattle.nb_host.specs.Calls.{IsSilent};
 ghost use Rattle.nb_host.specs.Causes.{CountsFault};
 ghost use Rattle.nb_host.specs.declared.faults.Fault.{Fault};
-ghost use Rattle.nb_change.specs.Changes.{NoNames, Only};
+ghost use Rattle.nb_change.specs.Changes.{Changes, NoNames, Only, Remade};
 ghost use Rattle.nb_change.specs.Counts.{CountsDevice};
 ghost use Rattle.nb_change.specs.Gave.{GaveNothing};
 ghost use Rattle.nb_page.specs.Free.{is_free_name};
 ghost use Rattle.nb_page.specs.Quiet.{Quiet};
 ghost use Rattle.nb_model.specs.Backups.{copy_turn};
+ghost use Rattle.nb_model.specs.Image.{Image};
 ghost use Rattle.nb_model.specs.Outcomes.{Seen};
 ghost use Rattle.nb_model.specs.Trail.{Trail};
 ghost use Rattle.nb_base.specs.Open.{OfFiles};
@@ -16,7 +18,8 @@ ghost use Rattle.nb_state.specs.Open.{IsOpen};
 ghost use Rattle.nb_state.specs.declared.turns.Progress.{Progress};
 ghost use Rattle.nb_engine.specs.Stays.{StaysOpen};
 ghost use Rattle.nb_copy.specs.Copying.{IsCopying};
-ghost use Rattle.nb_copy.specs.FileCopies.{CopiesFile, KnowsUnused, StartsCopy, copy_cause};
+ghost use Rattle.nb_copy.specs.FileCopies.{CopiesFile, IsCopyingTo, KnowsUnused, StartsCopy, copy_cause};
+ghost use Rattle.nb_copy.specs.Making.{IsBlank};
 ghost use Rattle.nb_copy.specs.Turns.{CopyCounts};
 
 use crate::page_copy::PageCopy;
@@ -117,8 +120,21 @@ impl FileCopier {
         self.pages.written()
     }
 
+    /// Makes the file before the first page is dealt with.
+    fn make_first<H: Host>(&self, host: &mut H) -> Result<(), HostFault>
+        ensures left { IsTrue H.tells → Changes (H.world host.old) (H.world host.new) (Only self.now.name) (Remade (H.world host.old) self.now.name IsBlank) }
+        ensures made { (frozen : Image) → IsTrue H.tells → IsCopyingTo (H.world host.old) self.now frozen → OnOk result (IsCopying (H.world host.new) self.now frozen) }
+        ensures log { IsSilent (H.world host.old) (H.world host.new) }
+        ensures cause { CountsFault result (H.faults host.old) (H.faults host.new) }
+    {
+        if self.pages.written() == 0 {
+            self.pages.make(host)?;
+        }
+        Ok(())
+    }
+
     /// Deals with one page of the frozen image, and answers `More`; or, where all were dealt with before, makes the file whole, keeps it for
-    /// good, and answers `Finished`.
+    /// good, and answers `Finished`. The first turn makes the file.
     ///
     /// A stop leaves the file as it was before the first turn, or free, or whole. A copier that has answered `Finished` or a fault isn't used
     /// again.
@@ -128,7 +144,7 @@ impl FileCopier {
         engine: &mut Engine,
     ) -> Result<Progress, HostFault>
         requires size { self.old.size ≡ engine.old.files.page_size }
-        ensures turn { (t : Trail) → IsTrue H.tells → IsOpen (H.world host.old) engine.old t → engine.old.files.state ≡ 1 → IsCopying (H.world host.old) self.old t.base.frozen
+        ensures turn { (t : Trail) → IsTrue H.tells → IsOpen (H.world host.old) engine.old t → engine.old.files.state ≡ 1 → IsCopyingTo (H.world host.old) self.old t.base.frozen
             → (OfFiles engine.old.files.name self.old.name → ⊥) → CopiesFile result (H.world host.old) (H.world host.new) engine.old engine.new self.old self.new t }
 
         // Whatever stands in the database and in the file: the file alone is touched, and the database stays open, also where the turn fails.
@@ -141,6 +157,7 @@ impl FileCopier {
         ensures once { IsTrue H.tells → (H.world host.new).reads ≤ (H.world host.old).reads + 1 }
         ensures cause { CountsFault result (H.faults host.old) (H.faults host.new) }
     {
+        self.make_first(host)?;
         self.pages.turn(host, engine)
     }
 }

@@ -10,7 +10,7 @@ ghost use Rattle.nb_model.specs.Trail.{Trail};
 ghost use Rattle.nb_state.specs.Open.{IsOpen};
 ghost use Rattle.nb_copy.specs.Gathering.{HasTaken};
 ghost use Rattle.nb_copy.specs.LevelCopying.{HasEntriesOf, IsFresh, IsLevelBegun, IsLevelCopying, IsLevelOf, taken_below, whole_level};
-ghost use Rattle.nb_copy.specs.Making.{IsUnfinished, IsUnfinishedOr};
+ghost use Rattle.nb_copy.specs.Making.{IsMade, IsUnfinished, IsUnfinishedOr};
 ghost use Rattle.nb_base.specs.Touches.{Touches};
 ghost use Rattle.nb_copy.specs.Turns.{Fetched, LevelTurn, LevelCounts};
 
@@ -23,7 +23,7 @@ use nb_state::Progress;
 use std::alloc::{AllocError, Global};
 use std::marker::Model;
 
-/// A level of 1 to 9: the pages of a frozen image that changed since an earlier backup.
+/// A level of 1 to 9: the pages of a frozen image that changed since an earlier backup. Its file is made before the first turn.
 ///
 /// A page is taken by its stamp. It is read only where its SCN entry says that it may have changed, since an entry is at least the
 /// stamp. Page 0 and the SCN pages have no entry, and are always read.
@@ -149,14 +149,14 @@ impl LevelCopy {
         Ok(true)
     }
 
-    /// Reads page 0, makes the file with its head, and takes the page.
+    /// Reads page 0, writes the head, and takes the page.
     fn begin<H: Host>(&mut self, host: &mut H, engine: &mut Engine) -> Result<(), HostFault>
         requires size { self.old.file.head.page_size ≡ engine.old.files.page_size }
         requires next { self.old.next ≡ 0 }
         requires some { 0 < self.old.count }
-        ensures left { (t : Trail) → IsTrue H.tells → IsOpen (H.world host.old) engine.old t → engine.old.files.state ≡ 1 → IsLevelOf self.old t.base.frozen → IsFresh self.old
+        ensures left { (t : Trail) → IsTrue H.tells → IsOpen (H.world host.old) engine.old t → engine.old.files.state ≡ 1 → IsLevelOf self.old t.base.frozen → IsFresh self.old → IsMade (H.world host.old) self.old.file.name
             → Changes (H.world host.old) (H.world host.new) (Only self.old.file.name) (Remade (H.world host.old) self.old.file.name IsUnfinished) }
-        ensures begun { (t : Trail) → IsTrue H.tells → IsOpen (H.world host.old) engine.old t → engine.old.files.state ≡ 1 → IsLevelOf self.old t.base.frozen → IsFresh self.old
+        ensures begun { (t : Trail) → IsTrue H.tells → IsOpen (H.world host.old) engine.old t → engine.old.files.state ≡ 1 → IsLevelOf self.old t.base.frozen → IsFresh self.old → IsMade (H.world host.old) self.old.file.name
             → OnOk result (HasTaken (H.world host.new) self.new.file (taken_below 1 self.old t.base.frozen)) }
         ensures touches { IsTrue H.tells → Touches (H.world host.old) (H.world host.new) (Only self.old.file.name) }
         ensures same { OnOk result (self.new ≡ record self.old { file = record self.old.file { written = self.new.file.written; run = self.new.file.run }; next = 1; page = self.new.page }) }
@@ -168,7 +168,7 @@ impl LevelCopy {
         ensures cause { CountsFault result (H.faults host.old) (H.faults host.new) }
     {
         engine.read_main(host, 0, &mut self.page)?;
-        self.file.make(host)?;
+        self.file.begin(host)?;
         self.next = 1;
         self.file.take(host, 0, &self.page)
     }
@@ -205,8 +205,8 @@ impl LevelCopy {
     /// Deals with one page of the frozen image, and answers `More`; or, where all were dealt with before, makes the file whole, keeps
     /// it for good, and answers `Finished`.
     ///
-    /// The first turn makes the file: nothing touches it before. The engine is as it was. A turn that answers a fault leaves a file that
-    /// is unfinished or whole, or what stood there before; the copier isn't used again then.
+    /// The file was made before. The engine is as it was. A turn that answers a fault leaves a file that is unfinished or whole; the copier
+    /// isn't used again then.
     pub fn turn<H: Host>(
         &mut self,
         host: &mut H,

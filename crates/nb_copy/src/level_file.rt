@@ -7,7 +7,7 @@ ghost use Rattle.nb_level.specs.Heads.{head_of};
 ghost use Rattle.nb_model.specs.Image.{Numbered};
 ghost use Rattle.nb_model.specs.Levels.{level_bytes, runs_of, taken_from};
 ghost use Rattle.nb_copy.specs.Gathering.{HasTaken, IsHeaded, MayHave, Reads, level_front};
-ghost use Rattle.nb_copy.specs.Making.{IsKept, IsUnfinished, IsUnfinishedOr};
+ghost use Rattle.nb_copy.specs.Making.{IsKept, IsMade, IsUnfinished, IsUnfinishedOr};
 ghost use Rattle.nb_base.specs.Touches.{Touches};
 
 use crate::run::Run;
@@ -83,16 +83,14 @@ impl LevelFile {
         self.written
     }
 
-    /// Makes the file, and writes its head.
-    pub(crate) fn make<H: Host>(&mut self, host: &mut H) -> Result<(), HostFault>
-        ensures left { IsTrue H.tells → IsHeaded (head_of self.old.head) → Changes (H.world host.old) (H.world host.new) (Only self.old.name) (Remade (H.world host.old) self.old.name IsUnfinished) }
-        ensures made { IsTrue H.tells → self.old.run.count ≡ 0 → self.old.written ≡ 0 → OnOk result (HasTaken (H.world host.new) self.new []) }
-        ensures touches { IsTrue H.tells → Touches (H.world host.old) (H.world host.new) (Only self.old.name) }
-        ensures same { self.new ≡ self.old }
+    /// Writes the head into the file, which was made.
+    pub(crate) fn begin<H: Host>(&self, host: &mut H) -> Result<(), HostFault>
+        ensures left { IsTrue H.tells → IsHeaded (head_of self.now.head) → IsMade (H.world host.old) self.now.name → Changes (H.world host.old) (H.world host.new) (Only self.now.name) (Remade (H.world host.old) self.now.name IsUnfinished) }
+        ensures begun { IsTrue H.tells → IsMade (H.world host.old) self.now.name → self.now.run.count ≡ 0 → self.now.written ≡ 0 → OnOk result (HasTaken (H.world host.new) self.now []) }
+        ensures touches { IsTrue H.tells → Touches (H.world host.old) (H.world host.new) (Only self.now.name) }
         ensures log { IsSilent (H.world host.old) (H.world host.new) }
         ensures cause { CountsFault result (H.faults host.old) (H.faults host.new) }
     {
-        host.make(&self.name)?;
         write_head(host, &self.name, &self.head, VERSION)
     }
 

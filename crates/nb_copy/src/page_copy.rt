@@ -1,11 +1,14 @@
-ghost use Rattle.std.specs.Prelude.{◌≡◌, ◌+◌, ◌-◌, ◌<◌, ◌≤◌, IsTrue, IfOk, OnOk, length, Some};
+ghost use Rattle.std.specs.Prelude.{◌≡◌, ◌+◌, ◌-◌, ◌<◌, ◌≤◌, [], IsTrue, IfOk, OnOk, length, Some};
 ghost use Rattle.nb_fields.specs.Places.{is_page_size};
+ghost use Rattle.nb_host.specs.Calls.{IsSilent, Remakes};
 ghost use Rattle.nb_host.specs.Causes.{CountsFault};
+ghost use Rattle.nb_host.specs.Moments.{Passes};
 ghost use Rattle.nb_change.specs.Changes.{Changes, Only, Remade};
 ghost use Rattle.nb_change.specs.Gave.{GaveNothing};
 ghost use Rattle.nb_model.specs.Image.{Image};
 ghost use Rattle.nb_model.specs.Levels.{joined};
 ghost use Rattle.nb_model.specs.Trail.{Trail};
+ghost use Rattle.nb_page.specs.Quiet.{Quiet};
 ghost use Rattle.nb_state.specs.Open.{IsOpen};
 ghost use Rattle.nb_copy.specs.Copying.{IsOf, IsBegun, IsCopying};
 ghost use Rattle.nb_copy.specs.Turns.{CopyTurn, CopyCounts};
@@ -20,7 +23,8 @@ use std::marker::Model;
 
 /// A copy of all pages of a frozen image: a level 0, or a plain copy.
 ///
-/// Pages 1 and up come first, in order. Page 0 waits until they are kept for good: while it isn't in the file, the file's name is free.
+/// Its file is made before the first turn. Pages 1 and up come first, in order. Page 0 waits until they are kept for good: while it isn't in
+/// the file, the file's name is free.
 #[derive(Drop)]
 pub struct PageCopy {
     name: Name,
@@ -64,6 +68,16 @@ impl PageCopy {
         })
     }
 
+    /// Makes the file, empty.
+    pub fn make<H: Host>(&self, host: &mut H) -> Result<(), HostFault>
+        ensures files { Remakes H.tells result (H.world host.old) (H.world host.new) self.now.name (Some []) }
+        ensures log { IsSilent (H.world host.old) (H.world host.new) }
+        ensures time { Passes (H.world host.old) (H.world host.new) }
+        ensures cause { CountsFault result (H.faults host.old) (H.faults host.new) }
+    {
+        host.make(&self.name)
+    }
+
     /// The image is frozen, and has so many pages. Its first turn is the next.
     pub fn start(&mut self, count: u32)
         requires next { self.old.next ≡ 0 }
@@ -87,23 +101,22 @@ impl PageCopy {
         self.count - self.next
     }
 
-    /// Takes page 0, and makes the file.
-    fn begin<H: Host>(&mut self, host: &mut H, engine: &mut Engine) -> Result<(), HostFault>
+    /// Takes page 0. It goes into the file when the others are there.
+    fn take_first<H: Host>(&mut self, host: &mut H, engine: &mut Engine) -> Result<(), HostFault>
         requires size { self.old.size ≡ engine.old.files.page_size }
         requires next { self.old.next ≡ 0 }
         requires some { 0 < self.old.count }
-        ensures left { IsTrue H.tells → Changes (H.world host.old) (H.world host.new) (Only self.old.name) (Remade (H.world host.old) self.old.name IsBlank) }
-        ensures begun { (t : Trail) → IsTrue H.tells → IsOpen (H.world host.old) engine.old t → engine.old.files.state ≡ 1 → IsOf self.old t.base.frozen → OnOk result (IsBegun (H.world host.new) self.new t.base.frozen) }
+        ensures begun { (t : Trail) → IsTrue H.tells → IsOpen (H.world host.old) engine.old t → engine.old.files.state ≡ 1 → IsOf self.old t.base.frozen → IsBegun (H.world host.old) self.old t.base.frozen
+            → OnOk result (IsBegun (H.world host.new) self.new t.base.frozen) }
         ensures next { OnOk result (self.new ≡ record self.old { next = 1; first = self.new.first }) }
         ensures name { self.new.name ≡ self.old.name }
         ensures size { self.new.size ≡ self.old.size }
         ensures engine { engine.new ≡ engine.old }
-        ensures gave { GaveNothing (H.world host.old) (H.world host.new) }
+        ensures quiet { Quiet (H.world host.old) (H.world host.new) }
         ensures once { IsTrue H.tells → (H.world host.new).reads ≤ (H.world host.old).reads + 1 }
         ensures cause { CountsFault result (H.faults host.old) (H.faults host.new) }
     {
         engine.read_main(host, 0, &mut self.first)?;
-        host.make(&self.name)?;
         self.next = 1;
         Ok(())
     }
@@ -151,8 +164,8 @@ impl PageCopy {
     /// Deals with one page of the frozen image, and answers `More`; or, where all were dealt with before, makes the file whole, keeps
     /// it for good, and answers `Finished`.
     ///
-    /// The first turn makes the file: nothing touches it before. The engine is as it was. A turn that answers a fault leaves a file that
-    /// is free or whole, or what stood there before; the copier isn't used again then.
+    /// The file was made before. The engine is as it was. A turn that answers a fault leaves a file that is free or whole; the copier isn't
+    /// used again then.
     pub fn turn<H: Host>(
         &mut self,
         host: &mut H,
@@ -179,7 +192,7 @@ impl PageCopy {
             return Ok(Progress::Finished);
         }
         if self.next == 0 {
-            self.begin(host, engine)?;
+            self.take_first(host, engine)?;
         } else {
             self.copy_page(host, engine)?;
         }

@@ -1,4 +1,5 @@
 mod GatheredLemmas
+mod GrowthLemmas
 mod HeldLemmas
 mod PutLemmas
 mod PartLemmas

@@ -4,11 +4,11 @@ use Rattle.std.specs.Prelude.{replicate}
 use Rattle.std.proofs.lemmas.List.{take_at, drop_at, drop-drop, drop_all, take_all, length-replicate, append-nil}
 use Rattle.nb_host.specs.Files.{padded, put_at}
 
-padded-short : (bytes : List ℕ) (len : ℕ) → len ≤ length bytes → padded bytes len ≡ bytes
+pub padded-short : (bytes : List ℕ) (len : ℕ) → len ≤ length bytes → padded bytes len ≡ bytes
 unfolding padded
 padded-short bytes len fits = ap (λ (n : ℕ). bytes ++ replicate n 0) (let e : len - length bytes ≡ 0 = omega arith in e) ∙ append-nil bytes
 
-length-front : (bytes : List ℕ) (at : ℕ) → length (take at (padded bytes at)) ≡ at
+pub length-front : (bytes : List ℕ) (at : ℕ) → length (take at (padded bytes at)) ≡ at
 unfolding padded
 length-front bytes at = omega (arith, length-take at (bytes ++ replicate (at - length bytes) 0), length-append bytes (replicate (at - length bytes) 0), length-replicate {A = ℕ} (at - length bytes) 0)
 

@@ -1,7 +1,8 @@
 -- What a contract sees of real files.
 use Rattle.std.specs.Prelude.{ℕ, List, Option}
 
--- how many calls have failed, and the name of the file whose bytes wait to be written, if any do
+-- how many calls have failed, the name of the file whose bytes wait to be written, if any do, and the front of what was said last
 pub record Outside : Type 0 where
   pub faults : ℕ
   pub waiting : Option (List ℕ)
+  pub said : List ℕ

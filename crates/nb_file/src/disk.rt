@@ -1,7 +1,8 @@
 // One open file, as the system gives it.
-ghost use Rattle.std.specs.Prelude.{◌≡◌, ◌+◌, ◌≤◌, ℕ, Bool, true, false, IsTrue, List, [], length, take, drop, IfOk, OnOk};
+ghost use Rattle.std.specs.Prelude.{◌≡◌, ◌+◌, ◌≤◌, ℕ, Bool, true, false, IsTrue, List, [], length, take, drop, is_ok, if◌then◌else◌, IfOk, OnOk, OnErr};
 ghost use Rattle.std.proofs.lemmas.Bool.{false≢true};
 ghost use Rattle.nb_host.specs.Files.{put_at};
+ghost use Rattle.nb_file.specs.Resized.{resized, IsBegun};
 
 use std::fs::{File, OpenFile, TryLockError};
 use std::io;
@@ -29,6 +30,9 @@ pub trait Disk {
     /// Whether a stop leaves these bytes.
     ghost is_durable: { Self → Bool };
 
+    /// How many of the calls that change it have failed.
+    ghost failed: { Self → ℕ };
+
     /// Its length in bytes, and nothing of what is no file: a folder, a FIFO, a device.
     fn measure(&self) -> io::Result<u64>
         ensures { IsTrue tells → IfOk result (λ len. len ≡ length (bytes self.now)) };
@@ -41,13 +45,17 @@ pub trait Disk {
         ensures bytes { IsTrue tells → OnOk result (into.new ≡ take (length into.old) (drop at (bytes self.now))) }
         ensures there { IsTrue tells → OnOk result (at + length into.old ≤ length (bytes self.now)) };
 
-    /// Puts all the bytes at that place. Where the file is shorter, zeros stand between.
+    /// Puts all the bytes at that place. Where the file is shorter, zeros stand between. Where that fails, a front of them may be there.
     fn put(&mut self, at: u64, new: &[u8]) -> io::Result<()>
-        ensures { IsTrue tells → OnOk result (bytes self.new ≡ put_at (bytes self.old) at new.now) };
+        ensures put { IsTrue tells → OnOk result (bytes self.new ≡ put_at (bytes self.old) at new.now) }
+        ensures begun { IsTrue tells → OnErr result (IsBegun (bytes self.old) at new.now (bytes self.new)) }
+        ensures failed { IsTrue tells → failed self.new ≡ if is_ok result then failed self.old else failed self.old + 1 };
 
-    /// Takes all its bytes away.
-    fn cut(&mut self) -> io::Result<()>
-        ensures { IsTrue tells → OnOk result (bytes self.new ≡ []) };
+    /// Makes it so many bytes long: cuts it off there, or puts zeros at its end. Where that fails, nothing has changed.
+    fn resize(&mut self, len: u64) -> io::Result<()>
+        ensures resized { IsTrue tells → OnOk result (bytes self.new ≡ resized (bytes self.old) len) }
+        ensures same { IsTrue tells → OnErr result (bytes self.new ≡ bytes self.old) }
+        ensures failed { IsTrue tells → failed self.new ≡ if is_ok result then failed self.old else failed self.old + 1 };
 
     /// Keeps its bytes for good.
     fn keep(&mut self) -> io::Result<()>
@@ -61,6 +69,8 @@ impl Disk for File {
     ghost bytes = { λ _. [] };
 
     ghost is_durable = { λ _. false };
+
+    ghost failed = { λ _. 0 };
 
     fn measure(&self) -> io::Result<u64> {
         let found = self.metadata()?;
@@ -91,8 +101,8 @@ impl Disk for File {
         self.write_all_at(new, at)
     }
 
-    fn cut(&mut self) -> io::Result<()> {
-        self.set_len(0)
+    fn resize(&mut self, len: u64) -> io::Result<()> {
+        self.set_len(len)
     }
 
     fn keep(&mut self) -> io::Result<()> {

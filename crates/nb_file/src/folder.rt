@@ -1,9 +1,10 @@
 // What stands under a name, and the folder that it stands in.
-ghost use Rattle.std.specs.Prelude.{IfOk, IfSome};
+ghost use Rattle.std.specs.Prelude.{◌≡◌, ◌++◌, ℕ, List, Some, IsTrue, IfOk, IfSome};
 ghost use Rattle.std.specs.Fs.{file_type, IsFile};
+ghost use Rattle.nb_host.specs.Names.{delta_suffix, is_name};
 
 use crate::disk::no_file;
-use nb_host::Name;
+use nb_host::{DELTA_SUFFIX, Name};
 use std::fs::{self, File, Metadata, OpenFile};
 use std::io::{self, ErrorKind};
 use std::path::Path;
@@ -25,6 +26,14 @@ pub fn look_up<R: Files>(rt: &R, name: &Name) -> io::Result<Option<Metadata>>
 // A file is missing too where a name has a file in place of a folder.
 fn is_missing(kind: ErrorKind) -> bool {
     kind == ErrorKind::NotFound || kind == ErrorKind::NotADirectory
+}
+
+/// The main file beside which this is the difference file, if it is the name of one.
+pub fn main_of(name: &Name) -> Option<Name>
+    ensures some { IfSome result (λ main. name.now ≡ main ++ delta_suffix) }
+    ensures every { (main : List ℕ) → IsTrue (is_name main) → name.now ≡ main ++ delta_suffix → result ≡ Some main }
+{
+    Name::read(name.as_str().strip_suffix(DELTA_SUFFIX)?)
 }
 
 /// Keeps for good which names there are in the folder of `name`.

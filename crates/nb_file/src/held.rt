@@ -1,14 +1,17 @@
 // One open file: what is written to it, read of it and kept of it.
-ghost use Rattle.std.specs.Prelude.{◌≡◌, ◌++◌, ◌≤◌, [], IsTrue, true, false, length, take, drop, Some, None, IsErr, IfOk, OnOk, OnErr};
+ghost use Rattle.std.specs.Prelude.{◌≡◌, ◌++◌, ◌+◌, ◌*◌, ◌<◌, ◌≤◌, ℕ, [], IsTrue, true, false, length, take, drop, Some, None, IsErr, IfOk, OnOk, OnErr};
 ghost use Rattle.nb_host.specs.Files.{put_at};
 ghost use Rattle.nb_host.specs.Calls.{ReadsBytes, ReadsPage};
 ghost use Rattle.nb_file.specs.Fetched.{IsPart};
 ghost use Rattle.nb_file.specs.Contents.{with_waiting};
 ghost use Rattle.nb_file.specs.Gathered.{IsFreeFor};
+ghost use Rattle.nb_file.specs.Resized.{IsSameUpTo};
+ghost use Rattle.nb_file.specs.Whole.{IsWhole, AreOf};
 
 use crate::ahead::Ahead;
 use crate::disk::Disk;
 use crate::folder::sync_folder;
+use crate::growth::put_whole;
 use crate::state::State;
 use crate::waiting::{PART, Waiting};
 use nb_host::Name;
@@ -69,20 +72,25 @@ impl<F: Disk + Drop> Held<F> {
         }
     }
 
-    /// Puts the bytes into the file. Where that fails the file is lost.
-    fn put(&mut self, at: u64, bytes: &[u8]) -> io::Result<()>
+    /// Puts the bytes into the file, in pieces of that length. Where that fails the file is lost.
+    fn put(&mut self, at: u64, bytes: &[u8], piece: u64) -> io::Result<()>
+        requires some { 0 < piece }
+        requires whole { IsWhole piece (at + length bytes.now) }
         ensures bytes { IsTrue F.tells → OnOk result (F.bytes self.new.file ≡ put_at (F.bytes self.old.file) at bytes.now) }
+        ensures whole { IsTrue F.tells → IsWhole piece (length (F.bytes self.old.file)) → IsWhole piece (length (F.bytes self.new.file)) }
+        ensures undone { IsTrue F.tells → 1 < piece → OnErr result (F.failed self.new.file ≡ F.failed self.old.file + 1 → IsSameUpTo at (F.bytes self.old.file) (F.bytes self.new.file)) }
         ensures dirty { OnOk result (self.new.state.is_dirty ≡ true) }
         ensures sure { OnOk result (self.new.state.is_lost ≡ self.old.state.is_lost) }
         ensures lost { OnErr result (self.new.state.is_lost ≡ true) }
         ensures same { (self.new.name ≡ self.old.name) × (self.new.can_write ≡ self.old.can_write) × (self.new.state.is_kept ≡ self.old.state.is_kept) }
     {
+        self.state.check()?;
         let Some(end) = at.checked_add(bytes.len() as u64) else {
             self.state.wrote(at, false);
             return Err(ErrorKind::FileTooLarge.into());
         };
         self.ahead.forget();
-        let outcome = self.file.put(at, bytes);
+        let outcome = put_whole(&mut self.file, self.state.len, at, bytes, piece);
         self.state.wrote(end, outcome.is_ok());
         outcome
     }
@@ -92,6 +100,8 @@ impl<F: Disk + Drop> Held<F> {
         requires mine { IsFreeFor waiting.old.name self.old.name }
         ensures none { waiting.new.name ≡ None }
         ensures bytes { IsTrue F.tells → OnOk result (F.bytes self.new.file ≡ with_waiting waiting.old self.old.name (F.bytes self.old.file)) }
+        ensures whole { IsTrue F.tells → (page : ℕ) → AreOf page waiting.old.name waiting.old.piece → IsWhole page (length (F.bytes self.old.file)) → IsWhole page (length (F.bytes self.new.file)) }
+        ensures undone { IsTrue F.tells → 1 < waiting.old.piece → OnErr result (F.failed self.new.file ≡ F.failed self.old.file + 1 → IsSameUpTo waiting.old.at (F.bytes self.old.file) (F.bytes self.new.file)) }
         ensures sure { OnOk result (self.new.state.is_lost ≡ self.old.state.is_lost) }
         ensures lost { OnErr result (self.new.state.is_lost ≡ true) }
         ensures same { (self.new.name ≡ self.old.name) × (self.new.can_write ≡ self.old.can_write) × (self.new.state.is_kept ≡ self.old.state.is_kept) }
@@ -99,30 +109,53 @@ impl<F: Disk + Drop> Held<F> {
         if waiting.is_empty() {
             return Ok(());
         }
-        let outcome = self.put(waiting.at, &waiting.bytes);
+        let outcome = self.put(waiting.at, &waiting.bytes, waiting.piece);
         waiting.clear();
         outcome
     }
 
-    /// Writes all the bytes at that place, or lets them wait. Where the file is shorter, zeros stand between.
-    pub fn write(&mut self, waiting: &mut Waiting, at: u64, bytes: &[u8]) -> io::Result<()>
+    /// Writes all the bytes at that place, in pieces of that length, or lets them wait. Where the file is shorter, zeros stand between.
+    fn write(&mut self, waiting: &mut Waiting, at: u64, bytes: &[u8], piece: u64) -> io::Result<()>
         requires mine { IsFreeFor waiting.old.name self.old.name }
+        requires some { 0 < piece }
+        requires whole { IsWhole piece (at + length bytes.now) }
         ensures mine { IsFreeFor waiting.new.name self.new.name }
         ensures lost { self.old.state.is_lost ≡ true → IsErr result }
         ensures bytes { IsTrue F.tells → OnOk result (
             with_waiting waiting.new self.new.name (F.bytes self.new.file)
             ≡ put_at (with_waiting waiting.old self.old.name (F.bytes self.old.file)) at bytes.now) }
+        ensures whole { IsTrue F.tells → AreOf piece waiting.old.name waiting.old.piece → IsWhole piece (length (F.bytes self.old.file)) → IsWhole piece (length (F.bytes self.new.file)) }
+        ensures pieces { AreOf piece waiting.old.name waiting.old.piece → AreOf piece waiting.new.name waiting.new.piece }
         ensures same { (self.new.name ≡ self.old.name) × (self.new.can_write ≡ self.old.can_write) × (self.new.state.is_kept ≡ self.old.state.is_kept) }
     {
         self.state.check()?;
-        if !waiting.takes(at) {
+        if !waiting.takes(at, piece) {
             self.flush(waiting)?;
         }
-        if bytes.len() < PART && waiting.add(&self.name, at, bytes).is_ok() {
+        if bytes.len() < PART && waiting.add(&self.name, at, bytes, piece).is_ok() {
             return Ok(());
         }
         self.flush(waiting)?;
-        self.put(at, bytes)
+        self.put(at, bytes, piece)
+    }
+
+    /// Writes a page at place `index`, counted in pages of its length, or lets it wait. Where the file is shorter, zeros stand between.
+    ///
+    /// A file that is a whole number of such pages long stays so, also where this fails.
+    pub fn write_page(&mut self, waiting: &mut Waiting, index: u32, page: &[u8]) -> io::Result<()>
+        requires mine { IsFreeFor waiting.old.name self.old.name }
+        requires some { 0 < length page.now }
+        requires short { length page.now ≤ 32768 }
+        ensures mine { IsFreeFor waiting.new.name self.new.name }
+        ensures lost { self.old.state.is_lost ≡ true → IsErr result }
+        ensures bytes { IsTrue F.tells → OnOk result (
+            with_waiting waiting.new self.new.name (F.bytes self.new.file)
+            ≡ put_at (with_waiting waiting.old self.old.name (F.bytes self.old.file)) (index * length page.now) page.now) }
+        ensures whole { IsTrue F.tells → AreOf (length page.now) waiting.old.name waiting.old.piece → IsWhole (length page.now) (length (F.bytes self.old.file)) → IsWhole (length page.now) (length (F.bytes self.new.file)) }
+        ensures pieces { AreOf (length page.now) waiting.old.name waiting.old.piece → AreOf (length page.now) waiting.new.name waiting.new.piece }
+        ensures same { (self.new.name ≡ self.old.name) × (self.new.can_write ≡ self.old.can_write) × (self.new.state.is_kept ≡ self.old.state.is_kept) }
+    {
+        self.write(waiting, place_of(index, page), page, page.len() as u64)
     }
 
     /// Adds the bytes at its end.
@@ -136,7 +169,7 @@ impl<F: Disk + Drop> Held<F> {
         ensures same { (self.new.name ≡ self.old.name) × (self.new.can_write ≡ self.old.can_write) × (self.new.state.is_kept ≡ self.old.state.is_kept) }
     {
         let at = self.length(waiting)?;
-        self.write(waiting, at, bytes)
+        self.write(waiting, at, bytes, 1)
     }
 
     /// Fetches more than so many bytes from `at` on, where the file is read in sequence.
@@ -178,6 +211,7 @@ impl<F: Disk + Drop> Held<F> {
         into: &mut [u8],
     ) -> io::Result<bool>
         ensures lost { self.old.state.is_lost ≡ true → IsErr result }
+        ensures whole { IsTrue F.tells → (page : ℕ) → AreOf page waiting.old.name waiting.old.piece → IsWhole page (length (F.bytes self.old.file)) → IsWhole page (length (F.bytes self.new.file)) }
         ensures answer { IsTrue F.tells → IfOk result (ReadsPage (Some (with_waiting waiting.old self.old.name (F.bytes self.old.file))) at into.old into.new) }
     {
         self.settle(waiting)?;
@@ -197,6 +231,7 @@ impl<F: Disk + Drop> Held<F> {
     ) -> io::Result<usize>
         ensures lost { self.old.state.is_lost ≡ true → IsErr result }
         ensures room { IfOk result (λ count. count ≤ length into.old) }
+        ensures whole { IsTrue F.tells → (page : ℕ) → AreOf page waiting.old.name waiting.old.piece → IsWhole page (length (F.bytes self.old.file)) → IsWhole page (length (F.bytes self.new.file)) }
         ensures answer { IsTrue F.tells → IfOk result (ReadsBytes (Some (with_waiting waiting.old self.old.name (F.bytes self.old.file))) at into.old into.new) }
     {
         self.settle(waiting)?;
@@ -211,6 +246,7 @@ impl<F: Disk + Drop> Held<F> {
         ensures lost { self.old.state.is_lost ≡ true → IsErr result }
         ensures sure { OnOk result (self.new.state.is_lost ≡ false) }
         ensures bytes { IsTrue F.tells → OnOk result (F.bytes self.new.file ≡ with_waiting waiting.old self.old.name (F.bytes self.old.file)) }
+        ensures whole { IsTrue F.tells → (page : ℕ) → AreOf page waiting.old.name waiting.old.piece → IsWhole page (length (F.bytes self.old.file)) → IsWhole page (length (F.bytes self.new.file)) }
         ensures same { (self.new.name ≡ self.old.name) × (self.new.can_write ≡ self.old.can_write) × (self.new.state.is_kept ≡ self.old.state.is_kept) }
     {
         self.state.check()?;
@@ -226,6 +262,7 @@ impl<F: Disk + Drop> Held<F> {
         requires mine { IsFreeFor waiting.old.name self.old.name }
         ensures none { waiting.new.name ≡ None }
         ensures bytes { IsTrue F.tells → OnOk result (F.bytes self.new.file ≡ []) }
+        ensures whole { IsTrue F.tells → (page : ℕ) → IsWhole page (length (F.bytes self.old.file)) → IsWhole page (length (F.bytes self.new.file)) }
         ensures fresh { OnOk result ((self.new.state.is_dirty ≡ true) × (self.new.state.is_lost ≡ false)) }
         ensures lost { OnErr result (self.new.state.is_lost ≡ true) }
         ensures kept { self.new.state.is_kept ≡ false }
@@ -233,7 +270,7 @@ impl<F: Disk + Drop> Held<F> {
     {
         waiting.clear();
         self.ahead.forget();
-        let outcome = self.file.cut();
+        let outcome = self.file.resize(0);
         self.state.emptied(outcome.is_ok());
         outcome
     }
@@ -281,4 +318,12 @@ impl<F: Disk + Drop> Held<F> {
         self.state.folder_synced(outcome.is_ok());
         outcome
     }
+}
+
+/// Where page `index` begins, counted in pages of the length of `page`.
+pub fn place_of(index: u32, page: &[u8]) -> u64
+    requires { length page.now ≤ 32768 }
+    ensures { result ≡ index * length page.now }
+{
+    u64::from(index) * page.len() as u64
 }

@@ -1,12 +1,14 @@
 // The host.
-ghost use Rattle.std.specs.Prelude.{◌≡◌, ◌*◌, ◌≤◌, false, length, None, Ok, IfOk};
+ghost use Rattle.std.specs.Prelude.{◌≡◌, ◌⊎◌, [], false, take, None, Ok, IfOk};
 ghost use Rattle.nb_host.specs.Causes.{Rose, CountsFault};
 ghost use Rattle.nb_file.specs.Nothing.{silence, silence_timely, untold};
 
 use crate::disk::Disk;
 use crate::failure::Failure;
 use crate::guid::draw;
-use crate::progress::Progress;
+use crate::held::place_of;
+use crate::progress::{Moved, Progress, Shown};
+use crate::said::Said;
 use crate::table::Table;
 use nb_host::{Host, HostFault, Name};
 use std::alloc::Global;
@@ -25,7 +27,8 @@ where
     rt: R,
     files: Table<R>,
     faults: u64,
-    progress: Progress,
+    shown: Option<Shown>,
+    said: Said,
 }
 
 impl<R: Files + Drop> Model for FileHost<R>
@@ -36,7 +39,7 @@ where
 
     ghost Value = { Outside };
 
-    ghost view = { λ host. record { faults = host.faults; waiting = host.files.waiting.name } };
+    ghost view = { λ host. record { faults = host.faults; waiting = host.files.waiting.name; said = host.said } };
 }
 
 impl<R: Files + Print + Eprint + Clock + Drop> FileHost<R>
@@ -45,34 +48,85 @@ where
 {
     /// A host with no file open and no fault.
     pub fn new(rt: R, alloc: Global) -> FileHost<R>
-        ensures { result ≡ record { faults = 0; waiting = None } }
+        ensures { result ≡ record { faults = 0; waiting = None; said = [] } }
     {
         FileHost {
             rt,
             files: Table::new(alloc),
             faults: 0,
-            progress: Progress::none(),
+            shown: None,
+            said: Said::new(alloc),
         }
     }
 
-    /// From now on it is said on the standard error, at most once a second, which file is written and how long it is.
-    pub fn show_progress(&mut self)
+    /// From now on it is shown on the standard error how far the run has come.
+    pub fn show_progress(&mut self, progress: Progress)
         ensures { self.new ≡ self.old }
     {
-        self.progress.start(&self.rt);
+        self.shown = Some(Shown::new(&self.rt, progress));
     }
 
-    /// Says how long the file is that is written, where that is due.
-    fn note_progress(&mut self, name: &Name)
+    /// Shows it no longer, and takes away the line that stands on the terminal, if one does.
+    pub fn end_progress(&mut self)
         ensures { self.new ≡ self.old }
     {
-        if !self.progress.is_due(&self.rt) {
-            return;
+        self.clear_line();
+        self.shown = None;
+    }
+
+    fn clear_line(&mut self)
+        ensures { self.new ≡ self.old }
+    {
+        if let Some(shown) = &mut self.shown {
+            shown.clear(&self.rt);
         }
-        if let Some(len) = self.files.known_length(name) {
-            // Nothing is left to do where the standard error fails.
-            let _ = eprintln!(self.rt; "nehumiro: {name}: {} MiB", len / 1_048_576);
+    }
+
+    /// Counts bytes of a file that were moved from that place on, where it is shown how far the run has come.
+    fn note(&mut self, moved: Moved, name: &Name, at: u64, count: usize)
+        ensures { self.new ≡ self.old }
+    {
+        if let Some(shown) = &mut self.shown {
+            let count = count as u64;
+            shown.note(&self.rt, moved, name, at.saturating_add(count), count);
         }
+    }
+
+    /// The same of bytes that were added at its end.
+    fn note_append(&mut self, name: &Name, count: usize)
+        ensures { self.new ≡ self.old }
+    {
+        if self.shown.is_some() {
+            let end = self.files.known_length(name).unwrap_or(0);
+            self.note(
+                Moved::Written,
+                name,
+                end.saturating_sub(count as u64),
+                count,
+            );
+        }
+    }
+
+    /// From now on the file of that name, and its difference file, are held alone from their first use of any kind on, as by a run that
+    /// changes them. Where there is no right to write one, it is opened to read and shared.
+    pub fn hold_alone(&mut self, name: Name)
+        ensures { self.new ≡ self.old }
+    {
+        self.files.alone = Some(name);
+    }
+
+    /// From now on a lock that another program has is tried again until so many seconds have passed. At first it is not.
+    pub fn wait_for_locks(&mut self, seconds: u64)
+        ensures { self.new ≡ self.old }
+    {
+        self.files.patience = seconds;
+    }
+
+    /// The bytes that were said last, also where that failed: the first 4,096 of them, and none where there was no memory for them.
+    pub fn last_said(&self) -> &[u8]
+        ensures { result.now ≡ self.now.said }
+    {
+        self.said.as_slice()
     }
 
     /// How many calls have failed. At the last value of a `u64` it stands still.
@@ -96,11 +150,13 @@ where
     fn answer<T: Drop>(&mut self, outcome: Result<T, Failure>) -> Result<T, HostFault>
         ensures value { IfOk result (λ value. outcome ≡ Ok value) }
         ensures waiting { self.new.waiting ≡ self.old.waiting }
+        ensures said { self.new.said ≡ self.old.said }
         ensures cause { CountsFault result self.old.faults self.new.faults }
     {
         match outcome {
             Ok(value) => Ok(value),
             Err(failure) => {
+                self.clear_line();
                 // Nothing is left to do where the standard error fails too.
                 let _ = eprintln!(self.rt; "nehumiro: {failure}");
                 self.faults = self.faults.saturating_add(1);
@@ -112,8 +168,11 @@ where
     /// Writes what waits, and then the reply: no write that has its reply lies in memory.
     fn reply(&mut self, bytes: &[u8]) -> Result<(), Failure>
         ensures none { self.new.waiting ≡ None }
+        ensures said { (self.new.said ≡ take 4096 bytes.now) ⊎ (self.new.said ≡ []) }
         ensures faults { self.new.faults ≡ self.old.faults }
     {
+        self.said.keep(bytes);
+        self.clear_line();
         self.files.flush()?;
         // The runtime has no buffer: each byte was given to the system before this answers Ok.
         match self.rt.write_all(bytes) {
@@ -121,14 +180,6 @@ where
             Err(error) => Err(Failure::Of("standard output", error)),
         }
     }
-}
-
-/// Where page `index` begins, counted in pages of the length of `page`.
-fn place_of(index: u32, page: &[u8]) -> u64
-    requires { length page.now ≤ 32768 }
-    ensures { result ≡ index * length page.now }
-{
-    u64::from(index) * page.len() as u64
 }
 
 impl<R: Files + Print + Eprint + Clock + Drop> Host for FileHost<R>
@@ -161,28 +212,29 @@ where
     }
 
     fn read_page(&mut self, name: &Name, index: u32, into: &mut [u8]) -> Result<bool, HostFault> {
-        let outcome = self
-            .files
-            .read_whole(&self.rt, name, place_of(index, into), into);
+        let at = place_of(index, into);
+        let outcome = self.files.read_whole(&self.rt, name, at, into);
+        self.note(Moved::Read, name, at, into.len());
         self.answer(outcome)
     }
 
     fn write_page(&mut self, name: &Name, index: u32, page: &[u8]) -> Result<(), HostFault> {
-        let outcome = self
-            .files
-            .write(&self.rt, name, place_of(index, page), page);
-        self.note_progress(name);
+        let outcome = self.files.write_page(&self.rt, name, index, page);
+        self.note(Moved::Written, name, place_of(index, page), page.len());
         self.answer(outcome)
     }
 
     fn read_at(&mut self, name: &Name, at: u64, into: &mut [u8]) -> Result<usize, HostFault> {
         let outcome = self.files.read_some(&self.rt, name, at, into);
+        if let Ok(count) = &outcome {
+            self.note(Moved::Read, name, at, *count);
+        }
         self.answer(outcome)
     }
 
     fn append(&mut self, name: &Name, bytes: &[u8]) -> Result<(), HostFault> {
         let outcome = self.files.append(&self.rt, name, bytes);
-        self.note_progress(name);
+        self.note_append(name, bytes.len());
         self.answer(outcome)
     }
 

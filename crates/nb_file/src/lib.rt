@@ -4,10 +4,11 @@
 //! output, `/dev/urandom` and the clock. It tells nothing of what its files hold. A layer above may rely on this: each call
 //! is safe and ends, a call fails only where the count of faults rises, and a read never answers more than the buffer holds.
 //!
-//! Inside, from below: `disk` is an open file as the system gives it, or anything that tells what it holds; `state` what is
-//! known of it; `waiting` what waits to be written, and `ahead` what was read ahead; `held` one file of all these, whose
-//! bytes are proved as far as its disk does what it says; `table` the open files, and the order of their writes; `host` the
-//! trait's calls, the count of faults, and what is said of each; `progress` when it is said how far a file is written.
+//! Inside, from below: `disk` is an open file as the system gives it, or anything that tells what it holds; `growth` how it grows by
+//! whole pages; `state` what is known of it; `waiting` what waits to be written, and `ahead` what was read ahead; `held` one file of all
+//! these, whose bytes are proved as far as its disk does what it says; `lock` how it is opened and locked; `table` the open files, and
+//! the order of their writes; `host` the trait's calls, the count of faults, and what is said of each; `progress` what is shown while
+//! a run takes long; `said` what was said last.
 //! `docs/GATE.md` lists what only tests can see.
 #![tactic(auto)]
 
@@ -15,13 +16,17 @@ mod ahead;
 mod disk;
 mod failure;
 mod folder;
+mod growth;
 mod guid;
 mod held;
 mod host;
+mod lock;
 mod progress;
+mod said;
 mod state;
 mod table;
 mod waiting;
 
 pub use disk::{Disk, Sharing};
 pub use host::FileHost;
+pub use progress::{Counted, Manner, Progress};

@@ -1,20 +1,22 @@
 // The open files.
-ghost use Rattle.std.specs.Prelude.{◌≡◌, ◌+◌, ◌<◌, ◌≤◌, false, length, None, IfOk, IfSome, OnOk, MatchOption, vec_len};
-ghost use Rattle.nb_file.specs.Gathered.{IsFreeFor};
+ghost use Rattle.std.specs.Prelude.{◌≡◌, ◌≢◌, ◌+◌, ◌++◌, ◌<◌, ◌≤◌, ℕ, List, false, IsTrue, length, None, IfOk, IfSome, OnOk, MatchOption, vec_len};
+ghost use Rattle.nb_host.specs.Names.{is_name, delta_suffix};
+ghost use Rattle.nb_file.specs.Gathered.{IsFreeFor, is_owner};
 ghost use Rattle.nb_file.specs.Named.{IsNamedAt};
 
-use crate::disk::{Disk, Sharing};
+use crate::disk::Disk;
 use crate::failure::{Call, Failure, named};
-use crate::folder::{look_up, sync_folder};
+use crate::folder::{look_up, main_of, sync_folder};
 use crate::held::Held;
+use crate::lock::open_locked;
 use crate::waiting::Waiting;
 use nb_host::Name;
 use std::alloc::Global;
-use std::fs::{self, OpenFile, OpenOptions};
-use std::io::{self, ErrorKind};
+use std::fs::{self, OpenOptions};
+use std::io::ErrorKind;
 use std::os::fd::AsRawFd;
 use std::os::unix::fs::OpenOptionsExt;
-use std::rt::Files;
+use std::rt::{Clock, Files};
 
 /// How many files are open at most.
 const MOST_OPEN: usize = 64;
@@ -22,8 +24,9 @@ const MOST_OPEN: usize = 64;
 /// The files that were named, in the order in which they were opened, and what waits to be written to one of them. They
 /// stay open.
 ///
-/// A file that is only read is opened to read and locked with other readers. Before it is written, emptied, synced or
-/// removed it is opened to write and locked against everyone, by whatever name they have it.
+/// A file that is only read or synced is opened to read and locked with other readers. Before it is written, emptied or removed it
+/// is opened to write and locked against everyone, by whatever name they have it. The file that is held alone is so from its first
+/// use on, and its difference file too.
 #[derive(Drop)]
 pub struct Table<R: Files + Drop>
 where
@@ -32,10 +35,14 @@ where
     alloc: Global,
     files: Vec<Held<R::File>>,
     waiting: Waiting,
+    /// The file that is held alone from its first use of any kind on.
+    pub alone: Option<Name>,
+    /// For how many seconds a lock that another program has is tried again.
+    pub patience: u64,
     ghost few: { vec_len files ≤ 64 },
 }
 
-impl<R: Files + Drop> Table<R>
+impl<R: Files + Clock + Drop> Table<R>
 where
     R::File: Disk + AsRawFd,
 {
@@ -47,6 +54,8 @@ where
             alloc,
             files: Vec::new(alloc),
             waiting: Waiting::new(alloc),
+            alone: None,
+            patience: 0,
         }
     }
 
@@ -96,7 +105,8 @@ where
         self.flush()
     }
 
-    /// The open file of this name. Where it is not open yet, it is opened to read, if there is one.
+    /// The open file of this name. Where it is not open yet, it is opened to read, if there is one, and that which is held alone
+    /// to write.
     fn find(&mut self, rt: &R, name: &Name) -> Result<Option<usize>, Failure>
         ensures place { IfOk result (λ found. IfSome found (λ i. i < vec_len self.new.files)) }
         ensures name { IfOk result (λ found. IfSome found (IsNamedAt self.new.files.items (λ held. held.name) name.now)) }
@@ -105,6 +115,46 @@ where
         if let Some(i) = self.index_of(name) {
             return Ok(Some(i));
         }
+        if self.is_alone(name) {
+            return self.find_alone(rt, name);
+        }
+        self.find_to_read(rt, name)
+    }
+
+    /// Whether it is the file that is held alone, or its difference file.
+    fn is_alone(&self, name: &Name) -> bool
+        ensures main { ((main : List ℕ) → name.now ≢ main ++ delta_suffix) → result ≡ is_owner self.now.alone name.now }
+        ensures delta { (main : List ℕ) → IsTrue (is_name main) → name.now ≡ main ++ delta_suffix → result ≡ is_owner self.now.alone main }
+    {
+        let Some(alone) = &self.alone else {
+            return false;
+        };
+        match main_of(name) {
+            Some(main) => main == *alone,
+            None => name == alone,
+        }
+    }
+
+    /// The file that is held alone: open to write, unless it can only be read.
+    fn find_alone(&mut self, rt: &R, name: &Name) -> Result<Option<usize>, Failure>
+        ensures place { IfOk result (λ found. IfSome found (λ i. i < vec_len self.new.files)) }
+        ensures name { IfOk result (λ found. IfSome found (IsNamedAt self.new.files.items (λ held. held.name) name.now)) }
+        ensures none { self.old.waiting.name ≡ None → self.new.waiting.name ≡ None }
+    {
+        match self.claim(rt, name) {
+            Err(Failure::OnFile(_, Call::Open, error)) if is_read_only(error.kind()) => {
+                self.find_to_read(rt, name)
+            }
+            answer => answer,
+        }
+    }
+
+    /// The file of this name, open to read and shared with other readers, if there is one.
+    fn find_to_read(&mut self, rt: &R, name: &Name) -> Result<Option<usize>, Failure>
+        ensures place { IfOk result (λ found. IfSome found (λ i. i < vec_len self.new.files)) }
+        ensures name { IfOk result (λ found. IfSome found (IsNamedAt self.new.files.items (λ held. held.name) name.now)) }
+        ensures none { self.old.waiting.name ≡ None → self.new.waiting.name ≡ None }
+    {
         if named(look_up(rt, name), name, Call::Open)?.is_none() {
             return Ok(None);
         }
@@ -142,7 +192,25 @@ where
     {
         match self.claim(rt, name)? {
             Some(i) => Ok(i),
-            None => self.create(rt, name),
+            None => {
+                self.claim_main(rt, name)?;
+                self.create(rt, name)
+            }
+        }
+    }
+
+    /// Claims the main file, where the name is that of a difference file: who may not write the one would leave the other in the way of
+    /// those who may. What waits is written before.
+    fn claim_main(&mut self, rt: &R, name: &Name) -> Result<(), Failure>
+        ensures free { IsFreeFor self.old.waiting.name name.now → IsFreeFor self.new.waiting.name name.now }
+    {
+        let Some(main) = main_of(name) else {
+            return Ok(());
+        };
+        self.flush()?;
+        match self.claim(rt, &main)? {
+            Some(_) => Ok(()),
+            None => named(Err(ErrorKind::NotFound.into()), &main, Call::Open),
         }
     }
 
@@ -163,17 +231,10 @@ where
         ensures none { self.new.waiting.name ≡ None }
     {
         self.make_room()?;
-        let file = named(open_by(rt, name, how), name, Call::Open)?;
-        // A lock of our own on the same file would keep us out.
+        // A lock of our own on the same file would keep us out. Once it is given up, and until the other is taken, another program may
+        // take it and change the file. That is why the file that a run changes is held alone from its first use on.
         self.files.retain(|held| held.name != *name);
-        let sharing = if how.asks_write() {
-            Sharing::NoOne
-        } else {
-            Sharing::Readers
-        };
-        if !named(file.lock(sharing), name, Call::Lock)? {
-            return Err(Failure::InUse(name.copied()));
-        }
+        let file = open_locked(rt, name, how, self.patience)?;
         self.add(name, file, how)
     }
 
@@ -258,8 +319,9 @@ where
         }
     }
 
-    /// Leaves an empty file of that name.
+    /// Leaves an empty file of that name. A difference file is made only beside a main file that this process may write.
     pub fn make(&mut self, rt: &R, name: &Name) -> Result<(), Failure> {
+        self.claim_main(rt, name)?;
         self.turn_to(name)?;
         match self.claim(rt, name)? {
             Some(i) => {
@@ -321,12 +383,20 @@ where
         }
     }
 
-    pub fn write(&mut self, rt: &R, name: &Name, at: u64, bytes: &[u8]) -> Result<(), Failure>
+    pub fn write_page(
+        &mut self,
+        rt: &R,
+        name: &Name,
+        index: u32,
+        page: &[u8],
+    ) -> Result<(), Failure>
+        requires some { 0 < length page.now }
+        requires short { length page.now ≤ 32768 }
         ensures { OnOk result (IsFreeFor self.new.waiting.name name.now) }
     {
         self.turn_to(name)?;
         let i = self.claim_or_make(rt, name)?;
-        let outcome = self.files[i].write(&mut self.waiting, at, bytes);
+        let outcome = self.files[i].write_page(&mut self.waiting, index, page);
         named(outcome, name, Call::Write)
     }
 
@@ -339,12 +409,13 @@ where
         named(outcome, name, Call::Write)
     }
 
-    /// Keeps the file for good, and writes before what waits. Where there is none, keeps for good that there is none.
+    /// Keeps the file for good, and writes before what waits. Where there is none, keeps for good that there is none. It needs no right
+    /// to write the file, and keeps no reader away.
     pub fn sync(&mut self, rt: &R, name: &Name) -> Result<(), Failure>
         ensures { OnOk result (self.new.waiting.name ≡ None) }
     {
         self.flush()?; // What waits is part of what is kept.
-        match self.find_to_sync(rt, name)? {
+        match self.find(rt, name)? {
             Some(i) => {
                 let outcome = self.files[i].sync(rt);
                 named(outcome, name, Call::Sync)
@@ -352,33 +423,6 @@ where
             None => named(sync_folder(rt, name), name, Call::Sync),
         }
     }
-
-    /// The file that is to be synced: open to write, unless it can only be read.
-    fn find_to_sync(&mut self, rt: &R, name: &Name) -> Result<Option<usize>, Failure>
-        ensures place { IfOk result (λ found. IfSome found (λ i. i < vec_len self.new.files)) }
-        ensures name { IfOk result (λ found. IfSome found (IsNamedAt self.new.files.items (λ held. held.name) name.now)) }
-        ensures none { self.old.waiting.name ≡ None → self.new.waiting.name ≡ None }
-    {
-        match self.claim(rt, name) {
-            Err(Failure::OnFile(_, Call::Open, error)) if is_read_only(error.kind()) => {
-                self.find(rt, name)
-            }
-            answer => answer,
-        }
-    }
-}
-
-// Opens the file. Where a standard stream was closed the system gives its number to the next file, and what is meant for
-// the stream would land in the file.
-fn open_by<R: Files>(rt: &R, name: &Name, how: &OpenOptions) -> io::Result<R::File>
-where
-    R::File: AsRawFd,
-{
-    let file = how.open(rt, name.as_str())?;
-    if file.as_raw_fd() <= 2 {
-        return file.try_clone();
-    }
-    Ok(file)
 }
 
 fn is_read_only(kind: ErrorKind) -> bool {

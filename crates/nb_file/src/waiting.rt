@@ -1,8 +1,8 @@
 // Bytes that wait to be written: adjacent writes are gathered and go out together.
-ghost use Rattle.std.specs.Prelude.{◌≡◌, ◌≢◌, ◌+◌, ℕ, List, length, Some, None, is_none, true, IfSome, OnOk, OnErr};
+ghost use Rattle.std.specs.Prelude.{◌≡◌, ◌≢◌, ◌+◌, ◌<◌, ℕ, List, length, Some, None, is_none, true, IfSome, OnOk, OnErr};
 ghost use Rattle.nb_host.specs.Files.{put_at};
-ghost use Rattle.nb_file.specs.Contents.{with_waiting};
-ghost use Rattle.nb_file.specs.Gathered.{IsNext, IsFreeFor, is_owner};
+ghost use Rattle.nb_file.specs.Gathered.{seen, IsNext, IsFreeFor, is_owner};
+ghost use Rattle.nb_file.specs.Whole.{IsWhole, AreOf};
 
 use nb_host::Name;
 use std::alloc::{AllocError, Global};
@@ -18,6 +18,10 @@ pub struct Waiting {
     pub name: Option<Name>,
     pub at: u64,
     pub bytes: Vec<u8>,
+    /// The length of the pieces that they are: of pages, or 1 where they are appended.
+    pub piece: u64,
+    ghost some: { 0 < piece },
+    ghost whole: { name ≢ None → IsWhole piece (at + length bytes.items) },
 }
 
 impl Waiting {
@@ -28,6 +32,7 @@ impl Waiting {
             name: None,
             at: 0,
             bytes: Vec::new(alloc),
+            piece: 1,
         }
     }
 
@@ -54,41 +59,50 @@ impl Waiting {
         self.at.checked_add(self.bytes.len() as u64)
     }
 
-    /// Whether bytes at that place follow what waits, in the same part of the file.
-    pub fn takes(&self, at: u64) -> bool
-        ensures { result ≡ true → IsNext self.now.name self.now.at (length self.now.bytes.items) at }
+    /// Whether pieces of that length at that place follow what waits, in the same part of the file.
+    pub fn takes(&self, at: u64, piece: u64) -> bool
+        ensures next { result ≡ true → IsNext self.now.name self.now.at (length self.now.bytes.items) at }
+        ensures pieces { result ≡ true → AreOf piece self.now.name self.now.piece }
     {
         if self.is_empty() {
             return true;
         }
-        at / PART as u64 == self.at / PART as u64 && self.end() == Some(at)
+        piece == self.piece && at / PART as u64 == self.at / PART as u64 && self.end() == Some(at)
     }
 
     /// Lets them wait, behind what waits already. Where memory runs out nothing changes.
-    pub fn add(&mut self, name: &Name, at: u64, bytes: &[u8]) -> Result<(), AllocError>
+    pub fn add(&mut self, name: &Name, at: u64, bytes: &[u8], piece: u64) -> Result<(), AllocError>
         requires next { IsNext self.old.name self.old.at (length self.old.bytes.items) at }
         requires mine { IsFreeFor self.old.name name.now }
-        ensures seen { OnOk result ((file : List ℕ) → with_waiting self.new name.now file ≡ put_at (with_waiting self.old name.now file) at bytes.now) }
+        requires pieces { AreOf piece self.old.name self.old.piece }
+        requires some { 0 < piece }
+        requires whole { IsWhole piece (at + length bytes.now) }
+        ensures seen { OnOk result ((file : List ℕ) → seen self.new.name self.new.at self.new.bytes.items name.now file ≡ put_at (seen self.old.name self.old.at self.old.bytes.items name.now file) at bytes.now) }
         ensures mine { IsFreeFor self.new.name name.now }
+        ensures pieces { AreOf piece self.new.name self.new.piece }
         ensures waits { OnOk result (self.new.name ≢ None) }
-        ensures fails { OnErr result ((file : List ℕ) → with_waiting self.new name.now file ≡ with_waiting self.old name.now file) }
+        ensures fails { OnErr result ((file : List ℕ) → seen self.new.name self.new.at self.new.bytes.items name.now file ≡ seen self.old.name self.old.at self.old.bytes.items name.now file) }
     {
         if self.is_empty() {
-            self.start(name, at, bytes)
+            self.start(name, at, bytes, piece)
         } else {
             self.bytes.extend_from_slice(bytes)
         }
     }
 
-    fn start(&mut self, name: &Name, at: u64, bytes: &[u8]) -> Result<(), AllocError>
-        requires { self.old.name ≡ None }
+    fn start(&mut self, name: &Name, at: u64, bytes: &[u8], piece: u64) -> Result<(), AllocError>
+        requires none { self.old.name ≡ None }
+        requires some { 0 < piece }
+        requires whole { IsWhole piece (at + length bytes.now) }
         ensures starts { OnOk result ((self.new.name ≡ Some name.now) × (self.new.at ≡ at) × (self.new.bytes.items ≡ bytes.now)) }
+        ensures pieces { OnOk result (self.new.piece ≡ piece) }
         ensures fails { OnErr result (self.new.name ≡ None) }
     {
         self.bytes.clear();
         self.bytes.extend_from_slice(bytes)?;
         self.name = Some(name.copied());
         self.at = at;
+        self.piece = piece;
         Ok(())
     }
 

@@ -1,7 +1,7 @@
-ghost use Rattle.std.specs.Prelude.{◌≡◌, ◌*◌, ◌≤◌, ℕ, Bool, IsTrue, List, [], length, Some, None, IfOk, option_map};
+ghost use Rattle.std.specs.Prelude.{◌≡◌, ◌≢◌, ◌*◌, ◌≤◌, ℕ, Bool, IsTrue, List, [], length, Some, None, IfOk, option_map};
 ghost use Rattle.nb_host.specs.Files.{is_page_size};
 ghost use Rattle.nb_host.specs.World.{World};
-ghost use Rattle.nb_host.specs.Crash.{Leaves};
+ghost use Rattle.nb_host.specs.Crash.{Leaves, Untouched};
 ghost use Rattle.nb_host.specs.Calls.{IsStill, Remakes, WritesPage, AppendsBytes, Syncs, ReadsPage, ReadsBytes, IsSilent, CountsRead, Says, GivesGuid, GivesTime};
 ghost use Rattle.nb_host.specs.Moments.{Passes, PassesSaying, IsTimely};
 ghost use Rattle.nb_host.specs.Causes.{CountsFault};
@@ -10,8 +10,9 @@ use crate::{HostFault, Name};
 
 /// Named files of pages, an output, GUIDs and a clock.
 ///
-/// Each call says five things, where they apply: `answer`, what it gives; `files`, what it does to the
-/// files and to what a stop leaves of them; `log`, what it says, reads and gives; `time`, which moments it
+/// Each call says six things, where they apply: `answer`, what it gives; `files`, what it does to the
+/// files and to what a stop leaves of them; `others`, that a stop still leaves of every other file all that it
+/// would have left before; `log`, what it says, reads and gives; `time`, which moments it
 /// adds at which a stop may come; and `cause`, that it fails only where the count of faults rises.
 ///
 /// What a call does to the files and the log it does also where it fails, as far as its words say.
@@ -36,6 +37,7 @@ pub trait Host {
     /// Leaves an empty file of that name. Old content is gone.
     fn make(&mut self, name: &Name) -> Result<(), HostFault>
         ensures files { Remakes tells result (world self.old) (world self.new) name.now (Some []) }
+        ensures others { Untouched (world self.new) (world self.old) (λ m. m ≢ name.now) }
         ensures log { IsSilent (world self.old) (world self.new) }
         ensures time { Passes (world self.old) (world self.new) }
         ensures cause { CountsFault result (faults self.old) (faults self.new) };
@@ -43,6 +45,7 @@ pub trait Host {
     /// Takes the file away. Where there is none it does nothing.
     fn remove(&mut self, name: &Name) -> Result<(), HostFault>
         ensures files { Remakes tells result (world self.old) (world self.new) name.now None }
+        ensures others { Untouched (world self.new) (world self.old) (λ m. m ≢ name.now) }
         ensures log { IsSilent (world self.old) (world self.new) }
         ensures time { Passes (world self.old) (world self.new) }
         ensures cause { CountsFault result (faults self.old) (faults self.new) };
@@ -61,6 +64,7 @@ pub trait Host {
     fn write_page(&mut self, name: &Name, index: u32, page: &[u8]) -> Result<(), HostFault>
         requires { IsTrue (is_page_size (length page.now)) }
         ensures files { WritesPage tells result (world self.old) (world self.new) name.now (index * length page.now) page.now }
+        ensures others { Untouched (world self.new) (world self.old) (λ m. m ≢ name.now) }
         ensures log { IsSilent (world self.old) (world self.new) }
         ensures time { Passes (world self.old) (world self.new) }
         ensures cause { CountsFault result (faults self.old) (faults self.new) };
@@ -77,6 +81,7 @@ pub trait Host {
     /// Adds bytes at the end of the file. Where there is none, it makes one.
     fn append(&mut self, name: &Name, bytes: &[u8]) -> Result<(), HostFault>
         ensures files { AppendsBytes tells result (world self.old) (world self.new) name.now bytes.now }
+        ensures others { Untouched (world self.new) (world self.old) (λ m. m ≢ name.now) }
         ensures log { IsSilent (world self.old) (world self.new) }
         ensures time { Passes (world self.old) (world self.new) }
         ensures cause { CountsFault result (faults self.old) (faults self.new) };
@@ -84,6 +89,7 @@ pub trait Host {
     /// Keeps the file for good: its content, and that it is there or isn't. It makes no file.
     fn sync(&mut self, name: &Name) -> Result<(), HostFault>
         ensures files { Syncs tells result (world self.old) (world self.new) name.now }
+        ensures others { Untouched (world self.new) (world self.old) (λ m. m ≢ name.now) }
         ensures log { IsSilent (world self.old) (world self.new) }
         ensures time { Passes (world self.old) (world self.new) }
         ensures cause { CountsFault result (faults self.old) (faults self.new) };

@@ -1,6 +1,6 @@
 // The calls on real files. What lies in the files is asked of the system, beside the host.
 use crate::sample::name_of;
-use nb_file::FileHost;
+use nb_file::{Counted, FileHost, Manner, Progress};
 use nb_host::{Host, HostFault, Name};
 use std::fs;
 use std::rt::Files;
@@ -49,13 +49,14 @@ fn is_long<R: Files>(rt: &R, name: &Name, len: u64) -> bool {
     len_in_system(rt, name.as_str()) == Some(len)
 }
 
-/// Whether pages are read as they were written, while they wait and when they are written.
-fn pages_are_read<R: Files, H: Host>(rt: &R, host: &mut H, name: &Name) -> [bool; 9] {
+/// Whether pages are read as they were written, while they wait and when they are written, and bytes behind them wait by themselves.
+fn pages_are_read<R: Files, H: Host>(rt: &R, host: &mut H, name: &Name) -> [bool; 10] {
     [
         host.make(name) == Ok(()),
         write_pages(host, name) == 200,
-        host.append(name, &[5; 3]) == Ok(()),
         is_long(rt, name, 0),
+        host.append(name, &[5; 3]) == Ok(()),
+        is_long(rt, name, 204_800),
         read_pages(host, name) == 200,
         is_long(rt, name, 204_803),
         host.size(name) == Ok(Some(204_803)),
@@ -124,12 +125,32 @@ fn file_is_held<H: Host>(host: &mut H, other: &mut H, name: &Name, same: &Name) 
     ]
 }
 
-/// Whether two may read a file, and neither may write it then.
-fn readers_share<H: Host>(host: &mut H, other: &mut H, name: &Name) -> [bool; 3] {
+/// Whether two may read and sync a file, and neither may write it then.
+fn readers_share<H: Host>(host: &mut H, other: &mut H, name: &Name) -> [bool; 5] {
     [
         host.size(name) == Ok(Some(2)),
         other.size(name) == Ok(Some(2)),
+        host.sync(name) == Ok(()),
+        other.sync(name) == Ok(()),
         host.append(name, &[3]) == Err(HostFault),
+    ]
+}
+
+/// Whether a file that is held alone is so from its first use on, and a difference file is made beside it and beside no other.
+fn holds_alone<H: Host>(
+    holder: &mut H,
+    other: &mut H,
+    name: &Name,
+    delta: &Name,
+    stray: &Name,
+) -> [bool; 6] {
+    [
+        holder.size(name) == Ok(Some(2)),
+        other.size(name) == Err(HostFault),
+        holder.make(delta) == Ok(()),
+        holder.remove(delta) == Ok(()),
+        holder.make(stray) == Err(HostFault),
+        other.size(stray) == Ok(None),
     ]
 }
 
@@ -158,6 +179,13 @@ fn files_are_written_and_read(rt: HostRuntime) -> Result<(), Fail> {
     let name = name_of("nb_file_test.db")?;
     let other = name_of("nb_file_test.level")?;
     let mut host = FileHost::new(rt, rt.alloc());
+    host.show_progress(Progress {
+        job: "testing",
+        name: name.copied(),
+        counted: Counted::All,
+        whole: Vec::new(rt.alloc()),
+        manner: Manner::Lines,
+    });
     let pages = pages_are_read(&rt, &mut host, &name);
     let end = (
         read_at_end(&mut host, &name),
@@ -165,15 +193,17 @@ fn files_are_written_and_read(rt: HostRuntime) -> Result<(), Fail> {
     );
     let order = writes_keep_their_order(&rt, &mut host, &name, &other);
     let system = system_answers(&mut host);
-    let is_gone = host.remove(&name);
+    let is_gone = (host.write_rest(), host.remove(&name));
+    host.end_progress();
+    assert_eq!(rt; host.last_said(), b"real files\n".as_slice());
     assert_eq!(rt;
         (pages, end, order, system, is_gone, host.fault_count()),
         (
-            [true; 9],
+            [true; 10],
             ((Ok(false), Ok(3), 5), Ok(0)),
             [true; 13],
             Ok([true; 3]),
-            Ok(()),
+            (Ok(()), Ok(())),
             0
         )
     );
@@ -186,6 +216,8 @@ fn files_are_locked(rt: HostRuntime) -> Result<(), Fail> {
     let same = name_of("./nb_file_lock.db")?;
     let folder = name_of(".")?;
     let below = name_of("nb_file_lock.db/x")?;
+    let delta = name_of("nb_file_lock.db.delta")?;
+    let stray = name_of("nb_file_none.db.delta")?;
     let mut host = FileHost::new(rt, rt.alloc());
     let mut writer = FileHost::new(rt, rt.alloc());
     let held = file_is_held(&mut host, &mut writer, &name, &same);
@@ -195,22 +227,30 @@ fn files_are_locked(rt: HostRuntime) -> Result<(), Fail> {
     let shared = readers_share(&mut host, &mut reader, &name);
     let read_faults = (host.fault_count(), reader.fault_count());
     drop(reader);
+    let mut holder = FileHost::new(rt, rt.alloc());
+    holder.hold_alone(name.copied());
+    host.wait_for_locks(1);
+    let alone = holds_alone(&mut holder, &mut host, &name, &delta, &stray);
+    let alone_faults = (holder.fault_count(), host.fault_count());
+    drop(holder);
     let is_gone = host.remove(&name);
     let none = folder_is_no_file(&mut host, &folder, &below);
     assert_eq!(rt;
         (
             (held, write_faults),
             (shared, read_faults),
+            (alone, alone_faults),
             is_gone,
             none,
             host.fault_count()
         ),
         (
             ([true; 14], (2, 3)),
-            ([true; 3], (3, 0)),
+            ([true; 5], (3, 0)),
+            ([true; 6], (1, 4)),
             Ok(()),
             [true; 4],
-            6
+            7
         )
     );
     Ok(())

@@ -4,3 +4,4 @@ pub mod RankLaws
 pub mod WaitLaws
 pub mod OutLaws
 pub mod SlotLaws
+pub mod SeenLaws

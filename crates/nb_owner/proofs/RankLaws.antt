@@ -15,14 +15,14 @@ use Rattle.nb_cache.specs.Held.{Slot, slot_of, rank_of, with_rank, dropped, None
 use Rattle.nb_owner.specs.Open.{Pages, AreOf, bare}
 
 -- a test of two numbers that differ
-other_false : (p q : ℕ) → p ≢ q → nat_eq p q ≡ false
+pub other_false : (p q : ℕ) → p ≢ q → nat_eq p q ≡ false
 other_false p q ne = elim (eqb_tells p q) [ inl w ↦ absurd (ne w.1) | inr w ↦ w.0 ]
 
 -- the first page and the others
-rank_here : (p : ℕ) (e : ℕ × Slot) (es : Pages) → nat_eq p e.0 ≡ true → rank_of (e ∷ es) p ≡ e.1.rank
+pub rank_here : (p : ℕ) (e : ℕ × Slot) (es : Pages) → nat_eq p e.0 ≡ true → rank_of (e ∷ es) p ≡ e.1.rank
 rank_here p e es is = rw is refl
 
-rank_next : (p : ℕ) (e : ℕ × Slot) (es : Pages) → nat_eq p e.0 ≡ false → rank_of (e ∷ es) p ≡ rank_of es p
+pub rank_next : (p : ℕ) (e : ℕ × Slot) (es : Pages) → nat_eq p e.0 ≡ false → rank_of (e ∷ es) p ≡ rank_of es p
 rank_next p e es is = rw is refl
 
 -- what holds of each place goes by the first page and the others

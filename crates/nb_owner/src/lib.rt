@@ -7,6 +7,7 @@
 #![tactic(auto)]
 
 mod beginnings;
+pub mod laws;
 mod merging;
 mod pair;
 mod states;

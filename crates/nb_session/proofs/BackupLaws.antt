@@ -1,38 +1,42 @@
 -- The turns of a backup.
-use Rattle.std.proofs.Common.{◌≡◌, inl, inr, ℕ, zero, suc, ◌-◌, ◌<◌, List, [], ◌∷◌, ◌++◌, length, replicate, refl, sym, ap, subst, ◌∙◌, arith}
-use Rattle.std.specs.Prelude.{Result, Ok, Err, IfErr, Some, None, true, false}
+use Rattle.std.proofs.Common.{◌≡◌, ◌⊎◌, inl, inr, ⊎_elim, ℕ, zero, suc, ◌-◌, ◌<◌, List, [], ◌∷◌, ◌++◌, length, replicate, refl, sym, ap, subst, ◌∙◌, arith}
+use Rattle.std.specs.Prelude.{Result, Ok, Err, IfErr, Some, None, true, false, Contains}
 use Rattle.std.specs.List.{slice_index_or}
 use Rattle.std.proofs.lemmas.List.{append-nil}
+use Rattle.nb_fields.specs.Free.{is_free_file}
+use Rattle.nb_host.specs.Files.{Files}
 use Rattle.nb_host.specs.Names.{is_delta}
 use Rattle.nb_host.specs.World.{World}
 use Rattle.nb_host.specs.Crash.{Leaves}
 use Rattle.nb_host.specs.declared.faults.Fault.{Fault}
 use Rattle.nb_host.specs.declared.faults.Fault.TheVariants.{Refused, Device, Memory}
 use Rattle.nb_host.specs.declared.refusals.Refusal.{Refusal}
-use Rattle.nb_change.specs.Changes.{Changes}
+use Rattle.nb_change.specs.Changes.{Changes, Remade}
 use Rattle.nb_change.proofs.ChangesLaws.{weakened}
 use Rattle.nb_change.proofs.ReachedLaws.{reached_first}
 use Rattle.nb_model.specs.declared.reply.Reply.{Reply}
 use Rattle.nb_model.specs.declared.reply.Reply.TheVariants.{Refused as RefusedBy, Level}
 use Rattle.nb_model.specs.declared.statement.Statement.{Statement}
 use Rattle.nb_model.specs.declared.statement.Statement.TheVariants.{Backup as BackupTo, BackupSince}
-use Rattle.nb_model.specs.Account.{Ask, Base}
-use Rattle.nb_model.specs.Backups.{close_backup}
+use Rattle.nb_model.specs.Account.{Base}
+use Rattle.nb_model.specs.Backups.{Room, room_in, close_backup}
 use Rattle.nb_model.specs.Causes.{is_free_entry}
 use Rattle.nb_model.specs.Gifts.{Foretells, WasGiven}
 use Rattle.nb_model.specs.Going.{IsAt, IsGoing}
-use Rattle.nb_model.specs.Image.{Image}
+use Rattle.nb_model.specs.Image.{Image, image_scn}
 use Rattle.nb_model.specs.Levels.{file_of, count_in}
 use Rattle.nb_model.specs.Making.{MadeFile, kept_of, making}
+use Rattle.nb_model.specs.Owner.{delta_name}
 use Rattle.nb_model.specs.Outcomes.{Turn, Begins, Copies, ClosesBackup, Ends, Backing, Given, Seen, Outcome, DoesNothing, next_guid, next_time, without_guid, without_time, passes}
 use Rattle.nb_model.specs.Run.{Now, Event, base_now, outcome, is_sync, event_of}
 use Rattle.nb_model.specs.Sound.{IsSoundImage}
 use Rattle.nb_model.specs.Strokes.{Stroke, base_after}
 use Rattle.nb_model.specs.Trail.{Trail, StandsIn, after_stroke}
 use Rattle.nb_model.specs.Turns.{first_turn, turn}
-use Rattle.nb_model.proofs.TurnCases.{MayStart, refused, started, IsFrom, backup_either, since_either}
+use Rattle.nb_model.proofs.StandsLaws.{no_main}
+use Rattle.nb_model.proofs.TurnCases.{started}
 use Rattle.nb_base.specs.Open.{OfFiles}
-use Rattle.nb_base.specs.Takes.{Strikes, after_strokes, IsNoRefusal}
+use Rattle.nb_base.specs.Takes.{after_strokes, IsNoRefusal}
 use Rattle.nb_state.specs.Open.{Held, IsOpen, name_of}
 use Rattle.nb_state.specs.Does.{Goes, WhereEnded}
 use Rattle.nb_state.specs.Turns.{GaveAtMost}
@@ -40,21 +44,25 @@ use Rattle.nb_state.specs.declared.turns.Progress.{Progress}
 use Rattle.nb_state.specs.declared.turns.Progress.TheVariants.{More, Finished}
 use Rattle.nb_state.proofs.MakesLaws.{after_base, where_ended, gave_none}
 use Rattle.nb_copy.specs.FileCopying.{file_count, file_next, file_written, whole_file}
-use Rattle.nb_copy.specs.Starting.{Backed, IsBackingUp, IsStarted, StartsBackup, KnowsFree}
+use Rattle.nb_copy.specs.Making.{IsEmpty, IsUnfinishedOr}
+use Rattle.nb_copy.specs.Starting.{Backed, IsBackingUp, IsStarted, OfStart, StartLeft, StartMakes, StartsBackup, KnowsFree}
+use Rattle.nb_copy.proofs.BlankLaws.{blank_empty, blank_free}
 use Rattle.nb_copy.specs.Closing.{OfBackup, GaveTimeAtMost, CloseLeft, CopiesOn, CloseDone, BackupTurn, BackupCounts}
 use Rattle.nb_session.specs.declared.task.Task.TheVariants.{Backup, End}
 use Rattle.nb_session.specs.Acts.{Says, Grows, Touched, TurnLeft, Acts, MayAct}
 use Rattle.nb_script.specs.Fits.{FitsAsked}
 use Rattle.nb_session.specs.Askers.{IsBackup, file_asked, copy_first, copy_rest}
 use Rattle.nb_session.specs.Ready.{IsReady, IsApart}
-use Rattle.nb_session.specs.Steps.{IsBehind}
-use Rattle.nb_session.proofs.ActLaws.{trail_plain, ended_map, strikes_left, kept_none, says_none, unsaid_unchanged, first_given, most_given, grows_at_most}
+use Rattle.nb_session.specs.Steps.{begun_in, left_making, touching, IsBehind}
+use Rattle.nb_session.proofs.ActLaws.{trail_plain, ended_map, kept_none, says_none, unsaid_unchanged, first_given, most_given, grows_at_most}
 use Rattle.nb_session.proofs.EventLaws.{unsaid}
-use Rattle.nb_session.proofs.CopyLaws.{file_left, each_one, kept_one, made_by, no_stroke, stalled_now}
+use Rattle.nb_session.proofs.CopyLaws.{apart_one, one_file, file_left, each_one, kept_one, made_by, no_stroke, stalled_now}
 use Rattle.nb_session.proofs.GiftLaws.{given_nothing, grows_none}
 use Rattle.nb_session.proofs.MakesLaws.{none_runs}
 use Rattle.nb_session.proofs.NameLaws.{given_plain}
+use Rattle.nb_session.proofs.PlayLaws.{no_file}
 use Rattle.nb_session.proofs.ReadyLaws.{not_own, apart_files}
+use Rattle.nb_session.proofs.TouchingLaws.{asked_either, plain_touch, copy_plain}
 use Rattle.nb_session.proofs.TurnLaws.{seen_now, outcome_is}
 use Rattle.nb_session.proofs.WayLaws.{copy_turns, BacksUp, backing_at}
 
@@ -72,6 +80,9 @@ backups_make frozen (suc left) b = by left
     by zero = refl
     by (suc n) = by n
 
+pub backup_makes : (frozen : Image) (n : ℕ) (b : Backing) → making frozen (replicate n Copies ++ ClosesBackup b ∷ []) ≡ (b.name, file_of 102 (kept_of b frozen)) ∷ []
+backup_makes frozen n b = ap (making frozen) (copy_turns n (ClosesBackup b)) ∙ sym (backups_make frozen n b)
+
 -- so the same turns make a file of the same name
 same_name : (m n : ℕ) (b c : Backing) → replicate m Copies ++ ClosesBackup b ∷ [] ≡ replicate n Copies ++ ClosesBackup c ∷ [] → b.name ≡ c.name
 same_name m n b c same =
@@ -88,21 +99,19 @@ record HasBegun (s : Seen) (session : ℕ) (name : List ℕ) (o : Outcome) : Typ
   given : o.given ≡ without_guid s.given
   named : (n : ℕ) (b : Backing) → o.next ≡ replicate n Copies ++ ClosesBackup b ∷ [] → b.name ≡ name
 
--- The first turn of a statement that asks for one.
-asked_either : (P : Outcome → Type 0) (s : Seen) (session : ℕ) (x : Statement) → IsBackup x → ((r : Refusal) → P (refused s r))
-    → ((ask : Ask) → IsFrom s.base.image ask → MayStart s (file_asked x) → P (started s session (file_asked x) ask)) → P (first_turn s session x)
-unfolding first_turn
-asked_either P s session (BackupTo level name) is denied done = backup_either P s session level name denied done
-asked_either P s session (BackupSince guid name) is denied done = since_either P s session guid name denied done
-asked_either P s session other is denied done = absurd is
-
 -- it is no `sync`
 asked_plain : (x : Statement) → IsBackup x → is_sync (Begins x) ≡ false
 asked_plain (BackupTo level name) is = refl
 asked_plain (BackupSince guid name) is = refl
 asked_plain other is = absurd is
 
--- and its file is no difference file
+-- its file is in the making then
+pub begun_is : (session : ℕ) (x : Statement) (now : Now) → IsBackup x → begun_in session (Begins x) now ≡ left_making session (Begins x) now
+begun_is session (BackupTo level name) now is = refl
+begun_is session (BackupSince guid name) now is = refl
+begun_is session other now is = absurd is
+
+-- and no difference file
 pub file_plain : (x : Statement) → IsBackup x → FitsAsked x → is_delta (file_asked x) ≡ false
 file_plain (BackupTo level name) is fits = given_plain name fits.1
 file_plain (BackupSince guid name) is fits = given_plain name fits
@@ -119,9 +128,24 @@ module _ (s : Seen) (session : ℕ) (x : Statement) (asks : IsBackup x) where
   has_begun = asked_either (λ o. o.reply ≡ None → HasBegun s session (file_asked x) o) s session x asks (λ r is. absurd (some_none r is))
       (λ ask from may quiet. record { free = may.free; running = refl; given = refl; named = λ n b same. sym (same_name _ n _ b same) })
 
+  -- the file that it makes, where nothing refuses it
+  start_file : ((bytes : List ℕ) × ((making (base_after s.base start.strokes).frozen start.next ≡ (file_asked x, bytes) ∷ []) × (start.reply ≡ None))) ⊎ ((making (base_after s.base start.strokes).frozen start.next ≡ []) × (start.reply ≡ None → ⊥))
+  unfolding making
+  start_file = asked_either
+      (λ o. ((bytes : List ℕ) × ((making (base_after s.base o.strokes).frozen o.next ≡ (file_asked x, bytes) ∷ []) × (o.reply ≡ None))) ⊎ ((making (base_after s.base o.strokes).frozen o.next ≡ []) × (o.reply ≡ None → ⊥))) s session x asks
+      (λ r. inr (refl, some_none r))
+      (λ ask from may.
+      let frozen : Image = (base_after s.base (started s session (file_asked x) ask).strokes).frozen in
+      let room : Room = room_in s.base.image in
+      let b : Backing = record { name = file_asked x; ask = ask; scn = image_scn s.base.image; guid = next_guid s.given; page = room.page; slot = room.slot } in
+      inl (file_of 102 (kept_of b frozen), (backup_makes frozen (length room.draft.image) b, refl)))
+
   has_not : (refusal : Refusal) → start.reply ≡ Some (RefusedBy refusal) → DoesNothing s start
   has_not refusal = asked_either (λ o. o.reply ≡ Some (RefusedBy refusal) → DoesNothing s o) s session x asks (λ r is. record { strokes = refl; next = refl; made = refl; running = refl; given = refl })
       (λ ask from may quiet. absurd (some_none refusal (sym quiet)))
+
+pub no_delta : (held : Held) (name : List ℕ) → is_delta name ≡ false → name ≡ delta_name (name_of held) → ⊥
+no_delta held name plain same = no_main (name_of held) name plain (sym same)
 
 -- in the normal state the account knows of each name whether it is free
 pub knows_free : (w : World) (held : Held) (t : Trail) (now : Now) (name : List ℕ) → IsReady w held t now → IsGoing now → is_delta name ≡ false → KnowsFree 0 w.files (seen_now now) name
@@ -141,16 +165,68 @@ module _ (old new : World) (a b : Held) (t : Trail) (now : Now) (session : ℕ) 
   same : begins ≡ this
   same = sym (outcome_is session x now)
 
+  -- its file
+  abbrev asked : List ℕ
+  asked = file_asked x
+
+  abbrev db : List ℕ
+  db = name_of a
+
+  abbrev begun : List MadeFile
+  begun = begun_in session (Begins x) now
+
+  Files_are : List MadeFile → Type 0
+  Files_are made = ((bytes : List ℕ) × ((made ≡ (asked, bytes) ∷ []) × (begins.reply ≡ None))) ⊎ ((made ≡ []) × (begins.reply ≡ None → ⊥))
+
+  files_are : Files_are begun
+  unfolding Files_are
+  files_are =
+      subst Files_are (sym (begun_is session x now asks ∙ ap (λ (o : Outcome). making (base_after (base_now now) o.strokes).frozen o.next) (sym same)))
+      (start_file (seen_now now) session x asks)
+
+  -- none of the database's
+  pub start_apart : is_delta asked ≡ false → (n bytes : List ℕ) → Contains begun (n, bytes) → IsApart a n
+  unfolding Files_are
+  start_apart plain n bytes there = by files_are
+    where
+      by : Files_are begun → IsApart a n
+      by (inl (whole, (is, silent))) =
+          let free = (has_begun (seen_now now) session x asks silent).free in
+          apart_one a asked whole (record { plain = plain; other = not_own old a t now asked ready free }) n bytes (subst (λ (fs : List MadeFile). Contains fs (n, bytes)) is there)
+      by (inr (is, loud)) = absurd (no_file n bytes (subst (λ (fs : List MadeFile). Contains fs (n, bytes)) is there))
+
+  -- what a stop leaves of a start is what it leaves of this turn
+  start_left : StartMakes old new asked db t begins begins.strokes → Changes old new (Touched db begun) (TurnLeft old db t begins.strokes begun)
+  unfolding Files_are
+  start_left makes = by begun files_are
+    where
+      one : (fs : Files) (whole n bytes : List ℕ) → Remade old asked IsEmpty fs → Contains {X = MadeFile} ((asked, whole) ∷ []) (n, bytes) → Remade old n (IsUnfinishedOr bytes) fs
+      one fs whole n bytes has there =
+          subst (λ (f : MadeFile). Remade old f.0 (IsUnfinishedOr f.1) fs) (one_file (asked, whole) (n, bytes) there)
+          (⊎_elim inl (λ empty. inr (inl (inl (ap is_free_file empty ∙ blank_free (Some []) blank_empty)))) has)
+
+      by : (made : List MadeFile) → Files_are made → Changes old new (Touched db made) (TurnLeft old db t begins.strokes made)
+      by made (inl (whole, (is, silent))) =
+          subst (λ (made : List MadeFile). Changes old new (Touched db made) (TurnLeft old db t begins.strokes made)) (sym is)
+          (weakened old new (OfStart asked db begins) (Touched db ((asked, whole) ∷ [])) (StartLeft old asked db t begins.strokes) (TurnLeft old db t begins.strokes ((asked, whole) ∷ [])) makes
+          (λ m. ⊎_elim inl (λ its. inr (whole, (0, omega arith, ap (λ (n : List ℕ). (n, whole)) (sym its.0)))))
+          (λ fs others has. record { database = has.database; each = λ n bytes there. one fs whole n bytes has.file there }))
+      by made (inr (is, loud)) =
+          subst (λ (made : List MadeFile). Changes old new (Touched db made) (TurnLeft old db t begins.strokes made)) (sym is)
+          (weakened old new (OfStart asked db begins) (Touched db []) (StartLeft old asked db t begins.strokes) (TurnLeft old db t begins.strokes []) makes
+          (λ m. ⊎_elim inl (λ its. absurd (loud its.1)))
+          (λ fs others has. record { database = has.database; each = λ n bytes there. absurd (no_file n bytes there) }))
+
   -- where one GUID was given, or none
-  module _ (result : Result Backed Fault) (starts : (given : Given) → GaveAtMost old new (next_guid given) → StartsBackup result old new a b t (next_guid given) (first_turn (seen_with now given) session x))
-      (guid : List ℕ) (asked : GaveAtMost old new guid) where
+  module _ (result : Result Backed Fault) (starts : (given : Given) → GaveAtMost old new (next_guid given) → StartsBackup result old new a b t (file_asked x) (next_guid given) (first_turn (seen_with now given) session x))
+      (guid : List ℕ) (given_one : GaveAtMost old new guid) where
     times_are : new.times ≡ old.times
-    times_are = (starts (record { guids = guid ∷ []; times = []; holds = [] }) asked).times
+    times_are = (starts (record { guids = guid ∷ []; times = []; holds = [] }) given_one).times
 
-    pub starts_told : Foretells now.given old new → StartsBackup result old new a b t (next_guid now.given) begins
-    starts_told told = starts now.given (most_given (replicate 16 0) old.guids new.guids now.given.guids told.ids told.later_ids told.guids told.guids_first guid asked)
+    pub starts_told : Foretells now.given old new → StartsBackup result old new a b t (file_asked x) (next_guid now.given) begins
+    starts_told told = starts now.given (most_given (replicate 16 0) old.guids new.guids now.given.guids told.ids told.later_ids told.guids told.guids_first guid given_one)
 
-    start_given : (r : Result Backed Fault) → StartsBackup r old new a b t (next_guid now.given) begins → Foretells now.given old new → WhereEnded r (WasGiven old new now.given begins.given)
+    start_given : (r : Result Backed Fault) → StartsBackup r old new a b t (file_asked x) (next_guid now.given) begins → Foretells now.given old new → WhereEnded r (WasGiven old new now.given begins.given)
     start_given (Ok copier) does told =
         subst (λ (left : Given). WasGiven old new now.given left) (sym (has_begun (seen_now now) session x asks does.says).given) (record {
           ids = next_guid now.given ∷ [];
@@ -164,14 +240,14 @@ module _ (old new : World) (a b : Held) (t : Trail) (now : Now) (session : ℕ) 
     start_given (Err Device) does told = tt
     start_given (Err Memory) does told = tt
 
-    pub start_acts : length guid ≡ 16 → MayAct (λ copier. None) result old new a b t now session (Begins x) []
+    pub start_acts : length guid ≡ 16 → MayAct (λ copier. None) result old new a b t now session (Begins x) begun
     start_acts sixteen = record {
-      grows = grows_at_most old new guid sixteen asked times_are;
+      grows = grows_at_most old new guid sixteen given_one times_are;
       acts = λ told.
           let does = starts_told told in
           record {
             says = subst (λ (o : Outcome). Says (λ copier. None) result o.reply) same (says_none result begins.reply does.says);
-            left = strikes_left old new (name_of a) t _ (subst (λ (o : Outcome). Strikes old new (name_of a) t o.strokes) same does.left);
+            left = subst (λ (o : Outcome). Changes old new (Touched db begun) (TurnLeft old db t o.strokes begun)) same (start_left does.left);
             opened = ended_map result (subst (IsOpen new b) (trail_plain t event (asked_plain x asks))) (subst (λ (o : Outcome). WhereEnded result (IsOpen new b (after_strokes t o.strokes))) same does.opened);
             running = subst (λ (o : Outcome). WhereEnded result (b.running ≡ o.running)) same does.running;
             given = subst (λ (o : Outcome). WhereEnded result (WasGiven old new now.given o.given)) same (start_given result does told);
@@ -182,7 +258,7 @@ module _ (old new : World) (a b : Held) (t : Trail) (now : Now) (session : ℕ) 
     }
 
   -- a backup was begun
-  pub start_behind : (copier : Backed) (guid : List ℕ) → is_delta (file_asked x) ≡ false → StartsBackup (Ok copier) old new a b t guid begins → IsBehind new b session (Begins x) [] now (Some (Backup copier))
+  pub start_behind : (copier : Backed) (guid : List ℕ) → is_delta (file_asked x) ≡ false → StartsBackup (Ok copier) old new a b t (file_asked x) guid begins → IsBehind new b session (Begins x) [] now (Some (Backup copier))
   start_behind copier guid plain does =
       let is : IsStarted new b (after_strokes t begins.strokes) copier begins = does.started in
       let facts : HasBegun (seen_now now) session (file_asked x) begins = has_begun (seen_now now) session x asks does.says in
@@ -200,7 +276,7 @@ module _ (old new : World) (a b : Held) (t : Trail) (now : Now) (session : ℕ) 
       }
 
   -- it was refused
-  pub start_refused : (refusal : Refusal) (guid : List ℕ) → StartsBackup (Err (Refused refusal)) old new a b t guid begins → (w : World) → IsBehind w b session (Begins x) [] now None
+  pub start_refused : (refusal : Refusal) (guid : List ℕ) → StartsBackup (Err (Refused refusal)) old new a b t (file_asked x) guid begins → (w : World) → IsBehind w b session (Begins x) [] now None
   start_refused refusal guid does w =
       record { next = append-nil this.next ∙ sym (ap (λ (o : Outcome). o.next) same) ∙ (has_not (seen_now now) session x asks refusal does.says).next; goes = tt }
 
@@ -258,8 +334,8 @@ module _ (old new : World) (a b : Held) (t : Trail) (now : Now) (session : ℕ) 
   whole_is : whole ≡ file_of 102 (kept_of copier.backing (base_now now).frozen)
   whole_is = is.whole ∙ ap (λ (f : Image). file_of 102 (kept_of copier.backing f)) frozen_is
 
-  pub backup_files : files ≡ making (base_now now).frozen (copy_first rest last ∷ copy_rest rest last)
-  backup_files = ap (λ (bytes : List ℕ). (name, bytes) ∷ []) whole_is ∙ backups_make (base_now now).frozen rest copier.backing
+  pub backup_files : files ≡ touching session (copy_first rest last) (copy_rest rest last) now
+  backup_files = ap (λ (bytes : List ℕ). (name, bytes) ∷ []) whole_is ∙ backups_make (base_now now).frozen rest copier.backing ∙ plain_touch session (copy_first rest last) (copy_rest rest last) now (copy_plain rest last tt)
 
   -- what a stop leaves of a close is what it leaves of this turn
   module _ (reads : Leaves old name (old.files name)) where

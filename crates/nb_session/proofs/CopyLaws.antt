@@ -38,19 +38,20 @@ use Rattle.nb_state.specs.declared.turns.Progress.TheVariants.{More, Finished}
 use Rattle.nb_state.proofs.MakesLaws.{where_ended, none_yet, gave_none, open_quiet, open_running}
 use Rattle.nb_copy.specs.Making.{IsKept, IsUnfinishedOr}
 use Rattle.nb_copy.specs.Copying.{Copying, IsCopying}
-use Rattle.nb_copy.specs.FileCopies.{StartsCopy, IsCopyStarted, KnowsUnused}
+use Rattle.nb_copy.specs.FileCopies.{IsCopyingTo, StartsCopy, IsCopyStarted, KnowsUnused}
 use Rattle.nb_copy.proofs.ClosingLaws.{stands}
 use Rattle.nb_session.specs.declared.task.Task.TheVariants.{Copy}
 use Rattle.nb_session.specs.Acts.{Says, Touched, TurnLeft, AreKept, MayAct}
 use Rattle.nb_session.specs.Askers.{copy_first, copy_rest}
 use Rattle.nb_session.specs.Ready.{IsReady, IsApart}
-use Rattle.nb_session.specs.Steps.{IsBehind}
+use Rattle.nb_session.specs.Steps.{touching, IsBehind}
 use Rattle.nb_session.specs.Replies.{has_only_told}
 use Rattle.nb_session.proofs.ActLaws.{trail_plain, ended_map, strikes_left, kept_none, says_none}
 use Rattle.nb_session.proofs.EventLaws.{unsaid, told_reply}
 use Rattle.nb_session.proofs.GiftLaws.{given_nothing, grows_none}
 use Rattle.nb_session.proofs.MakesLaws.{none_runs}
 use Rattle.nb_session.proofs.ReadyLaws.{apart_files, not_own}
+use Rattle.nb_session.proofs.TouchingLaws.{plain_touch, copy_plain}
 use Rattle.nb_session.proofs.TurnLaws.{seen_now, outcome_is}
 use Rattle.nb_session.proofs.WayLaws.{copy_turns, copying_at}
 
@@ -68,7 +69,7 @@ unfolding base_after
 no_stroke b ss none = ap (base_after b) none
 
 -- one file
-one_file : (f g : MadeFile) → Contains (f ∷ []) g → f ≡ g
+pub one_file : (f g : MadeFile) → Contains (f ∷ []) g → f ≡ g
 one_file f g (zero, low, is) = is
 one_file f g (suc i, low, is) = absurd (omega (arith, low))
 
@@ -172,7 +173,7 @@ module _ (old new : World) (a b : Held) (t : Trail) (now : Now) (session : ℕ) 
         next = append-nil this.next ∙ sym (ap (λ (o : Outcome). o.next) same) ∙ is.turns ∙ ap (λ (n : ℕ). replicate n Copies ++ ClosesCopy name ∷ []) all ∙ ap (λ (n : List ℕ). replicate (copy.count - copy.next) Copies ++ ClosesCopy n ∷ []) (sym is.named)
             ∙ copy_turns (copy.count - copy.next) (ClosesCopy copy.name);
         goes = (
-          subst (IsCopying new copy) (ap (λ (x : Base). x.frozen) (ready.base ∙ sym (no_stroke (base_now now) this.strokes (sym (ap (λ (o : Outcome). o.strokes) same) ∙ begin_strokes (seen_now now) session name)))) is.goes,
+          subst (IsCopyingTo new copy) (ap (λ (x : Base). x.frozen) (ready.base ∙ sym (no_stroke (base_now now) this.strokes (sym (ap (λ (o : Outcome). o.strokes) same) ∙ begin_strokes (seen_now now) session name)))) is.goes,
           record {
             plain = ap is_delta is.named ∙ plain;
             other = λ own. not_own old a t now name ready (begin_free (seen_now now) session name starts.says) (sym is.named ∙ own ∙ named);
@@ -258,8 +259,8 @@ module _ (old mid : World) (a b : Held) (t : Trail) (now : Now) (session : ℕ) 
   frozen_is : t.base.frozen ≡ (base_now now).frozen
   frozen_is = ap (λ (x : Base). x.frozen) ready.base
 
-  pub copy_files : (left : ℕ) → files ≡ making (base_now now).frozen (copy_first left last ∷ copy_rest left last)
-  copy_files left = ap (λ (f : Image). (copy.name, joined f) ∷ []) frozen_is ∙ copies_make (base_now now).frozen left copy.name
+  pub copy_files : (left : ℕ) → files ≡ touching session (copy_first left last) (copy_rest left last) now
+  copy_files left = ap (λ (f : Image). (copy.name, joined f) ∷ []) frozen_is ∙ copies_make (base_now now).frozen left copy.name ∙ plain_touch session (copy_first left last) (copy_rest left last) now (copy_plain left last tt)
 
   none_struck : (left : ℕ) → (outcome session (copy_first left last) now).strokes ≡ []
   none_struck zero = ap (λ (o : Outcome). o.strokes) (close_is session copy.name now) ∙ close_strokes (seen_now now) copy.name
@@ -341,7 +342,7 @@ module _ (old mid : World) (a b : Held) (t : Trail) (now : Now) (session : ℕ) 
         ∙ ap (λ (n : ℕ). copy_first n last ∷ copy_rest n last) (let e : left ≡ later.count - later.next = omega (arith, rest) in e)
         ∙ ap (λ (n : List ℕ). copy_first (later.count - later.next) (ClosesCopy n) ∷ copy_rest (later.count - later.next) (ClosesCopy n)) (sym named);
     goes = (
-      subst (IsCopying mid later) (ap (λ (x : Base). x.frozen) (ready.base ∙ sym (no_stroke (base_now now) (outcome session Copies now).strokes (none_struck (suc left))))) goes,
+      subst (IsCopyingTo mid later) (ap (λ (x : Base). x.frozen) (ready.base ∙ sym (no_stroke (base_now now) (outcome session Copies now).strokes (none_struck (suc left))))) (record { of = goes.of; begun = λ some. goes.begun }),
       record { plain = ap is_delta named ∙ apart.plain; other = λ own. apart.other (sym named ∙ own ∙ ap (λ (h : Held). name_of h) same) },
       ap (λ (h : Held). h.running) same ∙ runs,
     );

@@ -20,9 +20,9 @@ use Rattle.nb_change.proofs.SettledLaws.{durable_is, durable_still}
 use Rattle.nb_model.specs.declared.reply.Reply.{Reply}
 use Rattle.nb_model.specs.Strokes.{Stroke}
 use Rattle.nb_model.specs.Going.{IsMaking}
-use Rattle.nb_model.specs.Making.{MadeFile, making}
+use Rattle.nb_model.specs.Making.{MadeFile}
 use Rattle.nb_model.specs.Outcomes.{Turn, Outcome}
-use Rattle.nb_model.specs.Run.{Event, Now, Played, base_now, event_of, outcome, stands_then, take_turn, replies_of, files_made}
+use Rattle.nb_model.specs.Run.{Event, Now, Played, event_of, outcome, stands_then, take_turn, replies_of, files_made}
 use Rattle.nb_model.specs.Output.{output, status_of, status_after}
 use Rattle.nb_model.specs.Steps.{made, steps_in, steps_of, after_step, after_steps, acked_turns}
 use Rattle.nb_model.specs.Trail.{Trail, StandsIn, after_stroke}
@@ -39,6 +39,7 @@ use Rattle.nb_session.specs.Acts.{AreKept, Acts}
 use Rattle.nb_session.specs.Ready.{IsReady, IsApart}
 use Rattle.nb_session.specs.Replies.{HasEnded, has_only_told, only_told}
 use Rattle.nb_session.specs.Says.{FrontSaid, SaysLine}
+use Rattle.nb_session.specs.Steps.{touching}
 use Rattle.nb_session.specs.Stops.{StopLeft, PlayedOut, Plays}
 use Rattle.nb_session.specs.Told.{told_reply as told_as, told_turns, told_line, told_status}
 use Rattle.nb_session.proofs.GiftLaws.{given_nothing, given_joined}
@@ -135,7 +136,7 @@ module _ (old mid new : World) (e0 e1 : Held) (t : Trail) (now : Now) (session :
   name = name_of e0
 
   abbrev files : List MadeFile
-  files = making (base_now now).frozen (u ∷ tail)
+  files = touching session u tail now
 
   abbrev pub one : Played
   one = (event ∷ [], stands_then session (tail ++ more) here now)
@@ -267,7 +268,7 @@ module _ (how : Told) (old mid new : World) (e0 e1 : Held) (t : Trail) (now : No
   turn_done = outcome session u now
 
   abbrev turn_files : List MadeFile
-  turn_files = making (base_now now).frozen (u ∷ tail)
+  turn_files = touching session u tail now
 
   abbrev turn_told : Option Reply
   turn_told = told_as how turn_done.reply

@@ -6,7 +6,7 @@ use Rattle.nb_host.specs.Crash.{Untouched}
 use Rattle.nb_change.specs.Changes.{Names, Other}
 use Rattle.nb_model.specs.Going.{Runs, IsMaking}
 use Rattle.nb_model.specs.Image.{Image}
-use Rattle.nb_model.specs.Making.{MadeFile, making_by}
+use Rattle.nb_model.specs.Making.{MadeFile}
 use Rattle.nb_model.specs.Outcomes.{Begins, ClosesBackup, ClosesCopy}
 use Rattle.nb_model.specs.Run.{Now, base_now, one_turn}
 use Rattle.nb_model.specs.Trail.{Trail}
@@ -14,7 +14,8 @@ use Rattle.nb_model.proofs.GoingLaws.{IsUndisturbed, others_stay}
 use Rattle.nb_model.proofs.StandsLaws.{no_main}
 use Rattle.nb_copy.specs.declared.file_copy.FileCopy.{FileCopy}
 use Rattle.nb_copy.specs.declared.file_copy.FileCopy.TheVariants.{Pages, Level}
-use Rattle.nb_copy.specs.Copying.{Copying, IsCopying}
+use Rattle.nb_copy.specs.Copying.{Copying, IsBegun, IsCopying}
+use Rattle.nb_copy.specs.FileCopies.{IsCopyingTo}
 use Rattle.nb_copy.specs.FileCopying.{file_name, file_count, file_next, IsFileCopying}
 use Rattle.nb_copy.specs.LevelCopying.{LevelCopying, IsLevelCopying}
 use Rattle.nb_copy.specs.Starting.{Backed, IsBackingUp}
@@ -25,24 +26,30 @@ use Rattle.nb_session.specs.declared.told.Told.{Told}
 use Rattle.nb_session.specs.Acts.{Touched}
 use Rattle.nb_session.specs.Askers.{Asker, task_first, task_rest, task_todo, HasTodo}
 use Rattle.nb_session.specs.Ready.{IsReady, IsApart, TaskGoes}
+use Rattle.nb_session.specs.Steps.{touching_by}
 use Rattle.nb_session.specs.Stops.{Plays}
 use Rattle.nb_session.specs.Told.{told_turns}
-use Rattle.nb_session.proofs.UnderWayLaws.{IsCopyTurn, first_copies, copy_runs, none_making}
+use Rattle.nb_session.proofs.TouchingLaws.{none_touching}
+use Rattle.nb_session.proofs.UnderWayLaws.{IsCopyTurn, first_copies, copy_runs}
 
 -- What touches other files keeps a copy.
 module _ (old new : World) (names : Names) (others : Untouched old new (Other names)) (read : (m : List ℕ) → Other names m → new.files m ≡ old.files m) (frozen : Image) where
-  copy_kept : (copy : Copying) → Other names copy.name → IsCopying old copy frozen → IsCopying new copy frozen
-  copy_kept copy other is = record {
-    of = is.of;
-    begun = λ some.
-        let begun = is.begun some in
-        record { first = begun.first; reads = read copy.name other ∙ begun.reads; blank = λ c now. begun.blank c (others.now copy.name c other now) };
-  }
+  begun_kept : (copy : Copying) → Other names copy.name → IsBegun old copy frozen → IsBegun new copy frozen
+  begun_kept copy other begun = record { first = begun.first; reads = read copy.name other ∙ begun.reads; blank = λ c now. begun.blank c (others.now copy.name c other now) }
+
+  pages_kept : (copy : Copying) → Other names copy.name → IsCopying old copy frozen → IsCopying new copy frozen
+  pages_kept copy other is = record { of = is.of; begun = begun_kept copy other is.begun }
+
+  copy_kept : (copy : Copying) → Other names copy.name → IsCopyingTo old copy frozen → IsCopyingTo new copy frozen
+  copy_kept copy other is = record { of = is.of; begun = λ some. begun_kept copy other (is.begun some) }
 
   level_kept : (copy : LevelCopying) → Other names copy.file.name → IsLevelCopying old copy frozen → IsLevelCopying new copy frozen
   level_kept copy other is = record {
     of = is.of;
     fresh = is.fresh;
+    made = λ none.
+        let made = is.made none in
+        record { reads = read copy.file.name other ∙ made.reads; only = λ c now. made.only c (others.now copy.file.name c other now) };
     begun = λ some.
         let begun = is.begun some in
         record {
@@ -56,7 +63,7 @@ module _ (old new : World) (names : Names) (others : Untouched old new (Other na
   }
 
   file_kept : (f : FileCopy) → Other names (file_name f) → IsFileCopying old f frozen → IsFileCopying new f frozen
-  file_kept (Pages copy) other is = copy_kept copy other is
+  file_kept (Pages copy) other is = pages_kept copy other is
   file_kept (Level copy) other is = level_kept copy other is
 
   backup_kept : (copier : Backed) → Other names copier.backing.name → IsBackingUp old copier frozen → IsBackingUp new copier frozen
@@ -70,7 +77,7 @@ apart_other held name apart (inr made) = omega (arith, made.1.1)
 
 -- A turn of another session.
 module _ (session : ℕ) (asker : Asker) (off : session - 1 ≢ asker.number - 1) (how : Told) (refused : Bool) (old new : World) (before after : Held) (t : Trail) (now : Now) (ready : IsReady old before t now) (makes : IsMaking now) (has : HasTodo asker now)
-    (plays : Plays (Ok refused) old new before after t now (told_turns how (one_turn session now)) (making_by session now)) where
+    (plays : Plays (Ok refused) old new before after t now (told_turns how (one_turn session now)) (touching_by session now)) where
   abbrev then : Now
   then = (one_turn session now).1
 
@@ -86,10 +93,10 @@ module _ (session : ℕ) (asker : Asker) (off : session - 1 ≢ asker.number - 1
     runs_on is = plays.done.ready.running ∙ still.running ∙ sym ready.running ∙ is
 
     untouched : Untouched old new (Other (Touched (name_of before) []))
-    untouched = subst (λ (files : List MadeFile). Untouched old new (Other (Touched (name_of before) files))) (none_making session now makes.going (asker.number - 1) runs off) plays.others
+    untouched = subst (λ (files : List MadeFile). Untouched old new (Other (Touched (name_of before) files))) (none_touching session now makes.going (asker.number - 1) runs off) plays.others
 
     read_on : (m : List ℕ) → Other (Touched (name_of before) []) m → new.files m ≡ old.files m
-    read_on = subst (λ (files : List MadeFile). (m : List ℕ) → Other (Touched (name_of before) files) m → new.files m ≡ old.files m) (none_making session now makes.going (asker.number - 1) runs off) plays.others_read
+    read_on = subst (λ (files : List MadeFile). (m : List ℕ) → Other (Touched (name_of before) files) m → new.files m ≡ old.files m) (none_touching session now makes.going (asker.number - 1) runs off) plays.others_read
 
   -- who copies, or is to end the stalled state, runs
   runs_by : (task : Task) → asker.task ≡ Some task → IsCopyTurn (task_first task) → Runs now (asker.number - 1) 1
@@ -106,7 +113,7 @@ module _ (session : ℕ) (asker : Asker) (off : session - 1 ≢ asker.number - 1
       )
   goes_on (Some (Copy c)) is goes =
       let runs = runs_by (Copy c) is (first_copies (c.count - c.next) (ClosesCopy c.name) tt) in (
-        subst (IsCopying new c) (sym (still runs).frozen) (copy_kept old new (Touched (name_of before) []) (untouched runs) (read_on runs) (base_now now).frozen c (apart_other before c.name goes.1) goes.0),
+        subst (IsCopyingTo new c) (sym (still runs).frozen) (copy_kept old new (Touched (name_of before) []) (untouched runs) (read_on runs) (base_now now).frozen c (apart_other before c.name goes.1) goes.0),
         apart_kept c.name goes.1,
         runs_on runs goes.2,
       )

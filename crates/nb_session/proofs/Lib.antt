@@ -5,6 +5,7 @@ pub mod MadeLaws
 pub mod StopLaws
 pub mod PlayLaws
 pub mod MakesLaws
+pub mod TouchingLaws
 pub mod ReadyLaws
 pub mod ToldLaws
 pub mod EventLaws

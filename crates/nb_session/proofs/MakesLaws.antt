@@ -1,10 +1,8 @@
 -- Which turns make a file of which name.
-use Rattle.std.proofs.Common.{◌≡◌, ◌≢◌, inl, inr, ℕ, zero, suc, ◌-◌, ◌<◌, ◌≤◌, List, [], ◌∷◌, ◌++◌, length, replicate, get_or, set, refl, sym, ap, subst, arith, get_or-set_same}
+use Rattle.std.proofs.Common.{◌≡◌, ◌≢◌, inl, inr, ℕ, zero, suc, ◌-◌, ◌<◌, ◌≤◌, List, [], ◌∷◌, ◌++◌, length, get_or, set, refl, sym, ap, subst, arith, get_or-set_same}
 use Rattle.std.specs.Prelude.{Contains}
 use Rattle.std.specs.List.{AllByRecursion, slice_index_or}
 use Rattle.std.proofs.lemmas.List.Elements.{Contains-append_left, Contains-append_right, Contains-append_cases}
-use Rattle.nb_model.specs.declared.reply.Reply.{Reply}
-use Rattle.nb_model.specs.declared.statement.Statement.{Statement}
 use Rattle.nb_model.specs.Backups.{close_backup, close_copy}
 use Rattle.nb_model.specs.Going.{AreBeginnings, Runs, IsAt, waits, backs_up, copies, ends, merges, IsGoing}
 use Rattle.nb_model.specs.Image.{Image}
@@ -13,7 +11,6 @@ use Rattle.nb_model.specs.Making.{MadeFile, kept_of, making, making_all, under_w
 use Rattle.nb_model.specs.Outcomes.{Turn, Begins, Copies, ClosesBackup, ClosesCopy, Ends, Merges, Finishes, Outcome}
 use Rattle.nb_model.specs.Run.{Now, base_now, outcome, event_of, stands_then, files_made}
 use Rattle.nb_model.specs.Turns.{turn}
-use Rattle.nb_session.specs.Askers.{merge_first, merge_rest}
 use Rattle.nb_session.proofs.AllLaws.{all_at}
 
 -- the turn makes no file of that name
@@ -106,7 +103,7 @@ all_places P [] each = tt
 all_places P (ts ∷ todo) each = (each 0, all_places P todo (λ i. each (suc i)))
 
 -- a place with a turn is one of the list's
-place_in : (todo : List (List Turn)) (i : ℕ) (u : Turn) (rest : List Turn) → get_or todo i [] ≡ u ∷ rest → i < length todo
+pub place_in : (todo : List (List Turn)) (i : ℕ) (u : Turn) (rest : List Turn) → get_or todo i [] ≡ u ∷ rest → i < length todo
 place_in [] i u rest is = absurd (no_turn is)
   where
     no_turn : get_or [] i [] ≡ u ∷ rest → ⊥
@@ -166,21 +163,3 @@ none_runs now going none name = make_none_all (base_now now).frozen now.todo nam
     at place ts (copies left n rest is all runs free) = absurd (none place 1 (omega arith) runs)
     at place ts (ends reply rest is all runs) = absurd (none place 1 (omega arith) runs)
     at place ts (merges all runs) = absurd (none place 2 (omega arith) runs)
-
--- What turns make that are no copies.
-pub begins_make : (frozen : Image) (statement : Statement) → [] ≡ making frozen (Begins statement ∷ [])
-unfolding making
-begins_make frozen statement = refl
-
-pub ends_make : (frozen : Image) (reply : Reply) → [] ≡ making frozen (Ends reply ∷ [])
-unfolding making
-ends_make frozen reply = refl
-
-pub merges_make : (frozen : Image) (left : ℕ) (reply : Reply) → [] ≡ making frozen (merge_first left (Finishes reply) ∷ merge_rest left (Finishes reply))
-unfolding making
-merges_make frozen zero reply = refl
-merges_make frozen (suc left) reply = by left
-  where
-    by : (n : ℕ) → [] ≡ making frozen (replicate n Merges ++ Finishes reply ∷ [])
-    by zero = refl
-    by (suc n) = by n

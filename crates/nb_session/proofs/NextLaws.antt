@@ -9,12 +9,13 @@ use Rattle.nb_model.specs.Making.{MadeFile, making_by, under_way, AreAmong, IsNo
 use Rattle.nb_model.specs.Outcomes.{Turn, Given}
 use Rattle.nb_model.specs.Run.{Event, Now, Played, outcome, stands_then, take_turn, one_turn, play, files_made, AreFinished}
 use Rattle.nb_model.proofs.GoingLaws.{making_play}
-use Rattle.nb_model.proofs.MakingLaws.{finished_none, under_free, under_among, under_play, made_among, played_used, names_once}
+use Rattle.nb_model.proofs.MakingLaws.{finished_none, free_turn, under_among, under_play, made_among, played_used, names_once}
 use Rattle.nb_model.proofs.RunLaws.{play-append}
 use Rattle.nb_session.specs.Acts.{AreSixteen}
-use Rattle.nb_session.proofs.MadeLaws.{none_among, among_left, among_right, both_among, once_fewer, made_ahead, made_both}
+use Rattle.nb_session.specs.Steps.{begun_first, touching_by}
+use Rattle.nb_session.proofs.MadeLaws.{none_among, among_left, among_right, both_among, once_fewer, made_second, made_ahead, made_both}
 use Rattle.nb_session.proofs.PlayLaws.{behind}
-use Rattle.nb_session.proofs.UnderWayLaws.{by_among}
+use Rattle.nb_session.proofs.TouchingLaws.{touching_among}
 
 -- a turn leaves to the other sessions what they have to do
 pub keeps_todo : (session i : ℕ) (now : Now) → i ≢ session - 1 → get_or (one_turn session now).1.todo i [] ≡ get_or now.todo i []
@@ -83,22 +84,31 @@ module _ (now : Now) (making : IsMaking now) (front : List ℕ) (session : ℕ) 
   far_making : IsMaking so_far.1
   far_making = making_play front now making
 
-  pub next_others : (n bytes : List ℕ) → Contains (files_made so_far.0) (n, bytes) → IsNoneOf (making_by session so_far.1) n
-  next_others n bytes there other other_there = true≢false (sym (under_free so_far.1 far_making.going (n, other) (by_among session so_far.1 (n, other) other_there)) ∙ played_used front now making (n, bytes) there)
+  pub next_others : (n bytes : List ℕ) → Contains (files_made so_far.0) (n, bytes) → IsNoneOf (touching_by session so_far.1) n
+  next_others n bytes there other other_there =
+      true≢false (sym (free_turn session so_far.1 far_making.named far_making.going (n, other) (touching_among session so_far.1 far_making (n, other) other_there)) ∙ played_used front now making (n, bytes) there)
 
   module _ (made : List MadeFile) (among : AreAmong made (files_made so_far.0 ++ under_way so_far.1)) where
-    pub all_among : AreAmong (made ++ making_by session so_far.1) (files_made so_far.0 ++ under_way so_far.1)
-    all_among = both_among made (making_by session so_far.1) (files_made so_far.0 ++ under_way so_far.1) among (λ file there. among_right (files_made so_far.0) (under_way so_far.1) file (by_among session so_far.1 file there))
+    abbrev all : List MadeFile
+    all = files_made (so_far.0 ++ next.0) ++ under_way next.1
 
-    pub next_once : NamesOnce (made ++ making_by session so_far.1)
-    next_once = once_fewer (made ++ making_by session so_far.1) (files_made so_far.0 ++ under_way so_far.1) all_among (names_once front now making)
+    pub next_among : AreAmong (made ++ touching_by session so_far.1) all
+    next_among =
+        both_among made (touching_by session so_far.1) all
+        (λ file there. made_ahead so_far.0 next.0 (under_way so_far.1) (under_way next.1) (under_among session so_far.1 far_making.named far_making.going) file (among file there))
+        (λ file there.
+        both_among (files_made next.0) (under_way next.1) all (λ f one. among_left (files_made (so_far.0 ++ next.0)) (under_way next.1) f (made_second so_far.0 next.0 f one)) (among_right (files_made (so_far.0 ++ next.0)) (under_way next.1)) file
+        (touching_among session so_far.1 far_making file there))
 
-    pub next_among : AreAmong (made ++ making_by session so_far.1) (files_made (so_far.0 ++ next.0) ++ under_way next.1)
-    next_among file there = made_ahead so_far.0 next.0 (under_way so_far.1) (under_way next.1) (under_among session so_far.1 far_making.named far_making.going) file (all_among file there)
+    pub next_once : NamesOnce (made ++ touching_by session so_far.1)
+    next_once = once_fewer (made ++ touching_by session so_far.1) all next_among
+        (subst (λ (p : Played). NamesOnce (files_made p.0 ++ under_way p.1)) (play_more front session now) (names_once (front ++ session ∷ []) now making))
 
-    pub next_has : AreAmong (files_made so_far.0) made → AreAmong (files_made (so_far.0 ++ next.0)) (made ++ making_by session so_far.1)
-    next_has has = made_both so_far.0 next.0 (made ++ making_by session so_far.1) (λ file there. among_left made (making_by session so_far.1) file (has file there))
-        (λ file there. among_right made (making_by session so_far.1) file (made_among session so_far.1 far_making.going file there))
+    pub next_has : AreAmong (files_made so_far.0) made → AreAmong (files_made (so_far.0 ++ next.0)) (made ++ touching_by session so_far.1)
+    next_has has = made_both so_far.0 next.0 (made ++ touching_by session so_far.1) (λ file there. among_left made (touching_by session so_far.1) file (has file there))
+        (λ file there.
+        among_right made (touching_by session so_far.1) file
+        (among_right (begun_first session (slice_index_or so_far.1.todo (session - 1) []) so_far.1) (making_by session so_far.1) file (made_among session so_far.1 far_making.going file there)))
 
 -- What is under way behind a front of an order was made behind all of it, or is under way still.
 pub play_ahead : (front rest : List ℕ) (now : Now) → IsMaking now

@@ -31,7 +31,8 @@ use Rattle.nb_session.specs.Told.{told_turns}
 use Rattle.nb_session.proofs.GiftLaws.{given_nothing}
 use Rattle.nb_session.proofs.PlayLaws.{Leads, behind, trail_after, after_none, no_file, no_made, plays_by, plays_then, plays_failed}
 use Rattle.nb_session.proofs.ToldLaws.{told_among}
-use Rattle.nb_session.proofs.ReadyLaws.{not_free, free_same, beside_other}
+use Rattle.nb_copy.proofs.InUseLaws.{not_free}
+use Rattle.nb_session.proofs.ReadyLaws.{free_same, beside_other}
 
 -- Pages go out of a database that was ready: no turn is taken.
 module _ (old new : World) (before after : Held) (t : Trail) (now : Now) (ready : IsReady old before t now) (struck : Strikes old new (name_of before) t []) (same : but_pages after ≡ but_pages before) (gave : GaveNothing old new) where

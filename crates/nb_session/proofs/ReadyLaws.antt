@@ -2,6 +2,7 @@
 use Rattle.std.proofs.Common.{◌≡◌, ◌≢◌, ◌⊎◌, inl, inr, ℕ, zero, suc, ◌-◌, List, [], ◌∷◌, ◌++◌, length, Bool, true, false, arith, refl, sym, ap, subst, ◌∙◌}
 use Rattle.std.specs.Prelude.{Contains, Option, Some, None, is_some, not, nat_le, ◌&&◌}
 use Rattle.std.proofs.lemmas.Bool.{true≢false}
+use Rattle.std.proofs.lemmas.List.Elements.{Contains-append_cases}
 use Rattle.std.specs.List.{slice_index_or}
 use Rattle.nb_fields.specs.Free.{is_free_file}
 use Rattle.nb_host.specs.Files.{File, Files}
@@ -16,23 +17,25 @@ use Rattle.nb_model.specs.Causes.{is_free_entry}
 use Rattle.nb_model.specs.Going.{IsMaking}
 use Rattle.nb_model.specs.Making.{MadeFile, IsNoneOf, making, under_way}
 use Rattle.nb_model.specs.Outcomes.{Turn, Outcome}
-use Rattle.nb_model.specs.Owner.{delta_name, owner}
+use Rattle.nb_model.specs.Owner.{delta_name}
 use Rattle.nb_model.specs.Run.{Now, Event, Played, base_now, with_made, account_after, outcome, event_of, stands_then, take_turn, one_turn, files_made}
 use Rattle.nb_model.specs.Steps.{steps_in, after_steps}
 use Rattle.nb_model.specs.Strokes.{base_in, base_after}
-use Rattle.nb_model.specs.Trail.{Trail, ShowsIn}
+use Rattle.nb_model.specs.Trail.{Trail}
 use Rattle.nb_model.proofs.MakingLaws.{made_used}
 use Rattle.nb_model.proofs.OpenedLaws.{HasMain, has_main}
-use Rattle.nb_model.proofs.OpeningLaws.{opened_in_use}
 use Rattle.nb_model.proofs.OutputLaws.{strokes_one}
 use Rattle.nb_model.proofs.RunLaws.{entry_same, base_in_base}
 use Rattle.nb_model.proofs.StandsLaws.{delta_named, delta_same, entry_other}
 use Rattle.nb_model.proofs.StepsLaws.{steps_one, steps_seen}
 use Rattle.nb_base.specs.Open.{OfFiles}
 use Rattle.nb_state.specs.Open.{Held, IsOpen, name_of}
+use Rattle.nb_copy.proofs.InUseLaws.{not_free}
 use Rattle.nb_session.specs.Acts.{Touched, AreKept}
 use Rattle.nb_session.specs.Ready.{IsReady, IsApart}
+use Rattle.nb_session.specs.Steps.{begun_in, touching}
 use Rattle.nb_session.proofs.MakesLaws.{makes_none, none_before, none_here}
+use Rattle.nb_session.proofs.TouchingLaws.{begun_among}
 
 -- a difference file is none of these
 apart_delta : (held : Held) (name m : List ℕ) → IsApart held name → delta_name m ≢ name
@@ -46,17 +49,6 @@ apart_files held name apart (inr same) = apart_delta held name (name_of held) ap
 -- a database that is open is there
 is_there : (w : World) (held : Held) (t : Trail) → IsOpen w held t → (bytes : List ℕ) × (w.files (name_of held) ≡ Some bytes)
 is_there w held t opened = let main : HasMain opened.files.sees.base (w.files (name_of held)) = has_main (name_of held) opened.files.sees.base (w.files (name_of held)) (w.files (delta_name (name_of held))) opened.files.files.shows in (main.bytes, main.there)
-
--- the name of a database that is shown isn't free
-pub in_use : (files : Files) (name : List ℕ) (b : Base) → ShowsIn name b files → is_free_name files name ≡ false
-in_use files name b shows =
-    let main : HasMain b (files name) = has_main name b (files name) (files (delta_name name)) shows in
-    is_free_name-false files name
-    (ap is_free_file main.there ∙ opened_in_use name main.bytes (files (delta_name name)) b (ap (λ (f : File). owner name f (files (delta_name name))) (sym main.there) ∙ shows))
-
--- nor is that of one that is open
-pub not_free : (w : World) (held : Held) (t : Trail) → IsOpen w held t → is_free_name w.files (name_of held) ≡ false
-not_free w held t opened = in_use w.files (name_of held) opened.files.sees.base opened.files.files.shows
 
 -- Of a difference file beside a name that isn't the database's it stays whether it is there.
 module _ (old new : World) (before after : Held) (t u : Trail) (was : IsOpen old before t) (is : IsOpen new after u) (same : name_of after ≡ name_of before) where
@@ -158,7 +150,7 @@ module _ (old w : World) (e0 e1 : Held) (t : Trail) (now : Now) (session : ℕ) 
   event = event_of session u o
 
   abbrev pub made : List MadeFile
-  made = making (base_now now).frozen (u ∷ tail)
+  made = touching session u tail now
 
   abbrev later : Now
   later = stands_then session (tail ++ more) o now
@@ -194,7 +186,10 @@ module _ (old w : World) (e0 e1 : Held) (t : Trail) (now : Now) (session : ℕ) 
         let off : m ≢ name_of e0 = λ e. other (e ∙ ready.named) in
         let main : w.files m ≡ old.files m = read m (λ touched. elim touched [
           | inl file ↦ elim file [ inl e ↦ off e | inr e ↦ true≢false (sym (delta_named (name_of e0)) ∙ ap is_delta (sym e) ∙ plain) ]
-          | inr (bytes, there) ↦ none_here now session u (tail ++ more) here m (base_now now).frozen tail more refl before bytes there
+          | inr (bytes, there) ↦ elim (Contains-append_cases (begun_in session u now) (making (base_now now).frozen (u ∷ tail)) (m, bytes) there) [
+            | inl begun ↦ none bytes (begun_among session u (tail ++ more) now here (m, bytes) begun)
+            | inr made_here ↦ none_here now session u (tail ++ more) here m (base_now now).frozen tail more refl before bytes made_here
+          ]
         ]) in
         free_same old.files w.files m main (beside m off) ∙ ready.known m plain before ∙ ap is_free_entry (sym (other_then session (tail ++ more) o now m other (λ bytes is. unmade bytes (there_is m bytes is))))
 

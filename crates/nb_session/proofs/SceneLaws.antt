@@ -10,7 +10,7 @@ use Rattle.nb_model.specs.declared.statement.Statement.{Statement}
 use Rattle.nb_model.specs.Account.{Base}
 use Rattle.nb_model.specs.Gifts.{Foretells}
 use Rattle.nb_model.specs.Going.{IsMaking}
-use Rattle.nb_model.specs.Making.{MadeFile, making_by, under_way, AreAmong}
+use Rattle.nb_model.specs.Making.{MadeFile, under_way, AreAmong}
 use Rattle.nb_model.specs.Outcomes.{Turn, Begins, Given}
 use Rattle.nb_model.specs.Run.{Event, Now, Played, base_now, one_turn, play, files_made}
 use Rattle.nb_model.specs.Trail.{Trail}
@@ -26,7 +26,7 @@ use Rattle.nb_session.specs.declared.told.Told.{Told}
 use Rattle.nb_session.specs.Acts.{AreSixteen, Grows}
 use Rattle.nb_session.specs.Askers.{Asker, task_todo, task_left, todo_of, HasTodo, left_of, IsFit, any_refused}
 use Rattle.nb_session.specs.Ready.{IsReady, TaskGoes}
-use Rattle.nb_session.specs.Steps.{as_played, Steps, TakesNext}
+use Rattle.nb_session.specs.Steps.{as_played, touching_by, Steps, TakesNext}
 use Rattle.nb_session.specs.Stops.{Plays}
 use Rattle.nb_session.specs.Told.{told_turns}
 use Rattle.nb_session.proofs.GiftLaws.{foretold_first, foretold_then, foretold_itself, grows_none, grows_joined}
@@ -185,12 +185,12 @@ module _ {H : Type 0} (tells : Bool) (told : IsTrue tells) (world : H → World)
 
       pub turn_plays : (given : Given) → AreSixteen given.guids → Foretells given (world old) (world s'.host)
           → Plays (as_played (λ done. made.refused) answer) (world s.host) (world s'.host) s.shared s'.shared (trail_after t (told_turns how (play front (from given)))) (play front (from given)).1
-          (told_turns how (one_turn session (play front (from given)).1)) (making_by session (play front (from given)).1)
+          (told_turns how (one_turn session (play front (from given)).1)) (touching_by session (play front (from given)).1)
       turn_plays given sixteen foretold =
           subst (λ (h : Told). Plays (as_played (λ done. made.refused) answer) (world s.host) (world s'.host) s.shared s'.shared (trail_after t (told_turns how (play front (from given)))) (play front (from given)).1
-          (told_turns h (one_turn session (play front (from given)).1)) (making_by session (play front (from given)).1)) (here.telling session asker there)
+          (told_turns h (one_turn session (play front (from given)).1)) (touching_by session (play front (from given)).1)) (here.telling session asker there)
           (subst (λ (n : ℕ). Plays (as_played (λ done. made.refused) answer) (world s.host) (world s'.host) s.shared s'.shared (trail_after t (told_turns how (play front (from given)))) (play front (from given)).1
-          (told_turns asker.told (one_turn n (play front (from given)).1)) (making_by n (play front (from given)).1)) mine
+          (told_turns asker.told (one_turn n (play front (from given)).1)) (touching_by n (play front (from given)).1)) mine
           ((took given sixteen (told_first given foretold)).plays (told_then given sixteen foretold)))
 
     module _ (made : Steps tells (Ok tt) (world s.host) (world s'.host) (faults s.host) (faults s'.host) s.shared s'.shared asker moved)
@@ -232,7 +232,7 @@ module _ {H : Type 0} (tells : Bool) (told : IsTrue tells) (world : H → World)
       turn_far =
           let n : Now = from given in
           let given_making : IsMaking n = making_giving now given sixteen making in
-          let files : List MadeFile = far.made ++ making_by session p.1 in
+          let files : List MadeFile = far.made ++ touching_by session p.1 in
           let q : Played = behind p (one_turn session p.1) in
           let more : play (front ++ session ∷ []) n ≡ q = play_more front session n in
           let refused : any_refused s'.agents ≡ any_refused s.agents || made.refused =
@@ -242,8 +242,8 @@ module _ {H : Type 0} (tells : Bool) (told : IsTrue tells) (world : H → World)
             plays = subst (λ (r : Played). Plays (Ok (any_refused s'.agents)) (world old) (world s'.host) before s'.shared t n (told_turns how r) files) (sym more)
                 (subst (λ (r : Bool). Plays (Ok r) (world old) (world s'.host) before s'.shared t n (told_turns how q) files) (sym refused)
                 (subst (λ (es : List Event). Plays (Ok (any_refused s.agents || made.refused)) (world old) (world s'.host) before s'.shared t n (es, q.1) files) (sym (told_append how p.0 (one_turn session p.1).0))
-                (plays_then (world old) (world s.host) (world s'.host) before s.shared s'.shared t n (told_turns how p) (told_turns how (one_turn session p.1)) far.made (making_by session p.1)
-                (next_once n given_making front session far.made far.among) (told_among how p.0 far.made far.has) (told_others how p.0 (making_by session p.1) (next_others n given_making front session))
+                (plays_then (world old) (world s.host) (world s'.host) before s.shared s'.shared t n (told_turns how p) (told_turns how (one_turn session p.1)) far.made (touching_by session p.1)
+                (next_once n given_making front session far.made far.among) (told_among how p.0 far.made far.has) (told_others how p.0 (touching_by session p.1) (next_others n given_making front session))
                 (any_refused s.agents) made.refused far.plays (turn_plays (Ok tt) made given sixteen foretold))));
             among = subst (λ (r : Played). AreAmong files (files_made r.0 ++ under_way r.1)) (sym more) (next_among n given_making front session far.made far.among);
             has = subst (λ (r : Played). AreAmong (files_made r.0) files) (sym more) (next_has n given_making front session far.made far.among far.has);

@@ -41,7 +41,7 @@ use Rattle.nb_session.specs.declared.task.Taken.{Taken}
 use Rattle.nb_session.specs.declared.task.Task.{Task}
 use Rattle.nb_session.specs.declared.told.Told.{Told}
 use Rattle.nb_session.proofs.OthersLaws.{leaves_changes, leaves_line, leaves_then, leaves_among, refusal_said, then_refusal}
-use Rattle.nb_session.proofs.ReadyLaws.{not_free}
+use Rattle.nb_copy.proofs.InUseLaws.{not_free}
 use Rattle.nb_session.proofs.ToldLaws.{refusal_line}
 
 -- what is said of a value says nothing of a failure

@@ -1,5 +1,5 @@
 -- A turn of a session is the next that it has to do.
-use Rattle.std.proofs.Common.{◌≡◌, inl, inr, ℕ, zero, suc, ◌-◌, ◌<◌, List, [], ◌∷◌, ◌++◌, length, map, drop, get_or, refl, sym, ap, subst, ◌∙◌, arith, append_assoc, get_or-set_same, drop_of_length-le}
+use Rattle.std.proofs.Common.{◌≡◌, inl, inr, ℕ, ◌-◌, ◌<◌, List, [], ◌∷◌, ◌++◌, length, map, drop, refl, sym, ap, subst, ◌∙◌, append_assoc, get_or-set_same, drop_of_length-le}
 use Rattle.std.specs.Prelude.{Bool, true, false, ◌||◌, IsTrue, Result, Ok, Err, IsErr, IsErrAnd, IfOk, IfErr, OnOk, Option, Some, None}
 use Rattle.std.specs.List.{AllByRecursion, slice_index_or}
 use Rattle.std.proofs.lemmas.Bool.{cases_lt}
@@ -27,29 +27,17 @@ use Rattle.nb_session.specs.declared.task.Left.TheVariants.{Same, Other}
 use Rattle.nb_session.specs.declared.task.Taken.{Taken}
 use Rattle.nb_session.specs.Askers.{Asker, task_first, task_rest, task_todo, task_left, left_of, left_refused, left_task, todo_of, HasTodo, KeepsOthers}
 use Rattle.nb_session.specs.Ready.{IsReady, TaskGoes}
-use Rattle.nb_session.specs.Steps.{as_played, GoesFurther, Turns, TakesNext, Steps}
+use Rattle.nb_session.specs.Steps.{as_played, begun_in, begun_first, touching, touching_by, GoesFurther, Turns, TakesNext, Steps}
 use Rattle.nb_session.specs.MadeNames.{AnyAsks, Asks, MayMake, TaskMakes}
 use Rattle.nb_session.specs.StillOpen.{AskerStays, AskerTurnStays, IsAllowed, IsStillOpen, TaskStays, TurnStays}
 use Rattle.nb_session.proofs.AskerStays.{asker_failed, asker_taken}
 use Rattle.nb_session.specs.Stops.{Plays}
 use Rattle.nb_session.specs.Told.{told_turns}
+use Rattle.nb_session.proofs.MakesLaws.{place_in}
+use Rattle.nb_session.proofs.TouchingLaws.{one_turn_is}
 use Rattle.nb_session.proofs.UnderWayLaws.{making_append, making_begins}
 
--- a session takes the first turn that it has to do
-one_turn_is : (session : ℕ) (now : Now) (ts : List Turn) → slice_index_or now.todo (session - 1) [] ≡ ts → one_turn session now ≡ take_turn session ts now
-unfolding one_turn
-one_turn_is session now ts is = ap (λ (xs : List Turn). take_turn session xs now) is
-
--- a place with a turn is one of the list's
-place_in : (todo : List (List Turn)) (i : ℕ) (t : Turn) (rest : List Turn) → get_or todo i [] ≡ t ∷ rest → i < length todo
-place_in [] i t rest is = absurd (no_turn is)
-  where
-    no_turn : get_or [] i [] ≡ t ∷ rest → ⊥
-    no_turn h = cc
-place_in (ts ∷ todo) zero t rest is = omega arith
-place_in (ts ∷ todo) (suc i) t rest is = let later = place_in todo i t rest is in omega arith
-
--- and has then what the turn left, and what stood behind it
+-- a session that took a turn has then what the turn left, and what stood behind it
 taken_todo : (session : ℕ) (now : Now) (t : Turn) (rest : List Turn) → slice_index_or now.todo (session - 1) [] ≡ t ∷ rest
     → slice_index_or (take_turn session (t ∷ rest) now).1.todo (session - 1) [] ≡ (outcome session t now).next ++ rest
 unfolding take_turn stands_then
@@ -75,16 +63,19 @@ module _ {T : Type 0} (refused : T → Bool) (task : T → Option Task) (old new
   one_is : one_turn asker.number now ≡ take_turn asker.number (turn ∷ (tail ++ more)) now
   one_is = one_turn_is asker.number now (turn ∷ (tail ++ more)) (has ∙ here)
 
-  made_is : making_by asker.number now ≡ making (base_now now).frozen (turn ∷ tail)
-  made_is =
+  making_is : making_by asker.number now ≡ making (base_now now).frozen (turn ∷ tail)
+  making_is =
       ap (making (base_now now).frozen) (has ∙ here) ∙ making_append (base_now now).frozen (turn ∷ tail) more
       ∙ ap (λ (files : List MadeFile). making (base_now now).frozen (turn ∷ tail) ++ files) (making_begins (base_now now).frozen rest) ∙ append-nil (making (base_now now).frozen (turn ∷ tail))
 
-  plays_one : (result : Result Bool Stop) → Plays result old new a b t now (told_turns asker.told (take_turn asker.number (turn ∷ (tail ++ more)) now)) (making (base_now now).frozen (turn ∷ tail))
-      → Plays result old new a b t now (told_turns asker.told (one_turn asker.number now)) (making_by asker.number now)
+  touching_is : touching_by asker.number now ≡ touching asker.number turn tail now
+  touching_is = ap (λ (ts : List Turn). begun_first asker.number ts now ++ making_by asker.number now) (has ∙ here) ∙ ap (λ (files : List MadeFile). begun_in asker.number turn now ++ files) making_is
+
+  plays_one : (result : Result Bool Stop) → Plays result old new a b t now (told_turns asker.told (take_turn asker.number (turn ∷ (tail ++ more)) now)) (touching asker.number turn tail now)
+      → Plays result old new a b t now (told_turns asker.told (one_turn asker.number now)) (touching_by asker.number now)
   plays_one result plays =
-      subst (λ (p : Played). Plays result old new a b t now (told_turns asker.told p) (making_by asker.number now)) (sym one_is)
-      (subst (Plays result old new a b t now (told_turns asker.told (take_turn asker.number (turn ∷ (tail ++ more)) now))) (sym made_is) plays)
+      subst (λ (p : Played). Plays result old new a b t now (told_turns asker.told p) (touching_by asker.number now)) (sym one_is)
+      (subst (Plays result old new a b t now (told_turns asker.told (take_turn asker.number (turn ∷ (tail ++ more)) now))) (sym touching_is) plays)
 
   -- the turn was taken
   takes_turn : (value : T) (noted : Bool) → moved ≡ record { number = asker.number; told = asker.told; statements = rest; task = task value; refused = noted }
@@ -107,8 +98,8 @@ module _ {T : Type 0} (refused : T → Bool) (task : T → Option Task) (old new
   takes_none fault (Ok done) which is turns = absurd is.1
   takes_none fault (Err e) which is turns = record {
     grows = turns.grows;
-    plays = λ told. subst (λ (f : Fault). Plays (as_played {T = Unit {0}} (λ done. which) (Err f)) old new a b t now (told_turns asker.told (one_turn asker.number now)) (making_by asker.number now)) (sym is.1)
-        (plays_err {S = Unit {0}} refused (λ done. which) fault old new a b t now (told_turns asker.told (one_turn asker.number now)) (making_by asker.number now)
+    plays = λ told. subst (λ (f : Fault). Plays (as_played {T = Unit {0}} (λ done. which) (Err f)) old new a b t now (told_turns asker.told (one_turn asker.number now)) (touching_by asker.number now)) (sym is.1)
+        (plays_err {S = Unit {0}} refused (λ done. which) fault old new a b t now (told_turns asker.told (one_turn asker.number now)) (touching_by asker.number now)
         (plays_one (as_played refused (Err fault)) (turns.plays told)));
     todo = λ told. tt;
     goes = λ told. tt;

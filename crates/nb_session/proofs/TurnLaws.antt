@@ -15,7 +15,7 @@ use Rattle.nb_model.specs.Built.{is_built}
 use Rattle.nb_model.specs.Gifts.{Foretells}
 use Rattle.nb_model.specs.Going.{IsMaking}
 use Rattle.nb_model.specs.Lines.{line_text}
-use Rattle.nb_model.specs.Making.{MadeFile, making}
+use Rattle.nb_model.specs.Making.{MadeFile}
 use Rattle.nb_model.specs.Outcomes.{Turn, Begins, Seen}
 use Rattle.nb_model.specs.Output.{status_after}
 use Rattle.nb_model.specs.Run.{Now, Played, base_now, outcome, take_turn}
@@ -35,7 +35,7 @@ use Rattle.nb_session.specs.Acts.{Says, Grows, Acts, MayAct}
 use Rattle.nb_session.specs.Ready.{IsReady}
 use Rattle.nb_session.specs.Replies.{HasEnded, is_refusal}
 use Rattle.nb_session.specs.Says.{SaysLine}
-use Rattle.nb_session.specs.Steps.{as_played, GoesFurther, IsBehind, Turns}
+use Rattle.nb_session.specs.Steps.{as_played, touching, GoesFurther, IsBehind, Turns}
 use Rattle.nb_session.specs.Stops.{Plays}
 use Rattle.nb_session.specs.Told.{told_line, told_reply, told_turns}
 use Rattle.nb_session.proofs.EventLaws.{Marks, event_failed, event_quiet, event_unsaid, event_said}
@@ -57,22 +57,22 @@ err_none (Err e) P is = tt
 
 -- A turn of the session that has it to do next, and `tail` and `more` behind it.
 module _ {T S : Type 0} (how : Told) (reply : T → Option Reply) (result : Result T Fault) (refused : S → Bool) (task : S → Option Task) (old mid new : World) (e0 e1 : Held) (t : Trail) (now : Now) (session : ℕ)
-    (u : Turn) (tail more : List Turn) (files : List MadeFile) (files_are : files ≡ making (base_now now).frozen (u ∷ tail)) (makes : IsMaking now) (place : slice_index_or now.todo (session - 1) [] ≡ u ∷ (tail ++ more))
+    (u : Turn) (tail more : List Turn) (files : List MadeFile) (files_are : files ≡ touching session u tail now) (makes : IsMaking now) (place : slice_index_or now.todo (session - 1) [] ≡ u ∷ (tail ++ more))
     (may : MayAct reply result old mid e0 e1 t now session u files) (mark : Acts reply result old mid e0 e1 t now session u files → Marks old mid e0 files) where
   abbrev played : Played
   played = told_turns how (take_turn session (u ∷ (tail ++ more)) now)
 
-  acting : Foretells now.given old mid → Acts reply result old mid e0 e1 t now session u (making (base_now now).frozen (u ∷ tail))
+  acting : Foretells now.given old mid → Acts reply result old mid e0 e1 t now session u (touching session u tail now)
   acting told = subst (Acts reply result old mid e0 e1 t now session u) files_are (may.acts told)
 
-  marks : Foretells now.given old mid → Marks old mid e0 (making (base_now now).frozen (u ∷ tail))
+  marks : Foretells now.given old mid → Marks old mid e0 (touching session u tail now)
   marks told = subst (Marks old mid e0) files_are (mark (may.acts told))
 
   -- it failed before it was to say anything
   pub turns_failed : (answer : Result S Fault) → IsErr answer → Turns how refused task answer old mid e0 e1 t now session u tail more
   turns_failed answer failed = record {
     grows = may.grows;
-    plays = λ told. plays_err refused answer old mid e0 e1 t now played (making (base_now now).frozen (u ∷ tail)) failed (event_failed how old mid mid e0 e1 t now session u tail more result reply (acting told) (marks told));
+    plays = λ told. plays_err refused answer old mid e0 e1 t now played (touching session u tail now) failed (event_failed how old mid mid e0 e1 t now session u tail more result reply (acting told) (marks told));
     behind = λ told. err_none answer _ failed;
   }
 
@@ -83,7 +83,7 @@ module _ {T S : Type 0} (how : Told) (reply : T → Option Reply) (result : Resu
     grows = may.grows;
     plays = λ told.
         let acts = acting told in
-        subst (λ (b : Bool). Plays (Ok b) old mid e0 e1 t now played (making (base_now now).frozen (u ∷ tail))) (sym not_refused)
+        subst (λ (b : Bool). Plays (Ok b) old mid e0 e1 t now played (touching session u tail now)) (sym not_refused)
         (event_quiet how old mid mid e0 e1 t now session u tail more result reply acts (marks told) has place ready makes (quiet _ acts.says));
     behind = behind;
   }
@@ -101,7 +101,7 @@ module _ {T S : Type 0} (how : Told) (reply : T → Option Reply) (result : Resu
       grows = grown;
       plays = λ told.
           let acts = acting (before told) in
-          plays_err refused answer old new e0 e1 t now played (making (base_now now).frozen (u ∷ tail)) failed
+          plays_err refused answer old new e0 e1 t now played (touching session u tail now) failed
           (event_unsaid how old mid new e0 e1 t now session u tail more result reply acts (marks (before told)) has place ready makes r (is_said _ acts.says) line_said says);
       behind = λ told. err_none answer _ failed;
     }
@@ -158,7 +158,7 @@ single_behind w held session statement now single =
 
 -- A turn that was refused, and whose refusal is said.
 module _ {T : Type 0} (how : Told) (reply : T → Option Reply) (refusal : Refusal) (old mid new : World) (e0 e1 : Held) (t : Trail) (now : Now) (session : ℕ) (u : Turn) (tail more : List Turn)
-    (files : List MadeFile) (files_are : files ≡ making (base_now now).frozen (u ∷ tail)) (makes : IsMaking now) (place : slice_index_or now.todo (session - 1) [] ≡ u ∷ (tail ++ more))
+    (files : List MadeFile) (files_are : files ≡ touching session u tail now) (makes : IsMaking now) (place : slice_index_or now.todo (session - 1) [] ≡ u ∷ (tail ++ more))
     (may : MayAct reply (Err (Refused refusal)) old mid e0 e1 t now session u files) (mark : Acts reply (Err (Refused refusal)) old mid e0 e1 t now session u files → Marks old mid e0 files) (ready : IsReady old e0 t now) where
   pub turns_refused : (answer : Result Taken Fault) → SaysLine answer mid new (line_text session (RefusedBy refusal)) → IfOk answer (λ taken. taken ≡ record { task = None; refused = true })
       → ((outcome session u now).reply ≡ Some (RefusedBy refusal) → status_after (RefusedBy refusal) ≡ 1) → (Foretells now.given old mid → IsBehind new e1 session u tail now None)
@@ -191,7 +191,7 @@ module _ (fault : Fault) (answer : Result Taken Fault) (handed : IsErr answer ×
   handed_turns how refused task old new a b t now session u tail more turns =
       subst (λ (r : Result Taken Fault). Turns how (λ taken. taken.refused) (λ taken. taken.task) r old new a b t now session u tail more) (sym (passed_on answer fault handed)) (record {
         grows = turns.grows;
-        plays = λ told. subst (λ (r : Result Bool Stop). Plays r old new a b t now (told_turns how (take_turn session (u ∷ (tail ++ more)) now)) (making (base_now now).frozen (u ∷ tail))) (played_err refused (λ (x : Taken). x.refused) fault) (turns.plays told);
+        plays = λ told. subst (λ (r : Result Bool Stop). Plays r old new a b t now (told_turns how (take_turn session (u ∷ (tail ++ more)) now)) (touching session u tail now)) (played_err refused (λ (x : Taken). x.refused) fault) (turns.plays told);
         behind = λ told. tt;
       })
 

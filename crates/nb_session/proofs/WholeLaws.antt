@@ -1,6 +1,6 @@
 -- A script that is played: its schedule, and then rounds until all sessions have finished.
 use Rattle.std.proofs.Common.{◌≡◌, ℕ, zero, suc, ◌+◌, ◌-◌, ◌≤◌, List, [], ◌∷◌, ◌++◌, length, map, get_or, append_assoc, inl, inr, refl, sym, ap, subst, ◌∙◌, arith}
-use Rattle.std.specs.Prelude.{Bool, IsTrue, true, false, Result, Ok, Err, Some, None, slice_get}
+use Rattle.std.specs.Prelude.{Bool, IsTrue, true, false, Result, Ok, Err, Some, None, Contains, slice_get}
 use Rattle.std.specs.List.{AllByRecursion, range_with_len, slice_index_or}
 use Rattle.std.proofs.lemmas.Bool.{cases_lt}
 use Rattle.std.proofs.lemmas.List.{append-nil, get_or_past, length-map}
@@ -15,7 +15,7 @@ use Rattle.nb_change.specs.Counts.{CountsDevice}
 use Rattle.nb_model.specs.Causes.{is_free_entry}
 use Rattle.nb_model.specs.Gifts.{Foretells}
 use Rattle.nb_model.specs.Going.{IsMaking}
-use Rattle.nb_model.specs.Making.{MadeFile, making_by, under_way, AreAmong}
+use Rattle.nb_model.specs.Making.{MadeFile, under_way, AreAmong}
 use Rattle.nb_model.specs.Outcomes.{Turn, Begins}
 use Rattle.nb_model.specs.Run.{Event, Now, Played, one_turn, play, rounds, all_sessions, files_made, AreFinished, begun}
 use Rattle.nb_model.specs.Trail.{Trail}
@@ -35,7 +35,7 @@ use Rattle.nb_session.specs.Acts.{Grows}
 use Rattle.nb_session.specs.Askers.{Asker, HasTodo, left_of, IsFit, any_refused, fresh_asker, first_askers}
 use Rattle.nb_session.specs.Ready.{IsReady}
 use Rattle.nb_session.specs.Stops.{Plays}
-use Rattle.nb_session.specs.Steps.{as_played}
+use Rattle.nb_session.specs.Steps.{as_played, touching_by}
 use Rattle.nb_session.specs.Todo.{PlaysWhole}
 use Rattle.nb_session.specs.Told.{told_events, told_turns}
 use Rattle.nb_session.proofs.AllLaws.{all_append}
@@ -43,7 +43,7 @@ use Rattle.nb_session.proofs.EndLaws.{turns_end}
 use Rattle.nb_session.proofs.GiftLaws.{foretold_first, grows_joined}
 use Rattle.nb_session.proofs.MadeLaws.{among_left}
 use Rattle.nb_session.proofs.NameLaws.{HaveNames, made_named, begun_plain}
-use Rattle.nb_session.proofs.NextLaws.{play_length, play_more, all_among, next_once, next_others, play_ahead, finished_among}
+use Rattle.nb_session.proofs.NextLaws.{play_length, play_more, next_among, next_once, next_others, play_ahead, finished_among}
 use Rattle.nb_session.proofs.PlayLaws.{behind, trail_after, plays_wider, plays_failed, plays_cut}
 use Rattle.nb_session.proofs.SceneLaws.{sessions_kind, done_todo, agent_some, Holds, HoldsAt, rests_hold, moves_hold, none_hold, turn_plays, turn_grows, at_place}
 use Rattle.nb_session.proofs.StopLaws.{AreApart}
@@ -153,15 +153,15 @@ module _ {H : Type 0} (tells : Bool) (told : IsTrue tells) (world : H → World)
   -- A turn ended early, and these would have come behind it.
   failed : (front rest whole : List ℕ) (session : ℕ) (mid new : World) (e1 e2 : Held) (r : Bool) (e : Stop) (made : List MadeFile) → whole ≡ front ++ (session ∷ rest)
       → AreAmong made (files_made (play front now).0 ++ under_way (play front now).1) → AreAmong (files_made (play front now).0) made → Plays (Ok r) (world old) mid before e1 t now (told_turns how (play front now)) made
-      → Plays (Err e) mid new e1 e2 (trail_after t (told_turns how (play front now))) (play front now).1 (told_turns how (one_turn session (play front now).1)) (making_by session (play front now).1)
-      → Plays (Err e) (world old) new before e2 t now (told_turns how (play whole now)) (made ++ making_by session (play front now).1)
+      → Plays (Err e) mid new e1 e2 (trail_after t (told_turns how (play front now))) (play front now).1 (told_turns how (one_turn session (play front now).1)) (touching_by session (play front now).1)
+      → Plays (Err e) (world old) new before e2 t now (told_turns how (play whole now)) (made ++ touching_by session (play front now).1)
   failed front rest whole session mid new e1 e2 r e made is among has first second =
       let p : Played = play front now in
       let two : Played = play (front ++ session ∷ []) now in
-      let files : List MadeFile = made ++ making_by session p.1 in
+      let files : List MadeFile = made ++ touching_by session p.1 in
       let more : two ≡ behind p (one_turn session p.1) = play_more front session now in
-      let both = plays_failed (world old) mid new before e1 e2 t now (told_turns how p) (told_turns how (one_turn session p.1)) made (making_by session p.1) (next_once now making front session made among)
-      (told_among how p.0 made has) (told_others how p.0 (making_by session p.1) (next_others now making front session)) r e first second in
+      let both = plays_failed (world old) mid new before e1 e2 t now (told_turns how p) (told_turns how (one_turn session p.1)) made (touching_by session p.1) (next_once now making front session made among)
+      (told_among how p.0 made has) (told_others how p.0 (touching_by session p.1) (next_others now making front session)) r e first second in
       let joined = subst (λ (es : List Event). Plays (Err e) (world old) new before e2 t now (es, (one_turn session p.1).1) files) (sym (told_append how p.0 (one_turn session p.1).0)) both in
       let cut = plays_cut (world old) new before e2 t now (told_turns how two) (told_events how (play rest two.1).0) (play rest two.1).1 files e
       (subst (λ (q : Played). Plays (Err e) (world old) new before e2 t now (told_turns how q) files) (sym more) joined) in
@@ -198,15 +198,17 @@ module _ {H : Type 0} (tells : Bool) (told : IsTrue tells) (world : H → World)
         (Err fault) e.move.made now.given making.going.sixteen foretold in
         let far = before_it.so_far now.given making.going.sixteen (foretold_first (world old) (world e.last.host) (world after.host) now.given before_it.grown last_grows foretold) in
         let p : Played = play e.front now in
-        let files : List MadeFile = far.made ++ making_by e.session p.1 in
+        let files : List MadeFile = far.made ++ touching_by e.session p.1 in
         let among : AreAmong files (files_made (play whole now).0 ++ under_way (play whole now).1) =
-        λ file there. subst (λ (xs : List ℕ). AreAmong (files_made p.0 ++ under_way p.1) (files_made (play xs now).0 ++ under_way (play xs now).1)) (sym is) (play_ahead e.front (e.session ∷ (e.rest ++ end.more)) now making) file
-        (all_among now making e.front e.session far.made far.among file there) in
+        λ file there.
+        subst (λ (xs : List ℕ). Contains (files_made (play xs now).0 ++ under_way (play xs now).1) file) (append_assoc e.front (e.session ∷ []) (e.rest ++ end.more) ∙ sym is)
+        (play_ahead (e.front ++ e.session ∷ []) (e.rest ++ end.more) now making file
+        (subst (λ (q : Played). Contains (files_made q.0 ++ under_way q.1) file) (sym (play_more e.front e.session now)) (next_among now making e.front e.session far.made far.among file there))) in
         record {
           how_often = end.how_often;
           plays = made_whole (Err stop) (world after.host) after.shared whole files end.finished among
               (failed e.front (e.rest ++ end.more) whole e.session (world e.last.host) (world after.host) e.last.shared after.shared _ stop far.made is far.among far.has far.plays
-              (subst (λ (r : Result Bool Stop). Plays r (world e.last.host) (world after.host) e.last.shared after.shared (trail_after t (told_turns how p)) p.1 (told_turns how (one_turn e.session p.1)) (making_by e.session p.1)) (same (λ done. e.move.made.refused)) plays));
+              (subst (λ (r : Result Bool Stop). Plays r (world e.last.host) (world after.host) e.last.shared after.shared (trail_after t (told_turns how p)) p.1 (told_turns how (one_turn e.session p.1)) (touching_by e.session p.1)) (same (λ done. e.move.made.refused)) plays));
           finished = end.finished;
         }
 

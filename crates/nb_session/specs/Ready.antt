@@ -9,7 +9,7 @@ use Rattle.nb_model.specs.Image.{Image}
 use Rattle.nb_model.specs.Making.{IsNoneOf, under_way}
 use Rattle.nb_model.specs.Run.{Now, base_now}
 use Rattle.nb_model.specs.Trail.{Trail}
-use Rattle.nb_copy.specs.Copying.{IsCopying}
+use Rattle.nb_copy.specs.FileCopies.{IsCopyingTo}
 use Rattle.nb_copy.specs.Starting.{IsBackingUp}
 use Rattle.nb_state.specs.Open.{Held, IsOpen, name_of}
 use Rattle.nb_session.specs.declared.task.Task.{Task}
@@ -33,6 +33,6 @@ pub record IsApart (held : Held) (name : List ℕ) : Type 0 where
 abbrev pub TaskGoes : (session : ℕ) → World → Held → (frozen : Image) → Option Task → Type 0
 TaskGoes session w held frozen None = Unit {0}
 TaskGoes session w held frozen (Some (Backup c)) = IsBackingUp w c frozen × IsApart held c.backing.name × (held.running ≡ Some session)
-TaskGoes session w held frozen (Some (Copy c)) = IsCopying w c frozen × IsApart held c.name × (held.running ≡ Some session)
+TaskGoes session w held frozen (Some (Copy c)) = IsCopyingTo w c frozen × IsApart held c.name × (held.running ≡ Some session)
 TaskGoes session w held frozen (Some (End reply)) = held.running ≡ Some session
 TaskGoes session w held frozen (Some (Merge m)) = Unit {0}

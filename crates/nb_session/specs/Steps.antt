@@ -5,10 +5,11 @@ use Rattle.nb_host.specs.World.{World}
 use Rattle.nb_host.specs.declared.faults.Fault.{Fault}
 use Rattle.nb_host.specs.declared.faults.Fault.TheVariants.{Refused, Device, Memory}
 use Rattle.nb_change.specs.Counts.{CountsDevice}
+use Rattle.nb_model.specs.declared.statement.Statement.TheVariants.{Backup as BackupTo, BackupSince}
 use Rattle.nb_model.specs.Gifts.{Foretells}
 use Rattle.nb_model.specs.Going.{IsMaking}
-use Rattle.nb_model.specs.Making.{making, making_by}
-use Rattle.nb_model.specs.Outcomes.{Turn}
+use Rattle.nb_model.specs.Making.{MadeFile, making, making_by}
+use Rattle.nb_model.specs.Outcomes.{Turn, Begins}
 use Rattle.nb_model.specs.Run.{Now, base_now, outcome, take_turn, one_turn}
 use Rattle.nb_model.specs.Strokes.{base_after}
 use Rattle.nb_model.specs.Trail.{Trail}
@@ -33,6 +34,28 @@ as_played refused (Err (Refused refusal)) = Err MemoryStop
 as_played refused (Err Device) = Err DeviceStop
 as_played refused (Err Memory) = Err MemoryStop
 
+-- the files that are still to be made behind that turn
+abbrev pub left_making : (session : ℕ) → Turn → Now → List MadeFile
+left_making session turn now = making (base_after (base_now now) (outcome session turn now).strokes).frozen (outcome session turn now).next
+
+-- the file of a backup that begins in that turn, which is made then
+abbrev pub begun_in : (session : ℕ) → Turn → Now → List MadeFile
+begun_in session (Begins (BackupTo level name)) now = left_making session (Begins (BackupTo level name)) now
+begun_in session (Begins (BackupSince guid name)) now = left_making session (Begins (BackupSince guid name)) now
+begun_in session other now = []
+
+-- the files that a turn may touch, where `tail` stands behind it: that of a backup that begins, and those that its statement is still to make
+abbrev pub touching : (session : ℕ) → Turn → (tail : List Turn) → Now → List MadeFile
+touching session turn tail now = begun_in session turn now ++ making (base_now now).frozen (turn ∷ tail)
+
+-- and those that the next turn of a session may
+abbrev pub begun_first : (session : ℕ) → List Turn → Now → List MadeFile
+begun_first session [] now = []
+begun_first session (turn ∷ rest) now = begun_in session turn now
+
+abbrev pub touching_by : (session : ℕ) → Now → List MadeFile
+touching_by session now = begun_first session (slice_index_or now.todo (session - 1) []) now ++ making_by session now
+
 -- What a turn leaves of its statement, where `tail` stood behind it: what is under way then, and that it goes on from where it is.
 pub record IsBehind (w : World) (held : Held) (session : ℕ) (turn : Turn) (tail : List Turn) (now : Now) (task : Option Task) : Type 0 where
   pub next : (outcome session turn now).next ++ tail ≡ task_todo task
@@ -43,7 +66,7 @@ pub record IsBehind (w : World) (held : Held) (session : ℕ) (turn : Turn) (tai
 pub record Turns {T : Type 0} (told : Told) (refused : T → Bool) (task : T → Option Task) (result : Result T Fault) (old new : World) (before after : Held) (t : Trail) (now : Now) (session : ℕ) (turn : Turn) (tail more : List Turn) : Type 0 where
   pub grows : Grows old new
   pub plays : Foretells now.given old new
-      → Plays (as_played refused result) old new before after t now (told_turns told (take_turn session (turn ∷ (tail ++ more)) now)) (making (base_now now).frozen (turn ∷ tail))
+      → Plays (as_played refused result) old new before after t now (told_turns told (take_turn session (turn ∷ (tail ++ more)) now)) (touching session turn tail now)
   pub behind : Foretells now.given old new → IfOk result (λ value. IsBehind new after session turn tail now (task value))
 
 -- What is under way took its next turn, where the session has that to do and it goes on from where it is. It is `now_task` then, where it goes on.
@@ -56,7 +79,7 @@ GoesFurther told (Some task) now_task result old new before after t now session 
 -- The next turn of a session was taken, what it has to do then is left, and what is under way of it goes on.
 pub record TakesNext (refused : Bool) (result : Result (Unit {0}) Fault) (old new : World) (before after : Held) (t : Trail) (now : Now) (asker moved : Asker) : Type 0 where
   pub grows : Grows old new
-  pub plays : Foretells now.given old new → Plays (as_played (λ done. refused) result) old new before after t now (told_turns asker.told (one_turn asker.number now)) (making_by asker.number now)
+  pub plays : Foretells now.given old new → Plays (as_played (λ done. refused) result) old new before after t now (told_turns asker.told (one_turn asker.number now)) (touching_by asker.number now)
   pub todo : Foretells now.given old new → OnOk result (HasTodo moved (one_turn asker.number now).1)
   pub goes : Foretells now.given old new → OnOk result (TaskGoes asker.number new after (base_now (one_turn asker.number now).1).frozen moved.task)
 

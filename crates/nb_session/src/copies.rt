@@ -2,12 +2,13 @@
 ghost use Rattle.std.specs.Prelude.{◌≡◌, ◌≢◌, ◌<◌, length, ℕ, ◌-◌, List, [], ◌∷◌, ◌++◌, Bool, None, Some, true, false, IsTrue, IfOk, IfErr, OnOk};
 ghost use Rattle.std.specs.List.{slice_index_or};
 ghost use Rattle.nb_host.specs.Names.{is_delta};
-ghost use Rattle.nb_change.specs.Changes.{NoNames};
+ghost use Rattle.nb_change.specs.Changes.{Only};
 ghost use Rattle.nb_change.specs.Counts.{CountsDevice};
 ghost use Rattle.nb_page.specs.Free.{is_free_name};
 ghost use Rattle.nb_model.specs.declared.statement.Statement.TheVariants.{CopyTo};
 ghost use Rattle.nb_model.specs.Going.{IsMaking};
 ghost use Rattle.nb_model.specs.Outcomes.{Begins, Seen, Turn, next_guid};
+ghost use Rattle.nb_model.specs.Owner.{delta_name};
 ghost use Rattle.nb_model.specs.Run.{Now};
 ghost use Rattle.nb_model.specs.Sound.{IsSoundImage};
 ghost use Rattle.nb_model.specs.Trail.{Trail};
@@ -70,11 +71,12 @@ fn start<H: Host>(
     requires asked { IsFurther statement.now }
     requires backup { IsBackup statement.now }
     ensures turn { (s : Seen) (t : Trail) → IsTrue H.tells → t.base ≡ s.base → engine.old.running ≡ s.running → IsOpen (H.world host.old) engine.old t → IsSoundImage t.base.image
-        → KnowsFree 0 (H.world host.old).files s (file_asked statement.now) → GaveAtMost (H.world host.old) (H.world host.new) (next_guid s.given)
-        → StartsBackup result (H.world host.old) (H.world host.new) engine.old engine.new t (next_guid s.given) (first_turn s session statement.now) }
+        → KnowsFree 0 (H.world host.old).files s (file_asked statement.now) → (file_asked statement.now ≡ delta_name engine.old.files.name → ⊥) → GaveAtMost (H.world host.old) (H.world host.new) (next_guid s.given)
+        → StartsBackup result (H.world host.old) (H.world host.new) engine.old engine.new t (file_asked statement.now) (next_guid s.given) (first_turn s session statement.now) }
     ensures asks { (t : Trail) → IsTrue H.tells → IsOpen (H.world host.old) engine.old t → (guid : List ℕ) × (length guid ≡ 16) × GaveAtMost (H.world host.old) (H.world host.new) guid }
     ensures stays { engine.old.files.state ≡ 2 → engine.new ≡ engine.old }
-    ensures stays_open { (t : Trail) → IsTrue H.tells → IsOpen (H.world host.old) engine.old t → StaysOpen result (H.world host.old) (H.world host.new) engine.old engine.new t NoNames }
+    ensures stays_open { (t : Trail) → IsTrue H.tells → IsOpen (H.world host.old) engine.old t → (file_asked statement.now ≡ delta_name engine.old.files.name → ⊥)
+        → StaysOpen result (H.world host.old) (H.world host.new) engine.old engine.new t (Only (file_asked statement.now)) }
     ensures free { IsTrue H.tells → OnOk result (is_free_name (H.world host.old).files (file_asked statement.now) ≡ true) }
     ensures named { IfOk result (λ copier. copier.backing.name ≡ file_asked statement.now) }
     ensures size { IfOk result (λ copier. copier.page_size ≡ engine.old.files.page_size) }

@@ -5,7 +5,6 @@ use Rattle.std.specs.List.{AllByRecursion}
 use Rattle.std.proofs.lemmas.Bool.{and_parts, true≢false}
 use Rattle.std.proofs.lemmas.List.Elements.{Contains-append_left}
 use Rattle.nb_fields.specs.Header.{is_header}
-use Rattle.nb_host.specs.Files.{Files}
 use Rattle.nb_host.specs.Names.{is_name, is_delta}
 use Rattle.nb_host.specs.World.{World}
 use Rattle.nb_change.specs.Changes.{Other}
@@ -36,7 +35,8 @@ use Rattle.nb_script.specs.Scripts.{Plan}
 use Rattle.nb_script.specs.Words.{is_given}
 use Rattle.nb_session.specs.Ready.{IsReady}
 use Rattle.nb_session.proofs.NameLaws.{begun_plain, made_named}
-use Rattle.nb_session.proofs.ReadyLaws.{free_same, in_use}
+use Rattle.nb_copy.proofs.InUseLaws.{in_use}
+use Rattle.nb_session.proofs.ReadyLaws.{free_same}
 use Rattle.nb_top.specs.Performed.{KnowsNames, MayBeGiven}
 
 -- a name that a user may give, of so many bytes at most

@@ -2,12 +2,11 @@ use Rattle.std.proofs.Common.{◌≡◌, [], sym, subst, refl, ◌∙◌}
 use Rattle.std.specs.Prelude.{if◌then◌else◌, Bool, None}
 use Rattle.nb_model.specs.Account.{Base}
 use Rattle.nb_model.specs.Output.{status_after}
-use Rattle.nb_model.specs.Run.{base_now}
 use Rattle.nb_model.specs.Sound.{IsSoundImage}
 use Rattle.nb_session.specs.Replies.{some_said}
 use Rattle.nb_session.proofs.EventLaws.{marks_none}
 use Rattle.nb_session.proofs.KeepLaws.{further_single}
-use Rattle.nb_session.proofs.MakesLaws.{begins_make}
+use Rattle.nb_session.proofs.TouchingLaws.{begins_touch, one_turn_plain}
 use Rattle.nb_session.proofs.TurnLaws.{turns_failed, turns_unsaid, turns_said, status_told, single_behind}
 use Rattle.nb_change.specs.Changes.{NoNames}
 use Rattle.nb_session.proofs.StayLaws.{refusal_told, turn_failed, turn_said, turn_unsaid}
@@ -18,7 +17,7 @@ returns-in_err-reply-clause-turn g c now t more tells ready makes here =
     let old = g.H.Host.world c.args.host.now in
     let mid = g.H.Host.world c.do_statement.new.host in
     let sound = subst (λ (b : Base). IsSoundImage b.image) (sym ready.base) makes.going.sound in
-    turns_failed c.args.told some_said _ (λ (refused : Bool). refused) (λ (refused : Bool). None) old mid mid _ _ t now c.args.session _ [] more [] (begins_make (base_now now).frozen c.args.statement.now) makes here
+    turns_failed c.args.told some_said _ (λ (refused : Bool). refused) (λ (refused : Bool). None) old mid mid _ _ t now c.args.session _ [] more [] (begins_touch c.args.session c.args.statement.now now (one_turn_plain c.args.statement.now c.requires.single)) makes here
     (c.do_statement.ensures.turn now t c.args.session tells ready (λ by. sound)) (λ acts. marks_none old mid _) c.from_residual.result c.from_residual.ensures.0
 
 pub returns-in_err-tell-clause-turn : goal.returns-in_err-tell-clause-turn
@@ -26,7 +25,7 @@ returns-in_err-tell-clause-turn g c now t more tells ready makes here =
     let old = g.H.Host.world c.args.host.now in
     let mid = g.H.Host.world c.do_statement.new.host in
     let sound = subst (λ (b : Base). IsSoundImage b.image) (sym ready.base) makes.going.sound in
-    turns_unsaid c.args.told some_said _ (λ (refused : Bool). refused) (λ (refused : Bool). None) old mid (g.H.Host.world c.tell.new.host) _ _ t now c.args.session _ [] more [] (begins_make (base_now now).frozen c.args.statement.now) makes here
+    turns_unsaid c.args.told some_said _ (λ (refused : Bool). refused) (λ (refused : Bool). None) old mid (g.H.Host.world c.tell.new.host) _ _ t now c.args.session _ [] more [] (begins_touch c.args.session c.args.statement.now now (one_turn_plain c.args.statement.now c.requires.single)) makes here
     (c.do_statement.ensures.turn now t c.args.session tells ready (λ by. sound)) (λ acts. marks_none old mid _)
     c.in_ok-reply.ensures.ended c.in_ok-reply.reply c.in_ok-reply.ensures.said c.tell.result (c.tell.ensures.line tells) ready
     c.from_residual-in_err-tell.result c.from_residual-in_err-tell.ensures.0
@@ -37,7 +36,7 @@ returns-clause-turn g c now t more tells ready makes here =
     let mid = g.H.Host.world c.do_statement.new.host in
     let new = g.H.Host.world c.tell.new.host in
     let sound = subst (λ (b : Base). IsSoundImage b.image) (sym ready.base) makes.going.sound in
-    turns_said c.args.told some_said _ (λ (refused : Bool). refused) (λ (refused : Bool). None) old mid new _ _ t now c.args.session _ [] more [] (begins_make (base_now now).frozen c.args.statement.now) makes here
+    turns_said c.args.told some_said _ (λ (refused : Bool). refused) (λ (refused : Bool). None) old mid new _ _ t now c.args.session _ [] more [] (begins_touch c.args.session c.args.statement.now now (one_turn_plain c.args.statement.now c.requires.single)) makes here
     (c.do_statement.ensures.turn now t c.args.session tells ready (λ by. sound)) (λ acts. marks_none old mid _)
     c.in_ok-reply.ensures.ended c.in_ok-reply.reply c.in_ok-reply.ensures.said c.tell.result (c.tell.ensures.line tells) ready
     c.is_refusal-refused.result (c.in_ok-tell.ensures.line tells).said

@@ -5,19 +5,18 @@ use Rattle.nb_host.specs.declared.faults.Fault.TheVariants.{Refused, Device, Mem
 use Rattle.nb_model.specs.declared.reply.Reply.TheVariants.{Refused as RefusedBy}
 use Rattle.nb_model.specs.Account.{Base}
 use Rattle.nb_model.specs.Outcomes.{Begins, Given, next_guid}
-use Rattle.nb_model.specs.Run.{base_now}
 use Rattle.nb_model.specs.Sound.{IsSoundImage}
 use Rattle.nb_model.specs.Turns.{first_turn}
 use Rattle.nb_state.specs.Turns.{GaveAtMost}
 use Rattle.nb_copy.specs.Starting.{Backed, StartsBackup}
 use Rattle.nb_session.specs.declared.task.Taken.{Taken}
 use Rattle.nb_session.specs.Askers.{file_asked}
-use Rattle.nb_session.specs.Steps.{IsBehind}
-use Rattle.nb_session.proofs.BackupLaws.{file_plain, seen_with, knows_free, starts_told, start_acts, start_behind, start_refused}
-use Rattle.nb_session.proofs.EventLaws.{marks_none}
-use Rattle.nb_session.proofs.MakesLaws.{begins_make}
+use Rattle.nb_session.specs.Steps.{begun_in, IsBehind}
+use Rattle.nb_session.proofs.BackupLaws.{file_plain, no_delta, seen_with, knows_free, starts_told, start_acts, start_apart, start_behind, start_refused}
+use Rattle.nb_session.proofs.EventLaws.{marks_made}
+use Rattle.nb_session.proofs.TouchingLaws.{start_touch}
 use Rattle.nb_session.proofs.TurnLaws.{turns_failed, turns_quiet, turns_refused, status_told}
-use Rattle.nb_change.specs.Changes.{NoNames}
+use Rattle.nb_change.specs.Changes.{Only}
 use Rattle.nb_engine.proofs.StaysLaws.{stays_among}
 use Rattle.nb_engine.specs.Stays.{StaysOpen}
 use Rattle.nb_session.proofs.StayLaws.{asks_file, aside_then, turn_failed, turn_refused, turn_unheard}
@@ -37,9 +36,9 @@ returns-in-Ok-clause-turn g c how now t more tells ready makes here =
     let plain = file_plain it asks c.requires.asked.fits in
     let sound = subst (λ (x : Base). IsSoundImage x.image) (sym ready.base) makes.going.sound in
     let asked = c.in-Ok.ensures.asks t tells ready.opened in
-    let starts = λ (given : Given) (most : GaveAtMost old mid (next_guid given)). c.in-Ok.ensures.turn (seen_with now given) t tells ready.base ready.running ready.opened sound (knows_free old a t now (file_asked it) ready makes.going plain) most in
-    turns_quiet how (λ copier. None) (Ok c.in-Ok.copier) (λ (taken : Taken). taken.refused) (λ (taken : Taken). taken.task) old mid mid a b t now session (Begins it) [] more [] (begins_make (base_now now).frozen it) makes here
-    (start_acts old mid a b t now session it asks ready (Ok c.in-Ok.copier) starts asked.0 asked.2 asked.1) (λ acts. marks_none old mid a)
+    let starts = λ (given : Given) (most : GaveAtMost old mid (next_guid given)). c.in-Ok.ensures.turn (seen_with now given) t tells ready.base ready.running ready.opened sound (knows_free old a t now (file_asked it) ready makes.going plain) (no_delta a (file_asked it) plain) most in
+    turns_quiet how (λ copier. None) (Ok c.in-Ok.copier) (λ (taken : Taken). taken.refused) (λ (taken : Taken). taken.task) old mid mid a b t now session (Begins it) [] more (begun_in session (Begins it) now) (start_touch session it now) makes here
+    (start_acts old mid a b t now session it asks ready (Ok c.in-Ok.copier) starts asked.0 asked.2 asked.1) (marks_made (λ (copier : Backed). None) (Ok c.in-Ok.copier) old mid a b t now session (Begins it) (begun_in session (Begins it) now) (start_apart old mid a b t now session it asks ready plain) (λ m. g.met.H.Host.reads_left c.start.new.host tells m))
     c.under_way.result tt (ap (λ (x : Taken). x.refused) c.under_way.ensures) ready (λ said is. is)
     (λ told. subst (λ (x : Taken). IsBehind mid b session (Begins it) [] now x.task) (sym c.under_way.ensures)
     (start_behind old mid a b t now session it asks ready c.in-Ok.copier (next_guid now.given) plain (starts_told old mid a b t now session it asks ready (Ok c.in-Ok.copier) starts asked.0 asked.2 told)))
@@ -59,10 +58,10 @@ returns-in-Err-Refused-clause-turn g c how now t more tells ready makes here =
     let sound = subst (λ (x : Base). IsSoundImage x.image) (sym ready.base) makes.going.sound in
     let asked = c.in-Err-Refused.ensures.asks t tells ready.opened in
     let starts = λ (given : Given) (most : GaveAtMost old mid (next_guid given)).
-    subst (λ (f : Fault). StartsBackup (Err f) old mid a b t (next_guid given) (first_turn (seen_with now given) session it)) c.in-Err-Refused.field-0-is
-    (c.in-Err-Refused.ensures.turn (seen_with now given) t tells ready.base ready.running ready.opened sound (knows_free old a t now (file_asked it) ready makes.going plain) most) in
-    turns_refused how (λ copier. None) refusal old mid new a b t now session (Begins it) [] more [] (begins_make (base_now now).frozen it) makes here
-    (start_acts old mid a b t now session it asks ready (Err (Refused refusal)) starts asked.0 asked.2 asked.1) (λ acts. marks_none old mid a) ready c.say_refused.result (c.say_refused.ensures.line tells) c.say_refused.ensures.taken
+    subst (λ (f : Fault). StartsBackup (Err f) old mid a b t (file_asked it) (next_guid given) (first_turn (seen_with now given) session it)) c.in-Err-Refused.field-0-is
+    (c.in-Err-Refused.ensures.turn (seen_with now given) t tells ready.base ready.running ready.opened sound (knows_free old a t now (file_asked it) ready makes.going plain) (no_delta a (file_asked it) plain) most) in
+    turns_refused how (λ copier. None) refusal old mid new a b t now session (Begins it) [] more (begun_in session (Begins it) now) (start_touch session it now) makes here
+    (start_acts old mid a b t now session it asks ready (Err (Refused refusal)) starts asked.0 asked.2 asked.1) (marks_made (λ (copier : Backed). None) (Err (Refused refusal)) old mid a b t now session (Begins it) (begun_in session (Begins it) now) (start_apart old mid a b t now session it asks ready plain) (λ m. g.met.H.Host.reads_left c.start.new.host tells m)) ready c.say_refused.result (c.say_refused.ensures.line tells) c.say_refused.ensures.taken
     (λ is. status_told session it now (RefusedBy refusal) c.requires.asked.is_built is)
     (λ told. start_refused old mid a b t now session it asks ready refusal (next_guid now.given) (starts_told old mid a b t now session it asks ready (Err (Refused refusal)) starts asked.0 asked.2 told) new)
 
@@ -79,10 +78,10 @@ returns-in-Err-Device-clause-turn g c how now t more tells ready makes here =
     let sound = subst (λ (x : Base). IsSoundImage x.image) (sym ready.base) makes.going.sound in
     let asked = c.in-Err-Device.ensures.asks t tells ready.opened in
     let starts = λ (given : Given) (most : GaveAtMost old mid (next_guid given)).
-    subst (λ (f : Fault). StartsBackup (Err f) old mid a b t (next_guid given) (first_turn (seen_with now given) session it)) c.in-Err-Device.field-0-is
-    (c.in-Err-Device.ensures.turn (seen_with now given) t tells ready.base ready.running ready.opened sound (knows_free old a t now (file_asked it) ready makes.going plain) most) in
-    turns_failed how (λ copier. None) (Err Device) (λ (taken : Taken). taken.refused) (λ (taken : Taken). taken.task) old mid mid a b t now session (Begins it) [] more [] (begins_make (base_now now).frozen it) makes here
-    (start_acts old mid a b t now session it asks ready (Err Device) starts asked.0 asked.2 asked.1) (λ acts. marks_none old mid a) (Err Device) refl
+    subst (λ (f : Fault). StartsBackup (Err f) old mid a b t (file_asked it) (next_guid given) (first_turn (seen_with now given) session it)) c.in-Err-Device.field-0-is
+    (c.in-Err-Device.ensures.turn (seen_with now given) t tells ready.base ready.running ready.opened sound (knows_free old a t now (file_asked it) ready makes.going plain) (no_delta a (file_asked it) plain) most) in
+    turns_failed how (λ copier. None) (Err Device) (λ (taken : Taken). taken.refused) (λ (taken : Taken). taken.task) old mid mid a b t now session (Begins it) [] more (begun_in session (Begins it) now) (start_touch session it now) makes here
+    (start_acts old mid a b t now session it asks ready (Err Device) starts asked.0 asked.2 asked.1) (marks_made (λ (copier : Backed). None) (Err Device) old mid a b t now session (Begins it) (begun_in session (Begins it) now) (start_apart old mid a b t now session it asks ready plain) (λ m. g.met.H.Host.reads_left c.start.new.host tells m)) (Err Device) refl
 
 pub returns-in-Err-Memory-clause-turn : goal.returns-in-Err-Memory-clause-turn
 returns-in-Err-Memory-clause-turn g c how now t more tells ready makes here =
@@ -97,10 +96,10 @@ returns-in-Err-Memory-clause-turn g c how now t more tells ready makes here =
     let sound = subst (λ (x : Base). IsSoundImage x.image) (sym ready.base) makes.going.sound in
     let asked = c.in-Err-Memory.ensures.asks t tells ready.opened in
     let starts = λ (given : Given) (most : GaveAtMost old mid (next_guid given)).
-    subst (λ (f : Fault). StartsBackup (Err f) old mid a b t (next_guid given) (first_turn (seen_with now given) session it)) c.in-Err-Memory.field-0-is
-    (c.in-Err-Memory.ensures.turn (seen_with now given) t tells ready.base ready.running ready.opened sound (knows_free old a t now (file_asked it) ready makes.going plain) most) in
-    turns_failed how (λ copier. None) (Err Memory) (λ (taken : Taken). taken.refused) (λ (taken : Taken). taken.task) old mid mid a b t now session (Begins it) [] more [] (begins_make (base_now now).frozen it) makes here
-    (start_acts old mid a b t now session it asks ready (Err Memory) starts asked.0 asked.2 asked.1) (λ acts. marks_none old mid a) (Err Memory) refl
+    subst (λ (f : Fault). StartsBackup (Err f) old mid a b t (file_asked it) (next_guid given) (first_turn (seen_with now given) session it)) c.in-Err-Memory.field-0-is
+    (c.in-Err-Memory.ensures.turn (seen_with now given) t tells ready.base ready.running ready.opened sound (knows_free old a t now (file_asked it) ready makes.going plain) (no_delta a (file_asked it) plain) most) in
+    turns_failed how (λ copier. None) (Err Memory) (λ (taken : Taken). taken.refused) (λ (taken : Taken). taken.task) old mid mid a b t now session (Begins it) [] more (begun_in session (Begins it) now) (start_touch session it now) makes here
+    (start_acts old mid a b t now session it asks ready (Err Memory) starts asked.0 asked.2 asked.1) (marks_made (λ (copier : Backed). None) (Err Memory) old mid a b t now session (Begins it) (begun_in session (Begins it) now) (start_apart old mid a b t now session it asks ready plain) (λ m. g.met.H.Host.reads_left c.start.new.host tells m)) (Err Memory) refl
 
 pub returns-in-Ok-clause-stays_open : goal.returns-in-Ok-clause-stays_open
 returns-in-Ok-clause-stays_open g c tells still =
@@ -110,7 +109,7 @@ returns-in-Ok-clause-stays_open g c tells still =
     let b = c.start.new.engine in
     let t = still.trail in
     let it = c.args.statement.now in
-    let stays = stays_among old mid a b (Ok c.in-Ok.copier) NoNames (Asks it) (λ m none. absurd none) (c.in-Ok.ensures.stays_open t tells still.opened) in
+    let stays = stays_among old mid a b (Ok c.in-Ok.copier) (Only (file_asked it)) (Asks it) (λ m same. asks_file it m c.requires.backup same) (c.in-Ok.ensures.stays_open t tells still.opened (no_delta a (file_asked it) (file_plain it c.requires.backup c.requires.asked.fits))) in
     let named = c.in-Ok.ensures.named in
     let plain = file_plain it c.requires.backup c.requires.asked.fits in
     turn_unheard true old mid a b (Asks it) still (Ok c.in-Ok.copier) stays (λ (taken : Taken). taken.refused) (λ (taken : Taken). taken.task) c.under_way.result b tt refl
@@ -126,8 +125,8 @@ returns-in-Err-Refused-clause-stays_open g c tells still =
     let t = still.trail in
     let it = c.args.statement.now in
     let refusal = c.in-Err-Refused.refusal in
-    turn_refused true old mid a b (Asks it) still (Err (Refused refusal)) (stays_among old mid a b (Err (Refused refusal)) NoNames (Asks it) (λ m none. absurd none)
-    (subst (λ (f : Fault). StaysOpen {T = Backed} (Err f) old mid a b t NoNames) c.in-Err-Refused.field-0-is (c.in-Err-Refused.ensures.stays_open t tells still.opened)))
+    turn_refused true old mid a b (Asks it) still (Err (Refused refusal)) (stays_among old mid a b (Err (Refused refusal)) (Only (file_asked it)) (Asks it) (λ m same. asks_file it m c.requires.backup same)
+    (subst (λ (f : Fault). StaysOpen {T = Backed} (Err f) old mid a b t (Only (file_asked it))) c.in-Err-Refused.field-0-is (c.in-Err-Refused.ensures.stays_open t tells still.opened (no_delta a (file_asked it) (file_plain it c.requires.backup c.requires.asked.fits)))))
     (g.H.Host.world c.say_refused.new.host) c.args.session refusal c.say_refused.result (g.met.H.Host.timely c.say_refused.new.host) (g.met.H.Host.reads_left c.say_refused.new.host tells) tt b refl (c.say_refused.ensures.line tells) c.say_refused.ensures.taken
 
 pub returns-in-Err-Device-clause-stays_open : goal.returns-in-Err-Device-clause-stays_open
@@ -138,8 +137,8 @@ returns-in-Err-Device-clause-stays_open g c tells still =
     let b = c.start.new.engine in
     let t = still.trail in
     let it = c.args.statement.now in
-    turn_failed true old mid a b (Asks it) still (Err Device) (stays_among old mid a b (Err Device) NoNames (Asks it) (λ m none. absurd none)
-    (subst (λ (f : Fault). StaysOpen {T = Backed} (Err f) old mid a b t NoNames) c.in-Err-Device.field-0-is (c.in-Err-Device.ensures.stays_open t tells still.opened))) (λ (taken : Taken). taken.refused) (λ (taken : Taken). taken.task) (Err Device) refl
+    turn_failed true old mid a b (Asks it) still (Err Device) (stays_among old mid a b (Err Device) (Only (file_asked it)) (Asks it) (λ m same. asks_file it m c.requires.backup same)
+    (subst (λ (f : Fault). StaysOpen {T = Backed} (Err f) old mid a b t (Only (file_asked it))) c.in-Err-Device.field-0-is (c.in-Err-Device.ensures.stays_open t tells still.opened (no_delta a (file_asked it) (file_plain it c.requires.backup c.requires.asked.fits))))) (λ (taken : Taken). taken.refused) (λ (taken : Taken). taken.task) (Err Device) refl
 
 pub returns-in-Err-Memory-clause-stays_open : goal.returns-in-Err-Memory-clause-stays_open
 returns-in-Err-Memory-clause-stays_open g c tells still =
@@ -149,5 +148,5 @@ returns-in-Err-Memory-clause-stays_open g c tells still =
     let b = c.start.new.engine in
     let t = still.trail in
     let it = c.args.statement.now in
-    turn_failed true old mid a b (Asks it) still (Err Memory) (stays_among old mid a b (Err Memory) NoNames (Asks it) (λ m none. absurd none)
-    (subst (λ (f : Fault). StaysOpen {T = Backed} (Err f) old mid a b t NoNames) c.in-Err-Memory.field-0-is (c.in-Err-Memory.ensures.stays_open t tells still.opened))) (λ (taken : Taken). taken.refused) (λ (taken : Taken). taken.task) (Err Memory) refl
+    turn_failed true old mid a b (Asks it) still (Err Memory) (stays_among old mid a b (Err Memory) (Only (file_asked it)) (Asks it) (λ m same. asks_file it m c.requires.backup same)
+    (subst (λ (f : Fault). StaysOpen {T = Backed} (Err f) old mid a b t (Only (file_asked it))) c.in-Err-Memory.field-0-is (c.in-Err-Memory.ensures.stays_open t tells still.opened (no_delta a (file_asked it) (file_plain it c.requires.backup c.requires.asked.fits))))) (λ (taken : Taken). taken.refused) (λ (taken : Taken). taken.task) (Err Memory) refl

@@ -6,12 +6,11 @@ use Rattle.nb_model.specs.declared.reply.Reply.TheVariants.{Refused as RefusedBy
 use Rattle.nb_model.specs.declared.statement.Statement.TheVariants.{EndBackup}
 use Rattle.nb_model.specs.Outcomes.{Begins}
 use Rattle.nb_model.specs.Pages.{end_turn, end_scn}
-use Rattle.nb_model.specs.Run.{base_now}
 use Rattle.nb_engine.specs.Turns.{DoesEnd}
 use Rattle.nb_session.specs.declared.task.Taken.{Taken}
 use Rattle.nb_session.specs.Steps.{IsBehind}
 use Rattle.nb_session.proofs.EventLaws.{marks_none}
-use Rattle.nb_session.proofs.MakesLaws.{begins_make}
+use Rattle.nb_session.proofs.TouchingLaws.{begins_touch}
 use Rattle.nb_session.proofs.MergeLaws.{end_acts, end_behind, end_refused}
 use Rattle.nb_session.proofs.TurnLaws.{seen_now, turns_failed, turns_quiet, turns_refused, status_told}
 use Rattle.nb_change.specs.Changes.{NoNames}
@@ -28,7 +27,7 @@ returns-in-Ok-clause-turn g c how now t more tells ready makes here =
     let a = c.args.engine.now in
     let b = c.end.new.self in
     let does = c.in-Ok.ensures.turn (seen_now now) t tells ready.base ready.running ready.opened in
-    turns_quiet how (λ scn. None) (Ok c.in-Ok.scn) (λ (taken : Taken). taken.refused) (λ (taken : Taken). taken.task) old mid mid a b t now c.args.session _ [] more [] (begins_make (base_now now).frozen EndBackup) makes here
+    turns_quiet how (λ scn. None) (Ok c.in-Ok.scn) (λ (taken : Taken). taken.refused) (λ (taken : Taken). taken.task) old mid mid a b t now c.args.session _ [] more [] (begins_touch c.args.session EndBackup now (λ asks. asks)) makes here
     (end_acts old mid a b t now c.args.session ready (Ok c.in-Ok.scn) does) (λ acts. marks_none old mid a)
     c.merge_of.result tt (ap (λ (x : Taken). x.refused) c.merge_of.ensures) ready (λ said is. is)
     (λ told. subst (λ (x : Taken). IsBehind mid b c.args.session (Begins EndBackup) [] now x.task) (sym c.merge_of.ensures) (end_behind old mid a b t now c.args.session ready (length b.files.entries) refl c.in-Ok.scn does))
@@ -42,7 +41,7 @@ returns-in-Err-Refused-clause-turn g c how now t more tells ready makes here =
     let b = c.end.new.self in
     let refusal = c.in-Err-Refused.refusal in
     let does = subst (λ (f : Fault). DoesEnd (Err f) old mid a b t (end_scn t.base.image) (end_turn (seen_now now) c.args.session)) c.in-Err-Refused.field-0-is (c.in-Err-Refused.ensures.turn (seen_now now) t tells ready.base ready.running ready.opened) in
-    turns_refused how (λ scn. None) refusal old mid new a b t now c.args.session _ [] more [] (begins_make (base_now now).frozen EndBackup) makes here
+    turns_refused how (λ scn. None) refusal old mid new a b t now c.args.session _ [] more [] (begins_touch c.args.session EndBackup now (λ asks. asks)) makes here
     (end_acts old mid a b t now c.args.session ready (Err (Refused refusal)) does) (λ acts. marks_none old mid a) ready c.say_refused.result (c.say_refused.ensures.line tells) c.say_refused.ensures.taken
     (λ is. status_told c.args.session EndBackup now (RefusedBy refusal) refl is) (λ told. end_refused old mid a b t now c.args.session ready refusal does new)
 
@@ -53,7 +52,7 @@ returns-in-Err-Device-clause-turn g c how now t more tells ready makes here =
     let a = c.args.engine.now in
     let b = c.end.new.self in
     let does = subst (λ (f : Fault). DoesEnd (Err f) old mid a b t (end_scn t.base.image) (end_turn (seen_now now) c.args.session)) c.in-Err-Device.field-0-is (c.in-Err-Device.ensures.turn (seen_now now) t tells ready.base ready.running ready.opened) in
-    turns_failed how (λ scn. None) (Err Device) (λ (taken : Taken). taken.refused) (λ (taken : Taken). taken.task) old mid mid a b t now c.args.session _ [] more [] (begins_make (base_now now).frozen EndBackup) makes here
+    turns_failed how (λ scn. None) (Err Device) (λ (taken : Taken). taken.refused) (λ (taken : Taken). taken.task) old mid mid a b t now c.args.session _ [] more [] (begins_touch c.args.session EndBackup now (λ asks. asks)) makes here
     (end_acts old mid a b t now c.args.session ready (Err Device) does) (λ acts. marks_none old mid a) (Err Device) refl
 
 pub returns-in-Err-Memory-clause-turn : goal.returns-in-Err-Memory-clause-turn
@@ -63,7 +62,7 @@ returns-in-Err-Memory-clause-turn g c how now t more tells ready makes here =
     let a = c.args.engine.now in
     let b = c.end.new.self in
     let does = subst (λ (f : Fault). DoesEnd (Err f) old mid a b t (end_scn t.base.image) (end_turn (seen_now now) c.args.session)) c.in-Err-Memory.field-0-is (c.in-Err-Memory.ensures.turn (seen_now now) t tells ready.base ready.running ready.opened) in
-    turns_failed how (λ scn. None) (Err Memory) (λ (taken : Taken). taken.refused) (λ (taken : Taken). taken.task) old mid mid a b t now c.args.session _ [] more [] (begins_make (base_now now).frozen EndBackup) makes here
+    turns_failed how (λ scn. None) (Err Memory) (λ (taken : Taken). taken.refused) (λ (taken : Taken). taken.task) old mid mid a b t now c.args.session _ [] more [] (begins_touch c.args.session EndBackup now (λ asks. asks)) makes here
     (end_acts old mid a b t now c.args.session ready (Err Memory) does) (λ acts. marks_none old mid a) (Err Memory) refl
 
 pub returns-in-Ok-clause-stays_open : goal.returns-in-Ok-clause-stays_open

@@ -5,7 +5,6 @@ use Rattle.nb_host.specs.declared.faults.Fault.TheVariants.{Device, Memory, Refu
 use Rattle.nb_model.specs.declared.reply.Reply.{Reply}
 use Rattle.nb_model.specs.Outcomes.{Ends}
 use Rattle.nb_model.specs.Pages.{end_turn, end_scn}
-use Rattle.nb_model.specs.Run.{base_now}
 use Rattle.nb_engine.specs.Turns.{DoesEnd}
 use Rattle.nb_session.specs.Askers.{left_refused, left_task}
 use Rattle.nb_session.specs.declared.task.Left.TheVariants.{Other}
@@ -13,7 +12,7 @@ use Rattle.nb_session.specs.declared.task.Task.TheVariants.{Merge}
 use Rattle.nb_session.specs.declared.task.Taken.{Taken}
 use Rattle.nb_session.specs.Steps.{IsBehind}
 use Rattle.nb_session.proofs.EventLaws.{marks_none}
-use Rattle.nb_session.proofs.MakesLaws.{ends_make}
+use Rattle.nb_session.proofs.TouchingLaws.{ends_touch}
 use Rattle.nb_session.proofs.MergeLaws.{ends_acts, ends_behind, ends_quiet, ends_unrefused}
 use Rattle.nb_session.proofs.TurnLaws.{seen_now, turns_failed, turns_quiet, turns_never}
 use Rattle.nb_change.specs.Changes.{NoNames}
@@ -32,7 +31,7 @@ returns-in-Ok-clause-turn g c how now t more tells ready makes here runs =
     let b = c.end.new.self in
     let quiet = ends_quiet old a t now c.args.session ready makes.going c.args.reply.now more here runs in
     let does = c.in-Ok.ensures.turn (seen_now now) t tells ready.base ready.running ready.opened in
-    turns_quiet how (λ scn. None) (Ok c.in-Ok.field-0) left_refused (left_task _) old mid mid a b t now c.args.session (Ends c.args.reply.now) [] more [] (ends_make (base_now now).frozen c.args.reply.now) makes here
+    turns_quiet how (λ scn. None) (Ok c.in-Ok.field-0) left_refused (left_task _) old mid mid a b t now c.args.session (Ends c.args.reply.now) [] more [] (ends_touch c.args.session c.args.reply.now now) makes here
     (ends_acts old mid a b t now c.args.session ready c.args.reply.now quiet (Ok c.in-Ok.field-0) does) (λ acts. marks_none old mid a)
     (Other c.merge_of.result) tt (ap (λ (x : Taken). x.refused) c.merge_of.ensures) ready (λ said is. is)
     (λ told. subst (λ (x : Taken). IsBehind mid b c.args.session (Ends c.args.reply.now) [] now x.task) (sym c.merge_of.ensures)
@@ -67,7 +66,7 @@ returns-in-Err-Device-clause-turn g c how now t more tells ready makes here runs
     let b = c.end.new.self in
     let quiet = ends_quiet old a t now c.args.session ready makes.going c.args.reply.now more here runs in
     let does = subst (λ (f : Fault). DoesEnd (Err f) old mid a b t (end_scn t.base.image) (end_turn (seen_now now) c.args.session)) c.in-Err-Device.field-0-is (c.in-Err-Device.ensures.turn (seen_now now) t tells ready.base ready.running ready.opened) in
-    turns_failed how (λ scn. None) (Err Device) left_refused (left_task _) old mid mid a b t now c.args.session (Ends c.args.reply.now) [] more [] (ends_make (base_now now).frozen c.args.reply.now) makes here
+    turns_failed how (λ scn. None) (Err Device) left_refused (left_task _) old mid mid a b t now c.args.session (Ends c.args.reply.now) [] more [] (ends_touch c.args.session c.args.reply.now now) makes here
     (ends_acts old mid a b t now c.args.session ready c.args.reply.now quiet (Err Device) does) (λ acts. marks_none old mid a) (Err Device) refl
 
 pub returns-in-Err-Memory-clause-turn : goal.returns-in-Err-Memory-clause-turn
@@ -78,7 +77,7 @@ returns-in-Err-Memory-clause-turn g c how now t more tells ready makes here runs
     let b = c.end.new.self in
     let quiet = ends_quiet old a t now c.args.session ready makes.going c.args.reply.now more here runs in
     let does = subst (λ (f : Fault). DoesEnd (Err f) old mid a b t (end_scn t.base.image) (end_turn (seen_now now) c.args.session)) c.in-Err-Memory.field-0-is (c.in-Err-Memory.ensures.turn (seen_now now) t tells ready.base ready.running ready.opened) in
-    turns_failed how (λ scn. None) (Err Memory) left_refused (left_task _) old mid mid a b t now c.args.session (Ends c.args.reply.now) [] more [] (ends_make (base_now now).frozen c.args.reply.now) makes here
+    turns_failed how (λ scn. None) (Err Memory) left_refused (left_task _) old mid mid a b t now c.args.session (Ends c.args.reply.now) [] more [] (ends_touch c.args.session c.args.reply.now now) makes here
     (ends_acts old mid a b t now c.args.session ready c.args.reply.now quiet (Err Memory) does) (λ acts. marks_none old mid a) (Err Memory) refl
 
 pub returns-in-Ok-clause-stays_open : goal.returns-in-Ok-clause-stays_open

@@ -4,7 +4,6 @@ use Rattle.nb_model.specs.declared.reply.Reply.{Reply}
 use Rattle.nb_session.specs.Says.{SaysLine}
 use Rattle.nb_session.specs.Told.{told_line, told_reply}
 use Rattle.nb_model.specs.Account.{Base}
-use Rattle.nb_model.specs.Run.{base_now}
 use Rattle.nb_model.specs.Sound.{HasNoZeros}
 use Rattle.nb_state.specs.Turns.{Merges, GoesOn}
 use Rattle.nb_state.specs.declared.turns.Progress.{Progress}
@@ -12,7 +11,7 @@ use Rattle.nb_state.specs.declared.turns.Progress.TheVariants.{More, Finished}
 use Rattle.nb_session.specs.Askers.{left_refused, left_task}
 use Rattle.nb_session.specs.declared.task.Left.TheVariants.{Same, Other}
 use Rattle.nb_session.proofs.EventLaws.{marks_none}
-use Rattle.nb_session.proofs.MakesLaws.{merges_make}
+use Rattle.nb_session.proofs.TouchingLaws.{merges_touch}
 use Rattle.nb_session.proofs.MergeLaws.{merge_said, merge_acts, more_behind, finished_behind}
 use Rattle.nb_session.proofs.TurnLaws.{turns_failed, turns_quiet, turns_unsaid, turns_said, status_none}
 use Rattle.nb_change.specs.Changes.{NoNames}
@@ -29,7 +28,7 @@ returns-in_err-merge_turn-clause-turn g c now t more tells ready makes here =
     let b = c.merge_turn.new.self in
     let m = c.args.merging.now in
     let zeros = subst (λ (x : Base). HasNoZeros x.image) (sym ready.base) makes.going.sound.sound.no_zeros in
-    turns_failed c.args.told (merge_said m.reply) (Err c.in_err-merge_turn.field-0.0) left_refused (left_task _) old mid mid a b t now c.args.session _ _ more [] (merges_make (base_now now).frozen m.left m.reply) makes here
+    turns_failed c.args.told (merge_said m.reply) (Err c.in_err-merge_turn.field-0.0) left_refused (left_task _) old mid mid a b t now c.args.session _ _ more [] (merges_touch c.args.session m.left m.reply now) makes here
     (merge_acts old mid a b t now c.args.session m.reply ready (Err c.in_err-merge_turn.field-0.0) c.in_err-merge_turn.ensures.not_refused m.left c.requires.fits.0 (c.in_err-merge_turn.ensures.merges t tells ready.opened zeros)) (λ acts. marks_none old mid a)
     c.from_residual.result c.from_residual.ensures.0
 
@@ -43,7 +42,7 @@ returns-in-More-clause-turn g c now t more tells ready makes here =
     let zeros = subst (λ (x : Base). HasNoZeros x.image) (sym ready.base) makes.going.sound.sound.no_zeros in
     let merges = subst (λ (p : Progress). Merges (Ok p) old mid a b t) c.in-More.is (c.in_ok-merge_turn.ensures.merges t tells ready.opened zeros) in
     let goes = subst (λ (p : Progress). GoesOn p a b) c.in-More.is c.in_ok-merge_turn.ensures.goes in
-    turns_quiet c.args.told (merge_said m.reply) (Ok More) left_refused (left_task _) old mid mid a b t now c.args.session _ _ more [] (merges_make (base_now now).frozen m.left m.reply) makes here
+    turns_quiet c.args.told (merge_said m.reply) (Ok More) left_refused (left_task _) old mid mid a b t now c.args.session _ _ more [] (merges_touch c.args.session m.left m.reply now) makes here
     (merge_acts old mid a b t now c.args.session m.reply ready (Ok More) tt m.left c.requires.fits.0 merges) (λ acts. marks_none old mid a)
     Same tt refl ready (λ said is. is) (λ told. more_behind c.args.session m.reply a b mid now m.left c.requires.fits.0 goes)
 
@@ -56,7 +55,7 @@ returns-in_err-tell-in-Finished-clause-turn g c now t more tells ready makes her
     let m = c.args.merging.now in
     let zeros = subst (λ (x : Base). HasNoZeros x.image) (sym ready.base) makes.going.sound.sound.no_zeros in
     let merges = subst (λ (p : Progress). Merges (Ok p) old mid a b t) c.in-Finished.is (c.in_ok-merge_turn.ensures.merges t tells ready.opened zeros) in
-    turns_unsaid c.args.told (merge_said m.reply) (Ok Finished) left_refused (left_task _) old mid (g.H.Host.world c.tell.new.host) a b t now c.args.session _ _ more [] (merges_make (base_now now).frozen m.left m.reply) makes here
+    turns_unsaid c.args.told (merge_said m.reply) (Ok Finished) left_refused (left_task _) old mid (g.H.Host.world c.tell.new.host) a b t now c.args.session _ _ more [] (merges_touch c.args.session m.left m.reply now) makes here
     (merge_acts old mid a b t now c.args.session m.reply ready (Ok Finished) tt m.left c.requires.fits.0 merges) (λ acts. marks_none old mid a)
     tt m.reply (λ said is. is) c.tell.result (subst (λ (r : Reply). SaysLine c.tell.result mid (g.H.Host.world c.tell.new.host) (told_line c.args.session (told_reply c.args.told (Some r)))) c.replace-reply.ensures.value (c.tell.ensures.line tells)) ready c.from_residual-in_err-tell-in-Finished.result c.from_residual-in_err-tell-in-Finished.ensures.0
 
@@ -71,7 +70,7 @@ returns-in_ok-tell-in-Finished-clause-turn g c now t more tells ready makes here
     let zeros = subst (λ (x : Base). HasNoZeros x.image) (sym ready.base) makes.going.sound.sound.no_zeros in
     let merges = subst (λ (p : Progress). Merges (Ok p) old mid a b t) c.in-Finished.is (c.in_ok-merge_turn.ensures.merges t tells ready.opened zeros) in
     let goes = subst (λ (p : Progress). GoesOn p a b) c.in-Finished.is c.in_ok-merge_turn.ensures.goes in
-    turns_said c.args.told (merge_said m.reply) (Ok Finished) left_refused (left_task _) old mid new a b t now c.args.session _ _ more [] (merges_make (base_now now).frozen m.left m.reply) makes here
+    turns_said c.args.told (merge_said m.reply) (Ok Finished) left_refused (left_task _) old mid new a b t now c.args.session _ _ more [] (merges_touch c.args.session m.left m.reply now) makes here
     (merge_acts old mid a b t now c.args.session m.reply ready (Ok Finished) tt m.left c.requires.fits.0 merges) (λ acts. marks_none old mid a)
     tt m.reply (λ said is. is) c.tell.result (subst (λ (r : Reply). SaysLine c.tell.result mid (g.H.Host.world c.tell.new.host) (told_line c.args.session (told_reply c.args.told (Some r)))) c.replace-reply.ensures.value (c.tell.ensures.line tells)) ready _ ((c.in_ok-tell-in-Finished.ensures.line tells).said ∙ ap (λ (r : Reply). mid.said ++ told_line c.args.session (told_reply c.args.told (Some r))) c.replace-reply.ensures.value) (λ is. status_none m.reply c.requires.fits.1)
     (λ told. finished_behind c.args.session m.reply a b new now m.left c.requires.fits.0 goes)

@@ -4,10 +4,19 @@ use Rattle.nb_host.specs.Crash.{IsDurable}
 use Rattle.nb_model.specs.Strokes.{ends}
 use Rattle.nb_base.specs.Open.{Held, IsOpen}
 use Rattle.nb_base.specs.Takes.{StrikesFirm}
-use Rattle.nb_base.proofs.StrokeLaws.{h0, waits}
+use Rattle.nb_base.proofs.StrokeLaws.{h0, waits, not_struck}
 use Rattle.nb_base.proofs.EndLaws.{size, end_image, end_room, end_struck, end_open}
 use Rattle.nb_base.proofs.WriteLaws.{not_done}
 use Rattle.nb_base.proofs.files.TwoFiles.end.Goals as goal
+
+pub returns-in_err-sync-clause-takes : goal.returns-in_err-sync-clause-takes
+returns-in_err-sync-clause-takes g c t tells given =
+    let old : World = g.H.Host.world c.args.host.now in
+    let is = subst (λ (h : Held). IsOpen old h t) (sym c.self.view_is) given in
+    let sync = c.in_err-sync.ensures in
+    let synced = waits old _ _ t is (g.met.H.Host.timely _) sync.files.still sync.log.said sync.time in
+    let left = subst (λ (h : Held). StrikesFirm old (g.H.Host.world c.sync.new.self) h.name t (ends ∷ [])) c.self.view_is (not_struck old _ _ t ends synced) in
+    record { left = left; done = not_done c.from_residual.result _ c.from_residual.ensures.0 }
 
 pub returns-in_err-control_block-clause-takes : goal.returns-in_err-control_block-clause-takes
 returns-in_err-control_block-clause-takes g c t tells given =

@@ -5,61 +5,62 @@ use Rattle.nb_level.specs.declared.head.LevelHead.{LevelHead}
 use Rattle.nb_level.specs.Heads.{head_of}
 use Rattle.nb_model.specs.Image.{Numbered}
 use Rattle.nb_model.specs.Levels.{taken_from}
-use Rattle.nb_copy.specs.Gathering.{LevelWriting, HasTaken, IsHeaded, MayHave}
+use Rattle.nb_copy.specs.Gathering.{HasTaken, IsHeaded, MayHave}
 use Rattle.nb_copy.specs.LevelCopying.{LevelCopying}
-use Rattle.nb_copy.specs.Making.{IsUnfinished}
-use Rattle.nb_copy.proofs.QuietLaws.{renamed, quiet_then, remade_twice}
+use Rattle.nb_copy.specs.Making.{IsMade, IsUnfinished}
+use Rattle.nb_copy.proofs.QuietLaws.{renamed, quiet_then, made_quiet, remade_twice}
 use Rattle.nb_copy.proofs.LevelLaws.{next_taken, below_none, may_below}
 use Rattle.nb_copy.proofs.TouchLaws.{touches_named, touches_then, touches_quiet}
 use Rattle.nb_copy.proofs.level_copy.LevelCopy.begin.Goals as goal
 
-pub returns-in_err-make-clause-left : goal.returns-in_err-make-clause-left
-returns-in_err-make-clause-left g c t tells open_ stalled of fresh =
-    renamed _ _ _ _ IsUnfinished (ap (λ (v : LevelCopying). v.file.name) c.self.view_is)
-    (quiet_then c.self.inside.file.name IsUnfinished _ _ _ c.in_ok-read_main.ensures.quiet (c.make.ensures.left tells (subst (λ (v : LevelCopying). IsHeaded (head_of v.file.head)) (sym c.self.view_is) of.formed)))
+pub returns-in_err-begin-clause-left : goal.returns-in_err-begin-clause-left
+returns-in_err-begin-clause-left g c t tells open_ stalled of fresh made =
+    let quiet = c.in_ok-read_main.ensures.quiet in
+    let headed = subst (λ (v : LevelCopying). IsHeaded (head_of v.file.head)) (sym c.self.view_is) of.formed in
+    let empty = made_quiet _ _ _ quiet (subst (λ (v : LevelCopying). IsMade (g.H.Host.world c.args.host.now) v.file.name) (sym c.self.view_is) made) in
+    renamed _ _ _ _ IsUnfinished (ap (λ (v : LevelCopying). v.file.name) c.self.view_is) (quiet_then c.self.inside.file.name IsUnfinished _ _ _ quiet (c.begin.ensures.left tells headed empty))
 
 pub returns-clause-left : goal.returns-clause-left
-returns-clause-left g c t tells open_ stalled of fresh =
+returns-clause-left g c t tells open_ stalled of fresh made =
     let frozen = t.base.frozen in
     let name = ap (λ (v : LevelCopying). v.file.name) c.self.view_is in
-    let same = c.in_ok-make.ensures.same in
-    let made = c.in_ok-make.ensures.made tells (ap (λ (v : LevelCopying). v.file.run.count) c.self.view_is ∙ fresh.no_run) (ap (λ (v : LevelCopying). v.file.written) c.self.view_is ∙ fresh.no_page) in
+    let quiet = c.in_ok-read_main.ensures.quiet in
+    let empty = made_quiet _ _ _ quiet (subst (λ (v : LevelCopying). IsMade (g.H.Host.world c.args.host.now) v.file.name) (sym c.self.view_is) made) in
+    let begun = c.in_ok-begin.ensures.begun tells empty (ap (λ (v : LevelCopying). v.file.run.count) c.self.view_is ∙ fresh.no_run) (ap (λ (v : LevelCopying). v.file.written) c.self.view_is ∙ fresh.no_page) in
     let into = with_items_is c.self.inside.page c.read_main.new.into (omega (arith, c.read_main.auto.into, ap length c.deref_mut.ensures.value, c.self.inside.page.ok.0)) in
     let page = c.deref.ensures.value ∙ into ∙ c.in_ok-read_main.ensures.page t tells open_ stalled (omega (arith, of.sound.least)) in
-    let headed = ap (λ (v : LevelWriting). v.head) same ∙ ap (λ (v : LevelCopying). v.file.head) c.self.view_is in
+    let headed = ap (λ (v : LevelCopying). v.file.head) c.self.view_is in
     let scn = ap (λ (h : LevelHead). h.previous_scn) headed in
-    let all = ap (λ (rs : List Numbered). rs ++ taken_from 0 c.make.new.self.head.previous_scn (c.deref.result.now ∷ [])) (sym (below_none c.args.self.now frozen of))
-    ∙ next_taken c.args.self.now frozen of 0 c.make.new.self.head.previous_scn c.deref.result.now (omega (arith, of.sound.least)) page scn in
-    let may = subst (λ (h : LevelHead). MayHave h ([] ++ taken_from 0 c.make.new.self.head.previous_scn (c.deref.result.now ∷ []))) (sym headed)
+    let all = ap (λ (rs : List Numbered). rs ++ taken_from 0 c.self.inside.file.head.previous_scn (c.deref.result.now ∷ [])) (sym (below_none c.args.self.now frozen of))
+    ∙ next_taken c.args.self.now frozen of 0 c.self.inside.file.head.previous_scn c.deref.result.now (omega (arith, of.sound.least)) page scn in
+    let may = subst (λ (h : LevelHead). MayHave h ([] ++ taken_from 0 c.self.inside.file.head.previous_scn (c.deref.result.now ∷ []))) (sym headed)
     (subst (MayHave c.args.self.now.file.head) (sym all) (may_below c.args.self.now frozen of 1 (omega (arith, of.sound.least)))) in
-    let make = c.in_ok-make.ensures.left tells (subst (λ (v : LevelCopying). IsHeaded (head_of v.file.head)) (sym c.self.view_is) of.formed) in
-    let take = renamed _ _ _ _ IsUnfinished (ap (λ (v : LevelWriting). v.name) same) (c.take.ensures.left tells [] made may) in
-    renamed _ _ _ _ IsUnfinished name (quiet_then c.self.inside.file.name IsUnfinished _ _ _ c.in_ok-read_main.ensures.quiet (remade_twice _ _ _ c.self.inside.file.name IsUnfinished (g.met.H.Host.reads_left _ tells _) make take))
+    let begin = c.in_ok-begin.ensures.left tells (subst (λ (v : LevelCopying). IsHeaded (head_of v.file.head)) (sym c.self.view_is) of.formed) empty in
+    renamed _ _ _ _ IsUnfinished name (quiet_then c.self.inside.file.name IsUnfinished _ _ _ quiet (remade_twice _ _ _ c.self.inside.file.name IsUnfinished (g.met.H.Host.reads_left _ tells _) begin (c.take.ensures.left tells [] begun may)))
 
 pub returns-clause-begun : goal.returns-clause-begun
-returns-clause-begun g c t tells open_ stalled of fresh =
+returns-clause-begun g c t tells open_ stalled of fresh made =
     let frozen = t.base.frozen in
-    let name = ap (λ (v : LevelCopying). v.file.name) c.self.view_is in
-    let same = c.in_ok-make.ensures.same in
-    let made = c.in_ok-make.ensures.made tells (ap (λ (v : LevelCopying). v.file.run.count) c.self.view_is ∙ fresh.no_run) (ap (λ (v : LevelCopying). v.file.written) c.self.view_is ∙ fresh.no_page) in
+    let quiet = c.in_ok-read_main.ensures.quiet in
+    let empty = made_quiet _ _ _ quiet (subst (λ (v : LevelCopying). IsMade (g.H.Host.world c.args.host.now) v.file.name) (sym c.self.view_is) made) in
+    let begun = c.in_ok-begin.ensures.begun tells empty (ap (λ (v : LevelCopying). v.file.run.count) c.self.view_is ∙ fresh.no_run) (ap (λ (v : LevelCopying). v.file.written) c.self.view_is ∙ fresh.no_page) in
     let into = with_items_is c.self.inside.page c.read_main.new.into (omega (arith, c.read_main.auto.into, ap length c.deref_mut.ensures.value, c.self.inside.page.ok.0)) in
     let page = c.deref.ensures.value ∙ into ∙ c.in_ok-read_main.ensures.page t tells open_ stalled (omega (arith, of.sound.least)) in
-    let headed = ap (λ (v : LevelWriting). v.head) same ∙ ap (λ (v : LevelCopying). v.file.head) c.self.view_is in
+    let headed = ap (λ (v : LevelCopying). v.file.head) c.self.view_is in
     let scn = ap (λ (h : LevelHead). h.previous_scn) headed in
-    let all = ap (λ (rs : List Numbered). rs ++ taken_from 0 c.make.new.self.head.previous_scn (c.deref.result.now ∷ [])) (sym (below_none c.args.self.now frozen of))
-    ∙ next_taken c.args.self.now frozen of 0 c.make.new.self.head.previous_scn c.deref.result.now (omega (arith, of.sound.least)) page scn in
-    let may = subst (λ (h : LevelHead). MayHave h ([] ++ taken_from 0 c.make.new.self.head.previous_scn (c.deref.result.now ∷ []))) (sym headed)
+    let all = ap (λ (rs : List Numbered). rs ++ taken_from 0 c.self.inside.file.head.previous_scn (c.deref.result.now ∷ [])) (sym (below_none c.args.self.now frozen of))
+    ∙ next_taken c.args.self.now frozen of 0 c.self.inside.file.head.previous_scn c.deref.result.now (omega (arith, of.sound.least)) page scn in
+    let may = subst (λ (h : LevelHead). MayHave h ([] ++ taken_from 0 c.self.inside.file.head.previous_scn (c.deref.result.now ∷ []))) (sym headed)
     (subst (MayHave c.args.self.now.file.head) (sym all) (may_below c.args.self.now frozen of 1 (omega (arith, of.sound.least)))) in
-    subst (λ (rs : List Numbered). OnOk c.take.result (HasTaken (g.H.Host.world c.take.new.host) c.take.new.self rs)) all (c.take.ensures.taken tells [] made may)
+    subst (λ (rs : List Numbered). OnOk c.take.result (HasTaken (g.H.Host.world c.take.new.host) c.take.new.self rs)) all (c.take.ensures.taken tells [] begun may)
 
 pub returns-in_err-read_main-clause-touches : goal.returns-in_err-read_main-clause-touches
 returns-in_err-read_main-clause-touches g c tells = touches_quiet _ _ _ c.in_err-read_main.ensures.quiet
 
-pub returns-in_err-make-clause-touches : goal.returns-in_err-make-clause-touches
-returns-in_err-make-clause-touches g c tells = touches_named _ _ _ _ (ap (λ (v : LevelCopying). v.file.name) c.self.view_is) (touches_then c.self.inside.file.name _ _ _ (touches_quiet _ _ _ c.in_ok-read_main.ensures.quiet) (c.in_err-make.ensures.touches tells))
+pub returns-in_err-begin-clause-touches : goal.returns-in_err-begin-clause-touches
+returns-in_err-begin-clause-touches g c tells = touches_named _ _ _ _ (ap (λ (v : LevelCopying). v.file.name) c.self.view_is) (touches_then c.self.inside.file.name _ _ _ (touches_quiet _ _ _ c.in_ok-read_main.ensures.quiet) (c.in_err-begin.ensures.touches tells))
 
 pub returns-clause-touches : goal.returns-clause-touches
 returns-clause-touches g c tells =
     touches_named _ _ _ _ (ap (λ (v : LevelCopying). v.file.name) c.self.view_is)
-    (touches_then c.self.inside.file.name _ _ _ (touches_quiet _ _ _ c.in_ok-read_main.ensures.quiet)
-    (touches_then _ _ _ _ (c.in_ok-make.ensures.touches tells) (touches_named _ _ _ _ (ap (λ (v : LevelWriting). v.name) c.in_ok-make.ensures.same) (c.take.ensures.touches tells))))
+    (touches_then c.self.inside.file.name _ _ _ (touches_quiet _ _ _ c.in_ok-read_main.ensures.quiet) (touches_then _ _ _ _ (c.in_ok-begin.ensures.touches tells) (c.take.ensures.touches tells)))

@@ -1,0 +1,130 @@
+// A backup that couldn't begin or end.
+use crate::moment::since;
+use crate::opening::opening;
+use crate::refused::Refused;
+use crate::seen::{Seen, There};
+use nb_host::Name;
+use std::alloc::{AllocError, Global};
+
+/// What is to be said where a backup doesn't begin, `-L` or `-B`.
+pub(crate) fn lock(
+    alloc: Global,
+    db: &Name,
+    refused: &Refused<'_>,
+    seen: &Seen,
+) -> Result<Option<String>, AllocError> {
+    let [value, _, _] = refused.values;
+    let text = match refused.name {
+        "WrongState" if value == "1" => {
+            let since = since(alloc, seen.written)?;
+            format!(in alloc; "{db} is locked{since}: end that backup with: nehumiro -N {db}")?
+        }
+        "WrongState" => format!(in alloc;
+            "{db} isn't merged yet behind its last backup: end that with: nehumiro -N {db}"
+        )?,
+        "Access" => format!(in alloc;
+            "{db} is read-only, and a backup writes to it: a script with the line '1: access read_write' lifts that"
+        )?,
+        "ScnExhausted" => format!(in alloc;
+            "{db} has come to the end of its SCNs, and takes no further backup: write its rows to a new database"
+        )?,
+        _ => return opening(alloc, db, refused, seen),
+    };
+    Ok(Some(text))
+}
+
+/// What is to be said where a backup doesn't end, `-N`.
+pub(crate) fn unlock(
+    alloc: Global,
+    db: &Name,
+    refused: &Refused<'_>,
+    seen: &Seen,
+) -> Result<Option<String>, AllocError> {
+    match refused.name {
+        "WrongState" => Ok(Some(format!(in alloc;
+            "{db} isn't locked: there is no backup to end"
+        )?)),
+        _ => opening(alloc, db, refused, seen),
+    }
+}
+
+/// A name that isn't free.
+pub(crate) fn not_free(
+    alloc: Global,
+    name: &str,
+    seen: &Seen,
+) -> Result<Option<String>, AllocError> {
+    let text = match seen.there {
+        There::Unknown | There::Unfinished if seen.has_delta => format!(in alloc;
+            "{name} is no free name, since {name}.delta stands beside it: move that away where nothing needs it, or choose another name"
+        )?,
+        There::PartOfLevel => format!(in alloc;
+            "{name} is there already, and isn't whole: a stopped backup left it, and it may be removed"
+        )?,
+        There::Level | There::Database(_) | There::Unfinished | There::Unknown | There::Other => {
+            format!(in alloc; "{name} is there already: choose another name, or move it away")?
+        }
+    };
+    Ok(Some(text))
+}
+
+/// No backup of that level is there to go on from.
+fn no_level(
+    alloc: Global,
+    db: &Name,
+    level: &str,
+    seen: &Seen,
+) -> Result<Option<String>, AllocError> {
+    let Some(levels) = seen.levels else {
+        return Ok(Some(format!(in alloc;
+            "the history of {db} has no backup of level {level} to go on from: first make: nehumiro -B {level} {db} FILE"
+        )?));
+    };
+    let next = levels.lowest_missing();
+    let text = match levels.text(alloc)? {
+        Some(has) => format!(in alloc;
+            "the history of {db} has backups {has}, and none of level {level} to go on from: first make: nehumiro -B {next} {db} FILE"
+        )?,
+        None => format!(in alloc;
+            "the history of {db} has no backup to go on from (a copy made by hand is none): first make: nehumiro -B 0 {db} FILE"
+        )?,
+    };
+    Ok(Some(text))
+}
+
+/// No backup has that GUID.
+fn no_guid(alloc: Global, db: &Name, seen: &Seen) -> Result<Option<String>, AllocError> {
+    let text = match seen.levels {
+        Some(levels) => match levels.text(alloc)? {
+            Some(has) => format!(in alloc;
+                "the history of {db} has backups {has}, and none with this GUID (a restore loses the last one): give a level, as: nehumiro -B 0 {db} FILE"
+            )?,
+            None => format!(in alloc;
+                "the history of {db} has no backup (a restore loses the last one): begin with: nehumiro -B 0 {db} FILE"
+            )?,
+        },
+        None => format!(in alloc;
+            "the history of {db} has no backup with this GUID: give a level, as: nehumiro -B 0 {db} FILE"
+        )?,
+    };
+    Ok(Some(text))
+}
+
+/// What is to be said where a backup isn't made, `-B`.
+pub(crate) fn backup(
+    alloc: Global,
+    db: &Name,
+    refused: &Refused<'_>,
+    seen: &Seen,
+) -> Result<Option<String>, AllocError> {
+    let [value, _, _] = refused.values;
+    match refused.name {
+        "FileExists" => not_free(alloc, value, seen),
+        "NoHistory" => no_level(alloc, db, value, seen),
+        "NoGuid" => no_guid(alloc, db, seen),
+        "Full" => Ok(Some(format!(in alloc;
+            "{db} is full, and its history needs a page: free one by a script"
+        )?)),
+        _ => lock(alloc, db, refused, seen),
+    }
+}

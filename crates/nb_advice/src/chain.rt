@@ -1,0 +1,80 @@
+// A chain that wasn't restored.
+use crate::backup::not_free;
+use crate::opening::no_file;
+use crate::refused::Refused;
+use crate::seen::Seen;
+use nb_host::Name;
+use std::alloc::{AllocError, Global};
+
+/// The file that stands before the first one of that name.
+fn before<'a>(files: &'a [Name], name: &str) -> &'a str {
+    let mut last = "the file before it";
+    for file in files {
+        if file.as_str() == name {
+            break;
+        }
+        last = file.as_str();
+    }
+    last
+}
+
+/// A file that breaks the form of a backup file at that byte.
+fn broken_file(
+    alloc: Global,
+    file: &str,
+    at: &str,
+    seen: &Seen,
+) -> Result<Option<String>, AllocError> {
+    let is_short = match (at.parse::<u64>(), seen.length) {
+        (Ok(at), Some(length)) => at == length,
+        _ => false,
+    };
+    let text = if is_short {
+        format!(in alloc;
+            "{file} isn't whole, as a stopped backup or copy leaves it: take another copy of it, or a chain without it"
+        )?
+    } else if at == "0" {
+        format!(in alloc;
+            "{file} is no backup file: give those that -B made, or a copy of a locked database"
+        )?
+    } else if at == "22" {
+        format!(in alloc;
+            "{file} is no backup: it is a database, or was copied while none was locked"
+        )?
+    } else {
+        format!(in alloc;
+            "{file} is damaged at its byte {at}: take another copy of it, or a chain without it"
+        )?
+    };
+    Ok(Some(text))
+}
+
+/// What is to be said where a chain is not restored, `-R`.
+pub(crate) fn restore(
+    alloc: Global,
+    files: &[Name],
+    refused: &Refused<'_>,
+    seen: &Seen,
+) -> Result<Option<String>, AllocError> {
+    let [file, found, wanted] = refused.values;
+    let before = before(files, file);
+    let text = match refused.name {
+        "FileExists" => return not_free(alloc, file, seen),
+        "NoFile" => return no_file(alloc, file),
+        "BadLevel" => return broken_file(alloc, file, found, seen),
+        "ChainLevel" => format!(in alloc;
+            "{file} is of level {found}, and one of level {wanted} has to stand in its place: give a file of each level, that of level 0 first"
+        )?,
+        "ChainGuid" => format!(in alloc;
+            "{file} doesn't go on from {before}, which is the backup {wanted}, but from the backup {found}: give the file of that one before it"
+        )?,
+        "ChainSize" => format!(in alloc;
+            "{file} has pages of {found} bytes and {before} of {wanted}: they are of two databases"
+        )?,
+        "ChainScn" => format!(in alloc;
+            "{file} goes on from SCN {found} and {before} has {wanted}, though their GUIDs agree: one of them was changed"
+        )?,
+        _ => return Ok(None),
+    };
+    Ok(Some(text))
+}

@@ -1,0 +1,28 @@
+//! What the standard error says to an administrator: which word is wrong, what to do about a refusal, and what stands behind a run that
+//! failed.
+//!
+//! Texts alone: each is made of a job, of the reply that refused it and of what a look at the files told, and no file is asked here. It
+//! rests on `nb_model` for jobs, on `nb_page` for headers and on `jiff_core` for the calendar. The layer above looks, and says the texts.
+#![tactic(auto)]
+
+mod backup;
+mod chain;
+mod failure;
+mod fixup;
+mod levels;
+mod memory;
+mod moment;
+mod opening;
+mod refusal;
+mod refused;
+mod seen;
+mod usage;
+mod word;
+
+pub use failure::standing;
+pub use levels::Levels;
+pub use memory::shortage;
+pub use refusal::advice;
+pub use refused::Refused;
+pub use seen::{Seen, There};
+pub use usage::complaint;

@@ -1,0 +1,76 @@
+// A database that couldn't be opened.
+use crate::moment::since;
+use crate::refused::Refused;
+use crate::seen::Seen;
+use nb_host::Name;
+use std::alloc::{AllocError, Global};
+
+/// What to do where the difference file is lost or broken, as the text before says.
+fn without_delta(
+    alloc: Global,
+    db: &Name,
+    what: &str,
+    seen: &Seen,
+) -> Result<Option<String>, AllocError> {
+    let text = if seen.state == Some(1) {
+        let since = since(alloc, seen.written)?;
+        format!(in alloc;
+            "{what}, with all that was written to {db}{since}: put it back; where it is lost, a copy of {db} becomes the database as it was then, by: nehumiro -F COPY"
+        )?
+    } else {
+        format!(in alloc;
+            "{what}, and {db} isn't whole without it: put it back; where it is lost, restore a chain: nehumiro -R NEW FILE.."
+        )?
+    };
+    Ok(Some(text))
+}
+
+/// A page that isn't what it has to be.
+pub(crate) fn broken_page(
+    alloc: Global,
+    db: &Name,
+    page: &str,
+) -> Result<Option<String>, AllocError> {
+    let text = if page == "0" {
+        format!(in alloc; "{db} is no database, since it doesn't begin with the header of one")?
+    } else {
+        format!(in alloc;
+            "page {page} of {db} is damaged: restore a chain: nehumiro -R NEW FILE.."
+        )?
+    };
+    Ok(Some(text))
+}
+
+/// No file has that name.
+pub(crate) fn no_file(alloc: Global, name: &str) -> Result<Option<String>, AllocError> {
+    let text = format!(in alloc;
+        "there is no file {name}: a name counts from the folder in which the program is started"
+    )?;
+    Ok(Some(text))
+}
+
+/// What is to be said where the database of a job is not opened.
+pub(crate) fn opening(
+    alloc: Global,
+    db: &Name,
+    refused: &Refused<'_>,
+    seen: &Seen,
+) -> Result<Option<String>, AllocError> {
+    let [value, _, _] = refused.values;
+    match refused.name {
+        "NoFile" if value.ends_with(".delta") => {
+            let what = format!(in alloc; "{value} is gone")?;
+            without_delta(alloc, db, what.as_str(), seen)
+        }
+        "NoFile" => no_file(alloc, value),
+        "BadDelta" => {
+            let what = format!(in alloc; "{db}.delta is damaged at its page {value}")?;
+            without_delta(alloc, db, what.as_str(), seen)
+        }
+        "NotDatabase" => broken_page(alloc, db, value),
+        "Unfinished" => Ok(Some(format!(in alloc;
+            "{db} isn't whole, since its restore or its creation was stopped: give the same words again"
+        )?)),
+        _ => Ok(None),
+    }
+}

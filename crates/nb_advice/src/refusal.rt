@@ -1,0 +1,30 @@
+// What to do about a refusal.
+use crate::backup::{backup, lock, not_free, unlock};
+use crate::chain::restore;
+use crate::fixup::fixup;
+use crate::opening::opening;
+use crate::refused::Refused;
+use crate::seen::Seen;
+use nb_model::Job;
+use std::alloc::{AllocError, Global};
+
+/// What is to be said behind the refusal of a job by words: what stands, and what to do about it. None of a script, whose lines say it.
+pub fn advice(
+    alloc: Global,
+    job: &Job,
+    refused: &Refused<'_>,
+    seen: &Seen,
+) -> Result<Option<String>, AllocError> {
+    match job {
+        Job::Stat { db } => opening(alloc, db, refused, seen),
+        Job::Lock { db } | Job::LockWithSize { db } => lock(alloc, db, refused, seen),
+        Job::Unlock { db } => unlock(alloc, db, refused, seen),
+        Job::Backup { db, .. } | Job::BackupSince { db, .. } => backup(alloc, db, refused, seen),
+        Job::Restore { files, .. } => restore(alloc, files.as_slice(), refused, seen),
+        Job::Fixup { db } => fixup(alloc, db, refused, seen),
+        Job::Gen { .. } if refused.name == "FileExists" => {
+            not_free(alloc, refused.values[0], &Seen::nothing())
+        }
+        Job::Gen { .. } | Job::Run { .. } | Job::Apply { .. } => Ok(None),
+    }
+}

@@ -1,0 +1,145 @@
+// What the standard error says behind a run.
+use crate::changed::script_in;
+use crate::look::look_at;
+use crate::seeing::seen;
+use nb_advice::{Refused, advice, complaint, shortage, standing};
+use nb_file::{Disk, FileHost};
+use nb_host::Name;
+use nb_model::{Job, Statement};
+use nb_top::Status;
+use nb_top::broken::broken_line;
+use std::alloc::{AllocError, Global};
+use std::io;
+use std::os::fd::AsRawFd;
+use std::os::unix::fs::FileExt;
+use std::rt::{Clock, Files};
+
+/// What the words may be, for a reader.
+const USAGE: &str = "\
+Nehumiro 1.0: physical backup of a database
+usage: nehumiro run SCRIPT          runs the statements of a script
+       nehumiro stat DB             shows the header of a database, and its pages by kind
+       nehumiro -L DB               locks a database: its file stays as it is until -N
+       nehumiro -L -S DB            the same, and says how many pages it has
+       nehumiro -N DB               unlocks it, and merges back what was written meanwhile
+       nehumiro -B LEVEL DB FILE    backs it up into a new file: level 0 all of it, 1 to 9 what changed since the level below
+       nehumiro -B GUID DB FILE     backs up what changed since the backup of that GUID
+       nehumiro -R DB FILE..        restores a new database from a chain of backup files, that of level 0 first
+       nehumiro -F FILE             makes a copy of a locked database a database of its own
+       nehumiro gen N SCRIPT        writes the script of the number N to a new file, and runs it: for trials
+";
+
+/// Says a line, if there is one. Nothing is left to do where the standard error fails, or where there is no memory for a text.
+pub fn say<R: Eprint>(rt: &R, text: Result<Option<String>, AllocError>) {
+    if let Ok(Some(text)) = text {
+        let _ = eprintln!(rt; "nehumiro: {text}");
+    }
+}
+
+/// Which word is wrong, and which words there are.
+pub fn show_usage<R: Eprint>(alloc: Global, rt: &R, words: &io::Result<Vec<String>>) {
+    match words {
+        Ok(words) => say(rt, complaint(alloc, words.as_slice())),
+        Err(_) => {
+            let _ = eprintln!(rt; "nehumiro: a word is no text");
+        }
+    }
+    let _ = eprint!(rt; "{USAGE}");
+}
+
+/// The line that breaks the form of a script, where that is why it was refused.
+pub fn show_broken<R: Files + Print + Eprint + Clock + Drop>(
+    alloc: Global,
+    rt: &R,
+    host: &mut FileHost<R>,
+    script: &Name,
+)
+where
+    R::File: Disk + AsRawFd,
+{
+    if let Ok(Some(broken)) = broken_line(alloc, host, script) {
+        let _ = eprintln!(rt; "nehumiro: {script}:{}: {}", broken.line, broken.text);
+    }
+}
+
+/// What to do about the reply that refused a job by words.
+pub fn show_advice<R: Files + Eprint>(alloc: Global, rt: &R, job: &Job, reply: &[u8])
+where
+    R::File: FileExt,
+{
+    if let Some(refused) = Refused::read(reply) {
+        let seen = seen(alloc, rt, job, Some(&refused));
+        say(rt, advice(alloc, job, &refused, &seen));
+    }
+}
+
+/// What stands of a job by words that ended early, where its database was in that backup state before.
+pub fn show_standing<R: Files + Eprint>(alloc: Global, rt: &R, job: &Job, before: Option<u16>)
+where
+    R::File: FileExt,
+{
+    let seen = seen(alloc, rt, job, None);
+    say(rt, standing(alloc, job, before, &seen));
+}
+
+/// What the cache of a script asks for, where it can be read.
+fn shortage_of<R: Files>(alloc: Global, rt: &R, job: &Job) -> Option<String>
+where
+    R::File: FileExt,
+{
+    let Job::Run { script } = job else {
+        return None;
+    };
+    let script = script_in(alloc, rt, script)?;
+    let (cache, page_size) = match script.first() {
+        Statement::CreateDb {
+            cache,
+            page_size,
+            ..
+        } => (*cache, *page_size),
+        Statement::OpenDb { name, cache } => {
+            (*cache, look_at(rt, name.as_str())?.header()?.page_size)
+        }
+        _ => return None,
+    };
+    shortage(alloc, cache, page_size).ok()
+}
+
+/// That memory ran out, with the text that tells how much was asked for, if there is one.
+fn show_shortage<R: Eprint>(rt: &R, asked: Option<String>) {
+    match asked {
+        Some(text) => say(rt, Ok(Some(text))),
+        None => {
+            let _ = eprintln!(rt; "nehumiro: memory ran out");
+        }
+    }
+}
+
+/// What is to be said behind a run: why its words name no job, why a script wasn't read, what to do about a refusal, what stands where it ended
+/// early.
+pub fn explain<R: Files + Print + Eprint + Clock + Drop>(
+    alloc: Global,
+    rt: &R,
+    host: &mut FileHost<R>,
+    words: &io::Result<Vec<String>>,
+    job: Option<&Job>,
+    status: Status,
+    before: Option<u16>,
+)
+where
+    R::File: Disk + AsRawFd + FileExt,
+{
+    match (status, job) {
+        (Status::Done, _) => {}
+        (Status::Usage, _) => show_usage(alloc, rt, words),
+        (Status::Refused, Some(Job::Run { script })) => show_broken(alloc, rt, host, script),
+        (Status::Refused, Some(job)) => show_advice(alloc, rt, job, host.last_said()),
+        (Status::Device, Some(job)) => show_standing(alloc, rt, job, before),
+        (Status::Memory, Some(job)) => {
+            show_shortage(rt, shortage_of(alloc, rt, job));
+            show_standing(alloc, rt, job, before);
+        }
+        (Status::Memory, None) => show_shortage(rt, None),
+        (Status::Refused | Status::Device, None) => {}
+    }
+}

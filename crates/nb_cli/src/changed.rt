@@ -1,0 +1,110 @@
+// The database that a run changes, which it is to hold alone from its first use on.
+ghost use Rattle.std.specs.Prelude.{◌≡◌, Some, IfSome};
+ghost use Rattle.nb_cli.specs.Changed.{changed_by_words, database_in};
+
+use crate::look::look_at;
+use nb_host::Name;
+use nb_model::{Job, Statement};
+use nb_script::{MOST_BYTES, Script, parse};
+use std::alloc::Global;
+use std::os::unix::fs::FileExt;
+use std::rt::Files;
+
+/// The database that a generated script creates.
+const GENERATED: &str = "gen.db";
+
+/// The database that a first statement creates or opens.
+fn database_of(first: &Statement) -> Option<Name>
+    ensures { result ≡ database_in first.now }
+{
+    match first {
+        Statement::CreateDb { name, .. } | Statement::OpenDb { name, .. } => Some(name.copied()),
+        _ => None,
+    }
+}
+
+/// Whether a statement may write to the database.
+fn changes(statement: &Statement) -> bool {
+    match statement {
+        Statement::OpenDb { .. }
+        | Statement::Read { .. }
+        | Statement::CopyTo { .. }
+        | Statement::Get { .. }
+        | Statement::Scan { .. }
+        | Statement::ShowHeader
+        | Statement::ShowPages
+        | Statement::ShowImage
+        | Statement::ShowCache => false,
+        Statement::CreateDb { .. }
+        | Statement::PageNew
+        | Statement::Write { .. }
+        | Statement::Free { .. }
+        | Statement::BeginBackup
+        | Statement::EndBackup
+        | Statement::Backup { .. }
+        | Statement::BackupSince { .. }
+        | Statement::CreateTable { .. }
+        | Statement::DropTable { .. }
+        | Statement::Insert { .. }
+        | Statement::Update { .. }
+        | Statement::Delete { .. }
+        | Statement::Forced { .. }
+        | Statement::Access { .. }
+        | Statement::Sync => true,
+    }
+}
+
+/// Whether a statement of a script may write to its database.
+fn script_changes(script: &Script) -> bool {
+    changes(script.first())
+        || (1..=16).any(|session| script.statements(session).iter().any(changes))
+}
+
+/// The script of that name, where it can be read.
+pub fn script_in<R: Files>(alloc: Global, rt: &R, name: &Name) -> Option<Script>
+where
+    R::File: FileExt,
+{
+    let bytes = look_at(rt, name.as_str())?.bytes(alloc, MOST_BYTES as u64)?;
+    parse(alloc, &bytes).ok()
+}
+
+/// The database that a script changes, none where it only reads.
+fn changed_by_script(script: &Script) -> Option<Name>
+    ensures { IfSome result (λ name. database_in script.now.first ≡ Some name) }
+{
+    if script_changes(script) {
+        database_of(script.first())
+    } else {
+        None
+    }
+}
+
+/// The database that words change, and none where they only read one, or name a script.
+fn changed_by_words(job: &Job) -> Option<Name>
+    ensures { result ≡ changed_by_words job.now }
+{
+    match job {
+        Job::Run { .. } | Job::Stat { .. } => None,
+        Job::Gen { .. } => Name::read(GENERATED),
+        Job::Backup { db, .. }
+        | Job::BackupSince { db, .. }
+        | Job::Restore { db, .. }
+        | Job::Apply { db, .. }
+        | Job::Lock { db }
+        | Job::LockWithSize { db }
+        | Job::Unlock { db }
+        | Job::Fixup { db } => Some(db.copied()),
+    }
+}
+
+/// The database that a job changes, and none where it only reads one. Where a script can't be read the run says why.
+pub fn changed<R: Files>(alloc: Global, rt: &R, job: &Job) -> Option<Name>
+where
+    R::File: FileExt,
+{
+    match job {
+        Job::Run { script } => changed_by_script(&script_in(alloc, rt, script)?),
+        _ => changed_by_words(job),
+    }
+}

@@ -1,0 +1,22 @@
+// What the environment says, and whether a person watches.
+use std::env;
+use std::rt::Env;
+
+/// How many seconds a run waits for locks that others have, none where the variable is no number of them.
+pub fn patience(rt: &(impl Env + AllocGlobal)) -> Option<u64> {
+    match env::var(rt, "NEHUMIRO_WAIT") {
+        Ok(value) if value.as_str().bytes().all(|byte| byte.is_ascii_digit()) => {
+            value.as_str().parse::<u64>().ok()
+        }
+        Ok(_) => None,
+        Err(_) => Some(0),
+    }
+}
+
+/// What the variable asks for: that progress is shown, or that none is.
+pub fn wants_progress(rt: &(impl Env + AllocGlobal)) -> Option<bool> {
+    match env::var(rt, "NEHUMIRO_PROGRESS") {
+        Ok(value) => Some(value.as_str() == "1"),
+        Err(_) => None,
+    }
+}
