@@ -100,14 +100,14 @@ def main():
         library = Library(folder.file("refused.so"))
         source = os.path.join(os.path.dirname(os.path.abspath(__file__)), "refused.c")
         subprocess.run([compiler, "-O1", "-shared", "-fPIC", "-o", library.path, source], check=True)
-        all_trials = trials().values()
+        all_trials = trials()
         for more, others in pool.map(lambda trial: try_trial(library, path, trial, until), all_trials):
             ended += more
             wrong += others
     report(
         "refused",
         not wrong and ended["memory"] > 0,
-        f"{ended.total() - ended['left']} runs of {len(all_trials)} trials with memory refused: {ended['memory']} ended with status 4, {ended['host']} with status 3, "
+        f"{sum(ended.values()) - ended['left']} runs of {len(all_trials)} trials with memory refused: {ended['memory']} ended with status 4, {ended['host']} with status 3, "
         f"{ended['whole']} were whole with less memory; {ended['left']} files and replies that they left were judged, {len(wrong)} wrong{''.join(f' | {text}' for text in wrong[:3])}",
     )
 

@@ -122,7 +122,7 @@ def main():
     in_memory()
     until = time.monotonic() + LIMIT
     tried, wrong = collections.Counter(), []
-    all_trials = trials().values()
+    all_trials = trials()
     with concurrent.futures.ThreadPoolExecutor(os.cpu_count()) as pool:
         for more, others in pool.map(lambda trial: try_trial(path, trial, until), all_trials):
             tried += more

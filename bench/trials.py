@@ -55,10 +55,10 @@ class Trial:
         self.before, self.steps = steps_of(body[:begin]), steps_of(body[begin + 1 : look])
         self.kept = body[begin].split(" ")[1:] if begin < look else []
         self.look, self.rows = steps_of(body[look + 1 : rows]), [row.strip() for row in body[rows + 1 : behind]]
-        verdicts = body[behind:]
-        self.ends = next((line.split(" ")[1:] for line in verdicts if line.startswith("ends ")), None)
+        self.verdicts = body[behind:]
+        self.ends = next((line.split(" ")[1:] for line in self.verdicts if line.startswith("ends ")), None)
         # Whether it is judged wherever it is stopped, and not at one place alone.
-        self.is_whole = any(re.fullmatch("stops [0-9]+", line) for line in verdicts)
+        self.is_whole = any(re.fullmatch("stops [0-9]+", line) for line in self.verdicts)
 
 
 def steps_of(lines):
@@ -72,13 +72,17 @@ def steps_of(lines):
     return steps
 
 
-def trials():
-    """Those that are judged wherever they are stopped, by their names."""
+def all_trials():
+    """Each trial of the text."""
     with open(TEXT, encoding="utf-8") as text:
         lines = [line for line in text.read().splitlines() if line and not line.startswith("#")]
     starts = [at for at, line in enumerate(lines) if line.startswith("== ")] + [len(lines)]
-    all_trials = [Trial(lines[start:end]) for start, end in zip(starts, starts[1:])]
-    return {trial.name: trial for trial in all_trials if trial.is_whole}
+    return [Trial(lines[start:end]) for start, end in zip(starts, starts[1:])]
+
+
+def trials():
+    """Those that are judged wherever they are stopped."""
+    return [trial for trial in all_trials() if trial.is_whole]
 
 
 class Ended(Exception):
