@@ -227,6 +227,21 @@ def standing(path):
                 os.remove(folder.file("b.1"))
         if status or states != {0, 1, 2}:
             yield f"a backup ends with {status}, and was cut off in the states {states}"
+        yield from of_others(folder, path)
+
+
+def of_others(folder, path):
+    """What is said otherwise where another program has the database, which it locks and doesn't unlock in the time that is waited."""
+    with open(folder.file("x.db"), "r+b") as file:
+        fcntl.flock(file, fcntl.LOCK_EX)
+        running = subprocess.Popen([path, "-B", "1", "x.db", "b.1"], cwd=folder.path, stderr=subprocess.PIPE, env={**os.environ, "NEHUMIRO_WAIT": "1"})
+        time.sleep(0.3)
+        file.seek(22)
+        file.write(b"\1")
+        file.flush()
+        said = running.communicate()[1].decode()
+    if said != "nehumiro: x.db is in use\n":
+        yield f"{said!r} where another program has the database"
 
 
 def little_memory():
