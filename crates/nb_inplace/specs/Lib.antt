@@ -1,0 +1,3 @@
+pub mod Verdict
+pub mod Half
+pub mod Apply

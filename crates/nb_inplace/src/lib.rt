@@ -1,0 +1,6 @@
+//! A level file is merged into a read-only standby, in place, and a merge that was stopped is finished.
+#![tactic(auto)]
+
+mod merging;
+
+pub use merging::apply;
