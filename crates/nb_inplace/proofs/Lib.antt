@@ -1,1 +1,6 @@
-
+pub mod PagesLaws
+pub mod VerdictLaws
+pub mod FirstLaws
+pub mod ControlLaws
+pub mod HalfLaws
+pub mod AgainLaws
