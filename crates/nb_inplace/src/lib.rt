@@ -1,7 +1,12 @@
 //! A level file is merged into a read-only standby, in place, and a merge that was stopped is finished.
 #![tactic(auto)]
 
+mod accepting;
 pub mod laws;
 mod merging;
+mod plan;
+mod records;
+mod stamps;
+mod standby;
 
 pub use merging::apply;
