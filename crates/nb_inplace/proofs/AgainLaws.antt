@@ -25,7 +25,7 @@ use Rattle.nb_inplace.proofs.HalfLaws.{half_state, half_pending, half_previous, 
 same_texts : (a b : List ℕ) → a ≡ b → same_name a b ≡ true
 same_texts a b e = ap (same_name a) (sym e) ∙ same_self a
 
-other_texts : (a b : List ℕ) → a ≢ b → same_name a b ≡ false
+pub other_texts : (a b : List ℕ) → a ≢ b → same_name a b ≡ false
 other_texts a b other = by (same_name a b) refl
   where
     by : (t : Bool) → t ≡ same_name a b → same_name a b ≡ false

@@ -4,3 +4,5 @@ pub mod FirstLaws
 pub mod ControlLaws
 pub mod HalfLaws
 pub mod AgainLaws
+pub mod StandbyLaws
+pub mod StampLaws

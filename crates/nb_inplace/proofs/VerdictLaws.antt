@@ -81,7 +81,7 @@ pub record IsAccepted (files : Files) (name bytes : List ℕ) (c : Contents) : T
   pub for : IsFor name bytes c
 
 -- a standby of the form is in one of the two states
-standby_state : (name bytes : List ℕ) → not_standby name (Some bytes) ≡ None → (not_database bytes ≡ None) × ((state_of bytes ≡ 0) ⊎ (state_of bytes ≡ 3))
+pub standby_state : (name bytes : List ℕ) → not_standby name (Some bytes) ≡ None → (not_database bytes ≡ None) × ((state_of bytes ≡ 0) ⊎ (state_of bytes ≡ 3))
 unfolding not_standby
 standby_state name bytes none =
     let form = clear_head _ _ none in
@@ -103,10 +103,10 @@ the_same bytes c same =
     record { pending = same_text (pending_of bytes) c.head.guid (not_false _ parts.0); previous = same_text (guid_of bytes) c.head.previous (not_false _ parts.1) }
 
 -- the tests by the state
-abbrev by_state : (stopped : Bool) (bytes name : List ℕ) → Contents → Cause
+abbrev pub by_state : (stopped : Bool) (bytes name : List ℕ) → Contents → Cause
 by_state stopped bytes name c = elim stopped [ true ↦ when (is_another bytes c) Unfinished | false ↦ not_next name bytes c ]
 
-mergeable_by : (bytes name : List ℕ) (c : Contents) → not_mergeable bytes name c ≡ by_state (state_of bytes == 3) bytes name c
+pub mergeable_by : (bytes name : List ℕ) (c : Contents) → not_mergeable bytes name c ≡ by_state (state_of bytes == 3) bytes name c
 unfolding not_mergeable
 mergeable_by bytes name c = refl
 

@@ -1,3 +1,5 @@
 pub mod Verdict
 pub mod Half
 pub mod Apply
+pub mod Standby
+pub mod Tests

@@ -1,10 +1,21 @@
 // Whether a level file is the one to merge into a standby, by its head.
+ghost use Rattle.std.specs.Prelude.{◌≡◌, ℕ, OnOk};
+ghost use Rattle.nb_change.specs.Counts.{CountsDevice};
+ghost use Rattle.nb_host.specs.declared.refusals.Refusal.TheVariants.{ChainSize};
+ghost use Rattle.nb_model.specs.Levels.{Contents};
+ghost use Rattle.nb_page.specs.Header.{HasForm};
+ghost use Rattle.nb_level.specs.Heads.{head_of};
+ghost use Rattle.nb_fixup.specs.Tests.{Tested};
+ghost use Rattle.nb_inplace.specs.Tests.{not_the_same, not_behind, head_cause};
+
 use crate::standby::Standby;
 use nb_host::{Fault, Name, Refusal};
 use nb_level::LevelHead;
 
 /// The refusal of a level file whose pages have another size than the standby's.
-fn other_size(standby: &Standby, head: &LevelHead, file: &Name) -> Refusal {
+fn other_size(standby: &Standby, head: &LevelHead, file: &Name) -> Refusal
+    ensures { result ≡ ChainSize file.now head.now.page_size standby.now.header.page_size }
+{
     Refusal::ChainSize {
         name: file.copied(),
         found: head.page_size,
@@ -12,9 +23,15 @@ fn other_size(standby: &Standby, head: &LevelHead, file: &Name) -> Refusal {
     }
 }
 
-/// Whether the file finishes the merge that was begun: it is the file of the GUID that is pending, and goes on from the standby's backup.
-fn finishes(standby: &Standby, head: &LevelHead, file: &Name) -> Result<(), Fault> {
-    let Standby { header, .. } = standby;
+/// Whether the file finishes the merge that was begun: it has the GUID that is pending, and goes on from the standby's backup. The refusals
+/// are `Unfinished` and `ChainSize`.
+#[tactic(auto, unfolding(nb_model::specs::Causes::first_cause))]
+fn finishes(standby: &Standby, head: &LevelHead, file: &Name) -> Result<(), Fault>
+    ensures test { (c : Contents) → c.head ≡ head_of head.now → Tested (not_the_same standby.now file.now c) result }
+    ensures size { OnOk result (head.now.page_size ≡ standby.now.header.page_size) }
+    ensures cause { (faults : ℕ) → CountsDevice result faults faults }
+{
+    let header = &standby.header;
     let refusal = if header.pending != head.guid || header.guid != head.previous {
         Refusal::Unfinished
     } else if head.page_size != header.page_size {
@@ -25,9 +42,16 @@ fn finishes(standby: &Standby, head: &LevelHead, file: &Name) -> Result<(), Faul
     Err(Fault::Refused(refusal))
 }
 
-/// Whether the file goes on from the standby as it stands, and the standby takes no other change.
-fn goes_on(standby: &Standby, head: &LevelHead, file: &Name) -> Result<(), Fault> {
-    let Standby { header, .. } = standby;
+/// Whether the file goes on from the standby as it stands, and no statement may change that. The refusals are `ChainGuid`, `ChainSize`,
+/// `ChainScn` and `Access`.
+#[tactic(auto, unfolding(nb_model::specs::Causes::first_cause))]
+fn goes_on(standby: &Standby, head: &LevelHead, file: &Name) -> Result<(), Fault>
+    requires { HasForm standby.now.header }
+    ensures test { (c : Contents) → c.head ≡ head_of head.now → Tested (not_behind standby.now file.now c) result }
+    ensures size { OnOk result (head.now.page_size ≡ standby.now.header.page_size) }
+    ensures cause { (faults : ℕ) → CountsDevice result faults faults }
+{
+    let header = &standby.header;
     let refusal = if head.previous != header.guid {
         Refusal::ChainGuid {
             name: file.copied(),
@@ -50,10 +74,14 @@ fn goes_on(standby: &Standby, head: &LevelHead, file: &Name) -> Result<(), Fault
     Err(Fault::Refused(refusal))
 }
 
-/// Whether the level file of that head is merged into the standby, as far as the head says.
-///
-/// Where a merge was begun the refusals are `Unfinished` and `ChainSize`, and otherwise `ChainGuid`, `ChainSize`, `ChainScn` and `Access`.
-pub(crate) fn accept(standby: &Standby, head: &LevelHead, file: &Name) -> Result<(), Fault> {
+/// Whether the level file of that head is merged into the standby, as far as the head says. The refusals are those of `finishes` where a
+/// merge was begun, and otherwise those of `goes_on`.
+pub(crate) fn accept(standby: &Standby, head: &LevelHead, file: &Name) -> Result<(), Fault>
+    requires { HasForm standby.now.header }
+    ensures test { (c : Contents) → c.head ≡ head_of head.now → Tested (head_cause standby.now file.now c) result }
+    ensures size { OnOk result (head.now.page_size ≡ standby.now.header.page_size) }
+    ensures cause { (faults : ℕ) → CountsDevice result faults faults }
+{
     if standby.is_begun {
         finishes(standby, head, file)
     } else {

@@ -47,15 +47,19 @@ pub(crate) fn prepare<H: Host>(
     file: &Name,
 ) -> Result<Plan, Fault> {
     let found = read_standby(host, standby)?;
-    let head = whole(alloc, host, file)?;
-    accept(&found, &head, file)?;
     let reader = LevelReader::start(alloc, host, file)?;
-    let mut first = vec![in alloc; 0; found.header.page_size as usize]?;
-    let page = vec![in alloc; 0; found.header.page_size as usize]?;
+    whole(alloc, host, file)?;
+    let head = reader.head();
+    accept(&found, &head, file)?;
+    let page_size = found.header.page_size;
+    let mut first = vec![in alloc; 0; page_size as usize]?;
+    let page = vec![in alloc; 0; page_size as usize]?;
     let mut piece = vec![in alloc; 0; PIECE]?;
     host.sync(standby)?;
     if !found.is_begun {
-        test_stamps(host, standby, file, &found, head.previous_scn, &mut piece)?;
+        test_stamps(
+            host, standby, file, page_size, found.pages, head.previous_scn, &mut piece,
+        )?;
     }
     read_page_0(host, standby, &head.guid, &mut first)?;
     Ok(Plan {

@@ -1,4 +1,15 @@
 // What a standby is, by its first bytes and its length.
+ghost use Rattle.std.specs.Prelude.{◌≡◌, ◌*◌, ◌≤◌, ℕ, List, true, Some, IfOk, IsTrue, length, take};
+ghost use Rattle.nb_change.specs.Counts.{CountsDevice};
+ghost use Rattle.nb_fields.specs.Header.{is_header, size_of};
+ghost use Rattle.nb_fields.specs.Places.{is_page_size};
+ghost use Rattle.nb_host.specs.declared.refusals.Refusal.TheVariants.{NotDatabase};
+ghost use Rattle.nb_model.specs.Causes.{not_database};
+ghost use Rattle.nb_model.specs.InPlace.{not_standby};
+ghost use Rattle.nb_page.specs.Quiet.{Quiet};
+ghost use Rattle.nb_fixup.specs.Tests.{Tested};
+ghost use Rattle.nb_inplace.specs.Standby.{IsStandby, IsWholeStandby};
+
 use nb_cases::{Case, Event, case_of};
 use nb_fields::MOST_PAGES;
 use nb_fields::layouts::header;
@@ -24,12 +35,21 @@ pub(crate) struct Standby {
 }
 
 /// The refusal of a file that is no database, by that page.
-pub(crate) fn no_database(page: u32) -> Fault {
+pub(crate) fn no_database(page: u32) -> Fault
+    ensures { result ≡ Fault.Refused (NotDatabase page) }
+{
     Fault::Refused(Refusal::NotDatabase { page })
 }
 
 /// How many pages a file of `len` bytes behind a header has. The refusal is `NotDatabase`, where they aren't 5 to 1,048,576 whole pages.
-fn pages_in(len: u64, page_size: u32) -> Result<u32, Fault> {
+fn pages_in(len: u64, page_size: u32) -> Result<u32, Fault>
+    requires { IsTrue (is_page_size page_size) }
+    ensures test { (bytes : List ℕ) → is_header bytes ≡ true → size_of bytes ≡ page_size → length bytes ≡ len → Tested (not_database bytes) result }
+    ensures pages { IfOk result (λ pages. len ≡ pages * page_size) }
+    ensures least { IfOk result (λ pages. 5 ≤ pages) }
+    ensures most { IfOk result (λ pages. pages ≤ 1048576) }
+    ensures cause { (faults : ℕ) → CountsDevice result faults faults }
+{
     let size = u64::from(page_size);
     let most = u64::from(MOST_PAGES);
     let pages = len / size;
@@ -40,7 +60,12 @@ fn pages_in(len: u64, page_size: u32) -> Result<u32, Fault> {
 }
 
 /// The standby of `len` bytes that begins so. The refusals are `NotDatabase` and `WrongState`.
-fn standby_in(first: &[u8], len: u64) -> Result<Standby, Fault> {
+fn standby_in(first: &[u8], len: u64) -> Result<Standby, Fault>
+    ensures test { (name bytes : List ℕ) → length bytes ≡ len → first.now ≡ take 66 bytes → Tested (not_standby name (Some bytes)) result }
+    ensures value { (bytes : List ℕ) → length bytes ≡ len → first.now ≡ take 66 bytes → IfOk result (IsStandby bytes) }
+    ensures whole { IfOk result IsWholeStandby }
+    ensures cause { (faults : ℕ) → CountsDevice result faults faults }
+{
     if first.len() < START {
         return Err(no_database(0));
     }
@@ -64,7 +89,13 @@ fn standby_in(first: &[u8], len: u64) -> Result<Standby, Fault> {
 /// Reads what a standby is. It changes nothing.
 ///
 /// The refusals are `NoFile`, `NotDatabase` and `WrongState`, in this order.
-pub(crate) fn read_standby<H: Host>(host: &mut H, name: &Name) -> Result<Standby, Fault> {
+pub(crate) fn read_standby<H: Host>(host: &mut H, name: &Name) -> Result<Standby, Fault>
+    ensures test { IsTrue H.tells → Tested (not_standby name.now ((H.world host.old).files name.now)) result }
+    ensures value { IsTrue H.tells → (bytes : List ℕ) → (H.world host.old).files name.now ≡ Some bytes → IfOk result (IsStandby bytes) }
+    ensures whole { IfOk result IsWholeStandby }
+    ensures quiet { Quiet (H.world host.old) (H.world host.new) }
+    ensures cause { CountsDevice result (H.faults host.old) (H.faults host.new) }
+{
     let Some(len) = host.size(name)? else {
         return Err(Fault::Refused(Refusal::NoFile {
             name: name.copied(),
