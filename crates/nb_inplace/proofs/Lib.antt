@@ -6,3 +6,4 @@ pub mod HalfLaws
 pub mod AgainLaws
 pub mod StandbyLaws
 pub mod StampLaws
+pub mod AcceptLaws

@@ -1,24 +1,30 @@
 -- Stamps above an SCN, one piece of pages after another.
-use Rattle.std.proofs.Common.{◌≡◌, inl, inr, ℕ, zero, suc, ◌+◌, ◌-◌, ◌*◌, ◌/◌, ◌<◌, ◌≤◌, List, [], ◌∷◌, ◌++◌, length, take, drop, refl, sym, ap, subst, ◌∙◌, arith, append_assoc, length-drop, mul-le-mul_right, div-add-mod'}
+use Rattle.std.proofs.Common.{◌≡◌, inl, inr, ℕ, zero, suc, ◌+◌, ◌-◌, ◌*◌, ◌/◌, ◌<◌, ◌≤◌, List, [], ◌∷◌, ◌++◌, length, take, drop, replicate, refl, sym, ap, subst, ◌∙◌, arith, append_assoc, length-drop, mul-le-mul_right, div-add-mod'}
 use Rattle.std.specs.Prelude.{Bool, true, false, nat_lt, Option, option_map, Some, None, Err}
 use Rattle.std.proofs.lemmas.Bool.{cases_lt}
-use Rattle.std.proofs.lemmas.List.{append-nil, drop-drop, drop_all, take-append-drop, take_all, length-take-le, drop-take}
+use Rattle.std.proofs.lemmas.List.{take-append-le, take-replicate, drop-replicate, length-replicate, append-nil, drop-drop, drop_all, take-append-drop, take_all, length-take-le, drop-take}
 use Rattle.std.proofs.Math.Nat.{mul-div_cancel}
-use Rattle.nb_fields.specs.Bytes.{number_in, part}
+use Rattle.nb_fields.specs.Bytes.{number_of, number_in, is_zeros}
+use Rattle.nb_fields.specs.Header.{is_header, size_of}
 use Rattle.nb_fields.specs.Page.{stamp_of}
 use Rattle.nb_fields.proofs.PartLemmas.{number_in-take}
+use Rattle.nb_fields.proofs.SizeLemmas.{size_facts}
 use Rattle.nb_host.specs.Files.{File, bytes_of}
 use Rattle.nb_host.specs.Calls.{ReadsBytes}
 use Rattle.nb_host.specs.declared.faults.Fault.{Fault}
 use Rattle.nb_host.specs.declared.faults.Fault.TheVariants.{Refused, Device, Memory}
 use Rattle.nb_host.specs.declared.refusals.Refusal.{Refusal}
 use Rattle.nb_host.specs.declared.refusals.Refusal.TheVariants.{ChainScn}
-use Rattle.nb_model.specs.Causes.{Cause}
-use Rattle.nb_model.specs.Image.{Page, Image, page_at}
-use Rattle.nb_model.specs.InPlace.{written_since}
+use Rattle.nb_model.specs.Causes.{Cause, not_database}
+use Rattle.nb_model.specs.Image.{Page, Image, page_at, image_in, trimmed}
+use Rattle.nb_model.specs.InPlace.{written_since, other_pages}
 use Rattle.nb_model.specs.Levels.{joined}
 use Rattle.nb_model.specs.Sound.{IsOfSize}
-use Rattle.nb_model.proofs.ImageLaws.{all-drop, length-joined, drop-joined, take-joined, page-joined}
+use Rattle.nb_model.proofs.FormLaws.{Formed, formed}
+use Rattle.nb_model.proofs.HeadSound.{all_zeros}
+use Rattle.nb_model.proofs.HeaderLaws.{header-long, header-other, same-header}
+use Rattle.nb_model.proofs.MainLaws.{image_in-is}
+use Rattle.nb_model.proofs.ImageLaws.{AreZeros, trimming, trimmed-other, all-drop, length-joined, drop-joined, take-joined, page-joined}
 use Rattle.nb_model.proofs.ReadLaws.{lt_no, lt_yes}
 use Rattle.nb_restore.specs.Copied.{IsDone}
 use Rattle.nb_fixup.specs.Tests.{Tested}
@@ -126,3 +132,47 @@ done_tested S T P cause Memory says = absurd says
 -- so many pages are there room for
 pub room_for : (len size count : ℕ) → count ≤ len / size → count * size ≤ len
 room_for len size count low = let all : count * size ≤ (len / size) * size = mul-le-mul_right size low in omega (arith, all, div-add-mod' len size)
+
+-- a page of zeros has the stamp 0
+number_zeros : (n : ℕ) → number_of (replicate n 0) ≡ 0
+unfolding number_of
+number_zeros zero = refl
+number_zeros (suc n) = let rest = number_zeros n in omega (arith, rest)
+
+stamp_zeros : (p : Page) → is_zeros p ≡ true → stamp_of p ≡ 0
+unfolding number_in
+stamp_zeros p zeros =
+    ap (λ (x : List ℕ). number_of (take 4 (drop 8 x))) (all_zeros p zeros) ∙ ap (λ (x : List ℕ). number_of (take 4 x)) (drop-replicate 8 (length p) 0) ∙ front (length p - 8)
+  where
+    front : (n : ℕ) → number_of (take 4 (replicate n 0)) ≡ 0
+    front n = elim (cases_lt n 4) [
+      | inl low ↦ ap number_of (take_all 4 (replicate n 0) (omega (arith, low, length-replicate {A = ℕ} n 0))) ∙ number_zeros n
+      | inr long ↦ ap number_of (take-replicate 4 n 0 long) ∙ number_zeros 4
+    ]
+
+since_zeros : (name : List ℕ) (scn : ℕ) (zs : List Page) → AreZeros zs → written_since name scn zs ≡ None
+since_zeros name scn [] zeros = none_since name scn
+since_zeros name scn (z ∷ zs) zeros = since_behind name scn z zs (omega (arith, stamp_zeros z zeros.0)) ∙ since_zeros name scn zs zeros.1
+
+without_zeros : (name : List ℕ) (scn : ℕ) (xs zs : List Page) → AreZeros zs → written_since name scn (xs ++ zs) ≡ written_since name scn xs
+without_zeros name scn xs zs zeros = by (written_since name scn xs) refl
+  where
+    by : (cause : Cause) → written_since name scn xs ≡ cause → written_since name scn (xs ++ zs) ≡ written_since name scn xs
+    by None is = since_on name scn xs zs is ∙ since_zeros name scn zs zeros ∙ sym is
+    by (Some r) is = since_found name scn xs zs r is ∙ sym is
+
+-- the stamps of a standby's file are those of its image, and of zeros
+pub since_image : (name : List ℕ) (scn : ℕ) (bytes : List ℕ) (ps : List Page) → not_database bytes ≡ None → bytes ≡ joined ps → IsOfSize (size_of bytes) ps → written_since name scn (drop 1 ps) ≡ written_since name scn (other_pages (image_in bytes))
+since_image name scn bytes ps none is sizes =
+    let facts : Formed bytes = formed bytes none in
+    let wide = (size_facts (size_of bytes) facts.size).at_least in
+    let image : image_in bytes ≡ trimmed ps = image_in-is bytes (size_of bytes) ps refl is sizes (omega (arith, wide)) in
+    by ps is sizes facts.header wide ∙ ap (λ (x : Image). written_since name scn (other_pages x)) (sym image)
+  where
+    by : (ps : List Page) → bytes ≡ joined ps → IsOfSize (size_of bytes) ps → is_header bytes ≡ true → 1024 ≤ size_of bytes → written_since name scn (drop 1 ps) ≡ written_since name scn (other_pages (trimmed ps))
+    by [] same sizes header wide = absurd (let long = header-long bytes header in omega (arith, long, ap length same))
+    by (p ∷ rest) same sizes header wide =
+        let front : take 64 p ≡ take 64 bytes = sym (ap (take 64) same ∙ take-append-le 64 p (joined rest) (omega (arith, sizes.0, wide))) in
+        let other : is_zeros p ≡ false = header-other p (same-header p bytes front ∙ header) in
+        let cut = trimming rest in
+        ap (written_since name scn) cut.is ∙ without_zeros name scn (trimmed rest) cut.rest cut.zeros ∙ ap (λ (x : Image). written_since name scn (other_pages x)) (sym (trimmed-other p rest other))

@@ -190,7 +190,7 @@ unfolding apply_verdict in_place
 unfit files standby name r e = rw (e, apply_verdict) refl
 
 -- on the level file alone,
-no_level : (files : Files) (standby name : List ℕ) → not_standby standby (files standby) ≡ None → files name ≡ None → apply_verdict files standby name ≡ Err (NoFile name)
+pub no_level : (files : Files) (standby name : List ℕ) → not_standby standby (files standby) ≡ None → files name ≡ None → apply_verdict files standby name ≡ Err (NoFile name)
 unfolding apply_verdict in_place
 no_level files standby name e none = rw (e, apply_verdict) (rw (none, apply_verdict) refl)
 

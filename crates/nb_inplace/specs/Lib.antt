@@ -3,3 +3,6 @@ pub mod Half
 pub mod Apply
 pub mod Standby
 pub mod Tests
+pub mod Accepted
+pub mod Merging
+pub mod Plan

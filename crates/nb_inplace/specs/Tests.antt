@@ -1,8 +1,10 @@
 -- What a standby and the head of a level file say against their merge.
-use Rattle.std.specs.Prelude.{ℕ, ◌-◌, List, [], ◌∷◌, Bool, true, false, not, ◌||◌, ◌==◌}
+use Rattle.std.specs.Prelude.{ℕ, ◌-◌, List, [], ◌∷◌, drop, None, Bool, true, false, not, ◌||◌, ◌==◌}
 use Rattle.nb_host.specs.Names.{same_name}
 use Rattle.nb_host.specs.declared.refusals.Refusal.TheVariants.{Unfinished, ChainGuid, ChainSize, ChainScn, Access}
 use Rattle.nb_model.specs.Causes.{Cause, first_cause, when}
+use Rattle.nb_model.specs.Image.{Page}
+use Rattle.nb_model.specs.InPlace.{written_since}
 use Rattle.nb_model.specs.Levels.{Contents}
 use Rattle.nb_inplace.specs.declared.standby.Standby.{Standby}
 
@@ -25,3 +27,7 @@ not_behind s name c = first_cause (
 
 abbrev pub head_cause : Standby → (name : List ℕ) → Contents → Cause
 head_cause s name c = elim s.is_begun [ true ↦ not_the_same s name c | false ↦ not_behind s name c ]
+
+-- What the stamps say against it: where the merge was begun they aren't asked.
+abbrev pub stamp_cause : Standby → (name : List ℕ) (scn : ℕ) → List Page → Cause
+stamp_cause s name scn pages = elim s.is_begun [ true ↦ None | false ↦ written_since name scn (drop 1 pages) ]

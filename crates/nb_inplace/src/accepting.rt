@@ -1,16 +1,21 @@
-// Whether a level file is the one to merge into a standby, by its head.
-ghost use Rattle.std.specs.Prelude.{◌≡◌, ℕ, OnOk};
+// Whether a level file is the one to merge into a standby.
+ghost use Rattle.std.specs.Prelude.{◌≡◌, ℕ, IfOk, IsTrue, OnOk};
 ghost use Rattle.nb_change.specs.Counts.{CountsDevice};
 ghost use Rattle.nb_host.specs.declared.refusals.Refusal.TheVariants.{ChainSize};
 ghost use Rattle.nb_model.specs.Levels.{Contents};
 ghost use Rattle.nb_page.specs.Header.{HasForm};
+ghost use Rattle.nb_page.specs.Quiet.{Quiet};
 ghost use Rattle.nb_level.specs.Heads.{head_of};
 ghost use Rattle.nb_fixup.specs.Tests.{Tested};
+ghost use Rattle.nb_inplace.specs.Accepted.{AcceptSays};
+ghost use Rattle.nb_inplace.specs.Standby.{IsWholeStandby};
 ghost use Rattle.nb_inplace.specs.Tests.{not_the_same, not_behind, head_cause};
 
-use crate::standby::Standby;
-use nb_host::{Fault, Name, Refusal};
-use nb_level::LevelHead;
+use crate::standby::{Standby, read_standby};
+use nb_chain::whole;
+use nb_host::{Fault, Host, Name, Refusal};
+use nb_level::{LevelHead, LevelReader};
+use std::alloc::Global;
 
 /// The refusal of a level file whose pages have another size than the standby's.
 fn other_size(standby: &Standby, head: &LevelHead, file: &Name) -> Refusal
@@ -76,7 +81,7 @@ fn goes_on(standby: &Standby, head: &LevelHead, file: &Name) -> Result<(), Fault
 
 /// Whether the level file of that head is merged into the standby, as far as the head says. The refusals are those of `finishes` where a
 /// merge was begun, and otherwise those of `goes_on`.
-pub(crate) fn accept(standby: &Standby, head: &LevelHead, file: &Name) -> Result<(), Fault>
+fn accept_head(standby: &Standby, head: &LevelHead, file: &Name) -> Result<(), Fault>
     requires { HasForm standby.now.header }
     ensures test { (c : Contents) → c.head ≡ head_of head.now → Tested (head_cause standby.now file.now c) result }
     ensures size { OnOk result (head.now.page_size ≡ standby.now.header.page_size) }
@@ -87,4 +92,27 @@ pub(crate) fn accept(standby: &Standby, head: &LevelHead, file: &Name) -> Result
     } else {
         goes_on(standby, head, file)
     }
+}
+
+/// Reads what the standby is, and the level file to its end, and accepts the merge as far as the head says. It changes nothing, and answers
+/// the standby and the level file, of which no page was read as yet.
+///
+/// The refusals are those of `read_standby`, then `NoFile` and `BadLevel` of the level file, then those of `accept_head`.
+pub(crate) fn accept<H: Host>(
+    alloc: Global,
+    host: &mut H,
+    standby: &Name,
+    file: &Name,
+) -> Result<(Standby, LevelReader), Fault>
+    ensures answer { IsTrue H.tells → AcceptSays (H.world host.old).files standby.now file.now result }
+    ensures whole { IfOk result (λ found. IsWholeStandby found.0) }
+    ensures size { IfOk result (λ found. found.1.head.page_size ≡ found.0.header.page_size) }
+    ensures quiet { Quiet (H.world host.old) (H.world host.new) }
+    ensures cause { CountsDevice result (H.faults host.old) (H.faults host.new) }
+{
+    let found = read_standby(host, standby)?;
+    let reader = LevelReader::start(alloc, host, file)?;
+    whole(alloc, host, file)?;
+    accept_head(&found, &reader.head(), file)?;
+    Ok((found, reader))
 }
