@@ -4,5 +4,6 @@ pub mod Apply
 pub mod Standby
 pub mod Tests
 pub mod Accepted
+pub mod Ready
 pub mod Merging
 pub mod Plan

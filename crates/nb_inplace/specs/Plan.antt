@@ -1,17 +1,13 @@
 -- What is known of a merge before it changes the standby.
-use Rattle.std.specs.Prelude.{◌≡◌, ◌≢◌, ℕ, ◌≤◌, List, length, Bool, true, Some, Result, Ok, Err, Contains}
+use Rattle.std.specs.Prelude.{◌≡◌, ◌≢◌, ℕ, ◌≤◌, List, length, Bool, true, Some, Ok, Contains}
 use Rattle.nb_fields.specs.Header.{is_header, size_of}
 use Rattle.nb_host.specs.Files.{Files, bytes_of}
-use Rattle.nb_host.specs.declared.faults.Fault.{Fault}
-use Rattle.nb_host.specs.declared.faults.Fault.TheVariants.{Refused, Device, Memory}
 use Rattle.nb_model.specs.Image.{Page, Numbered, first_page}
-use Rattle.nb_model.specs.Levels.{Contents, joined}
+use Rattle.nb_model.specs.Levels.{joined}
 use Rattle.nb_model.specs.Sound.{IsOfSize}
 use Rattle.nb_level.specs.Reading.{Reading, still_to_come}
 use Rattle.nb_restore.specs.Sources.{AreHeaded}
 use Rattle.nb_inplace.specs.Half.{applying_page}
-use Rattle.nb_inplace.specs.Verdict.{apply_verdict, IsMergeable}
-use Rattle.nb_inplace.specs.declared.plan.Plan.{Plan}
 
 -- the file of the standby: so many whole pages, the first of which has a header
 pub record IsWholeFile (files : Files) (standby : List ℕ) (size count : ℕ) (pages : List Page) : Type 0 where
@@ -38,16 +34,3 @@ pub record IsPlan (files : Files) (standby : List ℕ) (size count : ℕ) (is_be
   pub sixteen : length guid ≡ 16
   pub page_0 : first ≡ applying_page guid (first_page pages)
   pub begun : is_begun ≡ true → first ≡ first_page pages
-
--- the plan is that of a merge that is accepted
-pub record IsPrepared (files : Files) (standby name : List ℕ) (plan : Plan) : Type 0 where
-  pub contents : Contents
-  pub pages : List Page
-  pub mergeable : IsMergeable files standby name (joined pages) contents
-  pub plan_is : IsPlan files standby (length plan.page.items) plan.pages plan.is_begun plan.reader plan.first.items contents.head.guid pages contents.pages
-
-abbrev pub PlanSays : Files → (standby name : List ℕ) → Result Plan Fault → Type 0
-PlanSays files standby name (Ok plan) = IsPrepared files standby name plan
-PlanSays files standby name (Err (Refused refusal)) = apply_verdict files standby name ≡ Err refusal
-PlanSays files standby name (Err Device) = Unit {0}
-PlanSays files standby name (Err Memory) = Unit {0}

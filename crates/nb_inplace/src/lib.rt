@@ -4,7 +4,7 @@
 mod accepting;
 pub mod laws;
 mod merging;
-mod plan;
+mod ready;
 mod records;
 mod stamps;
 mod standby;

@@ -2,12 +2,17 @@ ghost use Rattle.std.specs.Prelude.{IsTrue};
 ghost use Rattle.nb_change.specs.Counts.{CountsDevice};
 ghost use Rattle.nb_inplace.specs.Apply.{Applies};
 
-use crate::plan::{Plan, prepare};
+use crate::accepting::accept;
+use crate::ready::make_ready;
 use crate::records::{count_pages, write_records};
+use crate::standby::Standby;
 use nb_fields::layouts::header;
 use nb_host::{Fault, Host, HostFault, Name};
 use nb_level::LevelReader;
 use std::alloc::Global;
+
+/// How many bytes of the standby are read at a time, to test its stamps.
+const PIECE: usize = 262_144;
 
 /// Keeps for good that a merge goes on, by page 0 of the standby, where it doesn't say so already.
 fn begin<H: Host>(
@@ -30,19 +35,18 @@ fn finish<H: Host>(host: &mut H, standby: &Name, first: &[u8]) -> Result<(), Hos
     host.sync(standby)
 }
 
-/// Merges the level file into the standby, whose file has so many pages, and answers how many its image has then. Page 0 comes last, when
-/// all other pages are kept for good.
+/// Merges the level file into the standby, and answers how many pages its image has then. Page 0 comes last, when all other pages are kept
+/// for good.
 fn merge<H: Host>(
     host: &mut H,
     standby: &Name,
-    is_begun: bool,
-    pages: u32,
+    found: &Standby,
     reader: &mut LevelReader,
     first: &mut [u8],
     page: &mut [u8],
 ) -> Result<u32, Fault> {
-    begin(host, standby, is_begun, first)?;
-    let pages = write_records(host, standby, pages, reader, first, page)?;
+    begin(host, standby, found.is_begun, first)?;
+    let pages = write_records(host, standby, found.pages, reader, first, page)?;
     let count = count_pages(host, standby, pages, page)?;
     header::Access::put(first, 1);
     header::Pending::put(first, &[0; 16]);
@@ -61,14 +65,13 @@ pub fn apply<H: Host>(
     ensures applies { IsTrue H.tells → Applies result (H.world host.old) (H.world host.new) standby.now file.now }
     ensures cause { CountsDevice result (H.faults host.old) (H.faults host.new) }
 {
-    let Plan {
-        is_begun,
-        pages,
-        mut first,
-        mut page,
-        mut reader,
-    } = prepare(alloc, host, standby, file)?;
-    merge(
-        host, standby, is_begun, pages, &mut reader, &mut first, &mut page,
-    )
+    let mut piece = vec![in alloc; 0; PIECE]?;
+    let (found, mut reader) = accept(alloc, host, standby, file)?;
+    let page_size = found.header.page_size as usize;
+    let mut first = vec![in alloc; 0; page_size]?;
+    make_ready(
+        host, standby, file, &found, &reader.head(), &mut first, &mut piece,
+    )?;
+    let page = &mut piece[..page_size];
+    merge(host, standby, &found, &mut reader, &mut first, page)
 }
