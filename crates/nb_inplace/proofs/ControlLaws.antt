@@ -109,3 +109,51 @@ applying-header guid page sixteen is =
     let long = header-long page is in
     same_form 3 (applying_page guid page) page is (omega (arith, applying-long guid page sixteen long, long)) (applying-state guid page sixteen long) (omega arith) (λ e. absurd (omega (arith, e))) (applying-size guid page sixteen long)
     (applying-scn guid page sixteen long) (same_marks (applying_page guid page) page (λ by v low. applying-number guid page sixteen long by v (inr low) (inr (omega (arith, low)))))
+
+-- Page 0 of a standby: the access, then the pending GUID, then the state.
+module _ (page : Page) (long : 66 ≤ length page) where
+  abbrev accessed : Page
+  accessed = with_part 65 (1 ∷ []) page
+
+  abbrev rested : Page
+  rested = with_part 48 (replicate 16 0) accessed
+
+  accessed-long : length accessed ≡ length page
+  accessed-long = length-with_part 65 (1 ∷ []) page (omega (arith, long))
+
+  sixteen_zeros : length (replicate {A = ℕ} 16 0) ≡ 16
+  sixteen_zeros = refl
+
+  rested-long : length rested ≡ length page
+  rested-long = length-with_part 48 (replicate 16 0) accessed (omega (arith, sixteen_zeros, accessed-long, long)) ∙ accessed-long
+
+  pub standby-long : length (standby_page page) ≡ length page
+  standby-long = length-with_part 22 (bytes_of 2 0) rested (omega (arith, two 0, rested-long, long)) ∙ rested-long
+
+  pub standby-state : state_of (standby_page page) ≡ 0
+  standby-state = number_in-with_part 22 2 0 rested (omega arith) (omega (arith, rested-long, long))
+
+  -- any other field stays
+  pub standby-number : (by v : ℕ) → AreApart 22 2 by v → AreApart 48 16 by v → AreApart 65 1 by v → number_in by v (standby_page page) ≡ number_in by v page
+  standby-number by v one other last =
+      number_in-with_part_other 22 2 by v (bytes_of 2 0) rested (two 0) (omega (arith, rested-long, long)) one
+      ∙ number_in-with_part_other 48 16 by v (replicate 16 0) accessed sixteen_zeros (omega (arith, accessed-long, long)) other ∙ number_in-with_part_other 65 1 by v (1 ∷ []) page refl long last
+
+  pub standby-part : (by v : ℕ) → AreApart 22 2 by v → AreApart 48 16 by v → AreApart 65 1 by v → part by v (standby_page page) ≡ part by v page
+  standby-part by v one other last =
+      part-with_part_other 22 2 by v (bytes_of 2 0) rested (two 0) (omega (arith, rested-long, long)) one
+      ∙ part-with_part_other 48 16 by v (replicate 16 0) accessed sixteen_zeros (omega (arith, accessed-long, long)) other ∙ part-with_part_other 65 1 by v (1 ∷ []) page refl long last
+
+  pub standby-size : size_of (standby_page page) ≡ size_of page
+  standby-size = standby-number 24 4 (inl (omega arith)) (inr (omega arith)) (inr (omega arith))
+
+  pub standby-scn : scn_of (standby_page page) ≡ scn_of page
+  standby-scn = standby-number 28 4 (inl (omega arith)) (inr (omega arith)) (inr (omega arith))
+
+  pub standby-guid : guid_of (standby_page page) ≡ guid_of page
+  standby-guid = standby-part 32 16 (inl (omega arith)) (inr (omega arith)) (inr (omega arith))
+
+  pub standby-header : is_header page ≡ true → is_header (standby_page page) ≡ true
+  standby-header is =
+      same_form 0 (standby_page page) page is (omega (arith, standby-long, long)) standby-state (omega arith) (λ e. absurd (omega (arith, e))) standby-size standby-scn
+      (same_marks (standby_page page) page (λ by v low. standby-number by v (inr low) (inr (omega (arith, low))) (inr (omega (arith, low)))))

@@ -7,3 +7,6 @@ pub mod AgainLaws
 pub mod StandbyLaws
 pub mod StampLaws
 pub mod AcceptLaws
+pub mod FileLaws
+pub mod EndLaws
+pub mod CountingLaws

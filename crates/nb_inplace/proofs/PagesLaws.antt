@@ -12,7 +12,7 @@ use Rattle.nb_model.proofs.SoundLaws.{all_from}
 use Rattle.nb_chain.proofs.ImageLaws.{written-inside, written-past, length-written}
 
 -- page p of the tail
-main_tail : (size : ℕ) (x : Page) (xs : Image) (p : ℕ) → main_page size (x ∷ xs) (suc p) ≡ main_page size xs p
+pub main_tail : (size : ℕ) (x : Page) (xs : Image) (p : ℕ) → main_page size (x ∷ xs) (suc p) ≡ main_page size xs p
 main_tail size x xs p = elim (cases_lt p (length xs)) [
   | inl w ↦ main_here size (x ∷ xs) (suc p) (omega (arith, w)) ∙ sym (main_here size xs p w)
   | inr w ↦ main_past size (x ∷ xs) (suc p) (omega (arith, w)) ∙ sym (main_past size xs p w)

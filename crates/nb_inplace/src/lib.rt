@@ -2,6 +2,7 @@
 #![tactic(auto)]
 
 mod accepting;
+mod counting;
 pub mod laws;
 mod merging;
 mod ready;

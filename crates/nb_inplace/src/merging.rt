@@ -4,7 +4,8 @@ ghost use Rattle.nb_inplace.specs.Apply.{Applies};
 
 use crate::accepting::accept;
 use crate::ready::make_ready;
-use crate::records::{count_pages, write_records};
+use crate::counting::count_pages;
+use crate::records::write_records;
 use crate::standby::Standby;
 use nb_fields::layouts::header;
 use nb_host::{Fault, Host, HostFault, Name};

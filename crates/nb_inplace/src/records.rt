@@ -1,4 +1,16 @@
-use nb_fields::are_zeros;
+// The pages of a level file are written over those of a standby.
+ghost use Rattle.std.specs.Prelude.{◌≡◌, ◌≢◌, ◌<◌, ◌≤◌, [], ◌∷◌, IfOk, IsTrue, List, Ok, OnOk, Contains, length};
+ghost use Rattle.nb_change.specs.Changes.{Changes, Only, Moved};
+ghost use Rattle.nb_change.specs.Counts.{CountsDevice};
+ghost use Rattle.nb_change.specs.Gave.{GaveNothing};
+ghost use Rattle.nb_fields.specs.Places.{is_page_size};
+ghost use Rattle.nb_host.specs.Causes.{CountsFault};
+ghost use Rattle.nb_host.specs.Files.{bytes_of};
+ghost use Rattle.nb_model.specs.Image.{Numbered};
+ghost use Rattle.nb_level.specs.Reading.{still_to_come};
+ghost use Rattle.nb_restore.specs.Copied.{Overwrites};
+ghost use Rattle.nb_inplace.specs.Merging.{IsDoneBy, KeepsHalf, pages_with};
+
 use nb_host::{Fault, Host, HostFault, Name};
 use nb_level::{Item, LevelReader};
 
@@ -9,7 +21,16 @@ fn put_page<H: Host>(
     number: u32,
     page: &[u8],
     first: &mut [u8],
-) -> Result<(), HostFault> {
+) -> Result<(), HostFault>
+    requires size { IsTrue (is_page_size (length page.now)) }
+    requires first { length first.old ≡ length page.now }
+    requires below { number < 1048576 }
+    ensures left { IsTrue H.tells → (records : List Numbered) → Contains records (number, page.now)
+        → Changes (H.world host.old) (H.world host.new) (Only standby.now) (Moved (H.world host.old) standby.now (KeepsHalf (length page.now) records)) }
+    ensures pages { IsTrue H.tells → OnOk result (Overwrites (length page.now) ((number, page.now) ∷ []) ((H.world host.old).files standby.now) ((H.world host.new).files standby.now) first.old first.new) }
+    ensures gave { GaveNothing (H.world host.old) (H.world host.new) }
+    ensures cause { CountsFault result (H.faults host.old) (H.faults host.new) }
+{
     if number == 0 {
         first.copy_from_slice(page);
         return Ok(());
@@ -25,29 +46,23 @@ pub(crate) fn write_records<H: Host>(
     reader: &mut LevelReader,
     first: &mut [u8],
     page: &mut [u8],
-) -> Result<u32, Fault> {
+) -> Result<u32, Fault>
+    requires size { IsTrue (is_page_size (length page.old)) }
+    requires reader { reader.old.head.page_size ≡ length page.old }
+    requires first { length first.old ≡ length page.old }
+    requires most { pages ≤ 1048576 }
+    ensures left { IsTrue H.tells → (records : List Numbered) → reader.old.name ≢ standby.now → still_to_come (bytes_of ((H.world host.old).files reader.old.name)) reader.old ≡ Ok records
+        → Changes (H.world host.old) (H.world host.new) (Only standby.now) (Moved (H.world host.old) standby.now (KeepsHalf (length page.old) records)) }
+    ensures pages { IsTrue H.tells → (records : List Numbered) → reader.old.name ≢ standby.now → still_to_come (bytes_of ((H.world host.old).files reader.old.name)) reader.old ≡ Ok records
+        → IsDoneBy result (λ count. (count ≡ pages_with records pages) × Overwrites (length page.old) records ((H.world host.old).files standby.now) ((H.world host.new).files standby.now) first.old first.new) }
+    ensures most { IfOk result (λ count. count ≤ 1048576) }
+    ensures gave { GaveNothing (H.world host.old) (H.world host.new) }
+    ensures cause { CountsDevice result (H.faults host.old) (H.faults host.new) }
+{
     let mut pages = pages;
     while let Item::PageAt(number) = reader.next(host, page)? {
         put_page(host, standby, number, page, first)?;
         pages = pages.max(number + 1);
     }
     Ok(pages)
-}
-
-/// How many pages the standby's image has, of so many in its file: pages of zeros at the end aren't counted.
-pub(crate) fn count_pages<H: Host>(
-    host: &mut H,
-    standby: &Name,
-    pages: u32,
-    page: &mut [u8],
-) -> Result<u32, HostFault> {
-    let mut count = pages;
-    while count > 1 {
-        let is_whole = host.read_page(standby, count - 1, page)?;
-        if is_whole && !are_zeros(page) {
-            return Ok(count);
-        }
-        count -= 1;
-    }
-    Ok(count)
 }
