@@ -10,3 +10,4 @@ pub mod AcceptLaws
 pub mod FileLaws
 pub mod EndLaws
 pub mod CountingLaws
+pub mod RecordLaws
