@@ -101,7 +101,7 @@ keeps_record n page records b c some below wide there (inr (inr (k, fits, grown)
 
 -- Page 0 is put over page 0.
 module _ (size : ℕ) (records : List Numbered) (wide : 0 < size) where
-  first_put : (first : Page) (ps : List Page) → IsOfSize size ps → 1 ≤ length ps → length first ≡ size → with_page (Some (joined ps)) (0 * length first) first ≡ Some (joined (first ∷ drop 1 ps))
+  pub first_put : (first : Page) (ps : List Page) → IsOfSize size ps → 1 ≤ length ps → length first ≡ size → with_page (Some (joined ps)) (0 * length first) first ≡ Some (joined (first ∷ drop 1 ps))
   first_put first [] sizes some long = absurd (omega (arith, some))
   first_put first (p ∷ ps) sizes some long = ap (λ (k : ℕ). Some (put_at (joined (p ∷ ps)) k first)) (let e : 0 * length first ≡ 0 = omega arith in e) ∙ ap Some (put-first size p first ps sizes long)
 

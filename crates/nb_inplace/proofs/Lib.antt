@@ -11,3 +11,4 @@ pub mod FileLaws
 pub mod EndLaws
 pub mod CountingLaws
 pub mod RecordLaws
+pub mod MergeLaws
