@@ -199,6 +199,28 @@ module _ (old : World) (standby : List ℕ) (size count : ℕ) (is_begun : Bool)
     pub ended_kept : (new : World) (pages : ℕ) → pages ≡ length (trimmed merged_over) → IsKept new standby (with_page (now.files standby) (0 * length last) last) → KeepsMerged new standby size records ps pages
     ended_kept new pages is kept = (record { file = with_page (now.files standby) (0 * length last) last; kept = kept; holds = whole }, count_is pages is)
 
+  -- All but page 0 is written, and the pages are counted: then a stop leaves the standby half merged, and it holds the image but page 0.
+  pub record IsWritten (then : World) (noted : Page) (pages : ℕ) : Type 0 where
+    pub left : Changes old then (Only standby) (Remade old standby Half)
+    pub reads : Half (then.files standby)
+    pub holds : Holds size first noted merged_over (then.files standby)
+    pub counted : pages ≡ length (trimmed merged_over)
+
+  pub written : (begun now then : World) → Changes old begun (Only standby) (Remade old standby Half) → IsKept begun standby (begun_file is_begun (old.files standby) first) → Changes begun now (Only standby) (Moved begun standby (KeepsHalf size records))
+      → ((m : List ℕ) → Leaves now m (now.files m)) → (noted : Page) → Overwrites size records (begun.files standby) (now.files standby) first noted → Quiet now then → (all pages long : ℕ) → all ≡ pages_with records count → long ≡ size
+      → ((start : Page) (image : Image) → now.files standby ≡ Some (joined (start ∷ drop 1 image)) → IsOfSize long (start ∷ drop 1 image) → length image ≡ all → 1 ≤ all → is_zeros (page_at image 0) ≡ false → pages ≡ length (trimmed image))
+      → IsWritten then noted pages
+  written begun now then first_part kept moved left noted over quiet all pages same_size all_is size_is counted =
+      let holds : Holds size first noted merged_over (now.files standby) = records_hold begun first_part kept noted now over in
+      let same : now.files standby ≡ then.files standby = ap (λ (f : Files). f standby) (sym quiet.still.files) in
+      let long : length merged_over ≡ all = pages_over all all_is in
+      record {
+        left = counted_on now then (records_on begun first_part kept now moved) quiet;
+        reads = subst Half same (reads_half begun first_part kept now moved left);
+        holds = subst (Holds size first noted merged_over) same holds;
+        counted = counted first merged_over holds.reads (subst (λ k. IsOfSize k (first ∷ drop 1 merged_over)) (sym size_is) (first_long, all-drop (λ (p : Page). length p ≡ size) 1 merged_over holds.sizes)) long (some_over all long) first_over;
+      }
+
   -- less is said while it isn't ended
   pub part_left : (now : World) → Changes old now (Only standby) (Remade old standby Half) → Changes old now (Only standby) (Remade old standby (IsHalfOr size records ps first))
   part_left now so_far = remade_weaker old now (Only standby) standby Half (IsHalfOr size records ps first) so_far (λ c half. inl half)

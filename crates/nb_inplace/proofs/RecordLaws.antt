@@ -118,3 +118,9 @@ module _ (size : ℕ) (reader : Reading) (records : List Numbered) (tells : Bool
 -- the number of a record is that of a page
 pub number_low : (old new : Reading) (item : Item) (n : ℕ) → item ≡ PageAt n → Rises old new (Ok item) → n < 1048576
 number_low old new item n is rises = (subst (λ (i : Item). Rises old new (Ok i)) is rises).1
+
+-- what fails without a value fails so, whatever the value is to be
+pub fails_so : {S T : Type 0} (P : S → Type 0) (Q : T → Type 0) (fault : Fault) → IsDoneBy (Err fault) P → IsDoneBy (Err fault) Q
+fails_so P Q (Refused r) fails = absurd fails
+fails_so P Q Device fails = tt
+fails_so P Q Memory fails = absurd fails
