@@ -1,6 +1,7 @@
 -- The file of a standby, while pages of a level file are written into it.
 use Rattle.std.proofs.Common.{◌≡◌, ◌≢◌, ◌⊎◌, inl, inr, ℕ, zero, suc, ◌+◌, ◌-◌, ◌*◌, ◌<◌, ◌≤◌, List, [], ◌∷◌, ◌++◌, length, get_or, take, drop, replicate, refl, sym, ap, subst, ◌∙◌, arith, length-append, append_assoc, mul-le-mul_right, add-mul, suc-mul, le_of_mul-le-mul_right}
-use Rattle.std.specs.Prelude.{Some, Contains}
+use Rattle.std.specs.Prelude.{true, Some, Contains}
+use Rattle.nb_fields.specs.Bytes.{is_zeros}
 use Rattle.std.proofs.lemmas.Bool.{cases_eq, cases_lt}
 use Rattle.std.proofs.lemmas.List.{get_or_append_left, get_or-append_right, get_or_past, length-replicate}
 use Rattle.nb_host.specs.Files.{File, bytes_of as file_bytes, put_at, with_page}
@@ -9,7 +10,7 @@ use Rattle.nb_model.specs.Image.{Page, Image, Numbered, page_at, first_page, wri
 use Rattle.nb_model.specs.Levels.{joined}
 use Rattle.nb_model.specs.Owner.{main_page}
 use Rattle.nb_model.specs.Sound.{IsOfSize}
-use Rattle.nb_model.proofs.ImageLaws.{all-append, all-replicate, joined-append, length-joined, joined-zeros}
+use Rattle.nb_model.proofs.ImageLaws.{all-append, all-replicate, zeros-are, joined-append, length-joined, joined-zeros}
 use Rattle.nb_model.proofs.OwnerLaws.{main_here, main_past, other_page}
 use Rattle.nb_model.proofs.PutLaws.{put-first}
 use Rattle.nb_chain.proofs.ImageLaws.{length-written}
@@ -17,26 +18,7 @@ use Rattle.nb_restore.proofs.AnswerLaws.{some_same}
 use Rattle.nb_restore.proofs.CopiedLaws.{put-written, written-sizes, first-written}
 use Rattle.nb_inplace.specs.Half.{IsBetween}
 use Rattle.nb_inplace.specs.Merging.{IsHalfFile, KeepsHalf}
-use Rattle.nb_inplace.proofs.PagesLaws.{main_tail, written_page}
-
--- pages of zeros behind a list are seen behind its end
-replicated : (k p : ℕ) (z : Page) → p < k → page_at (replicate k z) p ≡ z
-replicated zero p z low = absurd (omega (arith, low))
-replicated (suc k) zero z low = refl
-replicated (suc k) (suc p) z low = replicated k p z (omega (arith, low))
-
-main_zeros : (size k : ℕ) (xs : Image) (p : ℕ) → main_page size (xs ++ replicate k (replicate size 0)) p ≡ main_page size xs p
-main_zeros size k xs p =
-    let zeros : Image = replicate k (replicate {A = ℕ} size 0) in
-    let long : length (xs ++ zeros) ≡ length xs + k = omega (arith, length-append xs zeros, length-replicate k (replicate {A = ℕ} size 0)) in
-    elim (cases_lt p (length xs)) [
-      | inl w ↦ main_here size (xs ++ zeros) p (omega (arith, w, long)) ∙ get_or_append_left xs zeros [] p w ∙ sym (main_here size xs p w)
-      | inr w ↦ elim (cases_lt p (length xs + k)) [
-        | inl v ↦
-            main_here size (xs ++ zeros) p (omega (arith, v, long)) ∙ get_or-append_right xs zeros (length xs) p [] refl w ∙ replicated k (p - length xs) (replicate size 0) (omega (arith, v, w)) ∙ sym (main_past size xs p w)
-        | inr v ↦ main_past size (xs ++ zeros) p (omega (arith, v, long)) ∙ sym (main_past size xs p w)
-      ]
-    ]
+use Rattle.nb_inplace.proofs.PagesLaws.{main_tail, written_page, zeros_behind}
 
 -- a list of pages is its first, and the others
 first_and_rest : (xs : Image) → 1 ≤ length xs → xs ≡ first_page xs ∷ drop 1 xs
@@ -84,11 +66,13 @@ module _ (size : ℕ) (records : List Numbered) (before : Image) (first : Page) 
       let all : length bytes ≡ length xs * size = ap length is ∙ length-joined size xs half.sizes in
       let low : (length xs + k) * size ≤ (n + 1) * size = omega (arith, all, fits, add-mul (length xs) k size, suc-mul n size) in
       let few : length xs + k ≤ n + 1 = le_of_mul-le-mul_right {k = size} low some in
+      let sizes : IsOfSize size zeros = all-replicate (λ (x : Page). length x ≡ size) k (replicate size 0) (length-replicate {A = ℕ} size 0) in
       half_of (xs ++ zeros) (Some (bytes ++ replicate (k * size) 0))
       (ap (λ (x : List ℕ). Some (x ++ replicate {A = ℕ} (k * size) 0)) is ∙ ap (λ (x : List ℕ). Some (joined xs ++ x)) (joined-zeros k size) ∙ ap Some (sym (joined-append xs zeros)))
-      (omega (arith, count)) refl (all-append (λ (x : Page). length x ≡ size) xs zeros half.sizes (all-replicate (λ (x : Page). length x ≡ size) k (replicate size 0) (length-replicate {A = ℕ} size 0)))
-      (omega (arith, count, half.least)) (omega (arith, count, few, below))
-      (λ p from. let same = main_zeros size k xs p in elim (half.between p from) [ inl was ↦ inl (same ∙ was) | inr one ↦ inr (subst (λ (x : Page). Contains records (p, x)) (sym same) one) ])
+      (omega (arith, count)) refl (all-append (λ (x : Page). length x ≡ size) xs zeros half.sizes sizes) (omega (arith, count, half.least)) (omega (arith, count, few, below))
+      (λ p from.
+      let same = zeros_behind size xs zeros sizes (all-replicate (λ (x : Page). is_zeros x ≡ true) k (replicate size 0) (zeros-are size)) p in
+      elim (half.between p from) [ inl was ↦ inl (same ∙ was) | inr one ↦ inr (subst (λ (x : Page). Contains records (p, x)) (sym same) one) ])
 
 -- Whatever a stop leaves of the write of a record, the file is half merged still.
 pub keeps_record : (n : ℕ) (page : Page) (records : List Numbered) (b c : File) → 1 ≤ n → n < 1048576 → 0 < length page → Contains records (n, page) → PageLeft (n * length page) page b c → KeepsHalf (length page) records b c

@@ -12,3 +12,5 @@ pub mod EndLaws
 pub mod CountingLaws
 pub mod RecordLaws
 pub mod MergeLaws
+pub mod ApplyLaws
+pub mod SeenLaws
