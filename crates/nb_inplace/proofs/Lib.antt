@@ -14,3 +14,5 @@ pub mod RecordLaws
 pub mod MergeLaws
 pub mod ApplyLaws
 pub mod SeenLaws
+pub mod KeptLaws
+pub mod WayLaws
