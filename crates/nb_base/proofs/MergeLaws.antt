@@ -13,7 +13,7 @@ use Rattle.nb_model.specs.Account.{Base}
 use Rattle.nb_model.specs.Sound.{HasNoZeros}
 use Rattle.nb_model.specs.Owner.{delta_name, entry_for, behind_entries, slot_page, main_page, owned_page}
 use Rattle.nb_model.proofs.ImageLaws.{length-joined, page-joined, zeros-are, all-right}
-use Rattle.nb_model.proofs.MainLaws.{IsLaid, laid-wide}
+use Rattle.nb_model.proofs.MainLaws.{IsLaid}
 use Rattle.nb_model.proofs.OwnerLaws.{main_here, main_past}
 use Rattle.nb_model.proofs.SoundLaws.{all_at}
 use Rattle.nb_base.specs.Open.{Held, IsMerged}
@@ -24,9 +24,6 @@ use Rattle.nb_base.proofs.WrittenLaws.{laid_image, zeros_is}
 module _ (main : Image) (bytes : List ℕ) (l : IsLaid main bytes) where
   pages : List Page
   pages = main ++ l.rest
-
-  wide : 1024 ≤ image_size main
-  wide = laid-wide main bytes l
 
   long : length bytes ≡ length (main ++ l.rest) * image_size main
   long = ap length l.is ∙ length-joined (image_size main) (main ++ l.rest) l.sizes

@@ -30,7 +30,3 @@ durable_other old new names P name file is other durable = record {
 pub synced : {T E : Type 0} (tells : Bool) (result : Result T E) (old new : World) (name : List ℕ) → IsTrue tells → Syncs tells result old new name → OnOk result (IsDurable new name (new.files name))
 synced tells result old new name told syncs =
     on_ok_then result (subst (λ (f : Files). IsDurable new name (f name)) (sym syncs.still.files)) (syncs.durable told)
-
--- what reads after a run of calls has what a stop leaves
-pub reads_has : (old new : World) (names : Names) (P : Files → Type 0) → Changes old new names P → ((m : List ℕ) → Leaves new m (new.files m)) → P new.files
-reads_has old new names P is left = is.now new.files left

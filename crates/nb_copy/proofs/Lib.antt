@@ -25,5 +25,4 @@ pub mod FileStartLaws
 pub mod StartLaws
 pub mod RoomStartLaws
 pub mod FileCopyLaws
-pub mod KeepLaws
 pub mod TouchLaws

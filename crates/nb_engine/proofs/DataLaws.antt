@@ -1,10 +1,8 @@
 -- Whether a page is a data page, and what it then is written as.
-use Rattle.std.proofs.Common.{◌≡◌, ◌≢◌, ℕ, ◌-◌, ◌<◌, List, [], ◌∷◌, ◌++◌, length, take, drop, refl, sym, ap, ◌∙◌, arith, length-drop}
+use Rattle.std.proofs.Common.{◌≡◌, ℕ, ◌-◌, ◌<◌, List, [], ◌∷◌, ◌++◌, length, take, drop, refl, sym, ap, ◌∙◌, arith, length-drop}
 use Rattle.std.specs.Prelude.{Bool, true, false, not, ◌&&◌, ◌==◌, Some, None}
 use Rattle.std.proofs.lemmas.List.{append-nil, drop_all}
-use Rattle.nb_fields.proofs.PageLemmas.{padded_whole}
 use Rattle.nb_fields.specs.Header.{is_header}
-use Rattle.nb_fields.specs.Page.{with_payload}
 use Rattle.nb_host.specs.declared.refusals.Refusal.{Refusal}
 use Rattle.nb_host.specs.declared.refusals.Refusal.TheVariants.{NotDatabase}
 use Rattle.nb_model.specs.Image.{Image, page_at, first_page}
@@ -12,10 +10,10 @@ use Rattle.nb_model.specs.Forms.{is_kind}
 use Rattle.nb_model.specs.Causes.{when, not_kind}
 use Rattle.nb_model.specs.Chains.{owner_in}
 use Rattle.nb_model.proofs.HeaderLaws.{header-kind}
-use Rattle.nb_model.proofs.ReadLaws.{eq_no, eq_yes}
+use Rattle.nb_model.proofs.ReadLaws.{eq_yes}
 use Rattle.nb_engine.specs.Data.{not_data, data_cause}
 use Rattle.nb_engine.specs.Put.{entry_cause}
-use Rattle.nb_engine.proofs.CauseLaws.{first_next, first_here, one_cause}
+use Rattle.nb_engine.proofs.CauseLaws.{first_next, one_cause}
 use Rattle.nb_engine.proofs.PutLaws.{is_kind-parts, none_of}
 
 -- tests of the owner behind tests of the kind
@@ -34,9 +32,6 @@ module _ (image : Image) (owner p : ℕ) where
 
   -- it is a data page
   module _ (kind : not_kind image 5 p ≡ None) where
-    pub owner_fails : owner_in (page_at image p) ≢ owner → not_data image owner p ≡ Some (NotDatabase p)
-    owner_fails other =
-        by_owner (is_kind image 5 p) (owner_in (page_at image p) == owner) (NotDatabase p) kind ∙ ap (λ (t : Bool). when (not t) (NotDatabase p)) (eq_no (owner_in (page_at image p)) owner other)
 
     pub owner_is : owner_in (page_at image p) ≡ owner → not_data image owner p ≡ None
     owner_is same =
@@ -61,17 +56,8 @@ no_data_first image owner p header e =
 pub data_there : (image : Image) (p : ℕ) → not_kind image 5 p ≡ None → p < length image
 data_there image p kind = (is_kind-parts image 5 p (none_of (is_kind image 5 p) (NotDatabase p) kind)).0
 
--- why it isn't written
-pub none_there : (image : Image) (p : ℕ) (r : Refusal) → not_kind image 5 p ≡ Some r → data_cause image p ≡ Some r
-none_there image p r e = first_here (not_kind image 5 p) (entry_cause image p ∷ []) r e
-
 pub by_entry : (image : Image) (p : ℕ) → not_kind image 5 p ≡ None → entry_cause image p ≡ data_cause image p
 by_entry image p kind = sym (first_next (not_kind image 5 p) (entry_cause image p ∷ []) kind ∙ one_cause (entry_cause image p))
-
--- the bytes behind the head are the payload
-pub behind_payload : (old bytes : List ℕ) → length bytes ≡ length old → take 16 old ++ drop 16 bytes ≡ with_payload old (drop 16 bytes)
-unfolding with_payload
-behind_payload old bytes same = ap (λ (xs : List ℕ). take 16 old ++ xs) (sym (padded_whole (length old - 16) (drop 16 bytes) (length-drop 16 bytes ∙ ap (λ (n : ℕ). n - 16) same)))
 
 -- nothing is left behind the rest of a page
 pub put_rest : (page rest : List ℕ) → take 16 page ++ (rest ++ drop (length page - 16) (drop 16 page)) ≡ take 16 page ++ rest

@@ -40,7 +40,6 @@ pub mod ReopenLaws
 pub mod PagesFit
 pub mod WellLaws
 pub mod PlayLaws
-pub mod TakenLaws
 pub mod FreeLaws
 pub mod FrontLaws
 pub mod TrailLaws

@@ -123,13 +123,6 @@ main_state image file h =
     let front : take 64 h.bytes ≡ take 64 (first_page image) = laid-front image h.bytes (laid_main image file h) in
     sym (same-number h.bytes (first_page image) front 22 2 (omega arith)) ∙ h.normal
 
--- a file holds one image
-pub main_same : (i j : Image) (file : File) → HoldsMain i file → HoldsMain j file → i ≡ j
-main_same i j file h k = sym h.is ∙ ap image_in (one_file (sym h.there ∙ k.there)) ∙ k.is
-  where
-    one_file : {a b : List ℕ} → Some a ≡ Some b → a ≡ b
-    one_file e = cc
-
 -- What a main file's image and its bytes have in common. The file has at least the pages of the image.
 pub record MainFacts (image : Image) (bytes : List ℕ) : Type 0 where
   pub size : IsTrue (is_page_size (image_size image))
@@ -324,9 +317,6 @@ main_of_base name base m d e normal = elim (owner_cases name base m d e) [
   | inl holds ↦ holds
   | inr diverted ↦ absurd (elim diverted.other [ inl one ↦ omega (arith, one, diverted.state, normal) | inr two ↦ omega (arith, two, diverted.state, normal) ])
 ]
-
-pub main_of_owner : (name : List ℕ) (image : Image) (m d : File) → owner name m d ≡ Ok (base_of image) → image_state image ≡ 0 → HoldsMain image m
-main_of_owner name image m d e normal = main_of_base name (base_of image) m d e normal
 
 -- so its image tells it whole
 pub base_told : (name : List ℕ) (base : Base) (m d : File) → owner name m d ≡ Ok base → image_state base.image ≡ 0 → base ≡ base_of base.image

@@ -1,5 +1,5 @@
 -- A round of the search for a new page in a sound image: what it finds, what it leaves, and where the search goes on.
-use Rattle.std.proofs.Common.{◌≡◌, ◌≢◌, inl, inr, ℕ, zero, suc, ◌+◌, ◌-◌, ◌*◌, ◌/◌, ◌%◌, ◌<◌, ◌≤◌, List, [], ◌∷◌, ◌++◌, length, drop, replicate, refl, sym, ap, subst, ◌∙◌, arith, mul-le-mul_right, div-add-mod'}
+use Rattle.std.proofs.Common.{◌≡◌, ◌≢◌, inl, inr, ℕ, zero, suc, ◌+◌, ◌-◌, ◌*◌, ◌/◌, ◌%◌, ◌<◌, ◌≤◌, List, [], ◌++◌, length, drop, replicate, refl, sym, ap, subst, ◌∙◌, arith, mul-le-mul_right, div-add-mod'}
 use Rattle.std.specs.Prelude.{Bool, true, false, ◌==◌, nat_lt, IsTrue}
 use Rattle.std.proofs.lemmas.Bool.{true≢false, and_from, or_parts, lt-ltb, eq-eqb, eqb-false}
 use Rattle.std.proofs.lemmas.Bool.Decides.{eqb_tells}
@@ -10,7 +10,6 @@ use Rattle.nb_fields.proofs.SizeLemmas.{SizeFacts, size_facts}
 use Rattle.nb_fields.proofs.PlaceLemmas.{bits-least}
 use Rattle.nb_model.specs.Image.{Page, Image, page_at, image_size, image_scn, with_page}
 use Rattle.nb_model.specs.Account.{base_of}
-use Rattle.nb_model.specs.Strokes.{page}
 use Rattle.nb_model.specs.Forms.{Draft, drafted, old_page, wrote, written, needs, is_kind, inventory_of, scn_page_of, bit_number, has_entry, scn_entry, is_free_page, entry_written, entry_raised, raised, put, with_bit, set_bit, take_page, free_from, lowest_free, needs_inventories, searched, system_kind, system_payload, system_page, no_page, new_within}
 use Rattle.nb_model.proofs.StrokeLaws.{with_page_same, with_page_other}
 use Rattle.nb_model.proofs.SoundLaws.{all_at, inventory_there, inventory_place_some, scn_page_there, scn_place_some, scn_no_entry, with_page_length}
@@ -112,11 +111,6 @@ module _ (image : Image) (h : IsWhole image) (p : ℕ) (at : IsPlace image p) wh
     pub put_unbroken : (put p kind payload (drafted image)).broken ≡ []
     unfolding put written wrote
     put_unbroken = raised_unbroken
-
-    -- its strokes are those of the entry, and then the page as it stood before
-    pub put_strokes : (put p kind payload (drafted image)).strokes ≡ before.strokes ++ page p bytes ∷ []
-    unfolding put written wrote
-    put_strokes = ap (λ (x : Page). before.strokes ++ page p x ∷ []) same_bytes
 
     put_image : (put p kind payload (drafted image)).image ≡ with_page p bytes before.image
     unfolding put

@@ -17,15 +17,6 @@ use Rattle.nb_state.specs.Does.{Does}
 use Rattle.nb_state.proofs.MakesLaws.{makes_none}
 use Rattle.nb_session.specs.Replies.{header_of}
 
--- its turn says that, and does nothing
-pub header_said : (s : Seen) → (header_turn s).reply ≡ Some (header_of s.base)
-unfolding header_turn
-header_said s = refl
-
-header_strokes : (s : Seen) → (header_turn s).strokes ≡ []
-unfolding header_turn
-header_strokes s = refl
-
 pub header_does : (w : World) (held : Held) (t : Trail) (s : Seen) (reply : Reply) → t.base ≡ s.base → Quiet w w → IsOpen w held t → reply ≡ header_of t.base → Does (λ r. r) (Ok reply) w w held held t (header_turn s)
 unfolding header_turn
 header_does w held t s reply base quiet is shown = record {

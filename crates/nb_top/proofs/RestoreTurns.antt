@@ -11,7 +11,7 @@ use Rattle.nb_model.specs.Jobs.{only_turn, only_refusal, restore_turn, account_b
 use Rattle.nb_model.specs.Outcomes.{Given}
 use Rattle.nb_model.specs.Restoring.{Link, verdict, applied}
 use Rattle.nb_model.specs.Run.{Event, account_after}
-use Rattle.nb_model.specs.Steps.{makes, settles, made, steps_of}
+use Rattle.nb_model.specs.Steps.{steps_of}
 use Rattle.nb_model.specs.Strokes.{make, fixed, base_in}
 use Rattle.nb_model.specs.Trail.{settled}
 use Rattle.nb_model.proofs.StepsLaws.{steps_one}
@@ -82,11 +82,6 @@ module _ (files : Files) (account : Account) (db : List ℕ) (names : List (List
   pub made_performed : (given : Given) (links : List Link) → restore_turn files account db names ≡ made_turn links
       → IsPerformed files (Ok (ToRestore db names)) account given (made_turn links ∷ []) (account_behind db (made_turn links) account) given
   made_performed given links is = (ap (λ (e : Event). e ∷ []) (sym is), ap (λ (e : Event). account_behind db e account) (sym is), refl)
-
--- the database is made, and kept for good
-pub made_steps : (links : List Link) → steps_of (made_turn links ∷ []) ≡ makes (make (fixed (applied links))) ∷ settles ∷ []
-unfolding steps_of made
-made_steps links = refl
 
 -- which leaves a settled point
 pub made_seen : (account : Account) (db : List ℕ) (links : List Link) → seen_after account db (steps_of (made_turn links ∷ [])) ≡ settled (base_from links)

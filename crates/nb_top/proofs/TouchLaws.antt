@@ -58,10 +58,6 @@ module _ (old new : World) (asked : Result Request Refusal) where
   pub touches_stopped : (stop : Stop) (status : Status) → ends_refused status ≡ false → TouchesAsked (Err stop) old new asked → TouchesAsked (Ok status) old new asked
   touches_stopped stop status none touches = touches_done status none touches.leaves
 
-  -- by another name for what is asked for
-  pub touches_same : (result : Result Status Stop) (other : Result Request Refusal) → other ≡ asked → TouchesAsked result old new other → TouchesAsked result old new asked
-  touches_same result other same touches = subst (λ (a : Result Request Refusal). TouchesAsked result old new a) same touches
-
 module _ (old mid new : World) (asked : Result Request Refusal) (leaves : LeavesOthers old mid (MayTouch asked)) where
   -- and goes on as a run that is asked for less
   pub touches_then : (result : Result Status Stop) (few : Result Request Refusal) → ((m : List ℕ) → MayTouch few m → MayTouch asked m) → TouchesAsked result mid new few → TouchesAsked result old new asked
