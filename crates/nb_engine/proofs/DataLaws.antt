@@ -32,7 +32,6 @@ module _ (image : Image) (owner p : ℕ) where
 
   -- it is a data page
   module _ (kind : not_kind image 5 p ≡ None) where
-
     pub owner_is : owner_in (page_at image p) ≡ owner → not_data image owner p ≡ None
     owner_is same =
         by_owner (is_kind image 5 p) (owner_in (page_at image p) == owner) (NotDatabase p) kind ∙ ap (λ (t : Bool). when (not t) (NotDatabase p)) (eq_yes (owner_in (page_at image p)) owner same)

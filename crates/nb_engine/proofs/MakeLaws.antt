@@ -224,7 +224,6 @@ filled_page old payload new long is = is ∙ ap (λ (xs : List ℕ). take 16 old
 
 -- what a system place holds, by its kind
 module _ (image : Image) (p : ℕ) where
-
   abbrev by_place : Bool → List ℕ
   by_place t = elim t as (λ z. List ℕ) [
     | true ↦ inventory_payload (image_size image) ((p + 1) / bits_in (image_size image)) 0

@@ -40,7 +40,6 @@ agent_of_set agents session (suc place) moved agent above there =
     elim (get_of_set agents (session - 1) place moved agent there) [ inl here ↦ inl (omega (arith, here.0), here.1) | inr other ↦ inr (λ same. other.0 (omega arith), other.1) ]
 
 module _ {A : Type 0} (left : A → ℕ × ℕ) where
-
   -- a session past the last agent has none
   pub rests_past : (agents : List A) (session : ℕ) → length agents < session → Rests left agents session
   rests_past agents zero past agent there = absurd cc

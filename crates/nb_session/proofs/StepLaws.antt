@@ -116,7 +116,6 @@ module _ {T : Type 0} (refused : T → Bool) (task : T → Option Task) (old new
 
 -- What is said of a failure is said of the answer that hands it on.
 module _ {S : Type 0} (fault : Fault) where
-
   pub none_handed : (answer : Result S Fault) → IsErr answer × IsErrAnd answer (λ e. e ≡ fault) → IsNoRefusal fault → IfErr answer IsNoRefusal
   none_handed (Ok value) is none = tt
   none_handed (Err e) is none = subst IsNoRefusal (sym is.1) none
