@@ -49,16 +49,23 @@ built_job (Some job) = elim (is_job_built job) [ true ↦ Some job | false ↦ N
 abbrev pub job_asked : (words : List (List ℕ)) → Option Job
 job_asked words = built_job (job_of words)
 
+-- A job of one turn, which opens no database.
+pub data Deed : Type 0 where
+  -- it is refused
+  Refuses : Refusal → Deed
+  -- a database that the files of a chain give
+  Restores : (db : List ℕ) (names : List (List ℕ)) → Deed
+  -- a copy of a stalled database that becomes a database, in place
+  Fixes : (db : List ℕ) → Deed
+
 -- What a job asks for.
 pub data Request : Type 0 where
   -- the run of a script, and what is told of it
   ToRun : (plan : Plan) (telling : Telling) → Request
   -- the script of a number, which is written under a name and then run, and of which only refusals and the pages by kind are told
   ToGenerate : (number : ℕ) (name : List ℕ) → Request
-  -- a database that the files of a chain give
-  ToRestore : (db : List ℕ) (names : List (List ℕ)) → Request
-  -- a copy of a stalled database that becomes a database, in place
-  ToFix : (db : List ℕ) → Request
+  -- one turn
+  ToDo : Deed → Request
 
 -- the script that a file spells, or why there is none
 abbrev pub script_in : (name : List ℕ) → File → Result Plan Refusal
@@ -66,28 +73,28 @@ script_in name None = Err (NoFile name)
 script_in name (Some bytes) = script_of bytes
 
 -- to run it
-abbrev pub to_run : Result Plan Refusal → Result Request Refusal
-to_run (Ok plan) = Ok (ToRun plan All)
-to_run (Err refusal) = Err refusal
+abbrev pub to_run : Result Plan Refusal → Request
+to_run (Ok plan) = ToRun plan All
+to_run (Err refusal) = ToDo (Refuses refusal)
 
 -- the script of a job that opens a database and asks it these things
 abbrev pub plan_of : (db : List ℕ) → List Statement → Plan
 plan_of db statements = record { first_session = 1; first = OpenDb db usual_cache; schedule = []; sessions = statements ∷ replicate 15 [] }
 
--- what a job asks for, or why it is refused
-abbrev pub request_of : Files → Job → Result Request Refusal
+-- what a job asks for
+abbrev pub request_of : Files → Job → Request
 request_of files (Run script) = to_run (script_in script (files script))
-request_of files (Backup level db file) = Ok (ToRun (plan_of db (BackupTo level file ∷ [])) Quietly)
-request_of files (BackupSince guid db file) = Ok (ToRun (plan_of db (BackupOf guid file ∷ [])) Quietly)
-request_of files (Stat db) = Ok (ToRun (plan_of db (ShowHeader ∷ ShowPages ∷ [])) Quietly)
-request_of files (Lock db) = Ok (ToRun (plan_of db (BeginBackup ∷ [])) Quietly)
-request_of files (LockWithSize db) = Ok (ToRun (plan_of db (BeginBackup ∷ [])) WithSize)
-request_of files (Unlock db) = Ok (ToRun (plan_of db (EndBackup ∷ [])) Quietly)
-request_of files (Gen number script) = Ok (ToGenerate number script)
-request_of files (Restore db names) = Ok (ToRestore db names)
-request_of files (Fixup db) = Ok (ToFix db)
-request_of files other = Err Usage
+request_of files (Backup level db file) = ToRun (plan_of db (BackupTo level file ∷ [])) Quietly
+request_of files (BackupSince guid db file) = ToRun (plan_of db (BackupOf guid file ∷ [])) Quietly
+request_of files (Stat db) = ToRun (plan_of db (ShowHeader ∷ ShowPages ∷ [])) Quietly
+request_of files (Lock db) = ToRun (plan_of db (BeginBackup ∷ [])) Quietly
+request_of files (LockWithSize db) = ToRun (plan_of db (BeginBackup ∷ [])) WithSize
+request_of files (Unlock db) = ToRun (plan_of db (EndBackup ∷ [])) Quietly
+request_of files (Gen number script) = ToGenerate number script
+request_of files (Restore db names) = ToDo (Restores db names)
+request_of files (Fixup db) = ToDo (Fixes db)
+request_of files other = ToDo (Refuses Usage)
 
 -- what the words ask for
-abbrev pub request_asked : Files → (words : List (List ℕ)) → Result Request Refusal
-request_asked files words = elim (job_asked words) [ None ↦ Err Usage | Some job ↦ request_of files job ]
+abbrev pub request_asked : Files → (words : List (List ℕ)) → Request
+request_asked files words = elim (job_asked words) [ None ↦ ToDo (Refuses Usage) | Some job ↦ request_of files job ]
