@@ -94,7 +94,7 @@ fn start<H: Host>(
     }
 }
 
-/// The first turn of a backup. Where it is refused the refusal is said, and it is done.
+/// The first turn of a backup, which makes its file and begins it. Where it is refused the refusal is said, and it is done.
 pub fn begin_backup<H: Host>(
     alloc: Global,
     host: &mut H,
