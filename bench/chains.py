@@ -17,7 +17,7 @@ STATE = (22, 24)  # where the header has its flags, of which the state is a part
 
 
 def run(folder, words, status=0):
-    running = folder.start(words)
+    running = folder.start(words, stderr=subprocess.DEVNULL)
     output, _ = running.communicate()
     if running.returncode != status:
         report("chains", False, f"{' '.join(words[1:])}: status {running.returncode}, {output.decode('ascii', 'replace')}")

@@ -170,6 +170,29 @@ def locks(path):
                 yield f"{ran} in {took:.1f} s beside a lock {kind} of {words[1]} that waits {wait} s"
 
 
+# Statements that only read a database, and some that change it.
+READS = ["read 5", "get t 1", "scan t", "show header", "show pages", "show image"]
+CHANGES = [
+    *["page new", "write 5 'x'", "free 5", "create table u", "drop table t", "insert t 2 'x'", "update t 1 'x'", "delete t 1", "sync"],
+    *["forced writes on", "access read_write", "alter database begin backup", "alter database end backup", "backup 0 to 'b'"],
+]
+
+
+def scripts_beside_readers(path):
+    """What is wrong with scripts beside a program that reads their database: those that only read go on, and others don't begin."""
+    with Folder() as folder:
+        create(folder, path)
+        folder.write_script("script", ["1: open 'x.db'", "1: create table t", "1: insert t 1 'x'"])
+        run(folder, [path, "run", "script"])
+        with open(folder.file("x.db"), "rb") as file:
+            fcntl.flock(file, fcntl.LOCK_SH)
+            for statement in READS + CHANGES:
+                folder.write_script("script", ["1: open 'x.db'", f"2: {statement}"])
+                status, replies, _ = run(folder, [path, "run", "script"])
+                if (status, len(replies)) != ((0, 2) if statement in READS else (3, 0)):
+                    yield f"{statement} beside a reader: status {status} and {replies}"
+
+
 def looks_beside_backups(path):
     """What fails where a database is looked at again and again while it is backed up."""
     with Folder() as folder:
@@ -227,6 +250,21 @@ def standing(path):
                 os.remove(folder.file("b.1"))
         if status or states != {0, 1, 2}:
             yield f"a backup ends with {status}, and was cut off in the states {states}"
+        yield from of_others(folder, path)
+
+
+def of_others(folder, path):
+    """What is said otherwise where another program has the database, which it locks and doesn't unlock in the time that is waited."""
+    with open(folder.file("x.db"), "r+b") as file:
+        fcntl.flock(file, fcntl.LOCK_EX)
+        running = subprocess.Popen([path, "-B", "1", "x.db", "b.1"], cwd=folder.path, stderr=subprocess.PIPE, env={**os.environ, "NEHUMIRO_WAIT": "1"})
+        time.sleep(0.3)
+        file.seek(22)
+        file.write(b"\1")
+        file.flush()
+        said = running.communicate()[1].decode()
+    if said != "nehumiro: x.db is in use\n":
+        yield f"{said!r} where another program has the database"
 
 
 def little_memory():
@@ -262,7 +300,7 @@ def main():
     failed = len(wrong)
     wrong += broken_scripts(path)
     broken = len(wrong) - failed
-    shared = [*without_rights(path), *locks(path), *looks_beside_backups(path)]
+    shared = [*without_rights(path), *locks(path), *scripts_beside_readers(path), *looks_beside_backups(path)]
     stands = [*standing(path), *shortages(path)]
     report(
         "faults",

@@ -1,7 +1,7 @@
 // What the standard error says behind a run.
 use crate::changed::script_in;
 use crate::look::look_at;
-use crate::seeing::seen;
+use crate::seeing::{database_of, seen, seen_of};
 use nb_advice::{Refused, advice, complaint, shortage, standing};
 use nb_file::{Disk, FileHost};
 use nb_host::Name;
@@ -30,14 +30,14 @@ usage: nehumiro run SCRIPT          runs the statements of a script
 ";
 
 /// Says a line, if there is one. Nothing is left to do where the standard error fails, or where there is no memory for a text.
-pub fn say<R: Eprint>(rt: &R, text: Result<Option<String>, AllocError>) {
+fn say<R: Eprint>(rt: &R, text: Result<Option<String>, AllocError>) {
     if let Ok(Some(text)) = text {
         let _ = eprintln!(rt; "nehumiro: {text}");
     }
 }
 
 /// Which word is wrong, and which words there are.
-pub fn show_usage<R: Eprint>(alloc: Global, rt: &R, words: &io::Result<Vec<String>>) {
+fn show_usage<R: Eprint>(alloc: Global, rt: &R, words: &io::Result<Vec<String>>) {
     match words {
         Ok(words) => say(rt, complaint(alloc, words.as_slice())),
         Err(_) => {
@@ -48,7 +48,7 @@ pub fn show_usage<R: Eprint>(alloc: Global, rt: &R, words: &io::Result<Vec<Strin
 }
 
 /// The line that breaks the form of a script, where that is why it was refused.
-pub fn show_broken<R: Files + Print + Eprint + Clock + Drop>(
+fn show_broken<R: Files + Print + Eprint + Clock + Drop>(
     alloc: Global,
     rt: &R,
     host: &mut FileHost<R>,
@@ -63,23 +63,35 @@ where
 }
 
 /// What to do about the reply that refused a job by words.
-pub fn show_advice<R: Files + Eprint>(alloc: Global, rt: &R, job: &Job, reply: &[u8])
+fn show_advice<R: Files + Eprint>(alloc: Global, rt: &R, job: &Job, reply: &[u8])
 where
     R::File: FileExt,
 {
     if let Some(refused) = Refused::read(reply) {
-        let seen = seen(alloc, rt, job, Some(&refused));
+        let seen = seen_of(alloc, rt, job, &refused);
         say(rt, advice(alloc, job, &refused, &seen));
     }
 }
 
-/// What stands of a job by words that ended early, where its database was in that backup state before.
-pub fn show_standing<R: Files + Eprint>(alloc: Global, rt: &R, job: &Job, before: Option<u16>)
+/// What stands of a job by words that ended early, where its database was in that backup state before. Where another program has the
+/// database, what stands of it is none of this run's.
+fn show_standing<R: Files + Print + Eprint + Clock + Drop>(
+    alloc: Global,
+    rt: &R,
+    host: &FileHost<R>,
+    job: &Job,
+    before: Option<u16>,
+)
 where
-    R::File: FileExt,
+    R::File: Disk + AsRawFd + FileExt,
 {
-    let seen = seen(alloc, rt, job, None);
-    say(rt, standing(alloc, job, before, &seen));
+    let Some(db) = database_of(job) else {
+        return;
+    };
+    if host.holds_alone(db) {
+        let seen = seen(rt, job);
+        say(rt, standing(alloc, job, before, &seen));
+    }
 }
 
 /// What the cache of a script asks for, where it can be read.
@@ -134,10 +146,10 @@ where
         (Status::Usage, _) => show_usage(alloc, rt, words),
         (Status::Refused, Some(Job::Run { script })) => show_broken(alloc, rt, host, script),
         (Status::Refused, Some(job)) => show_advice(alloc, rt, job, host.last_said()),
-        (Status::Device, Some(job)) => show_standing(alloc, rt, job, before),
+        (Status::Device, Some(job)) => show_standing(alloc, rt, host, job, before),
         (Status::Memory, Some(job)) => {
             show_shortage(rt, shortage_of(alloc, rt, job));
-            show_standing(alloc, rt, job, before);
+            show_standing(alloc, rt, host, job, before);
         }
         (Status::Memory, None) => show_shortage(rt, None),
         (Status::Refused | Status::Device, None) => {}

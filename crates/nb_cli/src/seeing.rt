@@ -1,6 +1,6 @@
 // What is looked up for what is said behind a run.
-use crate::look::{Look, look_at};
-use nb_advice::{Refused, Seen, There};
+use crate::look::look_at;
+use nb_advice::{Levels, Refused, Seen};
 use nb_host::{MOST_BASE_NAME, Name};
 use nb_model::Job;
 use std::alloc::Global;
@@ -46,32 +46,29 @@ fn has_delta<R: Files>(rt: &R, name: &Name) -> bool {
     name.as_str().len() <= MOST_BASE_NAME && fs::exists(rt, name.delta().as_str()).unwrap_or(false)
 }
 
-/// What stands of the files of a job.
-pub fn seen<R: Files>(alloc: Global, rt: &R, job: &Job, refused: Option<&Refused<'_>>) -> Seen
+/// What stands of the files of a job by words.
+pub fn seen<R: Files>(rt: &R, job: &Job) -> Seen
 where
     R::File: FileExt,
 {
     let mut seen = Seen::nothing();
-    if let Some(found) = database_of(job).and_then(|db| look_at(rt, db.as_str())) {
-        see_database(alloc, &found, &mut seen);
+    if let Some(db) = database_of(job) {
+        see_database(rt, db, &mut seen);
     }
     if let Some(file) = file_of(job) {
         see_file(rt, file, &mut seen);
     }
-    if let Some(refused) = refused {
-        if let Some(found) = look_at(rt, refused.values[0]) {
-            seen.length = Some(found.length);
-        }
-    }
     seen
 }
 
-fn see_database<F: FileExt + Drop>(alloc: Global, found: &Look<F>, seen: &mut Seen) {
-    if let Some(header) = found.header() {
-        seen.state = Some(header.state);
-        seen.written = found.written;
-        if header.state == 0 {
-            seen.levels = found.levels(alloc);
+fn see_database<R: Files>(rt: &R, db: &Name, seen: &mut Seen)
+where
+    R::File: FileExt,
+{
+    if let Some(found) = look_at(rt, db.as_str()) {
+        if let Some(header) = found.header() {
+            seen.state = Some(header.state);
+            seen.written = found.written;
         }
     }
 }
@@ -84,4 +81,29 @@ where
     if let Some(found) = look_at(rt, file.as_str()) {
         seen.there = found.there();
     }
+}
+
+/// The same, and what the refusal of the job asks for besides: which backups there are to go on from, and how long its file is.
+pub fn seen_of<R: Files>(alloc: Global, rt: &R, job: &Job, refused: &Refused<'_>) -> Seen
+where
+    R::File: FileExt,
+{
+    let mut seen = seen(rt, job);
+    match refused.name {
+        "NoHistory" | "NoGuid" => seen.levels = levels_of(alloc, rt, database_of(job)),
+        "BadLevel" => seen.length = length_of(rt, refused.values[0]),
+        _ => {}
+    }
+    seen
+}
+
+fn levels_of<R: Files>(alloc: Global, rt: &R, db: Option<&Name>) -> Option<Levels>
+where
+    R::File: FileExt,
+{
+    look_at(rt, db?.as_str())?.levels(alloc)
+}
+
+fn length_of<R: Files>(rt: &R, name: &str) -> Option<u64> {
+    Some(look_at(rt, name)?.length)
 }

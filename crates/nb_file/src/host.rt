@@ -115,6 +115,11 @@ where
         self.files.alone = Some(name);
     }
 
+    /// Whether the run has the file of that name open to write, so that no other program has it.
+    pub fn holds_alone(&self, name: &Name) -> bool {
+        self.files.holds_alone(name)
+    }
+
     /// From now on a lock that another program has is tried again until so many seconds have passed. At first it is not.
     pub fn wait_for_locks(&mut self, seconds: u64)
         ensures { self.new ≡ self.old }

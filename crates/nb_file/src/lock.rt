@@ -1,6 +1,7 @@
 // Opening, locking, and waiting for a lock.
 use crate::disk::{Disk, Sharing};
 use crate::failure::{Call, Failure, named};
+use crate::folder::look_up;
 use nb_host::Name;
 use std::fs::{OpenFile, OpenOptions};
 use std::os::fd::AsRawFd;
@@ -38,6 +39,8 @@ where
             return Ok(file);
         }
         thread::sleep(rt, Duration::from_millis(PAUSE));
+        // By now something else may stand under the name, as a FIFO, which isn't opened.
+        named(look_up(rt, name), name, Call::Open)?;
     }
     match try_locked(rt, name, how)? {
         Some(file) => Ok(file),

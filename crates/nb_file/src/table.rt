@@ -302,6 +302,14 @@ where
         Ok(self.files.remove(i))
     }
 
+    /// Whether the file of this name is open to write, so that nobody else has it.
+    pub fn holds_alone(&self, name: &Name) -> bool {
+        match self.index_of(name) {
+            Some(i) => self.files[i].can_write,
+            None => false,
+        }
+    }
+
     /// The length in bytes of a file that is open, with what waits for it. Nothing is asked of the system.
     pub fn known_length(&self, name: &Name) -> Option<u64> {
         match self.index_of(name) {
