@@ -4,7 +4,7 @@ The runs of the trials that `nb_trials` stops at each call are made on real file
 loaded before the C library): alone, together with the next one, since a list that finds no room for twice its length asks for less, and with all
 behind it. What was said is then a front of what the whole run says, and the files that are left are judged as those of a stop are, by the rows of
 the trial: the database opens, every acknowledged write is there, and no half file is taken for a backup. Where the host itself finds no memory
-the status is 3, and the standard error says so; where less memory serves, the run is the whole one.
+the status is 3; either is said on the standard error. Where less memory serves, the run is the whole one.
 """
 
 import collections
@@ -45,12 +45,13 @@ class Library:
 
 
 def what_happened(run, said, status, error):
-    """How the run ended, and None where it is no way in which it may."""
-    if not run.is_front(said):
+    """How the run ended, and None where it is no way in which it may. Behind the line that says so the standard error may say what stands."""
+    lines = error.splitlines()
+    if not run.is_front(said) or any(not line.startswith("nehumiro: ") for line in lines):
         return None
-    if status == MEMORY and not error:
+    if status == MEMORY and lines[:1] and lines[0].startswith("nehumiro: memory ran out"):
         return "memory"
-    if status == DEVICE and error == "nehumiro: out of memory\n":
+    if status == DEVICE and lines[:1] == ["nehumiro: out of memory"]:
         return "host"
     return "whole" if (said, status) == (run.said, run.status) else None
 

@@ -21,50 +21,64 @@ from trials import Files, runs_of, trials, what_is_wrong
 LIMIT = 300  # seconds for all of it
 DEVICE = 3
 CALLS = "statx openat flock read pread64 pwrite64 write fdatasync fsync ftruncate unlink unlinkat fchmod close".split()
+LOOKS = {"statx", "openat", "flock", "read", "pread64"}
 TAKES_ROOM = {"pwrite64", "write", "fdatasync", "fsync", "ftruncate"}
 KILL, FIRST = "KILL", "statx(AT_FDCWD,"  # the loader makes no call of this kind, and the program begins with one
 STATE, IN_A_BACKUP = 22, (1, 2)
 
 
-def failures_of(call):
-    """What is tried where a call is made."""
-    name, text = call
-    if name == "close":
-        return [KILL]
-    return [KILL, "EIO"] + ["EMFILE"] * (name == "openat") + ["ENOSPC"] * (name in TAKES_ROOM or "O_CREAT" in text)
+class Call:
+    """A call of a file: its name, its text, its number among those of that name, and whether it is made before the run or behind its last reply."""
+
+    def __init__(self, name, text, number, is_outside):
+        self.name, self.text, self.number = name, text, number
+        # Whether it only looks at something, or says something on the standard error. Writes that waited come behind the last reply too.
+        self.is_beside = is_outside and (name in LOOKS or text.startswith("write(2,"))
+
+    def failures(self):
+        """What is tried where it is made."""
+        if self.name == "close":
+            return [KILL]
+        takes_room = self.name in TAKES_ROOM or "O_CREAT" in self.text
+        return [KILL, "EIO"] + ["EMFILE"] * (self.name == "openat") + ["ENOSPC"] * takes_room
 
 
 def calls_of(files, run):
-    """The calls that a run makes of files: each with its name, its text, and its number among those of that name."""
+    """The calls that a run makes of files. The program's own begin with the first of a kind that the system's loader doesn't make; what it looks at
+    before the run isn't locked, and behind the run it says no reply."""
     files.restore(run.state)
     with Folder() as other:
         files.start(run.words, wrap=["strace", "-f", "-qq", "-o", other.file("log"), "-e", f"trace={','.join(CALLS)}"])
         with open(other.file("log"), encoding="ascii", errors="replace") as log:
             lines = [line.split(None, 1)[1] for line in log]
-    numbers, calls, has_begun = collections.Counter(), [], False
-    for line in lines:
+    first = next(at for at, line in enumerate(lines) if line.startswith(FIRST))
+    locked = next((at for at, line in enumerate(lines) if line.startswith("flock(")), 0)
+    replied = max((at for at, line in enumerate(lines) if line.startswith("write(1,")), default=len(lines))
+    numbers, calls = collections.Counter(), []
+    for at, line in enumerate(lines):
         name = re.match(r"\w+", line)[0]
         numbers[name] += 1
-        has_begun = has_begun or line.startswith(FIRST)
-        if has_begun:
-            calls.append(((name, line), numbers[name]))
+        if at >= first:
+            calls.append(Call(name, line, numbers[name], at < locked or at > replied))
     return calls
 
 
-def run_with(files, run, name, number, failure):
+def run_with(files, run, call, failure):
     """The run, in which that call isn't made."""
     error = "error=EIO:signal=KILL" if failure == KILL else f"error={failure}"
     files.restore(run.state)
-    return files.start(run.words, wrap=["strace", "-f", "-qq", "-o", "/dev/null", "-e", f"trace={name}", "-e", f"inject={name}:{error}:when={number}"])
+    inject = f"inject={call.name}:{error}:when={call.number}"
+    return files.start(run.words, wrap=["strace", "-f", "-qq", "-o", "/dev/null", "-e", f"trace={call.name}", "-e", inject])
 
 
-def ends_so(run, said, status, error, failure):
-    """Whether a run that was kept from a call ended as it may. Behind the last reply of a run with a refusal the program reads its script again,
-    to show a line that breaks its form: where that fails it is said, and the status is that of the run."""
+def ends_so(run, said, status, error, failure, is_beside):
+    """Whether a run that was kept from a call ended as it may. What is looked at before the run and behind it, to tell more on the standard error,
+    may fail, and the run is the whole one."""
     if failure == KILL:
         return status == -9 and run.is_front(said)
-    is_said = error.startswith("nehumiro: ") and error.count("\n") == 1
-    return is_said and run.is_front(said) and (status == DEVICE or (status == run.status == 1 and said == run.said))
+    lines = error.splitlines()
+    is_said = bool(lines) and all(line.startswith("nehumiro: ") for line in lines)
+    return run.is_front(said) and status == DEVICE and is_said or is_beside and (said, status) == (run.said, run.status)
 
 
 def databases_in_a_backup(files):
@@ -81,14 +95,14 @@ def is_ended(files, name):
 def try_run(trial, files, run, until):
     """Keeps a run from each of its calls. It answers what was tried, and what was wrong."""
     tried, wrong, judged = collections.Counter(), [], set()
-    for call, number in calls_of(files, run):
-        for failure in failures_of(call):
+    for call in calls_of(files, run):
+        for failure in call.failures():
             if time.monotonic() > until:
                 return tried, wrong + [f"{trial.name}: no time was left"]
-            said, status, error = run_with(files, run, call[0], number, failure)
+            said, status, error = run_with(files, run, call, failure)
             tried[failure] += 1
-            if not ends_so(run, said, status, error, failure):
-                wrong.append(f"{trial.name}: {run.words}, {failure} at {call[0]} {number}: status {status}, {error!r}, {said!r}")
+            if not ends_so(run, said, status, error, failure, call.is_beside):
+                wrong.append(f"{trial.name}: {run.words}, {failure} at {call.name} {call.number}: status {status}, {error!r}, {said!r}")
             left = files.all()
             key = (said, frozenset(left[0].items()))
             if key in judged:
@@ -98,7 +112,7 @@ def try_run(trial, files, run, until):
             for name in databases_in_a_backup(files):
                 tried["ended"] += 1
                 if not is_ended(files, name):
-                    wrong.append(f"{trial.name}: -N doesn't end {name}, {failure} at {call[0]} {number}")
+                    wrong.append(f"{trial.name}: -N doesn't end {name}, {failure} at {call.name} {call.number}")
                 files.restore(left)
             wrong += [text for text in [what_is_wrong(trial, files, run.replies(said))] if text]
     return tried, wrong
