@@ -31,7 +31,8 @@ use Rattle.nb_session.specs.Ready.{IsReady}
 use Rattle.nb_session.specs.Says.{SaysLine}
 use Rattle.nb_top.specs.declared.status.Status.{Status}
 use Rattle.nb_top.specs.declared.status.Status.TheVariants.{Refused as RefusedStatus}
-use Rattle.nb_top.specs.Performed.{RunsTo, HasSmallScn, PlaysOpened, first_event, opened_reply, pages_first, refused_at, told_first, number_of}
+use Rattle.nb_top.specs.Numbers.{number_of}
+use Rattle.nb_top.specs.Performed.{RunsTo, HasSmallScn, PlaysOpened, first_event, opened_reply, pages_first, refused_at, told_first}
 use Rattle.nb_top.specs.declared.telling.Telling.{Telling}
 use Rattle.nb_top.specs.Requests.{ToRun}
 use Rattle.nb_top.proofs.BegunRuns.{Left, start, first_one, begun_fails, begun_runs}

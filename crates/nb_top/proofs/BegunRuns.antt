@@ -29,7 +29,8 @@ use Rattle.nb_session.specs.Acts.{Touched}
 use Rattle.nb_session.specs.Replies.{only_tells, only_told}
 use Rattle.nb_session.specs.Stops.{StopLeft}
 use Rattle.nb_top.specs.declared.status.Status.{Status}
-use Rattle.nb_top.specs.Performed.{RunLeft, RunsTo, Finished, HasSmallScn, IsEnded, IsPerformed, PlaysOpened, Target, begins_refused, first_event, seen_after, pages_first, target_named, target_of, told_first, told_later, number_of, only_opens}
+use Rattle.nb_top.specs.Numbers.{number_of}
+use Rattle.nb_top.specs.Performed.{RunLeft, RunsTo, Finished, HasSmallScn, IsEnded, IsPerformed, PlaysOpened, Target, begins_refused, first_event, seen_after, pages_first, target_named, target_of, told_first, told_later, only_opens}
 use Rattle.nb_top.specs.declared.telling.Telling.{Telling}
 use Rattle.nb_top.specs.declared.telling.Telling.TheVariants.{All, Quietly, WithSize, Sparingly}
 use Rattle.nb_top.specs.Requests.{ToRun}

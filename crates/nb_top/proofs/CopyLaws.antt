@@ -15,7 +15,7 @@ use Rattle.nb_model.specs.Owner.{delta_name, owner, owner_in, owner_with, entry_
 use Rattle.nb_model.specs.Stands.{Stands, Belongs, to_base, to_record}
 use Rattle.nb_model.proofs.FrontLaws.{owner_of_entry}
 use Rattle.nb_model.proofs.MainLaws.{main_state, owner-formed, owner-refused, owner_main}
-use Rattle.nb_top.specs.Performed.{StandsFor}
+use Rattle.nb_top.specs.Standing.{StandsFor}
 use Rattle.nb_top.specs.Worlds.{StartsFrom, AreCopies, account_of}
 use Rattle.nb_top.proofs.OpenLaws.{none_shown, shown_entry}
 use Rattle.nb_top.proofs.WorldLaws.{stands_from, none_beside, not_beside}

@@ -1,28 +1,22 @@
 -- The one turn of a fixup: what it must be, and what stands behind it.
-use Rattle.std.proofs.Common.{◌≡◌, ◌≢◌, ℕ, ◌<◌, List, [], ◌∷◌, refl, sym, ap, ◌∙◌, arith}
-use Rattle.std.specs.Prelude.{None, Some, Ok, Err}
+use Rattle.std.proofs.Common.{◌≡◌, ◌≢◌, ℕ, List, [], ◌∷◌, refl, ap, ◌∙◌}
+use Rattle.std.specs.Prelude.{None, Some, Err}
 use Rattle.nb_host.specs.Files.{File, Files}
 use Rattle.nb_host.specs.declared.refusals.Refusal.{Refusal}
 use Rattle.nb_host.specs.declared.refusals.Refusal.TheVariants.{Usage, NoFile}
 use Rattle.nb_model.specs.declared.reply.Reply.TheVariants.{Done}
-use Rattle.nb_model.specs.Account.{Base, base_of, Plain, Account}
+use Rattle.nb_model.specs.Account.{base_of, Plain, Account}
 use Rattle.nb_model.specs.Causes.{Cause}
-use Rattle.nb_model.specs.Image.{first_page, image_in, image_scn, image_state}
+use Rattle.nb_model.specs.Image.{image_in}
 use Rattle.nb_model.specs.Jobs.{only_turn, only_refusal, not_fixable, fixup_turn, account_behind}
-use Rattle.nb_model.specs.Outcomes.{Given}
 use Rattle.nb_model.specs.Owner.{delta_name, owner, owner_in, owner_with, entry_of_files, entry_in}
 use Rattle.nb_model.specs.Run.{Event, account_after}
-use Rattle.nb_model.specs.Steps.{makes, settles, made, after_step, after_steps, steps_of}
-use Rattle.nb_model.specs.Strokes.{fix, fixed, on_base, base_in}
-use Rattle.nb_model.specs.Trail.{settled, settles_at, after_stroke}
-use Rattle.nb_model.proofs.HeaderLaws.{header-room, same-number}
-use Rattle.nb_model.proofs.MainLaws.{IsLaid, laid, laid-front, owner-formed}
+use Rattle.nb_model.specs.Strokes.{fix, base_in}
+use Rattle.nb_model.proofs.MainLaws.{owner-formed}
 use Rattle.nb_model.proofs.TodoLaws.{IsOther, other_first, other_when, other_database}
 use Rattle.nb_fixup.specs.Fixup.{fixup_cause, IsFixable}
 use Rattle.nb_fixup.proofs.CauseLaws.{IsFit}
 use Rattle.nb_fixup.proofs.FixupLaws.{copy_there, fixable_fit}
-use Rattle.nb_top.specs.Performed.{IsPerformed, seen_after}
-use Rattle.nb_top.specs.Requests.{ToFix}
 
 -- a copy is never refused as words are that name no job
 other_file : (name : List ℕ) → IsOther (Some (NoFile name))
@@ -65,22 +59,9 @@ module _ (files : Files) (db : List ℕ) where
   pub refused_fix : (refusal : Refusal) → fixup_cause files db ≡ Some refusal → refusal ≢ Usage
   refused_fix refusal why e = other_cause db (files db) (files (delta_name db)) (why ∙ ap (λ (r : Refusal). Some r) e)
 
-  -- a refused one leaves the account
-  pub refused_account : (account : Account) (refusal : Refusal) → account_behind db (only_refusal refusal) account ≡ account
-  unfolding account_behind
-  refused_account account refusal = refl
-
   pub fixed_account : (account : Account) → account_behind db fixed_turn account ≡ account_after db (fix ∷ []) None account
   unfolding account_behind
   fixed_account account = refl
-
-  -- what is asked for is done by it
-  module _ (account : Account) (given : Given) where
-    pub refused_performed : (refusal : Refusal) → fixup_turn files db ≡ only_refusal refusal → IsPerformed files (Ok (ToFix db)) account given (only_refusal refusal ∷ []) account given
-    refused_performed refusal is = (ap (λ (e : Event). e ∷ []) (sym is), sym (ap (λ (e : Event). account_behind db e account) is ∙ refused_account account refusal), refl)
-
-    pub fixed_performed : fixup_turn files db ≡ fixed_turn → IsPerformed files (Ok (ToFix db)) account given (fixed_turn ∷ []) (account_behind db fixed_turn account) given
-    fixed_performed is = (ap (λ (e : Event). e ∷ []) (sym is), ap (λ (e : Event). account_behind db e account) (sym is), refl)
 
 -- What the copy is before it. Without a difference file it can't be opened.
 module _ (files : Files) (account : Account) (db bytes : List ℕ) (knows : account.entry db ≡ entry_in files db) (copy : IsFixable files db bytes) where
@@ -101,29 +82,3 @@ module _ (files : Files) (account : Account) (db bytes : List ℕ) (knows : acco
   pub base_is : base_in (account.entry db) ≡ base_of (image_in bytes)
   unfolding base_in
   base_is = ap base_in entry_is
-
-  front : IsLaid (image_in bytes) bytes
-  front = laid bytes fit.formed
-
-  pub copy_state : image_state (image_in bytes) ≡ 1
-  copy_state = sym (same-number bytes (first_page (image_in bytes)) (laid-front (image_in bytes) bytes front) 22 2 (omega arith)) ∙ fit.stalled
-
-  -- its SCN is a number of 32 bits
-  pub copy_scn : image_scn (base_in (account.entry db)).image < 4294967296
-  copy_scn =
-      let room : image_scn (image_in bytes) < 4294967295 = header-room (first_page (image_in bytes)) front.header copy_state in
-      let same : image_scn (base_in (account.entry db)).image ≡ image_scn (image_in bytes) = ap (λ (b : Base). image_scn b.image) base_is in
-      omega (arith, room, same)
-
--- the copy is fixed, and kept for good, which leaves a settled point
-fix_steps : steps_of (fixed_turn ∷ []) ≡ makes fix ∷ settles ∷ []
-unfolding steps_of made
-fix_steps = refl
-
-fix_settles : (b : Base) → after_steps (settled b) (makes fix ∷ settles ∷ []) ≡ settled (base_of (fixed b.image))
-unfolding after_steps after_step after_stroke settles_at on_base
-fix_settles b = refl
-
-pub fix_seen : (files : Files) (account : Account) (db bytes : List ℕ) → account.entry db ≡ entry_in files db → IsFixable files db bytes → seen_after account db (steps_of (fixed_turn ∷ [])) ≡ settled (base_of (fixed (image_in bytes)))
-fix_seen files account db bytes knows copy =
-    ap (seen_after account db) fix_steps ∙ fix_settles (base_in (account.entry db)) ∙ ap (λ (b : Base). settled (base_of (fixed b.image))) (base_is files account db bytes knows copy)

@@ -46,7 +46,8 @@ use Rattle.nb_gen.proofs.WrittenLaws.{text_in_use}
 use Rattle.nb_top.specs.declared.status.Status.{Status}
 use Rattle.nb_top.specs.declared.status.Status.TheVariants.{Refused as RefusedStatus}
 use Rattle.nb_top.specs.declared.telling.Telling.TheVariants.{Sparingly}
-use Rattle.nb_top.specs.Performed.{EndsIn, Finished, HasSmallScn, IsEnded, IsPerformed, IsReadRun, IsUnasked, Knows, KnowsNames, KnowsOpened, MayBeGiven, RunLeft, RunsTo, StandsAsked, Target, begins_refused, number_of, refused_at, script_made, seen_after, target_named, target_of}
+use Rattle.nb_top.specs.Numbers.{number_of}
+use Rattle.nb_top.specs.Performed.{EndsIn, Finished, HasSmallScn, IsEnded, IsPerformed, IsReadRun, IsUnasked, Knows, KnowsNames, KnowsOpened, MayBeGiven, RunLeft, RunsTo, StandsAsked, Target, begins_refused, refused_at, script_made, seen_after, target_named, target_of}
 use Rattle.nb_top.specs.Requests.{Request, ToGenerate, ToRun}
 use Rattle.nb_session.proofs.ReadyLaws.{free_same}
 use Rattle.nb_top.proofs.GeneratedEvents.{IsApart, SomeRun, its_database, its_target, read_run, script_apart, some_run, with_script}

@@ -23,7 +23,8 @@ use Rattle.nb_model.proofs.StandsLaws.{entry_other}
 use Rattle.nb_gen.proofs.GeneratedScript.{generated_text}
 use Rattle.nb_gen.proofs.WrittenLaws.{text_no_backup}
 use Rattle.nb_top.specs.declared.status.Status.{Status}
-use Rattle.nb_top.specs.Performed.{Finished, HoldsKept, IsPerformed, IsSure, IsWrittenRun, MayBeGiven, RunLeft, StandsFor, Target, begins_refused, kept_after, refused_at, script_made, seen_after, target_of}
+use Rattle.nb_top.specs.Performed.{Finished, IsPerformed, IsSure, IsWrittenRun, MayBeGiven, RunLeft, Target, begins_refused, kept_after, refused_at, script_made, seen_after, target_of}
+use Rattle.nb_top.specs.Standing.{HoldsKept, StandsFor}
 use Rattle.nb_top.specs.Requests.{Request, ToGenerate}
 use Rattle.nb_top.proofs.GeneratedEvents.{IsApart, ReadRun, ends, goes_on, its_database, read_run, script_apart, with_script}
 use Rattle.nb_top.proofs.MadeEnds.{made_stands}
@@ -142,7 +143,7 @@ module _ (number : ℕ) (name : List ℕ) (plain : is_delta name ≡ false) (acc
       by (goes_on allowed known) off = subst (λ (b : Bool). IsKnown account (target_by b) events last) (sym allowed) (script_sure known (subst (λ (b : Bool). IsApart (target_by b) name) allowed off.0) off.1)
 
 module _ (old : World) (number : ℕ) (name : List ℕ) (account : Account) (given : Given) (plain : is_delta name ≡ false) (before : (m : List ℕ) → Leaves old m (old.files m)) (sixteen : MayBeGiven given) (events : List Event)
-    (last : Account) (left : Given) (performed : IsPerformed old.files (Ok (ToGenerate number name)) account given events last left) (sure : IsSure old account (Ok (ToGenerate number name)) events) where
+    (last : Account) (left : Given) (performed : IsPerformed old.files (Ok (ToGenerate number name)) account given events last left) (sure : IsSure old account events) where
   abbrev asked : Result Request Refusal
   asked = Ok (ToGenerate number name)
 

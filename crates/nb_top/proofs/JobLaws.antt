@@ -1,5 +1,5 @@
 -- A job is what it asks for: the run of a script, or one turn.
-use Rattle.std.proofs.Common.{◌≡◌, ℕ, List, [], ◌∷◌, true, false, subst}
+use Rattle.std.proofs.Common.{◌≡◌, ℕ, List, [], ◌∷◌, true, false, refl, subst}
 use Rattle.std.specs.Prelude.{Option, Some, None}
 use Rattle.nb_host.specs.Files.{Files}
 use Rattle.nb_model.specs.declared.job.Job.{Job}
@@ -7,11 +7,12 @@ use Rattle.nb_model.specs.declared.job.Job.TheVariants.{Run, Stat, Gen, Backup, 
 use Rattle.nb_model.specs.declared.statement.Statement.{Statement}
 use Rattle.nb_model.specs.declared.statement.Statement.TheVariants.{BeginBackup, EndBackup, ShowHeader, ShowPages, Backup as BackupTo, BackupSince as BackupOf}
 use Rattle.nb_model.specs.Account.{Account}
-use Rattle.nb_model.specs.Jobs.{Asks, IsAttaching, account_behind, asks_of, restore_turn, fixup_turn, turn_of}
+use Rattle.nb_model.specs.Jobs.{Asks, IsAttaching, asks_of, restore_turn, fixup_turn, turn_of}
 use Rattle.nb_model.specs.Outcomes.{Given}
 use Rattle.nb_model.specs.Run.{Event}
+use Rattle.nb_top.specs.OneTurn.{one_turn}
 use Rattle.nb_top.specs.Performed.{IsPerformed}
-use Rattle.nb_top.specs.Requests.{is_job_built, request_of}
+use Rattle.nb_top.specs.Requests.{Deed, ToRestore, ToFix, Runs, Does, is_job_built, request_of, run_of}
 
 not_built : false ≡ true → ⊥
 not_built h = cc
@@ -51,7 +52,7 @@ attaching_jobs P backup since lock sized unlock stat (Fixup db) asks built is = 
 module _ (files : Files) (before last : Account) (given : Given) (events : List Event) where
   -- what such a job asks for is the run of its script
   abbrev Attaches : Job → Asks → Type 0
-  Attaches job asks = (left : Given) → IsPerformed files (request_of files job) before given events last left → IsAttaching before given job asks events last
+  Attaches job asks = (left : Given) → IsPerformed files (run_of files job) before given events last left → IsAttaching before given job asks events last
 
   pub attaches_performed : (job : Job) (asks : Asks) → is_job_built job ≡ true → asks_of job ≡ Some asks → Attaches job asks
   attaches_performed = attaching_jobs Attaches
@@ -64,7 +65,7 @@ module _ (files : Files) (before last : Account) (given : Given) (events : List 
 
   -- and the other way
   abbrev IsAttached : Job → Asks → Type 0
-  IsAttached job asks = (attaching : IsAttaching before given job asks events last) → IsPerformed files (request_of files job) before given events last attaching.left
+  IsAttached job asks = (attaching : IsAttaching before given job asks events last) → IsPerformed files (run_of files job) before given events last attaching.left
 
   pub performed_attaches : (job : Job) (asks : Asks) → is_job_built job ≡ true → asks_of job ≡ Some asks → IsAttached job asks
   performed_attaches = attaching_jobs IsAttached
@@ -85,12 +86,18 @@ same_row a b h = cc
 no_row : (b : Row) → ◌≡◌ {A = Option Row} None (Some b) → ⊥
 no_row b h = cc
 
-pub turn_performed : (files : Files) (job : Job) (row : Row) (before last : Account) (given left : Given) (events : List Event) → is_job_built job ≡ true → turn_of files before job ≡ Some row
-    → IsPerformed files (request_of files job) before given events last left → (events ≡ row.1 ∷ []) × (last ≡ account_behind row.0 row.1 before)
+pub turn_done : (files : Files) (job : Job) (row : Row) (account : Account) → is_job_built job ≡ true → turn_of files account job ≡ Some row
+    → (deed : Deed) × (request_of files job ≡ Does deed) × ((one_turn files deed).name ≡ row.0) × ((one_turn files deed).turn account ≡ row.1)
 unfolding turn_of
-turn_performed files (Restore db names) row before last given left events built is done =
-    subst (λ (r : Row). (events ≡ r.1 ∷ []) × (last ≡ account_behind r.0 r.1 before)) (same_row (db, restore_turn files before db names) row is) (done.0, done.1)
-turn_performed files (Apply db file) row before last given left events built is done = absurd (not_built built)
-turn_performed files (Fixup db) row before last given left events built is done =
-    subst (λ (r : Row). (events ≡ r.1 ∷ []) × (last ≡ account_behind r.0 r.1 before)) (same_row (db, fixup_turn files db) row is) (done.0, done.1)
-turn_performed files other row before last given left events built is done = absurd (no_row row is)
+turn_done files (Restore db names) row account built is =
+    subst (λ (r : Row). (deed : Deed) × (request_of files (Restore db names) ≡ Does deed) × ((one_turn files deed).name ≡ r.0) × ((one_turn files deed).turn account ≡ r.1)) (same_row (db, restore_turn files account db names) row is)
+    (ToRestore db names, refl, refl, refl)
+turn_done files (Apply db file) row account built is = absurd (not_built built)
+turn_done files (Fixup db) row account built is =
+    subst (λ (r : Row). (deed : Deed) × (request_of files (Fixup db) ≡ Does deed) × ((one_turn files deed).name ≡ r.0) × ((one_turn files deed).turn account ≡ r.1)) (same_row (db, fixup_turn files db) row is)
+    (ToFix db, refl, refl, refl)
+turn_done files other row account built is = absurd (no_row row is)
+
+-- what is asked for by a job that attaches is a run
+pub attaches_runs : (files : Files) (job : Job) (asks : Asks) → is_job_built job ≡ true → asks_of job ≡ Some asks → request_of files job ≡ Runs (run_of files job)
+attaches_runs files = attaching_jobs (λ job asks. request_of files job ≡ Runs (run_of files job)) (λ level db file. refl) (λ guid db file. refl) (λ db. refl) (λ db. refl) (λ db. refl) (λ db. refl)

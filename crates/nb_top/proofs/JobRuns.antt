@@ -1,5 +1,5 @@
 -- A job is done, from the words to its end.
-use Rattle.std.proofs.Common.{◌≡◌, ◌≢◌, inl, inr, ⊎_elim, ℕ, List, [], ◌∷◌, ◌++◌, take, refl, sym, ap, subst, ◌∙◌}
+use Rattle.std.proofs.Common.{◌≡◌, ◌≢◌, inl, ⊎_elim, ℕ, List, [], ◌++◌, take, refl, sym, ap, subst, ◌∙◌}
 use Rattle.std.specs.Prelude.{Result, Ok, Err, IfOk, IfErr, OnOk}
 use Rattle.nb_host.specs.Files.{File, Files}
 use Rattle.nb_host.specs.World.{World}
@@ -11,7 +11,6 @@ use Rattle.nb_change.proofs.MomentLaws.{weaker}
 use Rattle.nb_page.specs.Quiet.{Quiet}
 use Rattle.nb_model.specs.declared.reply.Reply.TheVariants.{Refused as RefusedReply}
 use Rattle.nb_model.specs.Account.{Account}
-use Rattle.nb_model.specs.Jobs.{restore_turn, fixup_turn, account_behind}
 use Rattle.nb_model.specs.Lines.{line_text}
 use Rattle.nb_model.specs.Outcomes.{Given}
 use Rattle.nb_model.specs.Output.{status_after}
@@ -24,22 +23,28 @@ use Rattle.nb_session.specs.declared.stop.Stop.{Stop}
 use Rattle.nb_session.specs.Says.{SaysLine}
 use Rattle.nb_top.specs.declared.status.Status.{Status}
 use Rattle.nb_top.specs.declared.status.Status.TheVariants.{Refused as RefusedStatus, Usage as UsageStatus, Device, Memory}
-use Rattle.nb_top.specs.Performed.{HasSmallScn, HoldsKept, RunLeft, RunStands, RunsTo, Performs, Finished, IsPerformed, IsSure, IsUndone, Knows, MayBeGiven, RestoresKept, StandsFor, kept_after, target_of, number_of, first_event, refused_job}
+use Rattle.nb_top.specs.Numbers.{number_of}
+use Rattle.nb_top.specs.Performed.{HasSmallScn, RunLeft, RunStands, RunsTo, GoesTo, KnowsAsked, Performs, PerformsRun, Finished, IsPerformed, IsSure, IsUndone, Knows, MayBeGiven, kept_after, target_of, first_event, refused_job}
+use Rattle.nb_top.specs.Standing.{HoldsKept, StandsFor}
 use Rattle.nb_top.specs.declared.telling.Telling.TheVariants.{All}
-use Rattle.nb_top.specs.Requests.{Request, ToRun, ToGenerate, ToRestore, ToFix, request_asked, script_in, to_run}
-use Rattle.nb_top.proofs.FixedRuns.{fix_left, fix_end, fixes_kept}
+use Rattle.nb_top.specs.Requests.{Request, ToRun, ToGenerate, Deed, ToRestore, ToFix, Asked, Runs, Does, request_asked, script_in, to_run}
+use Rattle.nb_top.specs.OneTurn.{DoesTurn, TurnEnded, one_turn}
+use Rattle.nb_top.specs.Served.{TurnsTo}
+use Rattle.nb_top.proofs.Fixed.{fix_sound}
 use Rattle.nb_top.proofs.GeneratedRuns.{generated_unbegun}
 use Rattle.nb_top.proofs.GeneratedSure.{generated_left, generated_end}
 use Rattle.nb_top.proofs.LeftLaws.{left_first, first_count}
 use Rattle.nb_top.proofs.MadeRuns.{none_alone}
 use Rattle.nb_top.proofs.QuietRuns.{left_quietly}
 use Rattle.nb_top.proofs.RefusedRuns.{refused_runs}
-use Rattle.nb_top.proofs.RequestLaws.{CanBeAsked, askable_in, can_be_asked}
-use Rattle.nb_top.proofs.RestoredRuns.{restored_left, restored_end, restores_kept}
+use Rattle.nb_top.proofs.RequestLaws.{CanBeAsked, CanBeDone, CanBeMet, askable_in, can_be_asked}
+use Rattle.nb_top.proofs.Restored.{restore_sound}
 use Rattle.nb_top.proofs.ScriptRead.{refused_script}
 use Rattle.nb_top.proofs.ScriptRuns.{script_unbegun}
 use Rattle.nb_top.proofs.SureFiles.{kept_none, still_stands}
 use Rattle.nb_top.proofs.SureRuns.{script_left, script_end}
+use Rattle.nb_top.proofs.Turns.{quiet_turn}
+use Rattle.nb_top.proofs.TurnsStand.{IsSoundJob, turn_stands}
 
 -- its file wasn't read
 pub unread_runs : (old new : World) (name : List ℕ) (file : File) (account : Account) (given : Given) (e : Stop) → Knows old.files account (to_run (script_in name file)) → Quiet old new → RunsTo (Err e) old new (to_run (script_in name file)) account given
@@ -73,37 +78,26 @@ module _ (old : World) (account : Account) (given : Given) (e : Stop) (quiet : Q
   request_unasked : (r : Request) → CanBeAsked r → Knows old.files account (Ok r) → RunsTo (Err e) old old (Ok r) account given
   request_unasked (ToRun plan telling) can knows = script_unbegun old account given plan telling can knows old e quiet
   request_unasked (ToGenerate number name) can knows = generated_unbegun old number name account given can knows old e quiet
-  request_unasked (ToRestore db names) can knows = record {
-    events = restore_turn old.files account db names ∷ [];
-    last = account_behind db (restore_turn old.files account db names) account;
-    left = given;
-    performed = (refl, refl, refl);
-    opened = inr quiet;
-    stops = left_quietly old old account (target_of (Ok (ToRestore db names)) (restore_turn old.files account db names ∷ [])) (restore_turn old.files account db names ∷ []) quiet;
-    finished = tt;
-  }
-  request_unasked (ToFix db) can knows = record {
-    events = fixup_turn old.files db ∷ [];
-    last = account_behind db (fixup_turn old.files db) account;
-    left = given;
-    performed = (refl, refl, refl);
-    opened = inr quiet;
-    stops = left_quietly old old account (target_of (Ok (ToFix db)) (fixup_turn old.files db ∷ [])) (fixup_turn old.files db ∷ []) quiet;
-    finished = tt;
-  }
 
-  pub unasked_runs : (words : List (List ℕ)) → Knows old.files account (request_asked old.files words) → RunsTo (Err e) old old (request_asked old.files words) account given
-  unasked_runs words = by (request_asked old.files words) refl
+  pub unasked_goes : (words : List (List ℕ)) → KnowsAsked old.files account (request_asked old.files words) → GoesTo (Err e) old old (request_asked old.files words) account given
+  unasked_goes words = by (request_asked old.files words) (can_be_asked old.files words)
     where
-      by : (asked : Result Request Refusal) → request_asked old.files words ≡ asked → Knows old.files account asked → RunsTo (Err e) old old asked account given
-      by (Err refusal) is knows = refused_unasked refusal
-      by (Ok r) is knows = request_unasked r (can_be_asked old.files r words is) knows
+      by : (asked : Asked) → CanBeMet asked → KnowsAsked old.files account asked → GoesTo (Err e) old old asked account given
+      by (Runs (Err refusal)) can knows = refused_unasked refusal
+      by (Runs (Ok r)) can knows = request_unasked r can knows
+      by (Does deed) can knows = quiet_turn old old (one_turn old.files deed) ((one_turn old.files deed).turn account) quiet account refl e
 
 -- a refusal to session 0
 pub job_refused : {S E : Type 0} (told : Result S E) (result : Result Status Stop) (old new : World) (asked : Result Request Refusal) (refusal : Refusal) (account : Account) (given : Given) → asked ≡ Err refusal
     → SaysLine told old new (line_text 0 (RefusedReply refusal)) → IfOk result (λ status. number_of status ≡ status_after (RefusedReply refusal)) → OnOk result (new.said ≡ old.said ++ line_text 0 (RefusedReply refusal)) → RunsTo result old new asked account given
 job_refused told result old new asked refusal account given is says number said =
     subst (λ (a : Result Request Refusal). RunsTo result old new a account given) (sym is) (refused_runs old new 0 refusal account given (Err refusal) told result (refl, refl, refl) says number said)
+
+-- of words that name no job
+pub words_refused : {S E : Type 0} (told : Result S E) (result : Result Status Stop) (old new : World) (asked : Asked) (account : Account) (given : Given) → asked ≡ Runs (Err Usage)
+    → SaysLine told old new (line_text 0 (RefusedReply Usage)) → IfOk result (λ status. number_of status ≡ status_after (RefusedReply Usage)) → OnOk result (new.said ≡ old.said ++ line_text 0 (RefusedReply Usage)) → GoesTo result old new asked account given
+words_refused told result old new asked account given is says number said =
+    subst (λ (a : Asked). GoesTo result old new a account given) (sym is) (job_refused told result old new (Err Usage) Usage account given refl says number said)
 
 -- of a script
 pub script_number : (name : List ℕ) (file : File) (refusal : Refusal) → script_in name file ≡ Err refusal → (result : Result Status Stop) → IfOk result (λ status. status ≡ RefusedStatus) → IfOk result (λ status. number_of status ≡ status_after (RefusedReply refusal))
@@ -121,43 +115,30 @@ none_refused events refusal is m = subst (λ (es : List Event). IsNoneOf (files_
 
 -- Where it is sure, what a stop leaves stands for an account.
 module _ (old : World) (account : Account) (given : Given) (sixteen : MayBeGiven given) (before : (name : List ℕ) → Leaves old name (old.files name)) (events : List Event) (last : Account) (left : Given) where
-  sure_left : (asked : Result Request Refusal) → ((r : Request) → asked ≡ Ok r → CanBeAsked r) → IsPerformed old.files asked account given events last left → IsSure old account asked events → HasSmallScn account (target_of asked events)
+  sure_left : (asked : Result Request Refusal) → CanBeMet (Runs asked) → IsPerformed old.files asked account given events last left → IsSure old account events → HasSmallScn account (target_of asked events)
       → (files : Files) (said : List ℕ) (l : RunLeft old account (target_of asked events) events files said) → HoldsKept files (kept_after account (target_of asked events) (take l.count (steps_of events)))
-  sure_left (Err refusal) allowed performed sure small files said l = sure.stands.left files (λ m. l.others m tt (none_refused events refusal performed.0 m))
-  sure_left (Ok (ToRun plan telling)) allowed performed sure small files said l = script_left old plan telling (allowed (ToRun plan telling) refl) account given before events last left performed sixteen sure small files said l
-  sure_left (Ok (ToGenerate number name)) allowed performed sure small files said l =
-      generated_left old number name account given (allowed (ToGenerate number name) refl) before sixteen events last left performed sure files said l
-  sure_left (Ok (ToRestore db names)) allowed performed sure small files said l = restored_left old db names account given (allowed (ToRestore db names) refl) before events last left performed sure files said l
-  sure_left (Ok (ToFix db)) allowed performed sure small files said l = fix_left old db account given (allowed (ToFix db) refl) before events last left performed sure files said l
+  sure_left (Err refusal) can performed sure small files said l = sure.stands.left files (λ m. l.others m tt (none_refused events refusal performed.0 m))
+  sure_left (Ok (ToRun plan telling)) can performed sure small files said l = script_left old plan telling can account given before events last left performed sixteen sure small files said l
+  sure_left (Ok (ToGenerate number name)) can performed sure small files said l =
+      generated_left old number name account given can before sixteen events last left performed sure files said l
 
   -- at its end
-  sure_end : (asked : Result Request Refusal) → ((r : Request) → asked ≡ Ok r → CanBeAsked r) → IsPerformed old.files asked account given events last left → IsSure old account asked events → HasSmallScn account (target_of asked events)
+  sure_end : (asked : Result Request Refusal) → CanBeMet (Runs asked) → IsPerformed old.files asked account given events last left → IsSure old account events → HasSmallScn account (target_of asked events)
       → (new : World) → IsTimely new → ((name : List ℕ) → Leaves new name (new.files name)) → AtEachMoment old new (RunLeft old account (target_of asked events) events) → (status : Status)
       → Finished status old new account (target_of asked events) events given left → StandsFor new last
-  sure_end (Err refusal) allowed performed sure small new timely reads stops status done =
+  sure_end (Err refusal) can performed sure small new timely reads stops status done =
       subst (StandsFor new) (sym performed.1)
       (still_stands old new account sure.stands reads (λ m. done.others m tt (none_refused events refusal performed.0 m))
       (λ files leaves m. (stops.each files new.said (timely.counts_now old.moment files stops.later leaves)).others m tt (none_refused events refusal performed.0 m)))
-  sure_end (Ok (ToRun plan telling)) allowed performed sure small new timely reads stops status done =
-      script_end old plan telling (allowed (ToRun plan telling) refl) account given before events last left performed sixteen sure small new timely reads stops status done
-  sure_end (Ok (ToGenerate number name)) allowed performed sure small new timely reads stops status done =
-      generated_end old number name account given (allowed (ToGenerate number name) refl) before sixteen events last left performed sure new timely reads stops status done
-  sure_end (Ok (ToRestore db names)) allowed performed sure small new timely reads stops status done =
-      restored_end old db names account given (allowed (ToRestore db names) refl) before events last left performed sure new timely reads status stops done
-  sure_end (Ok (ToFix db)) allowed performed sure small new timely reads stops status done = fix_end old db account given (allowed (ToFix db) refl) before events last left performed sure new timely reads status stops done
+  sure_end (Ok (ToRun plan telling)) can performed sure small new timely reads stops status done =
+      script_end old plan telling can account given before events last left performed sixteen sure small new timely reads stops status done
+  sure_end (Ok (ToGenerate number name)) can performed sure small new timely reads stops status done =
+      generated_end old number name account given can before sixteen events last left performed sure new timely reads stops status done
 
-  -- what is restored, and what is fixed
-  sure_kept : (asked : Result Request Refusal) → ((r : Request) → asked ≡ Ok r → CanBeAsked r) → IsSure old account asked events → RestoresKept old.files account.kept asked
-  sure_kept (Err refusal) allowed sure = tt
-  sure_kept (Ok (ToRun plan telling)) allowed sure = tt
-  sure_kept (Ok (ToGenerate number name)) allowed sure = tt
-  sure_kept (Ok (ToRestore db names)) allowed sure = restores_kept old db names account (allowed (ToRestore db names) refl) events sure
-  sure_kept (Ok (ToFix db)) allowed sure = fixes_kept old db account (allowed (ToFix db) refl) events sure
-
-module _ (old new : World) (asked : Result Request Refusal) (allowed : (r : Request) → asked ≡ Ok r → CanBeAsked r) (account : Account) (given : Given) (sixteen : MayBeGiven given)
+module _ (old new : World) (asked : Result Request Refusal) (can : CanBeMet (Runs asked)) (account : Account) (given : Given) (sixteen : MayBeGiven given)
     (before : (name : List ℕ) → Leaves old name (old.files name)) (timely : IsTimely new) (reads : (name : List ℕ) → Leaves new name (new.files name)) where
-  abbrev Runs : Result Status Stop → Type 0
-  Runs result = RunsTo result old new asked account given
+  abbrev Goes : Result Status Stop → Type 0
+  Goes result = RunsTo result old new asked account given
 
   undone_quiet : (result : Result Status Stop) → IsUndone result old new → Quiet old new
   undone_quiet (Ok status) undone = absurd undone
@@ -168,12 +149,12 @@ module _ (old new : World) (asked : Result Request Refusal) (allowed : (r : Requ
   never_ended (Err e) undone ended = absurd ended
 
   -- what is left now is what reads now
-  performs : (status : Status) (result : Result Status Stop) (runs : Runs result)
-      → (status ≢ Device → status ≢ Memory → IfErr result (λ e. ⊥) × Finished status old new account (target_of asked runs.events) runs.events given runs.left) → Performs status old new asked account given
+  performs : (status : Status) (result : Result Status Stop) (runs : Goes result)
+      → (status ≢ Device → status ≢ Memory → IfErr result (λ e. ⊥) × Finished status old new account (target_of asked runs.events) runs.events given runs.left) → PerformsRun status old new asked account given
   performs status result runs ends = ⊎_elim
       (λ small.
-      with_stops (weaker old new _ _ runs.stops (λ files said left. record { left = left; stands = λ sure. sure_left old account given sixteen before runs.events runs.last runs.left asked allowed runs.performed sure small files said left }))
-      (λ d m sure. sure_end old account given sixteen before runs.events runs.last runs.left asked allowed runs.performed sure small new timely reads runs.stops status (ends d m).1))
+      with_stops (weaker old new _ _ runs.stops (λ files said left. record { left = left; stands = λ sure. sure_left old account given sixteen before runs.events runs.last runs.left asked can runs.performed sure small files said left }))
+      (λ d m sure. sure_end old account given sixteen before runs.events runs.last runs.left asked can runs.performed sure small new timely reads runs.stops status (ends d m).1))
       (λ undone.
       with_stops (weaker old new _ _ (undone_quiet result undone).moments nothing_left)
       (λ d m. never_ended result undone (ends d m).0))
@@ -182,7 +163,7 @@ module _ (old new : World) (asked : Result Request Refusal) (allowed : (r : Requ
       At : Files → List ℕ → Type 0
       At = RunStands old account asked runs.events
 
-      with_stops : AtEachMoment old new At → (status ≢ Device → status ≢ Memory → IsSure old account asked runs.events → StandsFor new runs.last) → Performs status old new asked account given
+      with_stops : AtEachMoment old new At → (status ≢ Device → status ≢ Memory → IsSure old account runs.events → StandsFor new runs.last) → PerformsRun status old new asked account given
       with_stops stops ended = record {
         events = runs.events;
         last = runs.last;
@@ -192,7 +173,6 @@ module _ (old new : World) (asked : Result Request Refusal) (allowed : (r : Requ
         now = stops.each new.files new.said (timely.counts_now old.moment new.files stops.later reads);
         finished = λ d m. (ends d m).1;
         stands = ended;
-        restores = sure_kept old account given sixteen before runs.events runs.last runs.left asked allowed;
       }
 
       nothing_left : (files : Files) (said : List ℕ) → IsNow old files said → At files said
@@ -203,11 +183,40 @@ module _ (old new : World) (asked : Result Request Refusal) (allowed : (r : Requ
             (sure.stands.left files is.left);
       }
 
-  pub performs_ended : (status : Status) → Runs (Ok status) → Performs status old new asked account given
-  performs_ended status runs = performs status (Ok status) runs (λ d m. (tt, runs.finished))
+  run_ended : (status : Status) → Goes (Ok status) → PerformsRun status old new asked account given
+  run_ended status runs = performs status (Ok status) runs (λ d m. (tt, runs.finished))
 
-  pub performs_device : (e : Stop) → Runs (Err e) → Performs Device old new asked account given
-  performs_device e runs = performs Device (Err e) runs (λ d m. absurd (d refl))
+  run_device : (e : Stop) → Goes (Err e) → PerformsRun Device old new asked account given
+  run_device e runs = performs Device (Err e) runs (λ d m. absurd (d refl))
 
-  pub performs_memory : (e : Stop) → Runs (Err e) → Performs Memory old new asked account given
-  performs_memory e runs = performs Memory (Err e) runs (λ d m. absurd (m refl))
+  run_memory : (e : Stop) → Goes (Err e) → PerformsRun Memory old new asked account given
+  run_memory e runs = performs Memory (Err e) runs (λ d m. absurd (m refl))
+
+-- a job of one turn keeps what stands
+sound_deed : (old : World) (account : Account) (deed : Deed) → CanBeDone deed → StandsFor old account → (one_turn old.files deed).takes account.kept → IsSoundJob old account (one_turn old.files deed)
+sound_deed old account (ToRestore db names) can stands takes = restore_sound old account db names stands can.0 can.1 can.2 takes
+sound_deed old account (ToFix db) can stands takes = fix_sound old account db stands can takes
+
+-- What is done of what is asked for, by the status that ends it.
+module _ (old new : World) (account : Account) (given : Given) (sixteen : MayBeGiven given) (before : (name : List ℕ) → Leaves old name (old.files name)) (timely : IsTimely new) (reads : (name : List ℕ) → Leaves new name (new.files name)) where
+  does_turn : (deed : Deed) → CanBeDone deed → (status : Status) (result : Result Status Stop) → TurnsTo result old new (one_turn old.files deed) account
+      → (status ≢ Device → status ≢ Memory → TurnEnded status old new (one_turn old.files deed) ((one_turn old.files deed).turn account)) → DoesTurn status old new (one_turn old.files deed) account
+  does_turn deed can status result turns ends = record {
+    stops = turns.stops;
+    reads = turns.reads;
+    gave = turns.gave;
+    ended = ends;
+    stands = λ stands takes. turn_stands old account (one_turn old.files deed) stands before (sound_deed old account deed can stands takes) new timely reads turns.stops turns.reads status ends;
+  }
+
+  pub performs_ended : (asked : Asked) → CanBeMet asked → (status : Status) → GoesTo (Ok status) old new asked account given → Performs status old new asked account given
+  performs_ended (Runs asked) can status runs = run_ended old new asked can account given sixteen before timely reads status runs
+  performs_ended (Does deed) can status turns = does_turn deed can status (Ok status) turns (λ d m. turns.ended)
+
+  pub performs_device : (asked : Asked) → CanBeMet asked → (e : Stop) → GoesTo (Err e) old new asked account given → Performs Device old new asked account given
+  performs_device (Runs asked) can e runs = run_device old new asked can account given sixteen before timely reads e runs
+  performs_device (Does deed) can e turns = does_turn deed can Device (Err e) turns (λ d m. absurd (d refl))
+
+  pub performs_memory : (asked : Asked) → CanBeMet asked → (e : Stop) → GoesTo (Err e) old new asked account given → Performs Memory old new asked account given
+  performs_memory (Runs asked) can e runs = run_memory old new asked can account given sixteen before timely reads e runs
+  performs_memory (Does deed) can e turns = does_turn deed can Memory (Err e) turns (λ d m. absurd (m refl))

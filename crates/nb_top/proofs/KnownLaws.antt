@@ -22,8 +22,8 @@ use Rattle.nb_model.proofs.GoingLaws.{name_short}
 use Rattle.nb_model.proofs.OpeningLaws.{free_entry}
 use Rattle.nb_script.specs.Fits.{FitsFirst}
 use Rattle.nb_script.specs.Scripts.{Plan}
-use Rattle.nb_top.specs.Performed.{HoldsUnder, Knows, KnowsNames, KnowsOpened}
-use Rattle.nb_top.specs.Requests.{Request, FitsJob, is_job_built, built_job, request_asked, request_of, script_in, to_run}
+use Rattle.nb_top.specs.Performed.{HoldsUnder, Knows, KnowsAsked, KnowsNames, KnowsOpened}
+use Rattle.nb_top.specs.Requests.{Asked, Runs, FitsJob, is_job_built, built_job, request_asked, request_of, script_in, to_run}
 use Rattle.nb_top.specs.Worlds.{HaveNames}
 use Rattle.nb_top.proofs.FirstReady.{base_name}
 use Rattle.nb_top.proofs.RequestLaws.{askable_in, backup_askable, since_askable, begin_askable, end_askable, stat_askable, fits_words, plain_file}
@@ -66,7 +66,7 @@ module _ (files : Files) (names : HaveNames files) (account : Account) (stands :
   known_script name (Ok plan) is = known_first plan.first (askable_in name (files name) plan is).first.fits
   known_script name (Err refusal) is = tt
 
-  known_job : (job : Job) → FitsJob job → Knows files account (request_of files job)
+  known_job : (job : Job) → FitsJob job → KnowsAsked files account (request_of files job)
   known_job (Run name) fits = known_script name (script_in name (files name)) refl
   known_job (Backup level db file) fits = known_first (OpenDb db usual_cache) (backup_askable level db file fits).first.fits
   known_job (BackupSince guid db file) fits = known_first (OpenDb db usual_cache) (since_askable guid db file fits).first.fits
@@ -79,14 +79,14 @@ module _ (files : Files) (names : HaveNames files) (account : Account) (stands :
   known_job (Restore db names) fits = known_names db (plain_file db (and_parts (is_file db) (nat_le (length db) 94) fits.0).0)
   known_job other fits = tt
 
-  pub known_asked : (words : List (List ℕ)) → Knows files account (request_asked files words)
+  pub known_asked : (words : List (List ℕ)) → KnowsAsked files account (request_asked files words)
   known_asked words = by (job_of words) refl
     where
       by_built : (job : Job) (b : Bool) → FitsJob job
-          → Knows files account (elim (elim b as (λ z. Option Job) [ true ↦ Some job | false ↦ None ]) as (λ z. Result Request Refusal) [ None ↦ Err Usage | Some k ↦ request_of files k ])
+          → KnowsAsked files account (elim (elim b as (λ z. Option Job) [ true ↦ Some job | false ↦ None ]) as (λ z. Asked) [ None ↦ Runs (Err Usage) | Some k ↦ request_of files k ])
       by_built job true fits = known_job job fits
       by_built job false fits = tt
 
-      by : (job : Option Job) → job_of words ≡ job → Knows files account (elim (built_job job) as (λ z. Result Request Refusal) [ None ↦ Err Usage | Some k ↦ request_of files k ])
+      by : (job : Option Job) → job_of words ≡ job → KnowsAsked files account (elim (built_job job) as (λ z. Asked) [ None ↦ Runs (Err Usage) | Some k ↦ request_of files k ])
       by None is = tt
       by (Some job) is = by_built job (is_job_built job) (fits_words words job is)

@@ -13,7 +13,7 @@ use Rattle.nb_model.specs.Stands.{Stands}
 use Rattle.nb_model.proofs.AccountLaws.{files_kept}
 use Rattle.nb_model.proofs.MadeLaws.{IsWholeFile}
 use Rattle.nb_session.specs.Acts.{MadeLeft, AreKept}
-use Rattle.nb_top.specs.Performed.{HoldsKept, StandsFor}
+use Rattle.nb_top.specs.Standing.{HoldsKept, StandsFor}
 use Rattle.nb_top.proofs.MadeStand.{IsNewFile, none_delta, free_name, free_left, made_holds}
 use Rattle.nb_top.proofs.MadeWhole.{stands_with_whole}
 

@@ -27,7 +27,7 @@ use Rattle.nb_model.proofs.StandsLaws.{delta_named}
 use Rattle.nb_model.proofs.SteadyLaws.{WellAlong, kept_along}
 use Rattle.nb_copy.specs.Making.{IsUnfinishedOr}
 use Rattle.nb_session.specs.Acts.{MadeLeft}
-use Rattle.nb_top.specs.Performed.{HoldsKept, StandsFor}
+use Rattle.nb_top.specs.Standing.{HoldsKept, StandsFor}
 use Rattle.nb_top.proofs.MadeRuns.{no_file}
 use Rattle.nb_top.proofs.AsWas.{IsOff, as_was, was_has, was_off}
 

@@ -19,8 +19,9 @@ use Rattle.nb_session.specs.declared.stop.Stop.{Stop}
 use Rattle.nb_session.specs.Says.{FrontSaid, SaysLine}
 use Rattle.nb_session.proofs.GiftLaws.{given_nothing}
 use Rattle.nb_top.specs.declared.status.Status.{Status}
-use Rattle.nb_top.specs.Performed.{RunLeft, RunsTo, Finished, HasSmallScn, IsPerformed, Target, first_event, target_of, number_of}
-use Rattle.nb_top.specs.Requests.{Request, ToRun, ToGenerate, ToRestore, ToFix}
+use Rattle.nb_top.specs.Numbers.{number_of}
+use Rattle.nb_top.specs.Performed.{RunLeft, RunsTo, Finished, HasSmallScn, IsPerformed, Target, first_event, target_of}
+use Rattle.nb_top.specs.Requests.{Request, ToRun, ToGenerate}
 use Rattle.nb_top.proofs.MadeRuns.{none_front, none_made}
 
 -- what is taken of a list is a front of it
@@ -40,8 +41,6 @@ module _ (old new : World) (session : ℕ) (refusal : Refusal) (account : Accoun
       by : (a : Result Request Refusal) → target_of a (event ∷ []) ≡ None
       by (Ok (ToRun plan telling)) = refl
       by (Ok (ToGenerate number name)) = refl
-      by (Ok (ToRestore db names)) = refl
-      by (Ok (ToFix db)) = refl
       by (Err r) = refl
 
   -- a front of its line was said

@@ -19,16 +19,23 @@ use Rattle.nb_script.specs.Asked.{IsFurther, IsAskable}
 use Rattle.nb_script.specs.Fits.{IsBase, IsFile}
 use Rattle.nb_script.specs.Scripts.{Plan}
 use Rattle.nb_script.proofs.AskedLemmas.{answer_is_askable}
-use Rattle.nb_top.specs.declared.telling.Telling.TheVariants.{All, Quietly, WithSize}
-use Rattle.nb_top.specs.Requests.{Request, ToRun, ToGenerate, ToRestore, ToFix, FitsJob, is_job_built, built_job, job_asked, script_in, to_run, plan_of, request_of, request_asked}
+use Rattle.nb_top.specs.Requests.{Request, ToRun, ToGenerate, Deed, ToRestore, ToFix, Asked, Runs, Does, FitsJob, is_job_built, built_job, job_asked, script_in, to_run, plan_of, request_of, request_asked}
 
--- The statements of a script can be asked today. The names of a script that is written, of a restore and of a fixup are none that a difference
--- file may have, and a restore has a first file.
+-- The statements of a script can be asked today. The name of a script that is written is none that a difference file may have.
 abbrev pub CanBeAsked : Request → Type 0
 CanBeAsked (ToRun plan telling) = IsAskable plan
 CanBeAsked (ToGenerate number name) = is_delta name ≡ false
-CanBeAsked (ToFix db) = is_delta db ≡ false
-CanBeAsked (ToRestore db names) = (is_delta db ≡ false) × AllByRecursion (λ (name : List ℕ). is_delta name ≡ false) names × (1 ≤ length names)
+
+-- Nor are the names of a restore and of a fixup, and a restore has a first file.
+abbrev pub CanBeDone : Deed → Type 0
+CanBeDone (ToFix db) = is_delta db ≡ false
+CanBeDone (ToRestore db names) = (is_delta db ≡ false) × AllByRecursion (λ (name : List ℕ). is_delta name ≡ false) names × (1 ≤ length names)
+
+-- so it is of what is asked for
+abbrev pub CanBeMet : Asked → Type 0
+CanBeMet (Runs (Err refusal)) = Unit {0}
+CanBeMet (Runs (Ok r)) = CanBeAsked r
+CanBeMet (Does deed) = CanBeDone deed
 
 -- The names of a job that words give.
 abbrev IfJob : Option Job → Type 0
@@ -139,11 +146,11 @@ pub fits_words : (words : List Word) (job : Job) → job_of words ≡ Some job �
 fits_words words job is = subst IfJob is (words_fit words)
 
 -- what the words ask for
-pub asked_usage : (files : Files) (words : List Word) → job_asked words ≡ None → request_asked files words ≡ Err Usage
-asked_usage files words is = ap (λ (j : Option Job). elim j as (λ z. Result Request Refusal) [ None ↦ Err Usage | Some job ↦ request_of files job ]) is
+pub asked_usage : (files : Files) (words : List Word) → job_asked words ≡ None → request_asked files words ≡ Runs (Err Usage)
+asked_usage files words is = ap (λ (j : Option Job). elim j as (λ z. Asked) [ None ↦ Runs (Err Usage) | Some job ↦ request_of files job ]) is
 
 pub asked_job : (files : Files) (words : List Word) (job : Job) → job_asked words ≡ Some job → request_asked files words ≡ request_of files job
-asked_job files words job is = ap (λ (j : Option Job). elim j as (λ z. Result Request Refusal) [ None ↦ Err Usage | Some k ↦ request_of files k ]) is
+asked_job files words job is = ap (λ (j : Option Job). elim j as (λ z. Asked) [ None ↦ Runs (Err Usage) | Some k ↦ request_of files k ]) is
 
 -- The script of a job that asks a database these things.
 none_further : (n i : ℕ) → AllByRecursion IsFurther (get_or (replicate n []) i [])
@@ -223,50 +230,38 @@ plain_files : (names : List (List ℕ)) → list_all is_file names ≡ true → 
 plain_files [] all = tt
 plain_files (name ∷ names) all = let parts = and_parts (is_file name) (list_all is_file names) all in (plain_file name parts.0, plain_files names parts.1)
 
-restore_asked : (db : List ℕ) (names : List (List ℕ)) → FitsJob (Restore db names) → CanBeAsked (ToRestore db names)
+restore_asked : (db : List ℕ) (names : List (List ℕ)) → FitsJob (Restore db names) → CanBeDone (ToRestore db names)
 restore_asked db names fits = (plain_file db (and_parts (is_file db) (nat_le (length db) 94) fits.0).0, plain_files names fits.3, fits.1)
 
 -- What the words ask for can be asked.
-module _ (files : Files) (r : Request) where
-  none_asked : (refusal : Refusal) → Err refusal ≡ Ok r → CanBeAsked r
-  none_asked refusal h = absurd (never h)
-    where
-      never : Err refusal ≡ Ok r → ⊥
-      never h = cc
+module _ (files : Files) where
+  script_can : (name : List ℕ) (s : Result Plan Refusal) → script_in name (files name) ≡ s → CanBeMet (Runs (to_run s))
+  script_can name (Ok plan) is = askable_in name (files name) plan is
+  script_can name (Err refusal) is = tt
 
-  this_asked : (q : Request) → CanBeAsked q → ◌≡◌ {A = Result Request Refusal} (Ok q) (Ok r) → CanBeAsked r
-  this_asked q can e = subst CanBeAsked (same e) can
-    where
-      same : ◌≡◌ {A = Result Request Refusal} (Ok q) (Ok r) → q ≡ r
-      same h = cc
+  job_can : (job : Job) → FitsJob job → CanBeMet (request_of files job)
+  job_can (Run name) fits = script_can name (script_in name (files name)) refl
+  job_can (Backup level db file) fits = backup_askable level db file fits
+  job_can (BackupSince guid db file) fits = since_askable guid db file fits
+  job_can (Stat db) fits = stat_askable db fits
+  job_can (Lock db) fits = begin_askable db fits
+  job_can (LockWithSize db) fits = begin_askable db fits
+  job_can (Unlock db) fits = end_askable db fits
+  job_can (Gen number name) fits = plain_file name fits
+  job_can (Fixup db) fits = plain_file db (and_parts (is_file db) (nat_le (length db) 94) fits).0
+  job_can (Restore db names) fits = restore_asked db names fits
+  job_can other fits = tt
 
-  run_asked : (name : List ℕ) (s : Result Plan Refusal) → script_in name (files name) ≡ s → to_run s ≡ Ok r → CanBeAsked r
-  run_asked name (Ok plan) is e = this_asked (ToRun plan All) (askable_in name (files name) plan is) e
-  run_asked name (Err refusal) is e = none_asked refusal e
-
-  job_can : (job : Job) → FitsJob job → request_of files job ≡ Ok r → CanBeAsked r
-  job_can (Run name) fits e = run_asked name (script_in name (files name)) refl e
-  job_can (Backup level db file) fits e = this_asked (ToRun (plan_of db (BackupTo level file ∷ [])) Quietly) (backup_askable level db file fits) e
-  job_can (BackupSince guid db file) fits e = this_asked (ToRun (plan_of db (BackupOf guid file ∷ [])) Quietly) (since_askable guid db file fits) e
-  job_can (Stat db) fits e = this_asked (ToRun (plan_of db (ShowHeader ∷ ShowPages ∷ [])) Quietly) (stat_askable db fits) e
-  job_can (Lock db) fits e = this_asked (ToRun (plan_of db (BeginBackup ∷ [])) Quietly) (begin_askable db fits) e
-  job_can (LockWithSize db) fits e = this_asked (ToRun (plan_of db (BeginBackup ∷ [])) WithSize) (begin_askable db fits) e
-  job_can (Unlock db) fits e = this_asked (ToRun (plan_of db (EndBackup ∷ [])) Quietly) (end_askable db fits) e
-  job_can (Gen number name) fits e = this_asked (ToGenerate number name) (plain_file name fits) e
-  job_can (Fixup db) fits e = this_asked (ToFix db) (plain_file db (and_parts (is_file db) (nat_le (length db) 94) fits).0) e
-  job_can (Restore db names) fits e = this_asked (ToRestore db names) (restore_asked db names fits) e
-  job_can other fits e = none_asked Usage e
-
-  pub can_be_asked : (words : List Word) → request_asked files words ≡ Ok r → CanBeAsked r
+  pub can_be_asked : (words : List Word) → CanBeMet (request_asked files words)
   can_be_asked words = by (job_of words) refl
     where
-      by_built : (job : Job) (b : Bool) → FitsJob job → elim (elim b as (λ z. Option Job) [ true ↦ Some job | false ↦ None ]) as (λ z. Result Request Refusal) [ None ↦ Err Usage | Some k ↦ request_of files k ] ≡ Ok r → CanBeAsked r
-      by_built job true fits e = job_can job fits e
-      by_built job false fits e = none_asked Usage e
+      by_built : (job : Job) (b : Bool) → FitsJob job → CanBeMet (elim (elim b as (λ z. Option Job) [ true ↦ Some job | false ↦ None ]) as (λ z. Asked) [ None ↦ Runs (Err Usage) | Some k ↦ request_of files k ])
+      by_built job true fits = job_can job fits
+      by_built job false fits = tt
 
-      by : (job : Option Job) → job_of words ≡ job → elim (built_job job) as (λ z. Result Request Refusal) [ None ↦ Err Usage | Some k ↦ request_of files k ] ≡ Ok r → CanBeAsked r
-      by None is e = none_asked Usage e
-      by (Some job) is e = by_built job (is_job_built job) (fits_words words job is) e
+      by : (job : Option Job) → job_of words ≡ job → CanBeMet (elim (built_job job) as (λ z. Asked) [ None ↦ Runs (Err Usage) | Some k ↦ request_of files k ])
+      by None is = tt
+      by (Some job) is = by_built job (is_job_built job) (fits_words words job is)
 
 -- the answer of a reading
 pub asked_read : (files : Files) (words : List Word) (answer : Result Job Fault) (job : Job) → answer ≡ Ok job → IfOk answer (λ (j : Job). job_asked words ≡ Some j) → request_asked files words ≡ request_of files job

@@ -1,24 +1,17 @@
 -- The one turn of a restore: what it must be, and what stands behind it.
-use Rattle.std.proofs.Common.{◌≡◌, ◌⊎◌, inl, inr, ℕ, List, [], ◌∷◌, length, true, false, refl, sym, ap, ◌∙◌}
+use Rattle.std.proofs.Common.{◌≡◌, ◌≢◌, ◌⊎◌, inl, inr, ℕ, List, [], ◌∷◌, length, true, false, refl, sym, ap, ◌∙◌}
 use Rattle.std.specs.Prelude.{Bool, None, Result, Ok, Err}
 use Rattle.nb_host.specs.Files.{Files}
 use Rattle.nb_host.specs.declared.refusals.Refusal.{Refusal}
-use Rattle.nb_host.specs.declared.refusals.Refusal.TheVariants.{FileExists}
+use Rattle.nb_host.specs.declared.refusals.Refusal.TheVariants.{FileExists, Usage}
 use Rattle.nb_model.specs.declared.reply.Reply.TheVariants.{Pages}
 use Rattle.nb_model.specs.Account.{Account}
 use Rattle.nb_model.specs.Causes.{is_free_entry}
 use Rattle.nb_model.specs.Jobs.{only_turn, only_refusal, restore_turn, account_behind}
-use Rattle.nb_model.specs.Outcomes.{Given}
 use Rattle.nb_model.specs.Restoring.{Link, verdict, applied}
 use Rattle.nb_model.specs.Run.{Event, account_after}
-use Rattle.nb_model.specs.Steps.{makes, settles, made, steps_of}
-use Rattle.nb_model.specs.Strokes.{make, fixed, base_in}
-use Rattle.nb_model.specs.Trail.{settled}
-use Rattle.nb_model.proofs.StepsLaws.{steps_one}
-use Rattle.nb_restore.specs.Restore.{base_from}
-use Rattle.nb_top.specs.Performed.{IsPerformed, seen_after}
-use Rattle.nb_top.specs.Requests.{ToRestore}
-use Rattle.nb_top.proofs.FirstLaws.{made_trail}
+use Rattle.nb_model.specs.Strokes.{make, fixed}
+use Rattle.nb_top.proofs.ChainRefusals.{refused_chain}
 
 -- the turn that makes the database which these files give
 abbrev pub made_turn : List Link → Event
@@ -66,28 +59,14 @@ module _ (files : Files) (account : Account) (db : List ℕ) (names : List (List
           of_verdict (Ok links) accepted = restores links is accepted (done_turn links is accepted)
           of_verdict (Err refusal) broken = let why : WhyRefused files account db names refusal = inr (is, broken) in refuses refusal why (refused_turn refusal why)
 
-  -- a refused one leaves the account
-  pub refused_account : (refusal : Refusal) → account_behind db (only_refusal refusal) account ≡ account
-  unfolding account_behind
-  refused_account refusal = refl
-
   pub made_account : (links : List Link) → account_behind db (made_turn links) account ≡ account_after db (make (fixed (applied links)) ∷ []) None account
   unfolding account_behind
   made_account links = refl
 
-  -- what is asked for is done by it
-  pub refused_performed : (given : Given) (refusal : Refusal) → restore_turn files account db names ≡ only_refusal refusal → IsPerformed files (Ok (ToRestore db names)) account given (only_refusal refusal ∷ []) account given
-  refused_performed given refusal is = (ap (λ (e : Event). e ∷ []) (sym is), sym (ap (λ (e : Event). account_behind db e account) is ∙ refused_account refusal), refl)
-
-  pub made_performed : (given : Given) (links : List Link) → restore_turn files account db names ≡ made_turn links
-      → IsPerformed files (Ok (ToRestore db names)) account given (made_turn links ∷ []) (account_behind db (made_turn links) account) given
-  made_performed given links is = (ap (λ (e : Event). e ∷ []) (sym is), ap (λ (e : Event). account_behind db e account) (sym is), refl)
-
--- the database is made, and kept for good
-pub made_steps : (links : List Link) → steps_of (made_turn links ∷ []) ≡ makes (make (fixed (applied links))) ∷ settles ∷ []
-unfolding steps_of made
-made_steps links = refl
-
--- which leaves a settled point
-pub made_seen : (account : Account) (db : List ℕ) (links : List Link) → seen_after account db (steps_of (made_turn links ∷ [])) ≡ settled (base_from links)
-made_seen account db links = ap (seen_after account db) (steps_one (made_turn links)) ∙ made_trail (base_in (account.entry db)) (fixed (applied links)) 1 (Pages (length (applied links)))
+  -- as words are that name no job it never is
+  pub refused_restore : (refusal : Refusal) → WhyRefused files account db names refusal → refusal ≢ Usage
+  refused_restore refusal (inl taken) e = exists_usage (sym taken.1 ∙ e)
+    where
+      exists_usage : FileExists db ≡ Usage → ⊥
+      exists_usage h = cc
+  refused_restore refusal (inr broken) e = refused_chain files names refusal broken.1 e

@@ -33,7 +33,8 @@ use Rattle.nb_model.proofs.SteadyLaws.{WellAlong, along_front, along_last, kept_
 use Rattle.nb_model.proofs.StandsLaws.{delta_same, no_main}
 use Rattle.nb_base.specs.Open.{OfFiles}
 use Rattle.nb_session.specs.Acts.{MadeLeft, AreKept}
-use Rattle.nb_top.specs.Performed.{HoldsKept, IsEnded, IsUnbegun, StandsFor, Target, kept_after, seen_after}
+use Rattle.nb_top.specs.Performed.{IsEnded, IsUnbegun, Target, kept_after, seen_after}
+use Rattle.nb_top.specs.Standing.{HoldsKept, StandsFor}
 use Rattle.nb_top.proofs.AsWas.{as_was, was_has}
 use Rattle.nb_top.proofs.MadeStand.{IsNewFile, none_delta, free_name, free_left, made_holds}
 use Rattle.nb_top.proofs.MadeRuns.{no_file}

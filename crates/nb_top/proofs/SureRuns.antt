@@ -35,7 +35,8 @@ use Rattle.nb_script.specs.Asked.{IsAskable}
 use Rattle.nb_script.specs.Fits.{FitsFirst}
 use Rattle.nb_script.specs.Scripts.{Plan}
 use Rattle.nb_top.specs.declared.status.Status.{Status}
-use Rattle.nb_top.specs.Performed.{RunLeft, Finished, HasSmallScn, HoldsKept, IsScriptRun, IsSure, MayBeGiven, StandsFor, Target, begins_refused, kept_after, pages_first, seen_after, target_named, target_of}
+use Rattle.nb_top.specs.Performed.{RunLeft, Finished, HasSmallScn, IsScriptRun, IsSure, MayBeGiven, Target, begins_refused, kept_after, pages_first, seen_after, target_named, target_of}
+use Rattle.nb_top.specs.Standing.{HoldsKept, StandsFor}
 use Rattle.nb_top.specs.declared.telling.Telling.{Telling}
 use Rattle.nb_top.specs.Requests.{Request, ToRun}
 use Rattle.nb_top.proofs.FirstReady.{base_name}
@@ -290,7 +291,7 @@ told_sure account target whole events last same files known = record {
 
 -- The run of a script.
 module _ (old : World) (plan : Plan) (telling : Telling) (askable : IsAskable plan) (account : Account) (given : Given) (before : (name : List ℕ) → Leaves old name (old.files name)) (events : List Event) (last : Account)
-    (left : Given) (performed : IsScriptRun plan telling account given events last left) (sixteen : MayBeGiven given) (sure : IsSure old account (Ok (ToRun plan telling)) events) where
+    (left : Given) (performed : IsScriptRun plan telling account given events last left) (sixteen : MayBeGiven given) (sure : IsSure old account events) where
   abbrev asked : Result Request Refusal
   asked = Ok (ToRun plan telling)
 

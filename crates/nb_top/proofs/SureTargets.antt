@@ -1,31 +1,21 @@
 -- What is sure of a run with a database: what a stop leaves stands for an account at each moment, and so does what stands at its end.
-use Rattle.std.proofs.Common.{◌≡◌, ⊎_elim, ℕ, zero, suc, ◌≤◌, List, [], ◌∷◌, length, take, true, false, refl, sym, ap, subst, ◌∙◌, arith}
-use Rattle.std.specs.Prelude.{Some, Ok, Contains}
+use Rattle.std.proofs.Common.{◌≡◌, ⊎_elim, ℕ, ◌≤◌, List, length, take, true, false, refl, sym, ap, subst, ◌∙◌}
+use Rattle.std.specs.Prelude.{Some}
 use Rattle.nb_host.specs.Files.{Files}
 use Rattle.nb_host.specs.Names.{is_delta}
 use Rattle.nb_host.specs.World.{World}
 use Rattle.nb_host.specs.Crash.{Leaves}
 use Rattle.nb_host.specs.Moments.{IsTimely, AtEachMoment}
-use Rattle.nb_model.specs.declared.reply.Reply.{Reply}
-use Rattle.nb_model.specs.Account.{Base, Account}
+use Rattle.nb_model.specs.Account.{Account}
 use Rattle.nb_model.specs.Causes.{is_free_entry}
-use Rattle.nb_model.specs.Jobs.{only_turn}
 use Rattle.nb_model.specs.NewGuids.{AreNew, guids_in}
 use Rattle.nb_model.specs.Outcomes.{Given}
-use Rattle.nb_model.specs.Owner.{delta_name, owner}
-use Rattle.nb_model.specs.Making.{MadeFile}
-use Rattle.nb_model.specs.Run.{Event, strokes_of, files_made}
-use Rattle.nb_model.specs.Steps.{makes, settles, made, after_steps, steps_of, strokes_in}
-use Rattle.nb_model.specs.Strokes.{Stroke, base_in, records_after}
-use Rattle.nb_model.specs.Trail.{Trail, StandsIn, settled}
-use Rattle.nb_model.specs.WellTrail.{IsWellTrail}
-use Rattle.nb_model.proofs.AccountLaws.{IsGrown}
-use Rattle.nb_model.proofs.SteadyLaws.{settling_along}
-use Rattle.nb_model.proofs.StepsLaws.{after_no_step}
-use Rattle.nb_model.proofs.TrailLaws.{settled_shows}
+use Rattle.nb_model.specs.Run.{Event, strokes_of}
+use Rattle.nb_model.specs.Steps.{steps_of}
+use Rattle.nb_model.specs.Trail.{StandsIn}
 use Rattle.nb_top.specs.declared.status.Status.{Status}
-use Rattle.nb_top.specs.Performed.{RunLeft, Finished, HoldsKept, StandsFor, Target, kept_after, seen_after}
-use Rattle.nb_top.proofs.MadeRuns.{no_file}
+use Rattle.nb_top.specs.Performed.{RunLeft, Finished, Target, kept_after, seen_after}
+use Rattle.nb_top.specs.Standing.{HoldsKept, StandsFor}
 use Rattle.nb_top.proofs.SureFiles.{kept_none, stood_holds, unbegun_holds, ended_stands}
 use Rattle.nb_top.proofs.WellRuns.{IsWellRun}
 
@@ -52,42 +42,3 @@ module _ (old : World) (account : Account) (stands : StandsFor old account) (bef
   target_end end timely reads stops given left status finished =
       ended_stands old account stands before target.name known.plain events last known.run new end finished.database finished.kept finished.others reads
       (λ files leaves. let l = stops.each files end.said (timely.counts_now old.moment files stops.later leaves) in (l.each, l.others))
-
--- A run of one turn, whose one stroke leaves a database that is well. Before it that database isn't seen.
-module _ (account : Account) (target : Target) (reply : Reply) (stroke : Stroke) (base : Base) (last : Account) (seen : after_steps (settled (base_in (account.entry target.name))) (makes stroke ∷ []) ≡ settled base)
-    (none : records_after (base_in (account.entry target.name)) (strokes_in (makes stroke ∷ [])) ≡ [])
-    (grown : IsGrown target.name (after_steps (settled base) (settles ∷ [])).base (records_after base (strokes_in (settles ∷ []))) [] account last) (well : IsWellTrail account.kept (settled base))
-    (unseen : (files : Files) → owner target.name (files target.name) (files (delta_name target.name)) ≡ Ok (base_in (account.entry target.name)) → ⊥) where
-  abbrev one : List Event
-  one = only_turn reply (stroke ∷ []) ∷ []
-
-  steps : steps_of one ≡ makes stroke ∷ settles ∷ []
-  unfolding steps_of made
-  steps = refl
-
-  no_files : files_made one ≡ []
-  unfolding files_made
-  no_files = refl
-
-  run : IsWellRun account target.name one last
-  run = record {
-    first = makes stroke ∷ [];
-    further = settles ∷ [];
-    steps = steps;
-    base = base;
-    seen = seen;
-    none = none;
-    along = settling_along account.kept (settled base) true well;
-    made = λ file there. absurd (no_file file (subst (λ (fs : List MadeFile). Contains fs file) no_files there));
-    grown = subst (λ (fs : List MadeFile). IsGrown target.name (after_steps (settled base) (settles ∷ [])).base (records_after base (strokes_in (settles ∷ []))) fs account last) (sym no_files) grown;
-  }
-
-  begun : (count : ℕ) (files : Files) → StandsIn target.name (seen_after account target.name (take count (steps_of one))) files → 1 ≤ count
-  begun zero files s =
-      let there : Base = base_in (account.entry target.name) in
-      absurd (unseen files (settled_shows target.name there (files target.name) (files (delta_name target.name)) (subst (λ (t : Trail). StandsIn target.name t files) (after_no_step (settled there)) s)))
-  begun (suc n) files s = omega arith
-
-  pub turn_sure : is_delta target.name ≡ false → (target.creates ≡ true → is_free_entry (account.entry target.name) ≡ true) → IsSureRun account target one last
-  unfolding run
-  turn_sure plain free = record { plain = plain; free = free; run = run; begun = begun }

@@ -35,9 +35,10 @@ use Rattle.nb_session.proofs.OthersLaws.{leaves_among, leaves_changes, leaves_li
 use Rattle.nb_top.specs.declared.status.Status.{Status}
 use Rattle.nb_top.specs.declared.status.Status.TheVariants.{Done, Refused as RefusedStatus}
 use Rattle.nb_top.specs.declared.telling.Telling.{Telling}
-use Rattle.nb_top.specs.Performed.{Target, number_of, target_named}
+use Rattle.nb_top.specs.Numbers.{number_of}
+use Rattle.nb_top.specs.Performed.{Target, target_named}
 use Rattle.nb_top.specs.Requests.{Request, ToRun, ToGenerate}
-use Rattle.nb_top.specs.Touched.{IsWholeToMerge, MayTouch, OfTarget, OpensWhole, ReadMakes, TouchesAsked, ends_refused}
+use Rattle.nb_top.specs.Touched.{IsWholeToMerge, MayTouch, OfTarget, OpensWhole, ReadMakes, TouchesAsked, TouchesOnly, ends_refused}
 use Rattle.nb_top.proofs.ScriptRuns.{Opens, creates, opens}
 
 none_ok : {T E : Type 0} (result : Result T E) (P : T → Type 0) → IsErr result → IfOk result P
@@ -45,25 +46,34 @@ none_ok (Ok value) P is = absurd (cc is)
 none_ok (Err e) P is = tt
 
 -- A run that leaves other files alone so far.
-module _ (old new : World) (asked : Result Request Refusal) where
+module _ (old new : World) (names : Names) where
   -- it ends early
-  pub touches_err : (result : Result Status Stop) → IsErr result → LeavesOthers old new (MayTouch asked) → TouchesAsked result old new asked
-  touches_err result failed leaves = record { leaves = leaves; says = none_ok result _ failed }
+  pub only_err : (result : Result Status Stop) → IsErr result → LeavesOthers old new names → TouchesOnly result old new names
+  only_err result failed leaves = record { leaves = leaves; says = none_ok result _ failed }
 
   -- it has refused nothing
-  pub touches_done : (status : Status) → ends_refused status ≡ false → LeavesOthers old new (MayTouch asked) → TouchesAsked (Ok status) old new asked
-  touches_done status none leaves = record { leaves = leaves; says = λ yes. absurd (true≢false (sym yes ∙ none)) }
+  pub only_done : (status : Status) → ends_refused status ≡ false → LeavesOthers old new names → TouchesOnly (Ok status) old new names
+  only_done status none leaves = record { leaves = leaves; says = λ yes. absurd (true≢false (sym yes ∙ none)) }
 
   -- an early end is a status of its own
-  pub touches_stopped : (stop : Stop) (status : Status) → ends_refused status ≡ false → TouchesAsked (Err stop) old new asked → TouchesAsked (Ok status) old new asked
-  touches_stopped stop status none touches = touches_done status none touches.leaves
+  pub only_stopped : (stop : Stop) (status : Status) → ends_refused status ≡ false → TouchesOnly (Err stop) old new names → TouchesOnly (Ok status) old new names
+  only_stopped stop status none touches = only_done status none touches.leaves
 
-  -- by another name for what is asked for
-  pub touches_same : (result : Result Status Stop) (other : Result Request Refusal) → other ≡ asked → TouchesAsked result old new other → TouchesAsked result old new asked
-  touches_same result other same touches = subst (λ (a : Result Request Refusal). TouchesAsked result old new a) same touches
+module _ (old mid new : World) (names : Names) (leaves : LeavesOthers old mid names) (timely : IsTimely new) (reads : LeavesAll new new.files) where
+  -- a line is said
+  pub only_said : {T E : Type 0} (result : Result T E) (line : List ℕ) → SaysLine result mid new line → LeavesOthers old new names
+  only_said result line says = leaves_then old mid new names leaves (leaves_line result mid new line names timely reads says)
 
+  -- that of a refusal, which ends it
+  pub only_refused : (result : Result Status Stop) (session : ℕ) (refusal : Refusal) → SaysLine result mid new (line_text session (RefusedReply refusal)) → TouchesOnly result old new names
+  only_refused result session refusal says = record { leaves = only_said result (line_text session (RefusedReply refusal)) says; says = by result says }
+    where
+      by : (r : Result Status Stop) → SaysLine r mid new (line_text session (RefusedReply refusal)) → IfOk r (λ status. ends_refused status ≡ true → SaysRefusal old new)
+      by (Ok status) said = λ yes. then_refusal old mid new leaves.added (refusal_said mid new session refusal said.said)
+      by (Err e) said = tt
+
+-- A run that goes on as one that is asked for less.
 module _ (old mid new : World) (asked : Result Request Refusal) (leaves : LeavesOthers old mid (MayTouch asked)) where
-  -- and goes on as a run that is asked for less
   pub touches_then : (result : Result Status Stop) (few : Result Request Refusal) → ((m : List ℕ) → MayTouch few m → MayTouch asked m) → TouchesAsked result mid new few → TouchesAsked result old new asked
   touches_then result few among touches = record {
     leaves = leaves_then old mid new (MayTouch asked) leaves (leaves_among mid new (MayTouch few) (MayTouch asked) among touches.leaves);
@@ -73,19 +83,6 @@ module _ (old mid new : World) (asked : Result Request Refusal) (leaves : Leaves
       by : (r : Result Status Stop) → IfOk r (λ status. ends_refused status ≡ true → SaysRefusal mid new) → IfOk r (λ status. ends_refused status ≡ true → SaysRefusal old new)
       by (Ok status) says = λ yes. then_refusal old mid new leaves.added (says yes)
       by (Err e) says = tt
-
-  module _ (timely : IsTimely new) (reads : LeavesAll new new.files) where
-    -- a line is said
-    pub leaves_said : {T E : Type 0} (result : Result T E) (line : List ℕ) → SaysLine result mid new line → LeavesOthers old new (MayTouch asked)
-    leaves_said result line says = leaves_then old mid new (MayTouch asked) leaves (leaves_line result mid new line (MayTouch asked) timely reads says)
-
-    -- that of a refusal, which ends it
-    pub touches_refused : (result : Result Status Stop) (session : ℕ) (refusal : Refusal) → SaysLine result mid new (line_text session (RefusedReply refusal)) → TouchesAsked result old new asked
-    touches_refused result session refusal says = record { leaves = leaves_said result (line_text session (RefusedReply refusal)) says; says = by result says }
-      where
-        by : (r : Result Status Stop) → SaysLine r mid new (line_text session (RefusedReply refusal)) → IfOk r (λ status. ends_refused status ≡ true → SaysRefusal old new)
-        by (Ok status) said = λ yes. then_refusal old mid new leaves.added (refusal_said mid new session refusal said.said)
-        by (Err e) said = tt
 
 -- one file of a job was changed
 pub leaves_only : (old new : World) (name : List ℕ) (P : Files → Type 0) (names : Names) → names name → Changes old new (Only name) P → LeavesOthers old new names

@@ -16,7 +16,7 @@ use Rattle.nb_model.proofs.FreeLaws.{stands_files}
 use Rattle.nb_model.proofs.FrontLaws.{owner_of_entry}
 use Rattle.nb_model.proofs.MainLaws.{owner-refused}
 use Rattle.nb_model.proofs.StandsLaws.{delta_named, formed_header, stands_same}
-use Rattle.nb_top.specs.Performed.{HoldsKept, StandsFor}
+use Rattle.nb_top.specs.Standing.{HoldsKept, StandsFor}
 use Rattle.nb_top.specs.Worlds.{StartsFrom, ArePlain, no_files, account_of, empty}
 use Rattle.nb_top.proofs.OpenLaws.{none_shown}
 

@@ -12,7 +12,6 @@ use Rattle.std.specs.Global.{Vec}
 use Rattle.std.specs.List.{AllByRecursion, list_all}
 use Rattle.nb_fields.specs.Free.{is_free_file}
 use Rattle.nb_fields.specs.Fresh.{fresh_count}
-use Rattle.nb_fields.specs.Header.{guid_of}
 use Rattle.nb_host.specs.Files.{File, Files}
 use Rattle.nb_host.specs.Names.{is_delta}
 use Rattle.nb_host.specs.World.{World}
@@ -31,36 +30,36 @@ use Rattle.nb_model.specs.declared.statement.Statement.TheVariants.{CreateDb, Op
 use Rattle.nb_model.specs.Account.{Kept, Base, IsBase, Plain, Account, with_entry}
 use Rattle.nb_model.specs.Causes.{is_free_entry, not_free}
 use Rattle.nb_model.specs.Gifts.{WasGiven}
-use Rattle.nb_model.specs.Image.{image_in, image_scn}
+use Rattle.nb_model.specs.Image.{image_scn}
 use Rattle.nb_model.specs.NewGuids.{AreNew, guids_in}
 use Rattle.nb_model.specs.Generated.{generated, last_or_refusal, said_by_generated}
-use Rattle.nb_model.specs.Jobs.{all_sized, quiet, refusal_in, restore_turn, fixup_turn, account_behind}
+use Rattle.nb_model.specs.Jobs.{all_sized, quiet, refusal_in}
 use Rattle.nb_model.specs.Outcomes.{Given}
 use Rattle.nb_model.specs.Output.{output, status_of}
 use Rattle.nb_model.specs.Owner.{delta_name, entry_in}
 use Rattle.nb_model.specs.Making.{IsNoneOf}
 use Rattle.nb_model.specs.Run.{Event, Now, Played, IsRun, AreFinished, play, rounds, strokes_of, replies_of, files_made}
 use Rattle.nb_model.specs.Sound.{IsSoundImage}
-use Rattle.nb_model.specs.Restoring.{Link, verdict}
-use Rattle.nb_model.specs.Stands.{IsKeptAs, Stands}
 use Rattle.nb_model.specs.Steps.{Step, steps_of, strokes_in, after_steps, acked_turns}
 use Rattle.nb_model.specs.Strokes.{Stroke, base_in, records_after}
 use Rattle.nb_model.specs.Trail.{Trail, StandsIn, ShowsIn, settled}
 use Rattle.nb_base.specs.Open.{OfFiles}
 use Rattle.nb_state.specs.Open.{Held}
-use Rattle.nb_fixup.specs.Fixup.{IsFixable}
 use Rattle.nb_gen.specs.Texts.{generated_first}
-use Rattle.nb_restore.specs.Kept.{AreKept, GivesKept}
 use Rattle.nb_script.specs.Scripts.{Plan, script_of}
 use Rattle.nb_session.specs.declared.stop.Stop.{Stop}
 use Rattle.nb_session.specs.Replies.{is_refusal, only_tells, only_told}
 use Rattle.nb_session.specs.Acts.{MadeLeft, AreKept as AreFilesKept}
 use Rattle.nb_session.specs.Stops.{IsSaid, IsFront, AreWhole, Plays}
 use Rattle.nb_top.specs.declared.status.Status.{Status}
-use Rattle.nb_top.specs.declared.status.Status.TheVariants.{Done, Refused as RefusedStatus, Usage as UsageStatus, Device, Memory}
+use Rattle.nb_top.specs.declared.status.Status.TheVariants.{Device, Memory}
 use Rattle.nb_top.specs.declared.telling.Telling.{Telling}
 use Rattle.nb_top.specs.declared.telling.Telling.TheVariants.{All, Quietly, WithSize, Sparingly}
-use Rattle.nb_top.specs.Requests.{Request, ToRun, ToGenerate, ToRestore, ToFix, script_in}
+use Rattle.nb_top.specs.Numbers.{number_of}
+use Rattle.nb_top.specs.OneTurn.{DoesTurn, one_turn}
+use Rattle.nb_top.specs.Requests.{Request, ToRun, ToGenerate, Asked, Runs, Does, script_in}
+use Rattle.nb_top.specs.Served.{TurnsTo}
+use Rattle.nb_top.specs.Standing.{HoldsKept, StandsFor}
 
 -- what the first statement of a run did, or what is said in place of a run
 abbrev pub first_event : (session : ℕ) → List Stroke → Reply → Event
@@ -129,8 +128,8 @@ pub record IsWrittenRun (name bytes : List ℕ) (before : Account) (given : Give
   pub is : events ≡ script_made name bytes ∷ rest
   pub run : IsReadRun (script_of bytes) Sparingly (with_entry name (Plain bytes None) before) given rest last left
 
--- What is asked for is done: the run of a script, that of one which is written under a free name first, the one turn of a restore or of a
--- fixup, or one refusal. `left` is what it leaves of what may be given.
+-- What is asked for is done: the run of a script, that of one which is written under a free name first, or one refusal. `left` is what it leaves
+-- of what may be given.
 abbrev pub IsPerformed : Files → Result Request Refusal → (before : Account) → Given → List Event → (last : Account) → (left : Given) → Type 0
 IsPerformed files (Err refusal) before given events last left = (events ≡ refused_job refusal) × (last ≡ before) × (left ≡ given)
 IsPerformed files (Ok (ToRun plan telling)) before given events last left = IsScriptRun plan telling before given events last left
@@ -138,12 +137,8 @@ IsPerformed files (Ok (ToGenerate number name)) before given events last left = 
   | Some refusal ↦ (events ≡ refused_at 1 refusal) × (last ≡ before) × (left ≡ given)
   | None ↦ IsWrittenRun name (generated number) before given events last left
 ]
-IsPerformed files (Ok (ToRestore db names)) before given events last left =
-    let turn : Event = restore_turn files before db names in
-    (events ≡ turn ∷ []) × (last ≡ account_behind db turn before) × (left ≡ given)
-IsPerformed files (Ok (ToFix db)) before given events last left = (events ≡ fixup_turn files db ∷ []) × (last ≡ account_behind db (fixup_turn files db) before) × (left ≡ given)
 
--- the database of a run, which it creates, opens or fixes
+-- the database of a run, which it creates or opens
 pub record Target : Type 0 where
   pub name : List ℕ
   pub creates : Bool
@@ -164,8 +159,6 @@ begins_refused (e ∷ es) = elim e.reply [ None ↦ false | Some reply ↦ is_re
 abbrev pub target_asked : Request → Option Target
 target_asked (ToRun plan telling) = target_named plan.first
 target_asked (ToGenerate number name) = target_named generated_first
-target_asked (ToRestore db names) = Some (record { name = db; creates = true })
-target_asked (ToFix db) = Some (record { name = db; creates = false })
 
 -- the events behind the file of a script that is made first
 abbrev pub behind_file : List Event → List Event
@@ -176,8 +169,6 @@ behind_file (e ∷ es) = elim e.made [ None ↦ e ∷ es | Some file ↦ es ]
 abbrev pub run_in : Request → List Event → List Event
 run_in (ToRun plan telling) events = events
 run_in (ToGenerate number name) events = behind_file events
-run_in (ToRestore db names) events = events
-run_in (ToFix db) events = events
 
 -- the database of a run, if it isn't refused at once
 abbrev pub target_of : Result Request Refusal → List Event → Option Target
@@ -198,14 +189,11 @@ abbrev pub KnowsOpened : Files → Account → (first : Statement) → Type 0
 KnowsOpened files account (OpenDb name cache) = HoldsUnder files account name
 KnowsOpened files account other = Unit {0}
 
--- What is asked for asks the account for what the files tell: a run, whether names are free, and for the database that it opens; a restore,
--- whether the name of its target is free; and a fixup, what stands under the name.
+-- A run asks the account for what the files tell: whether names are free, and for the database that it opens.
 abbrev pub Knows : Files → Account → Result Request Refusal → Type 0
 Knows files account (Err refusal) = Unit {0}
 Knows files account (Ok (ToRun plan telling)) = KnowsNames files account × KnowsOpened files account plan.first
 Knows files account (Ok (ToGenerate number name)) = KnowsNames files account
-Knows files account (Ok (ToRestore db names)) = is_free_name files db ≡ is_free_entry (account.entry db)
-Knows files account (Ok (ToFix db)) = account.entry db ≡ entry_in files db
 
 -- the name isn't that of the database, nor of its difference file
 abbrev pub IsUnasked : Option Target → List ℕ → Type 0
@@ -246,63 +234,17 @@ pub record RunLeft (old : World) (account : Account) (target : Option Target) (e
   pub whole : AreWhole (files_made (take (acked_turns events (length out.part)) events)) files
   pub others : (m : List ℕ) → IsUnasked target m → IsNoneOf (files_made events) m → Leaves old m (files m)
 
--- the files stand for an account with these records of backups
-pub record HoldsKept (files : Files) (kept : List Kept) : Type 0 where
-  pub account : Account
-  pub stands : Stands files account
-  pub same : account.kept ≡ kept
-
--- The files stand for the account, and whatever a stop now leaves stands for an account with the same records of backups. Where a name is
--- free and no difference file stands beside it, a stop brings none back. A run that came to its end leaves it so, and so does a stop
--- for the next run.
-pub record StandsFor (w : World) (account : Account) : Type 0 where
-  pub now : Stands w.files account
-  pub left : (files : Files) → LeavesAll w files → HoldsKept files account.kept
-  pub free : (name : List ℕ) → is_delta name ≡ false → is_free_file (w.files name) ≡ true → w.files (delta_name name) ≡ None → (d : File) → Leaves w (delta_name name) d → d ≡ None
-
--- a chain that is restored is one of backups whose records are kept, and a copy that is fixed is of one
-abbrev pub HasKeptChain : Files → List Kept → Result Request Refusal → Type 0
-HasKeptChain files kept (Err refusal) = Unit {0}
-HasKeptChain files kept (Ok (ToRun plan telling)) = Unit {0}
-HasKeptChain files kept (Ok (ToGenerate number name)) = Unit {0}
-HasKeptChain files kept (Ok (ToRestore db names)) = (links : List Link) → verdict files names ≡ Ok links → AreKept kept links
-HasKeptChain files kept (Ok (ToFix db)) = (bytes : List ℕ) → IsFixable files db bytes → (r : Kept) × IsKeptAs kept (guid_of bytes) r
-
--- The premise of what follows: the files stand for the account as the run begins, the GUIDs that its backups take are new, and the files
--- that it restores from, or the copy that it fixes, are those of backups whose records are kept. The GUIDs are those that were given in the
--- call, and where it ended early also those that may still come.
-pub record IsSure (old : World) (account : Account) (asked : Result Request Refusal) (events : List Event) : Type 0 where
+-- The premise of what follows: the files stand for the account as the run begins, and the GUIDs that its backups take are new. The GUIDs are
+-- those that were given in the call, and where it ended early also those that may still come.
+pub record IsSure (old : World) (account : Account) (events : List Event) : Type 0 where
   pub stands : StandsFor old account
   pub new : AreNew old account.kept (guids_in (strokes_of events))
-  pub chain : HasKeptChain old.files account.kept asked
-
--- the bytes have the image that the begin of their backup kept
-pub record HasKeptImage (kept : List Kept) (bytes : List ℕ) : Type 0 where
-  pub backup : Kept
-  pub kept_as : IsKeptAs kept (guid_of bytes) backup
-  pub image : image_in bytes ≡ backup.image
-
--- A chain that is restored gives the image that the begin of its last backup kept. A copy that is fixed has that of its backup.
-abbrev pub RestoresKept : Files → List Kept → Result Request Refusal → Type 0
-RestoresKept files kept (Err refusal) = Unit {0}
-RestoresKept files kept (Ok (ToRun plan telling)) = Unit {0}
-RestoresKept files kept (Ok (ToGenerate number name)) = Unit {0}
-RestoresKept files kept (Ok (ToRestore db names)) = (links : List Link) → verdict files names ≡ Ok links → GivesKept kept links
-RestoresKept files kept (Ok (ToFix db)) = (bytes : List ℕ) → IsFixable files db bytes → HasKeptImage kept bytes
 
 -- At a moment of a run: what a stop leaves is what may be left behind a front of its steps. Where the run is sure, it stands for an account
 -- with the records of the backups that have begun in the same front.
 pub record RunStands (old : World) (account : Account) (asked : Result Request Refusal) (events : List Event) (files : Files) (said : List ℕ) : Type 0 where
   pub left : RunLeft old account (target_of asked events) events files said
-  pub stands : IsSure old account asked events → HoldsKept files (kept_after account (target_of asked events) (take left.count (steps_of events)))
-
--- the number of a status that ends a run to its end
-abbrev pub number_of : Status → ℕ
-number_of Done = 0
-number_of RefusedStatus = 1
-number_of UsageStatus = 2
-number_of Device = 3
-number_of Memory = 4
+  pub stands : IsSure old account events → HoldsKept files (kept_after account (target_of asked events) (take left.count (steps_of events)))
 
 -- the files as they read show what was seen last, and a stop leaves what may be left of all that was seen
 pub record IsEnded (new : World) (name : List ℕ) (t : Trail) : Type 0 where
@@ -361,11 +303,10 @@ pub record RunsTo (result : Result Status Stop) (old new : World) (asked : Resul
   pub stops : AtEachMoment old new (RunLeft old account (target_of asked events) events)
   pub finished : IfOk result (λ status. Finished status old new account (target_of asked events) events given left)
 
--- What `run` does on these words. Its events are those of the run that they ask for, with the account after it and what is left to give.
+-- What is done of a run. Its events are those that it asks for, with the account after it and what is left to give.
 -- At each moment a stop leaves a front of it. So do the files as they read now, where it ended early too. Where no call of the host failed
--- and memory was enough, it came to its end, and where it was sure the files stand for the account after. A chain that it is asked to restore
--- gives the image that the begin of its last backup kept, and a copy that it is asked to fix has that of its backup.
-pub record Performs (status : Status) (old new : World) (asked : Result Request Refusal) (account : Account) (given : Given) : Type 0 where
+-- and memory was enough, it came to its end, and where it was sure the files stand for the account after.
+pub record PerformsRun (status : Status) (old new : World) (asked : Result Request Refusal) (account : Account) (given : Given) : Type 0 where
   pub events : List Event
   pub last : Account
   pub left : Given
@@ -373,8 +314,22 @@ pub record Performs (status : Status) (old new : World) (asked : Result Request 
   pub stops : AtEachMoment old new (RunStands old account asked events)
   pub now : RunStands old account asked events new.files new.said
   pub finished : status ≢ Device → status ≢ Memory → Finished status old new account (target_of asked events) events given left
-  pub stands : status ≢ Device → status ≢ Memory → IsSure old account asked events → StandsFor new last
-  pub restores : IsSure old account asked events → RestoresKept old.files account.kept asked
+  pub stands : status ≢ Device → status ≢ Memory → IsSure old account events → StandsFor new last
+
+-- What is asked for asks the account for what the files tell.
+abbrev pub KnowsAsked : Files → Account → Asked → Type 0
+KnowsAsked files account (Runs asked) = Knows files account asked
+KnowsAsked files account (Does deed) = (one_turn files deed).knows account
+
+-- what is done of it
+abbrev pub GoesTo : (result : Result Status Stop) (old new : World) → Asked → Account → Given → Type 0
+GoesTo result old new (Runs asked) account given = RunsTo result old new asked account given
+GoesTo result old new (Does deed) account given = TurnsTo result old new (one_turn old.files deed) account
+
+-- What `run` does on these words: a run, or a job of one turn.
+abbrev pub Performs : (status : Status) (old new : World) → Asked → Account → Given → Type 0
+Performs status old new (Runs asked) account given = PerformsRun status old new asked account given
+Performs status old new (Does deed) account given = DoesTurn status old new (one_turn old.files deed) account
 
 -- what is read is the script, or why there is none; a failure says nothing of it
 abbrev pub IsRead : Result Plan Fault → Result Plan Refusal → Type 0

@@ -49,16 +49,30 @@ built_job (Some job) = elim (is_job_built job) [ true ↦ Some job | false ↦ N
 abbrev pub job_asked : (words : List (List ℕ)) → Option Job
 job_asked words = built_job (job_of words)
 
--- What a job asks for.
+-- What a run is asked for.
 pub data Request : Type 0 where
   -- the run of a script, and what is told of it
   ToRun : (plan : Plan) (telling : Telling) → Request
   -- the script of a number, which is written under a name and then run, and of which only refusals and the pages by kind are told
   ToGenerate : (number : ℕ) (name : List ℕ) → Request
-  -- a database that the files of a chain give
-  ToRestore : (db : List ℕ) (names : List (List ℕ)) → Request
-  -- a copy of a stalled database that becomes a database, in place
-  ToFix : (db : List ℕ) → Request
+
+-- What is done by a job of one turn, which opens no database.
+pub data Deed : Type 0 where
+  -- a chain of files is restored to a database
+  ToRestore : (db : List ℕ) (names : List (List ℕ)) → Deed
+  -- a copy of a stalled database becomes a database, in place
+  ToFix : (db : List ℕ) → Deed
+
+-- What the words ask for: a run, or why there is none, or a job of one turn.
+pub data Asked : Type 0 where
+  Runs : Result Request Refusal → Asked
+  Does : Deed → Asked
+
+-- what a job of one turn does
+abbrev pub deed_of : Job → Option Deed
+deed_of (Restore db names) = Some (ToRestore db names)
+deed_of (Fixup db) = Some (ToFix db)
+deed_of other = None
 
 -- the script that a file spells, or why there is none
 abbrev pub script_in : (name : List ℕ) → File → Result Plan Refusal
@@ -74,20 +88,22 @@ to_run (Err refusal) = Err refusal
 abbrev pub plan_of : (db : List ℕ) → List Statement → Plan
 plan_of db statements = record { first_session = 1; first = OpenDb db usual_cache; schedule = []; sessions = statements ∷ replicate 15 [] }
 
--- what a job asks for, or why it is refused
-abbrev pub request_of : Files → Job → Result Request Refusal
-request_of files (Run script) = to_run (script_in script (files script))
-request_of files (Backup level db file) = Ok (ToRun (plan_of db (BackupTo level file ∷ [])) Quietly)
-request_of files (BackupSince guid db file) = Ok (ToRun (plan_of db (BackupOf guid file ∷ [])) Quietly)
-request_of files (Stat db) = Ok (ToRun (plan_of db (ShowHeader ∷ ShowPages ∷ [])) Quietly)
-request_of files (Lock db) = Ok (ToRun (plan_of db (BeginBackup ∷ [])) Quietly)
-request_of files (LockWithSize db) = Ok (ToRun (plan_of db (BeginBackup ∷ [])) WithSize)
-request_of files (Unlock db) = Ok (ToRun (plan_of db (EndBackup ∷ [])) Quietly)
-request_of files (Gen number script) = Ok (ToGenerate number script)
-request_of files (Restore db names) = Ok (ToRestore db names)
-request_of files (Fixup db) = Ok (ToFix db)
-request_of files other = Err Usage
+-- the run that a job asks for, or why it is refused
+abbrev pub run_of : Files → Job → Result Request Refusal
+run_of files (Run script) = to_run (script_in script (files script))
+run_of files (Backup level db file) = Ok (ToRun (plan_of db (BackupTo level file ∷ [])) Quietly)
+run_of files (BackupSince guid db file) = Ok (ToRun (plan_of db (BackupOf guid file ∷ [])) Quietly)
+run_of files (Stat db) = Ok (ToRun (plan_of db (ShowHeader ∷ ShowPages ∷ [])) Quietly)
+run_of files (Lock db) = Ok (ToRun (plan_of db (BeginBackup ∷ [])) Quietly)
+run_of files (LockWithSize db) = Ok (ToRun (plan_of db (BeginBackup ∷ [])) WithSize)
+run_of files (Unlock db) = Ok (ToRun (plan_of db (EndBackup ∷ [])) Quietly)
+run_of files (Gen number script) = Ok (ToGenerate number script)
+run_of files other = Err Usage
+
+-- what a job asks for
+abbrev pub request_of : Files → Job → Asked
+request_of files job = elim (deed_of job) [ Some deed ↦ Does deed | None ↦ Runs (run_of files job) ]
 
 -- what the words ask for
-abbrev pub request_asked : Files → (words : List (List ℕ)) → Result Request Refusal
-request_asked files words = elim (job_asked words) [ None ↦ Err Usage | Some job ↦ request_of files job ]
+abbrev pub request_asked : Files → (words : List (List ℕ)) → Asked
+request_asked files words = elim (job_asked words) [ None ↦ Runs (Err Usage) | Some job ↦ request_of files job ]

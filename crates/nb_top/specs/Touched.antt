@@ -21,7 +21,8 @@ use Rattle.nb_session.specs.StillOpen.{script_merges}
 use Rattle.nb_session.specs.declared.stop.Stop.{Stop}
 use Rattle.nb_top.specs.declared.status.Status.{Status}
 use Rattle.nb_top.specs.declared.status.Status.TheVariants.{Refused as RefusedStatus, Usage as UsageStatus}
-use Rattle.nb_top.specs.Requests.{Request, ToRun, ToGenerate, ToRestore, ToFix}
+use Rattle.nb_top.specs.Requests.{Request, ToRun, ToGenerate, Asked, Runs, Does}
+use Rattle.nb_top.specs.OneTurn.{one_turn}
 use Rattle.nb_top.specs.Performed.{Target, target_asked}
 
 -- the two files of the database that is asked for
@@ -38,8 +39,6 @@ ReadMakes (Ok plan) m = ScriptMakes plan m
 abbrev pub AsksToMake : Request → Names
 AsksToMake (ToRun plan telling) m = ScriptMakes plan m
 AsksToMake (ToGenerate number name) m = (m ≡ name) ⊎ ReadMakes (script_of (generated number)) m
-AsksToMake (ToRestore db names) m = ⊥
-AsksToMake (ToFix db) m = ⊥
 
 -- all files that a run may touch
 abbrev pub MayTouch : Result Request Refusal → Names
@@ -62,8 +61,22 @@ ends_refused RefusedStatus = true
 ends_refused UsageStatus = true
 ends_refused other = false
 
--- Whatever stands in the files: at each moment, and now, of every file that the run may not touch a stop leaves what it would have left before, and
+-- Whatever stands in the files: at each moment, and now, of every file but those of these names a stop leaves what it would have left before, and
 -- it reads as it did. Where the run ends as one that has refused something, a line said so.
-pub record TouchesAsked (result : Result Status Stop) (old new : World) (asked : Result Request Refusal) : Type 0 where
-  pub leaves : LeavesOthers old new (MayTouch asked)
+pub record TouchesOnly (result : Result Status Stop) (old new : World) (names : Names) : Type 0 where
+  pub leaves : LeavesOthers old new names
   pub says : IfOk result (λ status. ends_refused status ≡ true → SaysRefusal old new)
+
+-- a run touches what it may
+abbrev pub TouchesAsked : (result : Result Status Stop) (old new : World) → Result Request Refusal → Type 0
+TouchesAsked result old new asked = TouchesOnly result old new (MayTouch asked)
+
+-- All files that what is asked for may touch: those of a run, or the one of a job of one turn.
+abbrev pub OfAsked : Files → Asked → Names
+OfAsked files (Runs asked) m = MayTouch asked m
+OfAsked files (Does deed) m = m ≡ (one_turn files deed).name
+
+-- no page of zeros, where a run ends in a merge
+abbrev pub IsWholeAsked : Files → Asked → Type 0
+IsWholeAsked files (Runs asked) = IsWholeToMerge files asked
+IsWholeAsked files (Does deed) = Unit {0}

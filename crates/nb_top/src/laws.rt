@@ -7,13 +7,15 @@ ghost use Rattle.nb_mem.specs.declared.entry.Entry.{Entry};
 ghost use Rattle.nb_mem.specs.Histories.{files_of, world_of};
 ghost use Rattle.nb_mem.specs.Outcomes.{IsLeft, placed};
 ghost use Rattle.nb_model.specs.Account.{Account, Kept};
-ghost use Rattle.nb_model.specs.Jobs.{Asks, IsAttaching, account_behind, asks_of, turn_of};
+ghost use Rattle.nb_model.specs.Jobs.{Asks, IsAttaching, asks_of, turn_of};
 ghost use Rattle.nb_model.specs.Outcomes.{Given};
 ghost use Rattle.nb_model.specs.Run.{Event};
 ghost use Rattle.nb_model.specs.Stands.{Stands};
 ghost use Rattle.nb_model.specs.declared.job.Job.{Job};
-ghost use Rattle.nb_top.specs.Performed.{HoldsKept, IsPerformed, Knows, StandsFor};
-ghost use Rattle.nb_top.specs.Requests.{is_job_built, request_asked, request_of};
+ghost use Rattle.nb_top.specs.OneTurn.{one_turn};
+ghost use Rattle.nb_top.specs.Performed.{IsPerformed, KnowsAsked};
+ghost use Rattle.nb_top.specs.Requests.{Deed, Does, Runs, is_job_built, request_asked, request_of, run_of};
+ghost use Rattle.nb_top.specs.Standing.{HoldsKept, StandsFor};
 ghost use Rattle.nb_top.specs.Worlds.{AreCopies, ArePlain, HaveNames, StartsFrom, account_of, empty, no_files};
 
 use nb_host::Host;
@@ -50,20 +52,21 @@ pub fn hosts_in_memory_begin_so()
 /// An account for which the files stand knows what any words ask of it: of each name that a file may have it knows whether it is free, and of
 /// each database it has what the files tell. The files have names that a host may give them.
 pub fn what_stands_is_known()
-    ensures { (files : Files) (account : Account) (words : List (List ℕ)) → HaveNames files → Stands files account → Knows files account (request_asked files words) }
+    ensures { (files : Files) (account : Account) (words : List (List ℕ)) → HaveNames files → Stands files account → KnowsAsked files account (request_asked files words) }
 {}
 
 /// A job that attaches is exactly the run of the script that opens its database and asks what the job asks. It says nothing of the opening
 /// but why it is refused.
 pub fn a_job_attaches()
+    ensures asks { (files : Files) (job : Job) (asks : Asks) → is_job_built job ≡ true → asks_of job ≡ Some asks → request_of files job ≡ Runs (run_of files job) }
     ensures attaches { (files : Files) (job : Job) (asks : Asks) (before last : Account) (given left : Given) (events : List Event) → is_job_built job ≡ true → asks_of job ≡ Some asks
-        → IsPerformed files (request_of files job) before given events last left → IsAttaching before given job asks events last }
+        → IsPerformed files (run_of files job) before given events last left → IsAttaching before given job asks events last }
     ensures performs { (files : Files) (job : Job) (asks : Asks) (before last : Account) (given : Given) (events : List Event) → is_job_built job ≡ true → asks_of job ≡ Some asks
-        → (attaching : IsAttaching before given job asks events last) → IsPerformed files (request_of files job) before given events last attaching.left }
+        → (attaching : IsAttaching before given job asks events last) → IsPerformed files (run_of files job) before given events last attaching.left }
 {}
 
-/// A job that neither attaches nor runs a script is its one turn.
+/// A job that neither attaches nor runs a script is a job of one turn, on its database.
 pub fn a_job_takes_its_turn()
-    ensures { (files : Files) (job : Job) (name : List ℕ) (turn : Event) (before last : Account) (given left : Given) (events : List Event) → is_job_built job ≡ true → turn_of files before job ≡ Some (name, turn)
-        → IsPerformed files (request_of files job) before given events last left → (events ≡ turn ∷ []) × (last ≡ account_behind name turn before) }
+    ensures { (files : Files) (job : Job) (name : List ℕ) (turn : Event) (account : Account) → is_job_built job ≡ true → turn_of files account job ≡ Some (name, turn)
+        → (deed : Deed) × (request_of files job ≡ Does deed) × ((one_turn files deed).name ≡ name) × ((one_turn files deed).turn account ≡ turn) }
 {}

@@ -6,16 +6,15 @@
 #![tactic(auto)]
 
 pub mod broken;
-mod fixing;
 mod generating;
 pub mod laws;
 mod program;
 mod reading;
 mod request;
-mod restoring;
 mod script;
 mod status;
 mod telling;
+mod turn;
 
 pub use nb_gen::generate;
 pub use nb_lines::render;

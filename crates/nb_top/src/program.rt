@@ -13,18 +13,17 @@ ghost use Rattle.nb_script.specs.Asked.{IsAskable};
 ghost use Rattle.nb_session.specs.Acts.{Grows};
 ghost use Rattle.nb_session.specs.Causes.{CountsStop};
 ghost use Rattle.nb_session.specs.Says.{SaysLine};
-ghost use Rattle.nb_top.specs.Performed.{Knows, MayBeGiven, Performs, RunsTo};
+ghost use Rattle.nb_top.specs.Performed.{GoesTo, Knows, KnowsAsked, MayBeGiven, Performs, RunsTo};
 ghost use Rattle.nb_top.specs.Requests.{FitsJob, ToRun, is_job_built, job_asked, plan_of, request_asked, request_of, script_in, to_run};
-ghost use Rattle.nb_top.specs.Touched.{IsWholeToMerge, TouchesAsked};
+ghost use Rattle.nb_top.specs.Touched.{IsWholeAsked, IsWholeToMerge, OfAsked, TouchesAsked, TouchesOnly};
 
 use crate::Status;
-use crate::fixing::run_fix;
 use crate::generating::run_generated;
 use crate::reading::read_script;
 use crate::request::{read_built, script_asking, script_showing};
-use crate::restoring::run_restore;
 use crate::script::{refuse, run_script, settled};
 use crate::telling::Telling;
+use crate::turn::run_turn;
 use nb_host::{Host, Name, Refusal};
 use nb_model::{Job, Statement};
 use nb_session::Stop;
@@ -88,18 +87,18 @@ fn run_stat<H: Host>(alloc: Global, host: &mut H, db: &Name) -> Result<Status, S
 fn run_job<H: Host>(alloc: Global, host: &mut H, job: &Job) -> Result<Status, Stop>
     requires built { IsTrue (is_job_built job.now) }
     requires fits { FitsJob job.now }
-    ensures runs { (account : Account) (given : Given) → IsTrue H.tells → Knows (H.world host.old).files account (request_of (H.world host.old).files job.now)
-        → MayBeGiven given → Foretells given (H.world host.old) (H.world host.new) → RunsTo result (H.world host.old) (H.world host.new) (request_of (H.world host.old).files job.now) account given }
-    ensures grows { (account : Account) → IsTrue H.tells → Knows (H.world host.old).files account (request_of (H.world host.old).files job.now) → Grows (H.world host.old) (H.world host.new) }
-    ensures touches { IsTrue H.tells → IsWholeToMerge (H.world host.old).files (request_of (H.world host.old).files job.now) → TouchesAsked result (H.world host.old) (H.world host.new) (request_of (H.world host.old).files job.now) }
+    ensures runs { (account : Account) (given : Given) → IsTrue H.tells → KnowsAsked (H.world host.old).files account (request_of (H.world host.old).files job.now)
+        → MayBeGiven given → Foretells given (H.world host.old) (H.world host.new) → GoesTo result (H.world host.old) (H.world host.new) (request_of (H.world host.old).files job.now) account given }
+    ensures grows { (account : Account) → IsTrue H.tells → KnowsAsked (H.world host.old).files account (request_of (H.world host.old).files job.now) → Grows (H.world host.old) (H.world host.new) }
+    ensures touches { IsTrue H.tells → IsWholeAsked (H.world host.old).files (request_of (H.world host.old).files job.now) → TouchesOnly result (H.world host.old) (H.world host.new) (OfAsked (H.world host.old).files (request_of (H.world host.old).files job.now)) }
     ensures done { IfOk result (λ status. (status ≡ Status.Done) ⊎ (status ≡ Status.Refused)) }
     ensures cause { CountsStop result (H.faults host.old) (H.faults host.new) }
 {
     match job {
         Job::Run { script } => run_file(alloc, host, script),
         Job::Gen { number, script } => run_generated(alloc, host, *number, script),
-        Job::Restore { db, files } => run_restore(alloc, host, db, files.as_slice()),
-        Job::Fixup { db } => run_fix(alloc, host, db),
+        Job::Restore { .. } => run_turn(alloc, host, job),
+        Job::Fixup { .. } => run_turn(alloc, host, job),
         Job::Backup { level, db, file } => {
             let name = file.copied();
             run_asking(
@@ -149,10 +148,10 @@ fn refuse_words<H: Host>(alloc: Global, host: &mut H) -> Result<Status, Stop>
 }
 
 fn do_job<H: Host>(alloc: Global, words: &[String], host: &mut H) -> Result<Status, Stop>
-    ensures runs { (account : Account) (given : Given) → IsTrue H.tells → Knows (H.world host.old).files account (request_asked (H.world host.old).files (map string_bytes words.now))
-        → MayBeGiven given → Foretells given (H.world host.old) (H.world host.new) → RunsTo result (H.world host.old) (H.world host.new) (request_asked (H.world host.old).files (map string_bytes words.now)) account given }
-    ensures grows { (account : Account) → IsTrue H.tells → Knows (H.world host.old).files account (request_asked (H.world host.old).files (map string_bytes words.now)) → Grows (H.world host.old) (H.world host.new) }
-    ensures touches { IsTrue H.tells → IsWholeToMerge (H.world host.old).files (request_asked (H.world host.old).files (map string_bytes words.now)) → TouchesAsked result (H.world host.old) (H.world host.new) (request_asked (H.world host.old).files (map string_bytes words.now)) }
+    ensures runs { (account : Account) (given : Given) → IsTrue H.tells → KnowsAsked (H.world host.old).files account (request_asked (H.world host.old).files (map string_bytes words.now))
+        → MayBeGiven given → Foretells given (H.world host.old) (H.world host.new) → GoesTo result (H.world host.old) (H.world host.new) (request_asked (H.world host.old).files (map string_bytes words.now)) account given }
+    ensures grows { (account : Account) → IsTrue H.tells → KnowsAsked (H.world host.old).files account (request_asked (H.world host.old).files (map string_bytes words.now)) → Grows (H.world host.old) (H.world host.new) }
+    ensures touches { IsTrue H.tells → IsWholeAsked (H.world host.old).files (request_asked (H.world host.old).files (map string_bytes words.now)) → TouchesOnly result (H.world host.old) (H.world host.new) (OfAsked (H.world host.old).files (request_asked (H.world host.old).files (map string_bytes words.now))) }
     ensures usage { IfOk result (λ status. (status ≡ Status.Usage) ↔ (job_asked (map string_bytes words.now) ≡ None)) }
     ensures done { IfOk result (λ status. (status ≡ Status.Usage) ⊎ ((status ≡ Status.Done) ⊎ (status ≡ Status.Refused))) }
     ensures cause { CountsStop result (H.faults host.old) (H.faults host.new) }
@@ -183,19 +182,19 @@ pub fn run<H: Host>(alloc: Global, words: &[String], host: &mut H) -> Status
     // turn is acknowledged, and other files as before. So do the files as they read where the run ended
     // early. Where the files stand for the account and the GUIDs are new, they stand for one with the records behind that front, and at
     // the end for the account after.
-    ensures performs { (account : Account) (given : Given) → IsTrue H.tells → Knows (H.world host.old).files account (request_asked (H.world host.old).files (map string_bytes words.now))
+    ensures performs { (account : Account) (given : Given) → IsTrue H.tells → KnowsAsked (H.world host.old).files account (request_asked (H.world host.old).files (map string_bytes words.now))
         → MayBeGiven given → Foretells given (H.world host.old) (H.world host.new)
         → Performs result (H.world host.old) (H.world host.new) (request_asked (H.world host.old).files (map string_bytes words.now)) account given }
     // There are such GUIDs and times.
-    ensures grows { (account : Account) → IsTrue H.tells → Knows (H.world host.old).files account (request_asked (H.world host.old).files (map string_bytes words.now))
+    ensures grows { (account : Account) → IsTrue H.tells → KnowsAsked (H.world host.old).files account (request_asked (H.world host.old).files (map string_bytes words.now))
         → Grows (H.world host.old) (H.world host.new) }
 
     // Whatever stands in the files, and with no account: at each moment, and at the end, no file is other than a stop would have left it before,
     // or reads otherwise, but the two of the database that the words ask for and those that the job is to make: the files of the backups and copies that its
     // statements name, and that of a script which it writes. The answer is Refused or Usage only where a line of a refusal was said. Where
     // a statement ends in a merge, it is asked that no page of a database that is opened is all zeros.
-    ensures touches { IsTrue H.tells → IsWholeToMerge (H.world host.old).files (request_asked (H.world host.old).files (map string_bytes words.now))
-        → TouchesAsked (Ok result) (H.world host.old) (H.world host.new) (request_asked (H.world host.old).files (map string_bytes words.now)) }
+    ensures touches { IsTrue H.tells → IsWholeAsked (H.world host.old).files (request_asked (H.world host.old).files (map string_bytes words.now))
+        → TouchesOnly (Ok result) (H.world host.old) (H.world host.new) (OfAsked (H.world host.old).files (request_asked (H.world host.old).files (map string_bytes words.now))) }
 {
     match do_job(alloc, words, host) {
         Ok(status) => status,

@@ -25,7 +25,8 @@ ghost use Rattle.nb_session.specs.Ready.{IsReady};
 ghost use Rattle.nb_session.specs.Says.{SaysLine};
 ghost use Rattle.nb_session.specs.StillOpen.{IsStillOpen, ScriptStays, script_merges};
 ghost use Rattle.nb_session.specs.Told.{told_events};
-ghost use Rattle.nb_top.specs.Performed.{Knows, MayBeGiven, RunsTo, PlaysOpened, PlaysTold, first_event, is_all, opened_reply, told_first, told_later, number_of};
+ghost use Rattle.nb_top.specs.Performed.{Knows, MayBeGiven, RunsTo, PlaysOpened, PlaysTold, first_event, is_all, opened_reply, told_first, told_later};
+ghost use Rattle.nb_top.specs.Numbers.{number_of};
 ghost use Rattle.nb_top.specs.Requests.{ToRun};
 ghost use Rattle.nb_top.specs.Touched.{IsWholeToMerge, TouchesAsked};
 

@@ -19,7 +19,7 @@ use Rattle.nb_top.proofs.GeneratedEvents.{with_script}
 use Rattle.nb_top.proofs.JobRuns.{job_refused, script_number}
 use Rattle.nb_top.proofs.QuietRuns.{foretold_from, knows_quietly, no_given, quiet_gave, runs_quietly}
 use Rattle.nb_top.proofs.ScriptRuns.{runs_err, settled_value, settled_refusal}
-use Rattle.nb_top.proofs.TouchLaws.{touches_err, touches_refused, touches_then, leaves_only, generated_whole, generated_among}
+use Rattle.nb_top.proofs.TouchLaws.{only_err, only_refused, touches_then, leaves_only, generated_whole, generated_among}
 use Rattle.nb_session.proofs.OthersLaws.{leaves_quiet, leaves_then}
 use Rattle.nb_top.specs.Touched.{MayTouch}
 use Rattle.nb_top.specs.declared.telling.Telling.TheVariants.{Sparingly}
@@ -191,7 +191,7 @@ returns-in_err-is_free-clause-touches g c tells =
     let name = c.args.name.now in
     let request = Ok (ToGenerate number name) in
     let quietly = leaves_quiet old asked (MayTouch request) c.is_free.ensures.quiet in
-    touches_err old asked request c.from_residual.result c.from_residual.ensures.0 quietly
+    only_err old asked (MayTouch request) c.from_residual.result c.from_residual.ensures.0 quietly
 
 pub returns-then-not-branch-clause-touches : goal.returns-then-not-branch-clause-touches
 returns-then-not-branch-clause-touches g c tells =
@@ -202,7 +202,7 @@ returns-then-not-branch-clause-touches g c tells =
     let request = Ok (ToGenerate number name) in
     let quietly = leaves_quiet old asked (MayTouch request) c.is_free.ensures.quiet in
     let new = g.H.Host.world c.refuse.new.host in
-    touches_refused old asked new request quietly (g.met.H.Host.timely c.refuse.new.host) (g.met.H.Host.reads_left c.refuse.new.host tells) c.refuse.result _ _ (c.refuse.ensures.line tells)
+    only_refused old asked new (MayTouch request) quietly (g.met.H.Host.timely c.refuse.new.host) (g.met.H.Host.reads_left c.refuse.new.host tells) c.refuse.result _ _ (c.refuse.ensures.line tells)
 
 pub returns-in_default-clause-touches : goal.returns-in_default-clause-touches
 returns-in_default-clause-touches g c tells =
@@ -212,7 +212,7 @@ returns-in_default-clause-touches g c tells =
     let name = c.args.name.now in
     let request = Ok (ToGenerate number name) in
     let quietly = leaves_quiet old asked (MayTouch request) c.is_free.ensures.quiet in
-    touches_err old asked request _ (refl) quietly
+    only_err old asked (MayTouch request) _ (refl) quietly
 
 pub returns-in_err-script-clause-touches : goal.returns-in_err-script-clause-touches
 returns-in_err-script-clause-touches g c tells =
@@ -222,7 +222,7 @@ returns-in_err-script-clause-touches g c tells =
     let name = c.args.name.now in
     let request = Ok (ToGenerate number name) in
     let quietly = leaves_quiet old asked (MayTouch request) c.is_free.ensures.quiet in
-    touches_err old asked request c.from_residual-in_err-script.result c.from_residual-in_err-script.ensures.0 quietly
+    only_err old asked (MayTouch request) c.from_residual-in_err-script.result c.from_residual-in_err-script.ensures.0 quietly
 
 pub returns-in_err-write_script-clause-touches : goal.returns-in_err-write_script-clause-touches
 returns-in_err-write_script-clause-touches g c tells =
@@ -234,7 +234,7 @@ returns-in_err-write_script-clause-touches g c tells =
     let quietly = leaves_quiet old asked (MayTouch request) c.is_free.ensures.quiet in
     let mid = g.H.Host.world c.write_script.new.host in
     let leaves = leaves_then old asked mid (MayTouch request) quietly (leaves_only asked mid name _ (MayTouch request) (inr (inl refl)) (c.write_script.ensures.left tells)) in
-    touches_err old mid request c.from_residual-in_err-write_script.result c.from_residual-in_err-write_script.ensures.0 leaves
+    only_err old mid (MayTouch request) c.from_residual-in_err-write_script.result c.from_residual-in_err-write_script.ensures.0 leaves
 
 pub returns-in-Ok-script-clause-touches : goal.returns-in-Ok-script-clause-touches
 returns-in-Ok-script-clause-touches g c tells =
@@ -263,4 +263,4 @@ returns-clause-touches g c tells =
     let mid = g.H.Host.world c.write_script.new.host in
     let leaves = leaves_then old asked mid (MayTouch request) quietly (leaves_only asked mid name _ (MayTouch request) (inr (inl refl)) (c.write_script.ensures.left tells)) in
     let new = g.H.Host.world c.refuse-in-Err.new.host in
-    touches_refused old mid new request leaves (g.met.H.Host.timely c.refuse-in-Err.new.host) (g.met.H.Host.reads_left c.refuse-in-Err.new.host tells) c.refuse-in-Err.result _ _ (c.refuse-in-Err.ensures.line tells)
+    only_refused old mid new (MayTouch request) leaves (g.met.H.Host.timely c.refuse-in-Err.new.host) (g.met.H.Host.reads_left c.refuse-in-Err.new.host tells) c.refuse-in-Err.result _ _ (c.refuse-in-Err.ensures.line tells)

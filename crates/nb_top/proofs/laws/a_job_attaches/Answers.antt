@@ -1,5 +1,8 @@
-use Rattle.nb_top.proofs.JobLaws.{attaches_performed, performed_attaches}
+use Rattle.nb_top.proofs.JobLaws.{attaches_performed, attaches_runs, performed_attaches}
 use Rattle.nb_top.proofs.laws.a_job_attaches.Goals as goal
+
+pub returns-clause-asks : goal.returns-clause-asks
+returns-clause-asks c = attaches_runs
 
 pub returns-clause-attaches : goal.returns-clause-attaches
 returns-clause-attaches c = λ files job asks before last given left events built is done. attaches_performed files before last given events job asks built is left done

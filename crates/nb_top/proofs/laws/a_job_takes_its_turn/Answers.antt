@@ -1,5 +1,5 @@
-use Rattle.nb_top.proofs.JobLaws.{turn_performed}
+use Rattle.nb_top.proofs.JobLaws.{turn_done}
 use Rattle.nb_top.proofs.laws.a_job_takes_its_turn.Goals as goal
 
 pub returns : goal.returns
-returns c = λ files job name turn before last given left events built is done. turn_performed files job (name, turn) before last given left events built is done
+returns c = λ files job name turn account built is. turn_done files job (name, turn) account built is

@@ -8,7 +8,7 @@ use Rattle.nb_top.specs.Requests.{ToRun, script_in, to_run}
 use Rattle.nb_top.proofs.QuietRuns.{runs_quietly, knows_quietly, quiet_gave, foretold_from}
 use Rattle.nb_top.proofs.JobRuns.{unread_runs, job_refused, script_number}
 use Rattle.nb_top.proofs.ScriptRuns.{runs_err, settled_value, settled_refusal}
-use Rattle.nb_top.proofs.TouchLaws.{touches_err, touches_refused, touches_then}
+use Rattle.nb_top.proofs.TouchLaws.{only_err, only_refused, touches_then}
 use Rattle.nb_session.proofs.OthersLaws.{leaves_quiet}
 use Rattle.nb_top.specs.Touched.{MayTouch, IsWholeToMerge}
 use Rattle.nb_host.specs.Files.{Files}
@@ -86,7 +86,7 @@ returns-in_err-script-clause-touches g c tells whole =
     let request = to_run (script_in name (old.files name)) in
     let quiet = c.read_script.ensures.quiet in
     let leaves = leaves_quiet old mid (MayTouch request) quiet in
-    touches_err old mid request c.from_residual.result c.from_residual.ensures.0 leaves
+    only_err old mid (MayTouch request) c.from_residual.result c.from_residual.ensures.0 leaves
 
 pub returns-in-Ok-clause-touches : goal.returns-in-Ok-clause-touches
 returns-in-Ok-clause-touches g c tells whole =
@@ -111,4 +111,4 @@ returns-in-Err-clause-touches g c tells whole =
     let quiet = c.read_script.ensures.quiet in
     let leaves = leaves_quiet old mid (MayTouch request) quiet in
     let new = g.H.Host.world c.refuse.new.host in
-    touches_refused old mid new request leaves (g.met.H.Host.timely c.refuse.new.host) (g.met.H.Host.reads_left c.refuse.new.host tells) c.refuse.result _ _ (c.refuse.ensures.line tells)
+    only_refused old mid new (MayTouch request) leaves (g.met.H.Host.timely c.refuse.new.host) (g.met.H.Host.reads_left c.refuse.new.host tells) c.refuse.result _ _ (c.refuse.ensures.line tells)

@@ -1,54 +1,26 @@
-use Rattle.std.proofs.Common.{[], ◌∷◌, length, sym, subst}
-use Rattle.std.specs.Prelude.{Ok, nat_le}
-use Rattle.std.proofs.lemmas.Bool.{and_parts, leb-true}
+use Rattle.std.proofs.Common.{[], ◌∷◌, ap, sym, subst}
+use Rattle.std.specs.Prelude.{Ok}
 use Rattle.nb_model.specs.declared.statement.Statement.TheVariants.{Backup, BackupSince as BackupOf}
-use Rattle.nb_model.specs.Words.{is_file}
 use Rattle.nb_script.specs.Asked.{IsAskable}
 use Rattle.nb_session.proofs.GiftLaws.{grows_none}
-use Rattle.nb_top.specs.Performed.{RunsTo, Knows}
-use Rattle.nb_top.specs.Requests.{FitsJob, ToRun, ToRestore, plan_of, request_of}
+use Rattle.nb_top.specs.Performed.{GoesTo, Knows, KnowsAsked, RunsTo}
+use Rattle.nb_top.specs.Requests.{FitsJob, ToRun, ToRestore, ToFix, deed_of, plan_of, request_of}
 use Rattle.nb_top.specs.declared.telling.Telling.TheVariants.{Quietly}
 use Rattle.nb_top.proofs.RequestLaws.{backup_askable, since_askable}
-use Rattle.nb_top.specs.Touched.{IsWholeToMerge, TouchesAsked}
+use Rattle.nb_top.specs.Touched.{IsWholeAsked, IsWholeToMerge, OfAsked, TouchesAsked, TouchesOnly}
 use Rattle.nb_top.proofs.program.run_job.Goals as goal
 
 pub returns-in-Run-clause-runs : goal.returns-in-Run-clause-runs
 returns-in-Run-clause-runs g c account given tells knows may told =
     let old = g.H.Host.world c.args.host.now in
     let new = g.H.Host.world c.run_file.new.host in
-    subst (λ job. RunsTo c.run_file.result old new (request_of old.files job) account given) (sym c.in-Run.is)
-    (c.run_file.ensures.runs account given tells (subst (λ job. Knows old.files account (request_of old.files job)) c.in-Run.is knows) may told)
+    subst (λ job. GoesTo c.run_file.result old new (request_of old.files job) account given) (sym c.in-Run.is)
+    (c.run_file.ensures.runs account given tells (subst (λ job. KnowsAsked old.files account (request_of old.files job)) c.in-Run.is knows) may told)
 
 pub returns-in-Run-clause-grows : goal.returns-in-Run-clause-grows
 returns-in-Run-clause-grows g c account tells knows =
     let old = g.H.Host.world c.args.host.now in
-    c.run_file.ensures.grows account tells (subst (λ job. Knows old.files account (request_of old.files job)) c.in-Run.is knows)
-
-pub returns-in-Restore-clause-runs : goal.returns-in-Restore-clause-runs
-returns-in-Restore-clause-runs g c account given tells knows may told =
-    let old = g.H.Host.world c.args.host.now in
-    let new = g.H.Host.world c.run_restore.new.host in
-    subst (λ job. RunsTo c.run_restore.result old new (request_of old.files job) account given) (sym c.in-Restore.is)
-    (subst (λ names. RunsTo c.run_restore.result old new (Ok (ToRestore c.in-Restore.db names)) account given) c.as_slice.ensures
-    (c.run_restore.ensures.runs account given tells (subst (λ job. Knows old.files account (request_of old.files job)) c.in-Restore.is knows) told))
-
-pub returns-in-Restore-clause-grows : goal.returns-in-Restore-clause-grows
-returns-in-Restore-clause-grows g c account tells knows = grows_none (g.H.Host.world c.args.host.now) (g.H.Host.world c.run_restore.new.host) (c.run_restore.ensures.gave tells)
-
-pub run_fix-requires : goal.run_fix-requires
-run_fix-requires g c =
-    let db = c.in-Fixup.db in
-    leb-true (length db) 94 (and_parts (is_file db) (nat_le (length db) 94) (subst FitsJob c.in-Fixup.is c.requires.fits)).1
-
-pub returns-in-Fixup-clause-runs : goal.returns-in-Fixup-clause-runs
-returns-in-Fixup-clause-runs g c account given tells knows may told =
-    let old = g.H.Host.world c.args.host.now in
-    let new = g.H.Host.world c.run_fix.new.host in
-    subst (λ job. RunsTo c.run_fix.result old new (request_of old.files job) account given) (sym c.in-Fixup.is)
-    (c.run_fix.ensures.runs account given tells (subst (λ job. Knows old.files account (request_of old.files job)) c.in-Fixup.is knows) told)
-
-pub returns-in-Fixup-clause-grows : goal.returns-in-Fixup-clause-grows
-returns-in-Fixup-clause-grows g c account tells knows = grows_none (g.H.Host.world c.args.host.now) (g.H.Host.world c.run_fix.new.host) (c.run_fix.ensures.gave tells)
+    c.run_file.ensures.grows account tells (subst (λ job. KnowsAsked old.files account (request_of old.files job)) c.in-Run.is knows)
 
 pub run_asking-requires : goal.run_asking-requires
 run_asking-requires g c =
@@ -62,65 +34,65 @@ returns-in-Backup-clause-runs g c account given tells knows may told =
     let old = g.H.Host.world c.args.host.now in
     let new = g.H.Host.world c.run_asking.new.host in
     let is = c.copied-name.ensures in
-    subst (λ job. RunsTo c.run_asking.result old new (request_of old.files job) account given) (sym c.in-Backup.is)
+    subst (λ job. GoesTo c.run_asking.result old new (request_of old.files job) account given) (sym c.in-Backup.is)
     (subst (λ name. RunsTo c.run_asking.result old new (Ok (ToRun (plan_of c.in-Backup.db (Backup c.in-Backup.level name ∷ [])) Quietly)) account given) is
     (c.run_asking.ensures.runs account given tells
-    (subst (λ name. Knows old.files account (Ok (ToRun (plan_of c.in-Backup.db (Backup c.in-Backup.level name ∷ [])) Quietly))) (sym is) (subst (λ job. Knows old.files account (request_of old.files job)) c.in-Backup.is knows)) may told))
+    (subst (λ name. Knows old.files account (Ok (ToRun (plan_of c.in-Backup.db (Backup c.in-Backup.level name ∷ [])) Quietly))) (sym is) (subst (λ job. KnowsAsked old.files account (request_of old.files job)) c.in-Backup.is knows)) may told))
 
 pub returns-in-Backup-clause-grows : goal.returns-in-Backup-clause-grows
 returns-in-Backup-clause-grows g c account tells knows =
     let old = g.H.Host.world c.args.host.now in
     c.run_asking.ensures.grows account tells
     (subst (λ name. Knows old.files account (Ok (ToRun (plan_of c.in-Backup.db (Backup c.in-Backup.level name ∷ [])) Quietly))) (sym c.copied-name.ensures)
-    (subst (λ job. Knows old.files account (request_of old.files job)) c.in-Backup.is knows))
+    (subst (λ job. KnowsAsked old.files account (request_of old.files job)) c.in-Backup.is knows))
 
 pub returns-in-Lock-clause-runs : goal.returns-in-Lock-clause-runs
 returns-in-Lock-clause-runs g c account given tells knows may told =
     let old = g.H.Host.world c.args.host.now in
     let new = g.H.Host.world c.run_asking-in-Lock.new.host in
-    subst (λ job. RunsTo c.run_asking-in-Lock.result old new (request_of old.files job) account given) (sym c.in-Lock.is)
-    (c.run_asking-in-Lock.ensures.runs account given tells (subst (λ job. Knows old.files account (request_of old.files job)) c.in-Lock.is knows) may told)
+    subst (λ job. GoesTo c.run_asking-in-Lock.result old new (request_of old.files job) account given) (sym c.in-Lock.is)
+    (c.run_asking-in-Lock.ensures.runs account given tells (subst (λ job. KnowsAsked old.files account (request_of old.files job)) c.in-Lock.is knows) may told)
 
 pub returns-in-Lock-clause-grows : goal.returns-in-Lock-clause-grows
 returns-in-Lock-clause-grows g c account tells knows =
     let old = g.H.Host.world c.args.host.now in
-    c.run_asking-in-Lock.ensures.grows account tells (subst (λ job. Knows old.files account (request_of old.files job)) c.in-Lock.is knows)
+    c.run_asking-in-Lock.ensures.grows account tells (subst (λ job. KnowsAsked old.files account (request_of old.files job)) c.in-Lock.is knows)
 
 pub returns-in-Unlock-clause-runs : goal.returns-in-Unlock-clause-runs
 returns-in-Unlock-clause-runs g c account given tells knows may told =
     let old = g.H.Host.world c.args.host.now in
     let new = g.H.Host.world c.run_asking-in-Unlock.new.host in
-    subst (λ job. RunsTo c.run_asking-in-Unlock.result old new (request_of old.files job) account given) (sym c.in-Unlock.is)
-    (c.run_asking-in-Unlock.ensures.runs account given tells (subst (λ job. Knows old.files account (request_of old.files job)) c.in-Unlock.is knows) may told)
+    subst (λ job. GoesTo c.run_asking-in-Unlock.result old new (request_of old.files job) account given) (sym c.in-Unlock.is)
+    (c.run_asking-in-Unlock.ensures.runs account given tells (subst (λ job. KnowsAsked old.files account (request_of old.files job)) c.in-Unlock.is knows) may told)
 
 pub returns-in-Unlock-clause-grows : goal.returns-in-Unlock-clause-grows
 returns-in-Unlock-clause-grows g c account tells knows =
     let old = g.H.Host.world c.args.host.now in
-    c.run_asking-in-Unlock.ensures.grows account tells (subst (λ job. Knows old.files account (request_of old.files job)) c.in-Unlock.is knows)
+    c.run_asking-in-Unlock.ensures.grows account tells (subst (λ job. KnowsAsked old.files account (request_of old.files job)) c.in-Unlock.is knows)
 
 pub returns-in-LockWithSize-clause-runs : goal.returns-in-LockWithSize-clause-runs
 returns-in-LockWithSize-clause-runs g c account given tells knows may told =
     let old = g.H.Host.world c.args.host.now in
     let new = g.H.Host.world c.run_asking-in-LockWithSize.new.host in
-    subst (λ job. RunsTo c.run_asking-in-LockWithSize.result old new (request_of old.files job) account given) (sym c.in-LockWithSize.is)
-    (c.run_asking-in-LockWithSize.ensures.runs account given tells (subst (λ job. Knows old.files account (request_of old.files job)) c.in-LockWithSize.is knows) may told)
+    subst (λ job. GoesTo c.run_asking-in-LockWithSize.result old new (request_of old.files job) account given) (sym c.in-LockWithSize.is)
+    (c.run_asking-in-LockWithSize.ensures.runs account given tells (subst (λ job. KnowsAsked old.files account (request_of old.files job)) c.in-LockWithSize.is knows) may told)
 
 pub returns-in-LockWithSize-clause-grows : goal.returns-in-LockWithSize-clause-grows
 returns-in-LockWithSize-clause-grows g c account tells knows =
     let old = g.H.Host.world c.args.host.now in
-    c.run_asking-in-LockWithSize.ensures.grows account tells (subst (λ job. Knows old.files account (request_of old.files job)) c.in-LockWithSize.is knows)
+    c.run_asking-in-LockWithSize.ensures.grows account tells (subst (λ job. KnowsAsked old.files account (request_of old.files job)) c.in-LockWithSize.is knows)
 
 pub returns-in-Stat-clause-runs : goal.returns-in-Stat-clause-runs
 returns-in-Stat-clause-runs g c account given tells knows may told =
     let old = g.H.Host.world c.args.host.now in
     let new = g.H.Host.world c.run_stat.new.host in
-    subst (λ job. RunsTo c.run_stat.result old new (request_of old.files job) account given) (sym c.in-Stat.is)
-    (c.run_stat.ensures.runs account given tells (subst (λ job. Knows old.files account (request_of old.files job)) c.in-Stat.is knows) may told)
+    subst (λ job. GoesTo c.run_stat.result old new (request_of old.files job) account given) (sym c.in-Stat.is)
+    (c.run_stat.ensures.runs account given tells (subst (λ job. KnowsAsked old.files account (request_of old.files job)) c.in-Stat.is knows) may told)
 
 pub returns-in-Stat-clause-grows : goal.returns-in-Stat-clause-grows
 returns-in-Stat-clause-grows g c account tells knows =
     let old = g.H.Host.world c.args.host.now in
-    c.run_stat.ensures.grows account tells (subst (λ job. Knows old.files account (request_of old.files job)) c.in-Stat.is knows)
+    c.run_stat.ensures.grows account tells (subst (λ job. KnowsAsked old.files account (request_of old.files job)) c.in-Stat.is knows)
 
 pub run_asking-requires-in-BackupSince : goal.run_asking-requires-in-BackupSince
 run_asking-requires-in-BackupSince g c =
@@ -134,82 +106,115 @@ returns-in-BackupSince-clause-runs g c account given tells knows may told =
     let old = g.H.Host.world c.args.host.now in
     let new = g.H.Host.world c.run_asking-in-BackupSince.new.host in
     let is = c.copied-name-in-BackupSince.ensures in
-    subst (λ job. RunsTo c.run_asking-in-BackupSince.result old new (request_of old.files job) account given) (sym c.in-BackupSince.is)
+    subst (λ job. GoesTo c.run_asking-in-BackupSince.result old new (request_of old.files job) account given) (sym c.in-BackupSince.is)
     (subst (λ name. RunsTo c.run_asking-in-BackupSince.result old new (Ok (ToRun (plan_of c.in-BackupSince.db (BackupOf c.in-BackupSince.guid name ∷ [])) Quietly)) account given) is
     (c.run_asking-in-BackupSince.ensures.runs account given tells
     (subst (λ name. Knows old.files account (Ok (ToRun (plan_of c.in-BackupSince.db (BackupOf c.in-BackupSince.guid name ∷ [])) Quietly))) (sym is)
-    (subst (λ job. Knows old.files account (request_of old.files job)) c.in-BackupSince.is knows)) may told))
+    (subst (λ job. KnowsAsked old.files account (request_of old.files job)) c.in-BackupSince.is knows)) may told))
 
 pub returns-in-BackupSince-clause-grows : goal.returns-in-BackupSince-clause-grows
 returns-in-BackupSince-clause-grows g c account tells knows =
     let old = g.H.Host.world c.args.host.now in
     c.run_asking-in-BackupSince.ensures.grows account tells
     (subst (λ name. Knows old.files account (Ok (ToRun (plan_of c.in-BackupSince.db (BackupOf c.in-BackupSince.guid name ∷ [])) Quietly))) (sym c.copied-name-in-BackupSince.ensures)
-    (subst (λ job. Knows old.files account (request_of old.files job)) c.in-BackupSince.is knows))
+    (subst (λ job. KnowsAsked old.files account (request_of old.files job)) c.in-BackupSince.is knows))
 
 pub returns-in-Run-clause-touches : goal.returns-in-Run-clause-touches
 returns-in-Run-clause-touches g c tells whole =
     let old = g.H.Host.world c.args.host.now in
     let new = g.H.Host.world c.run_file.new.host in
-    subst (λ job. TouchesAsked c.run_file.result old new (request_of old.files job)) (sym c.in-Run.is) (c.run_file.ensures.touches tells (subst (λ job. IsWholeToMerge old.files (request_of old.files job)) c.in-Run.is whole))
+    subst (λ job. TouchesOnly c.run_file.result old new (OfAsked old.files (request_of old.files job))) (sym c.in-Run.is) (c.run_file.ensures.touches tells (subst (λ job. IsWholeAsked old.files (request_of old.files job)) c.in-Run.is whole))
 
 pub returns-in-Lock-clause-touches : goal.returns-in-Lock-clause-touches
 returns-in-Lock-clause-touches g c tells whole =
     let old = g.H.Host.world c.args.host.now in
     let new = g.H.Host.world c.run_asking-in-Lock.new.host in
-    subst (λ job. TouchesAsked c.run_asking-in-Lock.result old new (request_of old.files job)) (sym c.in-Lock.is) (c.run_asking-in-Lock.ensures.touches tells (subst (λ job. IsWholeToMerge old.files (request_of old.files job)) c.in-Lock.is whole))
+    subst (λ job. TouchesOnly c.run_asking-in-Lock.result old new (OfAsked old.files (request_of old.files job))) (sym c.in-Lock.is) (c.run_asking-in-Lock.ensures.touches tells (subst (λ job. IsWholeAsked old.files (request_of old.files job)) c.in-Lock.is whole))
 
 pub returns-in-Unlock-clause-touches : goal.returns-in-Unlock-clause-touches
 returns-in-Unlock-clause-touches g c tells whole =
     let old = g.H.Host.world c.args.host.now in
     let new = g.H.Host.world c.run_asking-in-Unlock.new.host in
-    subst (λ job. TouchesAsked c.run_asking-in-Unlock.result old new (request_of old.files job)) (sym c.in-Unlock.is) (c.run_asking-in-Unlock.ensures.touches tells (subst (λ job. IsWholeToMerge old.files (request_of old.files job)) c.in-Unlock.is whole))
+    subst (λ job. TouchesOnly c.run_asking-in-Unlock.result old new (OfAsked old.files (request_of old.files job))) (sym c.in-Unlock.is) (c.run_asking-in-Unlock.ensures.touches tells (subst (λ job. IsWholeAsked old.files (request_of old.files job)) c.in-Unlock.is whole))
 
 pub returns-in-LockWithSize-clause-touches : goal.returns-in-LockWithSize-clause-touches
 returns-in-LockWithSize-clause-touches g c tells whole =
     let old = g.H.Host.world c.args.host.now in
     let new = g.H.Host.world c.run_asking-in-LockWithSize.new.host in
-    subst (λ job. TouchesAsked c.run_asking-in-LockWithSize.result old new (request_of old.files job)) (sym c.in-LockWithSize.is) (c.run_asking-in-LockWithSize.ensures.touches tells (subst (λ job. IsWholeToMerge old.files (request_of old.files job)) c.in-LockWithSize.is whole))
+    subst (λ job. TouchesOnly c.run_asking-in-LockWithSize.result old new (OfAsked old.files (request_of old.files job))) (sym c.in-LockWithSize.is) (c.run_asking-in-LockWithSize.ensures.touches tells (subst (λ job. IsWholeAsked old.files (request_of old.files job)) c.in-LockWithSize.is whole))
 
 pub returns-in-Stat-clause-touches : goal.returns-in-Stat-clause-touches
 returns-in-Stat-clause-touches g c tells whole =
     let old = g.H.Host.world c.args.host.now in
     let new = g.H.Host.world c.run_stat.new.host in
-    subst (λ job. TouchesAsked c.run_stat.result old new (request_of old.files job)) (sym c.in-Stat.is) (c.run_stat.ensures.touches tells (subst (λ job. IsWholeToMerge old.files (request_of old.files job)) c.in-Stat.is whole))
-
-pub returns-in-Restore-clause-touches : goal.returns-in-Restore-clause-touches
-returns-in-Restore-clause-touches g c tells whole =
-    let old = g.H.Host.world c.args.host.now in
-    let new = g.H.Host.world c.run_restore.new.host in
-    subst (λ job. TouchesAsked c.run_restore.result old new (request_of old.files job)) (sym c.in-Restore.is)
-    (subst (λ names. TouchesAsked c.run_restore.result old new (Ok (ToRestore c.in-Restore.db names))) c.as_slice.ensures (c.run_restore.ensures.touches tells))
-
-pub returns-in-Fixup-clause-touches : goal.returns-in-Fixup-clause-touches
-returns-in-Fixup-clause-touches g c tells whole =
-    let old = g.H.Host.world c.args.host.now in
-    let new = g.H.Host.world c.run_fix.new.host in
-    subst (λ job. TouchesAsked c.run_fix.result old new (request_of old.files job)) (sym c.in-Fixup.is) (c.run_fix.ensures.touches tells)
+    subst (λ job. TouchesOnly c.run_stat.result old new (OfAsked old.files (request_of old.files job))) (sym c.in-Stat.is) (c.run_stat.ensures.touches tells (subst (λ job. IsWholeAsked old.files (request_of old.files job)) c.in-Stat.is whole))
 
 pub returns-in-Gen-clause-touches : goal.returns-in-Gen-clause-touches
 returns-in-Gen-clause-touches g c tells whole =
     let old = g.H.Host.world c.args.host.now in
     let new = g.H.Host.world c.run_generated.new.host in
-    subst (λ job. TouchesAsked c.run_generated.result old new (request_of old.files job)) (sym c.in-Gen.is) (c.run_generated.ensures.touches tells)
+    subst (λ job. TouchesOnly c.run_generated.result old new (OfAsked old.files (request_of old.files job))) (sym c.in-Gen.is) (c.run_generated.ensures.touches tells)
 
 pub returns-in-Backup-clause-touches : goal.returns-in-Backup-clause-touches
 returns-in-Backup-clause-touches g c tells whole =
     let old = g.H.Host.world c.args.host.now in
     let new = g.H.Host.world c.run_asking.new.host in
     let is = c.copied-name.ensures in
-    subst (λ job. TouchesAsked c.run_asking.result old new (request_of old.files job)) (sym c.in-Backup.is)
+    subst (λ job. TouchesOnly c.run_asking.result old new (OfAsked old.files (request_of old.files job))) (sym c.in-Backup.is)
     (subst (λ name. TouchesAsked c.run_asking.result old new (Ok (ToRun (plan_of c.in-Backup.db (Backup c.in-Backup.level name ∷ [])) Quietly))) is
-    (c.run_asking.ensures.touches tells (subst (λ name. IsWholeToMerge old.files (Ok (ToRun (plan_of c.in-Backup.db (Backup c.in-Backup.level name ∷ [])) Quietly))) (sym is) (subst (λ job. IsWholeToMerge old.files (request_of old.files job)) c.in-Backup.is whole))))
+    (c.run_asking.ensures.touches tells (subst (λ name. IsWholeToMerge old.files (Ok (ToRun (plan_of c.in-Backup.db (Backup c.in-Backup.level name ∷ [])) Quietly))) (sym is) (subst (λ job. IsWholeAsked old.files (request_of old.files job)) c.in-Backup.is whole))))
 
 pub returns-in-BackupSince-clause-touches : goal.returns-in-BackupSince-clause-touches
 returns-in-BackupSince-clause-touches g c tells whole =
     let old = g.H.Host.world c.args.host.now in
     let new = g.H.Host.world c.run_asking-in-BackupSince.new.host in
     let is = c.copied-name-in-BackupSince.ensures in
-    subst (λ job. TouchesAsked c.run_asking-in-BackupSince.result old new (request_of old.files job)) (sym c.in-BackupSince.is)
+    subst (λ job. TouchesOnly c.run_asking-in-BackupSince.result old new (OfAsked old.files (request_of old.files job))) (sym c.in-BackupSince.is)
     (subst (λ name. TouchesAsked c.run_asking-in-BackupSince.result old new (Ok (ToRun (plan_of c.in-BackupSince.db (BackupOf c.in-BackupSince.guid name ∷ [])) Quietly))) is
-    (c.run_asking-in-BackupSince.ensures.touches tells (subst (λ name. IsWholeToMerge old.files (Ok (ToRun (plan_of c.in-BackupSince.db (BackupOf c.in-BackupSince.guid name ∷ [])) Quietly))) (sym is) (subst (λ job. IsWholeToMerge old.files (request_of old.files job)) c.in-BackupSince.is whole))))
+    (c.run_asking-in-BackupSince.ensures.touches tells (subst (λ name. IsWholeToMerge old.files (Ok (ToRun (plan_of c.in-BackupSince.db (BackupOf c.in-BackupSince.guid name ∷ [])) Quietly))) (sym is) (subst (λ job. IsWholeAsked old.files (request_of old.files job)) c.in-BackupSince.is whole))))
+
+pub run_turn-requires : goal.run_turn-requires
+run_turn-requires g c = record { deed = (ToRestore c.in-Restore.db c.in-Restore.files, ap deed_of c.in-Restore.is); fits = c.requires.fits }
+
+pub returns-in-Restore-clause-runs : goal.returns-in-Restore-clause-runs
+returns-in-Restore-clause-runs g c account given tells knows may told =
+    let old = g.H.Host.world c.args.host.now in
+    let new = g.H.Host.world c.run_turn.new.host in
+    subst (λ job. GoesTo c.run_turn.result old new (request_of old.files job) account given) (sym c.in-Restore.is)
+    (c.run_turn.ensures.turns (ToRestore c.in-Restore.db c.in-Restore.files) account (ap deed_of c.in-Restore.is) tells (subst (λ job. KnowsAsked old.files account (request_of old.files job)) c.in-Restore.is knows))
+
+pub returns-in-Restore-clause-grows : goal.returns-in-Restore-clause-grows
+returns-in-Restore-clause-grows g c account tells knows =
+    let old = g.H.Host.world c.args.host.now in
+    let new = g.H.Host.world c.run_turn.new.host in
+    grows_none old new (c.run_turn.ensures.turns (ToRestore c.in-Restore.db c.in-Restore.files) account (ap deed_of c.in-Restore.is) tells (subst (λ job. KnowsAsked old.files account (request_of old.files job)) c.in-Restore.is knows)).gave
+
+pub returns-in-Restore-clause-touches : goal.returns-in-Restore-clause-touches
+returns-in-Restore-clause-touches g c tells whole =
+    let old = g.H.Host.world c.args.host.now in
+    let new = g.H.Host.world c.run_turn.new.host in
+    subst (λ job. TouchesOnly c.run_turn.result old new (OfAsked old.files (request_of old.files job))) (sym c.in-Restore.is)
+    (c.run_turn.ensures.touches (ToRestore c.in-Restore.db c.in-Restore.files) (ap deed_of c.in-Restore.is) tells)
+
+pub run_turn-requires-in-Fixup : goal.run_turn-requires-in-Fixup
+run_turn-requires-in-Fixup g c = record { deed = (ToFix c.in-Fixup.db, ap deed_of c.in-Fixup.is); fits = c.requires.fits }
+
+pub returns-in-Fixup-clause-runs : goal.returns-in-Fixup-clause-runs
+returns-in-Fixup-clause-runs g c account given tells knows may told =
+    let old = g.H.Host.world c.args.host.now in
+    let new = g.H.Host.world c.run_turn-in-Fixup.new.host in
+    subst (λ job. GoesTo c.run_turn-in-Fixup.result old new (request_of old.files job) account given) (sym c.in-Fixup.is)
+    (c.run_turn-in-Fixup.ensures.turns (ToFix c.in-Fixup.db) account (ap deed_of c.in-Fixup.is) tells (subst (λ job. KnowsAsked old.files account (request_of old.files job)) c.in-Fixup.is knows))
+
+pub returns-in-Fixup-clause-grows : goal.returns-in-Fixup-clause-grows
+returns-in-Fixup-clause-grows g c account tells knows =
+    let old = g.H.Host.world c.args.host.now in
+    let new = g.H.Host.world c.run_turn-in-Fixup.new.host in
+    grows_none old new (c.run_turn-in-Fixup.ensures.turns (ToFix c.in-Fixup.db) account (ap deed_of c.in-Fixup.is) tells (subst (λ job. KnowsAsked old.files account (request_of old.files job)) c.in-Fixup.is knows)).gave
+
+pub returns-in-Fixup-clause-touches : goal.returns-in-Fixup-clause-touches
+returns-in-Fixup-clause-touches g c tells whole =
+    let old = g.H.Host.world c.args.host.now in
+    let new = g.H.Host.world c.run_turn-in-Fixup.new.host in
+    subst (λ job. TouchesOnly c.run_turn-in-Fixup.result old new (OfAsked old.files (request_of old.files job))) (sym c.in-Fixup.is)
+    (c.run_turn-in-Fixup.ensures.touches (ToFix c.in-Fixup.db) (ap deed_of c.in-Fixup.is) tells)

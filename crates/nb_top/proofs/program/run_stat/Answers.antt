@@ -9,7 +9,7 @@ use Rattle.nb_host.specs.declared.refusals.Refusal.{Refusal}
 use Rattle.nb_top.specs.Requests.{Request, ToRun, plan_of}
 use Rattle.nb_top.proofs.QuietRuns.{quiet_gave}
 use Rattle.nb_top.proofs.ScriptRuns.{runs_err, settled_value, script_unbegun}
-use Rattle.nb_top.proofs.TouchLaws.{touches_err}
+use Rattle.nb_top.proofs.TouchLaws.{only_err}
 use Rattle.nb_session.proofs.OthersLaws.{leaves_quiet}
 use Rattle.nb_top.specs.Touched.{MayTouch, IsWholeToMerge, TouchesAsked}
 use Rattle.nb_top.proofs.program.run_stat.Goals as goal
@@ -49,7 +49,7 @@ returns-in_err-script-clause-touches g c tells whole =
     let old = g.H.Host.world c.args.host.now in
     let plan = plan_of c.args.db.now (ShowHeader ∷ ShowPages ∷ []) in
     let request : Result Request Refusal = Ok (ToRun plan Quietly) in
-    touches_err old old request c.from_residual.result c.from_residual.ensures.0 (leaves_quiet old old (MayTouch request) (quiet_begun old (g.met.H.Host.timely c.args.host.now)))
+    only_err old old (MayTouch request) c.from_residual.result c.from_residual.ensures.0 (leaves_quiet old old (MayTouch request) (quiet_begun old (g.met.H.Host.timely c.args.host.now)))
 
 pub returns-clause-touches : goal.returns-clause-touches
 returns-clause-touches g c tells whole =

@@ -12,7 +12,8 @@ use Rattle.nb_top.proofs.Beginnings.{script_refused, script_now, script_todo, sc
 use Rattle.nb_top.proofs.BegunRuns.{start}
 use Rattle.nb_top.proofs.QuietRuns.{foretold_from, no_given}
 use Rattle.nb_top.proofs.ScriptRuns.{runs_err, settled_value, settled_refusal, script_begins, first_gave, first_opens}
-use Rattle.nb_top.proofs.TouchLaws.{touches_err, touches_refused, opening_leaves, begun_still, turns_leave, turns_end}
+use Rattle.nb_top.proofs.TouchLaws.{only_err, only_refused, opening_leaves, begun_still, turns_leave, turns_end}
+use Rattle.nb_top.specs.Touched.{MayTouch}
 use Rattle.nb_top.proofs.script.run_script.Goals as goal
 
 pub returns-in_err-engine-clause-runs : goal.returns-in_err-engine-clause-runs
@@ -130,7 +131,7 @@ returns-in_err-engine-clause-touches g c tells whole =
     let mid = g.H.Host.world c.open.new.host in
     let plan = c.args.script.now in
     let first = first_opens plan.first c.requires.askable.first in
-    touches_err old mid (Ok (ToRun plan c.args.telling)) c.from_residual.result c.from_residual.ensures.0 (opening_leaves old mid plan c.args.telling first c.open.result
+    only_err old mid (MayTouch (Ok (ToRun plan c.args.telling))) c.from_residual.result c.from_residual.ensures.0 (opening_leaves old mid plan c.args.telling first c.open.result
     (λ name size raw cache is. c.open.ensures.creates name size raw cache tells (c.first.ensures ∙ is)) (λ name cache is. c.open.ensures.attaches name cache tells (c.first.ensures ∙ is))
     (λ name cache is. c.open.ensures.quiet name cache (c.first.ensures ∙ is)))
 
@@ -146,7 +147,7 @@ returns-in_err-refused-in-Ok-clause-touches g c tells whole =
     let still = begun_still old mid plan c.args.telling first c.open.result
     (λ name size raw cache is. c.open.ensures.creates name size raw cache tells (c.first.ensures ∙ is)) (λ name cache is. c.open.ensures.attaches name cache tells (c.first.ensures ∙ is))
     (λ name cache is. c.open.ensures.quiet name cache (c.first.ensures ∙ is)) held is whole in
-    touches_err old new (Ok (ToRun plan c.args.telling)) c.from_residual-in_err-refused-in-Ok.result c.from_residual-in_err-refused-in-Ok.ensures.0
+    only_err old new (MayTouch (Ok (ToRun plan c.args.telling))) c.from_residual-in_err-refused-in-Ok.result c.from_residual-in_err-refused-in-Ok.ensures.0
     (turns_leave old mid plan c.args.telling first c.open.result
     (λ name size raw cache is. c.open.ensures.creates name size raw cache tells (c.first.ensures ∙ is)) (λ name cache is. c.open.ensures.attaches name cache tells (c.first.ensures ∙ is))
     (λ name cache is. c.open.ensures.quiet name cache (c.first.ensures ∙ is)) held is whole new c.run_opened.new.engine _ (c.in_err-refused-in-Ok.ensures.stays_open tells still))
@@ -174,6 +175,6 @@ returns-in-Err-clause-touches g c tells whole =
     let plan = c.args.script.now in
     let first = first_opens plan.first c.requires.askable.first in
     let new = g.H.Host.world c.refuse.new.host in
-    touches_refused old mid new (Ok (ToRun plan c.args.telling)) (opening_leaves old mid plan c.args.telling first c.open.result
+    only_refused old mid new (MayTouch (Ok (ToRun plan c.args.telling))) (opening_leaves old mid plan c.args.telling first c.open.result
     (λ name size raw cache is. c.open.ensures.creates name size raw cache tells (c.first.ensures ∙ is)) (λ name cache is. c.open.ensures.attaches name cache tells (c.first.ensures ∙ is))
     (λ name cache is. c.open.ensures.quiet name cache (c.first.ensures ∙ is))) (g.met.H.Host.timely c.refuse.new.host) (g.met.H.Host.reads_left c.refuse.new.host tells) c.refuse.result _ _ (c.refuse.ensures.line tells)

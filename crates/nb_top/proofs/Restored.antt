@@ -1,0 +1,180 @@
+-- The job of a restore: its call serves it, and it keeps what stands.
+use Rattle.std.proofs.Common.{true≢false, ◌≡◌, ◌≢◌, ◌⊎◌, inl, inr, ⊎_elim, ℕ, ◌≤◌, List, [], ◌∷◌, length, true, false, refl, sym, ap, subst, ◌∙◌, arith}
+use Rattle.std.specs.Prelude.{not, is_some, Some, None, Result, Ok, Err}
+use Rattle.std.specs.List.{AllByRecursion}
+use Rattle.std.proofs.lemmas.Bool.{and_parts}
+use Rattle.std.proofs.lemmas.List.{append-nil}
+use Rattle.nb_fields.specs.Free.{is_free_file}
+use Rattle.nb_host.specs.Files.{File, Files}
+use Rattle.nb_host.specs.Names.{is_delta}
+use Rattle.nb_host.specs.World.{World}
+use Rattle.nb_host.specs.Crash.{Leaves, LeavesAll}
+use Rattle.nb_host.specs.declared.faults.Fault.{Fault}
+use Rattle.nb_host.specs.declared.faults.Fault.TheVariants.{Refused, Device, Memory}
+use Rattle.nb_host.specs.declared.refusals.Refusal.{Refusal}
+use Rattle.nb_change.specs.Changes.{Only}
+use Rattle.nb_change.proofs.ChangesLaws.{weaker_has}
+use Rattle.nb_page.specs.Free.{is_free_name}
+use Rattle.nb_page.specs.Quiet.{Quiet}
+use Rattle.nb_model.specs.declared.reply.Reply.{Reply}
+use Rattle.nb_model.specs.declared.reply.Reply.TheVariants.{Pages}
+use Rattle.nb_model.specs.Account.{base_of, IsBase, Account, with_entry}
+use Rattle.nb_model.specs.Causes.{is_free_entry}
+use Rattle.nb_model.specs.Image.{Image}
+use Rattle.nb_model.specs.Jobs.{restore_turn, account_behind}
+use Rattle.nb_model.specs.Owner.{delta_name, entry_in}
+use Rattle.nb_model.specs.Restoring.{Link, verdict, applied}
+use Rattle.nb_model.specs.Run.{Event, account_after, with_made}
+use Rattle.nb_model.specs.Strokes.{make, fixed, on_base, base_after, records_after, records_of}
+use Rattle.nb_model.specs.Trail.{ShowsIn}
+use Rattle.nb_model.specs.Well.{IsWellBaseIn}
+use Rattle.nb_model.proofs.FreeLaws.{stands_free}
+use Rattle.nb_model.proofs.OpeningLaws.{free_entry, with_kept}
+use Rattle.nb_model.proofs.StandsLaws.{no_main}
+use Rattle.nb_restore.specs.Kept.{AreKept, GivesKept}
+use Rattle.nb_restore.specs.Restore.{RestoreAnswers, RestoreLeft, Restores, base_from}
+use Rattle.nb_restore.proofs.ChainLaws.{split_chain}
+use Rattle.nb_restore.proofs.KeptLaws.{chain_kept, restored_well}
+use Rattle.nb_top.specs.OneTurn.{OneTurn, leaves_all, restoring}
+use Rattle.nb_top.specs.Served.{ServedAs, Serves}
+use Rattle.nb_top.specs.Standing.{HoldsKept, StandsFor}
+use Rattle.nb_top.proofs.RestoreTurns.{RestoreTurn, WhyRefused, refuses, restores, made_turn, made_account, turn_is, refused_turn, done_turn, refused_restore}
+use Rattle.nb_top.proofs.TurnsStand.{IsSoundJob, IsWellDone}
+
+-- its reply
+abbrev pub pages_said : Result ℕ Fault → Result Reply Fault
+pages_said (Ok count) = Ok (Pages count)
+pages_said (Err fault) = Err fault
+
+same_links : (answer : Result (List Link) Refusal) (a b : List Link) → answer ≡ Ok a → answer ≡ Ok b → a ≡ b
+same_links answer a b e f = cc
+
+none_both : (answer : Result (List Link) Refusal) (links : List Link) (refusal : Refusal) → answer ≡ Ok links → answer ≡ Err refusal → ⊥
+none_both answer links refusal e f = cc
+
+module _ (old mid : World) (account : Account) (db : List ℕ) (names : List (List ℕ)) (knows : is_free_name old.files db ≡ is_free_entry (account.entry db)) (result : Result ℕ Fault) (does : Restores result old mid db names) where
+  abbrev job : OneTurn
+  job = restoring old.files db names
+
+  abbrev turn : Event
+  turn = restore_turn old.files account db names
+
+  -- it is on its way
+  on_way : (was : File → Type 0) (files : Files) → RestoreLeft was old db names files → (was (files db) ⊎ job.half files) ⊎ job.done files
+  on_way was files = ⊎_elim (λ as_was. inl (inl as_was)) (⊎_elim (λ free. inl (inr free)) inr)
+
+  quiet_refused : (refusal : Refusal) → WhyRefused old.files account db names refusal → Quiet old mid
+  quiet_refused refusal why = ⊎_elim (λ taken. does.taken (knows ∙ taken.0)) (λ broken. does.broken refusal broken.1) why
+
+  idle : leaves_all turn ≡ true → Quiet old mid
+  idle is = by (turn_is old.files account db names)
+    where
+      by : RestoreTurn old.files account db names → Quiet old mid
+      by (refuses refusal why turn_same) = quiet_refused refusal why
+      by (restores links free accepted turn_same) = absurd (true≢false (sym is ∙ ap leaves_all turn_same))
+
+  answers : (r : Result ℕ Fault) → RestoreAnswers r old mid db names → ServedAs (pages_said r) old mid job turn
+  answers (Ok count) answer =
+      let made = answer.1 in
+      record {
+        stroke = make (fixed (applied made.links));
+        is = done_turn old.files account db names made.links (sym knows ∙ answer.0) made.accepted ∙ ap (λ (n : ℕ). only n made.links) (sym made.counted);
+        fine = refl;
+        done = record {
+          now = (made.links, made.accepted, made.shows);
+          left = λ files leaves. (made.links, made.accepted, made.left files leaves);
+        };
+      }
+    where
+      only : (n : ℕ) (links : List Link) → Event
+      only n links = record { session = 1; strokes = make (fixed (applied links)) ∷ []; reply = Some (Pages n); made = None; syncs = true }
+  answers (Err (Refused refusal)) answer =
+      let why : WhyRefused old.files account db names refusal = ⊎_elim (λ taken. inl (sym knows ∙ taken.0, taken.1)) (λ broken. inr (sym knows ∙ broken.0, broken.1)) answer.1 in
+      record { is = refused_turn old.files account db names refusal why; other = refused_restore old.files account db names refusal why; quiet = answer.0 }
+  answers (Err Device) answer = tt
+  answers (Err Memory) answer = tt
+
+  pub restore_serves : Serves (pages_said result) old mid job turn
+  restore_serves = record {
+    answer = answers result does.answer;
+    left = weaker_has old mid (Only db) _ _ does.left (λ files. on_way (Leaves old db) files);
+    reads = on_way (λ file. file ≡ old.files db) mid.files does.reads;
+    gave = does.gave;
+    idle = idle;
+  }
+
+-- a chain of one file or more has a link
+some_links : (files : Files) (names : List (List ℕ)) (links : List Link) → 1 ≤ length names → verdict files names ≡ Ok links → 1 ≤ length links
+some_links files [] links some is = absurd (omega (arith, some))
+some_links files (name ∷ names) links some is = let split = split_chain files name names links is in omega (arith, ap length split.all)
+
+-- the account behind it
+made_entries : (account : Account) (db : List ℕ) (image : Image) (n : List ℕ) → (with_entry db (IsBase (base_of image)) account).entry n ≡ (account_after db (make image ∷ []) None account).entry n
+unfolding account_after with_made with_entry base_after on_base
+made_entries account db image n = refl
+
+made_kept : (account : Account) (db : List ℕ) (image : Image) → account.kept ≡ (account_after db (make image ∷ []) None account).kept
+unfolding account_after records_after records_of
+made_kept account db image = sym (append-nil account.kept)
+
+not_some : (file : File) → not (is_some file) ≡ true → file ≡ None
+not_some None h = refl
+not_some (Some bytes) h = cc
+
+module _ (old : World) (account : Account) (db : List ℕ) (names : List (List ℕ)) (stands : StandsFor old account) (plain : is_delta db ≡ false) (plain_names : AllByRecursion (λ (name : List ℕ). is_delta name ≡ false) names) (some : 1 ≤ length names)
+    (takes : (links : List Link) → verdict old.files names ≡ Ok links → AreKept account.kept links) where
+  abbrev sound_job : OneTurn
+  sound_job = restoring old.files db names
+
+  gives_kept : (links : List Link) → verdict old.files names ≡ Ok links → GivesKept account.kept links
+  gives_kept links accepted = chain_kept old.files account names links stands.now plain_names accepted (some_links old.files names links some accepted) (takes links accepted)
+
+  gives : (files : Files) → sound_job.done files → sound_job.gives account.kept files
+  gives files done links accepted =
+      let kept : GivesKept account.kept links = gives_kept links accepted in
+      record {
+        backup = kept.backup;
+        kept_as = kept.kept_as;
+        shows = subst (λ (image : Image). ShowsIn db (base_of (fixed image)) files) kept.image
+            (subst (λ (ls : List Link). ShowsIn db (base_from ls) files) (same_links (verdict old.files names) done.0 links done.1 accepted) done.2);
+      }
+
+  -- it isn't refused: the name was free, and the files are a chain
+  module _ (links : List Link) (free : is_free_entry (account.entry db) ≡ true) (accepted : verdict old.files names ≡ Ok links) (turn_same : restore_turn old.files account db names ≡ made_turn links) where
+    abbrev kept : GivesKept account.kept links
+    kept = gives_kept links accepted
+
+    was_free : (is_free_file (old.files db) ≡ true) × (old.files (delta_name db) ≡ None)
+    was_free =
+        let both = and_parts (is_free_file (old.files db)) (not (is_some (old.files (delta_name db)))) (sym (free_entry old.files account db stands.now.same_image stands.now.no_stray plain) ∙ free) in
+        (both.0, not_some (old.files (delta_name db)) both.1)
+
+    half : (before files : Files) → LeavesAll old before → HoldsKept before account.kept → before db ≡ old.files db → ((m : List ℕ) → m ≢ db → files m ≡ before m) → is_free_file (files db) ≡ true → HoldsKept files account.kept
+    half before files left its own rest half_free =
+        let alone : files (delta_name db) ≡ None = rest (delta_name db) (no_main db db plain) ∙ stands.free db plain was_free.0 was_free.1 (before (delta_name db)) (left (delta_name db)) in
+        record {
+          account = with_entry db (entry_in files db) its.account;
+          stands = stands_free before files its.account db its.stands plain (λ m off beside. rest m off) half_free alone;
+          same = with_kept db (entry_in files db) its.account ∙ its.same;
+        }
+
+    behind : account_behind db (restore_turn old.files account db names) account ≡ account_after db (make (fixed (applied links)) ∷ []) None account
+    behind = ap (λ (e : Event). account_behind db e account) turn_same ∙ made_account old.files account db names links
+
+    well_done : IsWellDone old account sound_job
+    well_done = record {
+      half = half;
+      free = λ files half_way now_free. was_free.0;
+      base = base_from links;
+      well = subst (λ (image : Image). IsWellBaseIn account.kept (base_of (fixed image))) (sym kept.image) (restored_well old.files account kept.backup stands.now kept.kept_as.there).base;
+      shows = λ files made. subst (λ (ls : List Link). ShowsIn db (base_from ls) files) (same_links (verdict old.files names) made.0 links made.1 accepted) made.2;
+      entries = λ n. made_entries account db (fixed (applied links)) n ∙ ap (λ (a : Account). a.entry n) (sym behind);
+      kept = made_kept account db (fixed (applied links)) ∙ ap (λ (a : Account). a.kept) (sym behind);
+    }
+
+  pub restore_sound : IsSoundJob old account (restoring old.files db names)
+  restore_sound = record { plain = plain; done = by (turn_is old.files account db names); gives = gives }
+    where
+      by : RestoreTurn old.files account db names → leaves_all (restore_turn old.files account db names) ≡ false → IsWellDone old account sound_job
+      by (refuses refusal why same) is = absurd (true≢false (sym (ap leaves_all same) ∙ is))
+      by (restores links free accepted same) is = well_done links free accepted same

@@ -1,0 +1,224 @@
+-- A run of a job of one turn: what stands of its file at each moment, and its end.
+use Rattle.std.proofs.Common.{true≢false, ◌≡◌, ◌≢◌, ◌⊎◌, inl, inr, ⊎_elim, ℕ, List, [], ◌∷◌, ◌++◌, length, take, true, false, refl, sym, ap, subst, ◌∙◌}
+use Rattle.std.specs.Prelude.{Bool, Result, Ok, Err, IfOk, OnOk}
+use Rattle.std.proofs.lemmas.List.{append-nil}
+use Rattle.nb_host.specs.Files.{Files}
+use Rattle.nb_host.specs.World.{World}
+use Rattle.nb_host.specs.Crash.{Leaves, LeavesAll}
+use Rattle.nb_host.specs.Moments.{IsTimely, AtEachMoment}
+use Rattle.nb_host.specs.declared.faults.Fault.{Fault}
+use Rattle.nb_host.specs.declared.faults.Fault.TheVariants.{Refused as RefusedFault}
+use Rattle.nb_host.specs.declared.refusals.Refusal.{Refusal}
+use Rattle.nb_change.specs.Changes.{Other, Only}
+use Rattle.nb_change.specs.Gave.{GaveNothing}
+use Rattle.nb_change.proofs.MomentLaws.{joined, left_before, weaker}
+use Rattle.nb_page.specs.Quiet.{Quiet}
+use Rattle.nb_model.specs.declared.reply.Reply.{Reply}
+use Rattle.nb_model.specs.declared.reply.Reply.TheVariants.{Refused as RefusedReply}
+use Rattle.nb_model.specs.Account.{Account}
+use Rattle.nb_model.specs.Jobs.{only_turn, only_refusal}
+use Rattle.nb_model.specs.Lines.{line_text}
+use Rattle.nb_model.specs.Output.{output, status_of}
+use Rattle.nb_model.specs.Run.{Event, replies_of}
+use Rattle.nb_model.proofs.OutputLaws.{output_one, status_one}
+use Rattle.nb_model.proofs.TodoLaws.{status_refused}
+use Rattle.nb_session.specs.declared.stop.Stop.{Stop}
+use Rattle.nb_session.specs.Says.{FrontSaid, SaysLine}
+use Rattle.nb_session.specs.Stops.{IsSaid}
+use Rattle.nb_session.proofs.OthersLaws.{now_left}
+use Rattle.nb_top.specs.declared.status.Status.{Status}
+use Rattle.nb_top.specs.declared.status.Status.TheVariants.{Done, Refused}
+use Rattle.nb_top.specs.Numbers.{number_of}
+use Rattle.nb_top.specs.OneTurn.{OneTurn, Was, Read, FileLeft, IsOnItsWay, TurnEnded, TurnLeft, leaves_all}
+use Rattle.nb_top.specs.Served.{IsRefusedWith, IsServed, ServedAs, Serves, TurnsTo}
+use Rattle.nb_top.proofs.RefusedRuns.{take_self}
+
+-- At one moment.
+module _ (old : World) (job : OneTurn) (turn : Event) where
+  own_left : (was : Was) (part : List ℕ) (files : Files) → (leaves_all turn ≡ true → was job.name (files job.name))
+      → (leaves_all turn ≡ false → ((was job.name (files job.name) ⊎ job.half files) × (part ≡ [])) ⊎ job.done files) → FileLeft was job turn part files
+  own_left was part files all some = by (leaves_all turn) refl
+    where
+      by : (t : Bool) → leaves_all turn ≡ t → elim t as (λ none. Type 0) [ true ↦ was job.name (files job.name) | false ↦ ((was job.name (files job.name) ⊎ job.half files) × (part ≡ [])) ⊎ job.done files ]
+      by true is = all is
+      by false is = some is
+
+  abbrev nothing_said : (said : List ℕ) → said ≡ old.said → IsSaid old (turn ∷ []) said
+  nothing_said said is = record { part = []; is = is ∙ sym (append-nil old.said); front = refl }
+
+  -- nothing has happened
+  still_left : (was : Was) (files : Files) (said : List ℕ) → said ≡ old.said → ((m : List ℕ) → was m (files m)) → TurnLeft was old job turn files said
+  still_left was files said silent all = record {
+    out = nothing_said said silent;
+    own = own_left was [] files (λ is. all job.name) (λ is. inl (inl (all job.name), refl));
+    others = λ m other. all m;
+  }
+
+  -- the call goes on
+  way_left : (was : Was) (files : Files) (said : List ℕ) → leaves_all turn ≡ false → said ≡ old.said → IsOnItsWay was job files → ((m : List ℕ) → m ≢ job.name → was m (files m)) → TurnLeft was old job turn files said
+  way_left was files said some silent way others = record {
+    out = nothing_said said silent;
+    own = own_left was [] files (λ is. absurd (true≢false (sym is ∙ some))) (λ is. ⊎_elim (λ w. inl (w, refl)) inr way);
+    others = others;
+  }
+
+  -- it is done, and its line is said
+  done_left : (was : Was) (files : Files) (said : List ℕ) → leaves_all turn ≡ false → IsSaid old (turn ∷ []) said → job.done files → ((m : List ℕ) → m ≢ job.name → was m (files m)) → TurnLeft was old job turn files said
+  done_left was files said some out done others = record {
+    out = out;
+    own = own_left was out.part files (λ is. absurd (true≢false (sym is ∙ some))) (λ is. inr done);
+    others = others;
+  }
+
+  -- it is refused, and its line is said
+  refused_left : (was : Was) (files : Files) (said : List ℕ) → leaves_all turn ≡ true → IsSaid old (turn ∷ []) said → ((m : List ℕ) → was m (files m)) → TurnLeft was old job turn files said
+  refused_left was files said none out all = record {
+    out = out;
+    own = own_left was out.part files (λ is. all job.name) (λ is. absurd (true≢false (sym none ∙ is)));
+    others = λ m other. all m;
+  }
+
+  -- a line was said behind calls that said nothing
+  line_said : (mid : World) (reply : Reply) (session : ℕ) (files : Files) (said : List ℕ) → output (turn ∷ []) ≡ line_text session reply → mid.said ≡ old.said → FrontSaid mid (line_text session reply) files said → IsSaid old (turn ∷ []) said
+  line_said mid reply session files said is silent front =
+      let line : List ℕ = line_text session reply in
+      let part : List ℕ = take front.count line in
+      record {
+        part = part;
+        is = front.is ∙ ap (λ (l : List ℕ). l ++ part) silent;
+        front = take_self front.count line ∙ ap (take (length part)) (sym is);
+      }
+
+-- Nothing happens.
+module _ (old mid : World) (job : OneTurn) (turn : Event) (quiet : Quiet old mid) where
+  pub quiet_stops : AtEachMoment old mid (TurnLeft (Leaves old) old job turn)
+  quiet_stops = weaker old mid _ _ quiet.moments (λ files said is. still_left old job turn (Leaves old) files said is.output is.left)
+
+  pub quiet_reads : TurnLeft (Read old.files) old job turn mid.files mid.said
+  quiet_reads = still_left old job turn (Read old.files) mid.files mid.said quiet.said (λ m. ap (λ (f : Files). f m) quiet.still.files)
+
+  pub quiet_gave : GaveNothing old mid
+  quiet_gave = record { guids = quiet.guids; times = quiet.times }
+
+  -- so it ended early
+  pub quiet_turn : (account : Account) → turn ≡ job.turn account → (e : Stop) → TurnsTo (Err e) old mid job account
+  quiet_turn account is e =
+      subst (λ (t : Event). AtEachMoment old mid (TurnLeft (Leaves old) old job t) → TurnLeft (Read old.files) old job t mid.files mid.said → TurnsTo (Err e) old mid job account) (sym is)
+      (λ stops reads. record { stops = stops; reads = reads; gave = quiet_gave; ended = tt }) quiet_stops quiet_reads
+
+-- The call that takes the turn has answered.
+module _ (old mid : World) (job : OneTurn) (account : Account) (result : Result Reply Fault) (serves : Serves result old mid job (job.turn account)) where
+  abbrev turn : Event
+  turn = job.turn account
+
+  call_stops : AtEachMoment old mid (TurnLeft (Leaves old) old job turn)
+  call_stops = by (leaves_all turn) refl
+    where
+      by : (t : Bool) → leaves_all turn ≡ t → AtEachMoment old mid (TurnLeft (Leaves old) old job turn)
+      by true is = quiet_stops old mid job turn (serves.idle is)
+      by false is = weaker old mid _ _ serves.left.moments (λ files said left. way_left old job turn (Leaves old) files said is left.output left.has left.others)
+
+  call_reads : TurnLeft (Read old.files) old job turn mid.files mid.said
+  call_reads = by (leaves_all turn) refl
+    where
+      by : (t : Bool) → leaves_all turn ≡ t → TurnLeft (Read old.files) old job turn mid.files mid.said
+      by true is = quiet_reads old mid job turn (serves.idle is)
+      by false is = way_left old job turn (Read old.files) mid.files mid.said is serves.left.said serves.reads serves.left.others_read
+
+  -- It ended early.
+  pub turn_fails : (e : Stop) → TurnsTo (Err e) old mid job account
+  turn_fails e = record { stops = call_stops; reads = call_reads; gave = serves.gave; ended = tt }
+
+  -- A line is said behind it.
+  module _ (new : World) (timely : IsTimely new) (reads_left : LeavesAll new new.files) (reply : Reply) {S E : Type 0} (told : Result S E) (says : SaysLine told mid new (line_text 1 reply)) (line_is : output (turn ∷ []) ≡ line_text 1 reply) where
+    gave_nothing : GaveNothing old new
+    gave_nothing = record { guids = says.gave.guids ∙ serves.gave.guids; times = says.gave.times ∙ serves.gave.times }
+
+    same_files : (m : List ℕ) → new.files m ≡ mid.files m
+    same_files m = ap (λ (f : Files). f m) says.still.files
+
+    said_now : FrontSaid mid (line_text 1 reply) new.files new.said
+    said_now = now_left mid new _ timely reads_left says.moments
+
+    said_then : (files : Files) (said : List ℕ) → FrontSaid mid (line_text 1 reply) files said → IsSaid old (turn ∷ []) said
+    said_then files said = line_said old job turn mid reply 1 files said line_is serves.left.said
+
+    -- all of it
+    said_all : new.said ≡ mid.said ++ line_text 1 reply → new.said ≡ old.said ++ output (turn ∷ [])
+    said_all said = said ∙ ap (λ (l : List ℕ). l ++ line_text 1 reply) serves.left.said ∙ ap (λ (l : List ℕ). old.said ++ l) (sym line_is)
+
+  -- It is refused, and its line is said.
+  module _ (refusal : Refusal) (is : result ≡ Err (RefusedFault refusal)) where
+    refused : IsRefusedWith refusal old mid turn
+    refused = subst (λ (r : Result Reply Fault). ServedAs r old mid job turn) is serves.answer
+
+    none : leaves_all turn ≡ true
+    none = ap leaves_all refused.is
+
+    refusal_line : output (turn ∷ []) ≡ line_text 1 (RefusedReply refusal)
+    refusal_line = ap (λ (e : Event). output (e ∷ [])) refused.is ∙ output_one (only_refusal refusal) (RefusedReply refusal) refl
+
+    module _ (new : World) (timely : IsTimely new) (reads_left : LeavesAll new new.files) {S E : Type 0} (told : Result S E) (says : SaysLine told mid new (line_text 1 (RefusedReply refusal))) where
+      pub turn_refused : (end : Result Status Stop) → IfOk end (λ status. status ≡ Refused) → OnOk end (new.said ≡ mid.said ++ line_text 1 (RefusedReply refusal)) → TurnsTo end old new job account
+      turn_refused end as_refused said = record {
+        stops = joined old mid new _ _ _ call_stops says.moments (λ files now left. left)
+            (λ files now front. refused_left old job turn (Leaves old) files now none (said_then new timely reads_left (RefusedReply refusal) told says refusal_line files now front)
+            (λ m. left_before old mid _ refused.quiet.still.left m (files m) tt (front.left m)));
+        reads = refused_left old job turn (Read old.files) new.files new.said none (said_then new timely reads_left (RefusedReply refusal) told says refusal_line new.files new.said (said_now new timely reads_left (RefusedReply refusal) told says refusal_line))
+            (λ m. same_files new timely reads_left (RefusedReply refusal) told says refusal_line m ∙ ap (λ (f : Files). f m) refused.quiet.still.files);
+        gave = gave_nothing new timely reads_left (RefusedReply refusal) told says refusal_line;
+        ended = by end as_refused said;
+      }
+        where
+          number : number_of Refused ≡ status_of (replies_of (turn ∷ []))
+          number = sym (ap (λ (e : Event). status_of (replies_of (e ∷ []))) refused.is ∙ status_one (only_refusal refusal) (RefusedReply refusal) refl ∙ status_refused refusal refused.other)
+
+          by : (end : Result Status Stop) → IfOk end (λ status. status ≡ Refused) → OnOk end (new.said ≡ mid.said ++ line_text 1 (RefusedReply refusal)) → IfOk end (λ status. TurnEnded status old new job turn)
+          by (Ok status) e whole = record {
+            said = said_all new timely reads_left (RefusedReply refusal) told says refusal_line whole;
+            ended = ap number_of e ∙ number;
+            done = λ some. absurd (true≢false (sym none ∙ some));
+            unchanged = λ all. says.still.files ∙ refused.quiet.still.files;
+          }
+          by (Err e) as_said whole = tt
+
+  -- It is done, and its line is said.
+  module _ (reply : Reply) (is : result ≡ Ok reply) where
+    served : IsServed reply mid job turn
+    served = subst (λ (r : Result Reply Fault). ServedAs r old mid job turn) is serves.answer
+
+    some : leaves_all turn ≡ false
+    some = ap leaves_all served.is
+
+    reply_line : output (turn ∷ []) ≡ line_text 1 reply
+    reply_line = ap (λ (e : Event). output (e ∷ [])) served.is ∙ output_one (only_turn reply (served.stroke ∷ [])) reply refl
+
+    module _ (new : World) (timely : IsTimely new) (reads_left : LeavesAll new new.files) {S E : Type 0} (told : Result S E) (says : SaysLine told mid new (line_text 1 reply)) where
+      done_stops : AtEachMoment old new (TurnLeft (Leaves old) old job turn)
+      done_stops = joined old mid new _ _ _ call_stops says.moments (λ files said left. left)
+          (λ files said front. done_left old job turn (Leaves old) files said some (said_then new timely reads_left reply told says reply_line files said front) (served.done.left files front.left)
+          (λ m off. left_before old mid (Other (Only job.name)) serves.left.others m (files m) off (front.left m)))
+
+      done_reads : TurnLeft (Read old.files) old job turn new.files new.said
+      done_reads = done_left old job turn (Read old.files) new.files new.said some (said_then new timely reads_left reply told says reply_line new.files new.said (said_now new timely reads_left reply told says reply_line))
+          (subst job.done (sym says.still.files) served.done.now) (λ m off. same_files new timely reads_left reply told says reply_line m ∙ serves.left.others_read m off)
+
+      -- not to its end
+      pub turn_unsaid : (e : Stop) → TurnsTo (Err e) old new job account
+      turn_unsaid e = record { stops = done_stops; reads = done_reads; gave = gave_nothing new timely reads_left reply told says reply_line; ended = tt }
+
+      pub turn_done : new.said ≡ mid.said ++ line_text 1 reply → TurnsTo (Ok Done) old new job account
+      turn_done said = record {
+        stops = done_stops;
+        reads = done_reads;
+        gave = gave_nothing new timely reads_left reply told says reply_line;
+        ended = record {
+          said = said_all new timely reads_left reply told says reply_line said;
+          ended = sym (ap (λ (e : Event). status_of (replies_of (e ∷ []))) served.is ∙ status_one (only_turn reply (served.stroke ∷ [])) reply refl ∙ served.fine);
+          done = λ yes. record {
+            now = subst job.done (sym says.still.files) served.done.now;
+            left = λ files leaves. served.done.left files (λ m. left_before mid new _ says.still.left m (files m) tt (leaves m));
+          };
+          unchanged = λ all. absurd (true≢false (sym all ∙ some));
+        };
+      }

@@ -1,0 +1,147 @@
+-- Jobs of one turn: what each asks for, does, and leaves half way, and what is promised of all of them.
+--
+-- Such a job opens no database. It may change one file, and no other: no difference file either. A new one is a value of `OneTurn`, and a proof
+-- that its call serves it.
+use Rattle.std.specs.Prelude.{◌≡◌, ◌≢◌, ◌⊎◌, ℕ, List, [], ◌∷◌, ◌++◌, Bool, true, false, None, Some, Ok}
+use Rattle.nb_fields.specs.Free.{is_free_file}
+use Rattle.nb_fields.specs.Header.{guid_of}
+use Rattle.nb_host.specs.Files.{File, Files}
+use Rattle.nb_host.specs.World.{World}
+use Rattle.nb_host.specs.Crash.{Leaves, LeavesAll}
+use Rattle.nb_host.specs.Moments.{AtEachMoment}
+use Rattle.nb_change.specs.Gave.{GaveNothing}
+use Rattle.nb_page.specs.Free.{is_free_name}
+use Rattle.nb_model.specs.Account.{Kept, Account, base_of}
+use Rattle.nb_model.specs.Causes.{is_free_entry}
+use Rattle.nb_model.specs.Image.{Image}
+use Rattle.nb_model.specs.Jobs.{restore_turn, fixup_turn, account_behind}
+use Rattle.nb_model.specs.Output.{output, status_of}
+use Rattle.nb_model.specs.Owner.{entry_in}
+use Rattle.nb_model.specs.Restoring.{Link, verdict}
+use Rattle.nb_model.specs.Run.{Event, replies_of}
+use Rattle.nb_model.specs.Stands.{IsKeptAs}
+use Rattle.nb_model.specs.Strokes.{fixed}
+use Rattle.nb_model.specs.Trail.{ShowsIn}
+use Rattle.nb_fixup.specs.Fixup.{IsFixable, IsFixed}
+use Rattle.nb_restore.specs.Kept.{AreKept, last_guid}
+use Rattle.nb_restore.specs.Restore.{base_from}
+use Rattle.nb_session.specs.Stops.{IsSaid}
+use Rattle.nb_top.specs.declared.status.Status.{Status}
+use Rattle.nb_top.specs.declared.status.Status.TheVariants.{Device, Memory}
+use Rattle.nb_top.specs.Numbers.{number_of}
+use Rattle.nb_top.specs.Requests.{Deed, ToRestore, ToFix}
+use Rattle.nb_top.specs.Standing.{HoldsKept, StandsFor}
+
+-- A job of one turn.
+pub record OneTurn : Type 1 where
+  -- the file that it may change, and no other
+  pub name : List ℕ
+  -- what the account has to know of the files
+  pub knows : Account → Type 0
+  -- its turn
+  pub turn : Account → Event
+  -- what a stop may leave half way, while nothing is said
+  pub half : Files → Type 0
+  -- what stands once the turn is done
+  pub done : Files → Type 0
+  -- where the files that it takes are of backups whose records are kept,
+  pub takes : List Kept → Type 0
+  -- this stands then
+  pub gives : List Kept → Files → Type 0
+
+-- under the name stands the image that the begin of the backup of that GUID kept, but for what is done to it
+pub record ShowsKept (kept : List Kept) (guid : List ℕ) (done : Image → Image) (name : List ℕ) (files : Files) : Type 0 where
+  pub backup : Kept
+  pub kept_as : IsKeptAs kept guid backup
+  pub shows : ShowsIn name (base_of (done backup.image)) files
+
+-- A chain is restored: half way the name of the target is free, and then it is the database that the chain gives. A chain of kept backups
+-- gives the image that the begin of its last one kept, in the normal state.
+abbrev pub restoring : Files → (db : List ℕ) (names : List (List ℕ)) → OneTurn
+restoring files db names = record {
+  name = db;
+  knows = λ account. is_free_name files db ≡ is_free_entry (account.entry db);
+  turn = λ account. restore_turn files account db names;
+  half = λ now. is_free_file (now db) ≡ true;
+  done = λ now. (links : List Link) × (verdict files names ≡ Ok links) × ShowsIn db (base_from links) now;
+  takes = λ kept. (links : List Link) → verdict files names ≡ Ok links → AreKept kept links;
+  gives = λ kept now. (links : List Link) → verdict files names ≡ Ok links → ShowsKept kept (last_guid links) fixed db now;
+}
+
+-- A copy is fixed: nothing stands between. A copy of a kept backup has the image that the begin of that backup kept, in the normal state.
+abbrev pub fixing : Files → (db : List ℕ) → OneTurn
+fixing files db = record {
+  name = db;
+  knows = λ account. account.entry db ≡ entry_in files db;
+  turn = λ account. fixup_turn files db;
+  half = λ now. ⊥;
+  done = λ now. (bytes : List ℕ) × IsFixable files db bytes × IsFixed db bytes now;
+  takes = λ kept. (bytes : List ℕ) → IsFixable files db bytes → (r : Kept) × IsKeptAs kept (guid_of bytes) r;
+  gives = λ kept now. (bytes : List ℕ) → IsFixable files db bytes → ShowsKept kept (guid_of bytes) fixed db now;
+}
+
+-- the job
+abbrev pub one_turn : Files → Deed → OneTurn
+one_turn files (ToRestore db names) = restoring files db names
+one_turn files (ToFix db) = fixing files db
+
+-- a turn that makes no stroke and no file, as a refused one
+abbrev pub leaves_all : Event → Bool
+leaves_all turn = elim turn.made [ Some file ↦ false | None ↦ elim turn.strokes [ [] ↦ true | s ∷ ss ↦ false ] ]
+
+-- what a file was before: one of the things that a stop would have left of it, or what it read as
+abbrev pub Was : Type 1
+Was = List ℕ → File → Type 0
+
+-- what it read as
+abbrev pub Read : Files → Was
+Read files m file = file ≡ files m
+
+-- the file of the job is as it was, or half way, or as its turn leaves it
+abbrev pub IsOnItsWay : Was → OneTurn → Files → Type 0
+IsOnItsWay was job files = (was job.name (files job.name) ⊎ job.half files) ⊎ job.done files
+
+-- So it is once so much of the reply was said: as the turn leaves it, where that is anything. Where the turn leaves all, it is as it was.
+abbrev pub FileLeft : Was → OneTurn → Event → (part : List ℕ) → Files → Type 0
+FileLeft was job turn part files = elim (leaves_all turn) as (λ none. Type 0) [
+  | true ↦ was job.name (files job.name)
+  | false ↦ ((was job.name (files job.name) ⊎ job.half files) × (part ≡ [])) ⊎ job.done files
+]
+
+-- At a moment of the job: a front of its reply was said, its file is as it was, or half way, with nothing said, or as the turn leaves it, and other
+-- files are as they were.
+pub record TurnLeft (was : Was) (old : World) (job : OneTurn) (turn : Event) (files : Files) (said : List ℕ) : Type 0 where
+  pub out : IsSaid old (turn ∷ []) said
+  pub own : FileLeft was job turn out.part files
+  pub others : (m : List ℕ) → m ≢ job.name → was m (files m)
+
+-- its file is as the turn leaves it, and whatever a stop leaves of it
+pub record IsDoneFor (w : World) (job : OneTurn) : Type 0 where
+  pub now : job.done w.files
+  pub left : (files : Files) → LeavesAll w files → job.done files
+
+-- The job came to its end: its reply was said whole, the status is the one that it gives, and its file is as the turn leaves it, for good. A turn
+-- that leaves all has changed no file.
+pub record TurnEnded (status : Status) (old new : World) (job : OneTurn) (turn : Event) : Type 0 where
+  pub said : new.said ≡ old.said ++ output (turn ∷ [])
+  pub ended : number_of status ≡ status_of (replies_of (turn ∷ []))
+  pub done : leaves_all turn ≡ false → IsDoneFor new job
+  pub unchanged : leaves_all turn ≡ true → new.files ≡ old.files
+
+-- Where the files stood for the account, and the job takes files of kept backups, files stand for accounts with the same records: at each moment of
+-- the job, and behind it, however it ended; and where it came to its end, for the account behind its turn. What it has done is what the begin of
+-- a backup kept.
+pub record TurnStands (status : Status) (old new : World) (job : OneTurn) (turn : Event) (account : Account) : Type 0 where
+  pub moments : AtEachMoment old new (λ files said. HoldsKept files account.kept)
+  pub after : (later : Account) × StandsFor new later × (later.kept ≡ account.kept)
+  pub ended : status ≢ Device → status ≢ Memory → StandsFor new (account_behind job.name turn account)
+  pub gives : (files : Files) → job.done files → job.gives account.kept files
+
+-- What a run does of a job of one turn, where the account knows of the files what the job asks for: at each moment a stop leaves a front of it, and
+-- so do the files as they read now, however it ended.
+pub record DoesTurn (status : Status) (old new : World) (job : OneTurn) (account : Account) : Type 0 where
+  pub stops : AtEachMoment old new (TurnLeft (Leaves old) old job (job.turn account))
+  pub reads : TurnLeft (Read old.files) old job (job.turn account) new.files new.said
+  pub gave : GaveNothing old new
+  pub ended : status ≢ Device → status ≢ Memory → TurnEnded status old new job (job.turn account)
+  pub stands : StandsFor old account → job.takes account.kept → TurnStands status old new job (job.turn account) account
