@@ -3,6 +3,7 @@ use Rattle.std.proofs.Common.{true≢false, ◌≡◌, inl, inr, ⊎_elim, ℕ, 
 use Rattle.std.specs.Prelude.{Some, None, Result, Ok, Err, IfOk, OnOk}
 use Rattle.nb_host.specs.Files.{Files}
 use Rattle.nb_host.specs.World.{World}
+use Rattle.nb_host.specs.Crash.{Leaves}
 use Rattle.nb_host.specs.Moments.{AtEachMoment}
 use Rattle.nb_host.specs.declared.faults.Fault.{Fault}
 use Rattle.nb_host.specs.declared.faults.Fault.TheVariants.{Refused}
@@ -68,9 +69,9 @@ module _ (old : World) (account : Account) (given : Given) (db : List ℕ) (know
     small e = copy_scn old.files account db bytes knows copy
 
     -- what a stop leaves while it is fixed
-    fixing : (mid : World) → Changes old mid (Only db) (FixLeft old db) → Changes old mid (Only db) (TurnLeft old target base)
+    fixing : (mid : World) → Changes old mid (Only db) (FixLeft (Leaves old db) old db) → Changes old mid (Only db) (TurnLeft old target base)
     fixing mid is =
-        weaker_has old mid (Only db) (FixLeft old db) (TurnLeft old target base) is
+        weaker_has old mid (Only db) (FixLeft (Leaves old db) old db) (TurnLeft old target base) is
         (λ files. ⊎_elim (λ was. inl (inl was)) (λ done. inr (subst (λ (l : List ℕ). ShowsIn db (base_of (fixed (image_in l))) files) (some_same done.0 bytes (sym done.1.there ∙ copy.there)) done.2.shows)))
 
   module _ (mid : World) (result : Result (Unit {0}) Fault) (does : Fixes result old mid db) where

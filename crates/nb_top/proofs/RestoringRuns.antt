@@ -3,6 +3,7 @@ use Rattle.std.proofs.Common.{true≢false, ◌≡◌, ◌≢◌, inl, inr, ⊎_
 use Rattle.std.specs.Prelude.{Some, Result, Ok, Err, IfOk, OnOk}
 use Rattle.nb_host.specs.Files.{Files}
 use Rattle.nb_host.specs.World.{World}
+use Rattle.nb_host.specs.Crash.{Leaves}
 use Rattle.nb_host.specs.Moments.{AtEachMoment}
 use Rattle.nb_host.specs.declared.faults.Fault.{Fault}
 use Rattle.nb_host.specs.declared.faults.Fault.TheVariants.{Refused}
@@ -77,14 +78,14 @@ module _ (old : World) (account : Account) (given : Given) (db : List ℕ) (name
     small e = absurd (true≢false e)
 
     -- what a stop leaves while it is made
-    left_making : (files : Files) → RestoreLeft old db names files → TurnLeft old target (base_from links) files
+    left_making : (files : Files) → RestoreLeft (Leaves old db) old db names files → TurnLeft old target (base_from links) files
     left_making files =
         ⊎_elim
         (λ was. inl (inl was))
         (⊎_elim (λ free. inl (inr (refl, free))) (λ made. inr (subst (λ (ls : List Link). ShowsIn db (base_from ls) files) (same_links (verdict old.files names) made.0 links made.1 accepted) made.2)))
 
-    making : (mid : World) → Changes old mid (Only db) (RestoreLeft old db names) → Changes old mid (Only db) (TurnLeft old target (base_from links))
-    making mid is = weaker_has old mid (Only db) (RestoreLeft old db names) (TurnLeft old target (base_from links)) is left_making
+    making : (mid : World) → Changes old mid (Only db) (RestoreLeft (Leaves old db) old db names) → Changes old mid (Only db) (TurnLeft old target (base_from links))
+    making mid is = weaker_has old mid (Only db) (RestoreLeft (Leaves old db) old db names) (TurnLeft old target (base_from links)) is left_making
 
   module _ (mid : World) (result : Result ℕ Fault) (does : Restores result old mid db names) where
     quiet_refused : (refusal : Refusal) → WhyRefused old.files account db names refusal → Quiet old mid
