@@ -22,7 +22,7 @@ use Rattle.nb_model.specs.Main.{HoldsMain}
 use Rattle.nb_model.specs.Owner.{delta_name}
 use Rattle.nb_model.specs.Strokes.{fixed}
 use Rattle.nb_model.proofs.MainLaws.{owner_main}
-use Rattle.nb_restore.specs.Target.{IsKept}
+use Rattle.nb_restore.specs.Target.{IsKept, ReadsOr}
 use Rattle.nb_restore.proofs.FinishLaws.{normal_page}
 use Rattle.nb_fixup.specs.Fixup.{fixup_cause, fixed_bytes, IsFixable, IsFixed, FixLeft, FixAnswers, Fixes}
 use Rattle.nb_fixup.specs.Tests.{Tested}
@@ -49,7 +49,8 @@ module _ (old new : World) (name : List ℕ) (quiet : Quiet old new) where
   kept_so : (result : Result (Unit {0}) Fault) → FixAnswers result old new name → Fixes result old new name
   kept_so result answer = record {
     answer = answer;
-    left = rested old new (Only name) (FixLeft old name) quiet.still quiet.said quiet.moments (λ files left. inl (left name));
+    left = rested old new (Only name) (FixLeft (Leaves old name) old name) quiet.still quiet.said quiet.moments (λ files left. inl (left name));
+    reads = inl (ap (λ (f : Files). f name) quiet.still.files);
     gave = record { guids = quiet.guids; times = quiet.times };
     unfit = λ some. quiet;
   }
@@ -76,30 +77,37 @@ module _ (old mid new : World) (name bytes : List ℕ) (page : Page) (quiet : Qu
   abbrev written : File → Type 0
   written = PageLeft (0 * length page) page (mid.files name)
 
-  left_all : Leaves old name (old.files name) → Changes mid new (Only name) (Remade mid name written) → Changes old new (Only name) (FixLeft old name)
+  left_all : Leaves old name (old.files name) → Changes mid new (Only name) (Remade mid name written) → Changes old new (Only name) (FixLeft (Leaves old name) old name)
   left_all reads second =
-      kept_then old mid new (Only name) (Remade mid name written) (FixLeft old name) (rested old mid NoNames (LeavesAll old) quiet.still quiet.said quiet.moments (λ files left. left)) second (λ files left. inl (left name))
+      kept_then old mid new (Only name) (Remade mid name written) (FixLeft (Leaves old name) old name) (rested old mid NoNames (LeavesAll old) quiet.still quiet.said quiet.moments (λ files left. left)) second (λ files left. inl (left name))
       (λ files. ⊎_elim (λ was. inl (left_before old mid _ quiet.still.left name (files name) tt was))
       (λ put. ⊎_elim (λ same. inl (subst (λ (f : File). Leaves old name f) (sym (same ∙ sym copy.there)) reads)) (λ done. inr (bytes, copy, fixed_is files done))
       (first_left bytes formed page is (files name) (subst (λ (f : File). PageLeft (0 * length page) page f (files name)) there put))))
 
+  -- page 0 makes it fixed
+  put_is : with_page (mid.files name) (0 * length page) page ≡ Some (fixed_bytes bytes)
+  put_is = ap (λ (f : File). with_page f (0 * length page) page) there ∙ first_put bytes formed page is
+
+  -- and so the file reads
+  reads_all : ReadsOr mid new name (λ file. file ≡ with_page (mid.files name) (0 * length page) page) → FixLeft (λ file. file ≡ old.files name) old name new.files
+  reads_all = ⊎_elim (λ same. inl (same ∙ ap (λ (f : Files). f name) quiet.still.files)) (λ put. inr (bytes, copy, fixed_is new.files (put ∙ put_is)))
+
   gave_all : GaveNothing mid new → GaveNothing old new
   gave_all gave = nothing_joined old mid new (record { guids = quiet.guids; times = quiet.times }) gave
 
-  fixes : (result : Result (Unit {0}) Fault) → FixAnswers result old new name → Leaves old name (old.files name) → Changes mid new (Only name) (Remade mid name written) → GaveNothing mid new → Fixes result old new name
-  fixes result answer reads left gave = record { answer = answer; left = left_all reads left; gave = gave_all gave; unfit = λ some. absurd (some copy.fit) }
+  fixes : (result : Result (Unit {0}) Fault) → FixAnswers result old new name → Leaves old name (old.files name) → Changes mid new (Only name) (Remade mid name written) → ReadsOr mid new name (λ file. file ≡ with_page (mid.files name) (0 * length page) page) → GaveNothing mid new → Fixes result old new name
+  fixes result answer there_left left reads gave = record { answer = answer; left = left_all there_left left; reads = reads_all reads; gave = gave_all gave; unfit = λ some. absurd (some copy.fit) }
 
   -- the device failed
-  pub fix_fails : Leaves old name (old.files name) → Changes mid new (Only name) (Remade mid name written) → GaveNothing mid new → Fixes (Err Device) old new name
-  fix_fails reads left gave = fixes (Err Device) tt reads left gave
+  pub fix_fails : Leaves old name (old.files name) → Changes mid new (Only name) (Remade mid name written) → ReadsOr mid new name (λ file. file ≡ with_page (mid.files name) (0 * length page) page) → GaveNothing mid new → Fixes (Err Device) old new name
+  fix_fails there_left left reads gave = fixes (Err Device) tt there_left left reads gave
 
   -- or the page is kept for good
-  pub fix_done : IsKept new name (with_page (mid.files name) (0 * length page) page) → Leaves old name (old.files name) → Changes mid new (Only name) (Remade mid name written) → GaveNothing mid new → Fixes (Ok tt) old new name
-  fix_done kept reads left gave =
-      let put : with_page (mid.files name) (0 * length page) page ≡ Some (fixed_bytes bytes) = ap (λ (f : File). with_page f (0 * length page) page) there ∙ first_put bytes formed page is in
+  pub fix_done : IsKept new name (with_page (mid.files name) (0 * length page) page) → Leaves old name (old.files name) → Changes mid new (Only name) (Remade mid name written) → ReadsOr mid new name (λ file. file ≡ with_page (mid.files name) (0 * length page) page) → GaveNothing mid new → Fixes (Ok tt) old new name
+  fix_done kept there_left left reads gave =
       fixes (Ok tt) (record {
         bytes = bytes;
         copy = copy;
-        left = λ files leaves. fixed_is files (durable_is new name _ kept.durable (files name) (leaves name) ∙ put);
-        now = fixed_is new.files (kept.reads ∙ put);
-      }) reads left gave
+        left = λ files leaves. fixed_is files (durable_is new name _ kept.durable (files name) (leaves name) ∙ put_is);
+        now = fixed_is new.files (kept.reads ∙ put_is);
+      }) there_left left reads gave

@@ -1,7 +1,7 @@
 -- A copy of a stalled database becomes a database in the normal state, in place.
 use Rattle.std.specs.Prelude.{◌≡◌, ◌≢◌, ◌⊎◌, ℕ, List, Some, None, Result, Ok, Err}
 use Rattle.nb_fields.specs.Bytes.{bytes_of, with_part}
-use Rattle.nb_host.specs.Files.{Files}
+use Rattle.nb_host.specs.Files.{File, Files}
 use Rattle.nb_host.specs.World.{World}
 use Rattle.nb_host.specs.Crash.{Leaves, LeavesAll}
 use Rattle.nb_host.specs.declared.faults.Fault.{Fault}
@@ -35,9 +35,9 @@ pub record IsFixed (name bytes : List ℕ) (files : Files) : Type 0 where
   pub file : files name ≡ Some (fixed_bytes bytes)
   pub shows : ShowsIn name (base_of (fixed (image_in bytes))) files
 
--- whatever a stop leaves of the file while it is fixed: it is as a stop would have left it before, or fixed
-abbrev pub FixLeft : (old : World) (name : List ℕ) → Files → Type 0
-FixLeft old name files = Leaves old name (files name) ⊎ ((bytes : List ℕ) × IsFixable old.files name bytes × IsFixed name bytes files)
+-- what is left of the file while it is fixed: it is as it `was`, or fixed
+abbrev pub FixLeft : (was : File → Type 0) (old : World) (name : List ℕ) → Files → Type 0
+FixLeft was old name files = was (files name) ⊎ ((bytes : List ℕ) × IsFixable old.files name bytes × IsFixed name bytes files)
 
 -- the file is fixed, as it reads and whatever a stop leaves of it
 pub record IsKeptFixed (old new : World) (name : List ℕ) : Type 0 where
@@ -56,7 +56,9 @@ FixAnswers (Err Memory) old new name = ⊥
 pub record Fixes (result : Result (Unit {0}) Fault) (old new : World) (name : List ℕ) : Type 0 where
   pub answer : FixAnswers result old new name
   -- no other file is touched, and nothing is said
-  pub left : Changes old new (Only name) (FixLeft old name)
+  pub left : Changes old new (Only name) (FixLeft (Leaves old name) old name)
+  -- so the file reads, whatever is answered
+  pub reads : FixLeft (λ file. file ≡ old.files name) old name new.files
   pub gave : GaveNothing old new
   -- where the file can't be fixed nothing changes, also where the device fails
   pub unfit : fixup_cause old.files name ≢ None → Quiet old new

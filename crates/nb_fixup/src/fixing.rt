@@ -7,7 +7,7 @@ ghost use Rattle.nb_host.specs.Causes.{CountsFault};
 ghost use Rattle.nb_host.specs.Crash.{PageLeft};
 ghost use Rattle.nb_host.specs.Files.{with_page};
 ghost use Rattle.nb_host.specs.declared.faults.Fault.TheVariants.{Memory as MemoryFault};
-ghost use Rattle.nb_restore.specs.Target.{IsKept};
+ghost use Rattle.nb_restore.specs.Target.{IsKept, ReadsOr};
 ghost use Rattle.nb_fixup.specs.Fixup.{Fixes};
 
 use crate::copy::read_copy;
@@ -23,6 +23,7 @@ fn write_first<H: Host>(host: &mut H, name: &Name, page: &[u8]) -> Result<(), Ho
     ensures left { IsTrue H.tells
         → Changes (H.world host.old) (H.world host.new) (Only name.now) (Remade (H.world host.old) name.now (PageLeft (0 * length page.now) page.now ((H.world host.old).files name.now))) }
     ensures done { IsTrue H.tells → OnOk result (IsKept (H.world host.new) name.now (with_page ((H.world host.old).files name.now) (0 * length page.now) page.now)) }
+    ensures now { IsTrue H.tells → ReadsOr (H.world host.old) (H.world host.new) name.now (λ file. file ≡ with_page ((H.world host.old).files name.now) (0 * length page.now) page.now) }
     ensures gave { GaveNothing (H.world host.old) (H.world host.new) }
     ensures reads { (H.world host.new).reads ≡ (H.world host.old).reads }
     ensures cause { CountsFault result (H.faults host.old) (H.faults host.new) }

@@ -1,6 +1,6 @@
 -- The first 64 bytes of the target stay while pages behind page 0 are written.
-use Rattle.std.proofs.Common.{◌≡◌, inl, inr, ℕ, ◌+◌, ◌-◌, ◌*◌, ◌≤◌, List, ◌++◌, length, take, drop, replicate, sym, ap, subst, ◌∙◌, arith, length-append, mul-le-mul_right}
-use Rattle.std.specs.Prelude.{Bool, IsTrue, Some, Result, OnOk}
+use Rattle.std.proofs.Common.{◌≡◌, ◌⊎◌, inl, inr, ⊎_elim, ℕ, ◌+◌, ◌-◌, ◌*◌, ◌≤◌, List, ◌++◌, length, take, drop, replicate, sym, ap, subst, ◌∙◌, arith, length-append, mul-le-mul_right}
+use Rattle.std.specs.Prelude.{Bool, IsTrue, Some, Result, Ok, Err, OnOk}
 use Rattle.std.proofs.lemmas.List.{take-append-le, take-take, length-take-le, length-replicate}
 use Rattle.nb_host.specs.Files.{File, Files, bytes_of, padded, put_at, with_file, with_page}
 use Rattle.nb_host.specs.World.{World}
@@ -57,6 +57,13 @@ named old new name file is = ap (λ (f : Files). f name) is ∙ with_file-same o
 -- at Ok the page was put
 pub put_on_ok : {T E : Type 0} (tells : Bool) (result : Result T E) (old new : World) (name : List ℕ) (at : ℕ) (page : List ℕ) → IsTrue tells → WritesPage tells result old new name at page → OnOk result (new.files name ≡ with_page (old.files name) at page)
 put_on_ok tells result old new name at page told writes = on_ok_then result (named old.files new.files name (with_page (old.files name) at page)) (whole_on_ok result old.files _ new.files (writes.files told))
+
+-- the file reads as before the page was written, or with it
+pub page_read : {T E : Type 0} (tells : Bool) (result : Result T E) (old new : World) (name : List ℕ) (at : ℕ) (page : List ℕ) → IsTrue tells → WritesPage tells result old new name at page
+    → (new.files name ≡ old.files name) ⊎ (new.files name ≡ with_page (old.files name) at page)
+page_read tells (Ok value) old new name at page told writes = inr (named old.files new.files name (with_page (old.files name) at page) (writes.files told))
+page_read tells (Err e) old new name at page told writes =
+    ⊎_elim (λ same. inl (ap (λ (f : Files). f name) same)) (λ put. inr (named old.files new.files name (with_page (old.files name) at page) put)) (writes.files told)
 
 module _ (name : List ℕ) where
   -- before the first call

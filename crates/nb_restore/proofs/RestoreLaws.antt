@@ -1,10 +1,11 @@
 -- What a restore leaves, from its plan on.
-use Rattle.std.proofs.Common.{◌≡◌, inl, inr, ⊎_elim, ℕ, List, length, get_or, sym, ap, subst, ◌∙◌}
-use Rattle.std.specs.Prelude.{Result, Ok, Err}
+use Rattle.std.proofs.Common.{◌≡◌, ◌⊎◌, inl, inr, ⊎_elim, ℕ, List, length, get_or, sym, ap, subst, ◌∙◌}
+use Rattle.std.specs.Prelude.{Result, Ok, Err, true}
+use Rattle.nb_fields.specs.Free.{is_free_file}
 use Rattle.std.proofs.lemmas.Bool.{true≢false}
 use Rattle.nb_host.specs.Files.{File, Files}
 use Rattle.nb_host.specs.World.{World}
-use Rattle.nb_host.specs.Crash.{LeavesAll}
+use Rattle.nb_host.specs.Crash.{Leaves, LeavesAll}
 use Rattle.nb_host.specs.declared.faults.Fault.{Fault}
 use Rattle.nb_host.specs.declared.faults.Fault.TheVariants.{Refused, Device, Memory}
 use Rattle.nb_change.specs.Changes.{Changes, Only, NoNames, Remade}
@@ -25,14 +26,15 @@ use Rattle.nb_restore.specs.declared.plan.Plan.{Plan}
 use Rattle.nb_restore.specs.Copied.{IsDone}
 use Rattle.nb_restore.specs.Plan.{IsPrepared, PlanSays}
 use Rattle.nb_restore.specs.Restore.{base_from, RestoreLeft, RestoreAnswers, Restores}
-use Rattle.nb_restore.specs.Target.{IsFreeOr, IsPlan, KeepsImage, restored}
+use Rattle.nb_restore.specs.Target.{IsFreeOr, IsPlan, KeepsImage, ReadsOr, restored}
 use Rattle.nb_restore.proofs.AnswerLaws.{err_ok}
 
 -- no plan was made, so nothing is done
 pub not_prepared : (old mid : World) (target : List ℕ) (names : List (List ℕ)) (fault : Fault) → Quiet old mid → PlanSays old.files target names (Err fault) → Restores (Err fault) old mid target names
 not_prepared old mid target names fault quiet says = record {
   answer = answers fault says;
-  left = rested old mid (Only target) (RestoreLeft old target names) quiet.still quiet.said quiet.moments (λ files left. inl (left target));
+  left = rested old mid (Only target) (RestoreLeft (Leaves old target) old target names) quiet.still quiet.said quiet.moments (λ files left. inl (left target));
+  reads = inl (ap (λ (f : Files). f target) quiet.still.files);
   gave = record { guids = quiet.guids; times = quiet.times };
   taken = λ taken. quiet;
   broken = λ refusal broken. quiet;
@@ -64,33 +66,41 @@ module _ (old mid new : World) (target : List ℕ) (names : List (List ℕ)) (pl
   shows : (files : Files) → HoldsMain image (files target) → ShowsIn target (base_from links) files
   shows files holds = owner_main target (fixed (applied links)) (files target) (files (delta_name target)) (subst (λ (i : Image). HoldsMain i (files target)) (ap fixed (sym prepared.gives)) holds)
 
-  left_all : Changes mid new (Only target) (Remade mid target (IsFreeOr image)) → Changes old new (Only target) (RestoreLeft old target names)
+  -- what is made is free, or the database of the chain
+  free_or_given : (files : Files) → IsFreeOr image (files target) → (is_free_file (files target) ≡ true) ⊎ ((ls : List Link) × (verdict old.files names ≡ Ok ls) × ShowsIn target (base_from ls) files)
+  free_or_given files = ⊎_elim inl (λ holds. inr (links, prepared.chain.accepted, shows files holds))
+
+  left_all : Changes mid new (Only target) (Remade mid target (IsFreeOr image)) → Changes old new (Only target) (RestoreLeft (Leaves old target) old target names)
   left_all second =
-      kept_then old mid new (Only target) (Remade mid target (IsFreeOr image)) (RestoreLeft old target names) (rested old mid NoNames (LeavesAll old) quiet.still quiet.said quiet.moments (λ files left. left)) second (λ files left. inl (left target))
-      (λ files. ⊎_elim (λ was. inl (left_before old mid _ quiet.still.left target (files target) tt was))
-      (⊎_elim (λ free. inr (inl free)) (λ holds. inr (inr (links, prepared.chain.accepted, shows files holds)))))
+      kept_then old mid new (Only target) (Remade mid target (IsFreeOr image)) (RestoreLeft (Leaves old target) old target names) (rested old mid NoNames (LeavesAll old) quiet.still quiet.said quiet.moments (λ files left. left)) second (λ files left. inl (left target))
+      (λ files. ⊎_elim (λ was. inl (left_before old mid _ quiet.still.left target (files target) tt was)) (λ made. inr (free_or_given files made)))
+
+  -- and so the target reads
+  reads_all : ReadsOr mid new target (IsFreeOr image) → RestoreLeft (λ file. file ≡ old.files target) old target names new.files
+  reads_all = ⊎_elim (λ same. inl (same ∙ ap (λ (f : Files). f target) quiet.still.files)) (λ made. inr (free_or_given new.files made))
 
   gave_all : GaveNothing mid new → GaveNothing old new
   gave_all gave = nothing_joined old mid new (record { guids = quiet.guids; times = quiet.times }) gave
 
-  restores : (result : Result ℕ Fault) → RestoreAnswers result old new target names → Changes mid new (Only target) (Remade mid target (IsFreeOr image)) → GaveNothing mid new → Restores result old new target names
-  restores result answer left gave = record {
+  restores : (result : Result ℕ Fault) → RestoreAnswers result old new target names → Changes mid new (Only target) (Remade mid target (IsFreeOr image)) → ReadsOr mid new target (IsFreeOr image) → GaveNothing mid new → Restores result old new target names
+  restores result answer left reads gave = record {
     answer = answer;
     left = left_all left;
+    reads = reads_all reads;
     gave = gave_all gave;
     taken = λ taken. absurd (true≢false (sym prepared.chain.free ∙ taken));
     broken = λ refusal broken. absurd (err_ok refusal links (verdict old.files names) broken prepared.chain.accepted);
   }
 
   -- the device failed while the target was made
-  pub restore_fails : (T P : Type 0) (fault : Fault) → IsDone {T = T} (Err fault) P → Changes mid new (Only target) (Remade mid target (IsFreeOr image)) → GaveNothing mid new → Restores (Err fault) old new target names
-  restore_fails T P (Refused refusal) says left gave = absurd says
-  restore_fails T P Device says left gave = restores (Err Device) tt left gave
-  restore_fails T P Memory says left gave = absurd says
+  pub restore_fails : (T P : Type 0) (fault : Fault) → IsDone {T = T} (Err fault) P → Changes mid new (Only target) (Remade mid target (IsFreeOr image)) → ReadsOr mid new target (IsFreeOr image) → GaveNothing mid new → Restores (Err fault) old new target names
+  restore_fails T P (Refused refusal) says left reads gave = absurd says
+  restore_fails T P Device says left reads gave = restores (Err Device) tt left reads gave
+  restore_fails T P Memory says left reads gave = absurd says
 
   -- or the target is whole, and kept for good
-  pub restore_done : KeepsImage new target image → Changes mid new (Only target) (Remade mid target (IsFreeOr image)) → GaveNothing mid new → Restores (Ok plan.count) old new target names
-  restore_done keeps left gave =
+  pub restore_done : KeepsImage new target image → Changes mid new (Only target) (Remade mid target (IsFreeOr image)) → ReadsOr mid new target (IsFreeOr image) → GaveNothing mid new → Restores (Ok plan.count) old new target names
+  restore_done keeps left reads gave =
       restores (Ok plan.count) (
         prepared.chain.free,
         record {
@@ -101,4 +111,4 @@ module _ (old mid new : World) (target : List ℕ) (names : List (List ℕ)) (pl
           shows = shows new.files (subst (λ (f : File). HoldsMain image f) (sym keeps.kept.reads) keeps.holds);
           apart = prepared.apart;
         },
-      ) left gave
+      ) left reads gave

@@ -1,6 +1,6 @@
 -- The target is made, so that a stop leaves its name free, and made whole by its page 0.
 use Rattle.std.proofs.Common.{◌≡◌, inl, inr, ⊎_elim, ℕ, zero, suc, ◌+◌, ◌-◌, ◌*◌, ◌≤◌, List, [], ◌++◌, length, take, drop, replicate, refl, sym, ap, subst, ◌∙◌, arith}
-use Rattle.std.specs.Prelude.{Bool, true, ◌&&◌, ◌==◌, IsTrue, None, Some, Result, OnOk}
+use Rattle.std.specs.Prelude.{Bool, true, ◌&&◌, ◌==◌, IsTrue, None, Some, Result, Ok, Err, OnOk}
 use Rattle.std.proofs.lemmas.Bool.{or_left, or_right, and_from}
 use Rattle.std.proofs.lemmas.List.{append-nil, drop_all}
 use Rattle.nb_fields.specs.Bytes.{is_zeros}
@@ -13,14 +13,15 @@ use Rattle.nb_host.specs.Crash.{Leaves, PageLeft, IsDurable}
 use Rattle.nb_host.specs.Calls.{Remakes, WritesPage, Syncs}
 use Rattle.nb_host.specs.Moments.{IsTimely, Passes}
 use Rattle.nb_change.specs.Changes.{Changes, Only, Moved, Remade}
-use Rattle.nb_change.proofs.ChangesLaws.{still_more, composed, remade_on}
+use Rattle.nb_change.proofs.ChangesLaws.{still_more, weaker_has, remade_on}
 use Rattle.nb_change.proofs.CallLaws.{page_others, remade_alone, remade_step}
 use Rattle.nb_change.proofs.MovedLaws.{moved_from, remade_begun}
 use Rattle.nb_change.proofs.ResultLaws.{on_ok_then}
 use Rattle.nb_change.proofs.SettledLaws.{synced}
 use Rattle.nb_model.specs.Image.{Page, Image}
 use Rattle.nb_restore.specs.Copied.{BeginsWith, KeepsFront}
-use Rattle.nb_restore.specs.Target.{IsFree, IsFreeOr, IsKept, IsUnfinishedPage}
+use Rattle.nb_restore.specs.Target.{IsFree, IsFreeOr, IsKept, IsUnfinishedPage, ReadsOr}
+use Rattle.nb_restore.proofs.FrontLaws.{named, page_read}
 
 -- zeros
 zeros-take : (k n : ℕ) → is_zeros (take k (replicate n 0)) ≡ true
@@ -100,16 +101,24 @@ module _ (target : List ℕ) where
       (page_others tells result mid new target (0 * length page) page told writes) silent
       durable.only (λ c left. left) (λ c d e left. subst (λ (f : File). PageLeft (0 * length page) page f d) e left)
 
+  -- as the file reads while it is made
+  pub made_reads : {T E : Type 0} (tells : Bool) (result : Result T E) (old new : World) → IsTrue tells → Remakes tells result old new target (Some []) → ReadsOr old new target IsFree
+  made_reads tells (Ok value) old new told remakes = inr (subst IsFree (sym (named old.files new.files target (Some []) (remakes.files told))) free_empty)
+  made_reads tells (Err e) old new told remakes =
+      ⊎_elim (λ same. inl (ap (λ (f : Files). f target) same)) (λ made. inr (subst IsFree (sym (named old.files new.files target (Some []) made)) free_empty)) (remakes.files told)
+
+  -- and while page 0 is written into it
+  pub page_reads : {T E : Type 0} (tells : Bool) (result : Result T E) (mid new : World) (page : Page) → IsTrue tells → IsUnfinishedPage page → mid.files target ≡ Some [] → WritesPage tells result mid new target (0 * length page) page → IsFree (new.files target)
+  page_reads tells result mid new page told is empty writes = ⊎_elim (λ same. subst IsFree (sym (same ∙ empty)) free_empty) (λ put. subst IsFree (sym (put ∙ ap (λ (f : File). with_page f (0 * length page) page) empty ∙ put-alone page)) (free_page page is)) (page_read tells result mid new target (0 * length page) page told writes)
+
   -- Behind the page that says that a restore goes on, other pages are written: whatever a stop leaves begins with that page.
-  pub begun_then : (old mid new : World) (page : Page) → IsUnfinishedPage page → 64 ≤ length page → Changes old mid (Only target) (Remade old target IsFree) → IsKept mid target (Some page) → Changes mid new (Only target) (Moved mid target KeepsFront)
-      → Changes old new (Only target) (Remade old target IsFree)
-  begun_then old mid new page is long first kept second =
-      composed old mid new (Only target) (Remade old target IsFree) (Moved mid target KeepsFront) (Remade old target IsFree) first second (λ files has. has)
-      (λ files moved. inr (free_front page (files target) is (moved_from mid target (Some page) KeepsFront files kept.durable moved (take 64 page) (record { long = long; is = refl }))))
+  pub begun_then : (mid new : World) (page : Page) → IsUnfinishedPage page → 64 ≤ length page → IsKept mid target (Some page) → Changes mid new (Only target) (Moved mid target KeepsFront) → Changes mid new (Only target) (λ files. IsFree (files target))
+  begun_then mid new page is long kept more =
+      weaker_has mid new (Only target) (Moved mid target KeepsFront) (λ files. IsFree (files target)) more
+      (λ files moved. free_front page (files target) is (moved_from mid target (Some page) KeepsFront files kept.durable moved (take 64 page) (record { long = long; is = refl })))
 
   -- Then page 0 is written over it: a stop leaves the name free, or the whole.
-  pub then_done : (old mid new : World) (image : Image) (made : File → Type 0) (there : File) → Changes old mid (Only target) (Remade old target IsFree) → Leaves mid target there → Changes mid new (Only target) (Remade mid target made)
-      → ((c : File) → made c → IsFreeOr image c) → Changes old new (Only target) (Remade old target (IsFreeOr image))
+  pub then_done : (old mid new : World) (image : Image) (made : File → Type 0) (there : File) → Changes old mid (Only target) (λ files. IsFree (files target)) → Leaves mid target there → Changes mid new (Only target) (Remade mid target made)
+      → ((c : File) → made c → IsFreeOr image c) → Changes old new (Only target) (λ files. IsFreeOr image (files target))
   then_done old mid new image made there first was second by =
-      remade_on old mid new (Only target) (Remade old target IsFree) (Remade old target (IsFreeOr image)) target made there first second refl was
-      (λ files. ⊎_elim inl (λ free. inr (inl free))) (λ before files left has is done others. inr (by (files target) done))
+      remade_on old mid new (Only target) (λ files. IsFree (files target)) (λ files. IsFreeOr image (files target)) target made there first second refl was (λ files free. inl free) (λ before files left has is done others. by (files target) done)

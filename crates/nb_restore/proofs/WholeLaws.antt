@@ -1,5 +1,5 @@
 -- The target from its making to its page 0 in the normal state.
-use Rattle.std.proofs.Common.{◌≡◌, inl, ℕ, ◌*◌, ◌≤◌, List, ◌++◌, length, drop, sym, subst, ◌∙◌, arith}
+use Rattle.std.proofs.Common.{◌≡◌, inl, inr, ⊎_elim, ℕ, ◌*◌, ◌≤◌, List, ◌++◌, length, drop, sym, subst, ◌∙◌, arith}
 use Rattle.std.specs.Prelude.{IsTrue, Some}
 use Rattle.nb_fields.specs.Places.{is_page_size}
 use Rattle.nb_fields.proofs.SizeLemmas.{size_facts}
@@ -7,7 +7,7 @@ use Rattle.nb_host.specs.Files.{with_page}
 use Rattle.nb_host.specs.World.{World}
 use Rattle.nb_host.specs.Crash.{Leaves, PageLeft}
 use Rattle.nb_change.specs.Changes.{Changes, Only, Moved, Remade}
-use Rattle.nb_change.proofs.MovedLaws.{remade_weaker}
+use Rattle.nb_change.proofs.ChangesLaws.{composed, weaker_has}
 use Rattle.nb_model.specs.Image.{Page, Image, trimmed}
 use Rattle.nb_model.specs.Levels.{joined}
 use Rattle.nb_model.specs.Restoring.{Link, all_over}
@@ -31,21 +31,31 @@ pub record IsBegun (old mid : World) (target level_0 : List ℕ) (size count : �
   pub left : Changes old mid (Only target) (Remade old target IsFree)
   pub kept : IsKept mid target (Some page)
 
--- All pages but page 0 are written. In its place that page still stands.
-pub record IsWritten (old now : World) (target : List ℕ) (size : ℕ) (start first : Page) (image : Image) : Type 0 where
+-- since the target was begun a stop leaves its name free, or this image
+abbrev pub Since : (mid new : World) (target : List ℕ) (image : Image) → Type 0
+Since mid new target image = Changes mid new (Only target) (λ files. IsFreeOr image (files target))
+
+-- All pages but page 0 are written since the target was begun. In its place that page still stands.
+pub record IsWritten (mid now : World) (target : List ℕ) (size : ℕ) (start first : Page) (image : Image) : Type 0 where
   pub size_is : IsTrue (is_page_size size)
   pub stands : IsUnfinishedPage start
-  pub left : Changes old now (Only target) (Remade old target IsFree)
+  pub free : Changes mid now (Only target) (λ files. IsFree (files target))
   pub holds : Holds size start first image (now.files target)
   pub head : HasHead size 5 image
 
 module _ (old mid : World) (target level_0 : List ℕ) (size count : ℕ) (readers : List Reading) (first page : Page) (pages : List Page) (links : List Link) (begun : IsBegun old mid target level_0 size count readers first page pages links) where
   -- while pages behind page 0 are written the name stays free
-  stays_free : (new : World) → Changes mid new (Only target) (Moved mid target KeepsFront) → Changes old new (Only target) (Remade old target IsFree)
-  stays_free new more = let wide = (size_facts size begun.size_is).at_least in begun_then target old mid new page begun.plan.stands (omega (arith, begun.long, wide)) begun.left begun.kept more
+  stays_free : (new : World) → Changes mid new (Only target) (Moved mid target KeepsFront) → Changes mid new (Only target) (λ files. IsFree (files target))
+  stays_free new more = let wide = (size_facts size begun.size_is).at_least in begun_then target mid new page begun.plan.stands (omega (arith, begun.long, wide)) begun.kept more
 
-  pub part_left : (new : World) → Changes mid new (Only target) (Moved mid target KeepsFront) → Changes old new (Only target) (Remade old target (IsFreeOr (restored pages links)))
-  part_left new more = remade_weaker old new (Only target) target IsFree (IsFreeOr (restored pages links)) (stays_free new more) (λ c free. inl free)
+  pub part_since : (new : World) → Changes mid new (Only target) (Moved mid target KeepsFront) → Since mid new target (restored pages links)
+  part_since new more = weaker_has mid new (Only target) (λ files. IsFree (files target)) (λ files. IsFreeOr (restored pages links) (files target)) (stays_free new more) (λ files free. inl free)
+
+  -- with its making before
+  pub since_left : (new : World) → Since mid new target (restored pages links) → Changes old new (Only target) (Remade old target (IsFreeOr (restored pages links)))
+  since_left new since =
+      composed old mid new (Only target) (Remade old target IsFree) (λ files. IsFreeOr (restored pages links) (files target)) (Remade old target (IsFreeOr (restored pages links))) begun.left since
+      (λ files. ⊎_elim inl (λ free. inr (inl free))) (λ files has. inr has)
 
   -- level 0 and the level files are as they were
   pub level_0_there : mid.files level_0 ≡ Some (joined pages)
@@ -53,12 +63,12 @@ module _ (old mid : World) (target level_0 : List ℕ) (size count : ℕ) (reade
 
   pub readers_ready : (new : World) (wide : ℕ) → wide ≡ size → Changes mid new (Only target) (Moved mid target KeepsFront) → AreReady new.files target wide links readers
   readers_ready new wide same more =
-      subst (λ k. AreReady new.files target k links readers) (sym same) (ready_still old.files new.files target size links readers (λ m other. (stays_free new more).others_read m other) begun.plan.ready)
+      subst (λ k. AreReady new.files target k links readers) (sym same) (ready_still old.files new.files target size links readers (λ m other. more.others_read m other ∙ begun.left.others_read m other) begun.plan.ready)
 
   -- the pages of level 0 and of the level files were written
   pub all_written : (copied new : World) (wide : ℕ) (last : Page) → wide ≡ size → Changes mid copied (Only target) (Moved mid target KeepsFront) → Changes copied new (Only target) (Moved copied target KeepsFront)
       → copied.files target ≡ Some (page ++ drop size (joined pages)) → OverwritesAll wide links (copied.files target) (new.files target) first last
-      → IsWritten old new target size page last (all_over links pages)
+      → IsWritten mid new target size page last (all_over links pages)
   all_written copied new wide last same first_part second_part level_0_is over =
       let some : 1 ≤ length pages = omega (arith, begun.plan.whole.least, begun.plan.whole.long) in
       let held : Holds size page first pages (copied.files target) =
@@ -66,16 +76,16 @@ module _ (old mid : World) (target level_0 : List ℕ) (size count : ℕ) (reade
       record {
         size_is = begun.size_is;
         stands = begun.plan.stands;
-        left = stays_free new (front_joined target mid copied new first_part second_part);
+        free = stays_free new (front_joined target mid copied new first_part second_part);
         holds = subst (λ k. OverwritesAll k links (copied.files target) (new.files target) first last) same over page pages held;
         head = head_all size 5 links pages (ready_headed old.files target size links readers begun.plan.ready) (level_0_head old.files target level_0 size count pages begun.plan.whole);
       }
 
 module _ (old mid new : World) (target : List ℕ) (size : ℕ) (start first : Page) (image : Image) (written : IsWritten old mid target size start first image) (last : Page) (last_is : last ≡ normal_page first) where
   -- page 0 is written: a stop leaves the name free, or the whole
-  pub all_left : Leaves mid target (mid.files target) → Changes mid new (Only target) (Remade mid target (PageLeft (0 * length last) last (mid.files target))) → Changes old new (Only target) (Remade old target (IsFreeOr (fixed (trimmed image))))
-  all_left was more =
-      then_done target old mid new (fixed (trimmed image)) (PageLeft (0 * length last) last (mid.files target)) (mid.files target) written.left was more
+  pub all_since : Leaves mid target (mid.files target) → Changes mid new (Only target) (Remade mid target (PageLeft (0 * length last) last (mid.files target))) → Since old new target (fixed (trimmed image))
+  all_since was more =
+      then_done target old mid new (fixed (trimmed image)) (PageLeft (0 * length last) last (mid.files target)) (mid.files target) written.free was more
       (λ c. last_left size start first image (mid.files target) written.size_is written.holds written.head last c written.stands last_is)
 
   -- and is kept: the target is the whole

@@ -1,7 +1,7 @@
 -- A chain of backup files is restored.
 use Rattle.std.specs.Prelude.{◌≡◌, ◌≢◌, ◌⊎◌, ℕ, true, false, List, length, Contains, Result, Ok, Err}
 use Rattle.nb_fields.specs.Free.{is_free_file}
-use Rattle.nb_host.specs.Files.{Files}
+use Rattle.nb_host.specs.Files.{File, Files}
 use Rattle.nb_host.specs.World.{World}
 use Rattle.nb_host.specs.Crash.{Leaves, LeavesAll}
 use Rattle.nb_host.specs.declared.faults.Fault.{Fault}
@@ -21,11 +21,11 @@ use Rattle.nb_model.specs.Trail.{ShowsIn}
 abbrev pub base_from : List Link → Base
 base_from links = base_of (fixed (applied links))
 
--- Whatever a stop leaves of the target while these files are restored: it is as it was, or its name is free for another restore, or it is the
+-- What is left of the target while these files are restored: it is as it `was`, or its name is free for another restore, or it is the
 -- database that they give.
-abbrev pub RestoreLeft : (old : World) (target : List ℕ) (names : List (List ℕ)) → Files → Type 0
-RestoreLeft old target names files =
-    Leaves old target (files target)
+abbrev pub RestoreLeft : (was : File → Type 0) (old : World) (target : List ℕ) (names : List (List ℕ)) → Files → Type 0
+RestoreLeft was old target names files =
+    was (files target)
     ⊎ (is_free_file (files target) ≡ true)
     ⊎ ((links : List Link) × (verdict old.files names ≡ Ok links) × ShowsIn target (base_from links) files)
 
@@ -55,7 +55,9 @@ RestoreAnswers (Err Memory) old new target names = Quiet old new
 pub record Restores (result : Result ℕ Fault) (old new : World) (target : List ℕ) (names : List (List ℕ)) : Type 0 where
   pub answer : RestoreAnswers result old new target names
   -- no file but the target is touched, and nothing is said
-  pub left : Changes old new (Only target) (RestoreLeft old target names)
+  pub left : Changes old new (Only target) (RestoreLeft (Leaves old target) old target names)
+  -- so the target reads, whatever is answered
+  pub reads : RestoreLeft (λ file. file ≡ old.files target) old target names new.files
   pub gave : GaveNothing old new
   -- where the name isn't free, or the files are no chain, nothing changes, also where the device fails
   pub taken : is_free_name old.files target ≡ false → Quiet old new

@@ -32,6 +32,10 @@ pub record KeepsImage (w : World) (name : List ℕ) (image : Image) : Type 0 whe
   pub kept : IsKept w name file
   pub holds : HoldsMain image file
 
+-- it reads as it did, or as such a file
+abbrev pub ReadsOr : (old new : World) (name : List ℕ) (made : File → Type 0) → Type 0
+ReadsOr old new name made = (new.files name ≡ old.files name) ⊎ made (new.files name)
+
 -- a page that stands for a restore that goes on: a header in state 3 with a nil pending GUID
 pub record IsUnfinishedPage (page : Page) : Type 0 where
   pub header : is_header page ≡ true

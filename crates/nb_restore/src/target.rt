@@ -10,7 +10,7 @@ ghost use Rattle.nb_model.specs.Image.{Page};
 ghost use Rattle.nb_model.specs.Restoring.{Link};
 ghost use Rattle.nb_restore.specs.Copied.{IsDone};
 ghost use Rattle.nb_restore.specs.Sources.{AreOfPages};
-ghost use Rattle.nb_restore.specs.Target.{IsFree, IsFreeOr, IsKept, IsPlan, IsUnfinishedPage, KeepsImage, restored};
+ghost use Rattle.nb_restore.specs.Target.{IsFree, IsFreeOr, IsKept, IsPlan, IsUnfinishedPage, KeepsImage, ReadsOr, restored};
 
 use crate::records::{copy_pages, write_levels};
 use nb_fields::layouts::header;
@@ -21,6 +21,7 @@ use nb_level::LevelReader;
 fn begin<H: Host>(host: &mut H, target: &Name, page: &[u8]) -> Result<(), HostFault>
     requires { IsTrue (is_page_size (length page.now)) }
     ensures left { IsTrue H.tells → IsUnfinishedPage page.now → Changes (H.world host.old) (H.world host.new) (Only target.now) (Remade (H.world host.old) target.now IsFree) }
+    ensures reads { IsTrue H.tells → IsUnfinishedPage page.now → ReadsOr (H.world host.old) (H.world host.new) target.now IsFree }
     ensures begun { IsTrue H.tells → OnOk result (IsKept (H.world host.new) target.now (Some page.now)) }
     ensures gave { GaveNothing (H.world host.old) (H.world host.new) }
     ensures cause { CountsFault result (H.faults host.old) (H.faults host.new) }
@@ -62,6 +63,8 @@ pub(crate) fn write_target<H: Host>(
     requires first { length first.old ≡ length page.old }
     ensures left { IsTrue H.tells → (ps : List Page) (links : List Link) → IsPlan (H.world host.old).files target.now file.now (length page.old) pages readers.items first.old page.old ps links
         → Changes (H.world host.old) (H.world host.new) (Only target.now) (Remade (H.world host.old) target.now (IsFreeOr (restored ps links))) }
+    ensures reads { IsTrue H.tells → (ps : List Page) (links : List Link) → IsPlan (H.world host.old).files target.now file.now (length page.old) pages readers.items first.old page.old ps links
+        → ReadsOr (H.world host.old) (H.world host.new) target.now (IsFreeOr (restored ps links)) }
     ensures done { IsTrue H.tells → (ps : List Page) (links : List Link) → IsPlan (H.world host.old).files target.now file.now (length page.old) pages readers.items first.old page.old ps links
         → IsDone result (KeepsImage (H.world host.new) target.now (restored ps links)) }
     ensures gave { GaveNothing (H.world host.old) (H.world host.new) }

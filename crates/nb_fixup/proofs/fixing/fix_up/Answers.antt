@@ -24,7 +24,7 @@ returns-in_err-write_first-clause-fixes g c tells =
     let page = read.page tells copy.0 copy.1.there in
     let write = c.in_err-write_first.ensures in
     passed (Unit {0}) (λ r. Fixes r old new name) c.from_residual-in_err-write_first.result Device c.from_residual-in_err-write_first.ensures
-    (fix_fails old mid new name copy.0 c.put.new.page read.quiet copy.1 (c.put.ensures.written ∙ ap normal_page (page.1 ∙ ap (λ (n : ℕ). take n copy.0) page.0)) (g.met.H.Host.reads_left c.args.host.now tells name) (write.left tells) write.gave)
+    (fix_fails old mid new name copy.0 c.put.new.page read.quiet copy.1 (c.put.ensures.written ∙ ap normal_page (page.1 ∙ ap (λ (n : ℕ). take n copy.0) page.0)) (g.met.H.Host.reads_left c.args.host.now tells name) (write.left tells) (write.now tells) write.gave)
 
 pub returns-clause-fixes : goal.returns-clause-fixes
 returns-clause-fixes g c tells =
@@ -36,4 +36,4 @@ returns-clause-fixes g c tells =
     let copy = copy_there old.files name (read.test tells) in
     let page = read.page tells copy.0 copy.1.there in
     let write = c.in_ok-write_first.ensures in
-    fix_done old mid new name copy.0 c.put.new.page read.quiet copy.1 (c.put.ensures.written ∙ ap normal_page (page.1 ∙ ap (λ (n : ℕ). take n copy.0) page.0)) (write.done tells) (g.met.H.Host.reads_left c.args.host.now tells name) (write.left tells) write.gave
+    fix_done old mid new name copy.0 c.put.new.page read.quiet copy.1 (c.put.ensures.written ∙ ap normal_page (page.1 ∙ ap (λ (n : ℕ). take n copy.0) page.0)) (write.done tells) (g.met.H.Host.reads_left c.args.host.now tells name) (write.left tells) (write.now tells) write.gave

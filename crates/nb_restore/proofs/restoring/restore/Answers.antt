@@ -15,11 +15,11 @@ returns-in_err-write_target-clause-restores g c tells =
     let write = c.in_err-write_target.ensures in
     let plan = plan_for _ _ (g.H.Host.world c.write_target.new.host) _ _ c.in_ok-count.field-0 prepare.quiet (prepare.answer tells) c.index-files-0.result c.deref_mut.result.now c.deref_mut-2.result.now c.index-files-0.is c.deref_mut.ensures.value c.deref_mut-2.ensures.value in
     passed _ (λ r. Restores r (g.H.Host.world c.args.host.now) (g.H.Host.world c.write_target.new.host) c.args.target.now c.args.files.now) c.from_residual-in_err-write_target.result c.in_err-write_target.field-0.0 c.from_residual-in_err-write_target.ensures
-    (restore_fails _ _ _ _ _ c.in_ok-count.field-0 prepare.quiet (prepare.answer tells) (Unit {0}) _ c.in_err-write_target.field-0.0 (write.done tells _ _ plan) (write.left tells _ _ plan) write.gave)
+    (restore_fails _ _ _ _ _ c.in_ok-count.field-0 prepare.quiet (prepare.answer tells) (Unit {0}) _ c.in_err-write_target.field-0.0 (write.done tells _ _ plan) (write.left tells _ _ plan) (write.reads tells _ _ plan) write.gave)
 
 pub returns-clause-restores : goal.returns-clause-restores
 returns-clause-restores g c tells =
     let prepare = c.in_ok-count.ensures in
     let write = c.in_ok-write_target.ensures in
     let plan = plan_for _ _ (g.H.Host.world c.write_target.new.host) _ _ c.in_ok-count.field-0 prepare.quiet (prepare.answer tells) c.index-files-0.result c.deref_mut.result.now c.deref_mut-2.result.now c.index-files-0.is c.deref_mut.ensures.value c.deref_mut-2.ensures.value in
-    restore_done _ _ _ _ _ c.in_ok-count.field-0 prepare.quiet (prepare.answer tells) (write.done tells _ _ plan) (write.left tells _ _ plan) write.gave
+    restore_done _ _ _ _ _ c.in_ok-count.field-0 prepare.quiet (prepare.answer tells) (write.done tells _ _ plan) (write.left tells _ _ plan) (write.reads tells _ _ plan) write.gave
