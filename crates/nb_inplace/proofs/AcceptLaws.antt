@@ -1,9 +1,9 @@
 -- What the tests of a standby and of a level file say of their merge, one after another.
-use Rattle.std.proofs.Common.{◌≡◌, ◌≢◌, inl, inr, ℕ, ◌-◌, List, [], ◌∷◌, length, drop, refl, sym, ap, subst, ◌∙◌}
-use Rattle.std.specs.Prelude.{Bool, true, false, not, ◌||◌, ◌==◌, IsTrue, Some, None, Result, Ok, Err}
+use Rattle.std.proofs.Common.{◌≡◌, ℕ, ◌-◌, List, [], ◌∷◌, drop, refl, sym, ap, ◌∙◌}
+use Rattle.std.specs.Prelude.{Bool, true, false, not, ◌||◌, ◌==◌, IsTrue, Some, None, Ok, Err}
 use Rattle.std.proofs.lemmas.Bool.{eqb-true}
-use Rattle.nb_fields.specs.Header.{state_of, size_of, scn_of, guid_of, pending_of}
-use Rattle.nb_host.specs.Files.{File, Files, bytes_of}
+use Rattle.nb_fields.specs.Header.{state_of}
+use Rattle.nb_host.specs.Files.{File, Files}
 use Rattle.nb_host.specs.Names.{same_name}
 use Rattle.nb_host.specs.declared.faults.Fault.{Fault}
 use Rattle.nb_host.specs.declared.faults.Fault.TheVariants.{Refused, Device, Memory}
@@ -11,9 +11,9 @@ use Rattle.nb_host.specs.declared.refusals.Refusal.{Refusal}
 use Rattle.nb_host.specs.declared.refusals.Refusal.TheVariants.{NoFile, BadLevel, Unfinished, ChainGuid, ChainSize, ChainScn, Access}
 use Rattle.nb_page.specs.Header.{header_in}
 use Rattle.nb_page.specs.declared.header.Header.{Header}
-use Rattle.nb_model.specs.Causes.{Cause, first_cause, when, not_database}
+use Rattle.nb_model.specs.Causes.{Cause, first_cause, when}
 use Rattle.nb_model.specs.Image.{Page, image_in, is_read_only}
-use Rattle.nb_model.specs.InPlace.{written_since, other_pages, is_another, not_next, not_mergeable, not_standby}
+use Rattle.nb_model.specs.InPlace.{written_since, other_pages, not_next, not_finishing, not_mergeable, not_standby, in_place}
 use Rattle.nb_model.specs.Levels.{Contents, with_head, read_level}
 use Rattle.nb_level.specs.Answers.{StartSays}
 use Rattle.nb_level.specs.Heads.{head_of}
@@ -27,16 +27,15 @@ use Rattle.nb_inplace.specs.Accepted.{AcceptSays, IsReaderOf}
 use Rattle.nb_inplace.specs.Standby.{IsStandby}
 use Rattle.nb_inplace.specs.Tests.{not_the_same, not_behind, head_cause, stamp_cause}
 use Rattle.nb_inplace.specs.declared.standby.Standby.{Standby}
-use Rattle.nb_inplace.specs.Verdict.{apply_verdict}
 use Rattle.nb_inplace.proofs.StandbyLaws.{not_there}
-use Rattle.nb_inplace.proofs.VerdictLaws.{apply_cause, by_state, mergeable_by, unfit, no_level, bad_level, answered, verdict_by}
+use Rattle.nb_inplace.proofs.VerdictLaws.{by_state, mergeable_by, unfit, no_level, bad_level, answered, verdict_by}
 
--- five tests, and the fourth of them asked once more
+-- four tests, and a fifth behind them
 abbrev firsts : (a b c d : Cause) → Cause
 firsts a b c d = first_cause (a ∷ b ∷ c ∷ d ∷ [])
 
 abbrev all_tests : (a b c d e : Cause) → Cause
-all_tests a b c d e = first_cause (first_cause (a ∷ b ∷ c ∷ d ∷ e ∷ []) ∷ b ∷ [])
+all_tests a b c d e = first_cause (a ∷ b ∷ c ∷ d ∷ e ∷ [])
 
 some_none : (r : Refusal) → Some r ≡ None → ⊥
 some_none r h = cc
@@ -72,9 +71,9 @@ module _ (name : List ℕ) (c : Contents) where
 
   module _ (bytes : List ℕ) where
     -- in the applying state
-    applying_cause : state_of bytes ≡ 3 → apply_cause bytes name c ≡ finish_cause (header_in bytes)
-    unfolding header_in
-    applying_cause is = ap (λ (cause : Cause). first_cause (cause ∷ size_cause (size_of bytes) ∷ [])) (mergeable_by bytes name c ∙ ap (λ (n : ℕ). by_state (n == 3) bytes name c) is)
+    applying_cause : state_of bytes ≡ 3 → not_mergeable bytes name c ≡ finish_cause (header_in bytes)
+    unfolding header_in not_finishing
+    applying_cause is = mergeable_by bytes name c ∙ ap (λ (n : ℕ). by_state (n == 3) bytes name c) is
 
     -- and in another
     abbrev written : Cause
@@ -85,9 +84,9 @@ module _ (name : List ℕ) (c : Contents) where
         all_tests (when (not (same_name c.head.previous h.guid)) (ChainGuid name c.head.previous h.guid)) (size_cause h.page_size)
         (when (not (c.head.previous_scn == h.scn - 1)) (ChainScn name c.head.previous_scn (h.scn - 1))) (when (not read_only) (Access 0)) written
 
-    normal_cause : (state_of bytes == 3) ≡ false → apply_cause bytes name c ≡ behind_cause (header_in bytes) (is_read_only (image_in bytes))
+    normal_cause : (state_of bytes == 3) ≡ false → not_mergeable bytes name c ≡ behind_cause (header_in bytes) (is_read_only (image_in bytes))
     unfolding header_in not_next
-    normal_cause is = ap (λ (cause : Cause). first_cause (cause ∷ size_cause (size_of bytes) ∷ [])) (mergeable_by bytes name c ∙ ap (λ (t : Bool). by_state t bytes name c) is)
+    normal_cause is = mergeable_by bytes name c ∙ ap (λ (t : Bool). by_state t bytes name c) is
 
     module _ (s : Standby) (is : IsStandby bytes s) where
       abbrev by_begun : Bool → Cause
@@ -100,18 +99,18 @@ module _ (name : List ℕ) (c : Contents) where
       its_behind = ap (λ (h : Header). next_cause h s.is_read_only) is.header ∙ ap (next_cause (header_in bytes)) is.read_only
 
       -- what the head says against the merge is against it
-      pub head_refuses : (r : Refusal) → head_cause s name c ≡ Some r → apply_cause bytes name c ≡ Some r
+      pub head_refuses : (r : Refusal) → head_cause s name c ≡ Some r → not_mergeable bytes name c ≡ Some r
       head_refuses r = by s.is_begun (sym is.begun)
         where
-          by : (begun : Bool) → (state_of bytes == 3) ≡ begun → by_begun begun ≡ Some r → apply_cause bytes name c ≡ Some r
+          by : (begun : Bool) → (state_of bytes == 3) ≡ begun → by_begun begun ≡ Some r → not_mergeable bytes name c ≡ Some r
           by true three h = applying_cause (eqb-true (state_of bytes) 3 three) ∙ sym its_same ∙ h
           by false other h = normal_cause other ∙ first_of _ _ _ _ written r (sym its_behind ∙ h)
 
       -- and where it says nothing the stamps decide
-      pub head_clears : (ps : List Page) → written_since name c.head.previous_scn (drop 1 ps) ≡ written → head_cause s name c ≡ None → apply_cause bytes name c ≡ stamp_cause s name c.head.previous_scn ps
+      pub head_clears : (ps : List Page) → written_since name c.head.previous_scn (drop 1 ps) ≡ written → head_cause s name c ≡ None → not_mergeable bytes name c ≡ stamp_cause s name c.head.previous_scn ps
       head_clears ps same = by s.is_begun (sym is.begun)
         where
-          by : (begun : Bool) → (state_of bytes == 3) ≡ begun → by_begun begun ≡ None → apply_cause bytes name c ≡ elim begun as (λ t. Cause) [ true ↦ None | false ↦ written_since name c.head.previous_scn (drop 1 ps) ]
+          by : (begun : Bool) → (state_of bytes == 3) ≡ begun → by_begun begun ≡ None → not_mergeable bytes name c ≡ elim begun as (λ t. Cause) [ true ↦ None | false ↦ written_since name c.head.previous_scn (drop 1 ps) ]
           by true three h = applying_cause (eqb-true (state_of bytes) 3 three) ∙ sym its_same ∙ h
           by false other h = normal_cause other ∙ last_of _ _ _ _ written (sym its_behind ∙ h) ∙ sym same
 
@@ -143,7 +142,7 @@ module _ (files now : Files) (standby name : List ℕ) (fit : not_standby standb
   pub level_fails : (before after : ℕ) (fault : Fault) → WholeSays (now name) name before after (Err fault) → AcceptSays files standby name (Err fault)
   level_fails before after (Refused r) says = by (now name) refl says
     where
-      by : (file : File) → now name ≡ file → LevelRefused file name r → apply_verdict files standby name ≡ Err r
+      by : (file : File) → now name ≡ file → LevelRefused file name r → in_place files standby name ≡ Err r
       by None is refused = no_level files standby name fit (sym same ∙ is) ∙ ap (λ (x : Refusal). Err x) (sym refused)
       by (Some bytes) is refused = bad_level files standby name bytes refused.0 fit (sym same ∙ is) refused.1 ∙ ap (λ (x : Refusal). Err x) (sym refused.2)
   level_fails before after Device says = tt

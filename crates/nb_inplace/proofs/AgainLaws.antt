@@ -1,23 +1,21 @@
 -- A merge that was stopped is finished by the same file again, and refused of every other.
-use Rattle.std.proofs.Common.{◌≡◌, ◌≢◌, ◌⊎◌, inl, inr, ℕ, List, [], ◌∷◌, refl, sym, ap, subst, ◌∙◌, arith}
-use Rattle.std.specs.Prelude.{Bool, true, false, not, ◌||◌, ◌==◌, Some, None, Result, Ok, Err}
+use Rattle.std.proofs.Common.{◌≡◌, ◌≢◌, ◌⊎◌, inl, inr, ℕ, List, [], ◌∷◌, refl, sym, ap, ◌∙◌, arith}
+use Rattle.std.specs.Prelude.{Bool, true, false, not, ◌||◌, ◌==◌, Some, None, Ok, Err}
 use Rattle.std.specs.Cmp.Lexicographic.{told_text}
 use Rattle.std.proofs.lemmas.Bool.{eq-eqb, or_from}
-use Rattle.nb_fields.specs.Header.{state_of, size_of, guid_of, pending_of}
-use Rattle.nb_host.specs.Files.{File, Files}
+use Rattle.nb_fields.specs.Header.{size_of, guid_of, pending_of}
+use Rattle.nb_host.specs.Files.{Files}
 use Rattle.nb_host.specs.Names.{same_name}
 use Rattle.nb_host.specs.declared.refusals.Refusal.{Refusal}
 use Rattle.nb_host.specs.declared.refusals.Refusal.TheVariants.{Unfinished, ChainSize}
-use Rattle.nb_model.specs.Causes.{Cause, first_cause, when, not_database}
-use Rattle.nb_model.specs.Image.{image_in}
-use Rattle.nb_model.specs.InPlace.{is_another, not_mergeable, not_standby}
+use Rattle.nb_model.specs.Causes.{Cause, first_cause, when}
+use Rattle.nb_model.specs.InPlace.{is_another, not_finishing, not_mergeable, not_standby, in_place}
 use Rattle.nb_model.specs.Levels.{Contents, read_level}
-use Rattle.nb_model.specs.Strokes.{merged}
 use Rattle.nb_model.proofs.RunLaws.{same_self}
 use Rattle.nb_cases.specs.Events.{IsFileIn}
 use Rattle.nb_cases.specs.declared.events.Event.TheVariants.{Apply}
 use Rattle.nb_cases.proofs.EventLaws.{the_cases}
-use Rattle.nb_inplace.specs.Verdict.{apply_verdict, IsMergeable}
+use Rattle.nb_inplace.specs.Verdict.{IsMergeable}
 use Rattle.nb_inplace.specs.Half.{IsHalf}
 use Rattle.nb_inplace.proofs.VerdictLaws.{IsAccepted, accepted, answered, verdict_by}
 use Rattle.nb_inplace.proofs.HalfLaws.{half_state, half_pending, half_previous, half_size}
@@ -45,23 +43,24 @@ unfolding first_cause
 unfinished sized r = refl
 
 module _ (standby bytes : List ℕ) (is : IsFileIn 3 bytes) (files : Files) (name level : List ℕ) (c : Contents) (here : files standby ≡ Some bytes) (there : files name ≡ Some level) (read : read_level level ≡ Ok c) where
-  stands : (not_standby standby (Some bytes) ≡ None) × (not_mergeable bytes name c ≡ when (is_another bytes c) Unfinished)
+  stands : (not_standby standby (Some bytes) ≡ None) × (not_mergeable bytes name c ≡ not_finishing name bytes c)
   stands = the_cases 3 Apply (omega arith) standby name bytes c is
 
   abbrev other_size : Refusal
   other_size = ChainSize name c.head.size (size_of bytes)
 
-  asked : apply_verdict files standby name ≡ answered c (cause_of (is_another bytes c) (c.head.size == size_of bytes) other_size)
-  asked = verdict_by files standby name bytes level c here stands.0 there read ∙ ap (λ (cause : Cause). answered c (first_cause (cause ∷ when (not (c.head.size == size_of bytes)) other_size ∷ []))) stands.1
+  asked : in_place files standby name ≡ answered c (cause_of (is_another bytes c) (c.head.size == size_of bytes) other_size)
+  unfolding not_finishing
+  asked = verdict_by files standby name bytes level c here stands.0 there read ∙ ap (answered c) stands.1
 
   -- it is gone on with by the file of its two GUIDs
-  pub goes_on : pending_of bytes ≡ c.head.guid → guid_of bytes ≡ c.head.previous → c.head.size ≡ size_of bytes → apply_verdict files standby name ≡ Ok c
+  pub goes_on : pending_of bytes ≡ c.head.guid → guid_of bytes ≡ c.head.previous → c.head.size ≡ size_of bytes → in_place files standby name ≡ Ok c
   goes_on pending previous size =
       asked ∙ ap (λ (t : Bool). answered c (cause_of t (c.head.size == size_of bytes) other_size)) (or_from _ _ (ap not (same_texts (pending_of bytes) c.head.guid pending)) (ap not (same_texts (guid_of bytes) c.head.previous previous)))
       ∙ ap (λ (t : Bool). answered c (cause_of false t other_size)) (eq-eqb c.head.size (size_of bytes) size) ∙ ap (answered c) (no_cause other_size)
 
   -- and by no other
-  pub refuses : (pending_of bytes ≢ c.head.guid) ⊎ (guid_of bytes ≢ c.head.previous) → apply_verdict files standby name ≡ Err Unfinished
+  pub refuses : (pending_of bytes ≢ c.head.guid) ⊎ (guid_of bytes ≢ c.head.previous) → in_place files standby name ≡ Err Unfinished
   refuses other =
       asked ∙ ap (λ (t : Bool). answered c (cause_of t (c.head.size == size_of bytes) other_size)) (another other) ∙ ap (answered c) (unfinished (c.head.size == size_of bytes) other_size)
     where
@@ -89,7 +88,7 @@ module _ (old files : Files) (standby name bytes half : List ℕ) (c : Contents)
   }
 
   -- and one of another GUID, or that goes on from another, is refused
-  pub half_refuses : (other level : List ℕ) (d : Contents) → files other ≡ Some level → read_level level ≡ Ok d → (d.head.guid ≢ c.head.guid) ⊎ (d.head.previous ≢ c.head.previous) → apply_verdict files standby other ≡ Err Unfinished
+  pub half_refuses : (other level : List ℕ) (d : Contents) → files other ≡ Some level → read_level level ≡ Ok d → (d.head.guid ≢ c.head.guid) ⊎ (d.head.previous ≢ c.head.previous) → in_place files standby other ≡ Err Unfinished
   half_refuses other level d there read apart =
       refuses standby half applying files other level d here there read (elim apart [
         | inl guid ↦ inl (λ e. guid (sym e ∙ half_pending old standby name bytes c m half h))

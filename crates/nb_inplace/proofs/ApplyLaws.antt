@@ -1,16 +1,14 @@
 -- What a merge changes and leaves, from the tests on.
 use Rattle.std.proofs.Math.Nat.{mul-div_cancel}
-use Rattle.std.proofs.Common.{◌/◌, take, ◌≡◌, ◌≢◌, ◌⊎◌, inl, inr, ⊎_elim, ℕ, ◌+◌, ◌*◌, ◌<◌, ◌≤◌, List, [], ◌∷◌, ◌++◌, length, drop, refl, sym, ap, subst, ◌∙◌, arith}
-use Rattle.std.specs.Prelude.{Bool, true, false, IsTrue, Some, None, Result, Ok, Err, Contains, nat_eq, ◌==◌}
+use Rattle.std.proofs.Common.{◌/◌, take, ◌≡◌, ◌≢◌, ◌⊎◌, inl, inr, ⊎_elim, ℕ, ◌*◌, ◌<◌, ◌≤◌, List, [], ◌∷◌, ◌++◌, length, refl, sym, ap, subst, ◌∙◌, arith}
+use Rattle.std.specs.Prelude.{true, Some, None, Result, Ok, Err, Contains}
 use Rattle.std.proofs.lemmas.Bool.{eqb-true}
 use Rattle.std.proofs.lemmas.List.{take-append-le}
-use Rattle.nb_fields.specs.Bytes.{is_zeros}
 use Rattle.nb_fields.specs.Header.{is_header, state_of, size_of}
-use Rattle.nb_fields.specs.Places.{is_page_size}
 use Rattle.nb_fields.proofs.SizeLemmas.{size_facts}
 use Rattle.nb_host.specs.Files.{File, Files, bytes_of}
 use Rattle.nb_host.specs.World.{World}
-use Rattle.nb_host.specs.Crash.{LeavesAll, IsDurable}
+use Rattle.nb_host.specs.Crash.{Leaves, LeavesAll, IsDurable}
 use Rattle.nb_host.specs.declared.faults.Fault.{Fault}
 use Rattle.nb_host.specs.declared.faults.Fault.TheVariants.{Refused, Device, Memory}
 use Rattle.nb_host.specs.declared.refusals.Refusal.{Refusal}
@@ -23,50 +21,48 @@ use Rattle.nb_change.proofs.SettledLaws.{durable_is}
 use Rattle.nb_page.specs.Header.{header_in}
 use Rattle.nb_page.specs.declared.header.Header.{Header}
 use Rattle.nb_page.specs.Quiet.{Quiet}
-use Rattle.nb_model.specs.Account.{base_of}
-use Rattle.nb_model.specs.Causes.{Cause, not_database}
 use Rattle.nb_model.specs.Image.{Page, Image, Numbered, first_page, image_size, image_in, trimmed, overwritten}
-use Rattle.nb_model.specs.InPlace.{written_since, other_pages}
+use Rattle.nb_model.specs.InPlace.{in_place}
 use Rattle.nb_model.specs.Levels.{Head, Contents, joined, read_level}
 use Rattle.nb_model.specs.Main.{HoldsMain}
 use Rattle.nb_model.specs.Owner.{delta_name, main_page}
 use Rattle.nb_model.specs.Sound.{IsOfSize}
 use Rattle.nb_model.specs.Strokes.{as_standby, merged}
 use Rattle.nb_model.specs.Trail.{ShowsIn}
-use Rattle.nb_model.proofs.FormLaws.{Formed, formed, no_cause}
+use Rattle.nb_model.proofs.FormLaws.{formed, no_cause}
 use Rattle.nb_model.proofs.HeaderLaws.{header-long, header-other, same-header, same-number}
 use Rattle.nb_model.proofs.ImageLaws.{trimmed-append_zeros, trimmed-other, length-joined}
 use Rattle.nb_model.proofs.MainLaws.{IsLaid, laid, image_in-is, owner_main}
 use Rattle.nb_model.proofs.StandsLaws.{header_no_level}
-use Rattle.nb_level.specs.Heads.{head_of}
 use Rattle.nb_level.specs.Reading.{Reading, still_to_come}
 use Rattle.nb_restore.specs.Sources.{AreHeaded}
 use Rattle.nb_restore.proofs.AnswerLaws.{some_same, err_ok}
 use Rattle.nb_restore.proofs.HeadLaws.{level-headed}
 use Rattle.nb_inplace.specs.declared.standby.Standby.{Standby}
-use Rattle.nb_inplace.specs.Accepted.{IsReaderOf, IsFitFor, AcceptSays}
-use Rattle.nb_inplace.specs.Apply.{base_with, IsHalfIn, IsPartIn, ApplyLeft, IsMerged, ApplyAnswers, Applies}
+use Rattle.nb_inplace.specs.Accepted.{IsFitFor, AcceptSays}
+use Rattle.nb_inplace.specs.Apply.{base_with, IsHalfIn, ApplyLeft, ApplyAnswers, Applies}
 use Rattle.nb_inplace.specs.Half.{applying_page, IsBetween, IsHalf}
 use Rattle.nb_inplace.specs.Merging.{IsDoneBy, IsHalfFile, merged_pages, IsHalfOr, KeepsMerged}
-use Rattle.nb_inplace.specs.Plan.{IsWholeFile, AreToCome, IsPlan}
+use Rattle.nb_inplace.specs.Plan.{IsPlan}
 use Rattle.nb_inplace.specs.Ready.{ReadySays}
-use Rattle.nb_inplace.specs.Standby.{IsStandby, IsWholeStandby}
+use Rattle.nb_inplace.specs.Standby.{IsWholeStandby}
 use Rattle.nb_inplace.specs.Tests.{stamp_cause}
-use Rattle.nb_inplace.specs.Verdict.{apply_verdict, IsMergeable}
+use Rattle.nb_inplace.specs.Verdict.{IsMergeable}
 use Rattle.nb_inplace.proofs.AcceptLaws.{head_clears}
-use Rattle.nb_inplace.proofs.ControlLaws.{applying-long, applying-size, applying-header}
+use Rattle.nb_inplace.proofs.ControlLaws.{applying-size, applying-header}
 use Rattle.nb_inplace.proofs.FirstLaws.{level_first, guid_sixteen}
 use Rattle.nb_inplace.proofs.HalfLaws.{front_size, itself_half}
 use Rattle.nb_inplace.proofs.PagesLaws.{trimmed_alike, over_alike, trimmed_page}
 use Rattle.nb_inplace.proofs.StampLaws.{since_image}
-use Rattle.nb_inplace.proofs.VerdictLaws.{apply_cause, answered, verdict_by}
+use Rattle.nb_inplace.proofs.VerdictLaws.{answered, verdict_by}
 
 -- 1. Nothing was changed.
 module _ (old new : World) (standby name : List ℕ) (quiet : Quiet old new) where
   kept_so : (result : Result ℕ Fault) → ApplyAnswers result old new standby name → Applies result old new standby name
   kept_so result answer = record {
     answer = answer;
-    left = rested old new (Only standby) (ApplyLeft old standby name) quiet.still quiet.said quiet.moments (λ files left. inl (left standby));
+    left = rested old new (Only standby) (ApplyLeft (Leaves old standby) old standby name) quiet.still quiet.said quiet.moments (λ files left. inl (left standby));
+    reads = inl (ap (λ (f : Files). f standby) quiet.still.files);
     gave = record { guids = quiet.guids; times = quiet.times };
     refused = λ refusal is. quiet;
   }
@@ -136,7 +132,7 @@ module _ (old : World) (standby name : List ℕ) (s : Standby) (reader : Reading
   seen p = ap (λ (x : Image). main_page size x p) (sym image_is) ∙ trimmed_page size pages sizes p
 
   -- the verdict is that of the stamps
-  verdict_is : apply_verdict files standby name ≡ answered c (stamp_cause s name c.head.previous_scn pages)
+  verdict_is : in_place files standby name ≡ answered c (stamp_cause s name c.head.previous_scn pages)
   verdict_is =
       verdict_by files standby name fit.bytes fit.level.bytes c fit.there fit.stands fit.level.there fit.level.read
       ∙ ap (answered c) (head_clears name c fit.bytes s fit.is pages (since_image name c.head.previous_scn fit.bytes pages fit.formed is_laid.is (subst (λ n. IsOfSize n pages) (front_size fit.bytes fit.formed) is_laid.sizes)) fit.clear)
@@ -144,7 +140,7 @@ module _ (old : World) (standby name : List ℕ) (s : Standby) (reader : Reading
   mergeable : stamp_cause s name c.head.previous_scn pages ≡ None → IsMergeable files standby name fit.bytes c
   mergeable none = record { there = fit.there; accepted = verdict_is ∙ ap (answered c) none }
 
-  stamps_refuse : (r : Refusal) → stamp_cause s name c.head.previous_scn pages ≡ Some r → apply_verdict files standby name ≡ Err r
+  stamps_refuse : (r : Refusal) → stamp_cause s name c.head.previous_scn pages ≡ Some r → in_place files standby name ≡ Err r
   stamps_refuse r some = verdict_is ∙ ap (answered c) some
 
   scn_is : reader.head.previous_scn ≡ c.head.previous_scn
@@ -260,28 +256,41 @@ module _ (old : World) (standby name : List ℕ) (s : Standby) (reader : Reading
       plan_then : IsPlan mid.files standby size s.pages s.is_begun reader first c.head.guid pages c.pages
       plan_then = subst (λ (f : Files). IsPlan f standby size s.pages s.is_begun reader first c.head.guid pages c.pages) (sym quiet.still.files) plan
 
-      left_all : Changes mid new (Only standby) (Remade mid standby (IsHalfOr size c.pages pages first)) → Changes old new (Only standby) (ApplyLeft old standby name)
+      left_all : Changes mid new (Only standby) (Remade mid standby (IsHalfOr size c.pages pages first)) → Changes old new (Only standby) (ApplyLeft (Leaves old standby) old standby name)
       left_all second =
-          kept_then old mid new (Only standby) (Remade mid standby (IsHalfOr size c.pages pages first)) (ApplyLeft old standby name)
+          kept_then old mid new (Only standby) (Remade mid standby (IsHalfOr size c.pages pages first)) (ApplyLeft (Leaves old standby) old standby name)
           (rested old mid NoNames (LeavesAll old) quiet.still quiet.said quiet.moments (λ now left. left)) second (λ now left. inl (left standby))
           (λ now. ⊎_elim (λ was. inl (left_before old mid _ quiet.still.left standby (now standby) tt was)) (λ part. inr (fit.bytes, c, m, part_in now part)))
 
-      applies : (result : Result ℕ Fault) → ApplyAnswers result old new standby name → Changes mid new (Only standby) (Remade mid standby (IsHalfOr size c.pages pages first)) → GaveNothing mid new → Applies result old new standby name
+      -- how it goes, from a standby that is kept for good as it stands
+      record Goes : Type 0 where
+        durable : IsDurable mid standby (mid.files standby)
+        left : Changes mid new (Only standby) (Remade mid standby (IsHalfOr size c.pages pages first))
+        stays : (m : List ℕ) → Leaves new m (new.files m)
+
+      -- what reads is what a stop may leave, and before there was one of that
+      reads_all : Goes → ApplyLeft (λ file. file ≡ files standby) old standby name new.files
+      reads_all goes =
+          ⊎_elim (λ was. inl (durable_is mid standby (mid.files standby) goes.durable (new.files standby) was ∙ ap (λ (f : Files). f standby) quiet.still.files)) (λ part. inr (fit.bytes, c, m, part_in new.files part))
+          (goes.left.now new.files goes.stays)
+
+      applies : (result : Result ℕ Fault) → ApplyAnswers result old new standby name → Goes → GaveNothing mid new → Applies result old new standby name
       applies result answer left gave = record {
         answer = answer;
-        left = left_all left;
+        left = left_all left.left;
+        reads = reads_all left;
         gave = nothing_joined old mid new (record { guids = quiet.guids; times = quiet.times }) gave;
-        refused = λ refusal is. absurd (err_ok refusal c (apply_verdict files standby name) is m.accepted);
+        refused = λ refusal is. absurd (err_ok refusal c (in_place files standby name) is m.accepted);
       }
 
       -- The device failed,
-      fails : (P : ℕ → Type 0) (fault : Fault) → IsDoneBy (Err fault) P → Changes mid new (Only standby) (Remade mid standby (IsHalfOr size c.pages pages first)) → GaveNothing mid new → Applies (Err fault) old new standby name
+      fails : (P : ℕ → Type 0) (fault : Fault) → IsDoneBy (Err fault) P → Goes → GaveNothing mid new → Applies (Err fault) old new standby name
       fails P (Refused refusal) says left gave = absurd says
       fails P Device says left gave = applies (Err Device) tt left gave
       fails P Memory says left gave = absurd says
 
       -- or the standby is merged, and kept for good.
-      kept : (count : ℕ) → KeepsMerged new standby size c.pages pages count → Changes mid new (Only standby) (Remade mid standby (IsHalfOr size c.pages pages first)) → GaveNothing mid new → Applies (Ok count) old new standby name
+      kept : (count : ℕ) → KeepsMerged new standby size c.pages pages count → Goes → GaveNothing mid new → Applies (Ok count) old new standby name
       kept count keeps left gave =
           applies (Ok count) (record {
             bytes = fit.bytes;
@@ -292,7 +301,7 @@ module _ (old : World) (standby name : List ℕ) (s : Standby) (reader : Reading
             shows = shows new.files (subst (λ (f : File). HoldsMain (merged_pages size c.pages pages) f) (sym keeps.0.kept.reads) keeps.0.holds);
           }) left gave
 
-      answers : (result : Result ℕ Fault) → IsDoneBy result (KeepsMerged new standby size c.pages pages) → Changes mid new (Only standby) (Remade mid standby (IsHalfOr size c.pages pages first)) → GaveNothing mid new → Applies result old new standby name
+      answers : (result : Result ℕ Fault) → IsDoneBy result (KeepsMerged new standby size c.pages pages) → Goes → GaveNothing mid new → Applies result old new standby name
       answers (Ok count) keeps left gave = kept count keeps left gave
       answers (Err fault) says left gave = fails (KeepsMerged new standby size c.pages pages) fault says left gave
 
@@ -300,8 +309,8 @@ module _ (old : World) (standby name : List ℕ) (s : Standby) (reader : Reading
       abbrev ByPlan : (size : ℕ) → ((records : List Numbered) (ps : List Page) → Type 0) → Type 0
       ByPlan n P = (guid : List ℕ) (ps : List Page) (records : List Numbered) → IsPlan mid.files standby n s.pages s.is_begun reader first guid ps records → IsDurable mid standby (mid.files standby) → P records ps
 
-      pub apply_done : (n : ℕ) → size ≡ n → IsDurable mid standby (mid.files standby) → (result : Result ℕ Fault) → ByPlan n (λ records ps. IsDoneBy result (KeepsMerged new standby n records ps))
+      pub apply_done : (n : ℕ) → size ≡ n → IsDurable mid standby (mid.files standby) → ((m : List ℕ) → Leaves new m (new.files m)) → (result : Result ℕ Fault) → ByPlan n (λ records ps. IsDoneBy result (KeepsMerged new standby n records ps))
           → ByPlan n (λ records ps. Changes mid new (Only standby) (Remade mid standby (IsHalfOr n records ps first))) → GaveNothing mid new → Applies result old new standby name
-      apply_done n same durable result done left gave =
+      apply_done n same durable stays result done left gave =
           subst (λ (k : ℕ). ByPlan k (λ records ps. IsDoneBy result (KeepsMerged new standby k records ps)) → ByPlan k (λ records ps. Changes mid new (Only standby) (Remade mid standby (IsHalfOr k records ps first))) → Applies result old new standby name) same
-          (λ its_done its_left. answers result (its_done c.head.guid pages c.pages plan_then durable) (its_left c.head.guid pages c.pages plan_then durable) gave) done left
+          (λ its_done its_left. answers result (its_done c.head.guid pages c.pages plan_then durable) (record { durable = durable; left = its_left c.head.guid pages c.pages plan_then durable; stays = stays }) gave) done left

@@ -1,7 +1,6 @@
 -- Counting the pages of a standby's image from its file's end.
-use Rattle.std.proofs.Common.{◌≡◌, ℕ, zero, suc, ◌+◌, ◌-◌, ◌*◌, ◌<◌, ◌≤◌, List, [], ◌∷◌, length, drop, refl, sym, ap, subst, ◌∙◌, arith, mul-le-mul_right, suc-mul, add-mul}
-use Rattle.std.specs.Prelude.{Bool, true, false, Some, not}
-use Rattle.std.proofs.lemmas.Bool.{true≢false}
+use Rattle.std.proofs.Common.{◌≡◌, ℕ, zero, suc, ◌+◌, ◌-◌, ◌*◌, ◌<◌, ◌≤◌, List, [], ◌∷◌, length, drop, refl, sym, ap, ◌∙◌, arith, mul-le-mul_right, add-mul}
+use Rattle.std.specs.Prelude.{Bool, true, false, Some}
 use Rattle.nb_fields.specs.Bytes.{is_zeros}
 use Rattle.nb_host.specs.Files.{File, bytes_of}
 use Rattle.nb_host.specs.Calls.{ReadsPage}

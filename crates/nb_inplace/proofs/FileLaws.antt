@@ -1,17 +1,17 @@
 -- The file of a standby, while pages of a level file are written into it.
-use Rattle.std.proofs.Common.{◌≡◌, ◌≢◌, ◌⊎◌, inl, inr, ℕ, zero, suc, ◌+◌, ◌-◌, ◌*◌, ◌<◌, ◌≤◌, List, [], ◌∷◌, ◌++◌, length, get_or, take, drop, replicate, refl, sym, ap, subst, ◌∙◌, arith, length-append, append_assoc, mul-le-mul_right, add-mul, suc-mul, le_of_mul-le-mul_right}
+use Rattle.std.proofs.Common.{◌≡◌, ◌⊎◌, inl, inr, ℕ, zero, suc, ◌+◌, ◌*◌, ◌<◌, ◌≤◌, List, [], ◌∷◌, ◌++◌, length, drop, replicate, refl, sym, ap, subst, ◌∙◌, arith, length-append, mul-le-mul_right, add-mul, suc-mul, le_of_mul-le-mul_right}
 use Rattle.std.specs.Prelude.{true, Some, Contains}
 use Rattle.nb_fields.specs.Bytes.{is_zeros}
-use Rattle.std.proofs.lemmas.Bool.{cases_eq, cases_lt}
-use Rattle.std.proofs.lemmas.List.{get_or_append_left, get_or-append_right, get_or_past, length-replicate}
+use Rattle.std.proofs.lemmas.Bool.{cases_eq}
+use Rattle.std.proofs.lemmas.List.{length-replicate}
 use Rattle.nb_host.specs.Files.{File, bytes_of as file_bytes, put_at, with_page}
 use Rattle.nb_host.specs.Crash.{PageLeft}
-use Rattle.nb_model.specs.Image.{Page, Image, Numbered, page_at, first_page, written_at}
+use Rattle.nb_model.specs.Image.{Page, Image, Numbered, first_page, written_at}
 use Rattle.nb_model.specs.Levels.{joined}
 use Rattle.nb_model.specs.Owner.{main_page}
 use Rattle.nb_model.specs.Sound.{IsOfSize}
 use Rattle.nb_model.proofs.ImageLaws.{all-append, all-replicate, zeros-are, joined-append, length-joined, joined-zeros}
-use Rattle.nb_model.proofs.OwnerLaws.{main_here, main_past, other_page}
+use Rattle.nb_model.proofs.OwnerLaws.{other_page}
 use Rattle.nb_model.proofs.PutLaws.{put-first}
 use Rattle.nb_chain.proofs.ImageLaws.{length-written}
 use Rattle.nb_restore.proofs.AnswerLaws.{some_same}

@@ -1,25 +1,18 @@
 -- A standby that is half merged: the same file gives the same image over it, and goes on with it, and so does no other file.
-use Rattle.std.proofs.Common.{◌≡◌, ◌≢◌, ◌⊎◌, inl, inr, ℕ, zero, suc, ◌+◌, ◌<◌, ◌≤◌, List, [], ◌∷◌, length, take, refl, sym, ap, subst, ◌∙◌, arith}
-use Rattle.std.specs.Prelude.{Bool, true, false, not, ◌||◌, ◌==◌, nat_lt, Some, None, Result, Ok, Err, Contains, IsTrue}
-use Rattle.std.specs.Cmp.Lexicographic.{told_text}
-use Rattle.nb_fields.specs.Bytes.{number_in, part}
-use Rattle.nb_fields.specs.Header.{is_header, state_of, size_of, guid_of, pending_of}
-use Rattle.nb_fields.proofs.PartLemmas.{length-part, part-take}
-use Rattle.nb_host.specs.Files.{File, Files}
-use Rattle.nb_host.specs.Names.{same_name}
-use Rattle.nb_host.specs.declared.refusals.Refusal.{Refusal}
-use Rattle.nb_host.specs.declared.refusals.Refusal.TheVariants.{Unfinished, WrongState, ChainSize}
-use Rattle.nb_model.specs.Causes.{Cause, first_cause, when, not_database}
+use Rattle.std.proofs.Common.{◌≡◌, ◌⊎◌, inl, inr, ℕ, zero, suc, ◌+◌, ◌≤◌, List, length, take, refl, sym, ap, subst, ◌∙◌, arith}
+use Rattle.std.specs.Prelude.{None, Contains}
+use Rattle.nb_fields.specs.Bytes.{part}
+use Rattle.nb_fields.specs.Header.{state_of, size_of, guid_of, pending_of}
+use Rattle.nb_fields.proofs.PartLemmas.{part-take}
+use Rattle.nb_host.specs.Files.{Files}
+use Rattle.nb_model.specs.Causes.{not_database}
 use Rattle.nb_model.specs.Image.{Page, Image, Numbered, first_page, image_size, image_in, trimmed, overwritten}
-use Rattle.nb_model.specs.InPlace.{is_another, not_mergeable, in_place_of, not_standby, bytes_in, in_place}
-use Rattle.nb_model.specs.Levels.{Contents, first_fault, head_in, read_level}
+use Rattle.nb_model.specs.Levels.{Contents}
 use Rattle.nb_model.specs.Owner.{main_page}
 use Rattle.nb_model.specs.Strokes.{as_standby, merged}
 use Rattle.nb_model.proofs.HeaderLaws.{header-long, same-number}
 use Rattle.nb_model.proofs.MainLaws.{IsLaid, laid, laid-front}
-use Rattle.nb_model.proofs.RunLaws.{same_self}
-use Rattle.nb_restore.proofs.AnswerLaws.{ok_same, err_ok, some_same}
-use Rattle.nb_inplace.specs.Verdict.{of_its_size, apply_verdict, IsMergeable}
+use Rattle.nb_inplace.specs.Verdict.{IsMergeable}
 use Rattle.nb_inplace.specs.Half.{applying_page, IsBetween, IsHalf}
 use Rattle.nb_inplace.proofs.PagesLaws.{trimmed_alike, over_alike}
 use Rattle.nb_inplace.proofs.VerdictLaws.{IsAccepted, IsFor, as_it_stands, begun, accepted}

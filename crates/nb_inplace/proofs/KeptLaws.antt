@@ -1,6 +1,6 @@
 -- A level file whose record is kept: which record it goes on from, and what it holds.
-use Rattle.std.proofs.Common.{◌≡◌, ◌≢◌, ◌⊎◌, inl, inr, ℕ, ◌≤◌, List, [], ◌∷◌, ◌++◌, length, take, refl, sym, ap, subst, ◌∙◌, arith}
-use Rattle.std.specs.Prelude.{Bool, true, false, ◌&&◌, ◌==◌, nat_le, Option, Some, None, Ok, Contains}
+use Rattle.std.proofs.Common.{◌≡◌, ◌≢◌, ◌⊎◌, inl, inr, ℕ, ◌≤◌, List, [], ◌∷◌, ◌++◌, length, take, refl, sym, ap, subst, ◌∙◌}
+use Rattle.std.specs.Prelude.{Bool, true, false, ◌==◌, nat_le, Option, Some, None, Ok, Contains}
 use Rattle.std.proofs.lemmas.Bool.{and_parts, true≢false}
 use Rattle.std.proofs.lemmas.List.{append-nil}
 use Rattle.std.proofs.lemmas.Bool.Decides.{leb_tells}
@@ -13,7 +13,7 @@ use Rattle.nb_model.specs.Levels.{Head, Contents, joined, taken, head_in, head_f
 use Rattle.nb_model.specs.Restoring.{Link, level_link, next_link, next_links}
 use Rattle.nb_model.specs.Stands.{nil, IsKeptAs, IsBegun, IsLineTo, IsAncestor, IsSpan, Stands}
 use Rattle.nb_model.proofs.ChainLaws.{kept_accepted}
-use Rattle.nb_model.proofs.HeaderLaws.{header-long, same-header}
+use Rattle.nb_model.proofs.HeaderLaws.{same-header}
 use Rattle.nb_model.proofs.OpenedLaws.{joined_front}
 use Rattle.nb_model.proofs.StandsLaws.{header_no_level}
 use Rattle.nb_restore.proofs.AnswerLaws.{ok_same, some_same}
@@ -46,7 +46,7 @@ unfolding file_of
 own_file version q = refl
 
 -- an ancestor is kept
-ancestor_there : (kept : List Kept) (between : List Kept) (q r : Kept) → IsLineTo kept q r between → Contains kept q
+pub ancestor_there : (kept : List Kept) (between : List Kept) (q r : Kept) → IsLineTo kept q r between → Contains kept q
 ancestor_there kept [] q r line = line.parent.there
 ancestor_there kept (p ∷ ps) q r line = ancestor_there kept ps q p line.1
 

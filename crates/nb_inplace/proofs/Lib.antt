@@ -16,3 +16,6 @@ pub mod ApplyLaws
 pub mod SeenLaws
 pub mod KeptLaws
 pub mod WayLaws
+pub mod ClosedLaws
+pub mod KeptWay
+pub mod StandbyWell

@@ -1,13 +1,13 @@
 -- A merge from its plan on: it is begun, records are written, pages are counted, and page 0 comes last.
-use Rattle.std.proofs.Common.{◌≡◌, ◌≢◌, ◌⊎◌, inl, inr, ⊎_elim, ℕ, zero, suc, ◌*◌, ◌≤◌, List, [], ◌∷◌, length, drop, refl, sym, ap, subst, ◌∙◌, arith, length-drop}
-use Rattle.std.specs.Prelude.{Bool, true, false, Some, Ok, IsTrue, Contains, max}
+use Rattle.std.proofs.Common.{◌≡◌, ◌⊎◌, inl, inr, ⊎_elim, ℕ, zero, suc, ◌*◌, ◌≤◌, List, [], ◌∷◌, length, drop, refl, sym, ap, subst, ◌∙◌, arith, length-drop}
+use Rattle.std.specs.Prelude.{Bool, true, false, Some, Ok, IsTrue, Contains}
 use Rattle.nb_fields.specs.Bytes.{is_zeros}
 use Rattle.nb_fields.specs.Header.{is_header, size_of}
 use Rattle.nb_fields.specs.Places.{is_page_size}
 use Rattle.nb_fields.proofs.SizeLemmas.{size_facts}
 use Rattle.nb_host.specs.Files.{File, Files, bytes_of, with_page}
 use Rattle.nb_host.specs.World.{World}
-use Rattle.nb_host.specs.Crash.{Leaves, LeavesAll, PageLeft, IsDurable}
+use Rattle.nb_host.specs.Crash.{Leaves, LeavesAll, PageLeft}
 use Rattle.nb_change.specs.Changes.{Changes, Only, NoNames, Moved, Remade}
 use Rattle.nb_change.proofs.ChangesLaws.{rested, weaker_has, composed, kept_on, remade_on}
 use Rattle.nb_change.proofs.MovedLaws.{moved_from, remade_weaker}
@@ -24,11 +24,9 @@ use Rattle.nb_model.proofs.ImageLaws.{all-drop}
 use Rattle.nb_level.specs.Reading.{Reading, still_to_come}
 use Rattle.nb_chain.proofs.ImageLaws.{length-written}
 use Rattle.nb_restore.specs.Copied.{Holds, Overwrites}
-use Rattle.nb_restore.specs.Sources.{AreHeaded}
-use Rattle.nb_restore.specs.Target.{IsKept, KeepsImage}
+use Rattle.nb_restore.specs.Target.{IsKept}
 use Rattle.nb_restore.proofs.CopiedLaws.{all_over-one}
 use Rattle.nb_restore.proofs.HeadLaws.{HasHead, head_all}
-use Rattle.nb_inplace.specs.Half.{applying_page}
 use Rattle.nb_inplace.specs.Merging.{IsHalfFile, KeepsHalf, merged_pages, IsHalfOr, KeepsMerged, begun_file, pages_with}
 use Rattle.nb_inplace.specs.Plan.{IsPlan}
 use Rattle.nb_inplace.proofs.ControlLaws.{applying-long, applying-size, applying-header, standby-long}

@@ -1,5 +1,5 @@
 -- The records of a level file are written, one after another.
-use Rattle.std.proofs.Common.{◌≡◌, ◌≢◌, inl, inr, ℕ, zero, suc, ◌+◌, ◌*◌, ◌<◌, ◌≤◌, List, [], ◌∷◌, ◌++◌, length, refl, sym, ap, subst, ◌∙◌, arith, append_assoc}
+use Rattle.std.proofs.Common.{◌≡◌, ℕ, suc, ◌+◌, ◌*◌, ◌<◌, ◌≤◌, List, [], ◌∷◌, ◌++◌, length, refl, sym, ap, subst, ◌∙◌, arith, append_assoc}
 use Rattle.std.specs.Prelude.{Bool, IsTrue, Ok, Err, Result, max, Contains}
 use Rattle.std.proofs.lemmas.List.{append-nil}
 use Rattle.nb_host.specs.Files.{File, bytes_of}
@@ -101,8 +101,7 @@ module _ (size : ℕ) (reader : Reading) (records : List Numbered) (tells : Bool
   all_written next item n page read is says still =
       let ends : NextSays tells now reader next page (Ok (End n)) = subst (λ (i : Item). NextSays tells now reader next page (Ok i)) is says in
       let none : so_far.rest ≡ [] = ok_same so_far.rest [] (still_to_come (bytes_of file) reader) so_far.coming (subst (λ (f : File). still_to_come (bytes_of f) reader ≡ Ok []) there (ends.2 told)) in
-      let all : records ≡ so_far.done = so_far.all ∙ ap (λ (rs : List Numbered). so_far.done ++ rs) none ∙ append-nil so_far.done in
-      (
+      let all : records ≡ so_far.done = so_far.all ∙ ap (λ (rs : List Numbered). so_far.done ++ rs) none ∙ append-nil so_far.done in (
         so_far.counted ∙ ap (λ (rs : List Numbered). pages_with rs start) (sym all),
         subst (λ (f : File). Overwrites size records a f p q) (sym still) (subst (λ (rs : List Numbered). Overwrites size rs a b p q) (sym all) so_far.over),
       )

@@ -1,5 +1,5 @@
 -- What the bytes of a database are seen as, page by page: behind their end zeros are seen.
-use Rattle.std.proofs.Common.{◌≡◌, inl, inr, ℕ, ◌+◌, ◌-◌, ◌*◌, ◌<◌, ◌≤◌, List, [], ◌∷◌, ◌++◌, length, take, drop, replicate, refl, sym, ap, subst, ◌∙◌, arith, length-drop, add-mul, suc-mul, mul-le-mul_right, take_all}
+use Rattle.std.proofs.Common.{◌≡◌, inl, inr, ℕ, ◌+◌, ◌-◌, ◌*◌, ◌<◌, ◌≤◌, List, [], ◌∷◌, ◌++◌, length, take, drop, replicate, refl, sym, ap, subst, ◌∙◌, arith, length-drop, add-mul, mul-le-mul_right, take_all}
 use Rattle.std.specs.Prelude.{true, None, IsTrue, ◌==◌}
 use Rattle.std.proofs.Math.Seq.{drop-drop}
 use Rattle.std.proofs.Math.ListN.{drop_of_length-le}
@@ -8,9 +8,8 @@ use Rattle.std.proofs.lemmas.List.{take-append-le, length-replicate, get_or-drop
 use Rattle.nb_fields.specs.Bytes.{is_zeros}
 use Rattle.nb_fields.specs.Header.{size_of}
 use Rattle.nb_fields.specs.Table.{page_in}
-use Rattle.nb_fields.proofs.SizeLemmas.{size_facts}
 use Rattle.nb_model.specs.Causes.{not_database}
-use Rattle.nb_model.specs.Image.{Page, Image, page_at, image_size, image_in}
+use Rattle.nb_model.specs.Image.{Page, Image, page_at, image_in}
 use Rattle.nb_model.specs.Levels.{joined}
 use Rattle.nb_model.specs.Owner.{main_page}
 use Rattle.nb_model.specs.Sound.{IsOfSize}

@@ -1,16 +1,14 @@
 -- Stamps above an SCN, one piece of pages after another.
-use Rattle.std.proofs.Common.{◌≡◌, inl, inr, ℕ, zero, suc, ◌+◌, ◌-◌, ◌*◌, ◌/◌, ◌<◌, ◌≤◌, List, [], ◌∷◌, ◌++◌, length, take, drop, replicate, refl, sym, ap, subst, ◌∙◌, arith, append_assoc, length-drop, mul-le-mul_right, div-add-mod'}
-use Rattle.std.specs.Prelude.{Bool, true, false, nat_lt, Option, option_map, Some, None, Err}
+use Rattle.std.proofs.Common.{◌≡◌, inl, inr, ℕ, zero, suc, ◌+◌, ◌-◌, ◌*◌, ◌/◌, ◌<◌, ◌≤◌, List, [], ◌∷◌, ◌++◌, length, take, drop, replicate, refl, sym, ap, ◌∙◌, arith, length-drop, mul-le-mul_right, div-add-mod'}
+use Rattle.std.specs.Prelude.{true, false, Some, None, Err}
 use Rattle.std.proofs.lemmas.Bool.{cases_lt}
-use Rattle.std.proofs.lemmas.List.{take-append-le, take-replicate, drop-replicate, length-replicate, append-nil, drop-drop, drop_all, take-append-drop, take_all, length-take-le, drop-take}
+use Rattle.std.proofs.lemmas.List.{take-append-le, take-replicate, drop-replicate, length-replicate, drop-drop, drop_all, take-append-drop, take_all}
 use Rattle.std.proofs.Math.Nat.{mul-div_cancel}
 use Rattle.nb_fields.specs.Bytes.{number_of, number_in, is_zeros}
 use Rattle.nb_fields.specs.Header.{is_header, size_of}
 use Rattle.nb_fields.specs.Page.{stamp_of}
 use Rattle.nb_fields.proofs.PartLemmas.{number_in-take}
 use Rattle.nb_fields.proofs.SizeLemmas.{size_facts}
-use Rattle.nb_host.specs.Files.{File, bytes_of}
-use Rattle.nb_host.specs.Calls.{ReadsBytes}
 use Rattle.nb_host.specs.declared.faults.Fault.{Fault}
 use Rattle.nb_host.specs.declared.faults.Fault.TheVariants.{Refused, Device, Memory}
 use Rattle.nb_host.specs.declared.refusals.Refusal.{Refusal}

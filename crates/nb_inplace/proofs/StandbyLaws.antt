@@ -1,26 +1,23 @@
 -- What the first bytes of a standby tell, and its length.
-use Rattle.std.proofs.Common.{◌≡◌, ◌≢◌, ◌⊎◌, inl, inr, ℕ, zero, suc, ◌+◌, ◌*◌, ◌<◌, ◌≤◌, List, [], ◌∷◌, ◌++◌, length, take, refl, sym, ap, subst, ◌∙◌, arith}
-use Rattle.std.specs.Prelude.{Bool, true, false, not, ◌||◌, ◌==◌, nat_eq, IsTrue, Option, option_map, Some, None}
-use Rattle.std.proofs.lemmas.Bool.{eq-eqb, true≢false}
+use Rattle.std.proofs.Common.{◌≡◌, ◌≢◌, inl, inr, ℕ, ◌+◌, ◌<◌, ◌≤◌, List, [], ◌∷◌, ◌++◌, length, take, refl, sym, ap, ◌∙◌, arith}
+use Rattle.std.specs.Prelude.{Bool, true, false, not, ◌||◌, ◌==◌, nat_eq, Option, option_map, Some, None}
+use Rattle.std.proofs.lemmas.Bool.{true≢false}
 use Rattle.std.proofs.lemmas.List.{take-take, take_at, length-take}
 use Rattle.nb_fields.specs.Bytes.{number_in}
-use Rattle.nb_fields.specs.Header.{is_header, state_of, size_of, guid_of, pending_of}
-use Rattle.nb_fields.specs.Places.{is_page_size}
+use Rattle.nb_fields.specs.Header.{is_header, state_of, size_of, guid_of}
 use Rattle.nb_fields.proofs.PartLemmas.{number_in-take}
 use Rattle.nb_fields.proofs.SizeLemmas.{size_facts}
 use Rattle.nb_host.specs.Files.{File}
 use Rattle.nb_host.specs.Names.{same_name}
 use Rattle.nb_host.specs.declared.refusals.Refusal.{Refusal}
-use Rattle.nb_host.specs.declared.refusals.Refusal.TheVariants.{NoFile, NotDatabase, Unfinished, ChainGuid, ChainSize, WrongState}
+use Rattle.nb_host.specs.declared.refusals.Refusal.TheVariants.{NoFile, NotDatabase, Unfinished, ChainGuid}
 use Rattle.nb_page.specs.Header.{header_in}
-use Rattle.nb_page.specs.declared.header.Header.{Header}
 use Rattle.nb_model.specs.Causes.{Cause, first_cause, when, not_database}
 use Rattle.nb_model.specs.Image.{Page, Image, first_page, image_size, image_in, is_read_only}
-use Rattle.nb_model.specs.InPlace.{is_another, not_mergeable, not_next, not_standby}
+use Rattle.nb_model.specs.InPlace.{is_another, not_finishing, not_mergeable, not_next, not_standby}
 use Rattle.nb_model.specs.Levels.{Contents, joined}
-use Rattle.nb_model.proofs.FormLaws.{Formed, formed}
-use Rattle.nb_model.proofs.HeaderLaws.{header-long, header-size, same-header, same-number}
-use Rattle.nb_model.proofs.MainLaws.{IsLaid, laid, laid-front, laid-wide, some_page}
+use Rattle.nb_model.proofs.HeaderLaws.{header-size, same-header}
+use Rattle.nb_model.proofs.MainLaws.{IsLaid, laid, laid-wide, some_page}
 use Rattle.nb_cases.specs.Events.{IsFileIn, OnApply}
 use Rattle.nb_cases.specs.declared.events.Case.{Case}
 use Rattle.nb_cases.specs.declared.events.Case.TheVariants.{NoCall, Go, WrongState as refused, Unfinished as unfinished, Main, Delta, BothOrMain, GoWithDelta, GoWithoutDelta, GoOrUnfinished}
@@ -100,8 +97,12 @@ another_next : (name bytes : List ℕ) → not_next name bytes (another bytes) �
 unfolding not_next
 another_next name bytes = first_fails (same_name (0 ∷ guid_of bytes) (guid_of bytes)) (ChainGuid name (0 ∷ guid_of bytes) (guid_of bytes)) _ (other_texts (0 ∷ guid_of bytes) (guid_of bytes) (longer (guid_of bytes)))
 
-apart : (name bytes : List ℕ) → when (is_another bytes (another bytes)) Unfinished ≡ not_next name bytes (another bytes) → ⊥
-apart name bytes e = other (sym (ap (λ (t : Bool). when t Unfinished) (another_is bytes)) ∙ e ∙ another_next name bytes)
+another_finishing : (name bytes : List ℕ) → not_finishing name bytes (another bytes) ≡ Some Unfinished
+unfolding not_finishing first_cause
+another_finishing name bytes = rw (another_is bytes) refl
+
+apart : (name bytes : List ℕ) → not_finishing name bytes (another bytes) ≡ not_next name bytes (another bytes) → ⊥
+apart name bytes e = other (sym (another_finishing name bytes) ∙ e ∙ another_next name bytes)
   where
     other : Some Unfinished ≡ Some (ChainGuid name (0 ∷ guid_of bytes) (guid_of bytes)) → ⊥
     other h = cc
@@ -112,7 +113,7 @@ pub data IsCaseOf (state : ℕ) (case : Case) : Type 0 where
   goes_on : case ≡ GoOrUnfinished → state ≡ 3 → IsCaseOf state case
 
 module _ (state : ℕ) (name bytes : List ℕ) (is : IsFileIn state bytes) where
-  in_normal : state_of bytes ≡ 0 → (not_mergeable bytes name (another bytes) ≡ when (is_another bytes (another bytes)) Unfinished) → ⊥
+  in_normal : state_of bytes ≡ 0 → (not_mergeable bytes name (another bytes) ≡ not_finishing name bytes (another bytes)) → ⊥
   in_normal zero_is says = apart name bytes (sym says ∙ mergeable_by bytes name (another bytes) ∙ ap (λ (n : ℕ). by_state (n == 3) bytes name (another bytes)) zero_is)
 
   in_applying : state_of bytes ≡ 3 → (not_mergeable bytes name (another bytes) ≡ not_next name bytes (another bytes)) → ⊥

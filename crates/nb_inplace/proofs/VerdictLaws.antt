@@ -1,8 +1,8 @@
 -- What an accepted merge is: a standby in the normal or the applying state, and the level file that goes on from it.
-use Rattle.std.proofs.Common.{◌≡◌, ◌⊎◌, inl, inr, ℕ, zero, suc, ◌-◌, ◌≤◌, List, [], ◌∷◌, refl, sym, ap, ◌∙◌, arith}
-use Rattle.std.specs.Prelude.{Bool, true, false, not, ◌||◌, ◌==◌, Some, None, Result, Ok, Err}
+use Rattle.std.proofs.Common.{◌≡◌, ◌⊎◌, inl, inr, ℕ, zero, suc, ◌-◌, ◌≤◌, List, ◌∷◌, refl, sym, ap, ◌∙◌, arith}
+use Rattle.std.specs.Prelude.{Bool, true, false, not, ◌==◌, Some, None, Result, Ok, Err}
 use Rattle.std.specs.Cmp.Lexicographic.{told_text}
-use Rattle.std.proofs.lemmas.Bool.{eqb-true, eqb-false, or_parts, true≢false}
+use Rattle.std.proofs.lemmas.Bool.{eqb-true, eqb-false, or_parts}
 use Rattle.nb_fields.specs.Header.{state_of, size_of, scn_of, guid_of, pending_of}
 use Rattle.nb_host.specs.Files.{File, Files}
 use Rattle.nb_host.specs.Names.{same_name}
@@ -10,13 +10,13 @@ use Rattle.nb_host.specs.declared.refusals.Refusal.{Refusal}
 use Rattle.nb_host.specs.declared.refusals.Refusal.TheVariants.{NoFile, WrongState, BadLevel, Unfinished, ChainGuid, ChainSize, ChainScn, Access}
 use Rattle.nb_model.specs.Causes.{Cause, first_cause, when, not_database}
 use Rattle.nb_model.specs.Image.{image_in, is_read_only}
-use Rattle.nb_model.specs.InPlace.{written_since, other_pages, is_another, not_next, not_mergeable, in_place_of, not_standby, bytes_in, in_place}
+use Rattle.nb_model.specs.InPlace.{written_since, other_pages, not_next, not_finishing, not_mergeable, in_place_of, not_standby, bytes_in, in_place}
 use Rattle.nb_model.specs.Levels.{Contents, read_level}
 use Rattle.nb_model.proofs.FormLaws.{formed}
 use Rattle.nb_model.proofs.HeaderLaws.{header-state}
-use Rattle.nb_restore.proofs.AnswerLaws.{ok_same, err_ok, some_same}
+use Rattle.nb_restore.proofs.AnswerLaws.{ok_same, err_ok}
 use Rattle.nb_restore.proofs.ChainLaws.{not_false}
-use Rattle.nb_inplace.specs.Verdict.{of_its_size, apply_verdict, IsMergeable}
+use Rattle.nb_inplace.specs.Verdict.{IsMergeable}
 
 some_none : (r : Refusal) → Some r ≡ None → ⊥
 some_none r h = cc
@@ -65,6 +65,7 @@ goes_on name bytes c none =
 pub record IsTheSame (bytes : List ℕ) (c : Contents) : Type 0 where
   pub pending : pending_of bytes ≡ c.head.guid
   pub previous : guid_of bytes ≡ c.head.previous
+  pub size : c.head.size ≡ size_of bytes
 
 -- By the state: it goes on from the standby as it stands, or finishes what was begun.
 pub data IsFor (name bytes : List ℕ) (c : Contents) : Type 0 where
@@ -97,14 +98,21 @@ standby_state name bytes none =
     by (suc (suc (suc (suc n)))) low one two = absurd (omega arith)
 
 -- the file that finishes what was begun
-the_same : (bytes : List ℕ) (c : Contents) → is_another bytes c ≡ false → IsTheSame bytes c
-the_same bytes c same =
-    let parts = or_parts (not (same_name (pending_of bytes) c.head.guid)) (not (same_name (guid_of bytes) c.head.previous)) same in
-    record { pending = same_text (pending_of bytes) c.head.guid (not_false _ parts.0); previous = same_text (guid_of bytes) c.head.previous (not_false _ parts.1) }
+the_same : (name bytes : List ℕ) (c : Contents) → not_finishing name bytes c ≡ None → IsTheSame bytes c
+unfolding not_finishing
+the_same name bytes c none =
+    let guids = clear_head _ _ none in
+    let size = clear_head _ _ guids.1 in
+    let parts = or_parts (not (same_name (pending_of bytes) c.head.guid)) (not (same_name (guid_of bytes) c.head.previous)) (when_clear _ Unfinished guids.0) in
+    record {
+      pending = same_text (pending_of bytes) c.head.guid (not_false _ parts.0);
+      previous = same_text (guid_of bytes) c.head.previous (not_false _ parts.1);
+      size = eqb-true c.head.size (size_of bytes) (passed (c.head.size == size_of bytes) (ChainSize name c.head.size (size_of bytes)) size.0);
+    }
 
 -- the tests by the state
 abbrev pub by_state : (stopped : Bool) (bytes name : List ℕ) → Contents → Cause
-by_state stopped bytes name c = elim stopped [ true ↦ when (is_another bytes c) Unfinished | false ↦ not_next name bytes c ]
+by_state stopped bytes name c = elim stopped [ true ↦ not_finishing name bytes c | false ↦ not_next name bytes c ]
 
 pub mergeable_by : (bytes name : List ℕ) (c : Contents) → not_mergeable bytes name c ≡ by_state (state_of bytes == 3) bytes name c
 unfolding not_mergeable
@@ -112,7 +120,7 @@ mergeable_by bytes name c = refl
 
 is_for : (bytes name : List ℕ) (c : Contents) → (state_of bytes ≡ 0) ⊎ (state_of bytes ≡ 3) → not_mergeable bytes name c ≡ None → IsFor name bytes c
 is_for bytes name c (inl is) none = as_it_stands is (goes_on name bytes c (sym (mergeable_by bytes name c ∙ ap (λ (n : ℕ). by_state (n == 3) bytes name c) is) ∙ none))
-is_for bytes name c (inr is) none = begun is (the_same bytes c (when_clear _ Unfinished (sym (mergeable_by bytes name c ∙ ap (λ (n : ℕ). by_state (n == 3) bytes name c) is) ∙ none)))
+is_for bytes name c (inr is) none = begun is (the_same name bytes c (sym (mergeable_by bytes name c ∙ ap (λ (n : ℕ). by_state (n == 3) bytes name c) is) ∙ none))
 
 -- what was read, and nothing against it
 in_place_parts : (bytes name level : List ℕ) (c : Contents) → in_place_of bytes name level ≡ Ok c → (read_level level ≡ Ok c) × (not_mergeable bytes name c ≡ None)
@@ -157,58 +165,41 @@ in_place_is files standby name bytes c there e = by (not_standby standby (files 
       is = ap (λ (f : File). in_place_of (bytes_in f) name level) (sym there) ∙ h;
     }
 
-its_size : (bytes name : List ℕ) (c d : Contents) → of_its_size bytes name d ≡ Ok c → (d ≡ c) × (d.head.size ≡ size_of bytes)
-unfolding of_its_size
-its_size bytes name c d e = by (d.head.size == size_of bytes) refl e
-  where
-    by : (t : Bool) → (d.head.size == size_of bytes) ≡ t → elim t as (λ x. Result Contents Refusal) [ true ↦ Ok d | false ↦ Err (ChainSize name d.head.size (size_of bytes)) ] ≡ Ok c → (d ≡ c) × (d.head.size ≡ size_of bytes)
-    by true is h = (ok_same d c (Ok d) refl h, eqb-true d.head.size (size_of bytes) is)
-    by false is h = absurd (err_ok (ChainSize name d.head.size (size_of bytes)) c (Err (ChainSize name d.head.size (size_of bytes))) refl h)
-
-verdict_parts : (files : Files) (standby name bytes : List ℕ) (c : Contents) → IsMergeable files standby name bytes c → (in_place files standby name ≡ Ok c) × (c.head.size ≡ size_of bytes)
-unfolding apply_verdict
-verdict_parts files standby name bytes c m = by (in_place files standby name) refl m.accepted
-  where
-    by : (r : Result Contents Refusal) → in_place files standby name ≡ r
-        → elim r as (λ x. Result Contents Refusal) [ Err refusal ↦ Err refusal | Ok d ↦ of_its_size (bytes_in (files standby)) name d ] ≡ Ok c → (in_place files standby name ≡ Ok c) × (c.head.size ≡ size_of bytes)
-    by (Err r) is h = absurd (err_ok r c (Err r) refl h)
-    by (Ok d) is h =
-        let sized = its_size bytes name c d (ap (λ (f : File). of_its_size (bytes_in f) name d) (sym m.there) ∙ h) in
-        (is ∙ ap Ok sized.0, ap (λ (x : Contents). x.head.size) (sym sized.0) ∙ sized.1)
+-- either way the pages have the standby's size
+for_size : (name bytes : List ℕ) (c : Contents) → IsFor name bytes c → c.head.size ≡ size_of bytes
+for_size name bytes c (as_it_stands is on) = on.size
+for_size name bytes c (begun is same) = same.size
 
 pub accepted : (files : Files) (standby name bytes : List ℕ) (c : Contents) → IsMergeable files standby name bytes c → IsAccepted files name bytes c
 accepted files standby name bytes c m =
-    let parts = verdict_parts files standby name bytes c m in
-    let found = in_place_is files standby name bytes c m.there parts.0 in
+    let found = in_place_is files standby name bytes c m.there m.accepted in
     let stands = standby_state standby bytes found.stands in
     let read = in_place_parts bytes name found.level c found.is in
-    record { formed = stands.0; level = found.level; there = found.there; read = read.0; size = parts.1; for = is_for bytes name c stands.1 read.1 }
+    let is = is_for bytes name c stands.1 read.1 in
+    record { formed = stands.0; level = found.level; there = found.there; read = read.0; size = for_size name bytes c is; for = is }
 
 -- The verdict, test by test: on the standby alone,
-pub unfit : (files : Files) (standby name : List ℕ) (r : Refusal) → not_standby standby (files standby) ≡ Some r → apply_verdict files standby name ≡ Err r
-unfolding apply_verdict in_place
-unfit files standby name r e = rw (e, apply_verdict) refl
+pub unfit : (files : Files) (standby name : List ℕ) (r : Refusal) → not_standby standby (files standby) ≡ Some r → in_place files standby name ≡ Err r
+unfolding in_place
+unfit files standby name r e = rw (e, in_place) refl
 
 -- on the level file alone,
-pub no_level : (files : Files) (standby name : List ℕ) → not_standby standby (files standby) ≡ None → files name ≡ None → apply_verdict files standby name ≡ Err (NoFile name)
-unfolding apply_verdict in_place
-no_level files standby name e none = rw (e, apply_verdict) (rw (none, apply_verdict) refl)
+pub no_level : (files : Files) (standby name : List ℕ) → not_standby standby (files standby) ≡ None → files name ≡ None → in_place files standby name ≡ Err (NoFile name)
+unfolding in_place
+no_level files standby name e none = rw (e, in_place) (rw (none, in_place) refl)
 
-pub bad_level : (files : Files) (standby name level : List ℕ) (at : ℕ) → not_standby standby (files standby) ≡ None → files name ≡ Some level → read_level level ≡ Err at → apply_verdict files standby name ≡ Err (BadLevel name at)
-unfolding apply_verdict in_place in_place_of
-bad_level files standby name level at e there read = rw (e, apply_verdict) (rw (there, apply_verdict) (rw (read, apply_verdict) refl))
+pub bad_level : (files : Files) (standby name level : List ℕ) (at : ℕ) → not_standby standby (files standby) ≡ None → files name ≡ Some level → read_level level ≡ Err at → in_place files standby name ≡ Err (BadLevel name at)
+unfolding in_place in_place_of
+bad_level files standby name level at e there read = rw (e, in_place) (rw (there, in_place) (rw (read, in_place_of) refl))
 
 -- and on both
-abbrev pub apply_cause : (bytes name : List ℕ) → Contents → Cause
-apply_cause bytes name c = first_cause (not_mergeable bytes name c ∷ when (not (c.head.size == size_of bytes)) (ChainSize name c.head.size (size_of bytes)) ∷ [])
-
 abbrev pub answered : Contents → Cause → Result Contents Refusal
 answered c cause = elim cause as (λ x. Result Contents Refusal) [ Some refusal ↦ Err refusal | None ↦ Ok c ]
 
 module _ (files : Files) (standby name bytes level : List ℕ) (c : Contents) (here : files standby ≡ Some bytes) (stands : not_standby standby (Some bytes) ≡ None) (there : files name ≡ Some level) (read : read_level level ≡ Ok c) where
-  in_place_by : in_place files standby name ≡ answered c (not_mergeable bytes name c)
+  pub verdict_by : in_place files standby name ≡ answered c (not_mergeable bytes name c)
   unfolding in_place in_place_of
-  in_place_by =
+  verdict_by =
       ap (λ (f : File). by_standby (not_standby standby f) (files name) f) here ∙ ap (λ (cause : Cause). by_standby cause (files name) (Some bytes)) stands
       ∙ ap (λ (f : File). by_standby None f (Some bytes)) there
       ∙ ap (λ (r : Result Contents ℕ). elim r as (λ x. Result Contents Refusal) [ Err at ↦ Err (BadLevel name at) | Ok d ↦ answered d (not_mergeable bytes name d) ]) read
@@ -218,20 +209,3 @@ module _ (files : Files) (standby name bytes level : List ℕ) (c : Contents) (h
         | Some refusal ↦ Err refusal
         | None ↦ elim level as (λ x. Result Contents Refusal) [ None ↦ Err (NoFile name) | Some bytes ↦ in_place_of (bytes_in file) name bytes ]
       ]
-
-  abbrev sized : Result Contents Refusal → (standby : List ℕ) → Result Contents Refusal
-  sized r standby = elim r as (λ x. Result Contents Refusal) [ Err refusal ↦ Err refusal | Ok d ↦ of_its_size standby name d ]
-
-  its_answer : (cause : Cause) → sized (answered c cause) bytes ≡ answered c (first_cause (cause ∷ when (not (c.head.size == size_of bytes)) (ChainSize name c.head.size (size_of bytes)) ∷ []))
-  unfolding first_cause of_its_size
-  its_answer (Some r) = refl
-  its_answer None = by (c.head.size == size_of bytes)
-    where
-      by : (t : Bool) → elim t as (λ x. Result Contents Refusal) [ true ↦ Ok c | false ↦ Err (ChainSize name c.head.size (size_of bytes)) ]
-          ≡ answered c (first_cause (None ∷ when (not t) (ChainSize name c.head.size (size_of bytes)) ∷ []))
-      by true = refl
-      by false = refl
-
-  pub verdict_by : apply_verdict files standby name ≡ answered c (apply_cause bytes name c)
-  unfolding apply_verdict
-  verdict_by = ap (λ (r : Result Contents Refusal). sized r (bytes_in (files standby))) in_place_by ∙ ap (λ (f : File). sized (answered c (not_mergeable bytes name c)) (bytes_in f)) here ∙ its_answer (not_mergeable bytes name c)

@@ -4,13 +4,12 @@ use Rattle.nb_host.specs.Files.{Files}
 use Rattle.nb_host.specs.declared.faults.Fault.{Fault}
 use Rattle.nb_host.specs.declared.faults.Fault.TheVariants.{Refused, Device, Memory}
 use Rattle.nb_model.specs.Causes.{not_database}
-use Rattle.nb_model.specs.InPlace.{not_standby}
+use Rattle.nb_model.specs.InPlace.{not_standby, in_place}
 use Rattle.nb_model.specs.Levels.{Contents, read_level}
 use Rattle.nb_level.specs.Heads.{head_of}
 use Rattle.nb_level.specs.Reading.{Reading, still_to_come}
 use Rattle.nb_inplace.specs.Standby.{IsStandby}
 use Rattle.nb_inplace.specs.Tests.{head_cause}
-use Rattle.nb_inplace.specs.Verdict.{apply_verdict}
 use Rattle.nb_inplace.specs.declared.standby.Standby.{Standby}
 
 -- the reader is behind the head of a level file, which holds this
@@ -35,6 +34,6 @@ pub record IsFitFor (files : Files) (standby name : List ℕ) (s : Standby) (rea
 
 abbrev pub AcceptSays : Files → (standby name : List ℕ) → Result (Standby × Reading) Fault → Type 0
 AcceptSays files standby name (Ok found) = IsFitFor files standby name found.0 found.1
-AcceptSays files standby name (Err (Refused refusal)) = apply_verdict files standby name ≡ Err refusal
+AcceptSays files standby name (Err (Refused refusal)) = in_place files standby name ≡ Err refusal
 AcceptSays files standby name (Err Device) = Unit {0}
 AcceptSays files standby name (Err Memory) = Unit {0}

@@ -1,6 +1,6 @@
 -- A level file is merged into a standby, in place.
 use Rattle.std.specs.Prelude.{◌≡◌, ◌⊎◌, ℕ, List, length, Some, Result, Ok, Err}
-use Rattle.nb_host.specs.Files.{Files}
+use Rattle.nb_host.specs.Files.{File, Files}
 use Rattle.nb_host.specs.World.{World}
 use Rattle.nb_host.specs.Crash.{Leaves, LeavesAll}
 use Rattle.nb_host.specs.declared.faults.Fault.{Fault}
@@ -10,11 +10,12 @@ use Rattle.nb_change.specs.Changes.{Changes, Only}
 use Rattle.nb_change.specs.Gave.{GaveNothing}
 use Rattle.nb_page.specs.Quiet.{Quiet}
 use Rattle.nb_model.specs.Account.{Base, base_of}
-use Rattle.nb_model.specs.Image.{Image, image_in}
+use Rattle.nb_model.specs.Image.{image_in}
+use Rattle.nb_model.specs.InPlace.{in_place}
 use Rattle.nb_model.specs.Levels.{Contents}
 use Rattle.nb_model.specs.Strokes.{merged}
 use Rattle.nb_model.specs.Trail.{ShowsIn}
-use Rattle.nb_inplace.specs.Verdict.{apply_verdict, IsMergeable}
+use Rattle.nb_inplace.specs.Verdict.{IsMergeable}
 use Rattle.nb_inplace.specs.Half.{IsHalf}
 
 -- The database that a merge gives: the standby's image with the level file's pages written over, in the normal state, read-only, and with
@@ -32,10 +33,9 @@ pub record IsHalfIn (standby bytes : List ℕ) (c : Contents) (files : Files) : 
 abbrev pub IsPartIn : (old : World) (standby name : List ℕ) → Files → Type 0
 IsPartIn old standby name files = (bytes : List ℕ) × (c : Contents) × IsMergeable old.files standby name bytes c × (IsHalfIn standby bytes c files ⊎ ShowsIn standby (base_with bytes c) files)
 
--- Whatever a stop leaves of the standby while a level file is merged into it: it is as a stop would have left it before, or half merged, or
--- merged.
-abbrev pub ApplyLeft : (old : World) (standby name : List ℕ) → Files → Type 0
-ApplyLeft old standby name files = Leaves old standby (files standby) ⊎ IsPartIn old standby name files
+-- What stands of the standby while a level file is merged into it: it is as it was, or half merged, or merged.
+abbrev pub ApplyLeft : (was : File → Type 0) (old : World) (standby name : List ℕ) → Files → Type 0
+ApplyLeft was old standby name files = was (files standby) ⊎ IsPartIn old standby name files
 
 -- the standby is merged, as it reads and whatever a stop leaves of it, and has so many pages
 pub record IsMerged (old new : World) (standby name : List ℕ) (count : ℕ) : Type 0 where
@@ -49,14 +49,16 @@ pub record IsMerged (old new : World) (standby name : List ℕ) (count : ℕ) : 
 -- a refused call, and one that wants memory, changes nothing
 abbrev pub ApplyAnswers : Result ℕ Fault → (old new : World) (standby name : List ℕ) → Type 0
 ApplyAnswers (Ok count) old new standby name = IsMerged old new standby name count
-ApplyAnswers (Err (Refused refusal)) old new standby name = Quiet old new × (apply_verdict old.files standby name ≡ Err refusal)
+ApplyAnswers (Err (Refused refusal)) old new standby name = Quiet old new × (in_place old.files standby name ≡ Err refusal)
 ApplyAnswers (Err Device) old new standby name = Unit {0}
 ApplyAnswers (Err Memory) old new standby name = Quiet old new
 
 pub record Applies (result : Result ℕ Fault) (old new : World) (standby name : List ℕ) : Type 0 where
   pub answer : ApplyAnswers result old new standby name
-  -- no other file is touched, and nothing is said
-  pub left : Changes old new (Only standby) (ApplyLeft old standby name)
+  -- a stop leaves it so, of the standby alone, and nothing is said
+  pub left : Changes old new (Only standby) (ApplyLeft (Leaves old standby) old standby name)
+  -- and so it reads behind the call, whatever is answered
+  pub reads : ApplyLeft (λ file. file ≡ old.files standby) old standby name new.files
   pub gave : GaveNothing old new
   -- where the merge is refused nothing changes, also where the device fails
-  pub refused : (refusal : Refusal) → apply_verdict old.files standby name ≡ Err refusal → Quiet old new
+  pub refused : (refusal : Refusal) → in_place old.files standby name ≡ Err refusal → Quiet old new

@@ -1,4 +1,5 @@
 pub mod Verdict
+pub mod Kept
 pub mod Half
 pub mod Apply
 pub mod Standby

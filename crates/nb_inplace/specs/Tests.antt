@@ -1,5 +1,5 @@
 -- What a standby and the head of a level file say against their merge.
-use Rattle.std.specs.Prelude.{ℕ, ◌-◌, List, [], ◌∷◌, drop, None, Bool, true, false, not, ◌||◌, ◌==◌}
+use Rattle.std.specs.Prelude.{ℕ, ◌-◌, List, [], ◌∷◌, drop, None, true, false, not, ◌||◌, ◌==◌}
 use Rattle.nb_host.specs.Names.{same_name}
 use Rattle.nb_host.specs.declared.refusals.Refusal.TheVariants.{Unfinished, ChainGuid, ChainSize, ChainScn, Access}
 use Rattle.nb_model.specs.Causes.{Cause, first_cause, when}

@@ -127,7 +127,13 @@ pub fn apply<H: Host>(
     let page_size = found.header.page_size as usize;
     let mut first = vec![in alloc; 0; page_size]?;
     make_ready(
-        host, standby, file, &found, &reader.head(), &mut first, &mut piece,
+        host,
+        standby,
+        file,
+        &found,
+        &reader.head(),
+        &mut first,
+        &mut piece,
     )?;
     let page = &mut piece[..page_size];
     merge(host, standby, &found, &mut reader, &mut first, page)

@@ -1,9 +1,8 @@
 -- An image in the normal state, with nothing else changed, stays sound and goes on from what it went on from.
-use Rattle.std.proofs.Common.{◌≡◌, inl, List, [], ◌∷◌, length, refl, sym, ap, subst, ◌∙◌, arith}
+use Rattle.std.proofs.Common.{◌≡◌, inl, List, [], ◌∷◌, refl, subst, arith}
 use Rattle.nb_fields.specs.Bytes.{bytes_of}
-use Rattle.nb_fields.specs.Header.{state_of}
 use Rattle.nb_fields.proofs.PartLemmas.{part-with_part_other}
-use Rattle.nb_model.specs.Image.{Page, Image, first_page, image_state}
+use Rattle.nb_model.specs.Image.{Page, Image, first_page}
 use Rattle.nb_model.specs.Account.{Kept}
 use Rattle.nb_model.specs.Strokes.{fixed}
 use Rattle.nb_model.specs.Sound.{HasHeader, IsSoundImage}

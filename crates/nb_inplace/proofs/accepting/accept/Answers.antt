@@ -1,10 +1,8 @@
-use Rattle.std.proofs.Common.{◌≡◌, List, ℕ, sym, ap, subst, ◌∙◌}
-use Rattle.nb_host.specs.Files.{File, Files}
-use Rattle.nb_model.specs.Causes.{not_database}
+use Rattle.std.proofs.Common.{sym, ap, ◌∙◌}
+use Rattle.nb_host.specs.Files.{Files}
 use Rattle.nb_model.specs.InPlace.{not_standby}
 use Rattle.nb_level.specs.Heads.{head_of}
 use Rattle.nb_level.specs.Reading.{Reading}
-use Rattle.nb_level.specs.declared.head.LevelHead.{LevelHead}
 use Rattle.nb_inplace.specs.declared.standby.Standby.{Standby}
 use Rattle.nb_fixup.proofs.AnswerLaws.{passed}
 use Rattle.nb_inplace.specs.Accepted.{AcceptSays}

@@ -1,4 +1,4 @@
-use Rattle.std.proofs.Common.{◌≡◌, ℕ, ◌-◌, ◌∷◌, ◌≤◌, length, drop, ap, sym, subst, ◌∙◌, arith, length-drop}
+use Rattle.std.proofs.Common.{◌≡◌, ℕ, ◌-◌, ◌∷◌, drop, ap, sym, subst, ◌∙◌, arith, length-drop}
 use Rattle.nb_host.specs.Files.{Files}
 use Rattle.nb_model.specs.Sound.{IsOfSize}
 use Rattle.nb_page.proofs.QuietLemmas.{quiet_joined}

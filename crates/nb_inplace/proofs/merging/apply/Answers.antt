@@ -1,17 +1,15 @@
-use Rattle.std.proofs.Common.{◌≡◌, ℕ, ◌≤◌, List, length, take, length-take-le, refl, sym, ap, subst, ◌∙◌, arith}
-use Rattle.std.specs.Prelude.{Result, Ok, Err, IsTrue}
+use Rattle.std.proofs.Common.{◌≡◌, ℕ, List, length, take, length-take-le, sym, ap, subst, ◌∙◌, arith}
+use Rattle.std.specs.Prelude.{Ok, Err, IsTrue}
 use Rattle.std.specs.Global.{Vec}
 use Rattle.std.specs.Vec.{with_items}
 use Rattle.std.proofs.lemmas.List.{with_items_is}
 use Rattle.nb_fields.specs.Places.{is_page_size}
 use Rattle.nb_fields.proofs.SizeLemmas.{size_facts}
-use Rattle.nb_host.specs.World.{World}
-use Rattle.nb_host.specs.Crash.{IsDurable}
+use Rattle.nb_host.specs.Crash.{Leaves, IsDurable}
 use Rattle.nb_host.specs.Files.{Files}
-use Rattle.nb_host.specs.declared.faults.Fault.{Fault}
 use Rattle.nb_host.specs.declared.faults.Fault.TheVariants.{Memory}
 use Rattle.nb_level.specs.declared.head.LevelHead.{LevelHead}
-use Rattle.nb_model.specs.Image.{Page, first_page}
+use Rattle.nb_model.specs.Image.{first_page}
 use Rattle.nb_page.proofs.QuietLemmas.{quiet_begun, quiet_joined}
 use Rattle.nb_fixup.proofs.AnswerLaws.{passed}
 use Rattle.nb_inplace.specs.Apply.{Applies}
@@ -91,4 +89,6 @@ returns-clause-applies g c tells =
     subst (λ (h : LevelHead). ReadySays (stamp_cause c.in_ok-found.found c.args.file.now h.previous_scn ps) (applying_page h.guid (first_page ps)) c.deref_mut-4.result.now (Ok tt)) c.head.ensures.value (says.0, first.0 ∙ says.1) in
     let same = room _ _ found.whole.form.size ((as_long c.in_ok-piece.piece _ _ _ c.in_ok-piece.piece.ok.0 c.deref_mut-2.ensures.value c.make_ready.auto.piece c.deref_mut-3.ensures.value).1 ∙ c.in_ok-piece.ensures.len) in
     let kept = subst (λ (f : Files). IsDurable (g.H.Host.world c.make_ready.new.host) c.args.standby.now (f c.args.standby.now)) (sym ready.quiet.still.files) (ready.kept tells) in
-    apply_done old _ _ _ _ fit found.whole found.size c.deref_mut-4.result.now tt is_ready _ _ (quiet_joined _ _ _ found.quiet ready.quiet) n same kept c.merge.result (c.merge.ensures.done tells) (c.merge.ensures.left tells) c.merge.ensures.gave
+    let stays : (m : List ℕ) → Leaves (g.H.Host.world c.merge.new.host) m ((g.H.Host.world c.merge.new.host).files m) = g.met.H.Host.reads_left c.merge.new.host tells in
+    apply_done old _ _ _ _ fit found.whole found.size c.deref_mut-4.result.now tt is_ready (g.H.Host.world c.make_ready.new.host) (g.H.Host.world c.merge.new.host) (quiet_joined _ _ _ found.quiet ready.quiet) n same kept stays c.merge.result
+    (c.merge.ensures.done tells) (c.merge.ensures.left tells) c.merge.ensures.gave

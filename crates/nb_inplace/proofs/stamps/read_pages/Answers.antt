@@ -1,6 +1,4 @@
-use Rattle.std.proofs.Common.{◌≡◌, ℕ, ◌*◌, ◌+◌, ◌≤◌, length, take, drop, sym, ap, subst, ◌∙◌, arith, add-mul, mul-le-mul_right}
-use Rattle.std.specs.Prelude.{Some}
-use Rattle.nb_host.specs.Files.{File, Files}
+use Rattle.std.proofs.Common.{◌≡◌, ◌*◌, ◌+◌, ◌≤◌, length, take, drop, ap, ◌∙◌, arith, add-mul, mul-le-mul_right}
 use Rattle.nb_model.specs.Levels.{joined}
 use Rattle.nb_model.proofs.ImageLaws.{length-joined}
 use Rattle.nb_restore.proofs.PieceLaws.{piece_short, piece_whole}

@@ -1,4 +1,4 @@
-use Rattle.std.proofs.Common.{◌≡◌, ◌-◌, ◌≤◌, ℕ, List, length, drop}
+use Rattle.std.proofs.Common.{◌≡◌, ◌-◌, List, length, drop}
 use Rattle.std.specs.Prelude.{IsTrue, Some}
 use Rattle.nb_model.specs.Image.{Page}
 use Rattle.nb_model.specs.InPlace.{written_since}

@@ -1,5 +1,5 @@
 use Rattle.std.proofs.Common.{ℕ, List, take, sym, ap, subst, ◌∙◌}
-use Rattle.std.specs.Prelude.{Some, None, option_map, length, IfOk}
+use Rattle.std.specs.Prelude.{Some}
 use Rattle.nb_host.specs.Files.{File, Files, bytes_of}
 use Rattle.nb_host.specs.declared.refusals.Refusal.TheVariants.{NoFile}
 use Rattle.nb_model.specs.InPlace.{not_standby}

@@ -1,7 +1,7 @@
 use Rattle.std.proofs.Common.{◌≡◌, ℕ, sym, ap, subst, ◌∙◌, rules}
 use Rattle.std.specs.Prelude.{true, not, nat_eq, ◌==◌, Some, None}
 use denote.Enum.Bare.{same_true, same_false}
-use Rattle.nb_fields.specs.Header.{is_header, size_of, state_of}
+use Rattle.nb_fields.specs.Header.{is_header}
 use Rattle.nb_host.specs.declared.refusals.Refusal.TheVariants.{WrongState}
 use Rattle.nb_model.specs.Causes.{not_database}
 use Rattle.nb_model.specs.InPlace.{not_standby}
