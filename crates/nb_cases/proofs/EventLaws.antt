@@ -3,11 +3,11 @@ use Rattle.std.proofs.Common.{◌≡◌, ℕ, zero, suc, List, [], ◌∷◌, re
 use Rattle.std.specs.Prelude.{Bool, true, false, not, ◌||◌, ◌==◌, Some, None, is_some}
 use Rattle.nb_fields.specs.Header.{state_of}
 use Rattle.nb_host.specs.Files.{File}
-use Rattle.nb_host.specs.declared.refusals.Refusal.TheVariants.{DeltaPresent, WrongState as in_state, Unfinished as unfinished}
+use Rattle.nb_host.specs.declared.refusals.Refusal.TheVariants.{DeltaPresent, WrongState as in_state}
 use Rattle.nb_model.specs.Account.{Base}
 use Rattle.nb_model.specs.Causes.{Cause, first_cause, when, not_state}
 use Rattle.nb_model.specs.Image.{Image, image_state}
-use Rattle.nb_model.specs.InPlace.{is_another, not_mergeable, not_next, not_standby}
+use Rattle.nb_model.specs.InPlace.{not_finishing, not_mergeable, not_next, not_standby}
 use Rattle.nb_model.specs.Jobs.{not_fixable}
 use Rattle.nb_model.specs.Levels.{Contents}
 use Rattle.nb_model.specs.Owner.{delta_name, owner_in}
@@ -91,9 +91,9 @@ module _ (state : ℕ) (name bytes : List ℕ) (is : IsFileIn state bytes) where
   unfolding not_standby standby_cause
   stands = ap (λ (form : Cause). standby_cause form (state_of bytes)) is.0 ∙ ap (standby_cause None) is.1
 
-  merges : (level : List ℕ) (c : Contents) → not_mergeable bytes level c ≡ elim (state == 3) as (λ t. Cause) [ true ↦ when (is_another bytes c) unfinished | false ↦ not_next level bytes c ]
+  merges : (level : List ℕ) (c : Contents) → not_mergeable bytes level c ≡ elim (state == 3) as (λ t. Cause) [ true ↦ not_finishing level bytes c | false ↦ not_next level bytes c ]
   unfolding not_mergeable
-  merges level c = ap (λ (n : ℕ). elim (n == 3) as (λ t. Cause) [ true ↦ when (is_another bytes c) unfinished | false ↦ not_next level bytes c ]) is.1
+  merges level c = ap (λ (n : ℕ). elim (n == 3) as (λ t. Cause) [ true ↦ not_finishing level bytes c | false ↦ not_next level bytes c ]) is.1
 
 stands_normal : standby_cause None 0 ≡ None
 unfolding standby_cause first_cause

@@ -8,7 +8,7 @@ use Rattle.nb_host.specs.declared.refusals.Refusal.TheVariants.{DeltaPresent, Wr
 use Rattle.nb_model.specs.Account.{Base, base_of}
 use Rattle.nb_model.specs.Causes.{Cause, when, not_database, not_state}
 use Rattle.nb_model.specs.Image.{Image, Page, image_in, image_state}
-use Rattle.nb_model.specs.InPlace.{is_another, not_mergeable, not_next, not_standby}
+use Rattle.nb_model.specs.InPlace.{not_finishing, not_mergeable, not_next, not_standby}
 use Rattle.nb_model.specs.Jobs.{not_fixable}
 use Rattle.nb_model.specs.Levels.{Contents}
 use Rattle.nb_model.specs.Owner.{delta_name, owner_in, owner_with}
@@ -83,7 +83,7 @@ OnApply state Go = (name level bytes : List ℕ) (c : Contents) → IsFileIn sta
     → (not_standby name (Some bytes) ≡ None) × (not_mergeable bytes level c ≡ not_next level bytes c)
 OnApply state WrongState = (name bytes : List ℕ) → IsFileIn state bytes → not_standby name (Some bytes) ≡ Some (in_state state)
 OnApply state GoOrUnfinished = (name level bytes : List ℕ) (c : Contents) → IsFileIn state bytes
-    → (not_standby name (Some bytes) ≡ None) × (not_mergeable bytes level c ≡ when (is_another bytes c) unfinished)
+    → (not_standby name (Some bytes) ≡ None) × (not_mergeable bytes level c ≡ not_finishing level bytes c)
 OnApply state other = ⊥
 
 -- what a case says of an event in a state

@@ -34,9 +34,16 @@ not_next name standby c = first_cause (
     ∷ written_since name c.head.previous_scn (other_pages (image_in standby))
     ∷ [])
 
+-- The level file doesn't finish the merge that was begun. The file that it was begun with has pages of the standby's size.
+unfoldable pub not_finishing : (name : List ℕ) → (standby : List ℕ) → Contents → Cause
+not_finishing name standby c = first_cause (
+    when (is_another standby c) Unfinished
+    ∷ when (not (c.head.size == size_of standby)) (ChainSize name c.head.size (size_of standby))
+    ∷ [])
+
 -- the level file can't be merged into a standby in the normal or the applying state
 unfoldable pub not_mergeable : (standby name : List ℕ) → Contents → Cause
-not_mergeable standby name c = elim (state_of standby == 3) [ true ↦ when (is_another standby c) Unfinished | false ↦ not_next name standby c ]
+not_mergeable standby name c = elim (state_of standby == 3) [ true ↦ not_finishing name standby c | false ↦ not_next name standby c ]
 
 -- the level file that was read, or the refusal
 unfoldable pub in_place_of : (standby name bytes : List ℕ) → Result Contents Refusal

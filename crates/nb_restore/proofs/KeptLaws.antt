@@ -23,7 +23,7 @@ use Rattle.nb_restore.specs.Kept.{AreKept, last_guid, GivesKept}
 use Rattle.nb_restore.proofs.AnswerLaws.{ok_same, some_same}
 use Rattle.nb_restore.proofs.AskLaws.{with_ask}
 use Rattle.nb_restore.proofs.ChainLaws.{split_chain, split_next, copy_of}
-use Rattle.nb_restore.proofs.FixedLaws.{new_state, fixed_well}
+use Rattle.nb_restore.proofs.FixedLaws.{fixed_well}
 use Rattle.nb_restore.proofs.KeptFirst.{HoldsKeptFirst, kept_first}
 use Rattle.nb_restore.proofs.KeptNext.{HoldsKeptNext, kept_next}
 
@@ -121,4 +121,4 @@ restored_well files account r stands there =
     let sound = stands.sound_images.images r.image (to_record r there refl) in
     let b : Base = base_of (fixed r.image) in
     let w : IsWellBase account.kept b = record { told = refl; well = fixed_well r.image header sound account.kept (stands.history.images r.image (to_record r there refl)) } in
-    settled_well account.kept b (well_normal account.kept b w) (λ stalled. absurd (omega (arith, stalled, new_state r.image header sound)))
+    settled_well account.kept b (well_normal account.kept b w) (λ stalled. absurd (omega (arith, stalled, w.well.state)))

@@ -1,0 +1,162 @@
+-- A level file whose record is kept: which record it goes on from, and what it holds.
+use Rattle.std.proofs.Common.{◌≡◌, ◌≢◌, ◌⊎◌, inl, inr, ℕ, ◌≤◌, List, [], ◌∷◌, ◌++◌, length, take, refl, sym, ap, subst, ◌∙◌}
+use Rattle.std.specs.Prelude.{Bool, true, false, ◌==◌, nat_le, Option, Some, None, Ok, Contains}
+use Rattle.std.proofs.lemmas.Bool.{and_parts, true≢false}
+use Rattle.std.proofs.lemmas.List.{append-nil}
+use Rattle.std.proofs.lemmas.Bool.Decides.{leb_tells}
+use Rattle.nb_fields.specs.Header.{is_header}
+use Rattle.nb_host.specs.Files.{Files}
+use Rattle.nb_host.specs.Names.{is_delta}
+use Rattle.nb_model.specs.Account.{Ask, Kept, Account}
+use Rattle.nb_model.specs.Image.{Image, first_page, image_size}
+use Rattle.nb_model.specs.Levels.{Head, Contents, joined, taken, head_in, head_for, file_for, file_of, level_bytes, read_level}
+use Rattle.nb_model.specs.Restoring.{Link, level_link, next_link, next_links}
+use Rattle.nb_model.specs.Stands.{nil, IsKeptAs, IsBegun, IsLineTo, IsAncestor, IsSpan, Stands}
+use Rattle.nb_model.proofs.ChainLaws.{kept_accepted}
+use Rattle.nb_model.proofs.HeaderLaws.{same-header}
+use Rattle.nb_model.proofs.OpenedLaws.{joined_front}
+use Rattle.nb_model.proofs.StandsLaws.{header_no_level}
+use Rattle.nb_restore.proofs.AnswerLaws.{ok_same, some_same}
+use Rattle.nb_restore.proofs.AskLaws.{with_ask, guid_long}
+use Rattle.nb_restore.proofs.ChainLaws.{split_next}
+use Rattle.nb_restore.proofs.KeptNext.{HoldsKeptNext, kept_next}
+use Rattle.nb_restore.proofs.ParentLaws.{LeadsTo, AsksFrom, own_asks, span_asks}
+use Rattle.nb_restore.proofs.ReadLaws.{is_read, reads_previous}
+
+-- pages with a header are no level file
+no_pages : (image : Image) (bytes : List ℕ) (c : Contents) → is_header (first_page image) ≡ true → read_level bytes ≡ Ok c → bytes ≡ joined image → ⊥
+no_pages image bytes c header reads is =
+    let all : bytes ≡ joined (image ++ []) = is ∙ ap joined (sym (append-nil image)) in
+    header_no_level bytes c (same-header bytes (first_page image) (ap (take 64) all ∙ joined_front image [] header) ∙ header) reads
+
+-- so the file of a record that is read as a level is one
+file_level : (version : ℕ) (q : Kept) (o : Option Ask) (bytes : List ℕ) (c : Contents) → IsBegun q → read_level bytes ≡ Ok c → bytes ≡ file_for version q o
+    → (ask : Ask) × (o ≡ Some ask) × (bytes ≡ level_bytes version (head_for q ask) (taken ask.previous_scn q.image))
+unfolding file_for
+file_level version q None bytes c begun reads is = absurd (no_pages q.image bytes c begun.header reads is)
+file_level version q (Some ask) bytes c begun reads is = by (ask.level == 0) is
+  where
+    by : (t : Bool) → bytes ≡ elim t as (λ x. List ℕ) [ true ↦ joined q.image | false ↦ level_bytes version (head_for q ask) (taken ask.previous_scn q.image) ]
+        → (a : Ask) × (Some ask ≡ Some a) × (bytes ≡ level_bytes version (head_for q a) (taken a.previous_scn q.image))
+    by true k = absurd (no_pages q.image bytes c begun.header reads k)
+    by false k = (ask, refl, k)
+
+own_file : (version : ℕ) (q : Kept) → file_of version q ≡ file_for version q q.ask
+unfolding file_of
+own_file version q = refl
+
+-- an ancestor is kept
+pub ancestor_there : (kept : List Kept) (between : List Kept) (q r : Kept) → IsLineTo kept q r between → Contains kept q
+ancestor_there kept [] q r line = line.parent.there
+ancestor_there kept (p ∷ ps) q r line = ancestor_there kept ps q p line.1
+
+-- the files behind one, where there is one
+one_next : (files : Files) (k : ℕ) (last : Link) (name bytes : List ℕ) (l : Link) → files name ≡ Some bytes → next_link k last name bytes ≡ Ok l → next_links files k last (name ∷ []) ≡ Ok (l ∷ [])
+unfolding next_links
+one_next files k last name bytes l there accepted = rw (there, next_links) (rw (accepted, next_links) refl)
+
+-- what the file of the record r holds: the pages of r since the record that it goes on from
+pub record IsOfRecord (kept : List Kept) (r : Kept) (c : Contents) : Type 0 where
+  pub from : Kept
+  pub there : Contains kept from
+  pub previous : c.head.previous ≡ from.guid
+  pub ancestor : IsAncestor kept from r
+  pub leads : LeadsTo from r
+  pub scn : c.head.previous_scn ≡ from.scn
+  pub size : c.head.size ≡ image_size r.image
+  pub pages : c.pages ≡ taken from.scn r.image
+
+module _ (files : Files) (account : Account) (stands : Stands files account) (name level : List ℕ) (c : Contents) (r : Kept) (plain : is_delta name ≡ false) (there : files name ≡ Some level) (read : read_level level ≡ Ok c)
+    (named : IsKeptAs account.kept c.head.guid r) (some : c.head.previous ≢ nil) where
+  begun : IsBegun r
+  begun = stands.sound_images.records r named.there
+
+  -- with some ask, its own or that of a span
+  record IsAsked : Type 0 where
+    ask : Ask
+    is : level ≡ level_bytes c.version (head_for r ask) (taken ask.previous_scn r.image)
+    either : (r.ask ≡ Some ask) ⊎ IsSpan account.kept r ask
+
+  asked : IsAsked
+  asked = elim ((stands.kept_records.levels name level plain there).level c r read named) [
+    | inl own ↦ let is = file_level c.version r r.ask level c begun read (own ∙ own_file c.version r) in record { ask = is.0; is = is.2; either = inl is.1 }
+    | inr span ↦
+        let is = file_level c.version r (Some span.0) level c begun read span.2 in
+        record { ask = is.0; is = is.2; either = inr (subst (IsSpan account.kept r) (some_same span.0 is.0 is.1) span.1) }
+  ]
+
+  abbrev ask : Ask
+  ask = asked.ask
+
+  previous_is : length ask.previous ≡ 16 → c.head.previous ≡ ask.previous
+  previous_is sixteen =
+      ap (λ (h : Head). h.previous) ((is_read level c read).head ∙ ap head_in asked.is) ∙ reads_previous c.version (head_for r ask) (taken ask.previous_scn r.image) (guid_long r begun) sixteen
+
+  not_none : ask.previous ≢ nil
+  not_none none = some (previous_is (ap length none) ∙ none)
+
+  asks : AsksFrom account.kept r ask
+  asks = elim asked.either [
+    | inl own ↦ own_asks files account stands r ask named.there own not_none
+    | inr span ↦ span_asks files account stands r ask named.there span
+  ]
+
+  abbrev from : Kept
+  from = asks.from
+
+  previous : c.head.previous ≡ from.guid
+  previous = previous_is (ap length (sym asks.kept_as.named) ∙ guid_long from (stands.sound_images.records from asks.kept_as.there)) ∙ sym asks.kept_as.named
+
+  ancestor : IsAncestor account.kept from r
+  ancestor = by asked.either
+    where
+      by : (r.ask ≡ Some ask) ⊎ IsSpan account.kept r ask → IsAncestor account.kept from r
+      by (inl own) = record { between = []; line = record { ask = ask; is = own; parent = asks.kept_as } }
+      by (inr span) =
+          let same : span.from ≡ from =
+          stands.kept_records.distinct span.from from (ancestor_there account.kept span.ancestor.between span.from r span.ancestor.line) asks.kept_as.there (sym span.guid ∙ sym asks.kept_as.named) in
+          subst (λ (q : Kept). IsAncestor account.kept q r) same span.ancestor
+
+  -- so it is accepted behind that record in a chain, which tells what it holds
+  abbrev behind : Link
+  behind = record { guid = c.head.previous; scn = c.head.previous_scn; size = c.head.size; pages = [] }
+
+  some_level : 1 ≤ c.head.level
+  some_level = elim (leb_tells 1 c.head.level) [ inl w ↦ w.1 | inr w ↦ absurd (true≢false (sym (and_parts (nat_le 1 c.head.level) (nat_le c.head.level 9) (is_read level c read).level).0 ∙ w.0)) ]
+
+  next : HoldsKeptNext files account.kept c.head.level (with_ask None from) name
+  next =
+      kept_next files account stands c.head.level some_level from asks.kept_as.there None behind previous name level there (level_link c)
+      (record { contents = c; read = read; behind = record { level = refl; previous = refl; size = refl; previous_scn = refl }; is = refl }) r named plain
+
+  abbrev base : Link
+  base = record { guid = from.guid; scn = from.scn; size = image_size from.image; pages = [] }
+
+  abbrev link : Link
+  link = record { guid = next.backup.guid; scn = next.backup.scn; size = image_size next.backup.image; pages = taken from.scn next.backup.image }
+
+  accepted : next_link c.head.level base name level ≡ Ok link
+  accepted =
+      ap (next_link c.head.level base name) (some_same level _ (sym there ∙ next.holds.is))
+      ∙ kept_accepted c.head.level next.holds.version (with_ask None from) base name (with_ask (Some next.ask) next.backup) next.holds.ask refl refl refl next.holds.next
+
+  pub of_record : IsOfRecord account.kept r c
+  of_record =
+      let split = split_next files c.head.level base name [] (link ∷ []) (one_next files c.head.level base name level link there accepted) in
+      let contents : split.level.contents ≡ c = ok_same split.level.contents c (read_level level) (ap read_level (some_same level split.bytes (sym there ∙ split.there)) ∙ split.level.read) read in
+      let first : link ≡ split.link = first_same link split.link [] split.rest split.all in
+      let link_is : link ≡ level_link c = first ∙ split.level.is ∙ ap level_link contents in
+      let same : next.backup ≡ r = stands.kept_records.distinct next.backup r next.there named.there (ap (λ (l : Link). l.guid) link_is ∙ sym named.named) in
+      record {
+        from = from;
+        there = asks.kept_as.there;
+        previous = previous;
+        ancestor = ancestor;
+        leads = asks.leads;
+        scn = ap (λ (x : Contents). x.head.previous_scn) (sym contents) ∙ split.level.behind.previous_scn;
+        size = sym (ap (λ (l : Link). l.size) link_is) ∙ ap (λ (q : Kept). image_size q.image) same;
+        pages = sym (ap (λ (l : Link). l.pages) link_is) ∙ ap (λ (q : Kept). taken from.scn q.image) same;
+      }
+    where
+      first_same : (a b : Link) (ls ms : List Link) → a ∷ ls ≡ b ∷ ms → a ≡ b
+      first_same a b ls ms e = cc

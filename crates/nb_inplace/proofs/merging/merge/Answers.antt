@@ -1,0 +1,102 @@
+use Rattle.std.proofs.Common.{◌≡◌, ℕ, List, [], ◌∷◌, length, refl, ap, ◌∙◌}
+use Rattle.std.specs.Prelude.{replicate}
+use Rattle.nb_fields.specs.Bytes.{bytes_of, with_part}
+use Rattle.nb_model.specs.Image.{Page}
+use Rattle.nb_model.specs.Strokes.{standby_page}
+use Rattle.nb_fixup.proofs.AnswerLaws.{passed}
+use Rattle.nb_inplace.specs.Merging.{IsDoneBy, KeepsMerged}
+use Rattle.nb_inplace.proofs.MergeLaws.{begun_on, records_on, level_there, counted_on, written, part_left, ended_on, ended_kept}
+use Rattle.nb_inplace.proofs.RecordLaws.{fails_so}
+use Rattle.nb_inplace.proofs.merging.merge.Goals as goal
+
+pub returns-in_err-begin-clause-left : goal.returns-in_err-begin-clause-left
+returns-in_err-begin-clause-left g c tells guid ps records plan durable =
+    let old = g.H.Host.world c.args.host.now in
+    let was = g.met.H.Host.reads_left c.args.host.now tells c.args.standby.now in
+    part_left old _ _ _ _ _ _ _ _ _ c.requires.size plan _ (begun_on old _ _ _ _ _ _ _ _ _ c.requires.size plan _ was (c.in_err-begin.ensures.left tells durable))
+
+pub returns-in_err-pages-clause-left : goal.returns-in_err-pages-clause-left
+returns-in_err-pages-clause-left g c tells guid ps records plan durable =
+    let old = g.H.Host.world c.args.host.now in
+    let was = g.met.H.Host.reads_left c.args.host.now tells c.args.standby.now in
+    let first = begun_on old _ _ _ _ _ _ _ _ _ c.requires.size plan _ was (c.in_ok-begin.ensures.left tells durable) in
+    let kept = c.in_ok-begin.ensures.done tells durable in
+    let there = level_there old _ _ _ _ _ _ _ _ _ c.requires.size plan _ first kept in
+    part_left old _ _ _ _ _ _ _ _ _ c.requires.size plan _ (records_on old _ _ _ _ _ _ _ _ _ c.requires.size plan _ first kept _ (c.in_err-pages.ensures.left tells records plan.level.apart there))
+
+pub returns-in_err-pages-clause-done : goal.returns-in_err-pages-clause-done
+returns-in_err-pages-clause-done g c tells guid ps records plan durable =
+    let old = g.H.Host.world c.args.host.now in
+    let was = g.met.H.Host.reads_left c.args.host.now tells c.args.standby.now in
+    let first = begun_on old _ _ _ _ _ _ _ _ _ c.requires.size plan _ was (c.in_ok-begin.ensures.left tells durable) in
+    let kept = c.in_ok-begin.ensures.done tells durable in
+    let there = level_there old _ _ _ _ _ _ _ _ _ c.requires.size plan _ first kept in
+    passed ℕ (λ r. IsDoneBy r (KeepsMerged (g.H.Host.world c.write_records.new.host) c.args.standby.now (length c.args.page.now) records ps)) c.from_residual-in_err-pages.result c.in_err-pages.field-0.0 c.from_residual-in_err-pages.ensures
+    (fails_so _ _ _ (c.in_err-pages.ensures.pages tells records plan.level.apart there))
+
+pub returns-in_err-count-clause-left : goal.returns-in_err-count-clause-left
+returns-in_err-count-clause-left g c tells guid ps records plan durable =
+    let old = g.H.Host.world c.args.host.now in
+    let was = g.met.H.Host.reads_left c.args.host.now tells c.args.standby.now in
+    let first = begun_on old _ _ _ _ _ _ _ _ _ c.requires.size plan _ was (c.in_ok-begin.ensures.left tells durable) in
+    let kept = c.in_ok-begin.ensures.done tells durable in
+    let there = level_there old _ _ _ _ _ _ _ _ _ c.requires.size plan _ first kept in
+    let so_far = records_on old _ _ _ _ _ _ _ _ _ c.requires.size plan _ first kept _ (c.in_ok-pages.ensures.left tells records plan.level.apart there) in
+    part_left old _ _ _ _ _ _ _ _ _ c.requires.size plan _ (counted_on old _ _ _ _ _ _ _ _ _ c.requires.size plan _ _ so_far c.in_err-count.ensures.quiet)
+
+one_byte : bytes_of 1 1 ≡ 1 ∷ []
+unfolding bytes_of
+one_byte = refl
+
+-- page 0 as it is written last
+last_page : (noted one two last : Page) → one ≡ with_part 65 (bytes_of 1 1) noted → two ≡ with_part 48 (replicate 16 0) one → last ≡ with_part 22 (bytes_of 2 0) two → last ≡ standby_page noted
+last_page noted one two last is_one is_two is_last =
+    is_last ∙ ap (with_part 22 (bytes_of 2 0)) (is_two ∙ ap (with_part 48 (replicate 16 0)) (is_one ∙ ap (λ (b : List ℕ). with_part 65 b noted) one_byte))
+
+pub returns-in_err-finish-clause-left : goal.returns-in_err-finish-clause-left
+returns-in_err-finish-clause-left g c tells guid ps records plan durable =
+    let old = g.H.Host.world c.args.host.now in
+    let size = c.requires.size in
+    let was = g.met.H.Host.reads_left c.args.host.now tells c.args.standby.now in
+    let first = begun_on old _ _ _ _ _ _ _ _ _ size plan _ was (c.in_ok-begin.ensures.left tells durable) in
+    let kept = c.in_ok-begin.ensures.done tells durable in
+    let there = level_there old _ _ _ _ _ _ _ _ _ size plan _ first kept in
+    let pages = c.in_ok-pages.ensures in
+    let count = c.in_ok-count.ensures in
+    let over = pages.pages tells records plan.level.apart there in
+    let all = written old _ _ _ _ _ _ _ _ _ size plan _ _ (g.H.Host.world c.count_pages.new.host) first kept (pages.left tells records plan.level.apart there) (g.met.H.Host.reads_left c.write_records.new.host tells) _ over.1 count.quiet
+    _ c.in_ok-count.count (length c.write_records.new.page) over.0 c.write_records.auto.page (count.answer tells) in
+    let last = last_page _ _ _ _ c.put.ensures.written c.put-2.ensures.written c.put-3.ensures.written in
+    ended_on old _ _ _ _ _ _ _ _ _ size plan _ all.left all.reads (g.met.H.Host.reads_left c.count_pages.new.host tells c.args.standby.now) _ all.holds _ last _ (c.in_err-finish.ensures.left tells)
+
+pub returns-clause-left : goal.returns-clause-left
+returns-clause-left g c tells guid ps records plan durable =
+    let old = g.H.Host.world c.args.host.now in
+    let size = c.requires.size in
+    let was = g.met.H.Host.reads_left c.args.host.now tells c.args.standby.now in
+    let first = begun_on old _ _ _ _ _ _ _ _ _ size plan _ was (c.in_ok-begin.ensures.left tells durable) in
+    let kept = c.in_ok-begin.ensures.done tells durable in
+    let there = level_there old _ _ _ _ _ _ _ _ _ size plan _ first kept in
+    let pages = c.in_ok-pages.ensures in
+    let count = c.in_ok-count.ensures in
+    let over = pages.pages tells records plan.level.apart there in
+    let all = written old _ _ _ _ _ _ _ _ _ size plan _ _ (g.H.Host.world c.count_pages.new.host) first kept (pages.left tells records plan.level.apart there) (g.met.H.Host.reads_left c.write_records.new.host tells) _ over.1 count.quiet
+    _ c.in_ok-count.count (length c.write_records.new.page) over.0 c.write_records.auto.page (count.answer tells) in
+    let last = last_page _ _ _ _ c.put.ensures.written c.put-2.ensures.written c.put-3.ensures.written in
+    ended_on old _ _ _ _ _ _ _ _ _ size plan _ all.left all.reads (g.met.H.Host.reads_left c.count_pages.new.host tells c.args.standby.now) _ all.holds _ last _ (c.in_ok-finish.ensures.left tells)
+
+pub returns-clause-done : goal.returns-clause-done
+returns-clause-done g c tells guid ps records plan durable =
+    let old = g.H.Host.world c.args.host.now in
+    let size = c.requires.size in
+    let was = g.met.H.Host.reads_left c.args.host.now tells c.args.standby.now in
+    let first = begun_on old _ _ _ _ _ _ _ _ _ size plan _ was (c.in_ok-begin.ensures.left tells durable) in
+    let kept = c.in_ok-begin.ensures.done tells durable in
+    let there = level_there old _ _ _ _ _ _ _ _ _ size plan _ first kept in
+    let pages = c.in_ok-pages.ensures in
+    let count = c.in_ok-count.ensures in
+    let over = pages.pages tells records plan.level.apart there in
+    let all = written old _ _ _ _ _ _ _ _ _ size plan _ _ (g.H.Host.world c.count_pages.new.host) first kept (pages.left tells records plan.level.apart there) (g.met.H.Host.reads_left c.write_records.new.host tells) _ over.1 count.quiet
+    _ c.in_ok-count.count (length c.write_records.new.page) over.0 c.write_records.auto.page (count.answer tells) in
+    let last = last_page _ _ _ _ c.put.ensures.written c.put-2.ensures.written c.put-3.ensures.written in
+    ended_kept old _ _ _ _ _ _ _ _ _ size plan _ all.left all.reads (g.met.H.Host.reads_left c.count_pages.new.host tells c.args.standby.now) _ all.holds _ last _ _ all.counted (c.in_ok-finish.ensures.done tells)

@@ -1,0 +1,65 @@
+use Rattle.std.proofs.Common.{◌≡◌, ℕ, ◌*◌, ◌≤◌, List, length, take, drop, ap, sym, ◌∙◌, arith}
+use Rattle.std.specs.Prelude.{Option, Some, None, option_map}
+use Rattle.std.proofs.lemmas.List.{length-take-le}
+use Rattle.nb_host.specs.Files.{Files}
+use Rattle.nb_host.specs.declared.refusals.Refusal.{Refusal}
+use Rattle.nb_host.specs.declared.refusals.Refusal.TheVariants.{ChainScn}
+use Rattle.nb_page.proofs.QuietLemmas.{quiet_joined}
+use Rattle.nb_model.specs.Image.{Page}
+use Rattle.nb_model.specs.InPlace.{written_since}
+use Rattle.nb_model.specs.Sound.{IsOfSize}
+use Rattle.nb_model.proofs.ImageLaws.{all-take, all-drop}
+use Rattle.nb_fixup.specs.Tests.{Tested}
+use Rattle.nb_fixup.proofs.AnswerLaws.{passed}
+use Rattle.nb_inplace.proofs.StampLaws.{room_for, piece_late, piece_early, none_left, done_tested}
+use Rattle.nb_inplace.proofs.stamps.test_stamps.Goals as goal
+
+-- pages of a piece have the size too
+piece_sizes : (size number count : ℕ) (ps : List Page) → IsOfSize size ps → IsOfSize size (take count (drop number ps))
+piece_sizes size number count ps sizes = all-take (λ (p : Page). length p ≡ size) count (drop number ps) (all-drop (λ (p : Page). length p ≡ size) number ps sizes)
+
+-- what a test of a piece tells
+told : (name : List ℕ) (scn found : ℕ) (answer : Option ℕ) (cause : Option Refusal) → answer ≡ Some found → cause ≡ option_map (λ stamp. ChainScn name stamp scn) answer → cause ≡ Some (ChainScn name found scn)
+told name scn found answer cause is says = says ∙ ap (option_map (λ stamp. ChainScn name stamp scn)) is
+
+told_none : (name : List ℕ) (scn : ℕ) (answer : Option ℕ) (cause : Option Refusal) → answer ≡ None → cause ≡ option_map (λ stamp. ChainScn name stamp scn) answer → cause ≡ None
+told_none name scn answer cause is says = says ∙ ap (option_map (λ stamp. ChainScn name stamp scn)) is
+
+pub returns-in_err-read_pages-clause-test : goal.returns-in_err-read_pages-clause-test
+returns-in_err-read_pages-clause-test g c tells ps there sizes long =
+    let loop = c.loop-number.invariant in
+    let now = ap (λ (f : Files). f c.args.standby.now) loop.quiet.still.files ∙ there in
+    let room : c.min-count.result * c.args.page_size ≤ length c.loop-number.piece = let low = room_for (length c.args.piece.now) c.args.page_size c.min-count.result (omega (arith, c.min-count.ensures)) in omega (arith, low, c.loop-number.auto.piece) in
+    let wide : length (take (c.min-count.result * c.args.page_size) c.loop-number.piece) ≡ c.min-count.result * c.args.page_size = length-take-le _ c.loop-number.piece room in
+    passed (Unit {0}) (Tested (written_since c.args.file.now c.args.scn (drop 1 ps))) c.from_residual.result c.in_err-read_pages.field-0.0 c.from_residual.ensures
+    (done_tested (Unit {0}) (Unit {0}) _ _ c.in_err-read_pages.field-0.0 (c.in_err-read_pages.ensures.pages tells ps c.min-count.result now sizes wide (omega (arith, c.min-count.ensures, long, c.loop-number-test.true))))
+
+pub returns-in-Some-clause-test : goal.returns-in-Some-clause-test
+returns-in-Some-clause-test g c tells ps there sizes long =
+    let loop = c.loop-number.invariant in
+    let now = ap (λ (f : Files). f c.args.standby.now) loop.quiet.still.files ∙ there in
+    let room : c.min-count.result * c.args.page_size ≤ length c.loop-number.piece = let low = room_for (length c.args.piece.now) c.args.page_size c.min-count.result (omega (arith, c.min-count.ensures)) in omega (arith, low, c.loop-number.auto.piece) in
+    let wide : length (take (c.min-count.result * c.args.page_size) c.loop-number.piece) ≡ c.min-count.result * c.args.page_size = length-take-le _ c.loop-number.piece room in
+    let read = c.in_ok-read_pages.ensures.pages tells ps c.min-count.result now sizes wide (omega (arith, c.min-count.ensures, long, c.loop-number-test.true)) in
+    let says = c.stamp_above.ensures c.args.file.now (take c.min-count.result (drop c.loop-number.number ps)) read (piece_sizes c.args.page_size c.loop-number.number c.min-count.result ps sizes) in
+    piece_late c.args.file.now c.args.scn c.loop-number.number c.min-count.result ps (loop.so_far tells ps there sizes long) _ (told c.args.file.now c.args.scn c.in-Some.found c.stamp_above.result _ c.in-Some.is says)
+    ∙ ap (λ (n : List ℕ). Some (ChainScn n c.in-Some.found c.args.scn)) (sym c.copied.ensures)
+
+pub loop-number-preserved : goal.loop-number-preserved
+loop-number-preserved g c =
+    let loop = c.loop-number.invariant in
+    record {
+      quiet = quiet_joined _ _ _ loop.quiet c.in_ok-read_pages.ensures.quiet;
+      cause = c.in_ok-read_pages.ensures.cause ∙ loop.cause;
+      so_far = λ tells ps there sizes long.
+          let now = ap (λ (f : Files). f c.args.standby.now) loop.quiet.still.files ∙ there in
+          let room : c.min-count.result * c.args.page_size ≤ length c.loop-number.piece = let low = room_for (length c.args.piece.now) c.args.page_size c.min-count.result (omega (arith, c.min-count.ensures)) in omega (arith, low, c.loop-number.auto.piece) in
+          let wide : length (take (c.min-count.result * c.args.page_size) c.loop-number.piece) ≡ c.min-count.result * c.args.page_size = length-take-le _ c.loop-number.piece room in
+          let read = c.in_ok-read_pages.ensures.pages tells ps c.min-count.result now sizes wide (omega (arith, c.min-count.ensures, long, c.loop-number-test.true)) in
+          let says = c.stamp_above.ensures c.args.file.now (take c.min-count.result (drop c.loop-number.number ps)) read (piece_sizes c.args.page_size c.loop-number.number c.min-count.result ps sizes) in
+          piece_early c.args.file.now c.args.scn c.loop-number.number c.min-count.result ps (loop.so_far tells ps there sizes long) (told_none c.args.file.now c.args.scn c.stamp_above.result _ c.in_default.is says);
+    }
+
+pub returns-clause-test : goal.returns-clause-test
+returns-clause-test g c tells ps there sizes long =
+    none_left c.args.file.now c.args.scn c.loop-number.number ps (omega (arith, c.loop-number-test.false, long)) (c.loop-number.invariant.so_far tells ps there sizes long)

@@ -1,0 +1,20 @@
+use Rattle.std.proofs.Common.{◌≡◌, ◌-◌, List, length, drop}
+use Rattle.std.specs.Prelude.{IsTrue, Some}
+use Rattle.nb_model.specs.Image.{Page}
+use Rattle.nb_model.specs.InPlace.{written_since}
+use Rattle.nb_model.specs.Levels.{joined}
+use Rattle.nb_model.specs.Sound.{IsOfSize}
+use Rattle.nb_page.specs.Quiet.{Quiet}
+use Rattle.nb_inplace.proofs.stamps.test_stamps.Given as goal
+
+-- none of the pages so far is stamped above
+abbrev pub invariant-loop-number : goal.invariant-loop-number
+invariant-loop-number g l = record {
+  quiet : Quiet (g.H.Host.world l.fn.host) (g.H.Host.world l.host);
+  cause : g.H.Host.faults l.host ≡ g.H.Host.faults l.fn.host;
+  so_far : IsTrue g.H.Host.tells → (ps : List Page) → (g.H.Host.world l.fn.host).files l.standby ≡ Some (joined ps) → IsOfSize l.page_size ps → length ps ≡ l.pages
+      → written_since l.file l.scn (drop 1 ps) ≡ written_since l.file l.scn (drop l.number ps);
+}
+
+abbrev pub decreases-loop-number : goal.decreases-loop-number
+decreases-loop-number g l = l.pages - l.number

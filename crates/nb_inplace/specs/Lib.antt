@@ -1,0 +1,10 @@
+pub mod Verdict
+pub mod Kept
+pub mod Half
+pub mod Apply
+pub mod Standby
+pub mod Tests
+pub mod Accepted
+pub mod Ready
+pub mod Merging
+pub mod Plan
