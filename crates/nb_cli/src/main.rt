@@ -14,9 +14,10 @@ ghost use Rattle.nb_model.specs.Account.{Account};
 ghost use Rattle.nb_model.specs.Gifts.{Foretells};
 ghost use Rattle.nb_model.specs.Outcomes.{Given};
 ghost use Rattle.nb_session.specs.Acts.{Grows};
-ghost use Rattle.nb_top.specs.Performed.{Knows, MayBeGiven, Performs};
-ghost use Rattle.nb_top.specs.Requests.{job_asked, request_asked};
-ghost use Rattle.nb_top.specs.Touched.{IsWholeToMerge, TouchesAsked};
+ghost use Rattle.nb_top.specs.Performed.{KnowsAsked, MayBeGiven, Performs};
+ghost use Rattle.nb_model.specs.Words.{job_of};
+ghost use Rattle.nb_top.specs.Requests.{request_asked};
+ghost use Rattle.nb_top.specs.Touched.{IsWholeAsked, OfAsked, TouchesOnly};
 ghost use Rattle.nb_cli.specs.Exit.{number_of};
 
 mod after;
@@ -57,14 +58,14 @@ fn words(rt: &(impl Env + AllocGlobal)) -> io::Result<Vec<String>> {
 /// Does what the words ask, or tells why they couldn't be read: a word that is no text names no job.
 fn status_of<H: Host>(alloc: Global, words: &io::Result<Vec<String>>, host: &mut H) -> Status
     // Words that were read are those of the run.
-    ensures usage { result ≡ Status.Usage → IfOk words.now (λ words. job_asked (map string_bytes words.items) ≡ None) }
-    ensures no_job { IfOk words.now (λ words. job_asked (map string_bytes words.items) ≡ None → result ≢ Status.Done × result ≢ Status.Refused) }
-    ensures performs { IfOk words.now (λ words. (account : Account) (given : Given) → IsTrue H.tells → Knows (H.world host.old).files account (request_asked (H.world host.old).files (map string_bytes words.items))
+    ensures usage { result ≡ Status.Usage → IfOk words.now (λ words. job_of (map string_bytes words.items) ≡ None) }
+    ensures no_job { IfOk words.now (λ words. job_of (map string_bytes words.items) ≡ None → result ≢ Status.Done × result ≢ Status.Refused) }
+    ensures performs { IfOk words.now (λ words. (account : Account) (given : Given) → IsTrue H.tells → KnowsAsked (H.world host.old).files account (request_asked (H.world host.old).files (map string_bytes words.items))
         → MayBeGiven given → Foretells given (H.world host.old) (H.world host.new)
         → Performs result (H.world host.old) (H.world host.new) (request_asked (H.world host.old).files (map string_bytes words.items)) account given) }
-    ensures grows { IfOk words.now (λ words. (account : Account) → IsTrue H.tells → Knows (H.world host.old).files account (request_asked (H.world host.old).files (map string_bytes words.items)) → Grows (H.world host.old) (H.world host.new)) }
-    ensures touches { IfOk words.now (λ words. IsTrue H.tells → IsWholeToMerge (H.world host.old).files (request_asked (H.world host.old).files (map string_bytes words.items))
-        → TouchesAsked (Ok result) (H.world host.old) (H.world host.new) (request_asked (H.world host.old).files (map string_bytes words.items))) }
+    ensures grows { IfOk words.now (λ words. (account : Account) → IsTrue H.tells → KnowsAsked (H.world host.old).files account (request_asked (H.world host.old).files (map string_bytes words.items)) → Grows (H.world host.old) (H.world host.new)) }
+    ensures touches { IfOk words.now (λ words. IsTrue H.tells → IsWholeAsked (H.world host.old).files (request_asked (H.world host.old).files (map string_bytes words.items))
+        → TouchesOnly (Ok result) (H.world host.old) (H.world host.new) (OfAsked (H.world host.old).files (request_asked (H.world host.old).files (map string_bytes words.items)))) }
 
     // Others make it Usage, where memory and the host suffice to say so.
     ensures no_text { IfErr words.now (λ error. error_kind error ≢ ErrorKind.OutOfMemory → (result ≡ Status.Usage) ⊎ (result ≡ Status.Device) ⊎ (result ≡ Status.Memory)) }

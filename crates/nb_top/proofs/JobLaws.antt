@@ -1,5 +1,5 @@
 -- A job is what it asks for: the run of a script, or one turn.
-use Rattle.std.proofs.Common.{◌≡◌, ℕ, List, [], ◌∷◌, true, false, refl, subst}
+use Rattle.std.proofs.Common.{◌≡◌, ℕ, List, [], ◌∷◌, refl, subst}
 use Rattle.std.specs.Prelude.{Option, Some, None}
 use Rattle.nb_host.specs.Files.{Files}
 use Rattle.nb_model.specs.declared.job.Job.{Job}
@@ -7,15 +7,12 @@ use Rattle.nb_model.specs.declared.job.Job.TheVariants.{Run, Stat, Gen, Backup, 
 use Rattle.nb_model.specs.declared.statement.Statement.{Statement}
 use Rattle.nb_model.specs.declared.statement.Statement.TheVariants.{BeginBackup, EndBackup, ShowHeader, ShowPages, Backup as BackupTo, BackupSince as BackupOf}
 use Rattle.nb_model.specs.Account.{Account}
-use Rattle.nb_model.specs.Jobs.{Asks, IsAttaching, asks_of, restore_turn, fixup_turn, turn_of}
+use Rattle.nb_model.specs.Jobs.{Asks, IsAttaching, asks_of, restore_turn, fixup_turn, apply_turn, turn_of}
 use Rattle.nb_model.specs.Outcomes.{Given}
 use Rattle.nb_model.specs.Run.{Event}
 use Rattle.nb_top.specs.OneTurn.{one_turn}
 use Rattle.nb_top.specs.Performed.{IsPerformed}
-use Rattle.nb_top.specs.Requests.{Deed, ToRestore, ToFix, Runs, Does, is_job_built, request_of, run_of}
-
-not_built : false ≡ true → ⊥
-not_built h = cc
+use Rattle.nb_top.specs.Requests.{Deed, ToRestore, ToFix, ToMerge, Runs, Does, request_of, run_of}
 
 -- one statement is asked
 abbrev one_asked : (db : List ℕ) → Statement → Asks
@@ -34,27 +31,27 @@ none_asked asks h = cc
 -- What holds of backups, of locks, of unlock and of the statistics holds of each job that attaches and is done today.
 attaching_jobs : (P : Job → Asks → Type 0) → ((level : ℕ) (db file : List ℕ) → P (Backup level db file) (one_asked db (BackupTo level file))) → ((guid db file : List ℕ) → P (BackupSince guid db file) (one_asked db (BackupOf guid file)))
     → ((db : List ℕ) → P (Lock db) (one_asked db BeginBackup)) → ((db : List ℕ) → P (LockWithSize db) (one_asked db BeginBackup)) → ((db : List ℕ) → P (Unlock db) (one_asked db EndBackup))
-    → ((db : List ℕ) → P (Stat db) (stat_asked db)) → (job : Job) (asks : Asks) → is_job_built job ≡ true → asks_of job ≡ Some asks → P job asks
+    → ((db : List ℕ) → P (Stat db) (stat_asked db)) → (job : Job) (asks : Asks) → asks_of job ≡ Some asks → P job asks
 unfolding asks_of
-attaching_jobs P backup since lock sized unlock stat (Backup level db file) asks built is = subst (P (Backup level db file)) (same_asked (one_asked db (BackupTo level file)) asks is) (backup level db file)
-attaching_jobs P backup since lock sized unlock stat (BackupSince guid db file) asks built is =
+attaching_jobs P backup since lock sized unlock stat (Backup level db file) asks is = subst (P (Backup level db file)) (same_asked (one_asked db (BackupTo level file)) asks is) (backup level db file)
+attaching_jobs P backup since lock sized unlock stat (BackupSince guid db file) asks is =
     subst (P (BackupSince guid db file)) (same_asked (one_asked db (BackupOf guid file)) asks is) (since guid db file)
-attaching_jobs P backup since lock sized unlock stat (Lock db) asks built is = subst (P (Lock db)) (same_asked (one_asked db BeginBackup) asks is) (lock db)
-attaching_jobs P backup since lock sized unlock stat (LockWithSize db) asks built is = subst (P (LockWithSize db)) (same_asked (one_asked db BeginBackup) asks is) (sized db)
-attaching_jobs P backup since lock sized unlock stat (Unlock db) asks built is = subst (P (Unlock db)) (same_asked (one_asked db EndBackup) asks is) (unlock db)
-attaching_jobs P backup since lock sized unlock stat (Stat db) asks built is = subst (P (Stat db)) (same_asked (stat_asked db) asks is) (stat db)
-attaching_jobs P backup since lock sized unlock stat (Run script) asks built is = absurd (none_asked asks is)
-attaching_jobs P backup since lock sized unlock stat (Gen number script) asks built is = absurd (none_asked asks is)
-attaching_jobs P backup since lock sized unlock stat (Restore db names) asks built is = absurd (none_asked asks is)
-attaching_jobs P backup since lock sized unlock stat (Apply db file) asks built is = absurd (none_asked asks is)
-attaching_jobs P backup since lock sized unlock stat (Fixup db) asks built is = absurd (none_asked asks is)
+attaching_jobs P backup since lock sized unlock stat (Lock db) asks is = subst (P (Lock db)) (same_asked (one_asked db BeginBackup) asks is) (lock db)
+attaching_jobs P backup since lock sized unlock stat (LockWithSize db) asks is = subst (P (LockWithSize db)) (same_asked (one_asked db BeginBackup) asks is) (sized db)
+attaching_jobs P backup since lock sized unlock stat (Unlock db) asks is = subst (P (Unlock db)) (same_asked (one_asked db EndBackup) asks is) (unlock db)
+attaching_jobs P backup since lock sized unlock stat (Stat db) asks is = subst (P (Stat db)) (same_asked (stat_asked db) asks is) (stat db)
+attaching_jobs P backup since lock sized unlock stat (Run script) asks is = absurd (none_asked asks is)
+attaching_jobs P backup since lock sized unlock stat (Gen number script) asks is = absurd (none_asked asks is)
+attaching_jobs P backup since lock sized unlock stat (Restore db names) asks is = absurd (none_asked asks is)
+attaching_jobs P backup since lock sized unlock stat (Apply db file) asks is = absurd (none_asked asks is)
+attaching_jobs P backup since lock sized unlock stat (Fixup db) asks is = absurd (none_asked asks is)
 
 module _ (files : Files) (before last : Account) (given : Given) (events : List Event) where
   -- what such a job asks for is the run of its script
   abbrev Attaches : Job → Asks → Type 0
   Attaches job asks = (left : Given) → IsPerformed files (run_of files job) before given events last left → IsAttaching before given job asks events last
 
-  pub attaches_performed : (job : Job) (asks : Asks) → is_job_built job ≡ true → asks_of job ≡ Some asks → Attaches job asks
+  pub attaches_performed : (job : Job) (asks : Asks) → asks_of job ≡ Some asks → Attaches job asks
   attaches_performed = attaching_jobs Attaches
       (λ level db file left done. record { whole = done.whole; left = left; run = done.run; said = done.said })
       (λ guid db file left done. record { whole = done.whole; left = left; run = done.run; said = done.said })
@@ -67,7 +64,7 @@ module _ (files : Files) (before last : Account) (given : Given) (events : List 
   abbrev IsAttached : Job → Asks → Type 0
   IsAttached job asks = (attaching : IsAttaching before given job asks events last) → IsPerformed files (run_of files job) before given events last attaching.left
 
-  pub performed_attaches : (job : Job) (asks : Asks) → is_job_built job ≡ true → asks_of job ≡ Some asks → IsAttached job asks
+  pub performed_attaches : (job : Job) (asks : Asks) → asks_of job ≡ Some asks → IsAttached job asks
   performed_attaches = attaching_jobs IsAttached
       (λ level db file attaching. record { whole = attaching.whole; run = attaching.run; said = attaching.said })
       (λ guid db file attaching. record { whole = attaching.whole; run = attaching.run; said = attaching.said })
@@ -86,18 +83,20 @@ same_row a b h = cc
 no_row : (b : Row) → ◌≡◌ {A = Option Row} None (Some b) → ⊥
 no_row b h = cc
 
-pub turn_done : (files : Files) (job : Job) (row : Row) (account : Account) → is_job_built job ≡ true → turn_of files account job ≡ Some row
+pub turn_done : (files : Files) (job : Job) (row : Row) (account : Account) → turn_of files account job ≡ Some row
     → (deed : Deed) × (request_of files job ≡ Does deed) × ((one_turn files deed).name ≡ row.0) × ((one_turn files deed).turn account ≡ row.1)
 unfolding turn_of
-turn_done files (Restore db names) row account built is =
+turn_done files (Restore db names) row account is =
     subst (λ (r : Row). (deed : Deed) × (request_of files (Restore db names) ≡ Does deed) × ((one_turn files deed).name ≡ r.0) × ((one_turn files deed).turn account ≡ r.1)) (same_row (db, restore_turn files account db names) row is)
     (ToRestore db names, refl, refl, refl)
-turn_done files (Apply db file) row account built is = absurd (not_built built)
-turn_done files (Fixup db) row account built is =
+turn_done files (Apply db file) row account is =
+    subst (λ (r : Row). (deed : Deed) × (request_of files (Apply db file) ≡ Does deed) × ((one_turn files deed).name ≡ r.0) × ((one_turn files deed).turn account ≡ r.1)) (same_row (db, apply_turn files db file) row is)
+    (ToMerge db file, refl, refl, refl)
+turn_done files (Fixup db) row account is =
     subst (λ (r : Row). (deed : Deed) × (request_of files (Fixup db) ≡ Does deed) × ((one_turn files deed).name ≡ r.0) × ((one_turn files deed).turn account ≡ r.1)) (same_row (db, fixup_turn files db) row is)
     (ToFix db, refl, refl, refl)
-turn_done files other row account built is = absurd (no_row row is)
+turn_done files other row account is = absurd (no_row row is)
 
 -- what is asked for by a job that attaches is a run
-pub attaches_runs : (files : Files) (job : Job) (asks : Asks) → is_job_built job ≡ true → asks_of job ≡ Some asks → request_of files job ≡ Runs (run_of files job)
+pub attaches_runs : (files : Files) (job : Job) (asks : Asks) → asks_of job ≡ Some asks → request_of files job ≡ Runs (run_of files job)
 attaches_runs files = attaching_jobs (λ job asks. request_of files job ≡ Runs (run_of files job)) (λ level db file. refl) (λ guid db file. refl) (λ db. refl) (λ db. refl) (λ db. refl) (λ db. refl)

@@ -27,10 +27,11 @@ use Rattle.nb_top.specs.Numbers.{number_of}
 use Rattle.nb_top.specs.Performed.{HasSmallScn, RunLeft, RunStands, RunsTo, GoesTo, KnowsAsked, Performs, PerformsRun, Finished, IsPerformed, IsSure, IsUndone, Knows, MayBeGiven, kept_after, target_of, first_event, refused_job}
 use Rattle.nb_top.specs.Standing.{HoldsKept, StandsFor}
 use Rattle.nb_top.specs.declared.telling.Telling.TheVariants.{All}
-use Rattle.nb_top.specs.Requests.{Request, ToRun, ToGenerate, Deed, ToRestore, ToFix, Asked, Runs, Does, request_asked, script_in, to_run}
+use Rattle.nb_top.specs.Requests.{Request, ToRun, ToGenerate, Deed, ToRestore, ToFix, ToMerge, Asked, Runs, Does, request_asked, script_in, to_run}
 use Rattle.nb_top.specs.OneTurn.{DoesTurn, TurnEnded, one_turn}
 use Rattle.nb_top.specs.Served.{TurnsTo}
 use Rattle.nb_top.proofs.Fixed.{fix_sound}
+use Rattle.nb_top.proofs.Merged.{merge_sound}
 use Rattle.nb_top.proofs.GeneratedRuns.{generated_unbegun}
 use Rattle.nb_top.proofs.GeneratedSure.{generated_left, generated_end}
 use Rattle.nb_top.proofs.LeftLaws.{left_first, first_count}
@@ -196,6 +197,7 @@ module _ (old new : World) (asked : Result Request Refusal) (can : CanBeMet (Run
 sound_deed : (old : World) (account : Account) (deed : Deed) → CanBeDone deed → StandsFor old account → (one_turn old.files deed).takes account.kept → IsSoundJob old account (one_turn old.files deed)
 sound_deed old account (ToRestore db names) can stands takes = restore_sound old account db names stands can.0 can.1 can.2 takes
 sound_deed old account (ToFix db) can stands takes = fix_sound old account db stands can takes
+sound_deed old account (ToMerge db name) can stands takes = merge_sound old account db name stands can.0 can.1 takes
 
 -- What is done of what is asked for, by the status that ends it.
 module _ (old new : World) (account : Account) (given : Given) (sixteen : MayBeGiven given) (before : (name : List ℕ) → Leaves old name (old.files name)) (timely : IsTimely new) (reads : (name : List ℕ) → Leaves new name (new.files name)) where

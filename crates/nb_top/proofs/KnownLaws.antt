@@ -1,5 +1,5 @@
 -- An account for which the files stand knows what any words ask of it.
-use Rattle.std.proofs.Common.{◌≡◌, inl, inr, ℕ, ◌<◌, List, true, false, refl, sym, ap, ◌∙◌, arith, length-append}
+use Rattle.std.proofs.Common.{◌≡◌, inl, inr, ℕ, ◌<◌, List, false, refl, sym, ap, ◌∙◌, arith, length-append}
 use Rattle.std.specs.Prelude.{Bool, ◌&&◌, not, nat_le, length, is_some, Option, Some, None, Result, Ok, Err}
 use Rattle.std.proofs.lemmas.Bool.{and_parts}
 use Rattle.std.proofs.lemmas.Bool.Decides.{leb_tells}
@@ -10,7 +10,7 @@ use Rattle.nb_host.specs.declared.refusals.Refusal.{Refusal}
 use Rattle.nb_host.specs.declared.refusals.Refusal.TheVariants.{Usage}
 use Rattle.nb_page.specs.Free.{has_delta, is_free_name}
 use Rattle.nb_model.specs.declared.job.Job.{Job}
-use Rattle.nb_model.specs.declared.job.Job.TheVariants.{Run, Stat, Gen, Backup, BackupSince, Restore, Lock, LockWithSize, Unlock, Fixup}
+use Rattle.nb_model.specs.declared.job.Job.TheVariants.{Run, Stat, Gen, Backup, BackupSince, Restore, Apply, Lock, LockWithSize, Unlock, Fixup}
 use Rattle.nb_model.specs.declared.statement.Statement.{Statement}
 use Rattle.nb_model.specs.declared.statement.Statement.TheVariants.{OpenDb}
 use Rattle.nb_model.specs.Account.{Account}
@@ -23,7 +23,7 @@ use Rattle.nb_model.proofs.OpeningLaws.{free_entry}
 use Rattle.nb_script.specs.Fits.{FitsFirst}
 use Rattle.nb_script.specs.Scripts.{Plan}
 use Rattle.nb_top.specs.Performed.{HoldsUnder, Knows, KnowsAsked, KnowsNames, KnowsOpened}
-use Rattle.nb_top.specs.Requests.{Asked, Runs, FitsJob, is_job_built, built_job, request_asked, request_of, script_in, to_run}
+use Rattle.nb_top.specs.Requests.{Asked, Runs, FitsJob, request_asked, request_of, script_in, to_run}
 use Rattle.nb_top.specs.Worlds.{HaveNames}
 use Rattle.nb_top.proofs.FirstReady.{base_name}
 use Rattle.nb_top.proofs.RequestLaws.{askable_in, backup_askable, since_askable, begin_askable, end_askable, stat_askable, fits_words, plain_file}
@@ -77,16 +77,11 @@ module _ (files : Files) (names : HaveNames files) (account : Account) (stands :
   known_job (Gen number name) fits = known_names
   known_job (Fixup db) fits = stands.same_image db (plain_file db (and_parts (is_file db) (nat_le (length db) 94) fits).0)
   known_job (Restore db names) fits = known_names db (plain_file db (and_parts (is_file db) (nat_le (length db) 94) fits.0).0)
-  known_job other fits = tt
+  known_job (Apply db file) fits = stands.same_image db (plain_file db (and_parts (is_file db) (nat_le (length db) 94) fits.0).0)
 
   pub known_asked : (words : List (List ℕ)) → KnowsAsked files account (request_asked files words)
   known_asked words = by (job_of words) refl
     where
-      by_built : (job : Job) (b : Bool) → FitsJob job
-          → KnowsAsked files account (elim (elim b as (λ z. Option Job) [ true ↦ Some job | false ↦ None ]) as (λ z. Asked) [ None ↦ Runs (Err Usage) | Some k ↦ request_of files k ])
-      by_built job true fits = known_job job fits
-      by_built job false fits = tt
-
-      by : (job : Option Job) → job_of words ≡ job → KnowsAsked files account (elim (built_job job) as (λ z. Asked) [ None ↦ Runs (Err Usage) | Some k ↦ request_of files k ])
+      by : (job : Option Job) → job_of words ≡ job → KnowsAsked files account (elim job as (λ z. Asked) [ None ↦ Runs (Err Usage) | Some k ↦ request_of files k ])
       by None is = tt
-      by (Some job) is = by_built job (is_job_built job) (fits_words words job is)
+      by (Some job) is = known_job job (fits_words words job is)

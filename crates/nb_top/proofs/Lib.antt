@@ -41,3 +41,5 @@ pub mod Turns
 pub mod TurnsStand
 pub mod Restored
 pub mod Fixed
+pub mod MergeTurns
+pub mod Merged

@@ -19,16 +19,17 @@ use Rattle.nb_script.specs.Asked.{IsFurther, IsAskable}
 use Rattle.nb_script.specs.Fits.{IsBase, IsFile}
 use Rattle.nb_script.specs.Scripts.{Plan}
 use Rattle.nb_script.proofs.AskedLemmas.{answer_is_askable}
-use Rattle.nb_top.specs.Requests.{Request, ToRun, ToGenerate, Deed, ToRestore, ToFix, Asked, Runs, Does, FitsJob, is_job_built, built_job, job_asked, script_in, to_run, plan_of, request_of, request_asked}
+use Rattle.nb_top.specs.Requests.{Request, ToRun, ToGenerate, Deed, ToRestore, ToFix, ToMerge, Asked, Runs, Does, FitsJob, script_in, to_run, plan_of, request_of, request_asked}
 
 -- The statements of a script can be asked today. The name of a script that is written is none that a difference file may have.
 abbrev pub CanBeAsked : Request → Type 0
 CanBeAsked (ToRun plan telling) = IsAskable plan
 CanBeAsked (ToGenerate number name) = is_delta name ≡ false
 
--- Nor are the names of a restore and of a fixup, and a restore has a first file.
+-- Nor are the names of a restore, of a fixup and of a merge, and a restore has a first file.
 abbrev pub CanBeDone : Deed → Type 0
 CanBeDone (ToFix db) = is_delta db ≡ false
+CanBeDone (ToMerge db name) = (is_delta db ≡ false) × (is_delta name ≡ false)
 CanBeDone (ToRestore db names) = (is_delta db ≡ false) × AllByRecursion (λ (name : List ℕ). is_delta name ≡ false) names × (1 ≤ length names)
 
 -- so it is of what is asked for
@@ -69,7 +70,7 @@ fixup_fits (db ∷ w ∷ ws) = tt
 apply_fits : (plain : List Word) → IfJob (apply_job plain)
 apply_fits [] = tt
 apply_fits (db ∷ []) = tt
-apply_fits (db ∷ file ∷ []) = if_fits (is_database db && is_file file) (Apply db file) (λ is. tt)
+apply_fits (db ∷ file ∷ []) = if_fits (is_database db && is_file file) (Apply db file) (λ is. and_parts (is_database db) (is_file file) is)
 apply_fits (db ∷ file ∷ w ∷ ws) = tt
 
 restore_fits : (plain : List Word) → IfJob (restore_job plain)
@@ -146,10 +147,10 @@ pub fits_words : (words : List Word) (job : Job) → job_of words ≡ Some job �
 fits_words words job is = subst IfJob is (words_fit words)
 
 -- what the words ask for
-pub asked_usage : (files : Files) (words : List Word) → job_asked words ≡ None → request_asked files words ≡ Runs (Err Usage)
+pub asked_usage : (files : Files) (words : List Word) → job_of words ≡ None → request_asked files words ≡ Runs (Err Usage)
 asked_usage files words is = ap (λ (j : Option Job). elim j as (λ z. Asked) [ None ↦ Runs (Err Usage) | Some job ↦ request_of files job ]) is
 
-pub asked_job : (files : Files) (words : List Word) (job : Job) → job_asked words ≡ Some job → request_asked files words ≡ request_of files job
+pub asked_job : (files : Files) (words : List Word) (job : Job) → job_of words ≡ Some job → request_asked files words ≡ request_of files job
 asked_job files words job is = ap (λ (j : Option Job). elim j as (λ z. Asked) [ None ↦ Runs (Err Usage) | Some k ↦ request_of files k ]) is
 
 -- The script of a job that asks a database these things.
@@ -250,27 +251,23 @@ module _ (files : Files) where
   job_can (Gen number name) fits = plain_file name fits
   job_can (Fixup db) fits = plain_file db (and_parts (is_file db) (nat_le (length db) 94) fits).0
   job_can (Restore db names) fits = restore_asked db names fits
-  job_can other fits = tt
+  job_can (Apply db file) fits = (plain_file db (and_parts (is_file db) (nat_le (length db) 94) fits.0).0, plain_file file fits.1)
 
   pub can_be_asked : (words : List Word) → CanBeMet (request_asked files words)
   can_be_asked words = by (job_of words) refl
     where
-      by_built : (job : Job) (b : Bool) → FitsJob job → CanBeMet (elim (elim b as (λ z. Option Job) [ true ↦ Some job | false ↦ None ]) as (λ z. Asked) [ None ↦ Runs (Err Usage) | Some k ↦ request_of files k ])
-      by_built job true fits = job_can job fits
-      by_built job false fits = tt
-
-      by : (job : Option Job) → job_of words ≡ job → CanBeMet (elim (built_job job) as (λ z. Asked) [ None ↦ Runs (Err Usage) | Some k ↦ request_of files k ])
+      by : (job : Option Job) → job_of words ≡ job → CanBeMet (elim job as (λ z. Asked) [ None ↦ Runs (Err Usage) | Some k ↦ request_of files k ])
       by None is = tt
-      by (Some job) is = by_built job (is_job_built job) (fits_words words job is)
+      by (Some job) is = job_can job (fits_words words job is)
 
 -- the answer of a reading
-pub asked_read : (files : Files) (words : List Word) (answer : Result Job Fault) (job : Job) → answer ≡ Ok job → IfOk answer (λ (j : Job). job_asked words ≡ Some j) → request_asked files words ≡ request_of files job
-asked_read files words answer job is read = asked_job files words job (subst (λ (a : Result Job Fault). IfOk a (λ (j : Job). job_asked words ≡ Some j)) is read)
+pub asked_read : (files : Files) (words : List Word) (answer : Result Job Fault) (job : Job) → answer ≡ Ok job → IfOk answer (λ (j : Job). job_of words ≡ Some j) → request_asked files words ≡ request_of files job
+asked_read files words answer job is read = asked_job files words job (subst (λ (a : Result Job Fault). IfOk a (λ (j : Job). job_of words ≡ Some j)) is read)
 
-pub unread_words : (words : List Word) (answer : Result Job Fault) (refusal : Refusal) → answer ≡ Err (Refused refusal) → IfErr answer (λ (fault : Fault). (fault ≡ Memory) ⊎ ((fault ≡ Refused Usage) × (job_asked words ≡ None)))
-    → job_asked words ≡ None
+pub unread_words : (words : List Word) (answer : Result Job Fault) (refusal : Refusal) → answer ≡ Err (Refused refusal) → IfErr answer (λ (fault : Fault). (fault ≡ Memory) ⊎ ((fault ≡ Refused Usage) × (job_of words ≡ None)))
+    → job_of words ≡ None
 unread_words words answer refusal is why =
-    ⊎_elim (λ memory. absurd (refused_memory memory)) (λ usage. usage.1) (subst (λ (a : Result Job Fault). IfErr a (λ (fault : Fault). (fault ≡ Memory) ⊎ ((fault ≡ Refused Usage) × (job_asked words ≡ None)))) is why)
+    ⊎_elim (λ memory. absurd (refused_memory memory)) (λ usage. usage.1) (subst (λ (a : Result Job Fault). IfErr a (λ (fault : Fault). (fault ≡ Memory) ⊎ ((fault ≡ Refused Usage) × (job_of words ≡ None)))) is why)
   where
     refused_memory : Refused refusal ≡ Memory → ⊥
     refused_memory h = cc

@@ -4,7 +4,7 @@
 -- that its call serves it.
 use Rattle.std.specs.Prelude.{◌≡◌, ◌≢◌, ◌⊎◌, ℕ, List, [], ◌∷◌, ◌++◌, Bool, true, false, None, Some, Ok}
 use Rattle.nb_fields.specs.Free.{is_free_file}
-use Rattle.nb_fields.specs.Header.{guid_of}
+use Rattle.nb_fields.specs.Header.{guid_of, state_of}
 use Rattle.nb_host.specs.Files.{File, Files}
 use Rattle.nb_host.specs.World.{World}
 use Rattle.nb_host.specs.Crash.{Leaves, LeavesAll}
@@ -14,22 +14,25 @@ use Rattle.nb_page.specs.Free.{is_free_name}
 use Rattle.nb_model.specs.Account.{Kept, Account, base_of}
 use Rattle.nb_model.specs.Causes.{is_free_entry}
 use Rattle.nb_model.specs.Image.{Image}
-use Rattle.nb_model.specs.Jobs.{restore_turn, fixup_turn, account_behind}
+use Rattle.nb_model.specs.Jobs.{restore_turn, fixup_turn, apply_turn, account_behind}
+use Rattle.nb_model.specs.Levels.{Contents}
 use Rattle.nb_model.specs.Output.{output, status_of}
 use Rattle.nb_model.specs.Owner.{entry_in}
 use Rattle.nb_model.specs.Restoring.{Link, verdict}
 use Rattle.nb_model.specs.Run.{Event, replies_of}
-use Rattle.nb_model.specs.Stands.{IsKeptAs}
-use Rattle.nb_model.specs.Strokes.{fixed}
+use Rattle.nb_model.specs.Stands.{IsKeptAs, nil}
+use Rattle.nb_model.specs.Strokes.{fixed, as_standby}
 use Rattle.nb_model.specs.Trail.{ShowsIn}
 use Rattle.nb_fixup.specs.Fixup.{IsFixable, IsFixed}
+use Rattle.nb_inplace.specs.Apply.{IsHalfIn, base_with}
+use Rattle.nb_inplace.specs.Verdict.{IsMergeable}
 use Rattle.nb_restore.specs.Kept.{AreKept, last_guid}
 use Rattle.nb_restore.specs.Restore.{base_from}
 use Rattle.nb_session.specs.Stops.{IsSaid}
 use Rattle.nb_top.specs.declared.status.Status.{Status}
 use Rattle.nb_top.specs.declared.status.Status.TheVariants.{Device, Memory}
 use Rattle.nb_top.specs.Numbers.{number_of}
-use Rattle.nb_top.specs.Requests.{Deed, ToRestore, ToFix}
+use Rattle.nb_top.specs.Requests.{Deed, ToRestore, ToFix, ToMerge}
 use Rattle.nb_top.specs.Standing.{HoldsKept, StandsFor}
 
 -- A job of one turn.
@@ -54,6 +57,12 @@ pub record ShowsKept (kept : List Kept) (guid : List ℕ) (done : Image → Imag
   pub backup : Kept
   pub kept_as : IsKeptAs kept guid backup
   pub shows : ShowsIn name (base_of (done backup.image)) files
+
+-- the level file is that of a kept backup, and the standby names one
+pub record TakesKept (kept : List Kept) (bytes : List ℕ) (c : Contents) : Type 0 where
+  pub backup : Kept
+  pub kept_as : IsKeptAs kept c.head.guid backup
+  pub restored : state_of bytes ≡ 0 → guid_of bytes ≢ nil
 
 -- A chain is restored: half way the name of the target is free, and then it is the database that the chain gives. A chain of kept backups
 -- gives the image that the begin of its last one kept, in the normal state.
@@ -80,10 +89,25 @@ fixing files db = record {
   gives = λ kept now. (bytes : List ℕ) → IsFixable files db bytes → ShowsKept kept (guid_of bytes) fixed db now;
 }
 
+-- A level file is merged into a standby: half way the standby is in the applying state, with the level file's GUID pending, and the same file
+-- finishes it. The level file of a kept backup gives the image that the begin of that backup kept, in the normal state, read-only and with nothing
+-- pending. It is asked that the standby names the backup that it was restored from; of a merge that was begun the files tell that themselves.
+abbrev pub merging : Files → (db name : List ℕ) → OneTurn
+merging files db name = record {
+  name = db;
+  knows = λ account. account.entry db ≡ entry_in files db;
+  turn = λ account. apply_turn files db name;
+  half = λ now. (bytes : List ℕ) × (c : Contents) × IsMergeable files db name bytes c × IsHalfIn db bytes c now;
+  done = λ now. (bytes : List ℕ) × (c : Contents) × IsMergeable files db name bytes c × ShowsIn db (base_with bytes c) now;
+  takes = λ kept. (bytes : List ℕ) (c : Contents) → IsMergeable files db name bytes c → TakesKept kept bytes c;
+  gives = λ kept now. (bytes : List ℕ) (c : Contents) → IsMergeable files db name bytes c → ShowsKept kept c.head.guid as_standby db now;
+}
+
 -- the job
 abbrev pub one_turn : Files → Deed → OneTurn
 one_turn files (ToRestore db names) = restoring files db names
 one_turn files (ToFix db) = fixing files db
+one_turn files (ToMerge db name) = merging files db name
 
 -- a turn that makes no stroke and no file, as a refused one
 abbrev pub leaves_all : Event → Bool

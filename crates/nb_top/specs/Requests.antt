@@ -1,5 +1,5 @@
 -- What the words of the command line ask for.
-use Rattle.std.specs.Prelude.{◌≡◌, ℕ, ◌≤◌, Bool, true, false, List, [], ◌∷◌, length, replicate, Option, None, Some, Result, Ok, Err}
+use Rattle.std.specs.Prelude.{◌≡◌, ℕ, ◌≤◌, true, List, [], ◌∷◌, length, replicate, Option, None, Some, Result, Ok, Err}
 use Rattle.std.specs.List.{list_all}
 use Rattle.nb_host.specs.Files.{File, Files}
 use Rattle.nb_host.specs.declared.refusals.Refusal.{Refusal}
@@ -14,21 +14,7 @@ use Rattle.nb_script.specs.Scripts.{Plan, script_of}
 use Rattle.nb_top.specs.declared.telling.Telling.{Telling}
 use Rattle.nb_top.specs.declared.telling.Telling.TheVariants.{All, Quietly, WithSize}
 
--- the jobs that are done today
-abbrev pub is_job_built : Job → Bool
-is_job_built (Run script) = true
-is_job_built (Stat db) = true
-is_job_built (Gen number script) = true
-is_job_built (Backup level db file) = true
-is_job_built (BackupSince guid db file) = true
-is_job_built (Restore db files) = true
-is_job_built (Apply db file) = false
-is_job_built (Lock db) = true
-is_job_built (LockWithSize db) = true
-is_job_built (Unlock db) = true
-is_job_built (Fixup db) = true
-
--- the names of such a job are those that words may give
+-- the names of a job are those that words may give
 abbrev pub FitsJob : Job → Type 0
 FitsJob (Stat db) = is_database db ≡ true
 FitsJob (Gen number script) = is_file script ≡ true
@@ -38,16 +24,9 @@ FitsJob (Backup level db file) = (level ≤ 9) × (is_database db ≡ true) × (
 FitsJob (BackupSince guid db file) = (is_database db ≡ true) × (is_file file ≡ true)
 FitsJob (Unlock db) = is_database db ≡ true
 FitsJob (Fixup db) = is_database db ≡ true
+FitsJob (Apply db file) = (is_database db ≡ true) × (is_file file ≡ true)
 FitsJob (Restore db files) = (is_database db ≡ true) × (1 ≤ length files) × (length files ≤ 10) × (list_all is_file files ≡ true)
 FitsJob other = Unit {0}
-
--- the job that the words name, of those that are done today
-abbrev pub built_job : Option Job → Option Job
-built_job None = None
-built_job (Some job) = elim (is_job_built job) [ true ↦ Some job | false ↦ None ]
-
-abbrev pub job_asked : (words : List (List ℕ)) → Option Job
-job_asked words = built_job (job_of words)
 
 -- What a run is asked for.
 pub data Request : Type 0 where
@@ -62,6 +41,8 @@ pub data Deed : Type 0 where
   ToRestore : (db : List ℕ) (names : List (List ℕ)) → Deed
   -- a copy of a stalled database becomes a database, in place
   ToFix : (db : List ℕ) → Deed
+  -- a level file is merged into a standby, in place
+  ToMerge : (db name : List ℕ) → Deed
 
 -- What the words ask for: a run, or why there is none, or a job of one turn.
 pub data Asked : Type 0 where
@@ -72,6 +53,7 @@ pub data Asked : Type 0 where
 abbrev pub deed_of : Job → Option Deed
 deed_of (Restore db names) = Some (ToRestore db names)
 deed_of (Fixup db) = Some (ToFix db)
+deed_of (Apply db file) = Some (ToMerge db file)
 deed_of other = None
 
 -- the script that a file spells, or why there is none
@@ -106,4 +88,4 @@ request_of files job = elim (deed_of job) [ Some deed ↦ Does deed | None ↦ R
 
 -- what the words ask for
 abbrev pub request_asked : Files → (words : List (List ℕ)) → Asked
-request_asked files words = elim (job_asked words) [ None ↦ Runs (Err Usage) | Some job ↦ request_of files job ]
+request_asked files words = elim (job_of words) [ None ↦ Runs (Err Usage) | Some job ↦ request_of files job ]

@@ -1,6 +1,6 @@
 // Laws of the whole program: each is a public function with an empty body, whose contract is the law. They show that what a run is
 // promised on holds where a first run begins and where the next one begins behind a stop, and that a job is what it asks for.
-ghost use Rattle.std.specs.Prelude.{◌≡◌, ℕ, List, [], ◌∷◌, Some, true};
+ghost use Rattle.std.specs.Prelude.{◌≡◌, ℕ, List, [], ◌∷◌, Some};
 ghost use Rattle.nb_host.specs.Files.{Files, with_file};
 ghost use Rattle.nb_host.specs.Crash.{LeavesAll};
 ghost use Rattle.nb_mem.specs.declared.entry.Entry.{Entry};
@@ -14,7 +14,7 @@ ghost use Rattle.nb_model.specs.Stands.{Stands};
 ghost use Rattle.nb_model.specs.declared.job.Job.{Job};
 ghost use Rattle.nb_top.specs.OneTurn.{one_turn};
 ghost use Rattle.nb_top.specs.Performed.{IsPerformed, KnowsAsked};
-ghost use Rattle.nb_top.specs.Requests.{Deed, Does, Runs, is_job_built, request_asked, request_of, run_of};
+ghost use Rattle.nb_top.specs.Requests.{Deed, Does, Runs, request_asked, request_of, run_of};
 ghost use Rattle.nb_top.specs.Standing.{HoldsKept, StandsFor};
 ghost use Rattle.nb_top.specs.Worlds.{AreCopies, ArePlain, HaveNames, StartsFrom, account_of, empty, no_files};
 
@@ -58,15 +58,15 @@ pub fn what_stands_is_known()
 /// A job that attaches is exactly the run of the script that opens its database and asks what the job asks. It says nothing of the opening
 /// but why it is refused.
 pub fn a_job_attaches()
-    ensures asks { (files : Files) (job : Job) (asks : Asks) → is_job_built job ≡ true → asks_of job ≡ Some asks → request_of files job ≡ Runs (run_of files job) }
-    ensures attaches { (files : Files) (job : Job) (asks : Asks) (before last : Account) (given left : Given) (events : List Event) → is_job_built job ≡ true → asks_of job ≡ Some asks
+    ensures asks { (files : Files) (job : Job) (asks : Asks) → asks_of job ≡ Some asks → request_of files job ≡ Runs (run_of files job) }
+    ensures attaches { (files : Files) (job : Job) (asks : Asks) (before last : Account) (given left : Given) (events : List Event) → asks_of job ≡ Some asks
         → IsPerformed files (run_of files job) before given events last left → IsAttaching before given job asks events last }
-    ensures performs { (files : Files) (job : Job) (asks : Asks) (before last : Account) (given : Given) (events : List Event) → is_job_built job ≡ true → asks_of job ≡ Some asks
+    ensures performs { (files : Files) (job : Job) (asks : Asks) (before last : Account) (given : Given) (events : List Event) → asks_of job ≡ Some asks
         → (attaching : IsAttaching before given job asks events last) → IsPerformed files (run_of files job) before given events last attaching.left }
 {}
 
 /// A job that neither attaches nor runs a script is a job of one turn, on its database.
 pub fn a_job_takes_its_turn()
-    ensures { (files : Files) (job : Job) (name : List ℕ) (turn : Event) (account : Account) → is_job_built job ≡ true → turn_of files account job ≡ Some (name, turn)
+    ensures { (files : Files) (job : Job) (name : List ℕ) (turn : Event) (account : Account) → turn_of files account job ≡ Some (name, turn)
         → (deed : Deed) × (request_of files job ≡ Does deed) × ((one_turn files deed).name ≡ name) × ((one_turn files deed).turn account ≡ turn) }
 {}

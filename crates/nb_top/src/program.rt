@@ -9,24 +9,26 @@ ghost use Rattle.nb_model.specs.Lines.{line_text};
 ghost use Rattle.nb_model.specs.Outcomes.{Given};
 ghost use Rattle.nb_model.specs.declared.reply.Reply.TheVariants.{Refused as RefusedReply};
 ghost use Rattle.nb_model.specs.declared.statement.Statement.TheVariants.{BeginBackup, ShowHeader, ShowPages};
+ghost use Rattle.nb_model.specs.Words.{job_of};
 ghost use Rattle.nb_script.specs.Asked.{IsAskable};
 ghost use Rattle.nb_session.specs.Acts.{Grows};
 ghost use Rattle.nb_session.specs.Causes.{CountsStop};
 ghost use Rattle.nb_session.specs.Says.{SaysLine};
 ghost use Rattle.nb_top.specs.Performed.{GoesTo, Knows, KnowsAsked, MayBeGiven, Performs, RunsTo};
-ghost use Rattle.nb_top.specs.Requests.{FitsJob, ToRun, is_job_built, job_asked, plan_of, request_asked, request_of, script_in, to_run};
+ghost use Rattle.nb_top.specs.Requests.{FitsJob, ToRun, plan_of, request_asked, request_of, script_in, to_run};
 ghost use Rattle.nb_top.specs.Touched.{IsWholeAsked, IsWholeToMerge, OfAsked, TouchesAsked, TouchesOnly};
 
 use crate::Status;
 use crate::generating::run_generated;
 use crate::reading::read_script;
-use crate::request::{read_built, script_asking, script_showing};
+use crate::request::{script_asking, script_showing};
 use crate::script::{refuse, run_script, settled};
 use crate::telling::Telling;
 use crate::turn::run_turn;
 use nb_host::{Host, Name, Refusal};
 use nb_model::{Job, Statement};
 use nb_session::Stop;
+use nb_words::read_job;
 use std::alloc::Global;
 
 /// Runs the script of that name.
@@ -83,9 +85,8 @@ fn run_stat<H: Host>(alloc: Global, host: &mut H, db: &Name) -> Result<Status, S
     }
 }
 
-/// Does a job that is done today.
+/// Does a job.
 fn run_job<H: Host>(alloc: Global, host: &mut H, job: &Job) -> Result<Status, Stop>
-    requires built { IsTrue (is_job_built job.now) }
     requires fits { FitsJob job.now }
     ensures runs { (account : Account) (given : Given) → IsTrue H.tells → KnowsAsked (H.world host.old).files account (request_of (H.world host.old).files job.now)
         → MayBeGiven given → Foretells given (H.world host.old) (H.world host.new) → GoesTo result (H.world host.old) (H.world host.new) (request_of (H.world host.old).files job.now) account given }
@@ -99,6 +100,7 @@ fn run_job<H: Host>(alloc: Global, host: &mut H, job: &Job) -> Result<Status, St
         Job::Gen { number, script } => run_generated(alloc, host, *number, script),
         Job::Restore { .. } => run_turn(alloc, host, job),
         Job::Fixup { .. } => run_turn(alloc, host, job),
+        Job::Apply { .. } => run_turn(alloc, host, job),
         Job::Backup { level, db, file } => {
             let name = file.copied();
             run_asking(
@@ -132,11 +134,10 @@ fn run_job<H: Host>(alloc: Global, host: &mut H, job: &Job) -> Result<Status, St
             Telling::WithSize,
         ),
         Job::Unlock { db } => run_asking(alloc, host, db, Statement::EndBackup, Telling::Quietly),
-        _ => unreachable!(),
     }
 }
 
-/// Refuses words that name no job that is done today.
+/// Refuses words that name no job.
 fn refuse_words<H: Host>(alloc: Global, host: &mut H) -> Result<Status, Stop>
     ensures usage { IfOk result (λ status. status ≡ Status.Usage) }
     ensures line { IsTrue H.tells → SaysLine result (H.world host.old) (H.world host.new) (line_text 0 (RefusedReply UsageRefusal)) }
@@ -152,11 +153,11 @@ fn do_job<H: Host>(alloc: Global, words: &[String], host: &mut H) -> Result<Stat
         → MayBeGiven given → Foretells given (H.world host.old) (H.world host.new) → GoesTo result (H.world host.old) (H.world host.new) (request_asked (H.world host.old).files (map string_bytes words.now)) account given }
     ensures grows { (account : Account) → IsTrue H.tells → KnowsAsked (H.world host.old).files account (request_asked (H.world host.old).files (map string_bytes words.now)) → Grows (H.world host.old) (H.world host.new) }
     ensures touches { IsTrue H.tells → IsWholeAsked (H.world host.old).files (request_asked (H.world host.old).files (map string_bytes words.now)) → TouchesOnly result (H.world host.old) (H.world host.new) (OfAsked (H.world host.old).files (request_asked (H.world host.old).files (map string_bytes words.now))) }
-    ensures usage { IfOk result (λ status. (status ≡ Status.Usage) ↔ (job_asked (map string_bytes words.now) ≡ None)) }
+    ensures usage { IfOk result (λ status. (status ≡ Status.Usage) ↔ (job_of (map string_bytes words.now) ≡ None)) }
     ensures done { IfOk result (λ status. (status ≡ Status.Usage) ⊎ ((status ≡ Status.Done) ⊎ (status ≡ Status.Refused))) }
     ensures cause { CountsStop result (H.faults host.old) (H.faults host.new) }
 {
-    match settled(read_built(alloc, words))? {
+    match settled(read_job(alloc, words))? {
         Ok(job) => run_job(alloc, host, &job),
         Err(_) => refuse_words(alloc, host),
     }
@@ -165,16 +166,16 @@ fn do_job<H: Host>(alloc: Global, words: &[String], host: &mut H) -> Result<Stat
 /// Does the job that the words name, which are those of the command line without the program's own name.
 ///
 /// It says one line for each reply; a job that makes, begins or ends a backup, or shows the statistics, says nothing of the opening but why
-/// it is refused. Words that name no job that is done today, and a script that cannot be read, are refused to session 0. Where a call of the
+/// it is refused. Words that name no job, and a script that cannot be read, are refused to session 0. Where a call of the
 /// host fails or memory runs out, the run ends at once and says nothing more.
 pub fn run<H: Host>(alloc: Global, words: &[String], host: &mut H) -> Status
     // The count of the host's faults rises in this call exactly where the answer is Device.
     ensures device { result ≡ Status.Device → Rose (H.faults host.old) (H.faults host.new) }
     ensures no_device { result ≢ Status.Device → H.faults host.new ≡ H.faults host.old }
 
-    // The words name no job that is done today exactly where the answer is Usage; want of memory or a fault may come first.
-    ensures usage { result ≡ Status.Usage → job_asked (map string_bytes words.now) ≡ None }
-    ensures no_job { job_asked (map string_bytes words.now) ≡ None → result ≢ Status.Done × result ≢ Status.Refused }
+    // The words name no job exactly where the answer is Usage; want of memory or a fault may come first.
+    ensures usage { result ≡ Status.Usage → job_of (map string_bytes words.now) ≡ None }
+    ensures no_job { job_of (map string_bytes words.now) ≡ None → result ≢ Status.Done × result ≢ Status.Refused }
 
     // Where an account knows what the files tell as the call begins, and whatever GUIDs of 16 bytes and times may still be given: the
     // output is that of the run which the words ask for, and at each moment a stop leaves what may be left of the database behind a

@@ -3,10 +3,10 @@ ghost use Rattle.std.specs.Prelude.{◌≡◌, ◌⊎◌, ◌≤◌, length, Som
 ghost use Rattle.nb_change.specs.Changes.{Only};
 ghost use Rattle.nb_change.specs.Counts.{CountsDevice};
 ghost use Rattle.nb_model.specs.Account.{Account};
-ghost use Rattle.nb_model.specs.Jobs.{fixup_turn, restore_turn};
+ghost use Rattle.nb_model.specs.Jobs.{apply_turn, fixup_turn, restore_turn};
 ghost use Rattle.nb_session.specs.Causes.{CountsStop};
 ghost use Rattle.nb_session.specs.Others.{LeavesOthers};
-ghost use Rattle.nb_top.specs.OneTurn.{fixing, one_turn, restoring};
+ghost use Rattle.nb_top.specs.OneTurn.{fixing, merging, one_turn, restoring};
 ghost use Rattle.nb_top.specs.Requests.{Deed, FitsJob, deed_of};
 ghost use Rattle.nb_top.specs.Served.{Serves, TurnsTo};
 ghost use Rattle.nb_top.specs.Touched.{TouchesOnly};
@@ -15,6 +15,7 @@ use crate::Status;
 use crate::script::{refuse, say_line, settled};
 use nb_fixup::fix_up;
 use nb_host::{Fault, Host, Name};
+use nb_inplace::apply;
 use nb_model::{Job, Reply};
 use nb_restore::restore;
 use nb_session::Stop;
@@ -49,6 +50,22 @@ fn fixed<H: Host>(host: &mut H, db: &Name) -> Result<Reply, Fault>
     Ok(Reply::Done)
 }
 
+/// Merges a level file into a standby, in place, and answers how many pages that has then.
+fn merged<H: Host>(
+    alloc: Global,
+    host: &mut H,
+    db: &Name,
+    file: &Name,
+) -> Result<Reply, Fault>
+    ensures serves { IsTrue H.tells
+        → Serves result (H.world host.old) (H.world host.new) (merging (H.world host.old).files db.now file.now) (apply_turn (H.world host.old).files db.now file.now) }
+    ensures others { IsTrue H.tells → LeavesOthers (H.world host.old) (H.world host.new) (Only db.now) }
+    ensures cause { CountsDevice result (H.faults host.old) (H.faults host.new) }
+{
+    let pages = apply(alloc, host, db, file)?;
+    Ok(Reply::Pages { pages })
+}
+
 /// Takes the turn of the job, and answers its reply.
 fn take_turn<H: Host>(alloc: Global, host: &mut H, job: &Job) -> Result<Reply, Fault>
     requires deed { (deed : Deed) × (deed_of job.now ≡ Some deed) }
@@ -61,6 +78,7 @@ fn take_turn<H: Host>(alloc: Global, host: &mut H, job: &Job) -> Result<Reply, F
     match job {
         Job::Restore { db, files } => restored(alloc, host, db, files.as_slice()),
         Job::Fixup { db } => fixed(host, db),
+        Job::Apply { db, file } => merged(alloc, host, db, file),
         _ => unreachable!(),
     }
 }

@@ -1,13 +1,12 @@
 use Rattle.std.proofs.Common.{◌≡◌, ◌≢◌, ◌⊎◌, inl, inr, refl, sym}
 use Rattle.std.specs.Prelude.{[], None}
 use Rattle.nb_model.specs.Words.{read_words, job_of_flags, job_read, job_of}
-use Rattle.nb_top.specs.Requests.{job_asked}
 use Rattle.nb_top.specs.declared.status.Status.{Status}
 use Rattle.nb_top.specs.declared.status.Status.TheVariants.{Done, Refused, Usage, Device, Memory}
 use Rattle.nb_cli.proofs.status_of.Goals as goal
 
 -- no words name no job
-no_words : job_asked [] ≡ None
+no_words : job_of [] ≡ None
 unfolding job_of read_words job_read job_of_flags
 no_words = refl
 

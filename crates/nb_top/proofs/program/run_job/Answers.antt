@@ -4,7 +4,7 @@ use Rattle.nb_model.specs.declared.statement.Statement.TheVariants.{Backup, Back
 use Rattle.nb_script.specs.Asked.{IsAskable}
 use Rattle.nb_session.proofs.GiftLaws.{grows_none}
 use Rattle.nb_top.specs.Performed.{GoesTo, Knows, KnowsAsked, RunsTo}
-use Rattle.nb_top.specs.Requests.{FitsJob, ToRun, ToRestore, ToFix, deed_of, plan_of, request_of}
+use Rattle.nb_top.specs.Requests.{FitsJob, ToRun, ToRestore, ToFix, ToMerge, deed_of, plan_of, request_of}
 use Rattle.nb_top.specs.declared.telling.Telling.TheVariants.{Quietly}
 use Rattle.nb_top.proofs.RequestLaws.{backup_askable, since_askable}
 use Rattle.nb_top.specs.Touched.{IsWholeAsked, IsWholeToMerge, OfAsked, TouchesAsked, TouchesOnly}
@@ -218,3 +218,26 @@ returns-in-Fixup-clause-touches g c tells whole =
     let new = g.H.Host.world c.run_turn-in-Fixup.new.host in
     subst (λ job. TouchesOnly c.run_turn-in-Fixup.result old new (OfAsked old.files (request_of old.files job))) (sym c.in-Fixup.is)
     (c.run_turn-in-Fixup.ensures.touches (ToFix c.in-Fixup.db) (ap deed_of c.in-Fixup.is) tells)
+
+pub run_turn-requires-in-Apply : goal.run_turn-requires-in-Apply
+run_turn-requires-in-Apply g c = record { deed = (ToMerge c.in-Apply.db c.in-Apply.file, ap deed_of c.in-Apply.is); fits = c.requires.fits }
+
+pub returns-in-Apply-clause-runs : goal.returns-in-Apply-clause-runs
+returns-in-Apply-clause-runs g c account given tells knows may told =
+    let old = g.H.Host.world c.args.host.now in
+    let new = g.H.Host.world c.run_turn-in-Apply.new.host in
+    subst (λ job. GoesTo c.run_turn-in-Apply.result old new (request_of old.files job) account given) (sym c.in-Apply.is)
+    (c.run_turn-in-Apply.ensures.turns (ToMerge c.in-Apply.db c.in-Apply.file) account (ap deed_of c.in-Apply.is) tells (subst (λ job. KnowsAsked old.files account (request_of old.files job)) c.in-Apply.is knows))
+
+pub returns-in-Apply-clause-grows : goal.returns-in-Apply-clause-grows
+returns-in-Apply-clause-grows g c account tells knows =
+    let old = g.H.Host.world c.args.host.now in
+    let new = g.H.Host.world c.run_turn-in-Apply.new.host in
+    grows_none old new (c.run_turn-in-Apply.ensures.turns (ToMerge c.in-Apply.db c.in-Apply.file) account (ap deed_of c.in-Apply.is) tells (subst (λ job. KnowsAsked old.files account (request_of old.files job)) c.in-Apply.is knows)).gave
+
+pub returns-in-Apply-clause-touches : goal.returns-in-Apply-clause-touches
+returns-in-Apply-clause-touches g c tells whole =
+    let old = g.H.Host.world c.args.host.now in
+    let new = g.H.Host.world c.run_turn-in-Apply.new.host in
+    subst (λ job. TouchesOnly c.run_turn-in-Apply.result old new (OfAsked old.files (request_of old.files job))) (sym c.in-Apply.is)
+    (c.run_turn-in-Apply.ensures.touches (ToMerge c.in-Apply.db c.in-Apply.file) (ap deed_of c.in-Apply.is) tells)

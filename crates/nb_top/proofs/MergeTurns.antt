@@ -1,0 +1,140 @@
+-- The one turn of a merge in place: what it must be, and what stands behind it.
+use Rattle.std.proofs.Common.{◌≡◌, ◌≢◌, ℕ, List, [], ◌∷◌, length, true, false, refl, sym, ap, subst, ◌∙◌}
+use Rattle.std.specs.Prelude.{Bool, not, ◌==◌, nat_lt, None, Some, Result, Ok, Err}
+use Rattle.nb_fields.specs.Header.{state_of, size_of}
+use Rattle.nb_fields.specs.Page.{stamp_of}
+use Rattle.nb_host.specs.Files.{File, Files}
+use Rattle.nb_host.specs.declared.refusals.Refusal.{Refusal}
+use Rattle.nb_host.specs.declared.refusals.Refusal.TheVariants.{Usage, NoFile, BadLevel, Unfinished, ChainSize, ChainScn}
+use Rattle.nb_model.specs.declared.reply.Reply.TheVariants.{Pages}
+use Rattle.nb_model.specs.Account.{Account}
+use Rattle.nb_model.specs.Causes.{Cause, first_cause, when}
+use Rattle.nb_model.specs.Image.{Page, image_in}
+use Rattle.nb_model.specs.InPlace.{bytes_in, in_place, in_place_of, is_another, not_mergeable, not_next, not_standby, other_pages, written_since}
+use Rattle.nb_model.specs.Jobs.{only_turn, only_refusal, apply_turn, account_behind}
+use Rattle.nb_model.specs.Levels.{Contents, read_level}
+use Rattle.nb_model.specs.Run.{Event, account_after}
+use Rattle.nb_model.specs.Strokes.{merge, merged}
+use Rattle.nb_model.proofs.TodoLaws.{IsOther, other_first, other_when, other_database}
+use Rattle.nb_inplace.specs.Verdict.{IsMergeable}
+
+-- the turn that merges what a level file holds into a standby
+abbrev pub merged_turn : (bytes : List ℕ) → Contents → Event
+merged_turn bytes c = only_turn (Pages (length (merged c.pages (image_in bytes)))) (merge c.pages ∷ [])
+
+-- 1. A merge is never refused as words are that name no job.
+abbrev IsFine : Result Contents Refusal → Type 0
+IsFine (Ok c) = Unit {0}
+IsFine (Err refusal) = refusal ≢ Usage
+
+no_file : (name : List ℕ) → NoFile name ≢ Usage
+no_file name h = cc
+
+bad_level : (name : List ℕ) (at : ℕ) → BadLevel name at ≢ Usage
+bad_level name at h = cc
+
+some_other : (r : Refusal) → r ≢ Usage → IsOther (Some r)
+some_other r h e = h (same e)
+  where
+    same : Some r ≡ Some Usage → r ≡ Usage
+    same k = cc
+
+by_cause : (c : Cause) (found : Contents) → IsOther c → IsFine (elim c as (λ z. Result Contents Refusal) [ Some refusal ↦ Err refusal | None ↦ Ok found ])
+by_cause None found h = tt
+by_cause (Some r) found h = λ e. h (ap (λ (x : Refusal). Some x) e)
+
+standby_other : (name : List ℕ) (file : File) → IsOther (not_standby name file)
+unfolding not_standby
+standby_other name None = some_other (NoFile name) (no_file name)
+standby_other name (Some bytes) = other_first _ (other_database bytes, (other_when _ _ (λ e. cc), tt))
+
+written_other : (name : List ℕ) (scn : ℕ) (pages : List Page) → IsOther (written_since name scn pages)
+unfolding written_since
+written_other name scn [] e = cc
+written_other name scn (p ∷ ps) = by (nat_lt scn (stamp_of p))
+  where
+    later : (found : ℕ) → ChainScn name found scn ≢ Usage
+    later found h = cc
+
+    by : (t : Bool) → IsOther (elim t as (λ z. Cause) [ true ↦ Some (ChainScn name (stamp_of p) scn) | false ↦ written_since name scn ps ])
+    by true = some_other (ChainScn name (stamp_of p) scn) (later (stamp_of p))
+    by false = written_other name scn ps
+
+next_other : (name bytes : List ℕ) (c : Contents) → IsOther (not_next name bytes c)
+unfolding not_next
+next_other name bytes c = other_first _ (other_when _ _ (λ e. cc), (other_when _ _ (λ e. cc), (other_when _ _ (λ e. cc), (other_when _ _ (λ e. cc), (written_other name c.head.previous_scn (other_pages (image_in bytes)), tt)))))
+
+mergeable_other : (bytes name : List ℕ) (c : Contents) → IsOther (not_mergeable bytes name c)
+unfolding not_mergeable
+mergeable_other bytes name c = by (state_of bytes == 3)
+  where
+    by : (t : Bool) → IsOther (elim t as (λ z. Cause) [
+      | true ↦ first_cause (when (is_another bytes c) Unfinished ∷ when (not (c.head.size == size_of bytes)) (ChainSize name c.head.size (size_of bytes)) ∷ [])
+      | false ↦ not_next name bytes c
+    ])
+    by true = other_first _ (other_when _ _ (λ e. cc), (other_when _ _ (λ e. cc), tt))
+    by false = next_other name bytes c
+
+merge_fine : (files : Files) (db name : List ℕ) → IsFine (in_place files db name)
+unfolding in_place in_place_of
+merge_fine files db name = by (not_standby db (files db)) (standby_other db (files db))
+  where
+    of_level : (bytes : List ℕ) (read : Result Contents ℕ) → IsFine (elim read as (λ z. Result Contents Refusal) [
+      | Err at ↦ Err (BadLevel name at)
+      | Ok c ↦ elim (not_mergeable bytes name c) as (λ z. Result Contents Refusal) [ Some refusal ↦ Err refusal | None ↦ Ok c ]
+    ])
+    of_level bytes (Err at) = bad_level name at
+    of_level bytes (Ok c) = by_cause (not_mergeable bytes name c) c (mergeable_other bytes name c)
+
+    of_file : (file : File) → IsFine (elim file as (λ z. Result Contents Refusal) [ None ↦ Err (NoFile name) | Some bytes ↦ in_place_of (bytes_in (files db)) name bytes ])
+    of_file None = no_file name
+    of_file (Some bytes) = of_level (bytes_in (files db)) (read_level bytes)
+
+    by : (cause : Cause) → IsOther cause → IsFine (elim cause as (λ z. Result Contents Refusal) [
+      | Some refusal ↦ Err refusal
+      | None ↦ elim (files name) as (λ z. Result Contents Refusal) [ None ↦ Err (NoFile name) | Some bytes ↦ in_place_of (bytes_in (files db)) name bytes ]
+    ])
+    by (Some refusal) other = λ e. other (ap (λ (x : Refusal). Some x) e)
+    by None other = of_file (files name)
+
+-- 2. The turn is refused, or it merges.
+pub data MergeTurn (files : Files) (db name : List ℕ) : Type 0 where
+  refuses : (refusal : Refusal) → in_place files db name ≡ Err refusal → apply_turn files db name ≡ only_refusal refusal → MergeTurn files db name
+  merges : (bytes : List ℕ) (c : Contents) → IsMergeable files db name bytes c → apply_turn files db name ≡ merged_turn bytes c → MergeTurn files db name
+
+no_standby : (files : Files) (db name : List ℕ) (c : Contents) → files db ≡ None → in_place files db name ≡ Ok c → ⊥
+unfolding in_place not_standby
+no_standby files db name c none accepted = never (sym (rw (none, in_place) refl) ∙ accepted)
+  where
+    never : Err (NoFile db) ≡ Ok c → ⊥
+    never h = cc
+
+module _ (files : Files) (db name : List ℕ) where
+  pub refused_turn : (refusal : Refusal) → in_place files db name ≡ Err refusal → apply_turn files db name ≡ only_refusal refusal
+  unfolding apply_turn
+  refused_turn refusal why = rw (why, apply_turn) refl
+
+  accepted_turn : (c : Contents) → in_place files db name ≡ Ok c → apply_turn files db name ≡ merged_turn (bytes_in (files db)) c
+  unfolding apply_turn
+  accepted_turn c accepted = rw (accepted, apply_turn) refl
+
+  pub done_turn : (bytes : List ℕ) (c : Contents) → IsMergeable files db name bytes c → apply_turn files db name ≡ merged_turn bytes c
+  done_turn bytes c m = accepted_turn c m.accepted ∙ ap (λ (f : File). merged_turn (bytes_in f) c) m.there
+
+  pub turn_is : MergeTurn files db name
+  turn_is = by (in_place files db name) refl
+    where
+      of_file : (c : Contents) → in_place files db name ≡ Ok c → (file : File) → files db ≡ file → MergeTurn files db name
+      of_file c accepted None none = absurd (no_standby files db name c none accepted)
+      of_file c accepted (Some bytes) there = let m : IsMergeable files db name bytes c = record { there = there; accepted = accepted } in merges bytes c m (done_turn bytes c m)
+
+      by : (answer : Result Contents Refusal) → in_place files db name ≡ answer → MergeTurn files db name
+      by (Err refusal) why = refuses refusal why (refused_turn refusal why)
+      by (Ok c) accepted = of_file c accepted (files db) refl
+
+  pub refused_merge : (refusal : Refusal) → in_place files db name ≡ Err refusal → refusal ≢ Usage
+  refused_merge refusal why = subst IsFine why (merge_fine files db name)
+
+  pub merged_account : (account : Account) (bytes : List ℕ) (c : Contents) → account_behind db (merged_turn bytes c) account ≡ account_after db (merge c.pages ∷ []) None account
+  unfolding account_behind
+  merged_account account bytes c = refl
