@@ -1,5 +1,5 @@
 -- What is held agrees with the database after a page write, as it did before.
-use Rattle.std.proofs.Common.{◌≡◌, ℕ, ◌+◌, ◌<◌, ◌≤◌, List, length, take, sym, ap, subst, ◌∙◌, arith}
+use Rattle.std.proofs.Common.{◌≡◌, ℕ, ◌+◌, List, length, sym, ap, subst, ◌∙◌}
 use Rattle.std.specs.Prelude.{Bool, ◌||◌, nat_le, max, Result}
 use Rattle.nb_model.specs.Image.{Page, Image, first_page, image_size, image_state, is_forced}
 use Rattle.nb_model.specs.Account.{Base}

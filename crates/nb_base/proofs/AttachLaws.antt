@@ -64,9 +64,6 @@ headed bytes e = rw (e, not_database) refl
 
 -- the tests of the length, one by one
 module _ (len size : ℕ) where
-  not_whole : Bool
-  not_whole = not (len % size == 0) || nat_lt (len / size) 5
-
   pub parted : len % size ≢ 0 → length_cause len size ≡ Some (NotDatabase (min (len / size) 1048576))
   parted h = first_here _ _ _ (applies _ _ (ap (λ (t : Bool). not t || nat_lt (len / size) 5) (eq_no (len % size) 0 h)))
 

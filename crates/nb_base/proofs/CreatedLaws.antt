@@ -6,13 +6,12 @@ use Rattle.std.proofs.lemmas.Result.{err_from_is_err_and}
 use Rattle.nb_fields.specs.Places.{is_page_size}
 use Rattle.nb_fields.specs.Fresh.{fresh}
 use Rattle.nb_host.specs.World.{World}
-use Rattle.nb_host.specs.Moments.{IsTimely}
 use Rattle.nb_host.specs.declared.faults.Fault.{Fault}
 use Rattle.nb_host.specs.declared.faults.Fault.TheVariants.{Device}
 use Rattle.nb_change.specs.Changes.{Changes, Only}
 use Rattle.nb_change.specs.Gave.{GaveNothing}
 use Rattle.nb_change.proofs.MomentLaws.{left_before}
-use Rattle.nb_change.proofs.ChangesLaws.{begun, rested, composed}
+use Rattle.nb_change.proofs.ChangesLaws.{rested, composed}
 use Rattle.nb_page.specs.Free.{is_free_name}
 use Rattle.nb_page.specs.Quiet.{Quiet}
 use Rattle.nb_model.specs.Image.{Image}
@@ -33,10 +32,6 @@ pub quiet_then : (old mid new : World) (name : List ℕ) (image : Image) → Qui
 quiet_then old mid new name image quiet so_far =
     composed old mid new (Only name) _ _ _ (quiet_left old mid name image quiet) so_far (λ files left. left)
     (λ files. ⊎_elim (λ was. inl (left_before old mid _ quiet.still.left name (files name) tt was)) inr)
-
--- before any call
-pub none_left : (old : World) (name : List ℕ) (image : Image) → IsTimely old → Changes old old (Only name) (CreateLeft old name image)
-none_left old name image timely = begun old (Only name) _ timely (λ files left. inl (left name))
 
 -- a name that is free isn't taken
 pub not_taken : (old new : World) (name : List ℕ) (free : Bool) → free ≡ true → free ≡ is_free_name old.files name → is_free_name old.files name ≡ false → Quiet old new

@@ -1,5 +1,5 @@
 -- While no SCN page waits, what the two files hold is what may be left of what was seen.
-use Rattle.std.proofs.Common.{◌≡◌, ℕ, List, refl, ap, ◌∙◌}
+use Rattle.std.proofs.Common.{◌≡◌, ℕ, List}
 use Rattle.std.specs.Prelude.{Ok}
 use Rattle.nb_host.specs.Files.{File, Files}
 use Rattle.nb_host.specs.World.{World}
@@ -18,9 +18,6 @@ use Rattle.nb_base.specs.Takes.{StrikesFirm, Strikes}
 -- at a settled point they hold the database
 pub shows_firm : (name : List ℕ) (b : Base) (m d : File) → owner name m d ≡ Ok b → StandsFirmOn name (settled b) m d
 shows_firm name b m d opens = record { base = b; opens = opens; left = itself_firm (settled b) }
-
-pub firm_shows : (name : List ℕ) (b : Base) (m d : File) → StandsFirmOn name (settled b) m d → owner name m d ≡ Ok b
-firm_shows name b m d s = s.opens ∙ ap (λ (c : Base). Ok c) (s.left.rest.whole refl)
 
 -- and they may hold what was seen last
 pub last_firm : (name : List ℕ) (t : Trail) (files : Files) → ShowsIn name t.base files → StandsFirm name t files

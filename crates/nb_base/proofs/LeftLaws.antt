@@ -166,9 +166,6 @@ module _ (t : Trail) (p : ℕ) (bytes : Page) (fits : Fits p bytes t.base.image)
 
   -- The outcome has that page too. In the stalled state its entry is there, or no entry is missing.
   module _ (b : Base) (left : IsFirm t b) where
-    abbrev first_same : first_page b.image ≡ first_page now
-    first_same = left.mixed.first
-
     pub fits_left : Fits p bytes b.image
     fits_left = record { low = omega (arith, fits.low, left.mixed.long); front = λ e. fits.front e ∙ ap (take 64) (sym (left.mixed.first)) }
 

@@ -13,21 +13,15 @@ use Rattle.nb_model.specs.Account.{Base}
 use Rattle.nb_model.specs.Sound.{HasNoZeros}
 use Rattle.nb_model.specs.Owner.{delta_name, entry_for, behind_entries, slot_page, main_page, owned_page}
 use Rattle.nb_model.proofs.ImageLaws.{length-joined, page-joined, zeros-are, all-right}
-use Rattle.nb_model.proofs.MainLaws.{IsLaid, laid-wide}
+use Rattle.nb_model.proofs.MainLaws.{IsLaid}
 use Rattle.nb_model.proofs.OwnerLaws.{main_here, main_past}
 use Rattle.nb_model.proofs.SoundLaws.{all_at}
 use Rattle.nb_base.specs.Open.{Held, IsMerged}
-use Rattle.nb_base.proofs.OwnedLaws.{Holds, owned-length, owned-page, is_owned, owned-entry, owned-none, entry-first, entry-later, entry_at, base-length, base-page}
+use Rattle.nb_base.proofs.OwnedLaws.{Holds, is_owned, owned-entry, owned-none, entry-first, entry-later, entry_at, base-length, base-page}
 use Rattle.nb_base.proofs.WrittenLaws.{laid_image, zeros_is}
 
 -- A page of the main file, as its bytes have it.
 module _ (main : Image) (bytes : List ℕ) (l : IsLaid main bytes) where
-  pages : List Page
-  pages = main ++ l.rest
-
-  wide : 1024 ≤ image_size main
-  wide = laid-wide main bytes l
-
   long : length bytes ≡ length (main ++ l.rest) * image_size main
   long = ap length l.is ∙ length-joined (image_size main) (main ++ l.rest) l.sizes
 
@@ -77,9 +71,6 @@ greatest (q ∷ qs) some = elim (leb_tells (behind_entries qs) (q + 1)) [
 -- Every entry is equal in both files.
 module _ (held : Held) (files : Files) (b : Base) (h : Holds b (files held.name) (files (delta_name held.name))) (sized : held.page_size ≡ image_size h.main) (entries : held.entries ≡ b.diverted)
     (merged : (k : ℕ) → k < length held.entries → IsMerged held files k) where
-  abbrev main : Image
-  main = h.main
-
   abbrev delta : List ℕ
   delta = bytes_of (files (delta_name held.name))
 

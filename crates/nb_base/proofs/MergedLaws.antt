@@ -1,6 +1,6 @@
 -- Entries that are equal in both files stay so, whatever page is written in the merge state.
 use Rattle.std.proofs.Common.{◌≡◌, ◌≢◌, inl, inr, ℕ, zero, suc, ◌+◌, ◌*◌, ◌<◌, ◌≤◌, List, [], ◌∷◌, length, get_or, drop, refl, sym, ap, subst, ◌∙◌, arith}
-use Rattle.std.specs.Prelude.{Bool, true, false, IsTrue, nat_eq, Option, Some, None, slice_index}
+use Rattle.std.specs.Prelude.{false, IsTrue, nat_eq, Some, None, slice_index}
 use Rattle.std.specs.List.{AllByRecursion, IsDistinct}
 use Rattle.std.proofs.lemmas.Bool.{true≢false}
 use Rattle.std.proofs.lemmas.Bool.Decides.{eqb_tells}

@@ -44,9 +44,6 @@ holds_whatever b m d e h normal = record {
 some_same : {a b : Refusal} → Some a ≡ Some b → a ≡ b
 some_same e = cc
 
-none_some : {a : Refusal} → None ≡ Some a → ⊥
-none_some e = cc
-
 -- why the main file isn't opened, the two files aren't
 owner_in-applying : (name bytes : List ℕ) (delta : File) → owner_in 3 name bytes delta ≡ Err Unfinished
 unfolding owner_in

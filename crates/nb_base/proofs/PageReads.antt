@@ -17,7 +17,7 @@ use Rattle.nb_model.specs.Owner.{delta_name, entry_for, main_page, slot_page, ow
 use Rattle.nb_model.proofs.FormLaws.{formed}
 use Rattle.nb_model.proofs.HeaderLaws.{header-long}
 use Rattle.nb_model.proofs.ImageLaws.{all-right, length-joined, page-joined}
-use Rattle.nb_model.proofs.MainLaws.{IsLaid, laid, laid-front, laid-wide}
+use Rattle.nb_model.proofs.MainLaws.{laid, laid-front, laid-wide}
 use Rattle.nb_model.proofs.OwnerLaws.{main_here, main_past}
 use Rattle.nb_model.proofs.SoundLaws.{all_at}
 use Rattle.nb_base.proofs.WrittenLaws.{zeros_is, laid_formed, laid_image}
@@ -25,9 +25,6 @@ use Rattle.nb_base.proofs.OwnedLaws.{Holds, holds, bytes-size, base-page, base-s
 
 -- A page of a main file of that form.
 module _ (bytes : List ℕ) (formed : not_database bytes ≡ None) (p size : ℕ) (same : size_of bytes ≡ size) where
-  l : IsLaid (image_in bytes) bytes
-  l = laid bytes formed
-
   size_is : image_size (image_in bytes) ≡ size
   size_is = bytes-size bytes formed ∙ same
 

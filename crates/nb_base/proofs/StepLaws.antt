@@ -16,9 +16,6 @@ use Rattle.nb_base.proofs.WrittenLaws.{HasMain, MayWrite, main_put, main_written
 use Rattle.nb_base.proofs.OwnedLaws.{Holds, main-some, main-long, base-front, base-state, base-size, front_stays, main_shows, main_hidden, slots_stay, slot_shows, entry-front}
 use Rattle.nb_base.proofs.LeftLaws.{stroke-image, stroke-frozen, stroke-stalled, stroke-other, noted-there, fits_left, state_left, size_left, put_is}
 
-some_same : {j k : ℕ} → Some j ≡ Some k → j ≡ k
-some_same h = cc
-
 none_some : {k : ℕ} → None ≡ Some k → ⊥
 none_some h = cc
 

@@ -84,9 +84,6 @@ module _ (old mid new : World) (name : List ℕ) (t : Trail) (s : Stroke) (befor
 
 -- what is open before
 module _ (old : World) (held : Held) (t : Trail) (is : IsOpen old held t) where
-  abbrev name : List ℕ
-  name = held.name
-
   abbrev m0 : File
   m0 = old.files held.name
 

@@ -1,6 +1,6 @@
 -- A page written into a main file, in any backup state: what the file holds then, and what a stop leaves of it.
 use Rattle.std.proofs.Common.{◌≡◌, ◌⊎◌, inl, inr, ℕ, zero, suc, ◌+◌, ◌-◌, ◌*◌, ◌<◌, ◌≤◌, List, [], ◌∷◌, ◌++◌, length, take, drop, replicate, refl, sym, ap, subst, ◌∙◌, arith, length-append, append_assoc, add-mul, suc-mul, mul-le-mul_right, le_of_mul-le-mul_right, get_or-set_same}
-use Rattle.std.specs.Prelude.{true, false, ◌==◌, IsTrue, Some, max}
+use Rattle.std.specs.Prelude.{true, false, ◌==◌, IsTrue, Some}
 use Rattle.std.proofs.lemmas.Bool.{true≢false, and_parts}
 use Rattle.std.proofs.lemmas.Bool.Decides.{leb_tells, eqb_tells}
 use Rattle.std.proofs.lemmas.List.{drop_all, get_or_append_left, get_or-append_right, length-take-le, length-drop, length-replicate, replicate-append-replicate}
@@ -136,9 +136,6 @@ zero_pages size (suc n) (z ∷ zs) zeros sizes low =
 module _ (image : Image) (bytes : List ℕ) (l : IsLaid image bytes) (p : ℕ) (page : Page) (may : MayWrite p page image) where
   size : ℕ
   size = image_size image
-
-  wide : 1024 ≤ image_size image
-  wide = laid-wide image bytes l
 
   -- page 0
   laid_first : p ≡ 0 → (q : Page) (qs : Image) → image ≡ q ∷ qs → IsLaid (page ∷ qs) (put_at bytes 0 page)

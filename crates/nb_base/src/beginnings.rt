@@ -1,9 +1,8 @@
 // A database is made, so that a stop leaves no half of one, and opened.
-ghost use Rattle.std.specs.Prelude.{◌≡◌, ◌+◌, ◌≤◌, ◌<◌, ℕ, IsTrue, OnOk, IfOk, IfErr, length};
+ghost use Rattle.std.specs.Prelude.{◌≡◌, ◌+◌, ◌≤◌, ◌<◌, IsTrue, OnOk, IfOk, length};
 ghost use Rattle.nb_fields.specs.Places.{is_page_size};
 ghost use Rattle.nb_fields.specs.Fresh.{fresh, fresh_count};
 ghost use Rattle.nb_host.specs.Causes.{CountsFault};
-ghost use Rattle.nb_host.specs.declared.faults.Fault.TheVariants.{Memory};
 ghost use Rattle.nb_change.specs.Changes.{Changes, Only};
 ghost use Rattle.nb_change.specs.Counts.{CountsDevice};
 ghost use Rattle.nb_change.specs.Gave.{GaveNothing};

@@ -1,23 +1,21 @@
-ghost use Rattle.std.specs.Prelude.{◌≡◌, ◌≢◌, ◌↔◌, ◌<◌, ◌≤◌, ◌+◌, ℕ, List, [], ◌∷◌, length, slice_index, IsTrue, IfErr, OnOk, Option, false};
+ghost use Rattle.std.specs.Prelude.{◌≡◌, ◌≢◌, ◌↔◌, ◌<◌, ◌≤◌, ◌+◌, ℕ, [], ◌∷◌, length, IsTrue, IfErr, OnOk, false};
 ghost use Rattle.nb_fields.specs.Bytes.{is_zeros};
 ghost use Rattle.nb_fields.specs.Places.{is_page_size};
-ghost use Rattle.nb_fields.specs.Fresh.{fresh};
 ghost use Rattle.nb_host.specs.Calls.{IsSilent};
 ghost use Rattle.nb_host.specs.Causes.{CountsFault};
 ghost use Rattle.nb_change.specs.Counts.{CountsDevice};
 ghost use Rattle.nb_change.specs.Gave.{GaveNothing};
 ghost use Rattle.nb_page.specs.Quiet.{Quiet};
-ghost use Rattle.nb_model.specs.Account.{Ask, Base};
-ghost use Rattle.nb_model.specs.Image.{page_at, image_scn, image_size, image_state, is_forced};
+ghost use Rattle.nb_model.specs.Account.{Base};
+ghost use Rattle.nb_model.specs.Image.{page_at, image_size, image_state, is_forced};
 ghost use Rattle.nb_model.specs.Owner.{entry_for};
-ghost use Rattle.nb_model.specs.Strokes.{page as page_stroke, begin as begin_stroke, ends, finish as finish_stroke};
+ghost use Rattle.nb_model.specs.Strokes.{page as page_stroke};
 ghost use Rattle.nb_model.specs.Trail.{Trail, settled, ShowsIn};
 ghost use Rattle.nb_base.specs.Firm.{must_sync};
 ghost use Rattle.nb_base.specs.Open.{IsOpen, Agrees, Fits, AreMerged};
 ghost use Rattle.nb_base.specs.Seen.{IsSeen, IsWrite, noted_in};
 ghost use Rattle.nb_base.specs.Takes.{TakesFirm, IsNoRefusal};
 ghost use Rattle.nb_base.specs.Touches.{WritesIn};
-ghost use Rattle.nb_base.specs.Beginnings.{Attaches, Creates};
 
 use crate::reads::{read_owned, read_page};
 use crate::sync::sync_both;

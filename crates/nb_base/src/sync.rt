@@ -1,5 +1,5 @@
 // Both files are kept for good.
-ghost use Rattle.std.specs.Prelude.{◌≡◌, IsTrue, List, ℕ, OnOk};
+ghost use Rattle.std.specs.Prelude.{◌≡◌, IsTrue, OnOk};
 ghost use Rattle.nb_host.specs.Causes.{CountsFault};
 ghost use Rattle.nb_host.specs.Crash.{IsDurable};
 ghost use Rattle.nb_page.specs.Quiet.{Quiet};

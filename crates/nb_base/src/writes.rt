@@ -1,6 +1,5 @@
 // A page is written into the file that owns it, or into both.
 ghost use Rattle.std.specs.Prelude.{◌≡◌, ◌≢◌, ◌⊎◌, ◌++◌, ◌*◌, ◌<◌, ◌≤◌, ◌||◌, ℕ, List, [], ◌∷◌, length, IsTrue, IfErr, OnOk, Some, None, nat_le};
-ghost use Rattle.nb_fields.specs.Bytes.{is_zeros};
 ghost use Rattle.nb_fields.specs.Places.{is_page_size};
 ghost use Rattle.nb_fields.specs.Table.{slot_place};
 ghost use Rattle.nb_host.specs.Calls.{IsSilent};
@@ -10,7 +9,7 @@ ghost use Rattle.nb_change.specs.Changes.{Only};
 ghost use Rattle.nb_change.specs.Counts.{CountsDevice};
 ghost use Rattle.nb_delta.specs.Entries.{place_of};
 ghost use Rattle.nb_delta.specs.Slots.{HasTable, SlotPut};
-ghost use Rattle.nb_model.specs.Image.{image_size, image_state};
+ghost use Rattle.nb_model.specs.Image.{image_state};
 ghost use Rattle.nb_model.specs.Strokes.{page as page_stroke, noted};
 ghost use Rattle.nb_model.specs.Owner.{delta_name, entry_for};
 ghost use Rattle.nb_model.specs.Trail.{Trail};

@@ -89,13 +89,6 @@ module _ (index : Index) (es : Frames) (held page : ℕ) (finds : Finds index (p
           | inr on ↦ Contains-tail z (xs ++ ys) y (contains_left xs ys y on)
         ]
 
--- a page that is in no place is not found
-pub not-found : (index : Index) (ps : List (ℕ × ℕ)) (page : ℕ) → Finds index ps → ((key : ℕ) → Contains ps (page, key) → ⊥) → holder index page ≡ None
-not-found index ps page finds none = from (holder index page) refl where
-  from : (o : Option ℕ) → holder index page ≡ o → holder index page ≡ None
-  from None is = is
-  from (Some key) is = absurd (none key (finds.only page key is))
-
 -- no frame holds the page, so it has no place
 pub no-place : (page : ℕ) (es : Frames) → NoneHolds page es → (key : ℕ) → Contains (places es) (page, key) → ⊥
 no-place page es none key c =

@@ -6,7 +6,6 @@ use Rattle.std.proofs.Math.Seq.{take-append-add}
 use Rattle.std.proofs.lemmas.List.{map-append, append-nil, take-append-le}
 use Rattle.std.proofs.lemmas.List.Elements.{Contains-append_cases}
 use Rattle.lru.specs.LruCache.{promoted, demoted}
-use Rattle.lru.proofs.Splits.{Contains-nil}
 use Rattle.nb_cache.specs.declared.frames.Frame.{Frame}
 use Rattle.nb_cache.specs.declared.index.Index.{Index}
 use Rattle.nb_cache.specs.Frames.{Frames, NoneHolds, Split, FoundAt, IsLast}
@@ -119,13 +118,3 @@ IsIndexed-put old new es held page key cap last w finds entered none same room a
       fewer [] (suc m) n all le = tt
       fewer (e ∷ l) (suc m) zero all le = absurd (omega arith)
       fewer (e ∷ l) (suc m) (suc n) all le = (all.0, fewer l m n all.1 (omega arith))
-
--- no page is held
-pub IsIndexed-empty : (index : Index) (es : Frames) → ((page : ℕ) → holder index page ≡ None) → 2 * length es ≤ room_of index → IsIndexed index es 0
-IsIndexed-empty index es empty room = record {
-  finds = record {
-    only = λ page key some. absurd (let none = empty page in cc);
-    each = λ page key c. absurd (Contains-nil (page, key) c);
-  };
-  room = room;
-}

@@ -1,28 +1,17 @@
 -- Which of the waiting pages goes out first, as one page more is seen.
-use Rattle.std.proofs.Common.{◌≡◌, ℕ, ◌<◌, ◌≤◌, ◌⊎◌, inl, inr, List, [], ◌∷◌, ◌++◌, Option, Some, None, refl, arith, ⊎_elim, Contains}
+use Rattle.std.proofs.Common.{◌≡◌, ℕ, ◌<◌, ◌≤◌, ◌⊎◌, inl, inr, List, [], ◌∷◌, ◌++◌, Option, Some, arith, ⊎_elim, Contains}
 use Rattle.std.specs.List.{AllByRecursion}
-use Rattle.std.proofs.lemmas.List.Elements.{Contains-append_left, Contains-append_right}
+use Rattle.std.proofs.lemmas.List.Elements.{Contains-append_right}
 use Rattle.lru.proofs.Splits.{Contains-head}
-use Rattle.nb_cache.specs.Held.{Slot, NoneWaits, IsNoLater, GoesFirst, IsNext}
+use Rattle.nb_cache.specs.Held.{Slot, NoneWaits, IsNoLater, GoesFirst}
 use Rattle.nb_cache.proofs.KeyedLemmas.{All-snoc}
 
 same_rank : (r q : ℕ) → Some r ≡ Some q → r ≡ q
 same_rank r q e = cc
 
-never : {X : Type 0} (r : ℕ) → None ≡ Some r → X
-never r e = absurd (cc)
-
 module _ (pages : List (ℕ × Slot)) (page : ℕ) (bytes : List ℕ) where
   abbrev slot : Option ℕ → ℕ × Slot
   slot rank = (page, record { bytes = bytes; rank = rank })
-
-  -- a page that doesn't wait
-  pub next-none : (next : Option (ℕ × ℕ)) → IsNext pages next → IsNext (pages ++ slot None ∷ []) next
-  next-none None none = All-snoc (λ e. e.1.rank ≡ None) pages (slot None) none refl
-  next-none (Some n) goes = record {
-    waits = (goes.waits.0, Contains-append_left pages (slot None ∷ []) (n.0, record { bytes = goes.waits.0; rank = Some n.1 }) goes.waits.1);
-    first = All-snoc (IsNoLater n.0 n.1) pages (slot None) goes.first (λ r e. never r e);
-  }
 
   module _ (rank : ℕ) where
     here : Contains (pages ++ slot (Some rank) ∷ []) (slot (Some rank))
@@ -58,12 +47,4 @@ module _ (pages : List (ℕ × Slot)) (page : ℕ) (bytes : List ℕ) where
       next-sooner sooner = record {
         waits = (bytes, here);
         first = All-snoc (IsNoLater page rank) pages (slot (Some rank)) (before sooner pages goes.first) itself;
-      }
-
-      -- it goes out later than the first of them
-      pub next-later : (lowest < rank) ⊎ ((lowest ≡ rank) × (first ≤ page)) → GoesFirst (pages ++ slot (Some rank) ∷ []) first lowest
-      next-later later = record {
-        waits = (goes.waits.0, Contains-append_left pages (slot (Some rank) ∷ []) (first, record { bytes = goes.waits.0; rank = Some lowest }) goes.waits.1);
-        first = All-snoc (IsNoLater first lowest) pages (slot (Some rank)) goes.first
-            (λ r e. let same : rank ≡ r = same_rank rank r e in ⊎_elim (λ l. inl (omega arith)) (λ l. inr (omega (arith, l.0), l.1)) later);
       }

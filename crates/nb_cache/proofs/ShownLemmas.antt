@@ -277,11 +277,6 @@ pub last-shown : (es : Frames) (n held : ℕ) → length es ≡ n → n ≤ held
 last-shown es n held all full =
     ap (λ l. slice_get (map slot_in l) (n - 1)) (take_all held es (omega arith)) ∙ ap (λ m. slice_get (map slot_in es) (m - 1)) (sym all) ∙ slice_get-map slot_in es (length es - 1)
 
--- the frames up to there are those that hold a page
-pub shown-before : (es before rest : Frames) (held : ℕ) → es ≡ before ++ rest → length before ≡ held → shown held es ≡ map slot_in before
-shown-before es before rest held parts size =
-    ap (shown held) parts ∙ ap (map slot_in) (take-append-le held before rest (omega arith) ∙ take_all held before (omega arith))
-
 -- a page that waits no longer
 pub rank_of-cleaned : (page : ℕ) (pages : List (ℕ × Slot)) → rank_of (with_rank page None pages) page ≡ None
 rank_of-cleaned page [] = refl

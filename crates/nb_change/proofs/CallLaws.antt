@@ -62,32 +62,6 @@ pub page_more : {T E : Type 0} (tells : Bool) (result : Result T E) (old mid new
 page_more tells result old mid new names P Q name at page told so_far touched writes silent time weak by =
     step_more old mid new names P Q name (PageLeft at page) so_far touched time writes.left (page_others tells result mid new name at page told writes) silent weak by
 
--- bytes appended more
-pub bytes_more : {T E : Type 0} (tells : Bool) (result : Result T E) (old mid new : World) (names : Names) (P Q : Files → Type 0) (name bytes : List ℕ) → IsTrue tells → Changes old mid names P → names name
-    → AppendsBytes tells result mid new name bytes → new.said ≡ mid.said → Passes mid new
-    → ((files : Files) → P files → Q files)
-    → ((before files : Files) → LeavesAll mid before → P before → AppendLeft (length (bytes_of (mid.files name))) bytes (before name) (files name) → ((m : List ℕ) → m ≢ name → files m ≡ before m) → Q files) → Changes old new names Q
-bytes_more tells result old mid new names P Q name bytes told so_far touched appends silent time weak by =
-    step_more old mid new names P Q name (AppendLeft (length (bytes_of (mid.files name))) bytes) so_far touched time appends.left (bytes_others tells result mid new name bytes told appends) silent weak by
-
--- One file more is made anew or removed. Of it a stop would have left `there`.
-pub remade_more : {T E : Type 0} (tells : Bool) (result : Result T E) (old mid new : World) (names : Names) (P Q : Files → Type 0) (name : List ℕ) (file there : File) → IsTrue tells → Changes old mid names P → names name
-    → Remakes tells result mid new name file → new.said ≡ mid.said → Passes mid new → Leaves mid name there
-    → ((files : Files) → P files → Q files)
-    → ((before files : Files) → LeavesAll mid before → P before → before name ≡ there → files name ≡ file → ((m : List ℕ) → m ≢ name → files m ≡ before m) → Q files) → Changes old new names Q
-remade_more tells result old mid new names P Q name file there told so_far touched remakes silent time was weak by =
-    one_more old mid new names P Q so_far time (untouched_fewer mid new _ _ remakes.others (λ m other. apart m other)) (λ m other. remade_others tells result mid new name file told remakes m (apart m other)) silent weak
-    (λ files left.
-    let others : (m : List ℕ) → m ≢ name → Leaves mid m (files m) = λ m other. left_before mid new _ remakes.others m (files m) other (left m) in
-    let stays : Leaves mid name (files name) → Q files = λ same. weak files (so_far.now files (λ m. ⊎_elim (λ (is : m ≡ name). subst (λ (n : List ℕ). Leaves mid n (files n)) (sym is) same) (λ (other : m ≢ name). others m other) (decide m name))) in
-    let before : Files = with_file files name there in
-    let all : LeavesAll mid before = left_with mid name files there others was in
-    let made : files name ≡ file → Q files = λ is. by before files all (so_far.now before all) (with_file-same files name there) is (λ m other. sym (with_file-other files name there m other)) in
-    ⊎_elim (λ back. stays (remakes.back (files name) back)) (λ now. ⊎_elim stays made (remakes.now (files name) now)) (left name))
-  where
-    apart : (m : List ℕ) → Other names m → m ≢ name
-    apart m other is = other (subst names (sym is) touched)
-
 -- a call by itself that changes no file
 pub still_alone : (old new : World) (names : Names) (P : Files → Type 0) → IsTimely old → IsStill old new → new.said ≡ old.said → Passes old new → ((files : Files) → LeavesAll old files → P files) → Changes old new names P
 still_alone old new names P timely still silent time here = still_more old old new names P (begun old names P timely here) time still silent
@@ -99,12 +73,6 @@ step_alone old new name step all timely steps read silent time none by =
     step_more old old new (Only name) (λ files. Leaves old name (files name)) (Moved old name all) name step (begun old (Only name) _ timely (λ files left. left name)) refl time steps read silent
     (λ files was. record { before = files name; was = was; by = none (files name) was })
     (λ before files left was next others. record { before = before name; was = was; by = by (before name) (files name) was next })
-
--- as before, or by the step
-pub stepped : (old new : World) (name : List ℕ) (step : File → File → Type 0) → IsTimely old → Steps old new name step → ((m : List ℕ) → m ≢ name → new.files m ≡ old.files m) → new.said ≡ old.said → Passes old new
-    → Changes old new (Only name) (Moved old name (λ b c. (c ≡ b) ⊎ step b c))
-stepped old new name step timely steps read silent time =
-    step_alone old new name step (λ b c. (c ≡ b) ⊎ step b c) timely steps read silent time (λ b was. inl refl) (λ b c was next. inr next)
 
 -- a page write by itself
 pub page_alone : {T E : Type 0} (tells : Bool) (result : Result T E) (old new : World) (name : List ℕ) (at : ℕ) (page : List ℕ) (all : File → File → Type 0) → IsTrue tells → IsTimely old

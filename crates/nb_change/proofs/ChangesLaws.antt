@@ -6,7 +6,7 @@ use Rattle.nb_host.specs.Crash.{Leaves, LeavesAll, Untouched}
 use Rattle.nb_host.specs.Calls.{IsStill}
 use Rattle.nb_host.specs.Moments.{IsNow, IsTimely, Passes, AtEachMoment}
 use Rattle.nb_change.specs.Changes.{Names, Other, Only, NoNames, Changes, Moved, Remade}
-use Rattle.nb_change.proofs.MomentLaws.{started, goes_on, joined, weaker, both_hold, left_before, untouched_joined, untouched_fewer, untouched_begun}
+use Rattle.nb_change.proofs.MomentLaws.{started, goes_on, joined, weaker, left_before, untouched_joined, untouched_fewer, untouched_begun}
 use Rattle.nb_change.proofs.NameLaws.{decide, with_file-same, with_file-other}
 
 -- of every file a stop leaves what it would have left before
@@ -149,13 +149,3 @@ kept_on old mid new names P first second =
 pub kept_then : (old mid new : World) (names : Names) (P Q : Files → Type 0) → Changes old mid NoNames (LeavesAll old) → Changes mid new names P → ((files : Files) → LeavesAll old files → Q files) → ((files : Files) → P files → Q files) → Changes old new names Q
 kept_then old mid new names P Q first second here pq =
     composed_within old mid new NoNames names names (LeavesAll old) P Q first second (λ m none. absurd none) (λ m one. one) (λ files others left. here files left) (λ files others has. pq files has)
-
--- two facts of the same run of calls
-pub both_have : (old new : World) (names : Names) (P Q R : Files → Type 0) → Changes old new names P → Changes old new names Q → ((files : Files) → P files → Q files → R files) → Changes old new names R
-both_have old new names P Q R first second pqr = record {
-  moments = both_hold old new _ _ _ first.moments second.moments (λ files said one two. record { has = pqr files one.has two.has; others = one.others; output = one.output });
-  now = λ files left. pqr files (first.now files left) (second.now files left);
-  others = first.others;
-  others_read = first.others_read;
-  said = first.said;
-}

@@ -65,13 +65,3 @@ untouched_fewer old new many few same are = record {
 
 pub untouched_begun : (old : World) (names : List ℕ → Type 0) → Untouched old old names
 untouched_begun old names = record { back = λ m c is b. b; now = λ m c is n. n }
-
--- two facts of each moment
-pub both_hold : (old new : World) (P Q R : Files → List ℕ → Type 0) → AtEachMoment old new P → AtEachMoment old new Q → ((files : Files) (said : List ℕ) → P files said → Q files said → R files said) → AtEachMoment old new R
-both_hold old new P Q R first second with_both = record {
-  same = first.same;
-  later = first.later;
-  each = λ files said left. with_both files said (first.each files said left) (second.each files said left);
-  earlier = λ t files said le left.
-      ⊎_elim inl (λ p. ⊎_elim inl (λ q. inr (with_both files said p q)) (second.earlier t files said le left)) (first.earlier t files said le left);
-}

@@ -27,14 +27,6 @@ moved_joined old mid new name first second all one two weak by =
     (λ files moved. record { before = moved.before; was = moved.was; by = weak moved.before (files name) moved.was moved.by })
     (λ before files left moved next others. record { before = moved.before; was = moved.was; by = by moved.before (before name) (files name) moved.was (left name) moved.by next })
 
--- a step behind a file that is made anew
-pub remade_joined : (old mid new : World) (name : List ℕ) (first all : File → Type 0) (second : File → File → Type 0) → Changes old mid (Only name) (Remade old name first) → Changes mid new (Only name) (Moved mid name second)
-    → ((c : File) → first c → all c) → ((c d : File) → Leaves mid name c → Leaves old name c ⊎ first c → second c d → Leaves old name d ⊎ all d) → Changes old new (Only name) (Remade old name all)
-remade_joined old mid new name first all second one two weak by =
-    moved_on old mid new (Only name) (Remade old name first) (Remade old name all) name second one two refl
-    (λ files. ⊎_elim inl (λ is. inr (weak (files name) is)))
-    (λ before files left has next others. by (before name) (files name) (left name) has next)
-
 -- less is said of what was made
 pub remade_weaker : (old new : World) (names : Names) (name : List ℕ) (made all : File → Type 0) → Changes old new names (Remade old name made) → ((c : File) → made c → all c) → Changes old new names (Remade old name all)
 remade_weaker old new names name made all is weak = weaker_has old new names (Remade old name made) (Remade old name all) is (λ files. ⊎_elim inl (λ m. inr (weak (files name) m)))

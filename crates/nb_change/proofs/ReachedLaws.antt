@@ -16,11 +16,6 @@ module _ {B S : Type 0} (apply : S → B → B) (stands : B → Files → Type 0
   reached_first base [] files is = is
   reached_first base (x ∷ xs) files is = inl is
 
-  -- what stands after the last
-  pub reached_last : (base : B) (xs : List S) (files : Files) → stands (after_all apply base xs) files → Reached apply stands base xs files
-  reached_last base [] files is = is
-  reached_last base (x ∷ xs) files is = inr (reached_last (apply x base) xs files is)
-
   -- a front of the first strokes is one of all
   pub reached_front : (base : B) (xs ys : List S) (files : Files) → Reached apply stands base xs files → Reached apply stands base (xs ++ ys) files
   reached_front base [] ys files is = reached_first base ys files is
@@ -30,11 +25,6 @@ module _ {B S : Type 0} (apply : S → B → B) (stands : B → Files → Type 0
   pub reached_back : (base : B) (xs ys : List S) (files : Files) → Reached apply stands (after_all apply base xs) ys files → Reached apply stands base (xs ++ ys) files
   reached_back base [] ys files is = is
   reached_back base (x ∷ xs) ys files is = inr (reached_back (apply x base) xs ys files is)
-
-  -- a front of all is one or the other
-  pub reached_split : (base : B) (xs ys : List S) (files : Files) → Reached apply stands base (xs ++ ys) files → Reached apply stands base xs files ⊎ Reached apply stands (after_all apply base xs) ys files
-  reached_split base [] ys files is = inr is
-  reached_split base (x ∷ xs) ys files is = ⊎_elim (λ s. inl (inl s)) (λ r. ⊎_elim (λ f. inl (inr f)) inr (reached_split (apply x base) xs ys files r)) is
 
   -- one run of strokes after another
   pub strokes_composed : (names : Names) (old mid new : World) (base : B) (xs ys : List S) → Changes old mid names (Reached apply stands base xs) → Changes mid new names (Reached apply stands (after_all apply base xs) ys)

@@ -16,10 +16,6 @@ pub on_ok_then : {T E P Q : Type 0} (result : Result T E) → (P → Q) → OnOk
 on_ok_then (Ok x) f p = f p
 on_ok_then (Err e) f p = tt
 
-pub on_ok_both : {T E P Q R : Type 0} (result : Result T E) → (P → Q → R) → OnOk result P → OnOk result Q → OnOk result R
-on_ok_both (Ok x) f p q = f p q
-on_ok_both (Err e) f p q = tt
-
 -- what `?` passes on
 pub passed_on : {T E : Type 0} (result : Result T E) (fault : E) → IsErr result × IsErrAnd result (λ e. e ≡ fault) → result ≡ Err fault
 passed_on (Ok value) fault is = absurd is.1

@@ -14,11 +14,10 @@ use Rattle.nb_change.proofs.CallLaws.{page_others, remade_alone, remade_step}
 use Rattle.nb_fields.specs.Bytes.{number_in}
 use Rattle.nb_fields.specs.Places.{is_page_size, slots_in}
 use Rattle.nb_fields.specs.Table.{page_in, alloc_place}
-use Rattle.nb_delta.specs.Slots.{HasTable, HasZeros, IsBlank}
+use Rattle.nb_delta.specs.Slots.{HasTable, IsBlank}
 use Rattle.nb_delta.proofs.EntryLemmas.{no_entries}
 use Rattle.nb_delta.proofs.GroupLemmas.{page_past, zeros_count}
 use Rattle.nb_delta.proofs.TableLemmas.{Spells, SamePlace, same_place, count_at}
-use Rattle.nb_delta.proofs.ZeroLemmas.{zeros_all}
 use Rattle.nb_delta.proofs.PageLemmas.{grown_page}
 use Rattle.nb_delta.proofs.StepLemmas.{some_slots, some_bytes, has_told}
 
@@ -63,17 +62,6 @@ module _ (size : ℕ) (is_size : IsTrue (is_page_size size)) where
       has_told size is_size file [] (is ∙ ap (λ (f : File). Some (bytes_of f)) (sym is))
       (subst (λ (f : File). Spells size (bytes_of f) []) (sym is)
       (spells_none (replicate size 0) (grown_page size [] size 0 ∙ page_past size 0 [] (omega arith)) (inr (omega (arith, length-replicate {A = ℕ} size 0)))))
-
-  -- and zeros stand where the numbers of its entries would
-  pub blank_zeros : (file : File) → IsBlank size file → HasZeros size file 0
-  blank_zeros file blank g i low at =
-      let same : SamePlace 0 0 g i = same_place (slots_in size) 0 0 g i (some_slots size is_size) low (omega (arith, at)) in
-      zeros_all size (4 + 4 * i) (page_in size (bytes_of file) (alloc_place size g))
-      (ap (λ (n : ℕ). page_in size (bytes_of file) (alloc_place size n)) same.group ∙ ap (λ (n : ℕ). page_in size (bytes_of file) n) first_alloc ∙ first_page file blank)
-    where
-      first_page : (file : File) → IsBlank size file → page_in size (bytes_of file) 0 ≡ replicate size 0
-      first_page file (inl is) = ap (λ (f : File). page_in size (bytes_of f) 0) is ∙ page_past size 0 [] (omega arith)
-      first_page file (inr is) = ap (λ (f : File). page_in size (bytes_of f) 0) is ∙ grown_page size [] size 0 ∙ page_past size 0 [] (omega arith)
 
   -- a page of zeros put into an empty file
   pub blank_put : (page : List ℕ) → page ≡ replicate size 0 → (d c : File) → d ≡ Some [] → c ≡ with_page d (0 * length page) page → c ≡ Some (replicate size 0)

@@ -1,6 +1,6 @@
 -- Entries, one more of them, and their index.
 use Rattle.std.proofs.Common.{◌≡◌, ◌≢◌, ℕ, zero, suc, ◌+◌, ◌<◌, ◌≤◌, Bool, true, false, cond, List, [], ◌∷◌, ◌++◌, length, get_or, Option, Some, None, refl, sym, ap, ◌∙◌, subst, arith, inl, inr, ⊎_elim, length-append, BTreeMap, nat_cmp}
-use Rattle.std.specs.Prelude.{nat_eq, ◌||◌, Result, Ok, Err, OnOk, is_ok, is_some, option_map, IfSome}
+use Rattle.std.specs.Prelude.{nat_eq, ◌||◌, Result, Ok, Err, OnOk, is_ok, is_some, IfSome}
 use Rattle.std.specs.List.{list_any, position_from, IsDistinct, AllByRecursion}
 use Rattle.std.specs.Ordering.{is_eq}
 use Rattle.std.specs.Cmp.{nat_cmp_is}
@@ -153,8 +153,3 @@ place_below page xs found is = subst (λ (o : Option ℕ). IfSome o (λ place. p
     lower : (o : Option ℕ) → IfSome o (λ place. (0 ≤ place) × (place < 0 + length xs)) → IfSome o (λ place. place < length xs)
     lower None is = tt
     lower (Some place) is = let b = is.1 in omega arith
-
--- no slot, no entry
-pub unmapped : (f : ℕ → ℕ) (found slot : Option ℕ) → slot ≡ option_map f found → slot ≡ None → found ≡ None
-unmapped f None slot is none = refl
-unmapped f (Some k) slot is none = cc

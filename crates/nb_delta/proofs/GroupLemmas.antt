@@ -119,14 +119,6 @@ page_read None at bytes before after e read = absurd (none_some bytes e)
     none_some : (ys : List ℕ) → None ≡ Some ys → ⊥
     none_some ys h = cc
 
--- a page that was not, which the file doesn't hold whole
-pub page_short : (file : File) (at : ℕ) (bytes before after : List ℕ) → file ≡ Some bytes → ReadsPage file (at * length before) before after false → length bytes < (at + 1) * length before
-page_short (Some xs) at bytes before after e read = let same : xs ≡ bytes = cc in omega (arith, read.0, ap (λ (ys : List ℕ). length ys) same)
-page_short None at bytes before after e read = absurd (none_some bytes e)
-  where
-    none_some : (ys : List ℕ) → None ≡ Some ys → ⊥
-    none_some ys h = cc
-
 -- before the first group
 pub groups_begun : (size : ℕ) (bytes : List ℕ) → table_of size bytes ≡ groups_from (length bytes / size + 1 - 0) size (alloc_place size 0) bytes []
 unfolding table_of alloc_place

@@ -24,9 +24,6 @@ group_is room k g i low is = elim (cases_lt (k / room) g) [
   ]
 ]
 
-pub group_of_entry : (room k : ℕ) (at : InGroup room k) → k / room ≡ at.g
-group_of_entry room k at = group_is room k at.g at.i at.low at.is
-
 module _ (size : ℕ) where
   -- the slot behind the allocation page of its group
   pub slot_at : (g i : ℕ) → i < slots_in size → slot_place size (g * slots_in size + i) ≡ alloc_place size g + 1 + i

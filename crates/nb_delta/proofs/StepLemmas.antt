@@ -83,9 +83,6 @@ module _ (size : ℕ) (is_size : IsTrue (is_page_size size)) where
           no_shorter = put.longer;
         }
 
-  pub slot_none : (k : ℕ) (page : List ℕ) (file : File) → SlotStep size k page file file
-  slot_none k page file = record { table = λ table has. has; slot = inl refl; others = λ j other. refl; zeros = λ m has. has; no_shorter = omega arith }
-
   -- what a write of slot n keeps
   pub keeps_slot : (n : ℕ) (page : List ℕ) (before after : File) → SlotStep size n page before after → Keeps size n before after
   keeps_slot n page before after step = record { table = λ table few has. step.table table has; slots = λ k low. step.others k (λ e. absurd (omega arith)); zeros = λ m few has. step.zeros m has }

@@ -101,12 +101,6 @@ with_payload-page_of size kind generation scn number old payload h =
     ap (λ xs. xs ++ padded (length (head ++ padded (size - 16) old) - 16) payload) (take_at head (padded (size - 16) old) 16 (length-head_of kind generation scn number))
     ∙ ap (λ n. head ++ padded (n - 16) payload) (let e : length (head ++ padded (size - 16) old) ≡ size = length-page_of size kind generation scn number old h in e)
 
--- a page that is stamped and then gets another payload is stamped with that
-pub with_payload-stamped : (old : List ℕ) (kind : ℕ) (before payload : List ℕ) (scn number : ℕ) → 16 + length before ≤ length old
-    → with_payload (stamped old kind before scn number) payload ≡ stamped old kind payload scn number
-unfolding stamped
-with_payload-stamped old kind before payload scn number h = with_payload-page_of (length old) kind ((generation_of old + 1) % 2 ^ 32) scn number before payload h
-
 -- the fields of a page's head
 module _ (size kind generation scn number : ℕ) (payload : List ℕ) where
   number_in-page_of : (at w : ℕ) → at + w ≤ 16 → number_in at w (page_of size kind generation scn number payload) ≡ number_in at w (head_of kind generation scn number)
@@ -163,12 +157,7 @@ text_of-payload size head text len short =
     let text_there : drop 18 (head ++ payload) ≡ text ++ zeros = sym (drop-drop 2 16 (head ++ payload)) ∙ ap (drop 2) behind in
     ap (λ m. take m (drop 18 (head ++ payload))) read ∙ ap (take n) text_there ∙ take_at text zeros n refl
 
--- such a page with a head of its own
-pub text_of-page_of : (size kind generation scn number : ℕ) (text : List ℕ) → length text ≤ 200 → text_of (page_of size kind generation scn number (text_payload text)) ≡ text
-unfolding page_of
-text_of-page_of size kind generation scn number text short =
-    text_of-payload (size - 16) (head_of kind generation scn number) text (length-head_of kind generation scn number) short
-
+-- the text of a page that gets it as payload, under a head of its own
 pub text_of-with_payload : (page text : List ℕ) → 16 ≤ length page → length text ≤ 200 → text_of (with_payload page (text_payload text)) ≡ text
 unfolding with_payload
 text_of-with_payload page text long short = text_of-payload (length page - 16) (take 16 page) text (length-take-le 16 page long) short

@@ -52,17 +52,6 @@ fresh_kind-inventory size k p is at =
     let not_first : p ≡ 0 → ⊥ = λ e. absurd (omega (arith, at, e, some)) in
     cond-false (p == 0) _ _ (ne_eqb p 0 not_first) ∙ cond-true (is_inventory_place size p) _ _ (is_inventory_place-at size k p is at)
 
--- the number of the SCN inventory page that stands at a place
-pub scn_index : (size k p : ℕ) → IsTrue (is_page_size size) → scn_place size k ≡ p → p / entries_in size ≡ k
-scn_index size zero p is at =
-    let least = entries-least size is in
-    let small : p < entries_in size = omega arith in
-    div-eq_of_lt small
-scn_index size (suc k) p is at =
-    let least = entries-least size is in
-    let some : 0 < entries_in size = omega arith in
-    ap (λ n. n / entries_in size) (sym at) ∙ mul-div_cancel (suc k) some
-
 is_scn_place-at : (size k p : ℕ) → IsTrue (is_page_size size) → scn_place size k ≡ p → is_scn_place size p ≡ true
 unfolding is_scn_place
 is_scn_place-at size zero p is at = or_left (p == 2) (nat_lt 0 p && p % entries_in size == 0) (eq-eqb p 2 (sym at))

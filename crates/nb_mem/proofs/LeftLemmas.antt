@@ -31,13 +31,6 @@ pub record IsLeftSoFar (stopped left : List Entry) (slots : List Slot) : Type 0 
   pub durable : (n : List ℕ) → IsDurable (world_of left) n (files_of left n)
   pub silent : IsSilent (world_of []) (world_of left)
 
-pub none_placed : (stopped : List Entry) → IsLeftSoFar stopped [] []
-none_placed stopped = record {
-  files = λ m. inr (refl, tt);
-  durable = λ n. record { none_back = λ c back. absurd back; only = λ c is. is };
-  silent = record { said = refl; reads = refl; guids = refl; times = refl };
-}
-
 module _ (left : List Entry) (n bytes : List ℕ) (durable : (m : List ℕ) → IsDurable (world_of left) m (files_of left m)) where
   here : files_of (placed n (Some bytes) left) n ≡ Some bytes
   here = with_file-same (files_of left) n (Some bytes)

@@ -84,14 +84,6 @@ file_in_grammar version q ask p ps is known head whole begun later =
       sizes = (sizes.0, taken_sizes (image_size q.image) 1 ask.previous_scn ps sizes.1);
     }
 
-none_first : (cs : List Cause) → first_cause (None ∷ cs) ≡ first_cause cs
-unfolding first_cause
-none_first cs = refl
-
-none_at_all : first_cause [] ≡ None
-unfolding first_cause
-none_at_all = refl
-
 when_not : (t : Bool) (r : Refusal) → t ≡ true → when (not t) r ≡ None
 when_not t r e = rw e refl
 

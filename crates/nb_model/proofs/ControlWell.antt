@@ -1,10 +1,8 @@
 -- The control strokes of a backup keep a database well: a well trail begins behind each of them.
 use Rattle.std.proofs.Common.{◌≡◌, ℕ, ◌+◌, ◌<◌, ◌≤◌, List, [], ◌∷◌, ◌++◌, length, refl, sym, subst, arith}
-use Rattle.std.specs.Prelude.{Option, Some, IsTrue}
+use Rattle.std.specs.Prelude.{Option, Some}
 use Rattle.std.proofs.lemmas.List.Elements.{Contains-append_right}
-use Rattle.nb_fields.specs.Places.{is_page_size}
-use Rattle.nb_fields.proofs.PartLemmas.{length-part}
-use Rattle.nb_model.specs.Image.{Image, first_page, image_size, image_state, image_scn, image_guid}
+use Rattle.nb_model.specs.Image.{Image, first_page, image_state, image_scn, image_guid}
 use Rattle.nb_model.specs.Account.{Ask, Kept, Base}
 use Rattle.nb_model.specs.Strokes.{begin, ends, finish, with_control, on_base, records_of}
 use Rattle.nb_model.specs.Owner.{entry_for}
@@ -14,7 +12,7 @@ use Rattle.nb_model.specs.Trail.{settled}
 use Rattle.nb_model.specs.Well.{IsWellBaseIn}
 use Rattle.nb_model.specs.WellTrail.{IsOverFrozen, IsWellTrail}
 use Rattle.nb_model.proofs.EntryLaws.{for_below}
-use Rattle.nb_model.proofs.HeaderLaws.{header-long, header-size, header-scn, header-room}
+use Rattle.nb_model.proofs.HeaderLaws.{header-room}
 use Rattle.nb_model.proofs.NormalLaws.{told_whole}
 use Rattle.nb_model.proofs.PastLaws.{past_more}
 use Rattle.nb_model.proofs.ControlMay.{may_begin, may_end, may_finish}
@@ -31,15 +29,6 @@ module _ (kept : List Kept) (b : Base) (w : IsWellBaseIn kept b) where
 
   header : HasHeader image
   header = record { header = w.well.header; scn = w.well.scn }
-
-  wide : IsTrue (is_page_size (image_size image))
-  wide = header-size (first_page image) w.well.header
-
-  some : 1 ≤ image_scn image
-  some = header-scn (first_page image) w.well.header
-
-  its_guid : length (image_guid image) ≡ 16
-  its_guid = length-part 32 16 (first_page image) (omega (arith, header-long (first_page image) w.well.header))
 
   -- A backup begins: its record is kept.
   module _ (guid : List ℕ) (ask : Option Ask) (normal : image_state image ≡ 0) (sixteen : length guid ≡ 16) (room : image_scn image ≤ 4294967293) where

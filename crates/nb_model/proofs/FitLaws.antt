@@ -1,5 +1,5 @@
 -- Strokes of which each writes a page that fits at its point: what such a page keeps holds after each front of them.
-use Rattle.std.proofs.Common.{◌≡◌, inl, inr, ℕ, zero, suc, ◌≤◌, List, [], ◌∷◌, ◌++◌, length, take, refl, sym, ap, subst, ◌∙◌, arith}
+use Rattle.std.proofs.Common.{◌≡◌, inl, inr, ℕ, ◌≤◌, List, [], ◌∷◌, ◌++◌, length, refl, sym, ap, subst, ◌∙◌, arith}
 use Rattle.std.proofs.lemmas.Bool.Decides.{eqb_tells}
 use Rattle.nb_fields.specs.Page.{stamped}
 use Rattle.nb_model.specs.Image.{Page, Image, page_at, image_size, image_state, image_scn, with_page}
@@ -35,10 +35,6 @@ pub fitting_append : (K : Page → Type 0) (xs ys : List Stroke) (b : Base) → 
 unfolding base_after
 fitting_append K [] ys b h k = k
 fitting_append K (x ∷ xs) ys b h k = (h.0, fitting_append K xs ys (on_base x b) h.1 k)
-
-pub fitting_front : (K : Page → Type 0) (xs ys : List Stroke) (b : Base) → AreFitting K b (xs ++ ys) → AreFitting K b xs
-fitting_front K [] ys b h = tt
-fitting_front K (x ∷ xs) ys b h = (h.0, fitting_front K xs ys (on_base x b) h.1)
 
 -- The image stays whole.
 pub whole_one : (K : Page → Type 0) (s : Stroke) (b : Base) → IsFitting K b.image s → IsWhole b.image → IsWhole (on_base s b).image
@@ -98,13 +94,6 @@ module _ (Q : Image → Type 0) (K : Page → Type 0)
   unfolding on_base
   one_keeps (page p bytes) b fits h also = step b.image p (merged_page p bytes b.image) h.fields h.sound fits.0 fits.1 also
   one_keeps other b fits h also = absurd fits
-
-  pub front_keeps : (ss : List Stroke) (b : Base) → AreFitting K b ss → IsWhole b.image → Q b.image → (k : ℕ) → Q (base_after b (take k ss)).image
-  unfolding base_after
-  front_keeps [] b fits h also zero = also
-  front_keeps [] b fits h also (suc k) = also
-  front_keeps (s ∷ ss) b fits h also zero = also
-  front_keeps (s ∷ ss) b fits h also (suc k) = front_keeps ss (on_base s b) fits.1 (whole_one K s b fits.0 h) (one_keeps s b fits.0 h also) k
 
   -- and after all of them
   pub all_keep : (ss : List Stroke) (b : Base) → AreFitting K b ss → IsWhole b.image → Q b.image → Q (base_after b ss).image

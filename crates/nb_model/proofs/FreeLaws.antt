@@ -1,4 +1,4 @@
--- The files go on to stand for the account where the file of one name becomes that of a well database, or one whose name is free.
+-- The files go on to stand for the account where the file of one name becomes one whose name is free.
 use Rattle.std.proofs.Common.{◌≡◌, ◌≢◌, ◌⊎◌, inl, inr, ℕ, List, [], ◌∷◌, length, take, drop, replicate, refl, sym, ap, subst, ◌∙◌, arith, length-drop, length-take-le}
 use Rattle.std.specs.Prelude.{true, false, ◌&&◌, ◌==◌, Some, None, Result, Ok, Err, IsTrue, is_some, Contains}
 use Rattle.std.proofs.lemmas.Bool.{true≢false, and_parts, or_cases, eqb-true}
@@ -9,25 +9,14 @@ use Rattle.nb_fields.proofs.HeaderLemmas.{is_header-take}
 use Rattle.nb_host.specs.Files.{File, Files}
 use Rattle.nb_host.specs.Names.{is_delta}
 use Rattle.nb_host.specs.declared.refusals.Refusal.{Refusal}
-use Rattle.nb_model.specs.Image.{Image}
-use Rattle.nb_model.specs.Account.{Base, base_of, Kept, Entry, Missing, Plain, IsBase, Account, with_entry}
+use Rattle.nb_model.specs.Account.{Base, Kept, Entry, Missing, Plain, IsBase, Account, with_entry}
 use Rattle.nb_model.specs.Levels.{Contents, begins_level, read_level}
 use Rattle.nb_model.specs.Owner.{delta_name, owner, entry_of_files, entry_in}
 use Rattle.nb_model.specs.Stands.{nil, IsKeptAs, HoldsItsRecord, is_applying, Stands}
-use Rattle.nb_model.specs.Well.{IsWell}
 use Rattle.nb_model.proofs.HeadSound.{all_zeros}
 use Rattle.nb_model.proofs.HeaderLaws.{header-long, header-other}
-use Rattle.nb_model.proofs.MainLaws.{main_of_owner}
 use Rattle.nb_model.proofs.OpeningLaws.{opened_in_use}
-use Rattle.nb_model.proofs.StandsLaws.{names_tell, not_level, header_no_level, StandsUnder, stands_with_both, stands_with_database}
-
--- The file becomes that of a well database, whatever stood under the name before.
-pub stands_with_well : (old new : Files) (account : Account) (name : List ℕ) (image : Image)
-    → Stands old account → is_delta name ≡ false → ((m : List ℕ) → m ≢ name → new m ≡ old m)
-    → owner name (new name) (new (delta_name name)) ≡ Ok (base_of image) → IsWell account.kept image
-    → Stands new (with_entry name (IsBase (base_of image)) account)
-stands_with_well old new account name image stands plain others opens w =
-    stands_with_database old new account name image stands plain others (main_of_owner name image (new name) (new (delta_name name)) opens w.state) opens w.state w.sound w.past
+use Rattle.nb_model.proofs.StandsLaws.{not_level, header_no_level, StandsUnder, stands_with_both}
 
 -- A file whose name may be taken isn't opened.
 free_closed : (name : List ℕ) (file delta : File) (b : Base) → is_free_file file ≡ true → entry_of_files name file delta ≡ IsBase b → ⊥
@@ -129,10 +118,3 @@ stands_free old new account name stands plain others free alone =
 -- Files that are the same stand for the same.
 pub stands_files : (old new : Files) (account : Account) → Stands old account → ((m : List ℕ) → new m ≡ old m) → Stands new account
 stands_files old new account stands same = let all : new ≡ old = λ i. λ m. same m i in subst (λ (files : Files). Stands files account) (sym all) stands
-
--- Files of other names that are the same, where the difference file of this one is told apart.
-pub others_same : (old new : Files) (name : List ℕ) → ((m : List ℕ) → m ≢ name → m ≢ delta_name name → new m ≡ old m) → new (delta_name name) ≡ old (delta_name name) → (m : List ℕ) → m ≢ name → new m ≡ old m
-others_same old new name others delta m other = elim (names_tell m (delta_name name)) [
-  | inl w ↦ ap new w ∙ delta ∙ ap old (sym w)
-  | inr w ↦ others m other w
-]

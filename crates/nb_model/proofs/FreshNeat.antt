@@ -120,9 +120,6 @@ module _ (size raw : ℕ) (is : IsTrue (is_page_size size)) (few : raw ≤ 65535
           by zero less = absurd (omega (arith, less))
           by (suc n) less = ap (walk (suc n) c x) begins ∙ walk_on_is n c x p (there_by c x p low form) ∙ ap (onward c x n p) (eq-eqb (next_in (page_at x p)) 0 next_none)
 
-      found_page : found_pages c x ≡ p ∷ []
-      found_page = found_is c x (p ∷ []) pages_are
-
   none_used : (p : ℕ) → 3 ≤ p → p ≤ 4 → (j : ℕ) (ss : List (List ℕ)) → AllByRecursion IsFree ss → used (spots_on p j ss) ≡ []
   unfolding used spots_on
   none_used p three most j [] all = refl

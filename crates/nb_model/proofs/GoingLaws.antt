@@ -527,12 +527,6 @@ named_turn session now named going = one_cases (λ p. AreNamed p.1) session now 
       | inr w ↦ subst (AllByRecursion IsNamed) (sym (other_todo session now u rest is o place w.1)) (named place)
     ])
 
--- It goes on behind turns in an order.
-pub going_play : (order : List ℕ) (now : Now) → AreNamed now → IsGoing now → IsGoing (play order now).1 × AreNamed (play order now).1
-unfolding play
-going_play [] now named going = (going, named)
-going_play (x ∷ xs) now named going = going_play xs (one_turn x now).1 (named_turn x now named going) (going_turn x now named going)
-
 -- So do the files that are to be made.
 pub making_turn : (session : ℕ) (now : Now) → IsMaking now → IsMaking (one_turn session now).1
 making_turn session now m = record {
@@ -590,9 +584,6 @@ module _ (session : ℕ) (now : Now) (named : AreNamed now) (going : IsGoing now
         made = made_by session u o stay.made;
         free = λ name free. free_then session rest o now going stay.made name free;
       })
-
-  pub runs_stay : Runs (one_turn session now).1 place number
-  runs_stay = record { by = runs.by; running = others_stay.running ∙ runs.running; its = runs.its; state = others_stay.state ∙ runs.state }
 
 -- At the start each session has statements to begin.
 pub begun_at : (now : Now) (sessions : List (List Statement)) → now.todo ≡ begun sessions → (place : ℕ) → get_or now.todo place [] ≡ map Begins (get_or sessions place [])

@@ -1,6 +1,6 @@
 -- The GUIDs of the backups that begin in a part of a run are among those of all of it.
-use Rattle.std.proofs.Common.{◌≡◌, ℕ, List, [], ◌∷◌, ◌++◌, length, take, drop, refl, sym, ap, subst, ◌∙◌, take-append-drop}
-use Rattle.std.specs.Prelude.{true, false, Bool, Contains}
+use Rattle.std.proofs.Common.{◌≡◌, ℕ, List, [], ◌∷◌, ◌++◌, take, drop, refl, sym, ap, subst, ◌∙◌, take-append-drop}
+use Rattle.std.specs.Prelude.{true, false, Bool}
 use Rattle.std.proofs.lemmas.List.{append-nil}
 use Rattle.std.proofs.lemmas.List.Elements.{Contains-append_left, Contains-append_right}
 use Rattle.nb_host.specs.World.{World}
@@ -11,10 +11,6 @@ use Rattle.nb_model.specs.Steps.{Step, makes, settles, after_step, after_steps, 
 use Rattle.nb_model.specs.Strokes.{Stroke, begin, base_after}
 use Rattle.nb_model.specs.Trail.{Trail, settled, after_stroke}
 use Rattle.nb_model.proofs.TrailLaws.{trail_base}
-
--- the GUIDs of these strokes have 16 bytes
-abbrev pub AreSixteen : List Stroke → Type 0
-AreSixteen ss = (guid : List ℕ) → Contains (guids_in ss) guid → length guid ≡ 16
 
 pub guids_append : (xs ys : List Stroke) → guids_in (xs ++ ys) ≡ guids_in xs ++ guids_in ys
 unfolding guids_in

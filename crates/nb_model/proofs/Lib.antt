@@ -39,8 +39,6 @@ pub mod OpeningLaws
 pub mod ReopenLaws
 pub mod PagesFit
 pub mod WellLaws
-pub mod PlayLaws
-pub mod TakenLaws
 pub mod FreeLaws
 pub mod FrontLaws
 pub mod TrailLaws
@@ -108,7 +106,6 @@ pub mod RawRows
 pub mod ControlRows
 pub mod RowLaws
 pub mod FreshNeat
-pub mod TablePaged
 pub mod GoingLaws
 pub mod MakingLaws
 pub mod CoveredLaws

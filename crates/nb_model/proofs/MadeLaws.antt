@@ -18,7 +18,7 @@ use Rattle.nb_model.specs.Image.{Image, Numbered, first_page}
 use Rattle.nb_model.specs.Account.{Ask, Kept, Base, Entry, Plain, IsBase, Account, with_entry}
 use Rattle.nb_model.specs.Causes.{Cause, not_database}
 use Rattle.nb_model.specs.Levels.{Head, Contents, first_fault, head_for, head_in, head_then, joined, taken, level_bytes, file_for, file_of, read_level, read_pages, with_head}
-use Rattle.nb_model.specs.Making.{MadeFile, IsNoneOf, with_files, IsOfKept, its_file, its_pages, IsNoBackup}
+use Rattle.nb_model.specs.Making.{MadeFile, IsNoneOf, IsOfKept, its_file, its_pages, IsNoBackup}
 use Rattle.nb_model.specs.Owner.{delta_name, owner, owner_in, owner_with, entry_in, entry_of_files}
 use Rattle.nb_model.specs.Stands.{IsKeptAs, IsBegun, IsFileOf, IsCopyOf, HoldsItsRecord, is_applying, Stands}
 use Rattle.nb_model.proofs.FreeLaws.{closed_under, free_under, stands_files}
@@ -288,26 +288,3 @@ stands_those new (f ∷ fs) old account stands each others =
         none_then : m ≢ f.0 → IsNoneOf (f ∷ fs) m
         none_then off bytes (zero, low, is) = off (sym (ap (λ (g : MadeFile). g.0) is))
         none_then off bytes (suc k, low, is) = none bytes (k, omega (arith, low), is)
-
--- Where all of them are whole, it is the account with them.
-those_whole : (new : Files) (made : List MadeFile) (account : Account) → ((f : MadeFile) → Contains made f → entry_in new f.0 ≡ Plain f.1 None) → with_those new made account ≡ with_files made account
-unfolding with_files
-those_whole new [] account each = refl
-those_whole new (f ∷ fs) account each =
-    ap (λ (e : Entry). with_those new fs (with_entry f.0 e account)) (each f (0, omega arith, refl))
-    ∙ those_whole new fs (with_entry f.0 (Plain f.1 None) account) (λ g there. each g (suc there.0, omega (arith, there.1), there.2))
-
-pub stands_with_files : (old new : Files) (made : List MadeFile) (account : Account) → Stands old account
-    → ((f : MadeFile) → Contains made f → (is_delta f.0 ≡ false) × (old (delta_name f.0) ≡ None) × (new f.0 ≡ Some f.1) × IsOfKept account.kept f.1)
-    → ((m : List ℕ) → IsNoneOf made m → new m ≡ old m) → Stands new (with_files made account)
-stands_with_files old new made account stands each others =
-    subst (Stands new) (those_whole new made account entries) (stands_those new made old account stands making others)
-  where
-    making : (f : MadeFile) → Contains made f → IsMadeFile old new account.kept f
-    making f there = let one = each f there in record { plain = one.0; alone = one.1; is = whole f.1 one.2 (its_whole old account stands f.1 one.3) }
-
-    entries : (f : MadeFile) → Contains made f → entry_in new f.0 ≡ Plain f.1 None
-    entries f there =
-        let one = each f there in
-        let alone : new (delta_name f.0) ≡ None = others (delta_name f.0) (no_delta old new account.kept made making f.0) ∙ one.1 in
-        closed_entry f.0 f.1 (new f.0) (new (delta_name f.0)) one.2 alone ((its_whole old account stands f.1 one.3).closed f.0)

@@ -7,7 +7,7 @@ use Rattle.nb_model.specs.Account.{Kept, Base}
 use Rattle.nb_model.specs.Going.{AreBeginnings, AreNamed, Runs, IsGoing}
 use Rattle.nb_model.specs.Image.{image_state}
 use Rattle.nb_model.specs.Levels.{joined}
-use Rattle.nb_model.specs.Making.{MadeFile, kept_of, making, under_way, IsOfKept, its_file, its_pages}
+use Rattle.nb_model.specs.Making.{MadeFile, kept_of, making, IsOfKept, its_file, its_pages}
 use Rattle.nb_model.specs.Outcomes.{Turn, Begins, Copies, ClosesBackup, ClosesCopy, Ends, Merges, Finishes}
 use Rattle.nb_model.specs.Run.{Now, Event, Played, base_now, one_turn, play, begun, files_made, strokes_of}
 use Rattle.nb_model.specs.Steps.{Step, after_steps, steps_of, strokes_in}
@@ -17,7 +17,7 @@ use Rattle.nb_model.specs.Well.{IsOfRecord}
 use Rattle.nb_model.specs.WellTrail.{IsWellTrail}
 use Rattle.nb_model.proofs.GuidLaws.{strokes_in_steps}
 use Rattle.nb_model.proofs.GoingLaws.{begun_at, going_turn, named_turn}
-use Rattle.nb_model.proofs.MakingLaws.{to_make, under_place, made_append, made_among}
+use Rattle.nb_model.proofs.MakingLaws.{to_make, made_append, made_among}
 use Rattle.nb_model.proofs.SteadyLaws.{WellAlong, along_front, kept_along, kept_append, kept_is, along_last}
 use Rattle.nb_model.proofs.SteadyTurns.{beginnings_recorded, AreRecorded, AllRecorded, StaysWell, one_well, play_along}
 use Rattle.nb_model.proofs.StepsLaws.{steps_append}
@@ -68,10 +68,7 @@ module _ (kept : List Kept) (t : Trail) (now : Now) (base : t.base ≡ base_now 
       of_turns kept t (get_or now.todo place []) (recorded place) (its_pages record_is.backup record_is.kept_as.there (ap joined record_is.same)) f
       (subst (λ (b : Base). Contains (making b.frozen (get_or now.todo place [])) f) (sym base) there)
 
-  -- So is all that is under way, and what the next turn makes.
-  pub under_of_kept : (f : MadeFile) → Contains (under_way now) f → IsOfKept kept f.1
-  under_of_kept f there = let at = under_place (base_now now).frozen now.todo f there in place_of_kept at.0 f at.1
-
+  -- so is what the next turn makes
   pub made_of_kept : (session : ℕ) (f : MadeFile) → Contains (files_made (one_turn session now).0) f → IsOfKept kept f.1
   made_of_kept session f there = place_of_kept (session - 1) f (made_among session now going f there)
 

@@ -1,9 +1,9 @@
 -- A main file in the normal state: the database of it, and where its pages stand.
-use Rattle.std.proofs.Common.{◌≡◌, ◌≢◌, ◌⊎◌, inl, inr, ℕ, zero, suc, ◌+◌, ◌*◌, ◌<◌, ◌≤◌, List, [], ◌∷◌, ◌++◌, length, take, drop, refl, sym, ap, subst, ◌∙◌, arith, length-append, length-take-le, take-take, mul-le-mul_right, mul-le-mul_left, suc-mul}
+use Rattle.std.proofs.Common.{◌≡◌, ◌≢◌, ◌⊎◌, inl, inr, ℕ, zero, suc, ◌+◌, ◌*◌, ◌<◌, ◌≤◌, List, [], ◌∷◌, ◌++◌, length, take, drop, refl, sym, ap, subst, ◌∙◌, arith, length-append, length-take-le, take-take, mul-le-mul_left}
 use Rattle.std.specs.Prelude.{Bool, true, false, IsTrue, ◌==◌, Option, Some, None, Result, Ok, Err, max}
 use Rattle.std.proofs.lemmas.Bool.{eqb-false}
 use Rattle.std.proofs.lemmas.Bool.Decides.{leb_tells}
-use Rattle.std.proofs.lemmas.List.{take-append-le, take_at, get_or_append_left}
+use Rattle.std.proofs.lemmas.List.{take-append-le, take_at}
 use Rattle.nb_fields.specs.Bytes.{is_zeros}
 use Rattle.nb_fields.specs.Header.{is_header, state_of, size_of}
 use Rattle.nb_fields.specs.Places.{is_page_size}
@@ -123,13 +123,6 @@ main_state image file h =
     let front : take 64 h.bytes ≡ take 64 (first_page image) = laid-front image h.bytes (laid_main image file h) in
     sym (same-number h.bytes (first_page image) front 22 2 (omega arith)) ∙ h.normal
 
--- a file holds one image
-pub main_same : (i j : Image) (file : File) → HoldsMain i file → HoldsMain j file → i ≡ j
-main_same i j file h k = sym h.is ∙ ap image_in (one_file (sym h.there ∙ k.there)) ∙ k.is
-  where
-    one_file : {a b : List ℕ} → Some a ≡ Some b → a ≡ b
-    one_file e = cc
-
 -- What a main file's image and its bytes have in common. The file has at least the pages of the image.
 pub record MainFacts (image : Image) (bytes : List ℕ) : Type 0 where
   pub size : IsTrue (is_page_size (image_size image))
@@ -156,20 +149,6 @@ main_facts image file h =
       header = l.header;
       front = front;
     }
-
--- page p stands at its place in the file
-pub page_read : (image : Image) (file : File) (h : HoldsMain image file) (p : ℕ) → p < length image
-    → (p * image_size image + image_size image ≤ length h.bytes) × (take (image_size image) (drop (p * image_size image) h.bytes) ≡ page_at image p)
-page_read image file h p low =
-    let l : IsLaid image h.bytes = laid_main image file h in
-    let size : ℕ = image_size image in
-    let pages : List Page = image ++ l.rest in
-    let long : length h.bytes ≡ length pages * size = ap length l.is ∙ length-joined size pages l.sizes in
-    let below : p < length pages = omega (arith, length-append image l.rest, low) in
-    let fits : (p + 1) * size ≤ length pages * size = mul-le-mul_right size (omega (arith, below)) in (
-      omega (arith, fits, long, suc-mul p size),
-      ap (λ (x : List ℕ). take size (drop (p * size) x)) l.is ∙ page-joined size p pages l.sizes below ∙ get_or_append_left image l.rest [] p low,
-    )
 
 -- the database by the state
 pub owner-formed : (name bytes : List ℕ) (delta : File) → not_database bytes ≡ None → owner name (Some bytes) delta ≡ owner_in (state_of bytes) name bytes delta
@@ -324,9 +303,6 @@ main_of_base name base m d e normal = elim (owner_cases name base m d e) [
   | inl holds ↦ holds
   | inr diverted ↦ absurd (elim diverted.other [ inl one ↦ omega (arith, one, diverted.state, normal) | inr two ↦ omega (arith, two, diverted.state, normal) ])
 ]
-
-pub main_of_owner : (name : List ℕ) (image : Image) (m d : File) → owner name m d ≡ Ok (base_of image) → image_state image ≡ 0 → HoldsMain image m
-main_of_owner name image m d e normal = main_of_base name (base_of image) m d e normal
 
 -- so its image tells it whole
 pub base_told : (name : List ℕ) (base : Base) (m d : File) → owner name m d ≡ Ok base → image_state base.image ≡ 0 → base ≡ base_of base.image

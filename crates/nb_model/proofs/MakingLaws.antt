@@ -1,6 +1,6 @@
 -- The files that turns make: each was to be made before, under a name that was free, and each but once.
-use Rattle.std.proofs.Common.{◌≡◌, ◌≢◌, inl, inr, ⊎_elim, ◌⊎◌, ℕ, zero, suc, ◌-◌, List, [], ◌∷◌, ◌++◌, map, take, replicate, get_or, refl, sym, ap, subst, ◌∙◌, arith, append_assoc}
-use Rattle.std.specs.Prelude.{Bool, Option, Some, None, true, false, not, ◌==◌, Contains}
+use Rattle.std.proofs.Common.{◌≡◌, ◌≢◌, inl, inr, ⊎_elim, ◌⊎◌, ℕ, zero, suc, ◌-◌, List, [], ◌∷◌, ◌++◌, take, replicate, get_or, refl, sym, ap, subst, ◌∙◌, arith, append_assoc}
+use Rattle.std.specs.Prelude.{Bool, Option, Some, None, true, false, ◌==◌, Contains}
 use Rattle.std.specs.List.{AllByRecursion}
 use Rattle.std.proofs.lemmas.Bool.{true≢false, and_parts, false_from_ne_true}
 use Rattle.std.proofs.lemmas.Bool.Decides.{eqb_tells}
@@ -8,22 +8,19 @@ use Rattle.std.proofs.lemmas.List.{append-nil}
 use Rattle.std.proofs.lemmas.List.Elements.{Contains-append_left, Contains-append_right, Contains-append_cases}
 use Rattle.nb_fields.specs.Free.{is_free_file}
 use Rattle.nb_fields.specs.Header.{is_header}
-use Rattle.nb_host.specs.declared.refusals.Refusal.{Refusal}
-use Rattle.nb_host.specs.declared.refusals.Refusal.TheVariants.{WrongState, BackupRunning}
 use Rattle.nb_model.specs.declared.reply.Reply.{Reply}
 use Rattle.nb_model.specs.declared.statement.Statement.{Statement}
-use Rattle.nb_model.specs.declared.statement.Statement.TheVariants.{Backup, CopyTo}
-use Rattle.nb_model.specs.Account.{Ask, Base, Entry, Plain, IsBase}
-use Rattle.nb_model.specs.Backups.{ask_of, starts, backup_turn, copy_turn, close_backup, close_copy}
+use Rattle.nb_model.specs.Account.{Base, Plain, IsBase}
+use Rattle.nb_model.specs.Backups.{close_backup, close_copy}
 use Rattle.nb_model.specs.Built.{is_built}
-use Rattle.nb_model.specs.Causes.{Cause, first_cause, when, read_only, not_state, is_free_entry, runs_any}
+use Rattle.nb_model.specs.Causes.{is_free_entry}
 use Rattle.nb_model.specs.Going.{AreBeginnings, AreMerging, AreNamed, Runs, IsAt, waits, backs_up, copies, ends as ending, merges, IsGoing, IsMaking}
 use Rattle.nb_model.specs.Image.{Image, Numbered, first_page, image_state}
 use Rattle.nb_model.specs.Levels.{Head, head_then, level_bytes, head_for, taken, file_for, file_of, joined}
 use Rattle.nb_model.specs.Making.{MadeFile, kept_of, making, making_by, making_all, under_way, AreAmong, NamesOnce}
-use Rattle.nb_model.specs.Outcomes.{Turn, Begins, Copies, ClosesBackup, ClosesCopy, Ends, Merges, Finishes, Backing, Seen, Outcome, unless}
+use Rattle.nb_model.specs.Outcomes.{Turn, Begins, Copies, ClosesBackup, ClosesCopy, Ends, Merges, Finishes, Backing, Seen, Outcome}
 use Rattle.nb_model.specs.Pages.{ends_by}
-use Rattle.nb_model.specs.Run.{Now, Event, Played, base_now, with_made, account_after, outcome, stands_then, one_turn, play, event_of, files_made, AreFinished, begun}
+use Rattle.nb_model.specs.Run.{Now, Event, Played, base_now, with_made, account_after, outcome, stands_then, one_turn, play, event_of, files_made, AreFinished}
 use Rattle.nb_model.specs.Strokes.{base_in, base_after}
 use Rattle.nb_model.specs.Turns.{first_turn, turn}
 use Rattle.nb_model.proofs.FinishLaws.{IsPlainTurn}
@@ -32,12 +29,11 @@ use Rattle.nb_model.proofs.GoingLaws.{IsUndisturbed, one_runs, one_cases, own_in
 use Rattle.nb_model.proofs.HeaderLaws.{first_byte, same-header, same-number}
 use Rattle.nb_model.proofs.OpenedLaws.{joined_front}
 use Rattle.nb_model.proofs.OpeningLaws.{in_use}
-use Rattle.nb_model.proofs.ReadLaws.{eq_no}
 use Rattle.nb_model.proofs.RunLaws.{entry_same}
 use Rattle.nb_model.proofs.SoundLaws.{header_kind}
 use Rattle.nb_model.proofs.SoundTurns.{seen_now}
 use Rattle.nb_model.proofs.StandsLaws.{names_tell, entry_other}
-use Rattle.nb_model.proofs.TurnCases.{started, copied, built_cases, begin_either, end_either, backup_either, since_either, copy_either, pages_once}
+use Rattle.nb_model.proofs.TurnCases.{built_cases, begin_either, end_either, backup_either, since_either, copy_either, pages_once}
 
 -- one element
 one_held : (f g : MadeFile) → Contains (f ∷ []) g → f ≡ g
@@ -50,11 +46,7 @@ none_held f h = omega (arith, h.1)
 held_as : (xs ys : List MadeFile) (f : MadeFile) → xs ≡ ys → Contains xs f → Contains ys f
 held_as xs ys f e h = subst (λ (l : List MadeFile). Contains l f) e h
 
--- What turns are still to make.
-making_none : (frozen : Image) → making frozen [] ≡ []
-unfolding making
-making_none frozen = refl
-
+-- what turns are still to make
 making_first : (frozen : Image) (t : Turn) (ts : List Turn) → making frozen (t ∷ ts) ≡ making frozen (t ∷ []) ++ making frozen ts
 unfolding making
 making_first frozen (Begins statement) ts = refl
@@ -185,19 +177,6 @@ finished_none now done = by now.todo done
     by [] h = refl
     by ([] ∷ todo) h = by todo h
     by ((t ∷ ts) ∷ todo) h = absurd h
-
--- nor is anything at the start
-pub begun_none : (now : Now) (sessions : List (List Statement)) → now.todo ≡ begun sessions → under_way now ≡ []
-unfolding making_all making
-begun_none now sessions is = ap (making_all (base_now now).frozen) is ∙ by sessions
-  where
-    one : (statements : List Statement) → making (base_now now).frozen (map Begins statements) ≡ []
-    one [] = refl
-    one (x ∷ xs) = one xs
-
-    by : (all : List (List Statement)) → making_all (base_now now).frozen (begun all) ≡ []
-    by [] = refl
-    by (ss ∷ all) = ap (λ (fs : List MadeFile). fs ++ making_all (base_now now).frozen (begun all)) (one ss) ∙ by all
 
 -- The turn of a session makes what its next turn is to make.
 pub made_append : (xs ys : List Event) → files_made (xs ++ ys) ≡ files_made xs ++ files_made ys
@@ -530,40 +509,3 @@ pub made_once : (order : List ℕ) (now : Now) → IsMaking now → NamesOnce (f
 made_once order now m n a b x y =
     let p : Played = play order now in
     names_once order now m n a b (Contains-append_left (files_made p.0) (under_way p.1) (n, a) x) (Contains-append_left (files_made p.0) (under_way p.1) (n, b) y)
-
--- Where the state refuses a statement, or a copy that runs, what stands under its name doesn't matter.
-cause_first : (a : Cause) (r : Refusal) (cs ds : List Cause) → a ≡ Some r → first_cause (a ∷ cs) ≡ first_cause (a ∷ ds)
-unfolding first_cause
-cause_first a r cs ds is = rw (is, first_cause) refl
-
-cause_second : (a b : Cause) (r : Refusal) (cs ds : List Cause) → b ≡ Some r → first_cause (a ∷ b ∷ cs) ≡ first_cause (a ∷ b ∷ ds)
-unfolding first_cause
-cause_second None b r cs ds is = cause_first b r cs ds is
-cause_second (Some q) b r cs ds is = refl
-
-in_other_state : (state : ℕ) (image : Image) → image_state image ≢ state → not_state state image ≡ Some (WrongState (image_state image))
-in_other_state state image other = ap (λ (t : Bool). when (not t) (WrongState (image_state image))) (eq_no (image_state image) state other)
-
-module _ (s : Seen) (entry : List ℕ → Entry) (session : ℕ) where
-  abbrev else_seen : Seen
-  else_seen = record s { entry = entry }
-
-  starts_without : (name : List ℕ) (ask : Ask) (missing : Cause) → image_state s.base.image ≢ 0 → starts s session name ask missing ≡ starts else_seen session name ask missing
-  unfolding starts unless
-  starts_without name ask missing other =
-      ap (λ (c : Cause). unless s c (started s session name ask)) (cause_second (read_only s.base.image) (not_state 0 s.base.image) (WrongState (image_state s.base.image)) _ _ (in_other_state 0 s.base.image other))
-
-  pub backup_without : (level : ℕ) (name : List ℕ) → image_state s.base.image ≢ 0 → first_turn s session (Backup level name) ≡ first_turn else_seen session (Backup level name)
-  unfolding first_turn backup_turn
-  backup_without zero name other = starts_without name (ask_of 0 None) None other
-  backup_without (suc below) name other = starts_without name _ _ other
-
-  pub copy_without : (name : List ℕ) → image_state s.base.image ≢ 1 → first_turn s session (CopyTo name) ≡ first_turn else_seen session (CopyTo name)
-  unfolding first_turn copy_turn unless
-  copy_without name other =
-      ap (λ (c : Cause). unless s c (copied s session name)) (cause_first (not_state 1 s.base.image) (WrongState (image_state s.base.image)) _ _ (in_other_state 1 s.base.image other))
-
-  pub copy_without_running : (name : List ℕ) (by : ℕ) → s.running ≡ Some by → first_turn s session (CopyTo name) ≡ first_turn else_seen session (CopyTo name)
-  unfolding first_turn copy_turn unless
-  copy_without_running name by running =
-      ap (λ (c : Cause). unless s c (copied s session name)) (cause_second (not_state 1 s.base.image) (runs_any s.running) (BackupRunning by) _ _ (ap runs_any running))

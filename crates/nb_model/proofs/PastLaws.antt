@@ -11,7 +11,7 @@ use Rattle.nb_model.specs.Account.{Kept}
 use Rattle.nb_model.specs.Sound.{IsSoundImage}
 use Rattle.nb_model.specs.Chains.{Slot, is_used, slots_in, guid_in}
 use Rattle.nb_model.specs.Follows.{Follows}
-use Rattle.nb_model.specs.Stands.{IsKeptAs, is_history_page, GoesOn, IsRemembered, HasRows, NamesPast, NamesItsPast}
+use Rattle.nb_model.specs.Stands.{IsKeptAs, is_history_page, GoesOn, IsRemembered, HasRows, NamesPast}
 use Rattle.nb_model.proofs.StrokeLaws.{with_page_same}
 use Rattle.nb_model.proofs.FollowsLaws.{follows_set, follows_add}
 use Rattle.nb_model.proofs.SoundLaws.{written_other, with_page_length, HasFields, FitsAt, size_stays, scn_stays, guid_stays}
@@ -90,10 +90,3 @@ module _ (kept more : List Kept) where
 -- a page without rows has none that fail
 pub no_rows_pass : (kept : List Kept) (R : Kept → Type 0) (bytes : Page) → is_history_page bytes ≡ false → HasRows kept R bytes
 no_rows_pass kept R bytes none history = absurd (true≢false (sym history ∙ none))
-
--- The image names the same backups where a page without rows is written.
-pub page_past : (kept : List Kept) (image : Image) (p : ℕ) (bytes : Page) → HasFields image → IsSoundImage image → FitsAt image p bytes → is_history_page bytes ≡ false → NamesItsPast kept image
-    → NamesItsPast kept (with_page p bytes image)
-page_past kept image p bytes fields is fits none past =
-    past_written kept (λ r. GoesOn r image) (λ r. GoesOn r (with_page p bytes image)) (goes_on_still image p bytes fields is fits) image p bytes fields is fits
-    (no_rows_pass kept (λ r. GoesOn r (with_page p bytes image)) bytes none) past

@@ -1,20 +1,18 @@
 -- A page write to a main file in the normal state: what the file holds then, and what a stop leaves of it.
-use Rattle.std.proofs.Common.{◌≡◌, ◌⊎◌, inl, inr, ℕ, suc, ◌+◌, ◌-◌, ◌*◌, ◌<◌, ◌≤◌, List, [], ◌∷◌, ◌++◌, length, take, drop, replicate, refl, sym, ap, subst, ◌∙◌, arith, length-append, append_assoc, suc-mul, add-mul, mul-le-mul_right, le_of_mul-le-mul_right}
-use Rattle.std.specs.Prelude.{true, false, IsTrue, Some, nat_le}
+use Rattle.std.proofs.Common.{◌≡◌, ◌⊎◌, inl, inr, ℕ, suc, ◌+◌, ◌-◌, ◌*◌, ◌<◌, ◌≤◌, List, [], ◌∷◌, ◌++◌, length, take, drop, replicate, refl, sym, ap, subst, ◌∙◌, arith, length-append, append_assoc, suc-mul, mul-le-mul_right}
+use Rattle.std.specs.Prelude.{true, false, IsTrue, nat_le}
 use Rattle.std.proofs.lemmas.Bool.Decides.{leb_tells}
 use Rattle.std.proofs.lemmas.List.{take-append-le, drop-append-le, take_all, drop_all, drop_at, length-take-le, length-drop, length-replicate, set_split, drop-drop}
 use Rattle.nb_fields.specs.Bytes.{is_zeros}
 use Rattle.nb_fields.specs.Places.{is_page_size}
-use Rattle.nb_host.specs.Files.{File, bytes_of, padded, put_at, with_page as with_page_at}
-use Rattle.nb_host.specs.Crash.{PageLeft}
+use Rattle.nb_host.specs.Files.{padded, put_at}
 use Rattle.nb_model.specs.Image.{Page, Image, page_at, first_page, image_size, with_page}
 use Rattle.nb_model.specs.Levels.{joined}
 use Rattle.nb_model.specs.Sound.{IsOfSize}
-use Rattle.nb_model.specs.Main.{HoldsMain}
 use Rattle.nb_model.proofs.HeaderLaws.{same-header, same-number}
 use Rattle.nb_model.proofs.ImageLaws.{IsTrimmed, joined-append, length-joined, take-joined, drop-joined, joined-zeros, zeros-are, trimmed-before, trimmed-drop, all-append, all-take, all-drop, all-replicate}
 use Rattle.nb_model.proofs.StrokeLaws.{with_page_front}
-use Rattle.nb_model.proofs.MainLaws.{IsLaid, laid_main, main_laid, main_state, laid-wide}
+use Rattle.nb_model.proofs.MainLaws.{IsLaid}
 
 -- the image with page p: what stands before it, the page, and what stands behind it
 with_page-split : (p : ℕ) (page : Page) (image : Image) → p ≤ length image → with_page p page image ≡ take p image ++ page ∷ drop (suc p) image
@@ -119,18 +117,6 @@ laid_put p page image bytes may laid =
       most = omega (arith, count, ap length pages_are, laid.most, may.below);
     }
 
--- the file with a page at its place holds the image with that page
-pub main_put : (p : ℕ) (page : Page) (image : Image) (m : File) → MayPut p page image → HoldsMain image m → HoldsMain (with_page p page image) (with_page_at m (p * image_size image) page)
-main_put p page image m may h =
-    let front : take 64 (first_page (with_page p page image)) ≡ take 64 (first_page image) = put-front p page image may in
-    subst (λ (x : File). HoldsMain (with_page p page image) (with_page_at x (p * image_size image) page)) (sym h.there)
-    (main_laid (with_page p page image) (put_at h.bytes (p * image_size image) page) (laid_put p page image h.bytes may (laid_main image m h))
-    (same-number _ (first_page image) front 22 2 (omega arith) ∙ main_state image m h))
-
--- the file with zeros behind
-abbrev pub with_zeros : File → ℕ → File
-with_zeros file n = Some (bytes_of file ++ replicate n 0)
-
 pub laid_grown : (k : ℕ) (image : Image) (bytes : List ℕ) (laid : IsLaid image bytes) → length (image ++ laid.rest) + k ≤ 1048576 → IsLaid image (bytes ++ replicate (k * image_size image) 0)
 laid_grown k image bytes laid most =
     let size : ℕ = image_size image in
@@ -148,28 +134,3 @@ laid_grown k image bytes laid most =
       least = omega (arith, count, ap length pages_are, laid.least);
       most = omega (arith, count, ap length pages_are, most);
     }
-
--- a file that grew by pages of zeros holds the same image
-pub main_grown : (k : ℕ) (image : Image) (m : File) → HoldsMain image m → length (bytes_of m) + k * image_size image ≤ 1048576 * image_size image → HoldsMain image (with_zeros m (k * image_size image))
-main_grown k image m h fits =
-    let laid : IsLaid image h.bytes = laid_main image m h in
-    let size : ℕ = image_size image in
-    let wide : 1024 ≤ size = laid-wide image h.bytes laid in
-    let pages : List Page = image ++ laid.rest in
-    let long : length h.bytes ≡ length pages * size = ap length laid.is ∙ length-joined size pages laid.sizes in
-    let all : (length pages + k) * size ≤ 1048576 * size = omega (arith, fits, long, ap (λ (x : File). length (bytes_of x)) h.there, add-mul (length pages) k size) in
-    let most : length pages + k ≤ 1048576 = le_of_mul-le-mul_right {k = size} all (omega arith) in
-    subst (λ (x : File). HoldsMain image (with_zeros x (k * size))) (sym h.there) (main_laid image (h.bytes ++ replicate (k * size) 0) (laid_grown k image h.bytes laid most) (main_state image m h))
-
--- what a stop leaves of a page write: the image as it was, or with the page
-pub main_left : (p : ℕ) (page : Page) (image : Image) (b c : File) → MayPut p page image → HoldsMain image b → PageLeft (p * length page) page b c → HoldsMain image c ⊎ HoldsMain (with_page p page image) c
-main_left p page image b c may h (inl same) = inl (subst (λ (x : File). HoldsMain image x) (sym same) h)
-main_left p page image b c may h (inr (inl put)) =
-    let place : p * image_size image ≡ p * length page = ap (λ x. p * x) (sym may.long) in
-    inr (subst (λ (x : File). HoldsMain (with_page p page image) x) (ap (λ x. with_page_at b x page) place ∙ sym put) (main_put p page image b may h))
-main_left p page image b c may h (inr (inr (k, fits, grown))) =
-    let size : ℕ = image_size image in
-    let same : k * length page ≡ k * size = ap (λ x. k * x) may.long in
-    let place : p * length page ≡ p * size = ap (λ x. p * x) may.long in
-    let all : (p + 1) * size ≤ 1048576 * size = mul-le-mul_right size (omega (arith, may.below)) in
-    inl (subst (λ (x : File). HoldsMain image x) (ap (λ x. with_zeros b x) (sym same) ∙ sym grown) (main_grown k image b h (omega (arith, fits, same, place, all, suc-mul p size, may.long))))

@@ -5,7 +5,6 @@ use Rattle.std.specs.List.{AllByRecursion}
 use Rattle.std.proofs.Math.Nat.{mul-mod_left, mod-eq_of_lt, div-eq_of_lt}
 use Rattle.std.proofs.lemmas.Bool.{true≢false, eq-eqb, eqb-true, lt-ltb, ltb-true, or_right, or_cases, and_left, and_from, and_parts}
 use Rattle.std.proofs.lemmas.Bool.Decides.{eqb_tells, leb_tells}
-use Rattle.std.proofs.lemmas.List.{take-take}
 use Rattle.nb_fields.specs.Bytes.{part, number_in, is_zeros}
 use Rattle.nb_fields.specs.Header.{is_marked, is_header}
 use Rattle.nb_fields.specs.Places.{is_page_size, entries_in, bits_in, inventory_place, scn_place, is_inventory_place, is_scn_place}
@@ -132,10 +131,6 @@ unfolding is_header is_marked
 header_kind first is =
     let marked = (and_parts (is_marked first) _ (and_parts (nat_le 64 (length first)) _ is).1).0 in
     eqb-true (kind_of first) 1 (and_parts _ _ (and_parts _ _ (and_parts _ _ marked).0).0).0
-
--- page 0 of a file with a header has it
-pub header_front : (size : ℕ) (bytes : List ℕ) → 64 ≤ size → is_header bytes ≡ true → is_header (take size bytes) ≡ true
-header_front size bytes long is = sym (is_header-take (take size bytes)) ∙ ap is_header (take-take 64 size bytes long) ∙ is_header-take bytes ∙ is
 
 -- the header names a page size, and its SCN has four bytes
 pub record HasFields (image : Image) : Type 0 where

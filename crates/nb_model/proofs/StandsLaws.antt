@@ -1,9 +1,9 @@
--- The files go on to stand for the account where the file of one name changes, as where it becomes a database in the normal state.
-use Rattle.std.proofs.Common.{◌≡◌, ◌≢◌, ◌⊎◌, inl, inr, ℕ, ◌-◌, ◌≤◌, List, [], ◌∷◌, ◌++◌, length, take, drop, refl, sym, ap, subst, ◌∙◌, arith, length-append}
+-- The files go on to stand for the account where the file of one name changes.
+use Rattle.std.proofs.Common.{◌≡◌, ◌≢◌, ◌⊎◌, inl, inr, ℕ, ◌-◌, List, [], ◌∷◌, ◌++◌, length, take, drop, refl, sym, ap, subst, ◌∙◌, arith, length-append}
 use Rattle.std.specs.Prelude.{Bool, true, false, ◌==◌, Option, Some, None, Result, Ok, Err, IsTrue, is_some, Contains, nat_eq}
 use Rattle.std.specs.Cmp.Lexicographic.{told_text, pointwise}
 use Rattle.std.proofs.lemmas.Bool.{true≢false, and_parts, eqb-true}
-use Rattle.std.proofs.lemmas.List.{take_at, drop_at, append-nil}
+use Rattle.std.proofs.lemmas.List.{take_at, drop_at}
 use Rattle.nb_fields.specs.Bytes.{number_of, number_in}
 use Rattle.nb_fields.specs.Header.{is_header, state_of, pending_of}
 use Rattle.nb_host.specs.Files.{File, Files}
@@ -11,12 +11,10 @@ use Rattle.nb_host.specs.Names.{same_name, is_delta, delta_suffix}
 use Rattle.nb_host.specs.declared.refusals.Refusal.{Refusal}
 use Rattle.nb_host.specs.declared.refusals.Refusal.TheVariants.{NotDatabase}
 use Rattle.nb_model.specs.Image.{Image, image_state, image_guid}
-use Rattle.nb_model.specs.Account.{Ask, Base, base_of, Kept, Entry, IsBase, Account, with_entry}
-use Rattle.nb_model.specs.Strokes.{Stroke, base_after, records_after, base_in, after}
+use Rattle.nb_model.specs.Account.{Ask, Base, Kept, Entry, IsBase, Account, with_entry}
 use Rattle.nb_model.specs.Causes.{not_database}
 use Rattle.nb_model.specs.Levels.{Contents, first_fault, begins_level, read_level}
 use Rattle.nb_model.specs.Owner.{delta_name, owner, entry_of_files, entry_in}
-use Rattle.nb_model.specs.Main.{HoldsMain}
 use Rattle.nb_model.specs.Sound.{IsSoundImage}
 use Rattle.nb_model.specs.Stands.{nil, IsKeptAs, GoesOnFrom, Belongs, to_base, to_record, IsRaised, IsSameImage, IsFrozenMain, HasSoundImages, HoldsItsRecord, KeepsRecords, NamesItsPast, FollowsHistory, is_applying, HasNoStrayDelta, IsStopped, HasApplyingStandbys, Stands}
 use Rattle.nb_model.proofs.SoundLaws.{header_kind}
@@ -55,9 +53,6 @@ entry_other name n entry account other = by_test (same_name n name) refl
     by_test : (t : Bool) → t ≡ same_name n name → elim (same_name n name) as (λ z. Entry) [ true ↦ entry | false ↦ account.entry n ] ≡ account.entry n
     by_test true is = absurd (other (told_text n name true is))
     by_test false is = ap (λ (t : Bool). elim t as (λ z. Entry) [ true ↦ entry | false ↦ account.entry n ]) (sym is)
-
-base_same : (a b : Base) → IsBase a ≡ IsBase b → a ≡ b
-base_same a b e = cc
 
 -- a file of a database's form has a header
 pub formed_header : (bytes : List ℕ) → not_database bytes ≡ None → is_header bytes ≡ true
@@ -212,59 +207,6 @@ module _ (old new : Files) (account : Account) (name : List ℕ) (entry : Entry)
     standbys = standbys;
   }
 
--- So they do where the main file alone does.
-pub stands_with_entry : (old new : Files) (account : Account) (name : List ℕ) (entry : Entry) → Stands old account → is_delta name ≡ false → ((m : List ℕ) → m ≢ name → new m ≡ old m) → StandsUnder new account.kept name entry
-    → Stands new (with_entry name entry account)
-stands_with_entry old new account name entry stands plain others under =
-    stands_with_both old new account name entry stands plain (λ m other beside. others m other) under
-
--- A database in the normal state, as its two files give it.
-module _ (files : Files) (kept : List Kept) (name : List ℕ) (image : Image) (holds : HoldsMain image (files name)) (opens : owner name (files name) (files (delta_name name)) ≡ Ok (base_of image))
-    (normal : image_state image ≡ 0) (sound : IsSoundImage image) (past : NamesItsPast kept image) where
-  is_image : (b : Base) → IsBase (base_of image) ≡ IsBase b → image ≡ b.image
-  is_image b e = ap (λ (c : Base). c.image) (base_same (base_of image) b e)
-
-  not_stalled : (b : Base) → IsBase (base_of image) ≡ IsBase b → image_state b.image ≡ 1 → ⊥
-  not_stalled b e stalled = absurd (let is : image_state b.image ≡ 0 = ap image_state (sym (is_image b e)) ∙ normal in omega arith)
-
-  -- what the file is
-  its_bytes : (bytes : List ℕ) → files name ≡ Some bytes → holds.bytes ≡ bytes
-  its_bytes bytes there = some_same (sym holds.there ∙ there)
-    where
-      some_same : Some holds.bytes ≡ Some bytes → holds.bytes ≡ bytes
-      some_same h = cc
-
-  -- a database in the normal state is no file of a backup
-  holds_none : HoldsItsRecord kept holds.bytes
-  holds_none = record {
-    level = λ c r reads named. absurd (header_no_level holds.bytes c (formed_header holds.bytes holds.formed) reads);
-    copy = λ r header stalled whole named. let is = holds.normal in absurd (omega arith);
-  }
-
-  database_under : StandsUnder files kept name (IsBase (base_of image))
-  database_under = record {
-    same = sym (opened_entry name (files name) (files (delta_name name)) holds.bytes (base_of image) holds.there opens);
-    frozen = λ b e stalled. absurd (not_stalled b e stalled);
-    sound = λ b e. subst IsSoundImage (is_image b e) sound;
-    stalled = λ b e stalled. absurd (not_stalled b e stalled);
-    past = λ b e. subst (NamesItsPast kept) (is_image b e) past;
-    holds = λ bytes there. subst (HoldsItsRecord kept) (its_bytes bytes there) holds_none;
-    no_stray = λ beside. inl (base_of image, refl);
-    standby = λ bytes r there applying named.
-        let state : state_of bytes ≡ 3 = applying_state bytes applying in
-        let is : state_of bytes ≡ 0 = ap state_of (sym (its_bytes bytes there)) ∙ holds.normal in
-        absurd (omega arith);
-  }
-
--- The files stand for the account with that database, whatever stood under the name before.
-pub stands_with_database : (old new : Files) (account : Account) (name : List ℕ) (image : Image)
-    → Stands old account → is_delta name ≡ false → ((m : List ℕ) → m ≢ name → new m ≡ old m)
-    → HoldsMain image (new name) → owner name (new name) (new (delta_name name)) ≡ Ok (base_of image)
-    → image_state image ≡ 0 → IsSoundImage image → NamesItsPast account.kept image
-    → Stands new (with_entry name (IsBase (base_of image)) account)
-stands_with_database old new account name image stands plain others holds opens normal sound past =
-    stands_with_entry old new account name (IsBase (base_of image)) stands plain others (database_under new account.kept name image holds opens normal sound past)
-
 -- Accounts of the same entries and the same records stand for the same.
 module _ (files : Files) (a b : Account) (entries : (n : List ℕ) → a.entry n ≡ b.entry n) (kept : a.kept ≡ b.kept) (stands : Stands files a) where
   before : (n : List ℕ) (base : Base) → b.entry n ≡ IsBase base → a.entry n ≡ IsBase base
@@ -307,26 +249,3 @@ module _ (files : Files) (a b : Account) (entries : (n : List ℕ) → a.entry n
 
       HaveParents : List Kept → Type 0
       HaveParents rs = (r : Kept) (ask : Ask) → Contains rs r → r.ask ≡ Some ask → ask.previous ≢ nil → GoesOnFrom rs r ask
-
--- strokes that keep no record change one entry
-pub after_entry : (name : List ℕ) (account : Account) (ss : List Stroke) (b : Base) → 1 ≤ length ss → base_after (base_in (account.entry name)) ss ≡ b
-    → (n : List ℕ) → (with_entry name (IsBase b) account).entry n ≡ (after name account ss).entry n
-unfolding after
-after_entry name account [] b some is n = absurd (omega arith)
-after_entry name account (s ∷ ss) b some is n = ap (λ (c : Base). (with_entry name (IsBase c) account).entry n) (sym is)
-
-pub after_kept : (name : List ℕ) (account : Account) (ss : List Stroke) (b : Base) → records_after (base_in (account.entry name)) ss ≡ [] → (with_entry name (IsBase b) account).kept ≡ (after name account ss).kept
-unfolding after with_entry
-after_kept name account [] b none = refl
-after_kept name account (s ∷ ss) b none = sym (ap (λ (rs : List Kept). account.kept ++ rs) none ∙ append-nil account.kept)
-
--- the files stand for the account after strokes that leave a database in the normal state and keep no record
-pub stands_after : (old new : Files) (account : Account) (name : List ℕ) (image : Image) (ss : List Stroke)
-    → Stands old account → is_delta name ≡ false → ((m : List ℕ) → m ≢ name → new m ≡ old m)
-    → HoldsMain image (new name) → owner name (new name) (new (delta_name name)) ≡ Ok (base_of image)
-    → image_state image ≡ 0 → IsSoundImage image → NamesItsPast account.kept image
-    → 1 ≤ length ss → base_after (base_in (account.entry name)) ss ≡ base_of image → records_after (base_in (account.entry name)) ss ≡ []
-    → Stands new (after name account ss)
-stands_after old new account name image ss stands plain others holds opens normal sound past some is none =
-    stands_same new (with_entry name (IsBase (base_of image)) account) (after name account ss) (after_entry name account ss (base_of image) some is) (after_kept name account ss (base_of image) none)
-    (stands_with_database old new account name image stands plain others holds opens normal sound past)

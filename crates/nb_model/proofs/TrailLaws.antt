@@ -39,10 +39,6 @@ settled_shows name b m d s = s.opens ∙ ap (λ (c : Base). Ok c) (s.left.rest.w
 pub shows_settled : (name : List ℕ) (b : Base) (m d : File) → owner name m d ≡ Ok b → StandsOn name (settled b) m d
 shows_settled name b m d opens = record { base = b; opens = opens; left = left_itself (settled b) }
 
--- a trail that is settled is its database, settled
-pub settled_is : (t : Trail) → t.earlier ≡ [] → t ≡ settled t.base
-settled_is t none = λ i. record { base = t.base; earlier = none i }
-
 -- the database of a trail goes on by the strokes, settled or not
 pub trail_base : (s : Stroke) (t : Trail) → (after_stroke s t).base ≡ on_base s t.base
 unfolding after_stroke

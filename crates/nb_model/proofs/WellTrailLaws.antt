@@ -198,10 +198,7 @@ pages_keep_trail kept statement on named s session t is w =
 pub settling_well : (kept : List Kept) (t : Trail) → IsWellTrail kept t → IsWellTrail kept (settled t.base)
 settling_well kept t w = settled_well kept t.base w.base w.over
 
--- In the normal state a well database is one that its image tells whole.
-pub normal_well : (kept : List Kept) (b : Base) → IsWellBaseIn kept b → image_state b.image ≡ 0 → IsWellBase kept b
-normal_well kept b w normal = record { told = w.normal normal; well = subst (λ (n : ℕ). IsWellIn kept n b.image) normal w.well }
-
+-- in the normal state a well database is one that its image tells whole
 pub well_normal : (kept : List Kept) (b : Base) → IsWellBase kept b → IsWellBaseIn kept b
 well_normal kept b w =
     let normal : image_state b.image ≡ 0 = w.well.state in

@@ -1,17 +1,13 @@
 -- What is seen while pages wait in the cache, and in which order they go out.
-use Rattle.std.specs.Prelude.{ℕ, List, ◌++◌, length, Bool, true, false, ◌&&◌, ◌==◌, not, nat_lt}
+use Rattle.std.specs.Prelude.{ℕ, List, ◌++◌, true, false, ◌==◌}
 use Rattle.nb_fields.specs.Places.{is_scn_place}
-use Rattle.nb_model.specs.Image.{Image, Numbered, image_size, image_state, is_forced, overwritten}
+use Rattle.nb_model.specs.Image.{Image, Numbered, image_size, image_state, overwritten}
 use Rattle.nb_model.specs.Account.{Base}
 
 -- The database of two files with each page that waits written over, and with the entries that the files' table still lacks. A
 -- page waits below the length alone, and each number at most once.
 unfoldable pub seen : Base → (waiting : List Numbered) → (drafted : List ℕ) → Base
 seen b waiting drafted = record b { image = overwritten (image_size b.image) waiting b.image; diverted = b.diverted ++ drafted }
-
--- A write may wait where forced writes are off, in the normal and the stalled state, of a page below the length other than page 0.
-unfoldable pub may_wait : Image → (p : ℕ) → Bool
-may_wait image p = not (is_forced image) && (nat_lt (image_state image) 2 && (nat_lt p (length image) && not (p == 0)))
 
 -- Waiting pages go out by rank, with a sync between two ranks: 0 for a page into its slot, 1 for an allocation page, 2 for an SCN
 -- page of the main file, 3 for another page of it.

@@ -1,13 +1,10 @@
 -- What is kept true of a database, and the statements that keep it.
-use Rattle.std.specs.Prelude.{◌≡◌, ℕ, ◌<◌, ◌≤◌, List, [], take, Bool, true, false}
+use Rattle.std.specs.Prelude.{◌≡◌, ℕ, ◌<◌, ◌≤◌, List, [], Bool, true, false}
 use Rattle.nb_fields.specs.Header.{is_header}
 use Rattle.nb_model.specs.declared.statement.Statement.{Statement}
 use Rattle.nb_model.specs.declared.statement.Statement.TheVariants.{CreateDb, OpenDb, PageNew, Write, Read, Free, BeginBackup, EndBackup, Backup, BackupSince, CopyTo, CreateTable, DropTable, Insert, Update, Delete, Get, Scan, Forced, Access, Sync, ShowHeader, ShowPages, ShowImage, ShowCache}
 use Rattle.nb_model.specs.Image.{Image, first_page, image_state, image_scn, image_guid}
 use Rattle.nb_model.specs.Account.{Kept, Base, base_of}
-use Rattle.nb_model.specs.Strokes.{Stroke, base_after, records_after}
-use Rattle.nb_model.specs.Outcomes.{Turn, Begins, Copies, ClosesBackup, ClosesCopy, Ends, Merges, Finishes}
-use Rattle.nb_model.specs.Going.{IsNamed}
 use Rattle.nb_model.specs.Sound.{IsSoundImage}
 use Rattle.nb_model.specs.Stands.{IsKeptAs, IsRaised, HasOldEntries, NamesItsPast}
 
@@ -48,11 +45,6 @@ pub record IsWellBaseIn (kept : List Kept) (b : Base) : Type 0 where
   pub backup : image_state b.image ≡ 1 → IsOfRecord kept b
   pub merge : image_state b.image ≡ 2 → b.frozen ≡ []
 
--- After each front of the strokes the database is well, and they keep no record of a backup.
-pub record StaysWell (kept : List Kept) (b : Base) (strokes : List Stroke) : Type 0 where
-  pub well : (k : ℕ) → IsWellBase kept (base_after b (take k strokes))
-  pub records : (k : ℕ) → records_after b (take k strokes) ≡ []
-
 -- A statement on raw pages, on tables or on a byte of the header, or one that shows what stands, or waits for it to be durable. Behind
 -- the first statement of a run, creating and opening do nothing.
 abbrev pub is_on_pages : Statement → Bool
@@ -81,13 +73,3 @@ is_on_pages ShowHeader = true
 is_on_pages ShowPages = true
 is_on_pages ShowImage = true
 is_on_pages ShowCache = true
-
--- a turn that begins such a statement, with names of the form
-abbrev pub IsTurnOnPages : Turn → Type 0
-IsTurnOnPages (Begins statement) = (is_on_pages statement ≡ true) × IsNamed (Begins statement)
-IsTurnOnPages Copies = ⊥
-IsTurnOnPages (ClosesBackup backing) = ⊥
-IsTurnOnPages (ClosesCopy name) = ⊥
-IsTurnOnPages (Ends reply) = ⊥
-IsTurnOnPages Merges = ⊥
-IsTurnOnPages (Finishes reply) = ⊥

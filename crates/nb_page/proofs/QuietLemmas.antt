@@ -4,7 +4,7 @@ use Rattle.nb_host.specs.Files.{Files}
 use Rattle.nb_host.specs.World.{World}
 use Rattle.nb_host.specs.Crash.{Leaves, Untouched}
 use Rattle.nb_host.specs.Calls.{IsStill}
-use Rattle.nb_host.specs.Moments.{IsNow, Passes, IsTimely, AtEachMoment}
+use Rattle.nb_host.specs.Moments.{IsNow, Passes, IsTimely}
 use Rattle.nb_page.specs.Quiet.{Quiet}
 
 -- what a stop leaves later it would have left before
@@ -62,13 +62,4 @@ quiet_call old new timely still said guids times passes = record {
     each = λ files s left. ⊎_elim (timely.only_now files s) (now_before old new still said files s) (passes.nothing_else old.moment files s (omega arith) left);
     earlier = λ t files s le left. ⊎_elim inl (λ is. inr (now_before old new still said files s is)) (passes.nothing_else t files s le left);
   };
-}
-
--- what is known of each moment of a change goes on through a run that changes nothing
-pub moments_through : (old mid new : World) (P : Files → List ℕ → Type 0) → AtEachMoment old mid P → Quiet mid new → ((files : Files) (said : List ℕ) → IsNow mid files said → P files said) → AtEachMoment old new P
-moments_through old mid new P so_far quiet here = record {
-  same = quiet.moments.same ∙ so_far.same;
-  later = omega (arith, so_far.later, quiet.moments.later);
-  each = λ files said left. ⊎_elim (so_far.each files said) (here files said) (quiet.moments.earlier old.moment files said so_far.later left);
-  earlier = λ t files said le left. ⊎_elim (so_far.earlier t files said le) (λ is. inr (here files said is)) (quiet.moments.earlier t files said (omega (arith, le, so_far.later)) left);
 }

@@ -1,8 +1,8 @@
 -- An SCN inventory page, read as its list of entries.
-use Rattle.std.proofs.Common.{◌≡◌, ◌≢◌, ℕ, ◌<◌, ◌≤◌, inl, inr, List, length, get_or, max, replicate, sym, ap, ◌∙◌, arith}
+use Rattle.std.proofs.Common.{◌≡◌, ◌≢◌, ℕ, ◌<◌, inl, inr, List, length, get_or, replicate, sym, ap, ◌∙◌, arith}
 use Rattle.std.proofs.Math.ListN.{set}
 use Rattle.std.proofs.lemmas.Bool.{cases_eq, cases_lt}
-use Rattle.std.proofs.lemmas.List.{length-set, get_or-set_other, set-get_or, length-replicate, get_or-replicate}
+use Rattle.std.proofs.lemmas.List.{length-set, get_or-set_other, length-replicate, get_or-replicate}
 use Rattle.std.proofs.lemmas.Grind.{same_number_lists, get_or-set_at}
 use Rattle.std.proofs.lemmas.List.FromFn.{length-map-range_with_len, get_or-map-range_with_len}
 use Rattle.nb_fields.specs.Bytes.{AreApart}
@@ -43,7 +43,3 @@ entries-replicate page v each =
     let n : ℕ = entries_in (length page) in
     same_number_lists (entries page) (replicate n v) (length-entries page ∙ sym (length-replicate n v))
     (λ k h. let inside : k < n = omega (arith, length-entries page) in get_or-entries page k inside ∙ each k inside ∙ sym (get_or-replicate n k v 0 inside))
-
--- an entry that isn't below stays
-pub set-kept : (xs : List ℕ) (index v : ℕ) → v ≤ get_or xs index 0 → xs ≡ set xs index (max (get_or xs index 0) v)
-set-kept xs index v h = let e : max (get_or xs index 0) v ≡ get_or xs index 0 = omega arith in sym (ap (set xs index) e ∙ set-get_or xs index 0)

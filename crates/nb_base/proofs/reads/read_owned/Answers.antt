@@ -1,4 +1,4 @@
-use Rattle.std.proofs.Common.{◌≡◌, ℕ, List, sym, subst, ap, ◌∙◌}
+use Rattle.std.proofs.Common.{◌≡◌, sym, subst, ap, ◌∙◌}
 use Rattle.nb_host.specs.Files.{Files, bytes_of}
 use Rattle.nb_fields.specs.Table.{slot_place}
 use Rattle.nb_delta.specs.Known.{Known}
