@@ -77,7 +77,7 @@ lined-most line k said x = by (nat_le line said)
     by false = omega arith
     by true = whole-most k x
 
-acked_in-quiet : (e : Event) (es : List Event) (said : ℕ) → e.reply ≡ None → acked_in (e ∷ es) said ≡ quiet (length e.strokes) (acked_in es said)
+pub acked_in-quiet : (e : Event) (es : List Event) (said : ℕ) → e.reply ≡ None → acked_in (e ∷ es) said ≡ quiet (length e.strokes) (acked_in es said)
 unfolding acked_in
 acked_in-quiet e es said none = rw (none, acked_in) refl
 
@@ -87,7 +87,7 @@ unfolding acked_in
 acked_in-line e es said r some = rw (some, acked_in) refl
 
 -- where there is no event
-acked_in-empty : (said : ℕ) → acked_in [] said ≡ None
+pub acked_in-empty : (said : ℕ) → acked_in [] said ≡ None
 unfolding acked_in
 acked_in-empty said = refl
 
