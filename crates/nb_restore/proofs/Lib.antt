@@ -20,4 +20,5 @@ pub mod ReadLaws
 pub mod KeptFirst
 pub mod KeptNext
 pub mod KeptLaws
+pub mod KeptChains
 pub mod FixedLaws
