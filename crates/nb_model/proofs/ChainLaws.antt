@@ -84,7 +84,7 @@ file_in_grammar version q ask p ps is known head whole begun later =
       sizes = (sizes.0, taken_sizes (image_size q.image) 1 ask.previous_scn ps sizes.1);
     }
 
-when_not : (t : Bool) (r : Refusal) → t ≡ true → when (not t) r ≡ None
+pub when_not : (t : Bool) (r : Refusal) → t ≡ true → when (not t) r ≡ None
 when_not t r e = rw e refl
 
 -- four tests that don't apply
@@ -127,7 +127,7 @@ kept_accepted k version r last name q ask eg es ez next =
     ∙ ap (λ (ps : List Numbered). Ok (record { guid = q.guid; scn = q.scn; size = image_size q.image; pages = ps })) (sym all ∙ ap (λ (s : ℕ). taken s q.image) next.scn)
 
 -- one file more is read
-step_there : (files : Files) (k : ℕ) (last : Link) (name : List ℕ) (names : List (List ℕ)) (bytes : List ℕ) (l : Link) → files name ≡ Some bytes → next_link k last name bytes ≡ Ok l
+pub step_there : (files : Files) (k : ℕ) (last : Link) (name : List ℕ) (names : List (List ℕ)) (bytes : List ℕ) (l : Link) → files name ≡ Some bytes → next_link k last name bytes ≡ Ok l
     → next_links files k last (name ∷ names) ≡ linked l (next_links files (k + 1) l names)
 unfolding next_links
 step_there files k last name names bytes l is link = rw (is, next_links) (rw (link, next_links) refl)

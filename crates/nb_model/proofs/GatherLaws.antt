@@ -23,11 +23,11 @@ pages_of_runs [] = []
 pages_of_runs (s ∷ ss) = numbered_from s.first s.pages ++ pages_of_runs ss
 
 -- what the test of a next page tells
-record Joins (first count number : ℕ) : Type 0 where
+pub record Joins (first count number : ℕ) : Type 0 where
   pub next : number ≡ first + count
   pub room : count < 16
 
-joins : (number first count : ℕ) → (((number == first + count && nat_lt count 16) ≡ true) × Joins first count number)
+pub joins : (number first count : ℕ) → (((number == first + count && nat_lt count 16) ≡ true) × Joins first count number)
     ⊎ (((number == first + count && nat_lt count 16) ≡ false) × ((count < 16) → number ≢ first + count))
 joins number first count = elim (eqb_tells number (first + count)) [
   | inl w ↦ elim (leb_tells (suc count) 16) [
@@ -116,11 +116,11 @@ gathered_total first ps (r ∷ rs) = elim (joins r.0 first (length ps)) [
 ]
 
 -- one run behind its number and its count
-run_front : (s : Stretch) (ss : List Stretch) (e : List ℕ) → run_bytes (s ∷ ss) ++ e ≡ bytes_of 4 s.first ++ (bytes_of 4 (length s.pages) ++ (joined s.pages ++ (run_bytes ss ++ e)))
+pub run_front : (s : Stretch) (ss : List Stretch) (e : List ℕ) → run_bytes (s ∷ ss) ++ e ≡ bytes_of 4 s.first ++ (bytes_of 4 (length s.pages) ++ (joined s.pages ++ (run_bytes ss ++ e)))
 unfolding run_bytes bytes_of
 run_front s ss e = ap (λ (x : List ℕ). bytes_of 4 s.first ++ (bytes_of 4 (length s.pages) ++ x)) (append_assoc (joined s.pages) (run_bytes ss) e)
 
-run_none : (e : List ℕ) → run_bytes [] ++ e ≡ e
+pub run_none : (e : List ℕ) → run_bytes [] ++ e ≡ e
 unfolding run_bytes
 run_none e = refl
 

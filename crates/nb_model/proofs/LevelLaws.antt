@@ -65,7 +65,7 @@ unfolding head_then number_in bytes_of
 version_there version h tail small = number_of-bytes_of 2 version small
 
 -- the tests of a head
-abbrev head_tests : (bytes : List ℕ) (version : ℕ) → Head → List Test
+abbrev pub head_tests : (bytes : List ℕ) (version : ℕ) → Head → List Test
 head_tests bytes version h =
     (not (begins_level bytes), 0)
     ∷ ends_before 52 0 bytes
@@ -103,11 +103,11 @@ unfolding run_bytes bytes_of
 runs_short [] = omega arith
 runs_short (s ∷ ss) = let h = runs_short ss in omega (arith, h, length-append (joined s.pages) (run_bytes ss))
 
-single_front : (r : Numbered) (rs : List Numbered) (e : List ℕ) → single_bytes (r ∷ rs) ++ e ≡ bytes_of 4 r.0 ++ (r.1 ++ (single_bytes rs ++ e))
+pub single_front : (r : Numbered) (rs : List Numbered) (e : List ℕ) → single_bytes (r ∷ rs) ++ e ≡ bytes_of 4 r.0 ++ (r.1 ++ (single_bytes rs ++ e))
 unfolding single_bytes bytes_of
 single_front r rs e = ap (λ (x : List ℕ). bytes_of 4 r.0 ++ x) (append_assoc r.1 (single_bytes rs) e)
 
-single_none : (e : List ℕ) → single_bytes [] ++ e ≡ e
+pub single_none : (e : List ℕ) → single_bytes [] ++ e ≡ e
 unfolding single_bytes
 single_none e = refl
 

@@ -10,6 +10,7 @@ pub mod SessionLaws
 pub mod ReadLaws
 pub mod GatherLaws
 pub mod LevelLaws
+pub mod SpelledLaws
 pub mod ChainLaws
 pub mod WholeLaws
 pub mod AfterLaws
@@ -111,3 +112,4 @@ pub mod MakingLaws
 pub mod CoveredLaws
 pub mod BehindLaws
 pub mod WayLaws
+pub mod ForcedLaws

@@ -6,8 +6,8 @@ use Rattle.std.proofs.Math.Seq.{take-append-add}
 use Rattle.nb_model.specs.declared.reply.Reply.{Reply}
 use Rattle.nb_model.specs.Lines.{line_text, spaced, reply_words}
 use Rattle.nb_model.specs.Run.{Event, strokes_of, replies_of}
-use Rattle.nb_model.specs.Output.{text_of, output, status_after, status_of}
-use Rattle.nb_model.proofs.AckedLaws.{whole}
+use Rattle.nb_model.specs.Output.{text_of, output, status_after, status_of, acked_in}
+use Rattle.nb_model.proofs.AckedLaws.{quiet, lined}
 
 -- the reply of an event, if it has one, before other replies
 abbrev with_reply : (session : ℕ) → Option Reply → List (ℕ × Reply) → List (ℕ × Reply)
@@ -58,6 +58,20 @@ text_of-cons session r xs = refl
 pub output-line : (e : Event) (es : List Event) (r : Reply) → e.reply ≡ Some r → output (e ∷ es) ≡ line_text e.session r ++ output es
 unfolding replies_of
 output-line e es r some = ap (λ (x : Option Reply). text_of (with_reply e.session x (replies_of es))) some ∙ text_of-cons e.session r (replies_of es)
+
+pub acked_in-quiet : (e : Event) (es : List Event) (said : ℕ) → e.reply ≡ None → acked_in (e ∷ es) said ≡ quiet (length e.strokes) (acked_in es said)
+unfolding acked_in
+acked_in-quiet e es said none = rw (none, acked_in) refl
+
+pub acked_in-line : (e : Event) (es : List Event) (said : ℕ) (r : Reply) → e.reply ≡ Some r
+    → acked_in (e ∷ es) said ≡ lined (length (line_text e.session r)) (length e.strokes) said (acked_in es (said - length (line_text e.session r)))
+unfolding acked_in
+acked_in-line e es said r some = rw (some, acked_in) refl
+
+-- where there is no event
+pub acked_in-empty : (said : ℕ) → acked_in [] said ≡ None
+unfolding acked_in
+acked_in-empty said = refl
 
 -- A front of what the first run says is a front of what both say.
 pub front_more : (es fs : List Event) (part : List ℕ) → part ≡ take (length part) (output es) → part ≡ take (length part) (output (es ++ fs))

@@ -66,11 +66,11 @@ unfolding number_in bytes_of
 number_second n m rest h = number_of-bytes_of 4 m h
 
 -- the tests of a page of version 101, and of a run of version 102
-abbrev single_tests : Head → (at count least : ℕ) (rest : List ℕ) (n : ℕ) → List Test
+abbrev pub single_tests : Head → (at count least : ℕ) (rest : List ℕ) (n : ℕ) → List Test
 single_tests h at count least rest n =
     (is_bad_number count least n, at) ∷ ends_before (4 + h.size) at rest ∷ (n == 0 && not (is_first_page h (part 4 h.size rest)), at + 4) ∷ []
 
-abbrev run_tests : Head → (at count least barred : ℕ) (rest : List ℕ) (n m : ℕ) → List Test
+abbrev pub run_tests : Head → (at count least barred : ℕ) (rest : List ℕ) (n m : ℕ) → List Test
 run_tests h at count least barred rest n m =
     (is_bad_number count least n || n == barred, at)
     ∷ ends_before 8 at rest
@@ -81,18 +81,18 @@ run_tests h at count least barred rest n m =
     ∷ []
 
 -- what is read behind a page, and behind a run
-abbrev behind_single : (left : ℕ) → Head → (at count : ℕ) (rest : List ℕ) (n : ℕ) → Result (List Numbered) ℕ
+abbrev pub behind_single : (left : ℕ) → Head → (at count : ℕ) (rest : List ℕ) (n : ℕ) → Result (List Numbered) ℕ
 behind_single left h at count rest n = behind ((n, part 4 h.size rest) ∷ []) (read_singles left h (at + 4 + h.size) (count + 1) (n + 1) (drop (4 + h.size) rest))
 
-abbrev behind_run : (left : ℕ) → Head → (at count : ℕ) (rest : List ℕ) (n m : ℕ) → Result (List Numbered) ℕ
+abbrev pub behind_run : (left : ℕ) → Head → (at count : ℕ) (rest : List ℕ) (n m : ℕ) → Result (List Numbered) ℕ
 behind_run left h at count rest n m = behind (pages_in h.size m n (drop 8 rest)) (read_runs left h (at + 8 + m * h.size) (count + m) (n + m) (barred_after n m) (drop (8 + m * h.size) rest))
 
-single_there : (left : ℕ) (h : Head) (at count least : ℕ) (rest : List ℕ) → nat_lt (length rest) 4 ≡ false → (number_in 0 4 rest == end_mark) ≡ false
+pub single_there : (left : ℕ) (h : Head) (at count least : ℕ) (rest : List ℕ) → nat_lt (length rest) 4 ≡ false → (number_in 0 4 rest == end_mark) ≡ false
     → first_fault (single_tests h at count least rest (number_in 0 4 rest)) ≡ None → read_singles (suc left) h at count least rest ≡ behind_single left h at count rest (number_in 0 4 rest)
 unfolding read_singles
 single_there left h at count least rest long other clear = rw (long, read_singles) (rw (other, read_singles) (rw (clear, read_singles) refl))
 
-run_there : (left : ℕ) (h : Head) (at count least barred : ℕ) (rest : List ℕ) → nat_lt (length rest) 4 ≡ false → (number_in 0 4 rest == end_mark) ≡ false
+pub run_there : (left : ℕ) (h : Head) (at count least barred : ℕ) (rest : List ℕ) → nat_lt (length rest) 4 ≡ false → (number_in 0 4 rest == end_mark) ≡ false
     → first_fault (run_tests h at count least barred rest (number_in 0 4 rest) (number_in 4 4 rest)) ≡ None
     → read_runs (suc left) h at count least barred rest ≡ behind_run left h at count rest (number_in 0 4 rest) (number_in 4 4 rest)
 unfolding read_runs
@@ -117,7 +117,7 @@ run_step left h at count least barred rest n m e f long other clear =
     ∙ ap (λ x. behind_run left h at count rest x (number_in 4 4 rest)) e ∙ ap (behind_run left h at count rest n) f
 
 -- the end is read
-abbrev end_tests : (at count : ℕ) (rest : List ℕ) → List Test
+abbrev pub end_tests : (at count : ℕ) (rest : List ℕ) → List Test
 end_tests at count rest = (count == 0, at) ∷ ends_before 8 at rest ∷ (not (number_in 4 4 rest == count), at + 4) ∷ (nat_lt 8 (length rest), at + 8) ∷ []
 
 read_end_there : (at count : ℕ) (rest : List ℕ) → first_fault (end_tests at count rest) ≡ None → read_end at count rest ≡ Ok []
@@ -169,7 +169,7 @@ single_read left h at count least n page more rs size begins low small first lat
     ∙ ap (λ (x : List ℕ). behind ((n, page) ∷ []) (read_singles left h (at + 4 + h.size) (count + 1) (n + 1) x)) past
     ∙ ap (behind ((n, page) ∷ [])) later
 
-joined_read : (size n : ℕ) (ps : List Page) (more : List ℕ) → AllByRecursion (λ p. length p ≡ size) ps → pages_in size (length ps) n (joined ps ++ more) ≡ numbered_from n ps
+pub joined_read : (size n : ℕ) (ps : List Page) (more : List ℕ) → AllByRecursion (λ p. length p ≡ size) ps → pages_in size (length ps) n (joined ps ++ more) ≡ numbered_from n ps
 unfolding pages_in numbered_from
 joined_read size n [] more h = refl
 joined_read size n (p ∷ ps) more h =
@@ -188,7 +188,7 @@ eight_longer : (a b : ℕ) (x y : List ℕ) → length (bytes_of 4 a ++ (bytes_o
 unfolding bytes_of
 eight_longer a b x y = omega (arith, length-append x y)
 
-first_joined : (size : ℕ) (ps : List Page) (more : List ℕ) → 1 ≤ length ps → AllByRecursion (λ p. length p ≡ size) ps → take size (joined ps ++ more) ≡ get_or ps 0 []
+pub first_joined : (size : ℕ) (ps : List Page) (more : List ℕ) → 1 ≤ length ps → AllByRecursion (λ p. length p ≡ size) ps → take size (joined ps ++ more) ≡ get_or ps 0 []
 first_joined size [] more some h = absurd (omega arith)
 first_joined size (p ∷ ps) more some h = ap (take size) (append_assoc p (joined ps) more) ∙ take_at p (joined ps ++ more) size h.0
 

@@ -117,7 +117,7 @@ steps_grow (e ∷ es) (suc m) (suc n) low =
     omega (arith, rest, length-append (steps_in e) (steps_of (take m es)), length-append (steps_in e) (steps_of (take n es)))
 
 -- turns are acknowledged behind one that says nothing
-abbrev behind_quiet : ℕ → ℕ
+abbrev pub behind_quiet : ℕ → ℕ
 behind_quiet n = elim n as (λ z. ℕ) [ zero ↦ 0 | suc m ↦ suc (suc m) ]
 
 behind_quiet_most : (n : ℕ) → behind_quiet n ≤ suc n
@@ -125,7 +125,7 @@ behind_quiet_most zero = omega arith
 behind_quiet_most (suc n) = omega arith
 
 -- and behind one whose line is among so many bytes, or not
-abbrev behind_line : (line said : ℕ) → ℕ → ℕ
+abbrev pub behind_line : (line said : ℕ) → ℕ → ℕ
 behind_line line said n = elim (nat_le line said) as (λ z. ℕ) [ true ↦ suc n | false ↦ 0 ]
 
 behind_line_most : (line said n : ℕ) → behind_line line said n ≤ suc n
@@ -139,11 +139,11 @@ pub turns_none : (said : ℕ) → acked_turns [] said ≡ 0
 unfolding acked_turns
 turns_none said = refl
 
-turns_quiet : (e : Event) (es : List Event) (said : ℕ) → e.reply ≡ None → acked_turns (e ∷ es) said ≡ behind_quiet (acked_turns es said)
+pub turns_quiet : (e : Event) (es : List Event) (said : ℕ) → e.reply ≡ None → acked_turns (e ∷ es) said ≡ behind_quiet (acked_turns es said)
 unfolding acked_turns
 turns_quiet e es said none = rw (none, acked_turns) refl
 
-turns_line : (e : Event) (es : List Event) (said : ℕ) (r : Reply) → e.reply ≡ Some r
+pub turns_line : (e : Event) (es : List Event) (said : ℕ) (r : Reply) → e.reply ≡ Some r
     → acked_turns (e ∷ es) said ≡ behind_line (length (line_text e.session r)) said (acked_turns es (said - length (line_text e.session r)))
 unfolding acked_turns
 turns_line e es said r some = rw (some, acked_turns) refl

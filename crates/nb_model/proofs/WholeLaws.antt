@@ -117,11 +117,11 @@ copy_accepted files r zeros name holds =
     (is_whole name bytes is_header_too state (good_length bytes n size size_too all wide least holds.most))
     ∙ ap (λ (l : Link). Ok l) (copy_link r zeros bytes n guid scn size_too count (cut-joined size (length pages) pages sizes wide (omega arith)))
 
-verdict_there : (files : Files) (name : List ℕ) (names : List (List ℕ)) (bytes : List ℕ) (l : Link) → files name ≡ Some bytes → first_link name bytes ≡ Ok l → verdict files (name ∷ names) ≡ linked l (next_links files 1 l names)
+pub verdict_there : (files : Files) (name : List ℕ) (names : List (List ℕ)) (bytes : List ℕ) (l : Link) → files name ≡ Some bytes → first_link name bytes ≡ Ok l → verdict files (name ∷ names) ≡ linked l (next_links files 1 l names)
 unfolding verdict
 verdict_there files name names bytes l is link = rw (is, verdict) (rw (link, verdict) refl)
 
-first_fields : (r : Kept) (zeros : Image) → ((first_file r zeros).guid ≡ r.guid) × ((first_file r zeros).scn ≡ r.scn) × ((first_file r zeros).size ≡ image_size r.image)
+pub first_fields : (r : Kept) (zeros : Image) → ((first_file r zeros).guid ≡ r.guid) × ((first_file r zeros).scn ≡ r.scn) × ((first_file r zeros).size ≡ image_size r.image)
 unfolding first_file
 first_fields r zeros = (refl, refl, refl)
 

@@ -1,7 +1,9 @@
 -- The steps of a run: its strokes, and the points at which all that was written is kept for good.
-use Rattle.std.specs.Prelude.{ℕ, zero, suc, ◌-◌, List, [], ◌∷◌, ◌++◌, length, take, Some, None, true, false, nat_le}
+use Rattle.std.specs.Prelude.{◌≡◌, ℕ, zero, suc, ◌-◌, List, [], ◌∷◌, ◌++◌, length, take, Some, None, true, false, nat_le}
 use Rattle.nb_model.specs.Lines.{line_text}
-use Rattle.nb_model.specs.Strokes.{Stroke}
+use Rattle.nb_model.specs.Account.{Base}
+use Rattle.nb_model.specs.Image.{is_forced}
+use Rattle.nb_model.specs.Strokes.{Stroke, page, on_base}
 use Rattle.nb_model.specs.Run.{Event}
 use Rattle.nb_model.specs.Trail.{Trail, settled, after_stroke}
 
@@ -23,6 +25,16 @@ unfoldable pub strokes_in : List Step → List Stroke
 strokes_in [] = []
 strokes_in (makes s ∷ ss) = s ∷ strokes_in ss
 strokes_in (settles ∷ ss) = strokes_in ss
+
+-- a page is written where forced writes are on
+abbrev pub IsForcedAt : Base → Stroke → Type 0
+IsForcedAt b (page p bytes) = is_forced b.image ≡ true
+IsForcedAt b other = Unit {0}
+
+-- so each of these strokes does that writes a page
+abbrev pub AreForced : Base → List Stroke → Type 0
+AreForced b [] = Unit {0}
+AreForced b (s ∷ ss) = IsForcedAt b s × AreForced (on_base s b) ss
 
 unfoldable pub made : List Stroke → List Step
 made [] = []

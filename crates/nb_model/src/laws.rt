@@ -6,7 +6,7 @@ ghost use Rattle.nb_model.specs.Follows.{Follows, IsMixed};
 ghost use Rattle.nb_model.specs.Forms.{drafted, give_page, new_page, put, take_page};
 ghost use Rattle.nb_model.specs.Going.{AreBeginnings, AreNamed, IsGoing, IsNamed};
 ghost use Rattle.nb_model.specs.Image.{Image, Numbered, Page, first_page, image_guid, image_scn, image_size, image_state, is_forced, is_read_only, overwritten, page_at, with_page, written_at};
-ghost use Rattle.nb_model.specs.Levels.{Head, IsLevel, read_level, taken};
+ghost use Rattle.nb_model.specs.Levels.{Contents, Head, IsLevel, read_level, taken};
 ghost use Rattle.nb_model.specs.Line.{AreZeroPages, HoldLine, HoldsFirst, IsLine, first_file, last_in, next_files};
 ghost use Rattle.nb_model.specs.Making.{IsNoBackup, IsOfKept, MadeFile};
 ghost use Rattle.nb_model.specs.Outcomes.{Begins, DoesNothing, Seen};
@@ -17,7 +17,7 @@ ghost use Rattle.nb_model.specs.Restoring.{applied, verdict};
 ghost use Rattle.nb_model.specs.Run.{Event, IsPlayed, Now, base_now, files_made, play, rounds, strokes_of};
 ghost use Rattle.nb_model.specs.Sound.{HasNoZeros, IsSoundImage, SoundInventory};
 ghost use Rattle.nb_model.specs.Stands.{GoesOn, IsRaised, Stands};
-ghost use Rattle.nb_model.specs.Steps.{after_steps, steps_of, strokes_in};
+ghost use Rattle.nb_model.specs.Steps.{AreForced, Step, acked_steps, after_steps, steps_of, strokes_in};
 ghost use Rattle.nb_model.specs.Strokes.{Stroke, after, base_after, begin, ends, finish, fixed, merged_page, on_base, page as page_stroke, records_after, records_of};
 ghost use Rattle.nb_model.specs.Trail.{AreSynced, IsBehindFirst, IsFirm, IsLeft, IsMixture, ShowsIn, StandsIn, StandsOn, Trail, after_stroke, after_strokes, images, settled};
 ghost use Rattle.nb_model.specs.Turns.{first_turn};
@@ -74,6 +74,13 @@ pub fn a_level_is_read_back()
 /// Bytes spell one level file at most.
 pub fn bytes_spell_one_level()
     ensures { (bytes : List ℕ) (v w : ℕ) (h k : Head) (r q : Numbered) (rs qs : List Numbered) → IsLevel bytes v h r rs → IsLevel bytes w k q qs → (v ≡ w) × (h ≡ k) × (r ∷ rs ≡ q ∷ qs) }
+{}
+
+/// What is read as a level file, of bytes, is in the grammar: the bytes spell the version, the head and the pages that were read, of
+/// which there is one at least.
+pub fn what_is_read_is_spelled()
+    ensures spelled { (bytes : List ℕ) (version : ℕ) (h : Head) (r : Numbered) (rs : List Numbered) → AllByRecursion (λ b. b < 256) bytes → read_level bytes ≡ Ok (record { version = version; head = h; pages = r ∷ rs }) → IsLevel bytes version h r rs }
+    ensures some { (bytes : List ℕ) (c : Contents) → AllByRecursion (λ b. b < 256) bytes → read_level bytes ≡ Ok c → 1 ≤ length c.pages }
 {}
 
 /// Strokes behind strokes.
@@ -158,6 +165,18 @@ pub fn synced_strokes_leave_a_front()
     ensures forced { (b : Base) (strokes : List Stroke) → is_forced b.image ≡ true → AllByRecursion IsBehindFirst strokes → AreSynced (settled b) strokes }
     ensures one { (b : Base) (p : ℕ) (bytes : Page) → is_forced b.image ≡ true → AreSynced (settled b) (page_stroke p bytes ∷ []) }
     ensures first { (b : Base) (bytes : Page) → AreSynced (settled b) (page_stroke 0 bytes ∷ []) }
+{}
+
+/// Where pages are written with forced writes on, what a stop leaves behind steps is the database behind their strokes, and nothing in
+/// between. These strokes are a front of all, and hold those that are acknowledged where the steps do.
+pub fn forced_writes_leave_a_front()
+    ensures settled { (b : Base) (steps : List Step) (count : ℕ) → AreForced b (strokes_in steps) → after_steps (settled b) (take count steps) ≡ settled (base_after b (strokes_in (take count steps))) }
+    ensures shows { (name : List ℕ) (b : Base) (steps : List Step) (count : ℕ) (files : Files) → AreForced b (strokes_in steps) → StandsIn name (after_steps (settled b) (take count steps)) files
+        → ShowsIn name (base_after b (strokes_in (take count steps))) files }
+    ensures stands { (name : List ℕ) (b : Base) (steps : List Step) (count : ℕ) (files : Files) → AreForced b (strokes_in steps) → ShowsIn name (base_after b (strokes_in (take count steps))) files
+        → StandsIn name (after_steps (settled b) (take count steps)) files }
+    ensures front { (events : List Event) (count : ℕ) → strokes_in (take count (steps_of events)) ≡ take (length (strokes_in (take count (steps_of events)))) (strokes_of events) }
+    ensures acknowledged { (events : List Event) (said count : ℕ) → acked_steps events said ≤ count → acked events said ≤ length (strokes_in (take count (steps_of events))) }
 {}
 
 /// Whatever a stop leaves of a trail has the header's fields of what was seen last.

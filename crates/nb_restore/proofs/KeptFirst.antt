@@ -1,6 +1,6 @@
 -- Level 0 of a chain whose records are kept: the pages of its record, and pages of zeros behind.
 use Rattle.std.proofs.Common.{◌≡◌, inl, inr, ℕ, suc, ◌/◌, ◌%◌, ◌≤◌, List, ◌++◌, length, refl, sym, ap, subst, ◌∙◌, arith, div-add-mod'}
-use Rattle.std.specs.Prelude.{true, false, not, ◌||◌, ◌==◌, nat_lt, Some, None, Contains}
+use Rattle.std.specs.Prelude.{true, false, not, ◌||◌, ◌==◌, nat_lt, Some, None}
 use Rattle.std.proofs.lemmas.Bool.{true≢false, eqb-true, or_parts}
 use Rattle.std.proofs.lemmas.Bool.Decides.{leb_tells}
 use Rattle.nb_fields.specs.Header.{is_header, size_of, guid_of}
@@ -44,15 +44,13 @@ is_formed bytes header good =
     let wide = (size_facts (size_of bytes) (header-size bytes header)).at_least in
     no_cause bytes (size_of bytes) (length bytes / size_of bytes) header refl (omega (arith, wide)) (omega (arith, div-add-mod' (length bytes) (size_of bytes), good.whole)) good.least good.most
 
--- the file of that name holds the pages of a kept record
-pub record HoldsKeptFirst (files : Files) (kept : List Kept) (name : List ℕ) : Type 0 where
-  pub backup : Kept
-  pub there : Contains kept backup
+-- the file of that name holds the pages of a record
+pub record HoldsKeptFirst (files : Files) (name : List ℕ) (r : Kept) : Type 0 where
   pub zeros : Image
-  pub holds : HoldsFirst files (with_ask None backup) zeros name
+  pub holds : HoldsFirst files (with_ask None r) zeros name
 
 pub kept_first : (files : Files) (account : Account) → Stands files account → (name bytes : List ℕ) → is_delta name ≡ false → files name ≡ Some bytes → (l : Link) → IsCopy bytes l → (r : Kept) → IsKeptAs account.kept l.guid r
-    → HoldsKeptFirst files account.kept name
+    → HoldsKeptFirst files name r
 kept_first files account stands name bytes plain there l copy r named =
     let good : HasGoodLength bytes = good_length bytes copy.whole in
     let formed : not_database bytes ≡ None = is_formed bytes copy.header good in
@@ -63,8 +61,6 @@ kept_first files account stands name bytes plain there l copy r named =
     let image : image_in bytes ≡ r.image = copy_image r bytes pages begun.header sound formed in
     let is : IsLaid (image_in bytes) bytes = laid bytes formed in
     record {
-      backup = r;
-      there = named.there;
       zeros = is.rest;
       holds = record {
         is = there ∙ ap (λ (x : List ℕ). Some x) (is.is ∙ ap (λ (x : Image). joined (x ++ is.rest)) image);

@@ -19,7 +19,7 @@ use Rattle.nb_model.proofs.ChainLaws.{kept_accepted}
 use Rattle.nb_model.proofs.HeaderLaws.{header-room}
 use Rattle.nb_model.proofs.WellTrailLaws.{settled_well, well_normal}
 use Rattle.nb_model.proofs.WholeLaws.{copy_accepted, chain_accepted, chain_gives}
-use Rattle.nb_restore.specs.Kept.{AreKept, last_guid, GivesKept}
+use Rattle.nb_restore.specs.Kept.{AreKept, last_guid, GivesKept, IsLinkOf}
 use Rattle.nb_restore.proofs.AnswerLaws.{ok_same, some_same}
 use Rattle.nb_restore.proofs.AskLaws.{with_ask}
 use Rattle.nb_restore.proofs.ChainLaws.{split_chain, split_next, copy_of}
@@ -30,12 +30,6 @@ use Rattle.nb_restore.proofs.KeptNext.{HoldsKeptNext, kept_next}
 -- no name is that of a difference file
 abbrev ArePlain : List (List ℕ) → Type 0
 ArePlain = AllByRecursion (λ (name : List ℕ). is_delta name ≡ false)
-
--- a link tells of that record
-record IsLinkOf (l : Link) (r : Kept) : Type 0 where
-  guid : l.guid ≡ r.guid
-  scn : l.scn ≡ r.scn
-  size : l.size ≡ image_size r.image
 
 -- the files of these names are those of a line behind r, whose last record is kept
 record HoldsKeptLine (files : Files) (kept : List Kept) (k : ℕ) (r : Kept) (names : List (List ℕ)) : Type 0 where
@@ -49,18 +43,18 @@ record HoldsKeptLine (files : Files) (kept : List Kept) (k : ℕ) (r : Kept) (na
 module _ (files : Files) (account : Account) (stands : Stands files account) where
   -- the link of a file tells of the record that the file holds
   next_told : (k : ℕ) (r : Kept) (o : Option Ask) (last : Link) → IsLinkOf last r → (name bytes : List ℕ) (l : Link) → files name ≡ Some bytes → next_link k last name bytes ≡ Ok l
-      → (next : HoldsKeptNext files account.kept k (with_ask o r) name) → IsLinkOf l next.backup
-  next_told k r o last of name bytes l there accepted next =
+      → (q : Kept) → HoldsKeptNext files k (with_ask o r) name q → IsLinkOf l q
+  next_told k r o last of name bytes l there accepted q next =
       let same = some_same _ bytes (sym next.holds.is ∙ there) in
-      let answer = ap (next_link k last name) (sym same) ∙ kept_accepted k next.holds.version (with_ask o r) last name (with_ask (Some next.ask) next.backup) next.holds.ask of.guid of.scn of.size next.holds.next in
+      let answer = ap (next_link k last name) (sym same) ∙ kept_accepted k next.holds.version (with_ask o r) last name (with_ask (Some next.ask) q) next.holds.ask of.guid of.scn of.size next.holds.next in
       let is = ok_same l _ (next_link k last name bytes) accepted answer in
       record { guid = ap (λ (x : Link). x.guid) is; scn = ap (λ (x : Link). x.scn) is; size = ap (λ (x : Link). x.size) is }
 
-  first_told : (name bytes : List ℕ) (l : Link) → files name ≡ Some bytes → first_link name bytes ≡ Ok l → (first : HoldsKeptFirst files account.kept name) → IsLinkOf l first.backup
+  first_told : (name bytes : List ℕ) (l : Link) → files name ≡ Some bytes → first_link name bytes ≡ Ok l → (r : Kept) → HoldsKeptFirst files name r → IsLinkOf l r
   unfolding first_file
-  first_told name bytes l there accepted first =
+  first_told name bytes l there accepted r first =
       let same = some_same _ bytes (sym first.holds.is ∙ there) in
-      let is = ok_same l _ (first_link name bytes) accepted (ap (first_link name) (sym same) ∙ copy_accepted files (with_ask None first.backup) first.zeros name first.holds) in
+      let is = ok_same l _ (first_link name bytes) accepted (ap (first_link name) (sym same) ∙ copy_accepted files (with_ask None r) first.zeros name first.holds) in
       record { guid = ap (λ (x : Link). x.guid) is; scn = ap (λ (x : Link). x.scn) is; size = ap (λ (x : Link). x.size) is }
 
   -- the files behind r are those of a line of backups, each with the ask that its file spells
@@ -71,9 +65,9 @@ module _ (files : Files) (account : Account) (stands : Stands files account) whe
       let split = split_next files k last name names links e in
       let named = subst (λ (ls : List Link). AreKept account.kept ls) split.all kept in
       let next = kept_next files account stands k some r there o last of.guid name split.bytes split.there split.link split.level named.0.0 named.0.1 plain.0 in
-      let told : IsLinkOf split.link next.backup = next_told k r o last of name split.bytes split.link split.there split.accepted next in
-      let rest = kept_line (k + 1) (omega arith) next.backup next.there (Some next.ask) split.link told names plain.1 split.rest split.next named.1 in
-      record { line = with_ask (Some next.ask) next.backup ∷ rest.line; last = rest.last; there = rest.there; ask = rest.ask; ends = rest.ends; holds = (next.holds, rest.holds) }
+      let told : IsLinkOf split.link named.0.0 = next_told k r o last of name split.bytes split.link split.there split.accepted named.0.0 next in
+      let rest = kept_line (k + 1) (omega arith) named.0.0 named.0.1.there (Some next.ask) split.link told names plain.1 split.rest split.next named.1 in
+      record { line = with_ask (Some next.ask) named.0.0 ∷ rest.line; last = rest.last; there = rest.there; ask = rest.ask; ends = rest.ends; holds = (next.holds, rest.holds) }
 
 -- the GUID of the last file
 last_named : (l : Link) (r : Kept) (line : List Kept) → l.guid ≡ r.guid → last_guid (l ∷ next_files r line) ≡ (last_in r line).guid
@@ -98,9 +92,9 @@ chain_kept files account (name ∷ names) links stands plain e some kept =
     let split = split_chain files name names links e in
     let named = subst (λ (ls : List Link). AreKept account.kept ls) split.all kept in
     let first = kept_first files account stands name split.bytes plain.0 split.there split.first (copy_of name split.bytes split.first split.accepted) named.0.0 named.0.1 in
-    let told : IsLinkOf split.first first.backup = first_told files account stands name split.bytes split.first split.there split.accepted first in
-    let rest = kept_line files account stands 1 (omega arith) first.backup first.there None split.first told names plain.1 split.rest split.next named.1 in
-    let r : Kept = with_ask None first.backup in
+    let told : IsLinkOf split.first named.0.0 = first_told files account stands name split.bytes split.first split.there split.accepted named.0.0 first in
+    let rest = kept_line files account stands 1 (omega arith) named.0.0 named.0.1.there None split.first told names plain.1 split.rest split.next named.1 in
+    let r : Kept = with_ask None named.0.0 in
     let all : links ≡ first_file r first.zeros ∷ next_files r rest.line = ok_same links _ (verdict files (name ∷ names)) e (chain_accepted files r first.zeros rest.line name names first.holds rest.holds) in
     let sound : IsSoundImage rest.last.image = stands.sound_images.images rest.last.image (to_record rest.last rest.there refl) in
     let none : HasNoZeros (last_in r rest.line).image = subst (λ (x : Kept). HasNoZeros x.image) (sym rest.ends) sound.sound.no_zeros in

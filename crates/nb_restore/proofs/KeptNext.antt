@@ -57,12 +57,10 @@ level_file_of : (version : ℕ) (q : Kept) (ask : Ask) → 1 ≤ ask.level → f
 unfolding file_of file_for
 level_file_of version q ask some = rw (eq_no ask.level 0 (λ e. absurd (omega arith)), file_for) refl
 
--- the file of that name is that of a kept record, with some ask
-pub record HoldsKeptNext (files : Files) (kept : List Kept) (k : ℕ) (r : Kept) (name : List ℕ) : Type 0 where
-  pub backup : Kept
-  pub there : Contains kept backup
+-- the file of that name is that of a record, with some ask
+pub record HoldsKeptNext (files : Files) (k : ℕ) (r : Kept) (name : List ℕ) (q : Kept) : Type 0 where
   pub ask : Ask
-  pub holds : HoldsNext files k r name (with_ask (Some ask) backup)
+  pub holds : HoldsNext files k r name (with_ask (Some ask) q)
 
 module _ (files : Files) (account : Account) (stands : Stands files account) (k : ℕ) (some : 1 ≤ k) (r : Kept) (r_there : Contains account.kept r) (o : Option Ask) (last : Link) (guid : last.guid ≡ r.guid)
     (name bytes : List ℕ) (there : files name ≡ Some bytes) (l : Link) (file : IsLevelFile k last bytes l) (q : Kept) (named : IsKeptAs account.kept l.guid q) where
@@ -96,7 +94,7 @@ module _ (files : Files) (account : Account) (stands : Stands files account) (k 
     its_file : bytes ≡ file_of file.contents.version (with_ask (Some now) q)
     its_file = is ∙ same_level file.contents.version (head_for q ask) k rs level ∙ sym (level_file_of file.contents.version q now some)
 
-    goes_on : AsksFrom account.kept q ask → HoldsKeptNext files account.kept k (with_ask o r) name
+    goes_on : AsksFrom account.kept q ask → HoldsKeptNext files k (with_ask o r) name q
     goes_on asks =
         let sixteen : length ask.previous ≡ 16 = ap length (sym asks.kept_as.named) ∙ guid_long asks.from (stands.sound_images.records asks.from asks.kept_as.there) in
         let from : asks.from ≡ r = stands.kept_records.distinct asks.from r asks.kept_as.there r_there (asks.kept_as.named ∙ before sixteen) in
@@ -111,8 +109,6 @@ module _ (files : Files) (account : Account) (stands : Stands files account) (k 
           later = omega (arith, scn, leads.earlier);
         } in
         record {
-          backup = q;
-          there = named.there;
           ask = now;
           holds = record {
             version = file.contents.version;
@@ -134,7 +130,7 @@ module _ (files : Files) (account : Account) (stands : Stands files account) (k 
           };
         }
 
-  pub kept_next : is_delta name ≡ false → HoldsKeptNext files account.kept k (with_ask o r) name
+  pub kept_next : is_delta name ≡ false → HoldsKeptNext files k (with_ask o r) name q
   kept_next plain =
       let its : IsKeptAs account.kept file.contents.head.guid q = subst (λ (x : Link). IsKeptAs account.kept x.guid q) file.is named in
       elim ((stands.kept_records.levels name bytes plain there).level file.contents q file.read its) [
