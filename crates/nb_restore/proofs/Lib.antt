@@ -20,9 +20,6 @@ pub mod ReadLaws
 pub mod KeptFirst
 pub mod KeptNext
 pub mod KeptLaws
-<<<<<<< HEAD
 pub mod FirstWell
-=======
 pub mod KeptChains
->>>>>>> 95e34fd4e928a7e93372832d8950a46e0f7dadd1
 pub mod FixedLaws
