@@ -1,16 +1,16 @@
 -- The one turn of a merge in place: what it must be, and what stands behind it.
 use Rattle.std.proofs.Common.{◌≡◌, ◌≢◌, ℕ, List, [], ◌∷◌, length, true, false, refl, sym, ap, subst, ◌∙◌}
-use Rattle.std.specs.Prelude.{Bool, not, ◌==◌, nat_lt, None, Some, Result, Ok, Err}
-use Rattle.nb_fields.specs.Header.{state_of, size_of}
+use Rattle.std.specs.Prelude.{Bool, ◌==◌, nat_lt, None, Some, Result, Ok, Err}
+use Rattle.nb_fields.specs.Header.{state_of}
 use Rattle.nb_fields.specs.Page.{stamp_of}
 use Rattle.nb_host.specs.Files.{File, Files}
 use Rattle.nb_host.specs.declared.refusals.Refusal.{Refusal}
-use Rattle.nb_host.specs.declared.refusals.Refusal.TheVariants.{Usage, NoFile, BadLevel, Unfinished, ChainSize, ChainScn}
+use Rattle.nb_host.specs.declared.refusals.Refusal.TheVariants.{Usage, NoFile, BadLevel, ChainScn}
 use Rattle.nb_model.specs.declared.reply.Reply.TheVariants.{Pages}
 use Rattle.nb_model.specs.Account.{Account}
-use Rattle.nb_model.specs.Causes.{Cause, first_cause, when}
+use Rattle.nb_model.specs.Causes.{Cause}
 use Rattle.nb_model.specs.Image.{Page, image_in}
-use Rattle.nb_model.specs.InPlace.{bytes_in, in_place, in_place_of, is_another, not_mergeable, not_next, not_standby, other_pages, written_since}
+use Rattle.nb_model.specs.InPlace.{bytes_in, in_place, in_place_of, not_finishing, not_mergeable, not_next, not_standby, other_pages, written_since}
 use Rattle.nb_model.specs.Jobs.{only_turn, only_refusal, apply_turn, account_behind}
 use Rattle.nb_model.specs.Levels.{Contents, read_level}
 use Rattle.nb_model.specs.Run.{Event, account_after}
@@ -64,15 +64,16 @@ next_other : (name bytes : List ℕ) (c : Contents) → IsOther (not_next name b
 unfolding not_next
 next_other name bytes c = other_first _ (other_when _ _ (λ e. cc), (other_when _ _ (λ e. cc), (other_when _ _ (λ e. cc), (other_when _ _ (λ e. cc), (written_other name c.head.previous_scn (other_pages (image_in bytes)), tt)))))
 
+finishing_other : (name bytes : List ℕ) (c : Contents) → IsOther (not_finishing name bytes c)
+unfolding not_finishing
+finishing_other name bytes c = other_first _ (other_when _ _ (λ e. cc), (other_when _ _ (λ e. cc), tt))
+
 mergeable_other : (bytes name : List ℕ) (c : Contents) → IsOther (not_mergeable bytes name c)
 unfolding not_mergeable
 mergeable_other bytes name c = by (state_of bytes == 3)
   where
-    by : (t : Bool) → IsOther (elim t as (λ z. Cause) [
-      | true ↦ first_cause (when (is_another bytes c) Unfinished ∷ when (not (c.head.size == size_of bytes)) (ChainSize name c.head.size (size_of bytes)) ∷ [])
-      | false ↦ not_next name bytes c
-    ])
-    by true = other_first _ (other_when _ _ (λ e. cc), (other_when _ _ (λ e. cc), tt))
+    by : (t : Bool) → IsOther (elim t as (λ z. Cause) [ true ↦ not_finishing name bytes c | false ↦ not_next name bytes c ])
+    by true = finishing_other name bytes c
     by false = next_other name bytes c
 
 merge_fine : (files : Files) (db name : List ℕ) → IsFine (in_place files db name)
