@@ -129,11 +129,16 @@ module _ (old : World) (account : Account) (db : List ℕ) (stands : StandsFor o
       shows = λ files done. subst (λ (l : List ℕ). ShowsIn db (base_of (fixed (image_in l))) files) (some_same done.0 bytes (sym done.1.there ∙ copy.there)) done.2.shows;
       entries = λ n. ap (λ (b : Base). (with_entry db (IsBase b) account).entry n) (sym base_then) ∙ fixed_entries account db n ∙ ap (λ (a : Account). a.entry n) (sym behind);
       kept = fixed_kept account db ∙ ap (λ (a : Account). a.kept) (sym behind);
+      gives = gives;
     }
 
-  pub fix_sound : IsSoundJob old account (fixing old.files db)
-  fix_sound = record { plain = plain; done = by (turn_is old.files db); gives = gives }
+  fix_done : leaves_all (fixup_turn old.files db) ≡ false → IsWellDone old account sound_job
+  fix_done = by (turn_is old.files db)
     where
       by : FixTurn old.files db → leaves_all (fixup_turn old.files db) ≡ false → IsWellDone old account sound_job
       by (refuses refusal why same) is = absurd (true≢false (sym (ap leaves_all same) ∙ is))
       by (fixes bytes copy same) is = well_done bytes copy same
+
+pub fix_sound : (old : World) (account : Account) (db : List ℕ) → StandsFor old account → is_delta db ≡ false
+    → (leaves_all (fixup_turn old.files db) ≡ false → (bytes : List ℕ) → IsFixable old.files db bytes → (r : Kept) × IsKeptAs account.kept (guid_of bytes) r) → IsSoundJob old account (fixing old.files db)
+fix_sound old account db stands plain takes = record { plain = plain; done = λ is. fix_done old account db stands plain (takes is) is }

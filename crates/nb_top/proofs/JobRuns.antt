@@ -1,6 +1,6 @@
 -- A job is done, from the words to its end.
 use Rattle.std.proofs.Common.{◌≡◌, ◌≢◌, inl, ⊎_elim, ℕ, List, [], ◌++◌, take, refl, sym, ap, subst, ◌∙◌}
-use Rattle.std.specs.Prelude.{Result, Ok, Err, IfOk, IfErr, OnOk}
+use Rattle.std.specs.Prelude.{Result, Ok, Err, IfOk, IfErr, OnOk, false}
 use Rattle.nb_host.specs.Files.{File, Files}
 use Rattle.nb_host.specs.World.{World}
 use Rattle.nb_host.specs.Crash.{Leaves}
@@ -28,7 +28,7 @@ use Rattle.nb_top.specs.Performed.{HasSmallScn, RunLeft, RunStands, RunsTo, Goes
 use Rattle.nb_top.specs.Standing.{HoldsKept, StandsFor}
 use Rattle.nb_top.specs.declared.telling.Telling.TheVariants.{All}
 use Rattle.nb_top.specs.Requests.{Request, ToRun, ToGenerate, Deed, ToRestore, ToFix, ToMerge, Asked, Runs, Does, request_asked, script_in, to_run}
-use Rattle.nb_top.specs.OneTurn.{DoesTurn, TurnEnded, one_turn}
+use Rattle.nb_top.specs.OneTurn.{DoesTurn, TurnEnded, leaves_all, one_turn}
 use Rattle.nb_top.specs.Served.{TurnsTo}
 use Rattle.nb_top.proofs.Fixed.{fix_sound}
 use Rattle.nb_top.proofs.Merged.{merge_sound}
@@ -194,7 +194,8 @@ module _ (old new : World) (asked : Result Request Refusal) (can : CanBeMet (Run
   run_memory e runs = performs Memory (Err e) runs (λ d m. absurd (m refl))
 
 -- a job of one turn keeps what stands
-sound_deed : (old : World) (account : Account) (deed : Deed) → CanBeDone deed → StandsFor old account → (one_turn old.files deed).takes account.kept → IsSoundJob old account (one_turn old.files deed)
+sound_deed : (old : World) (account : Account) (deed : Deed) → CanBeDone deed → StandsFor old account → (leaves_all ((one_turn old.files deed).turn account) ≡ false → (one_turn old.files deed).takes account.kept)
+    → IsSoundJob old account (one_turn old.files deed)
 sound_deed old account (ToRestore db names) can stands takes = restore_sound old account db names stands can.0 can.1 can.2 takes
 sound_deed old account (ToFix db) can stands takes = fix_sound old account db stands can takes
 sound_deed old account (ToMerge db name) can stands takes = merge_sound old account db name stands can.0 can.1 takes

@@ -198,11 +198,16 @@ module _ (old : World) (account : Account) (db name : List ℕ) (stands : Stands
       shows = λ files done. subst (λ (image : Image). ShowsIn db (base_of image) files) (sym (image_is bytes c m)) (shown bytes c m files done);
       entries = λ n. ap (λ (b : Base). (with_entry db (IsBase b) account).entry n) (sym base_then) ∙ merged_entries account db c n ∙ ap (λ (a : Account). a.entry n) (sym behind);
       kept = merged_kept account db c ∙ ap (λ (a : Account). a.kept) (sym behind);
+      gives = gives;
     }
 
-  pub merge_sound : IsSoundJob old account (merging old.files db name)
-  merge_sound = record { plain = plain; done = by (turn_is old.files db name); gives = gives }
+  merge_done : leaves_all (apply_turn old.files db name) ≡ false → IsWellDone old account sound_job
+  merge_done = by (turn_is old.files db name)
     where
       by : MergeTurn old.files db name → leaves_all (apply_turn old.files db name) ≡ false → IsWellDone old account sound_job
       by (refuses refusal why same) is = absurd (true≢false (sym (ap leaves_all same) ∙ is))
       by (merges bytes c m same) is = well_done bytes c m same
+
+pub merge_sound : (old : World) (account : Account) (db name : List ℕ) → StandsFor old account → is_delta db ≡ false → is_delta name ≡ false
+    → (leaves_all (apply_turn old.files db name) ≡ false → (bytes : List ℕ) (c : Contents) → IsMergeable old.files db name bytes c → TakesKept account.kept bytes c) → IsSoundJob old account (merging old.files db name)
+merge_sound old account db name stands plain level_plain takes = record { plain = plain; done = λ is. merge_done old account db name stands plain level_plain (takes is) is }

@@ -170,11 +170,16 @@ module _ (old : World) (account : Account) (db : List ℕ) (names : List (List �
       shows = λ files made. subst (λ (ls : List Link). ShowsIn db (base_from ls) files) (same_links (verdict old.files names) made.0 links made.1 accepted) made.2;
       entries = λ n. made_entries account db (fixed (applied links)) n ∙ ap (λ (a : Account). a.entry n) (sym behind);
       kept = made_kept account db (fixed (applied links)) ∙ ap (λ (a : Account). a.kept) (sym behind);
+      gives = gives;
     }
 
-  pub restore_sound : IsSoundJob old account (restoring old.files db names)
-  restore_sound = record { plain = plain; done = by (turn_is old.files account db names); gives = gives }
+  restore_done : leaves_all (restore_turn old.files account db names) ≡ false → IsWellDone old account sound_job
+  restore_done = by (turn_is old.files account db names)
     where
       by : RestoreTurn old.files account db names → leaves_all (restore_turn old.files account db names) ≡ false → IsWellDone old account sound_job
       by (refuses refusal why same) is = absurd (true≢false (sym (ap leaves_all same) ∙ is))
       by (restores links free accepted same) is = well_done links free accepted same
+
+pub restore_sound : (old : World) (account : Account) (db : List ℕ) (names : List (List ℕ)) → StandsFor old account → is_delta db ≡ false → AllByRecursion (λ (name : List ℕ). is_delta name ≡ false) names → 1 ≤ length names
+    → (leaves_all (restore_turn old.files account db names) ≡ false → (links : List Link) → verdict old.files names ≡ Ok links → AreKept account.kept links) → IsSoundJob old account (restoring old.files db names)
+restore_sound old account db names stands plain plain_names some takes = record { plain = plain; done = λ is. restore_done old account db names stands plain plain_names some (takes is) is }

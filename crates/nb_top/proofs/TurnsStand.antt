@@ -37,12 +37,12 @@ pub record IsWellDone (old : World) (account : Account) (job : OneTurn) : Type 0
   pub shows : (files : Files) → job.done files → ShowsIn job.name base files
   pub entries : (n : List ℕ) → (with_entry job.name (IsBase base) account).entry n ≡ (account_behind job.name (job.turn account) account).entry n
   pub kept : account.kept ≡ (account_behind job.name (job.turn account) account).kept
+  pub gives : (files : Files) → job.done files → job.gives account.kept files
 
 -- what has to be known of each job
 pub record IsSoundJob (old : World) (account : Account) (job : OneTurn) : Type 0 where
   pub plain : is_delta job.name ≡ false
   pub done : leaves_all (job.turn account) ≡ false → IsWellDone old account job
-  pub gives : (files : Files) → job.done files → job.gives account.kept files
 
 -- a turn that leaves all leaves the account
 idle_account : (name : List ℕ) (turn : Event) (account : Account) → leaves_all turn ≡ true → account_behind name turn account ≡ account
@@ -185,4 +185,4 @@ module _ (old : World) (account : Account) (job : OneTurn) (stands : StandsFor o
             (sym w.kept)
 
     pub turn_stands : (status : Status) → (status ≢ Device → status ≢ Memory → TurnEnded status old new job turn) → TurnStands status old new job turn account
-    turn_stands status ended = record { moments = turn_moments; after = turn_after; ended = λ d m. turn_end status (ended d m); gives = sound.gives }
+    turn_stands status ended = record { moments = turn_moments; after = turn_after; ended = λ d m. turn_end status (ended d m); gives = λ some. (sound.done some).gives }

@@ -152,20 +152,20 @@ pub record TurnEnded (status : Status) (old new : World) (job : OneTurn) (turn :
   pub done : leaves_all turn ≡ false → IsDoneFor new job
   pub unchanged : leaves_all turn ≡ true → new.files ≡ old.files
 
--- Where the files stood for the account, and the job takes files of kept backups, files stand for accounts with the same records: at each moment of
--- the job, and behind it, however it ended; and where it came to its end, for the account behind its turn. What it has done is what the begin of
--- a backup kept.
+-- Where the files stood for the account, files stand for accounts with the same records: at each moment of the job, and behind it, however it ended;
+-- and where it came to its end, for the account behind its turn. Where it isn't refused, what it has done is what the begin of a backup kept.
 pub record TurnStands (status : Status) (old new : World) (job : OneTurn) (turn : Event) (account : Account) : Type 0 where
   pub moments : AtEachMoment old new (λ files said. HoldsKept files account.kept)
   pub after : (later : Account) × StandsFor new later × (later.kept ≡ account.kept)
   pub ended : status ≢ Device → status ≢ Memory → StandsFor new (account_behind job.name turn account)
-  pub gives : (files : Files) → job.done files → job.gives account.kept files
+  pub gives : leaves_all turn ≡ false → (files : Files) → job.done files → job.gives account.kept files
 
 -- What a run does of a job of one turn, where the account knows of the files what the job asks for: at each moment a stop leaves a front of it, and
--- so do the files as they read now, however it ended.
+-- so do the files as they read now, however it ended. Where the files stood for the account, and those that the job takes, if it isn't refused, are of
+-- kept backups, they go on to stand.
 pub record DoesTurn (status : Status) (old new : World) (job : OneTurn) (account : Account) : Type 0 where
   pub stops : AtEachMoment old new (TurnLeft (Leaves old) old job (job.turn account))
   pub reads : TurnLeft (Read old.files) old job (job.turn account) new.files new.said
   pub gave : GaveNothing old new
   pub ended : status ≢ Device → status ≢ Memory → TurnEnded status old new job (job.turn account)
-  pub stands : StandsFor old account → job.takes account.kept → TurnStands status old new job (job.turn account) account
+  pub stands : StandsFor old account → (leaves_all (job.turn account) ≡ false → job.takes account.kept) → TurnStands status old new job (job.turn account) account
