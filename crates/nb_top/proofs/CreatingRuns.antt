@@ -34,7 +34,7 @@ use Rattle.nb_model.specs.Trail.{Trail, ShowsIn, StandsIn, settled}
 use Rattle.nb_model.proofs.FreshImageLaws.{fresh_length}
 use Rattle.nb_model.proofs.OpeningLaws.{created, not_created, run_ends}
 use Rattle.nb_model.proofs.StandsLaws.{no_main}
-use Rattle.nb_model.proofs.StepsLaws.{acked_steps_none, turns_before, steps_append, steps_length, steps_one}
+use Rattle.nb_model.proofs.StepsLaws.{acked_steps_none, steps_append, steps_length, steps_one}
 use Rattle.nb_model.proofs.TrailLaws.{shows_settled}
 use Rattle.nb_model.specs.Well.{IsWell}
 use Rattle.nb_model.proofs.WellLaws.{fresh_well_base}
@@ -158,7 +158,7 @@ module _ (old : World) (account : Account) (given : Given) (plan : Plan) (tellin
           out = out;
           count = 0;
           front = record { most = omega arith; acknowledged = omega (arith, acked_steps_none (es n)) };
-          database = inr (record { none = refl; unsaid = turns_before (es n); main = inl is; delta = beside });
+          database = inr (record { none = refl; unsaid = refl; main = inl is; delta = beside });
           each = each;
           whole = λ m bytes there. absurd (none_yet (es n) (m, bytes) there);
           others = unasked;
@@ -169,7 +169,7 @@ module _ (old : World) (account : Account) (given : Given) (plan : Plan) (tellin
           out = out;
           count = 0;
           front = record { most = omega arith; acknowledged = omega (arith, acked_steps_none (es n)) };
-          database = inr (record { none = refl; unsaid = turns_before (es n); main = inr (refl, is); delta = beside });
+          database = inr (record { none = refl; unsaid = refl; main = inr (refl, is); delta = beside });
           each = each;
           whole = λ m bytes there. absurd (none_yet (es n) (m, bytes) there);
           others = unasked;

@@ -35,7 +35,7 @@ use Rattle.nb_model.specs.Trail.{Trail, StandsIn, settled}
 use Rattle.nb_model.proofs.OutputLaws.{output-quiet}
 use Rattle.nb_model.proofs.RunLaws.{entry_same}
 use Rattle.nb_model.proofs.StandsLaws.{entry_other, no_main}
-use Rattle.nb_model.proofs.StepsLaws.{acked_steps_none, turns_before}
+use Rattle.nb_model.proofs.StepsLaws.{acked_steps_none}
 use Rattle.nb_model.proofs.TodoLaws.{status_refused}
 use Rattle.nb_copy.specs.Making.{IsKept, IsUnfinishedOr}
 use Rattle.nb_script.specs.Scripts.{Plan, script_of}
@@ -155,7 +155,7 @@ module _ (old mid : World) (account : Account) (name bytes : List ℕ) (plain : 
     where
       by : (t : Option Target) → IsApart t name → StandsAsked old account t whole 0 0 files
       by None off = tt
-      by (Some t) off = inr (record { none = refl; unsaid = turns_before whole; main = inl (left.others t.name off); delta = left.others (delta_name t.name) (no_main t.name name plain) })
+      by (Some t) off = inr (record { none = refl; unsaid = refl; main = inl (left.others t.name off); delta = left.others (delta_name t.name) (no_main t.name name plain) })
 
   -- it ended before all of that
   pub script_unwritten : AtEachMoment old mid (RunLeft old account target whole)
@@ -178,7 +178,7 @@ module _ (old mid : World) (account : Account) (name bytes : List ℕ) (plain : 
         by (Some t) off (inl stands) = inl (subst (λ (tr : Trail). StandsIn t.name tr files) (seen_same t off (take count (steps_of es)) ∙ ap (λ (ss : List Step). seen_after account t.name (take count ss)) (sym (steps_are name bytes es))) stands)
         by (Some t) off (inr unbegun) = inr (record {
           none = unbegun.none;
-          unsaid = acked_is name bytes es said ∙ ap (λ (k : ℕ). elim k as (λ z. ℕ) [ zero ↦ 0 | suc n ↦ suc (suc n) ]) unbegun.unsaid;
+          unsaid = unbegun.unsaid;
           main = ⊎_elim (λ left. inl (before t.name (files t.name) off left)) inr unbegun.main;
           delta = before (delta_name t.name) (files (delta_name t.name)) (no_main t.name name plain) unbegun.delta;
         })

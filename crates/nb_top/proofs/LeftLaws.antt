@@ -10,14 +10,14 @@ use Rattle.nb_change.proofs.MomentLaws.{left_before}
 use Rattle.nb_model.specs.Account.{Account}
 use Rattle.nb_model.specs.Owner.{delta_name}
 use Rattle.nb_model.specs.Run.{Event}
-use Rattle.nb_model.proofs.StepsLaws.{acked_steps_none, turns_before}
+use Rattle.nb_model.proofs.StepsLaws.{acked_steps_none}
 use Rattle.nb_top.specs.Performed.{RunLeft, StandsAsked, Target}
 use Rattle.nb_top.proofs.MadeRuns.{none_yet}
 
 -- before anything is done, what a stop leaves is as it was
 first_asked : (old : World) (account : Account) (target : Option Target) (events : List Event) (files : Files) → ((n : List ℕ) → Leaves old n (files n)) → StandsAsked old account target events 0 0 files
 first_asked old account None events files left = tt
-first_asked old account (Some target) events files left = inr (record { none = refl; unsaid = turns_before events; main = inl (left target.name); delta = left (delta_name target.name) })
+first_asked old account (Some target) events files left = inr (record { none = refl; unsaid = refl; main = inl (left target.name); delta = left (delta_name target.name) })
 
 -- nothing has happened yet
 pub left_first : (old : World) (account : Account) (target : Option Target) (events : List Event) (files : Files) (said : List ℕ) → IsNow old files said → RunLeft old account target events files said

@@ -106,7 +106,7 @@ module _ (old : World) (account : Account) (stands : StandsFor old account) (rea
 
   -- it isn't begun
   pub unbegun_holds : (target : Target) → target.name ≡ name → (target.creates ≡ true → is_free_entry (account.entry name) ≡ true) → (said count : ℕ) (files : Files)
-      → Left files → IsUnbegun old target events said count files → HoldsKept files account.kept
+      → Left files → IsUnbegun old target said count files → HoldsKept files account.kept
   unbegun_holds target named free said count files left none = ⊎_elim as_before (λ halfway. creating (free halfway.0) (ap (λ (n : List ℕ). is_free_file (files n)) (sym named) ∙ halfway.1)) none.main
     where
       delta : Leaves old (delta_name name) (files (delta_name name))

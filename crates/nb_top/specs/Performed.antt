@@ -209,18 +209,18 @@ abbrev pub kept_after : Account → Option Target → List Step → List Kept
 kept_after account None steps = account.kept
 kept_after account (Some target) steps = account.kept ++ records_after (base_in (account.entry target.name)) (strokes_in steps)
 
--- The run hasn't begun to change its database: nothing is acknowledged, and both files are as a stop would have left them before. Only
+-- The run hasn't begun to change its database: nothing was said, and both files are as a stop would have left them before. Only
 -- where the run creates the database, the creation may also be stopped half way, and then the name is free.
-pub record IsUnbegun (old : World) (target : Target) (events : List Event) (said count : ℕ) (files : Files) : Type 0 where
+pub record IsUnbegun (old : World) (target : Target) (said count : ℕ) (files : Files) : Type 0 where
   pub none : count ≡ 0
-  pub unsaid : acked_turns events said ≡ 0
+  pub unsaid : said ≡ 0
   pub main : Leaves old target.name (files target.name) ⊎ ((target.creates ≡ true) × (is_free_file (files target.name) ≡ true))
   pub delta : Leaves old (delta_name target.name) (files (delta_name target.name))
 
 -- The files hold what may be left of what was seen of the database behind so many steps, or the run hasn't begun.
 abbrev pub StandsAsked : (old : World) → Account → Option Target → List Event → (said count : ℕ) → Files → Type 0
 StandsAsked old account None events said count files = Unit {0}
-StandsAsked old account (Some target) events said count files = StandsIn target.name (seen_after account target.name (take count (steps_of events))) files ⊎ IsUnbegun old target events said count files
+StandsAsked old account (Some target) events said count files = StandsIn target.name (seen_after account target.name (take count (steps_of events))) files ⊎ IsUnbegun old target said count files
 
 -- At a moment of a run: a front of its lines was said, and a stop leaves the database behind so many of its steps, with each
 -- acknowledged one among them. A file that the run makes is as it was, unfinished or whole, and whole once its turn is acknowledged. Other
