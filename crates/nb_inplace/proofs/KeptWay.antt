@@ -127,8 +127,8 @@ module _ (files : Files) (account : Account) (stands : Stands files account) (st
         same = λ p behind low early. image_seen half h.formed p ∙ way_half.same p behind low early;
       }
 
-  -- 3. Files in which the standby is half merged stand for the account with it as a plain file.
-  module _ (half : List ℕ) (h : IsHalf bytes c half) (new : Files) (here : new standby ≡ Some half) where
+  -- 3. Files in which the standby is half merged stand for the account with it as a plain file, whatever became of the others meanwhile.
+  module _ (half : List ℕ) (h : IsHalf bytes c half) (then : Account) (same_kept : then.kept ≡ account.kept) (new : Files) (here : new standby ≡ Some half) where
     its_state : state_of half ≡ 3
     its_state = half_state files standby name bytes c merges.mergeable half h
 
@@ -141,25 +141,28 @@ module _ (files : Files) (account : Account) (stands : Stands files account) (st
     is_it : (x : List ℕ) → new standby ≡ Some x → half ≡ x
     is_it x there = some_same half x (sym here ∙ there)
 
-    holds_none : HoldsItsRecord account.kept half
+    holds_none : HoldsItsRecord then.kept half
     holds_none = record {
       level = λ d r reads named. absurd (header_no_level half d (half_header files standby name bytes c merges.mergeable half h) reads);
       copy = λ r header stalled whole named. absurd (omega (arith, stalled, its_state));
     }
 
-    half_under : StandsUnder new account.kept standby (Plain half beside)
+    waits : (r : Kept) → IsKeptAs then.kept (pending_of half) r → IsStopped then.kept half r
+    waits =
+        subst (λ (ks : List Kept). (r : Kept) → IsKeptAs ks (pending_of half) r → IsStopped ks half r) (sym same_kept)
+        (λ r pending. kept_stopped r (subst (λ (g : List ℕ). IsKeptAs account.kept g r) (half_pending files standby name bytes c merges.mergeable half h) pending) half h)
+
+    half_under : StandsUnder new then.kept standby (Plain half beside)
     half_under = record {
       same = sym (ap (λ (f : File). entry_of_files standby f beside) here ∙ closed_entry standby half beside _ (half_closed files standby name bytes c merges.mergeable half h beside));
       frozen = λ b e stalled. absurd (no_base b e);
       sound = λ b e. absurd (no_base b e);
       stalled = λ b e stalled. absurd (no_base b e);
       past = λ b e. absurd (no_base b e);
-      holds = λ x there. subst (HoldsItsRecord account.kept) (is_it x there) holds_none;
+      holds = λ x there. subst (HoldsItsRecord then.kept) (is_it x there) holds_none;
       no_stray = λ some. inr (half, here, half_applying files standby name bytes c merges.mergeable half h);
-      standby = λ x r there applying named.
-          subst (λ (y : List ℕ). IsKeptAs account.kept (pending_of y) r → IsStopped account.kept y r) (is_it x there)
-          (λ pending. kept_stopped r (subst (λ (g : List ℕ). IsKeptAs account.kept g r) (half_pending files standby name bytes c merges.mergeable half h) pending) half h) named;
+      standby = λ x r there applying named. subst (λ (y : List ℕ). IsKeptAs then.kept (pending_of y) r → IsStopped then.kept y r) (is_it x there) (waits r) named;
     }
 
-    pub half_stands : ((m : List ℕ) → m ≢ standby → m ≢ delta_name standby → new m ≡ files m) → Stands new (with_entry standby (Plain half beside) account)
-    half_stands others = stands_with_both files new account standby (Plain half beside) stands merges.plain others half_under
+    pub half_stands : (mid : Files) → Stands mid then → ((m : List ℕ) → m ≢ standby → m ≢ delta_name standby → new m ≡ mid m) → Stands new (with_entry standby (Plain half beside) then)
+    half_stands mid still others = stands_with_both mid new then standby (Plain half beside) still merges.plain others half_under

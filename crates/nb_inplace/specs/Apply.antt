@@ -55,9 +55,9 @@ ApplyAnswers (Err Memory) old new standby name = Quiet old new
 
 pub record Applies (result : Result ℕ Fault) (old new : World) (standby name : List ℕ) : Type 0 where
   pub answer : ApplyAnswers result old new standby name
-  -- a stop leaves it so, of the standby alone, and nothing is said
+  -- At each moment a stop leaves the standby so. No other file is touched, and nothing is said.
   pub left : Changes old new (Only standby) (ApplyLeft (Leaves old standby) old standby name)
-  -- and so it reads behind the call, whatever is answered
+  -- so it reads behind the call, whatever is answered
   pub reads : ApplyLeft (λ file. file ≡ old.files standby) old standby name new.files
   pub gave : GaveNothing old new
   -- where the merge is refused nothing changes, also where the device fails
