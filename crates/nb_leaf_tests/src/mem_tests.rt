@@ -97,6 +97,22 @@ fn three_calls(host: &mut MemHost) -> ([Result<(), HostFault>; 3], u64) {
     (answers, host.fault_count())
 }
 
+/// The next GUID behind a stop, where those that were given before count on, and how many there are then.
+fn guid_behind_a_stop(host: &mut MemHost) -> Result<([u8; 16], u64), Fail> {
+    host.guid()?;
+    host.guid()?;
+    let mut next = host.left(0)?.behind_guids(host.guid_count())?;
+    Ok((next.guid()?, next.guid_count()))
+}
+
+#[test]
+fn guids_go_on_behind_a_stop(rt: HostRuntime) -> Result<(), Fail> {
+    let mut host = MemHost::new(rt.alloc())?;
+    let guid = guid_behind_a_stop(&mut host)?;
+    assert_eq!(rt; guid, (*b"\0\0\0\0\0\0\0\0\0\0\0\0\0\0\0\x03", 3));
+    Ok(())
+}
+
 #[test]
 fn chosen_calls_fail(rt: HostRuntime) -> Result<(), Fail> {
     let failing = three_calls(&mut MemHost::failing(rt.alloc(), &[2])?);

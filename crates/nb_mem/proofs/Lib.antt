@@ -4,6 +4,7 @@ pub mod SlotNames
 pub mod PutLemmas
 pub mod CountLemmas
 pub mod CallLemmas
+pub mod GuidLemmas
 pub mod OutcomeLemmas
 pub mod LeftLemmas
 pub mod CrashLaws

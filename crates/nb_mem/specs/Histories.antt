@@ -1,5 +1,5 @@
 -- What a history of calls tells. The newest call comes first.
-use Rattle.std.specs.Prelude.{◌≡◌, ◌⊎◌, ℕ, ◌+◌, ◌≤◌, MatchBool, List, [], ◌∷◌, ◌++◌, length, replicate, None}
+use Rattle.std.specs.Prelude.{◌≡◌, ◌⊎◌, ℕ, zero, suc, ◌+◌, ◌≤◌, MatchBool, List, [], ◌∷◌, ◌++◌, length, replicate, None}
 use Rattle.std.specs.Int.{w64, to_be_bytes}
 use Rattle.nb_host.specs.Names.{same_name}
 use Rattle.nb_host.specs.Files.{File, Files, with_file}
@@ -60,6 +60,16 @@ guids_of (Asked Size ∷ es) = guids_of es
 guids_of (Asked Read ∷ es) = guids_of es
 guids_of (Asked Guid ∷ es) = guids_of es ++ guid_of (length (guids_of es) + 1) ∷ []
 guids_of (Asked Time ∷ es) = guids_of es
+
+-- so many GUIDs more are given
+abbrev pub with_guids : ℕ → List Entry → List Entry
+with_guids zero es = es
+with_guids (suc n) es = Asked Guid ∷ with_guids n es
+
+-- so many GUIDs, of the numbers behind this one
+abbrev pub guids_behind : (number count : ℕ) → List (List ℕ)
+guids_behind number zero = []
+guids_behind number (suc count) = guid_of (number + 1) ∷ guids_behind (number + 1) count
 
 -- the clock values that were given: the first is 1,000,000,000, and each further one is higher by 1
 abbrev pub times_of : List Entry → List ℕ

@@ -1,7 +1,7 @@
 ghost use Rattle.std.specs.Prelude.{◌≡◌, ◌<◌, ◌^◌, [], ◌∷◌, length, IfOk, OnOk, OnErr};
 ghost use Rattle.std.specs.Option.{option_copied};
 ghost use Rattle.nb_mem.specs.declared.entry.Entry.{Entry as Call};
-ghost use Rattle.nb_mem.specs.Histories.{files_of, said_of, reads_of, guids_of, times_of};
+ghost use Rattle.nb_mem.specs.Histories.{files_of, said_of, reads_of, guids_of, times_of, with_guids};
 ghost use Rattle.nb_mem.specs.Outcomes.{placed, IsLeft};
 ghost use Rattle.nb_mem.specs.Chosen.{picked};
 
@@ -130,6 +130,16 @@ impl History {
     {
         self.calls.push(Entry::Asked(Question::Guid))?;
         self.guids += 1;
+        Ok(())
+    }
+
+    /// Gives so many GUIDs, which nobody asked for.
+    pub fn give_guids(&mut self, count: u64) -> Result<(), AllocError>
+        ensures { OnOk result (self.new ≡ with_guids count self.old) }
+    {
+        for _ in 0..count {
+            self.ask_guid()?;
+        }
         Ok(())
     }
 

@@ -1,9 +1,9 @@
-ghost use Rattle.std.specs.Prelude.{◌≡◌, ◌+◌, ◌*◌, [], ◌∷◌, length, true, option_map, IsTrue, OnOk, IfOk, IfErr};
+ghost use Rattle.std.specs.Prelude.{◌≡◌, ◌+◌, ◌*◌, ◌++◌, [], ◌∷◌, length, true, option_map, IsTrue, OnOk, IfOk, IfErr};
 ghost use Rattle.std.specs.Option.{option_copied};
 ghost use Rattle.nb_host.specs.Files.{is_page_size};
 ghost use Rattle.nb_host.specs.Crash.{IsDurable};
-ghost use Rattle.nb_host.specs.Calls.{ReadsPage, ReadsBytes, Syncs};
-ghost use Rattle.nb_mem.specs.Histories.{world_of, files_of, guid_of, guids_of, times_of};
+ghost use Rattle.nb_host.specs.Calls.{IsStill, ReadsPage, ReadsBytes, Syncs};
+ghost use Rattle.nb_mem.specs.Histories.{world_of, files_of, guid_of, guids_of, guids_behind, times_of, with_guids};
 ghost use Rattle.nb_mem.specs.declared.entry.Entry.{Entry as Call};
 ghost use Rattle.nb_mem.specs.Memory.{Answers, fresh};
 ghost use Rattle.nb_mem.specs.Outcomes.{IsLeft};
@@ -105,6 +105,21 @@ impl MemHost {
         })
     }
 
+    /// The host with so many GUIDs counted as given: the next is the one behind them. It is no call of the host. The only error is
+    /// want of memory.
+    ///
+    /// What starts from what a stop left counts from the first again. `host.left(pick)?.behind_guids(host.guid_count())` gives none
+    /// that was given before the stop.
+    pub fn behind_guids(mut self, count: u64) -> Result<MemHost, Fault>
+        ensures ok { IfOk result (λ host. host ≡ record self { history = with_guids count self.history }) }
+        ensures still { IfOk result (λ host. IsStill (world_of self.history) (world_of host.history)) }
+        ensures guids { IfOk result (λ host. (world_of host.history).guids ≡ (world_of self.history).guids ++ guids_behind (length (world_of self.history).guids) count) }
+        ensures err { IfErr result (λ fault. fault ≡ Fault.Memory) }
+    {
+        self.history.give_guids(count)?;
+        Ok(self)
+    }
+
     /// The bytes of a file as they read now, and none where there is no such file.
     pub fn file(&self, name: &Name) -> Option<&[u8]>
         ensures { option_copied result ≡ (world_of self.now.history).files name.now }
@@ -124,6 +139,13 @@ impl MemHost {
         ensures { result ≡ (world_of self.now.history).reads }
     {
         self.history.reads()
+    }
+
+    /// How many GUIDs were given.
+    pub fn guid_count(&self) -> u64
+        ensures { result ≡ length (world_of self.now.history).guids }
+    {
+        self.history.guids()
     }
 
     /// How many calls of the host there were, those that failed among them.

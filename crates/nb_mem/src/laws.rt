@@ -1,12 +1,12 @@
-//! The outcomes that a host in memory has: one law for each rule of a stop, and one for its picks. None does anything.
+//! The outcomes that a host in memory has: one law for each rule of a stop, and one for its picks; and one of its GUIDs. None does anything.
 //!
 //! They speak of what a host has done, newest first, as the contracts of `MemHost` see it.
 
-ghost use Rattle.std.specs.Prelude.{ℕ, List, [], Some, None};
+ghost use Rattle.std.specs.Prelude.{ℕ, ◌≡◌, ◌≢◌, ◌+◌, ◌^◌, ◌<◌, ◌≤◌, Contains, List, [], Some, None, replicate};
 ghost use Rattle.nb_host.specs.Files.{File};
 ghost use Rattle.nb_mem.specs.declared.entry.Change.{Change as Step};
 ghost use Rattle.nb_mem.specs.declared.entry.Entry.{Entry as Call};
-ghost use Rattle.nb_mem.specs.Histories.{Now, Back};
+ghost use Rattle.nb_mem.specs.Histories.{Now, Back, guid_of, guids_behind};
 ghost use Rattle.nb_mem.specs.Crashes.{LeavesAfter, PagesMay, BytesMay, AnewMay, SyncedMay, OthersMay, PicksReach, KeepsAll, LosesAll};
 
 /// A page that was written may be lost or there, each by itself, and the file may have grown by zeros; and of a file that was
@@ -40,4 +40,11 @@ pub fn picks()
     ensures reach { (es : List Call) (n : List ℕ) → PicksReach es n }
     ensures all { (es : List Call) (n : List ℕ) → KeepsAll es n }
     ensures nothing { (es : List Call) (n : List ℕ) → LosesAll es n }
+{}
+
+/// A GUID tells its number, and none is nil. So none that is given behind others is one of them.
+pub fn guids_are_apart()
+    ensures apart { (m n : ℕ) → m < 2 ^ 64 → n < 2 ^ 64 → guid_of m ≡ guid_of n → m ≡ n }
+    ensures not_nil { (n : ℕ) → 1 ≤ n → n < 2 ^ 64 → guid_of n ≢ replicate 16 0 }
+    ensures behind { (count more : ℕ) (guid : List ℕ) → count + more < 2 ^ 64 → Contains (guids_behind 0 count) guid → Contains (guids_behind count more) guid → ⊥ }
 {}
