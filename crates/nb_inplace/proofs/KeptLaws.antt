@@ -124,7 +124,7 @@ module _ (files : Files) (account : Account) (stands : Stands files account) (na
   some_level : 1 ≤ c.head.level
   some_level = elim (leb_tells 1 c.head.level) [ inl w ↦ w.1 | inr w ↦ absurd (true≢false (sym (and_parts (nat_le 1 c.head.level) (nat_le c.head.level 9) (is_read level c read).level).0 ∙ w.0)) ]
 
-  next : HoldsKeptNext files account.kept c.head.level (with_ask None from) name
+  next : HoldsKeptNext files c.head.level (with_ask None from) name r
   next =
       kept_next files account stands c.head.level some_level from asks.kept_as.there None behind previous name level there (level_link c)
       (record { contents = c; read = read; behind = record { level = refl; previous = refl; size = refl; previous_scn = refl }; is = refl }) r named plain
@@ -133,12 +133,12 @@ module _ (files : Files) (account : Account) (stands : Stands files account) (na
   base = record { guid = from.guid; scn = from.scn; size = image_size from.image; pages = [] }
 
   abbrev link : Link
-  link = record { guid = next.backup.guid; scn = next.backup.scn; size = image_size next.backup.image; pages = taken from.scn next.backup.image }
+  link = record { guid = r.guid; scn = r.scn; size = image_size r.image; pages = taken from.scn r.image }
 
   accepted : next_link c.head.level base name level ≡ Ok link
   accepted =
       ap (next_link c.head.level base name) (some_same level _ (sym there ∙ next.holds.is))
-      ∙ kept_accepted c.head.level next.holds.version (with_ask None from) base name (with_ask (Some next.ask) next.backup) next.holds.ask refl refl refl next.holds.next
+      ∙ kept_accepted c.head.level next.holds.version (with_ask None from) base name (with_ask (Some next.ask) r) next.holds.ask refl refl refl next.holds.next
 
   pub of_record : IsOfRecord account.kept r c
   of_record =
@@ -146,7 +146,6 @@ module _ (files : Files) (account : Account) (stands : Stands files account) (na
       let contents : split.level.contents ≡ c = ok_same split.level.contents c (read_level level) (ap read_level (some_same level split.bytes (sym there ∙ split.there)) ∙ split.level.read) read in
       let first : link ≡ split.link = first_same link split.link [] split.rest split.all in
       let link_is : link ≡ level_link c = first ∙ split.level.is ∙ ap level_link contents in
-      let same : next.backup ≡ r = stands.kept_records.distinct next.backup r next.there named.there (ap (λ (l : Link). l.guid) link_is ∙ sym named.named) in
       record {
         from = from;
         there = asks.kept_as.there;
@@ -154,8 +153,8 @@ module _ (files : Files) (account : Account) (stands : Stands files account) (na
         ancestor = ancestor;
         leads = asks.leads;
         scn = ap (λ (x : Contents). x.head.previous_scn) (sym contents) ∙ split.level.behind.previous_scn;
-        size = sym (ap (λ (l : Link). l.size) link_is) ∙ ap (λ (q : Kept). image_size q.image) same;
-        pages = sym (ap (λ (l : Link). l.pages) link_is) ∙ ap (λ (q : Kept). taken from.scn q.image) same;
+        size = sym (ap (λ (l : Link). l.size) link_is);
+        pages = sym (ap (λ (l : Link). l.pages) link_is);
       }
     where
       first_same : (a b : Link) (ls ms : List Link) → a ∷ ls ≡ b ∷ ms → a ≡ b
