@@ -15,7 +15,7 @@ use Rattle.nb_change.specs.Changes.{Only}
 use Rattle.nb_change.proofs.ChangesLaws.{weaker_has}
 use Rattle.nb_page.specs.Quiet.{Quiet}
 use Rattle.nb_model.specs.declared.reply.Reply.TheVariants.{Pages}
-use Rattle.nb_model.specs.Account.{Kept, Base, base_of, Entry, Plain, IsBase, Account, with_entry}
+use Rattle.nb_model.specs.Account.{Base, base_of, Entry, Plain, IsBase, Account, with_entry}
 use Rattle.nb_model.specs.Image.{Image, image_in}
 use Rattle.nb_model.specs.InPlace.{in_place}
 use Rattle.nb_model.specs.Jobs.{apply_turn, account_behind}
@@ -28,12 +28,12 @@ use Rattle.nb_model.specs.Trail.{ShowsIn}
 use Rattle.nb_model.specs.Well.{IsWellBaseIn}
 use Rattle.nb_model.proofs.MainLaws.{owner-formed, owner_main}
 use Rattle.nb_model.proofs.OpeningLaws.{with_kept}
-use Rattle.nb_model.proofs.StandsLaws.{StandsUnder, opened_entry, stands_with_both}
+use Rattle.nb_model.proofs.StandsLaws.{opened_entry}
 use Rattle.nb_inplace.specs.Apply.{Applies, ApplyAnswers, ApplyLeft, base_with}
 use Rattle.nb_inplace.specs.Kept.{MergesBackup}
 use Rattle.nb_inplace.specs.Verdict.{IsMergeable}
 use Rattle.nb_inplace.proofs.ClosedLaws.{closed_entry, half_in_use}
-use Rattle.nb_inplace.proofs.KeptWay.{half_under, kept_gives}
+use Rattle.nb_inplace.proofs.KeptWay.{half_stands, kept_gives}
 use Rattle.nb_inplace.proofs.StandbyWell.{merged_well}
 use Rattle.nb_inplace.proofs.VerdictLaws.{IsFor, as_it_stands, begun, IsAccepted, accepted}
 use Rattle.nb_top.specs.OneTurn.{OneTurn, TakesKept, leaves_all, merging}
@@ -172,15 +172,11 @@ module _ (old : World) (account : Account) (db name : List ℕ) (stands : Stands
 
     -- half merged files
     half : (before files : Files) → LeavesAll old before → HoldsKept before account.kept → before db ≡ old.files db → ((n : List ℕ) → n ≢ db → files n ≡ before n) → sound_job.half files → HoldsKept files account.kept
-    half before files left its own rest (standby, d, merge, half_in) =
-        let under : StandsUnder files account.kept db (Plain half_in.half (files (delta_name db))) =
-        half_under old.files account stands.now db name standby d (backs standby d merge) half_in.half half_in.is files half_in.there in
-        record {
-          account = with_entry db (Plain half_in.half (files (delta_name db))) its.account;
-          stands = stands_with_both before files its.account db (Plain half_in.half (files (delta_name db))) its.stands plain (λ n off beside. rest n off)
-              (subst (λ (ks : List Kept). StandsUnder files ks db (Plain half_in.half (files (delta_name db)))) (sym its.same) under);
-          same = with_kept db (Plain half_in.half (files (delta_name db))) its.account ∙ its.same;
-        }
+    half before files left its own rest (standby, d, merge, half_in) = record {
+      account = with_entry db (Plain half_in.half (files (delta_name db))) its.account;
+      stands = half_stands old.files account stands.now db name standby d (backs standby d merge) half_in.half half_in.is its.account its.same files half_in.there before its.stands (λ n off beside. rest n off);
+      same = with_kept db (Plain half_in.half (files (delta_name db))) its.account ∙ its.same;
+    }
 
     -- whose name isn't free
     in_use : (files : Files) → sound_job.half files → is_free_file (files db) ≡ true → is_free_file (old.files db) ≡ true
