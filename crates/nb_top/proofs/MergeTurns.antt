@@ -48,17 +48,20 @@ unfolding not_standby
 standby_other name None = some_other (NoFile name) (no_file name)
 standby_other name (Some bytes) = other_first _ (other_database bytes, (other_when _ _ (λ e. cc), tt))
 
+none_other : IsOther None
+none_other e = cc
+
 written_other : (name : List ℕ) (scn : ℕ) (pages : List Page) → IsOther (written_since name scn pages)
 unfolding written_since
-written_other name scn [] e = cc
-written_other name scn (p ∷ ps) = by (nat_lt scn (stamp_of p))
+written_other name scn [] = none_other
+written_other name scn (p ∷ ps) = by (nat_lt scn (stamp_of p)) (written_other name scn ps)
   where
     later : (found : ℕ) → ChainScn name found scn ≢ Usage
     later found h = cc
 
-    by : (t : Bool) → IsOther (elim t as (λ z. Cause) [ true ↦ Some (ChainScn name (stamp_of p) scn) | false ↦ written_since name scn ps ])
-    by true = some_other (ChainScn name (stamp_of p) scn) (later (stamp_of p))
-    by false = written_other name scn ps
+    by : (t : Bool) → IsOther (written_since name scn ps) → IsOther (elim t as (λ z. Cause) [ true ↦ Some (ChainScn name (stamp_of p) scn) | false ↦ written_since name scn ps ])
+    by true rest = some_other (ChainScn name (stamp_of p) scn) (later (stamp_of p))
+    by false rest = rest
 
 next_other : (name bytes : List ℕ) (c : Contents) → IsOther (not_next name bytes c)
 unfolding not_next

@@ -98,9 +98,9 @@ merged_kept : (account : Account) (db : List ℕ) (c : Contents) → account.kep
 unfolding account_after records_after records_of
 merged_kept account db c = sym (append-nil account.kept)
 
-applying_closed : {name : List ℕ} (bytes : List ℕ) (delta : File) → owner_in 3 name bytes delta ≡ Err Unfinished
+applying_closed : (name bytes : List ℕ) (delta : File) → owner_in 3 name bytes delta ≡ Err Unfinished
 unfolding owner_in
-applying_closed bytes delta = refl
+applying_closed name bytes delta = refl
 
 module _ (old : World) (account : Account) (db name : List ℕ) (stands : StandsFor old account) (plain : is_delta db ≡ false) (level_plain : is_delta name ≡ false)
     (takes : (bytes : List ℕ) (c : Contents) → IsMergeable old.files db name bytes c → TakesKept account.kept bytes c) where
@@ -134,9 +134,9 @@ module _ (old : World) (account : Account) (db name : List ℕ) (stands : Stands
   -- the image of what was merged
   shown : (bytes : List ℕ) (c : Contents) (m : IsMergeable old.files db name bytes c) (files : Files) → sound_job.done files → ShowsIn db (base_of (as_standby (takes bytes c m).backup.image)) files
   shown bytes c m files done =
-      let same : IsSame done.0 bytes done.1 c = same_merge done.0 bytes done.1 c done.2.0 m in
+      let same : IsSame done.0 bytes done.1 c = same_merge done.0 bytes done.1 c done.2 m in
       subst (λ (image : Image). ShowsIn db (base_of image) files) (image_is bytes c m)
-      (subst (λ (d : Contents). ShowsIn db (base_with bytes d) files) same.level (subst (λ (l : List ℕ). ShowsIn db (base_with l done.1) files) same.standby done.2.1))
+      (subst (λ (d : Contents). ShowsIn db (base_with bytes d) files) same.level (subst (λ (l : List ℕ). ShowsIn db (base_with l done.1) files) same.standby done.3))
 
   gives : (files : Files) → sound_job.done files → sound_job.gives account.kept files
   gives files done bytes c m = record { backup = (takes bytes c m).backup; kept_as = (takes bytes c m).kept_as; shows = shown bytes c m files done }
@@ -157,7 +157,7 @@ module _ (old : World) (account : Account) (db name : List ℕ) (stands : Stands
           let main : HoldsMain (image_in bytes) (Some bytes) = record { bytes = bytes; there = refl; formed = its.formed; normal = zero; is = refl } in
           ap (λ (e : Entry). (base_in e).image) (opened_entry db (Some bytes) beside bytes (base_of (image_in bytes)) refl (owner_main db (image_in bytes) (Some bytes) beside main))
       by (begun three same) =
-          ap (λ (e : Entry). (base_in e).image) (closed_entry db bytes beside Unfinished (owner-formed db bytes beside its.formed ∙ ap (λ (n : ℕ). owner_in n db bytes beside) three ∙ applying_closed bytes beside))
+          ap (λ (e : Entry). (base_in e).image) (closed_entry db bytes beside Unfinished (owner-formed db bytes beside its.formed ∙ ap (λ (n : ℕ). owner_in n db bytes beside) three ∙ applying_closed db bytes beside))
 
   -- it isn't refused
   module _ (bytes : List ℕ) (c : Contents) (m : IsMergeable old.files db name bytes c) (same : apply_turn old.files db name ≡ merged_turn bytes c) where
@@ -172,18 +172,18 @@ module _ (old : World) (account : Account) (db name : List ℕ) (stands : Stands
 
     -- half merged files
     half : (before files : Files) → LeavesAll old before → HoldsKept before account.kept → before db ≡ old.files db → ((n : List ℕ) → n ≢ db → files n ≡ before n) → sound_job.half files → HoldsKept files account.kept
-    half before files left its own rest (standby, d, merge, half_in) = record {
+    half before files left its own rest (standby, d, fit, half_in) = record {
       account = with_entry db (Plain half_in.half (files (delta_name db))) its.account;
-      stands = half_stands old.files account stands.now db name standby d (backs standby d merge) half_in.half half_in.is its.account its.same files half_in.there before its.stands (λ n off beside. rest n off);
+      stands = half_stands old.files account stands.now db name standby d (backs standby d fit) half_in.half half_in.is its.account its.same files half_in.there before its.stands (λ n off beside. rest n off);
       same = with_kept db (Plain half_in.half (files (delta_name db))) its.account ∙ its.same;
     }
 
     -- whose name isn't free
     in_use : (files : Files) → sound_job.half files → is_free_file (files db) ≡ true → is_free_file (old.files db) ≡ true
-    in_use files (standby, d, merge, half_in) free =
-        let its : TakesKept account.kept standby d = takes standby d merge in
+    in_use files (standby, d, fit, half_in) free =
+        let its : TakesKept account.kept standby d = takes standby d fit in
         absurd (true≢false (sym free ∙ ap is_free_file half_in.there
-        ∙ half_in_use old.files db name standby d merge half_in.half half_in.is (λ none. stands.now.kept_records.not_nil its.backup its.kept_as.there (its.kept_as.named ∙ none))))
+        ∙ half_in_use old.files db name standby d fit half_in.half half_in.is (λ none. stands.now.kept_records.not_nil its.backup its.kept_as.there (its.kept_as.named ∙ none))))
 
     well_done : IsWellDone old account sound_job
     well_done = record {
