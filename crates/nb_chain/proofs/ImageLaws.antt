@@ -189,9 +189,6 @@ module _ (bytes : List ℕ) (n : ℕ) (ls : List Link) (wide : 0 < size_of bytes
       let count : length bytes / size_of bytes ≡ n = ap (λ x. x / size_of bytes) long ∙ mul-div_cancel n wide in
       ap (all_over ls) (writes_all (size_of bytes) 0 [] (cut (size_of bytes) (length bytes / size_of bytes) bytes) refl) ∙ ap (λ (k : ℕ). all_over ls (cut (size_of bytes) k bytes)) count
 
-  marks : List Mark
-  marks = links_noted ls []
-
   shows : Shows (before_page (size_of bytes) n bytes) n (all_over ls (cut (size_of bytes) n bytes)) (links_noted ls [])
   shows = shows-files (before_page (size_of bytes) n bytes) n ls (cut (size_of bytes) n bytes) [] (shows-none (size_of bytes) n bytes wide long)
 

@@ -34,10 +34,6 @@ linked_more ls l (Ok more) = ap (λ (x : List Link). Ok x) (sym (append_assoc ls
 linked_more ls l (Err refusal) = refl
 
 -- what goes on from a link looks at no page of it
-one_bare : (k : ℕ) (l : Link) (name bytes : List ℕ) → next_link k l name bytes ≡ next_link k (record l { pages = [] }) name bytes
-unfolding next_link not_behind
-one_bare k l name bytes = refl
-
 pub links_bare : (files : Files) (k : ℕ) (l : Link) (names : List (List ℕ)) → next_links files k l names ≡ next_links files k (record l { pages = [] }) names
 unfolding next_links next_link not_behind
 links_bare files k l [] = refl

@@ -1,4 +1,4 @@
-ghost use Rattle.std.specs.Prelude.{◌≡◌, ◌≤◌, IsTrue, true, false, length, take, List, ℕ, ◌==◌, IfOk};
+ghost use Rattle.std.specs.Prelude.{◌≡◌, ◌≤◌, IsTrue, true, false, length, ℕ, ◌==◌, IfOk};
 ghost use Rattle.nb_fields.specs.Bytes.{number_in};
 ghost use Rattle.nb_fields.specs.Header.{signature};
 ghost use Rattle.nb_fields.specs.Places.{is_page_size};

@@ -6,28 +6,17 @@ use Rattle.nb_host.specs.World.{World}
 use Rattle.nb_host.specs.Crash.{PageLeft, IsDurable}
 use Rattle.nb_host.specs.Calls.{Remakes, WritesPage, Syncs}
 use Rattle.nb_host.specs.Moments.{IsTimely, Passes}
-use Rattle.nb_change.specs.Changes.{Names, Other, Changes, Only, Remade}
+use Rattle.nb_change.specs.Changes.{Changes, Only, Remade}
 use Rattle.nb_change.proofs.CallLaws.{page_others, remade_alone, remade_step}
 use Rattle.nb_change.proofs.MovedLaws.{remade_begun}
 use Rattle.nb_page.specs.Quiet.{Quiet}
 use Rattle.nb_model.specs.Image.{Page, Image, page_at, first_page}
 use Rattle.nb_model.specs.Levels.{joined}
 use Rattle.nb_copy.specs.Making.{IsBlank, IsFreeOr, IsKept, IsMade}
-use Rattle.nb_copy.specs.Copying.{Copying, front_pages, IsOf, IsBegun, IsCopying}
+use Rattle.nb_copy.specs.Copying.{Copying, front_pages, IsOf, IsBegun}
 use Rattle.nb_copy.proofs.QuietLaws.{quiet_then, sync_then, sync_kept, named}
 use Rattle.nb_copy.proofs.BlankLaws.{zeros-grown, blank_empty, blank_free, blank_left}
 use Rattle.nb_copy.proofs.FrontLaws.{front_next, front_whole, front_blank}
-
--- Calls on other files keep a copy that goes on: whatever the turns of other sessions do, they don't touch its file.
-pub others_keep : (old new : World) (names : Names) (P : Files → Type 0) (copy : Copying) (frozen : Image) → Changes old new names P → Other names copy.name → IsCopying old copy frozen → IsCopying new copy frozen
-others_keep old new names P copy frozen changes other is = record {
-  of = is.of;
-  begun = record {
-    first = is.begun.first;
-    reads = changes.others_read copy.name other ∙ is.begun.reads;
-    blank = λ c now. is.begun.blank c (changes.others.now copy.name c other now);
-  };
-}
 
 -- and calls that change nothing
 pub quiet_keeps : (old new : World) (copy : Copying) (frozen : Image) → Quiet old new → IsBegun old copy frozen → IsBegun new copy frozen

@@ -1,7 +1,7 @@
 -- The file of a backup that has begun: whole it will be that of what the begin has kept.
 use Rattle.std.proofs.Common.{◌≡◌, ◌≢◌, ℕ, zero, suc, ◌<◌, ◌≤◌, List, length, refl, sym, ap, subst, ◌∙◌, arith}
 use Rattle.std.proofs.lemmas.Bool.{ne_eqb}
-use Rattle.std.specs.Prelude.{Bool, true, false, ◌&&◌, IsTrue, Some}
+use Rattle.std.specs.Prelude.{Bool, true, false, IsTrue, Some}
 use Rattle.nb_fields.specs.Places.{is_page_size}
 use Rattle.nb_host.specs.World.{World}
 use Rattle.nb_level.specs.declared.head.LevelHead.{LevelHead}
@@ -63,11 +63,6 @@ level_count : (level scn previous_scn : ℕ) (guid previous : List ℕ) (frozen 
 unfolding count_in
 level_count level scn previous_scn guid previous frozen some =
     ap (λ (t : Bool). elim t as (λ z. ℕ) [ true ↦ length frozen | false ↦ length (taken previous_scn frozen) ]) (sym (ne_eqb level 0 (not_zero level some)))
-
-both : (a b : Bool) → a ≡ true → b ≡ true → (a && b) ≡ true
-both true true p q = refl
-both true false p q = q
-both false b p q = p
 
 module _ (w : World) (name : List ℕ) (bare head : LevelHead) (guid : List ℕ) (scn count : ℕ) (frozen : Image) (page slot : ℕ) (head_is : head ≡ record bare { guid = guid; scn = scn }) (nine : bare.level ≤ 9) (sixteen : length guid ≡ 16) (previous : length bare.previous ≡ 16)
     (four : scn < 4294967296) (wide : IsTrue (is_page_size bare.page_size)) (size : bare.page_size ≡ image_size frozen) (counted : count ≡ length frozen) (sound : IsSoundImage frozen) (made : IsMade w name) where

@@ -27,5 +27,4 @@ pub mod BesideLaws
 pub mod StartLaws
 pub mod RoomStartLaws
 pub mod FileCopyLaws
-pub mod KeepLaws
 pub mod TouchLaws

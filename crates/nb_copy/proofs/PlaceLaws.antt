@@ -1,8 +1,7 @@
 -- Where the SCN entry of a page stands, and which pages need none.
-use Rattle.std.proofs.Common.{◌≡◌, ◌≢◌, ◌⊎◌, inl, inr, ℕ, zero, suc, ◌+◌, ◌-◌, ◌*◌, ◌/◌, ◌%◌, ◌<◌, ◌≤◌, length, refl, sym, ap, ◌∙◌, arith}
+use Rattle.std.proofs.Common.{◌≡◌, ◌⊎◌, inl, inr, ℕ, zero, suc, ◌-◌, ◌*◌, ◌/◌, ◌%◌, ◌<◌, ◌≤◌, length, sym, ap, ◌∙◌, arith}
 use Rattle.std.specs.Prelude.{true, false, slice_index, IsTrue, ◌==◌, ◌&&◌, nat_lt}
-use Rattle.std.proofs.Math.Nat.{div-eq_of_lt, mod-eq-sub-div-mul, div-mul-le_self, lt-div-mul-add}
-use Rattle.std.proofs.lemmas.Nat.{div-mul-add}
+use Rattle.std.proofs.Math.Nat.{div-eq_of_lt, mod-eq-sub-div-mul, div-mul-le_self}
 use Rattle.std.proofs.lemmas.Bool.{and_parts, or_cases, eqb-true}
 use Rattle.nb_fields.specs.Places.{is_page_size, entries_in, scn_place, is_scn_place}
 use Rattle.nb_fields.proofs.SizeLemmas.{size_facts}
@@ -28,21 +27,6 @@ own_place size p some first =
 pub first_place : (size p : ℕ) → p < entries_in size → scn_place size (p / entries_in size) ≡ 2
 first_place size p low = ap (scn_place size) (div-eq_of_lt low)
 
--- any other page has its entry where the page before it has
-pub same_place : (size p : ℕ) → 0 < entries_in size → 1 ≤ p → p % entries_in size ≢ 0 → (p - 1) / entries_in size ≡ p / entries_in size
-same_place size p wide some other =
-    let q : ℕ = p / entries_in size in
-    let r : ℕ = p % entries_in size in
-    let low : q * entries_in size ≤ p = div-mul-le_self p (entries_in size) in
-    let rest : r ≡ p - q * entries_in size = mod-eq-sub-div-mul p (entries_in size) in
-    let high : p < q * entries_in size + entries_in size = lt-div-mul-add wide in
-    let is : p - 1 ≡ q * entries_in size + (p - 1 - q * entries_in size) = omega (arith, low, rest, positive r other) in
-    ap (λ n. n / entries_in size) is ∙ div-mul-add q (entries_in size) (p - 1 - q * entries_in size) (omega (arith, low, high, rest, positive r other))
-  where
-    positive : (n : ℕ) → n ≢ 0 → 1 ≤ n
-    positive zero ne = absurd (ne refl)
-    positive (suc n) ne = omega arith
-
 -- an SCN page has its entry in itself
 pub scn_own : (size p : ℕ) → IsTrue (is_page_size size) → is_scn_place size p ≡ true → scn_place size (p / entries_in size) ≡ p
 unfolding is_scn_place
@@ -65,12 +49,6 @@ loaded_place image size p k index place same is some cover number at (inl one) l
 loaded_place image size p k index place same is some cover number at (inr none) least low =
     let here : place ≡ p = at ∙ ap (scn_place size) cover ∙ own_place size p some (sym number ∙ none) in
     (scn_page-is image size k p place same cover at, omega (arith, here, low))
-
--- and that it stands ready, where none is read
-pub ready_place : (image : Image) (size p : ℕ) → size ≡ image_size image → IsTrue (is_page_size size) → 1 ≤ p → p % entries_in size ≢ 0 → scn_page_of image (p - 1) ≡ scn_page_of image p
-ready_place image size p same is some other =
-    let facts = size_facts size is in
-    ap (λ n. scn_place n ((p - 1) / entries_in n)) (sym same) ∙ ap (scn_place size) (same_place size p (omega (arith, facts.at_least)) some other) ∙ ap (λ n. scn_place n (p / entries_in n)) same
 
 -- an SCN page's entries are in itself
 pub own_page : (image : Image) (size p : ℕ) → size ≡ image_size image → IsTrue (is_page_size size) → is_scn_place size p ≡ true → scn_page_of image p ≡ p

@@ -1,13 +1,13 @@
 -- Calls that touch one file alone, whatever stands in it.
 use Rattle.std.proofs.Common.{◌≡◌, ℕ, List, subst}
 use Rattle.std.specs.Prelude.{Bool, IsTrue, Result}
-use Rattle.nb_host.specs.Files.{File, Files}
+use Rattle.nb_host.specs.Files.{Files}
 use Rattle.nb_host.specs.World.{World}
-use Rattle.nb_host.specs.Calls.{IsStill, Remakes, WritesPage, AppendsBytes}
+use Rattle.nb_host.specs.Calls.{IsStill, WritesPage, AppendsBytes}
 use Rattle.nb_host.specs.Moments.{IsTimely, Passes}
 use Rattle.nb_page.specs.Quiet.{Quiet}
-use Rattle.nb_change.specs.Changes.{Changes, ChangedLeft, Only, Moved, Remade}
-use Rattle.nb_change.proofs.CallLaws.{still_alone, page_alone, bytes_alone, remade_alone}
+use Rattle.nb_change.specs.Changes.{Changes, ChangedLeft, Only, Moved}
+use Rattle.nb_change.proofs.CallLaws.{still_alone, page_alone, bytes_alone}
 use Rattle.nb_change.proofs.ChangesLaws.{begun, rested, composed, weaker_has}
 use Rattle.nb_change.proofs.MomentLaws.{started, goes_on}
 use Rattle.nb_level.specs.Adding.{IsWhileAdding, AddsTwo}
@@ -50,10 +50,6 @@ module _ (name : List ℕ) where
   pub touches_bytes : {T E : Type 0} (tells : Bool) (result : Result T E) (old new : World) (bytes : List ℕ) → IsTrue tells → IsTimely old → AppendsBytes tells result old new name bytes → new.said ≡ old.said → Passes old new → Touches old new (Only name)
   touches_bytes tells result old new bytes told timely appends silent time =
       touches_has old new (Moved old name (λ b c. Unit {0})) (bytes_alone tells result old new name bytes (λ b c. Unit {0}) told timely appends silent time (λ b c left by. tt))
-
-  pub touches_made : {T E : Type 0} (tells : Bool) (result : Result T E) (old new : World) (file : File) → IsTrue tells → IsTimely old → Remakes tells result old new name file → new.said ≡ old.said → Passes old new → Touches old new (Only name)
-  touches_made tells result old new file told timely remakes silent time =
-      touches_has old new (Remade old name (λ c. Unit {0})) (remade_alone tells result old new name file (λ c. Unit {0}) told timely remakes silent time tt)
 
   -- two pieces are appended, also where that fails
   pub touches_two : {T E : Type 0} (result : Result T E) (old new : World) (first second : List ℕ) → IsTimely old → AddsTwo result old new name first second → new.said ≡ old.said → Touches old new (Only name)

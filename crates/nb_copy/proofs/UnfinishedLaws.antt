@@ -111,10 +111,6 @@ no_runs : length (run_bytes []) ≡ 0
 unfolding run_bytes
 no_runs = refl
 
-end_front : (n : ℕ) → end_bytes n ≡ bytes_of 4 end_mark ++ (bytes_of 4 n ++ [])
-unfolding end_bytes
-end_front n = ap (λ (x : List ℕ). bytes_of 4 end_mark ++ x) (sym (append-nil (bytes_of 4 n)))
-
 -- Where torn bytes are read as runs, the end stands whole behind all of them.
 module _ (h : Head) (n : ℕ) (wide : 1024 ≤ h.size) (low : n < 4294967296) where
   abbrev Whole : List Stretch → List ℕ → Type 0

@@ -60,11 +60,6 @@ unfolding data_payload
 content_own owner p slots =
     with_inner 4 (bytes_of 4 0) (bytes_of 4 owner) (replicate 8 0 ++ slots) (bytes_of 4 p) (length-bytes_of 4 0) (omega (arith, length-bytes_of 4 p, length-bytes_of 4 owner))
 
-pub payload_long : (next owner : ℕ) (slots : List ℕ) → length (data_payload next owner slots) ≡ 16 + length slots
-unfolding data_payload
-payload_long next owner slots =
-    omega (arith, length-append (bytes_of 4 next) (bytes_of 4 owner ++ (replicate 8 0 ++ slots)), length-append (bytes_of 4 owner) (replicate 8 0 ++ slots), length-append (replicate 8 0) slots, length-bytes_of 4 next, length-bytes_of 4 owner)
-
 -- what a page of zeros becomes by its owner and its slots
 pub payload_filled : (owner n : ℕ) (slots page : List ℕ) → n ≡ 16 + length slots → page ≡ with_part 4 (bytes_of 4 owner) (replicate n 0) → take 16 page ++ slots ≡ data_payload 0 owner slots
 unfolding data_payload bytes_of

@@ -1,5 +1,5 @@
 -- Whether a page is a data page, and what it then is written as.
-use Rattle.std.proofs.Common.{◌≡◌, ◌≢◌, ℕ, ◌-◌, ◌<◌, List, [], ◌∷◌, ◌++◌, length, take, drop, refl, sym, ap, ◌∙◌, arith, length-drop}
+use Rattle.std.proofs.Common.{◌≡◌, ℕ, ◌-◌, ◌<◌, List, [], ◌∷◌, ◌++◌, length, take, drop, refl, sym, ap, ◌∙◌, arith, length-drop}
 use Rattle.std.specs.Prelude.{Bool, true, false, not, ◌&&◌, ◌==◌, Some, None}
 use Rattle.std.proofs.lemmas.List.{append-nil, drop_all}
 use Rattle.nb_fields.proofs.PageLemmas.{padded_whole}
@@ -12,7 +12,7 @@ use Rattle.nb_model.specs.Forms.{is_kind}
 use Rattle.nb_model.specs.Causes.{when, not_kind}
 use Rattle.nb_model.specs.Chains.{owner_in}
 use Rattle.nb_model.proofs.HeaderLaws.{header-kind}
-use Rattle.nb_model.proofs.ReadLaws.{eq_no, eq_yes}
+use Rattle.nb_model.proofs.ReadLaws.{eq_yes}
 use Rattle.nb_engine.specs.Data.{not_data, data_cause}
 use Rattle.nb_engine.specs.Put.{entry_cause}
 use Rattle.nb_engine.proofs.CauseLaws.{first_next, first_here, one_cause}
@@ -34,10 +34,6 @@ module _ (image : Image) (owner p : ℕ) where
 
   -- it is a data page
   module _ (kind : not_kind image 5 p ≡ None) where
-    pub owner_fails : owner_in (page_at image p) ≢ owner → not_data image owner p ≡ Some (NotDatabase p)
-    owner_fails other =
-        by_owner (is_kind image 5 p) (owner_in (page_at image p) == owner) (NotDatabase p) kind ∙ ap (λ (t : Bool). when (not t) (NotDatabase p)) (eq_no (owner_in (page_at image p)) owner other)
-
     pub owner_is : owner_in (page_at image p) ≡ owner → not_data image owner p ≡ None
     owner_is same =
         by_owner (is_kind image 5 p) (owner_in (page_at image p) == owner) (NotDatabase p) kind ∙ ap (λ (t : Bool). when (not t) (NotDatabase p)) (eq_yes (owner_in (page_at image p)) owner same)

@@ -140,9 +140,6 @@ module _ (image : Image) (size from : ℕ) (map : Page) (same : size ≡ image_s
 pub taken_on : (image : Image) (from page next : ℕ) → AreTaken image from page → AreTaken image page next → AreTaken image from next
 taken_on image from page next before here r low high inside = elim (leb_tells (suc r) page) [ inl w ↦ before r low w.1 inside | inr w ↦ here r (omega (arith, w.1)) high inside ]
 
-pub taken_none : (image : Image) (from : ℕ) → AreTaken image from from
-taken_none image from r low high inside = absurd (omega arith)
-
 -- what was found near, where something was
 pub some_near : (image : Image) (page behind free : ℕ) (found : Option ℕ) → found ≡ Some free → MatchOption found (AreTaken image page behind) (IsFreeNear image page) → IsFreeNear image page free
 some_near image page behind free found e near = subst (λ (o : Option ℕ). MatchOption o (AreTaken image page behind) (IsFreeNear image page)) e near
@@ -201,31 +198,6 @@ pub map_last : (image : Image) (from page p : ℕ) (map : Page) → length image
 map_last image from page p map end is looked inside =
     let last : min page (length image) - 1 ≡ min p (length image - 1) = omega arith in
     record { most = omega arith; last = subst (λ (q : ℕ). IsMap image q map) last (looked (omega arith)) }
-
--- a search that ended at a page below the length has read its inventory page, and so has one that ended at the length, where the
--- page before has its bit there too
-module _ (image : Image) (size from p count : ℕ) (map : Page) (same : size ≡ image_size image) (counted : count ≡ length image) (ends : EndsAt image from p map) (inside : from < count) where
-  ended : IsEnd image p map
-  ended = ends (omega (arith, inside, counted))
-
-  pub read_below : p < count → IsMap image p map
-  read_below low =
-      let last : min p (length image - 1) ≡ p = omega (arith, low, counted) in
-      subst (λ (q : ℕ). IsMap image q map) last ended.last
-
-  pub read_beside : 0 < bits_in size → 0 < p % bits_in size → IsMap image p map
-  read_beside least some = elim (leb_tells (suc p) count) [
-    | inl low ↦ read_below low.1
-    | inr end ↦
-        let w : ℕ = bits_in size in
-        let k : ℕ = p / w in
-        let most = ended.most in
-        let last : min p (length image - 1) ≡ p - 1 = omega (arith, end.1, counted, most) in
-        let start : k * w ≤ p - 1 = omega (arith, some) in
-        let back : p - 1 < k * w + w = omega (arith, least, some) in
-        let before : IsMap image (p - 1) map = subst (λ (q : ℕ). IsMap image q map) last ended.last in
-        map_of image (p - 1) p map (sym (same_map image size (p - 1) p same (in_group w k (p - 1) start back).0)) before.kind before.page
-  ]
 
 -- in a sound image the inventory page of a page below the length is there
 pub inventory_low : (image : Image) (p : ℕ) → IsTrue (is_page_size (image_size image)) → 5 ≤ length image → p < length image → inventory_of image p < length image

@@ -224,9 +224,6 @@ filled_page old payload new long is = is ∙ ap (λ (xs : List ℕ). take 16 old
 
 -- what a system place holds, by its kind
 module _ (image : Image) (p : ℕ) where
-  pub kind_of_place : (t : Bool) → is_inventory_place (image_size image) p ≡ t → system_kind image p ≡ elim t as (λ z. ℕ) [ true ↦ 2 | false ↦ 10 ]
-  kind_of_place t e = ap (λ (u : Bool). elim u as (λ z. ℕ) [ true ↦ 2 | false ↦ 10 ]) e
-
   abbrev by_place : Bool → List ℕ
   by_place t = elim t as (λ z. List ℕ) [
     | true ↦ inventory_payload (image_size image) ((p + 1) / bits_in (image_size image)) 0

@@ -12,14 +12,14 @@ use Rattle.nb_host.specs.declared.refusals.Refusal.TheVariants.{NotDatabase}
 use Rattle.nb_pip.specs.Bits.{with_bit as with_bit_at}
 use Rattle.nb_model.specs.Image.{Page, Image, page_at, image_size, image_scn}
 use Rattle.nb_model.specs.Account.{Base}
-use Rattle.nb_model.specs.Strokes.{page, base_after}
+use Rattle.nb_model.specs.Strokes.{page}
 use Rattle.nb_model.specs.Forms.{Draft, drafted, put, set_bit, with_bit, is_kind, inventory_of, bit_number}
 use Rattle.nb_model.specs.Causes.{Cause, first_cause, not_kind, not_of_form, no_room}
 use Rattle.nb_model.proofs.BitLaws.{with_bit_length}
 use Rattle.nb_engine.specs.Put.{entry_cause, raise_strokes, put_stroke}
 use Rattle.nb_engine.specs.Mark.{bit_for, mark_cause, bit_stroke, mark_stroke, mark_strokes}
 use Rattle.nb_engine.proofs.CauseLaws.{first_next, first_here}
-use Rattle.nb_engine.proofs.PutLaws.{Keeps, raise_keeps, put_stroke-after, is_kind-parts, none_of, needs-found, put_strokes, put_form, put_room, put_refused}
+use Rattle.nb_engine.proofs.PutLaws.{Keeps, put_stroke-after, is_kind-parts, none_of, needs-found, put_strokes, put_form, put_room, put_refused}
 use Rattle.nb_engine.proofs.RaiseLaws.{stamped-over}
 
 -- the bit that says whether a page is free
@@ -106,10 +106,7 @@ module _ (b : Base) (p : ℕ) where
           ap (λ (d : Draft). d.strokes) draft-is
           ∙ put_strokes b place 2 payload there plain some (sym mark_cause-is ∙ none)
 
-    -- The raise of its entry keeps the inventory page, so the bit is written after it as it would be before.
-    pub mark_keeps : entry_cause b.image place ≡ None → 0 < entries_in (image_size b.image) → Keeps b.image place (base_after b (raise_strokes b.image place)).image
-    mark_keeps none some = raise_keeps b place none plain some
-
+-- The raise of its entry keeps the inventory page, so the bit is written after it as it would be before.
 pub mark_stroke-after : (image after : Image) (p bit : ℕ) → Keeps image (inventory_of image p) after → bit_stroke after (inventory_of image p) (bit_number image p) bit ≡ mark_stroke image p bit
 mark_stroke-after image after p bit keeps =
     let place : ℕ = inventory_of image p in

@@ -57,26 +57,6 @@ not_asked S T (Err e) fault image is tested = subst (λ (f : Fault). RefusesFull
     on Device t = tt
     on Memory t = tt
 
--- the same of a call that is answered as it is
-pub asked : {T : Type 0} (result : Result T Fault) (image : Image) → Tested result None → RefusesFull result image
-asked (Ok value) image tested = tt
-asked (Err (Refused r)) image tested = absurd (none_some tested)
-  where
-    none_some : None ≡ Some r → ⊥
-    none_some h = cc
-asked (Err Device) image tested = tt
-asked (Err Memory) image tested = tt
-
--- what was found is passed on
-pub room_passed : (S T : Type 0) (result : Result T Fault) (fault : Fault) (image : Image) → IsErr result × IsErrAnd result (λ f. f ≡ fault) → RefusesFull {T = S} (Err fault) image → RefusesFull result image
-room_passed S T (Ok value) fault image is found = absurd is.1
-room_passed S T (Err e) fault image is found = subst (λ (f : Fault). RefusesFull {T = T} (Err f) image) (sym is.1) (on fault found)
-  where
-    on : (f : Fault) → RefusesFull {T = S} (Err f) image → RefusesFull {T = T} (Err f) image
-    on (Refused r) t = t
-    on Device t = tt
-    on Memory t = tt
-
 -- a draft for which no page is left, and one for which one is
 pub room_found : (d : Draft) → d.full ≡ false → no_room d ≡ None
 room_found d e = ap (λ (t : Bool). when t (Full 1048576)) e
@@ -155,10 +135,6 @@ module _ (image : Image) where
   pub room_at : (p : ℕ) → IsNextPlace image p → p < 1048576 → is_system_place (image_size image) p ≡ false → IsRoom image p
   room_at p is most plain = record { least = is.least; most = most; plain = plain; free = is.free }
 
-  -- past the most pages there is none
-  pub no_room_past : (p : ℕ) → IsNextPlace image p → 1048576 ≤ p → HasNoRoom image
-  no_room_past p is past q room = let behind = is.before q room in let most = room.most in absurd (omega arith)
-
 -- a page past the end, and one below the length
 pub there_past : (image : Image) (kind p : ℕ) → length image ≤ p → not_there image kind p ≡ None
 there_past image kind p past = ap (λ (t : Bool). elim t as (λ z. Cause) [ true ↦ not_kind image kind p | false ↦ None ]) (lt_no p (length image) past)
@@ -233,9 +209,6 @@ ready_sound image p size is =
 abbrev pub AreReady : Image → (first below : ℕ) → Type 0
 AreReady image first below = (p : ℕ) → first ≤ p → p < below → (p < length image → is_free_page image p ≡ true) → not_ready image p ≡ None
 
-pub ready_none : (image : Image) (first : ℕ) → AreReady image first first
-ready_none image first p low high free = absurd (omega arith)
-
 -- one place more, and then the next that the search comes to
 pub ready_to : (image : Image) (first place : ℕ) → AreReady image first place → not_ready image place ≡ None → AreReady image first (place + 1)
 ready_to image first place before here p low high free = elim (eqb_tells p place) [ inl w ↦ ap (not_ready image) w.1 ∙ here | inr w ↦ before p low (omega (arith, w.1)) free ]
@@ -257,8 +230,3 @@ way_begins image first e way = record {
   room = way.room;
   ready = λ p low high free. elim (leb_tells (suc p) first) [ inl w ↦ absurd (none_between image 5 first p e low w.1 free) | inr w ↦ way.ready p (omega (arith, w.1)) high free ];
 }
-
--- what is ready at Ok
-pub way_asked : {T : Type 0} (result : Result T Fault) (image : Image) (first : ℕ) → IsRoom image first → Tested result (not_ready image first) → OnOk result (IsWayReady image first)
-way_asked (Ok value) image first room tested = way_ends image first first (ready_none image first) tested room
-way_asked (Err e) image first room tested = tt

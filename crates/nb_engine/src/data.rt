@@ -31,7 +31,7 @@ const HEAD: usize = 16;
 
 /// Takes over what these bytes have behind the head of a page.
 fn put_behind(page: &mut [u8], bytes: &[u8])
-    requires size { IsTrue (is_page_size (length page.old)) }
+    requires head { 16 ≤ length page.old }
     requires same { length bytes.now ≡ length page.old }
     ensures { page.new ≡ take 16 page.old ++ drop 16 bytes.now }
 {

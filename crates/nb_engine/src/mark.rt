@@ -10,7 +10,6 @@ ghost use Rattle.nb_base.specs.Takes.{IsNoRefusal};
 ghost use Rattle.nb_state.specs.Open.{IsOpen};
 ghost use Rattle.nb_state.specs.Does.{Goes, Makes};
 ghost use Rattle.nb_engine.specs.Tries.{Tries};
-ghost use Rattle.nb_engine.specs.Put.{entry_cause};
 ghost use Rattle.nb_engine.specs.Mark.{bit_for, bit_stroke, mark_cause, mark_strokes};
 
 use crate::pages::{InventoryPage, ScnPage};

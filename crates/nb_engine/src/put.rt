@@ -1,7 +1,6 @@
 // A raw page is written, its SCN entry first where that is below the current SCN.
-ghost use Rattle.std.specs.Prelude.{◌≡◌, ◌≢◌, ◌+◌, ◌<◌, ◌≤◌, [], ◌∷◌, true, IsTrue, IfErr, None, length};
+ghost use Rattle.std.specs.Prelude.{◌≡◌, ◌+◌, ◌<◌, ◌≤◌, [], ◌∷◌, true, IsTrue, IfErr, None, length};
 ghost use Rattle.nb_fields.specs.Places.{is_page_size};
-ghost use Rattle.nb_host.specs.declared.faults.Fault.TheVariants.{Memory};
 ghost use Rattle.nb_change.specs.Counts.{CountsDevice};
 ghost use Rattle.nb_page.specs.Quiet.{Quiet};
 ghost use Rattle.nb_model.specs.Image.{page_at};

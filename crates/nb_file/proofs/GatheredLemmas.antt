@@ -1,5 +1,5 @@
 -- What a file holds with what waits for it.
-use Rattle.std.proofs.Common.{◌≡◌, ℕ, true, false, List, ◌++◌, length, Option, None, Some, arith, refl, sym, ◌∙◌, ap, cond}
+use Rattle.std.proofs.Common.{◌≡◌, ℕ, true, false, List, ◌++◌, length, Option, None, Some, arith, sym, ◌∙◌, ap, cond}
 use Rattle.std.specs.Prelude.{is_none}
 use Rattle.nb_host.specs.Files.{put_at}
 use Rattle.nb_file.specs.Gathered.{seen, is_owner, IsNext, IsFreeFor}
@@ -9,11 +9,6 @@ use Rattle.nb_file.proofs.PutLemmas.{put_at-next}
 pub seen-owner : (own : Option (List ℕ)) (at : ℕ) (bytes name file : List ℕ) → is_owner own name ≡ true → seen own at bytes name file ≡ put_at file at bytes
 seen-owner None at bytes name file is = cc
 seen-owner (Some own) at bytes name file is = ap (λ b. cond b (put_at file at bytes) file) is
-
--- of another, nothing
-pub seen-other : (own : Option (List ℕ)) (at : ℕ) (bytes name file : List ℕ) → is_owner own name ≡ false → seen own at bytes name file ≡ file
-seen-other None at bytes name file is = refl
-seen-other (Some own) at bytes name file is = ap (λ b. cond b (put_at file at bytes) file) is
 
 -- where something waits and it is nobody else's, it is this file's
 pub owns : (own : Option (List ℕ)) (name : List ℕ) → is_none own ≡ false → IsFreeFor own name → is_owner own name ≡ true

@@ -11,11 +11,6 @@ unfolding spaced
 spaced-append [] b = refl
 spaced-append (w ∷ a) b = ap (λ (l : List ℕ). 32 ∷ (word_text w ++ l)) (spaced-append a b) ∙ ap (λ (l : List ℕ). 32 ∷ l) (sym (append_assoc (word_text w) (spaced a) (spaced b)))
 
--- one word more
-pub spaced-one : (w : Word) → spaced (w ∷ []) ≡ 32 ∷ (word_text w ++ [])
-unfolding spaced
-spaced-one w = refl
-
 -- what a line holds after one word more
 pub one_word_more : (words : List InLine) (i : ℕ) (word : InLine) (start here spaced_here next : List ℕ) → i < length words
     → here ≡ start ++ spaced (map seen (take i words)) → spaced_here ≡ here ++ 32 ∷ [] → next ≡ spaced_here ++ word_text (seen (get_or words i word)) → next ≡ start ++ spaced (map seen (take (i + 1) words))

@@ -69,10 +69,7 @@ module _ (pages : Pages) (once : IsDistinct nat_eq (keys_of pages)) where
   pub of_finished : (t : Trail) → AreOf t.base.image pages → AreOf (after_stroke finish t).base.image (behind_first pages)
   of_finished t all = of_control t.base.image _ 0 _ _ (ap (λ (b : Base). b.image) (trail_base finish t) ∙ finished_image t.base) all
 
-  -- none waits behind it
-  pub none_waits_put : (cap p : ℕ) (bytes : List ℕ) → NoneWaits pages → NoneWaits (put_first pages cap p (record { bytes = bytes; rank = None }))
-  none_waits_put cap p bytes none = All-put p pages once cap _ (λ e. e.1.rank ≡ None) (λ e. e.1.rank ≡ None) (λ e apart waits. waits) refl none
-
+  -- where none waits, none waits behind page 0 either
   pub none_waits_dropped : NoneWaits pages → NoneWaits (behind_first pages)
   none_waits_dropped none = All-dropped 0 pages once (λ e. e.1.rank ≡ None) (λ e. e.1.rank ≡ None) (λ e apart waits. waits) none
 

@@ -87,9 +87,6 @@ rank_taken p (suc n) (e ∷ es) long none =
 
 -- A page is kept that drops none that waits: it has the rank that it is given, and every other waits as it did.
 module _ (held : Rattle.nb_cache.specs.Held.Held) (p : ℕ) (v : Slot) (some : 0 < held.cap) (long : length held.pages ≤ held.cap) (none : dropped held p ≡ None) where
-  abbrev pages : Pages
-  pages = held.pages
-
   abbrev after : Option (ℕ × Slot) → Pages
   after o = option_map_or (λ e. (e.0, v) ∷ remove_entry (nat_eq p) held.pages) o ((p, v) ∷ take (held.cap - 1) held.pages)
 

@@ -1,6 +1,6 @@
 -- What is seen is what the files hold, with each page that waits written over.
-use Rattle.std.proofs.Common.{◌≡◌, ◌≢◌, inl, inr, ℕ, zero, suc, ◌+◌, ◌<◌, ◌≤◌, List, [], ◌∷◌, length, ◌++◌, refl, sym, ap, subst, ◌∙◌, arith, get_or-set_other}
-use Rattle.std.specs.Prelude.{Bool, true, false, nat_eq, is_some, Option, None, Some}
+use Rattle.std.proofs.Common.{◌≡◌, ◌≢◌, inl, inr, ℕ, suc, ◌+◌, ◌<◌, List, [], ◌∷◌, length, ◌++◌, refl, sym, ap, subst, ◌∙◌, arith, get_or-set_other}
+use Rattle.std.specs.Prelude.{true, false, nat_eq, is_some, Option, None, Some}
 use Rattle.std.specs.List.{AllByRecursion, IsDistinct}
 use Rattle.std.specs.Map.{keys_of}
 use Rattle.std.proofs.lemmas.Bool.Decides.{eqb_tells, leb_tells}
@@ -8,7 +8,7 @@ use Rattle.std.proofs.lemmas.Map.Keys.{IsDistinct-head, IsDistinct-tail}
 use Rattle.nb_host.specs.World.{World}
 use Rattle.nb_model.specs.Image.{Page, Image, Numbered, page_at, image_size, written_at, overwritten}
 use Rattle.nb_model.specs.Account.{Base}
-use Rattle.nb_model.specs.Trail.{Trail, ShowsIn}
+use Rattle.nb_model.specs.Trail.{Trail}
 use Rattle.nb_model.specs.Waiting.{seen}
 use Rattle.nb_model.proofs.WayLaws.{same_pages}
 use Rattle.nb_model.proofs.OwnerLaws.{written_length}
@@ -16,7 +16,7 @@ use Rattle.nb_base.proofs.WrittenLaws.{written_same}
 use Rattle.nb_cache.specs.Held.{Slot, rank_of}
 use Rattle.nb_owner.specs.Open.{Pages, Held, AreOf, IsOpen, waits}
 use Rattle.nb_owner.specs.Seen.{IsSeenOver, waiting_in}
-use Rattle.nb_owner.proofs.RankLaws.{rank_here, rank_next, other_false}
+use Rattle.nb_owner.proofs.RankLaws.{rank_here, rank_next}
 
 -- a page that isn't in memory doesn't wait
 none_waits : (p : ℕ) (es : Pages) → AllByRecursion (λ k. nat_eq p k ≡ false) (keys_of es) → rank_of es p ≡ None

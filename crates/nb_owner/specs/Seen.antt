@@ -1,5 +1,5 @@
 -- What is seen of an open database: its two files, with each page that waits written over them.
-use Rattle.std.specs.Prelude.{◌≡◌, ℕ, List, [], ◌∷◌, length, Option, None, Some}
+use Rattle.std.specs.Prelude.{◌≡◌, ℕ, List, [], ◌∷◌, length, None, Some}
 use Rattle.nb_host.specs.World.{World}
 use Rattle.nb_model.specs.Image.{Numbered}
 use Rattle.nb_model.specs.Account.{Base}

@@ -1,8 +1,8 @@
 // Pages wait in memory where writes aren't forced, and go out by rank. In the normal state SCN inventory pages go first, which are kept for
 // good before any other page follows. In the stalled state pages go into their slots first, which are kept for good before any
 // allocation page names them.
-ghost use Rattle.std.specs.Prelude.{◌≡◌, ◌≢◌, ◌<◌, ◌≤◌, ℕ, List, [], length, IsTrue, IsOk, IfErr, OnOk, OnErr, MatchOption, Some, None, Option, true, false, nat_eq};
-ghost use Rattle.nb_fields.specs.Places.{is_page_size, is_scn_place};
+ghost use Rattle.std.specs.Prelude.{◌≡◌, ◌≢◌, ◌<◌, ◌≤◌, ℕ, [], length, IsTrue, IsOk, IfErr, OnOk, OnErr, MatchOption, Some, None, true, false, nat_eq};
+ghost use Rattle.nb_fields.specs.Places.{is_scn_place};
 ghost use Rattle.nb_host.specs.Causes.{CountsFault};
 ghost use Rattle.nb_host.specs.declared.faults.Fault.TheVariants.{Memory};
 ghost use Rattle.nb_change.specs.Changes.{Only, Changes};

@@ -1,11 +1,11 @@
 -- Agents in a list, by their sessions.
-use Rattle.std.proofs.Common.{◌≡◌, ◌≢◌, ◌<◌, ◌≤◌, ◌+◌, ◌-◌, ◌*◌, ◌^◌, ℕ, zero, suc, List, [], ◌∷◌, length, take, drop, get_or, ◌⊎◌, inl, inr, Some, Result, Ok, Err, OnOk, slice_get, slice_set, refl, ap, sym, ◌∙◌, subst, arith, add-one}
+use Rattle.std.proofs.Common.{◌≡◌, ◌≢◌, ◌<◌, ◌≤◌, ◌+◌, ◌-◌, ◌*◌, ◌^◌, ℕ, zero, suc, List, [], ◌∷◌, length, take, drop, get_or, ◌⊎◌, inl, inr, Some, Result, Ok, Err, OnOk, slice_get, slice_set, refl, ap, sym, ◌∙◌, subst, arith}
 use Rattle.std.specs.List.{AllByRecursion, range_with_len}
 use Rattle.std.proofs.lemmas.Bool.{cases_lt}
 use Rattle.std.proofs.lemmas.List.Sums.{sum_by-set}
-use Rattle.std.proofs.lemmas.Option.{slice_get-get_or, slice_get_read, slice_get_within, get_or_from_slice_get}
+use Rattle.std.proofs.lemmas.Option.{slice_get-get_or, slice_get_within, get_or_from_slice_get}
 use Rattle.nb_host.specs.declared.faults.Fault.{Fault}
-use Rattle.nb_sched.specs.Turns.{scene, Kind, agent_of, IsDone, IsLower, Rests, IsReady, total}
+use Rattle.nb_sched.specs.Turns.{scene, Kind, agent_of, IsLower, Rests, IsReady, total}
 
 -- an agent has the session after its place
 pub agent_there : {A : Type 0} (agents : List A) (session : ℕ) (agent : A) → agent_of agents session ≡ Some agent → (0 < session) × (slice_get agents (session - 1) ≡ Some agent)
@@ -22,10 +22,6 @@ agent_read agents (suc n) place other is within =
 -- an agent that is there is the same, whatever stands for one that isn't
 pub get_or_any : {A : Type 0} (agents : List A) (place : ℕ) (a b : A) → place < length agents → get_or agents place a ≡ get_or agents place b
 get_or_any agents place a b within = cc (slice_get-get_or agents place a within, slice_get-get_or agents place b within)
-
--- the agent that was read at a place
-pub agent_here : {A : Type 0} (agents : List A) (place : ℕ) (agent : A) → place < length agents → agent ≡ get_or agents place agent → agent_of agents (place + 1) ≡ Some agent
-agent_here agents place agent within read = rw add-one (slice_get_read agents (length agents) place agent refl within read)
 
 -- what stands at j after a write at i: what was written, or what stood there
 get_of_set : {A : Type 0} (xs : List A) (i j : ℕ) (y z : A) → slice_get (slice_set xs i y) j ≡ Some z → ((j ≡ i) × (z ≡ y)) ⊎ ((j ≢ i) × (slice_get xs j ≡ Some z))
@@ -44,10 +40,6 @@ agent_of_set agents session (suc place) moved agent above there =
     elim (get_of_set agents (session - 1) place moved agent there) [ inl here ↦ inl (omega (arith, here.0), here.1) | inr other ↦ inr (λ same. other.0 (omega arith), other.1) ]
 
 module _ {A : Type 0} (left : A → ℕ × ℕ) where
-  -- the agent that was read has finished
-  pub rests_here : (agents : List A) (session : ℕ) (agent : A) → agent_of agents session ≡ Some agent → IsDone (left agent) → Rests left agents session
-  rests_here agents session agent there done other is = let same : agent ≡ other = cc in subst (λ (a : A). IsDone (left a)) same done
-
   -- a session past the last agent has none
   pub rests_past : (agents : List A) (session : ℕ) → length agents < session → Rests left agents session
   rests_past agents zero past agent there = absurd cc

@@ -1,4 +1,4 @@
-ghost use Rattle.std.specs.Prelude.{◌≡◌, ◌≤◌, ◌<◌, ◌∷◌, ◌++◌, [], ℕ, length, OnOk};
+ghost use Rattle.std.specs.Prelude.{◌≤◌, ◌<◌, ◌∷◌, ◌++◌, [], ℕ, length, OnOk};
 ghost use Rattle.nb_model.specs.Run.{rounds};
 ghost use Rattle.nb_sched.specs.Turns.{kind, scene, IsReady, AllDone, Rests, TakesTurns};
 

@@ -136,10 +136,6 @@ counted_more [] i s inside = absurd (omega arith)
 counted_more (l ∷ lists) zero s inside = omega (arith, counted_push l s)
 counted_more (l ∷ lists) (suc i) s inside = omega (arith, counted_more lists i s (omega arith))
 
-none_counted : (n : ℕ) → statement_count (replicate n []) ≡ 0
-none_counted zero = refl
-none_counted (suc n) = omega (arith, none_counted n)
-
 -- the order of turns of the lines
 order_in_fits : (lines : List Numbered) → FitsOrder (order_in lines).0
 unfolding order_in

@@ -9,10 +9,6 @@ use Rattle.nb_model.specs.Seeds.{seeded, stepped, session_of}
 abbrev pub behind : List ℕ → Option (List ℕ) → Option (List ℕ)
 behind front others = option_map (λ sessions. front ++ sessions) others
 
-pub start : (others : Option (List ℕ)) → behind [] others ≡ others
-start None = refl
-start (Some sessions) = refl
-
 regroup : (front : List ℕ) (s : ℕ) (others : Option (List ℕ)) → behind front (option_map (λ sessions. s ∷ sessions) others) ≡ behind (front ++ s ∷ []) others
 regroup front s None = refl
 regroup front s (Some sessions) = ap (λ (xs : List ℕ). Some xs) (sym (append_assoc front (s ∷ []) sessions))

@@ -1,4 +1,4 @@
-ghost use Rattle.std.specs.Prelude.{◌≡◌, ℕ, List, option_map, IfOk, IfErr};
+ghost use Rattle.std.specs.Prelude.{◌≡◌, option_map, IfOk, IfErr};
 ghost use Rattle.nb_host.specs.declared.faults.Fault.TheVariants.{Memory};
 ghost use Rattle.nb_model.specs.Seeds.{stepped, session_of, seeded};
 ghost use Rattle.nb_script.specs.Order.{spaced_session, sessions_at, seed_at, order_spelled, order_at};

@@ -1,4 +1,4 @@
-ghost use Rattle.std.specs.Prelude.{◌≡◌, ℕ, ◌≤◌, ◌<◌, nat_lt, IfOk, IfErr, IfSome, None, if◌then◌else◌};
+ghost use Rattle.std.specs.Prelude.{◌≡◌, ◌≤◌, ◌<◌, nat_lt, IfOk, IfErr, IfSome, None, if◌then◌else◌};
 ghost use Rattle.nb_host.specs.declared.faults.Fault.TheVariants.{Memory, Refused};
 ghost use Rattle.nb_host.specs.declared.refusals.Refusal.TheVariants.{BadScript};
 ghost use Rattle.nb_script.specs.Asked.{IsAskable, IsSpelled};

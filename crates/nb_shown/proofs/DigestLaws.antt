@@ -1,8 +1,8 @@
 -- The bytes of the pages so far.
-use Rattle.std.proofs.Common.{◌≡◌, ℕ, suc, ◌<◌, ◌≤◌, List, [], ◌∷◌, ◌++◌, length, take, sym, ap, ◌∙◌}
+use Rattle.std.proofs.Common.{◌≡◌, ℕ, suc, ◌<◌, List, [], ◌∷◌, ◌++◌, length, take, sym, ap, ◌∙◌}
 use Rattle.std.proofs.Math.Seq.{take-suc}
 use Rattle.std.proofs.lemmas.Grind.{flat_map-append}
-use Rattle.std.proofs.lemmas.List.{append-nil, take_all}
+use Rattle.std.proofs.lemmas.List.{append-nil}
 use Rattle.std.proofs.lemmas.List.Concat.{flat_map-cons}
 use Rattle.nb_model.specs.Image.{Page, Image, page_at}
 use Rattle.nb_shown.specs.Replies.{bytes_of_image}
@@ -15,7 +15,3 @@ pub bytes_more : (image : Image) (n : ℕ) → n < length image → bytes_of_ima
 bytes_more image n low =
     sym (ap bytes_of_image (take-suc image n [] low) ∙ flat_map-append (λ (p : Page). p) (take n image) (page_at image n ∷ [])
     ∙ ap (λ (l : List ℕ). bytes_of_image (take n image) ++ l) (one_page (page_at image n)))
-
--- with all pages
-pub bytes_all : (image : Image) (n : ℕ) → length image ≤ n → bytes_of_image (take n image) ≡ bytes_of_image image
-bytes_all image n all = ap bytes_of_image (take_all n image all)

@@ -6,7 +6,6 @@ use Rattle.nb_fields.specs.Header.{is_header, state_of}
 use Rattle.nb_host.specs.World.{World}
 use Rattle.nb_host.specs.Calls.{IsStill}
 use Rattle.nb_host.specs.Moments.{IsNow, IsTimely, Passes}
-use Rattle.nb_host.specs.declared.refusals.Refusal.{Refusal}
 use Rattle.nb_host.specs.declared.faults.Fault.{Fault}
 use Rattle.nb_host.specs.declared.faults.Fault.TheVariants.{Refused, Device, Memory}
 use Rattle.nb_change.proofs.MomentLaws.{started, untouched_begun}
@@ -23,7 +22,7 @@ use Rattle.nb_model.proofs.ControlLaws.{control_state}
 use Rattle.nb_model.proofs.HeaderLaws.{header-long, header-room}
 use Rattle.nb_model.proofs.MainLaws.{some_page}
 use Rattle.nb_model.proofs.TrailLaws.{trail_base}
-use Rattle.nb_base.specs.Open.{OfFiles, IsMerged, AreMerged}
+use Rattle.nb_base.specs.Open.{OfFiles, AreMerged}
 use Rattle.nb_base.specs.Takes.{Strikes}
 use Rattle.nb_base.proofs.ControlLaws.{with_control-first}
 use Rattle.nb_page.specs.Quiet.{Quiet}
@@ -216,9 +215,6 @@ scn_other image ne = ap (λ (b : Bool). elim b as (λ z. ℕ) [ true ↦ image_s
 -- strokes that there is no cause against
 unless_none : (cause : Cause) (strokes : List Stroke) → cause ≡ None → unless_by cause strokes ≡ strokes
 unless_none cause strokes none = ap (λ (c : Cause). unless_by c strokes) none
-
-unless_some : (cause : Cause) (strokes : List Stroke) (r : Refusal) → cause ≡ Some r → unless_by cause strokes ≡ []
-unless_some cause strokes r is = ap (λ (c : Cause). unless_by c strokes) is
 
 -- A backup that may begin, with the GUID that was given.
 module _ (old mid new : World) (before after : Held) (t : Trail) (guid : List ℕ) (ask : Option Ask) (is : IsOpen old before t) (allowed : begin_cause t.base.image ≡ None) (struck : Strikes old new (name_of before) t (begin guid ask ∷ []))

@@ -109,9 +109,6 @@ module _ (image : Image) (name : List ℕ) (walked : Walked) (is : walked ≡ ga
   unfolding table_spot
   table_there = ap (λ (w : Walked). is_some w.found) is ∙ found_there (table_spot name image)
 
-  pub room_there : walked.room ≡ places (free_spot (spots Catalogue image))
-  room_there = ap (λ (w : Walked). w.room) is
-
   used_there : walked.used ≡ min 12 (length (used (spots Catalogue image)))
   used_there = ap (λ (w : Walked). w.used) is
 

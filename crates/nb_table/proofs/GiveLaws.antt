@@ -51,10 +51,6 @@ given_none : (z : Image) → (all_given [] (drafted z)).strokes ≡ []
 unfolding all_given
 given_none z = refl
 
--- a page of a chain as the engine reads it
-pub chain_data : (chain : Chain) (image : Image) (p : ℕ) → is_in_chain chain image p ≡ true → not_data image (owner_of chain) p ≡ None
-chain_data chain image p is = let there = in_chain chain image p is in owner_is image (owner_of chain) p (kind_is image 5 p there.0 there.1) (chain_owner chain image p is)
-
 -- Some pages of a chain were given back; the others are still to come, `number` next.
 pub record IsGiving (chain : Chain) (pages : List ℕ) (old now : World) (a b : Held) (t : Trail) (left number : ℕ) : Type 0 where
   pub made : List Stroke

@@ -2,39 +2,13 @@
 use Rattle.uuid.specs.Text.{parsed_hyphenated}
 use Rattle.nb_model.specs.declared.job.Job.TheVariants.{Backup, BackupSince, Restore}
 use Rattle.std.proofs.lemmas.List.{take_more, take_all, map-append, get_or_default, length-map}
-use Rattle.std.proofs.Common.{drop, nat_le, take, ◌++◌, ◌-◌, ap₂, slice_index, ◌≡◌, ◌∙◌, ◌+◌, ◌<◌, ◌≤◌, ℕ, zero, suc, ◌&&◌, Bool, true, false, List, [], ◌∷◌, length, get_or, Option, Some, None, option_map, refl, ap, sym, subst, cond, arith, Bor}
+use Rattle.std.proofs.Common.{drop, nat_le, take, ◌++◌, ◌-◌, ap₂, slice_index, ◌≡◌, ◌∙◌, ◌+◌, ◌<◌, ◌≤◌, ℕ, zero, suc, ◌&&◌, Bool, true, false, List, [], ◌∷◌, length, get_or, Option, Some, None, refl, ap, sym, subst, cond, arith, Bor}
 use Rattle.std.specs.List.{list_all}
 use Rattle.std.proofs.lemmas.Bool.{and_left, and_right, and_from, le-leb}
-use Rattle.nb_model.specs.Words.{Word, is_database, is_file, job_if, backup_job, restore_job, apply_job, database_job}
+use Rattle.nb_model.specs.Words.{Word, is_database, is_file, job_if, backup_job, restore_job}
 use Rattle.nb_model.specs.declared.job.Job.{Job}
-use Rattle.nb_words.specs.Parts.{one_database, is_level, named}
+use Rattle.nb_words.specs.Parts.{is_level, named}
 use Rattle.nb_words.specs.Read.{words_of}
-
-pub database_job_is : (job : Word → Job) (words : List Word) → option_map job (one_database words) ≡ database_job job words
-database_job_is job [] = refl
-database_job_is job (db ∷ []) = go (is_database db) where
-  go : (b : Bool) → option_map job (cond b (Some db) None) ≡ job_if b (job db)
-  go true = refl
-  go false = refl
-database_job_is job (db ∷ other ∷ rest) = refl
-
-pub not_one : (words : List (Bor Word)) → (length words ≡ 1 → ⊥) → None ≡ one_database (words_of words)
-not_one [] other = refl
-not_one (a ∷ []) other = absurd (other refl)
-not_one (a ∷ b ∷ rest) other = refl
-
-pub not_two : (words : List (Bor Word)) → (length words ≡ 2 → ⊥) → None ≡ apply_job (words_of words)
-not_two [] other = refl
-not_two (a ∷ []) other = refl
-not_two (a ∷ b ∷ []) other = absurd (other refl)
-not_two (a ∷ b ∷ c ∷ rest) other = refl
-
-pub not_three : (words : List (Bor Word)) → (length words ≡ 3 → ⊥) → None ≡ backup_job (words_of words)
-not_three [] other = refl
-not_three (a ∷ []) other = refl
-not_three (a ∷ b ∷ []) other = refl
-not_three (a ∷ b ∷ c ∷ []) other = absurd (other refl)
-not_three (a ∷ b ∷ c ∷ d ∷ rest) other = refl
 
 refused : (b : Bool) (w : Word) → cond b (Some w) None ≡ None → b ≡ false
 refused true w e = absurd (cc)
@@ -145,13 +119,6 @@ one_taken words i d names more name within is t e =
     taken_more words i w names more within (get_or_default words i d w within) n.0 t (e ∙ ap (λ (x : Word). names ++ x ∷ []) n.1)
 
 -- ---- the words by their places
-
-pub three : (words : List (Bor Word)) (d : Bor Word) → length words ≡ 3 → words_of words ≡ (get_or words 0 d).now ∷ (get_or words 1 d).now ∷ (get_or words 2 d).now ∷ []
-three [] d e = absurd (omega (arith, e))
-three (a ∷ []) d e = absurd (omega (arith, e))
-three (a ∷ b ∷ []) d e = absurd (omega (arith, e))
-three (a ∷ b ∷ c ∷ []) d e = refl
-three (a ∷ b ∷ c ∷ x ∷ rest) d e = absurd (omega (arith, e))
 
 -- ---- restoring
 

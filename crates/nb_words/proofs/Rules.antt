@@ -1,12 +1,11 @@
 -- The rules of a command line of these flags: which one a letter, a long name, a place or an id finds.
-use Rattle.std.proofs.Common.{◌≡◌, ◌∙◌, ℕ, ◌==◌, ◌||◌, Bool, true, false, List, [], ◌∷◌, Option, Some, None, codes, refl, ap, inl, inr, cond}
+use Rattle.std.proofs.Common.{◌≡◌, ◌∙◌, ℕ, ◌==◌, ◌||◌, Bool, true, false, List, [], ◌∷◌, Option, Some, None, refl, ap, inl, inr, cond}
 use Rattle.std.specs.Str.{bytes_eq}
 use Rattle.std.proofs.lemmas.Bool.{cases_Bool, cond-true, cond-false, or_parts, or_cases, or_from, or_left, eqb-true, and_right}
 use Rattle.clap.specs.Simple.{filled, with_index}
-use Rattle.clap.specs.Words.{Rule, Text, built}
+use Rattle.clap.specs.Words.{Rule, Text}
 use Rattle.clap.specs.Walk.{arg_by_short, arg_by_long, arg_by_index, arg_by_id}
-use Rattle.clap.proofs.OnLiterals.{clap_on_literals}
-use Rattle.nb_words.specs.Line.{line, flag, plain, words_id}
+use Rattle.nb_words.specs.Line.{flag, plain, words_id}
 
 -- the rule of a flag, and that of the plain words, once the command is built
 abbrev pub letter_rule : ℕ → Rule
@@ -24,10 +23,6 @@ rules_for (x ∷ xs) = letter_rule x ∷ rules_for xs
 abbrev pub is_in : ℕ → List ℕ → Bool
 is_in x [] = false
 is_in x (y ∷ ys) = (y == x) || is_in x ys
-
-pub rules_built : (built line).top.rules ≡ rules_for (codes "BRLSNFI")
-unfolding line clap_on_literals
-rules_built = refl
 
 here : (y x : ℕ) (rest : Option Rule) → (y == x) ≡ true → cond ((y == x) || false) (Some (letter_rule y)) rest ≡ Some (letter_rule x)
 here y x rest e = cond-true ((y == x) || false) _ _ (or_left (y == x) false e) ∙ ap (λ n. Some (letter_rule n)) (eqb-true y x e)

@@ -1,5 +1,5 @@
 // What one plain word stands for.
-ghost use Rattle.std.specs.Prelude.{◌≡◌, ◌==◌, ◌&&◌, ◌-◌, nat_le, length, slice_index, Some, None, cond};
+ghost use Rattle.std.specs.Prelude.{◌≡◌, ◌==◌, ◌&&◌, ◌-◌, nat_le, slice_index, Some, None, cond};
 ghost use Rattle.std.specs.List.{list_all};
 ghost use Rattle.uuid.specs.Text.{parsed_hyphenated};
 ghost use Rattle.nb_model.specs.Words.{is_file, is_database, number_in_word};

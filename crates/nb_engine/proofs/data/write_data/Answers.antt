@@ -14,6 +14,11 @@ use Rattle.nb_engine.proofs.LinkLaws.{any_strokes}
 use Rattle.nb_engine.proofs.MakeLaws.{tries_named, old_below}
 use Rattle.nb_engine.proofs.data.write_data.Goals as goal
 
+pub put_behind-requires-clause-head : goal.put_behind-requires-clause-head
+put_behind-requires-clause-head g c =
+    let facts = size_facts (length c.args.page.now) c.requires.size in
+    omega (arith, facts.at_least, c.take_system.auto.into)
+
 pub returns-in_err-take_system-clause-tries : goal.returns-in_err-take_system-clause-tries
 returns-in_err-take_system-clause-tries g c t tells is =
     let image = t.base.image in

@@ -1,4 +1,4 @@
-use Rattle.std.proofs.Common.{nat_eq, subst, sym}
+use Rattle.std.proofs.Common.{nat_eq, subst}
 use Rattle.std.specs.List.{IsDistinct}
 use Rattle.std.specs.Map.{keys_of}
 use Rattle.nb_owner.specs.Open.{Held}

@@ -1,7 +1,7 @@
 use Rattle.std.proofs.Common.{◌≡◌, length, ap, subst, ◌∙◌, arith, sym}
 use Rattle.std.specs.Prelude.{IsTrue}
 use Rattle.std.proofs.lemmas.List.{with_items_is}
-use Rattle.nb_fields.specs.Places.{is_page_size, entries_in}
+use Rattle.nb_fields.specs.Places.{is_page_size}
 use Rattle.nb_level.specs.declared.head.LevelHead.{LevelHead}
 use Rattle.nb_page.proofs.QuietLemmas.{quiet_joined as quiet_joined}
 use Rattle.nb_state.specs.Open.{Held}

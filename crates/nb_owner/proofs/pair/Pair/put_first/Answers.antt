@@ -3,7 +3,7 @@ use Rattle.nb_change.specs.Changes.{Only}
 use Rattle.nb_change.proofs.ChangesLaws.{begun}
 use Rattle.nb_model.specs.Trail.{settled, IsFirm, StandsIn}
 use Rattle.nb_model.specs.Behind.{IsOnTheWay}
-use Rattle.nb_base.specs.Open.{Agrees, IsOpen as AreOpen}
+use Rattle.nb_base.specs.Open.{IsOpen as AreOpen}
 use Rattle.nb_owner.specs.Open.{Held, GoesOut, NoScnWaits}
 use Rattle.nb_owner.specs.contracts.pair.Pair.{the_view}
 use Rattle.nb_owner.proofs.OutLaws.{start_way, start_firm, synced_firm, reads_agree, none_scn, quiet_more}

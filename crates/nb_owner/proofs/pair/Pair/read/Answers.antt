@@ -1,6 +1,6 @@
 use Rattle.std.proofs.Common.{◌≡◌, ◌<◌, refl, ap, sym, subst, ◌∙◌}
 use Rattle.std.specs.Prelude.{None, IsSome}
-use Rattle.nb_cache.specs.Held.{NoneWaits, dropped}
+use Rattle.nb_cache.specs.Held.{dropped}
 use Rattle.nb_owner.specs.Open.{Held, Pages, IsOpen, AreOf, cache_of, bare, used}
 use Rattle.nb_owner.specs.contracts.pair.Pair.{the_view}
 use Rattle.nb_owner.proofs.RankLaws.{rank_promoted}
