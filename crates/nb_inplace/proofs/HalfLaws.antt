@@ -79,9 +79,6 @@ module _ (files : Files) (standby name bytes : List ℕ) (c : Contents) (m : IsM
   page = first_page (image_in bytes)
 
   module _ (half : List ℕ) (h : IsHalf bytes c half) where
-    first_fields : (f : Page → ℕ) → f (first_page (image_in half)) ≡ f (applying_page c.head.guid page)
-    first_fields f = ap f h.first
-
     pub half_state : state_of half ≡ 3
     half_state = sym (front_state half h.formed) ∙ ap state_of h.first ∙ applying-state c.head.guid page sixteen (front_long bytes its.formed)
 

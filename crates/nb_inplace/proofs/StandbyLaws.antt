@@ -26,9 +26,6 @@ use Rattle.nb_fixup.proofs.CauseLaws.{unheaded, no_page}
 use Rattle.nb_inplace.proofs.VerdictLaws.{by_state, mergeable_by, standby_state}
 use Rattle.nb_inplace.proofs.AgainLaws.{other_texts}
 
-some_none : (r : Refusal) → Some r ≡ None → ⊥
-some_none r h = cc
-
 -- page 0 of the image is what the file begins with
 module _ (bytes : List ℕ) (none : not_database bytes ≡ None) where
   its_first : (image : Image) → IsLaid image bytes → take (image_size image) bytes ≡ first_page image

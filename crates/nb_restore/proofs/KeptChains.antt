@@ -1,6 +1,6 @@
 -- Files that are those of a chain of kept backups are accepted. A file behind them that isn't in its place, or is foreign, is refused.
 use Rattle.std.proofs.Common.{◌≡◌, ◌≢◌, ℕ, ◌+◌, ◌≤◌, List, [], ◌∷◌, ◌++◌, length, refl, sym, ap, subst, ◌∙◌, arith}
-use Rattle.std.specs.Prelude.{Bool, true, false, not, ◌&&◌, ◌==◌, nat_le, Option, Some, None, Ok, Err, Contains}
+use Rattle.std.specs.Prelude.{Bool, true, false, ◌&&◌, ◌==◌, nat_le, Option, Some, None, Ok, Err, Contains}
 use Rattle.std.specs.Cmp.Lexicographic.{told_text}
 use Rattle.std.specs.List.{AllByRecursion}
 use Rattle.std.proofs.lemmas.Bool.{and_parts}
@@ -12,7 +12,7 @@ use Rattle.nb_host.specs.declared.refusals.Refusal.{Refusal}
 use Rattle.nb_host.specs.declared.refusals.Refusal.TheVariants.{ChainLevel, ChainGuid}
 use Rattle.nb_model.specs.Image.{image_size}
 use Rattle.nb_model.specs.Account.{Ask, Kept, Account}
-use Rattle.nb_model.specs.Causes.{first_cause, when}
+use Rattle.nb_model.specs.Causes.{first_cause}
 use Rattle.nb_model.specs.Levels.{Contents, begins_level, read_level, file_of, taken}
 use Rattle.nb_model.specs.Line.{HoldLine, first_file, next_files, last_in}
 use Rattle.nb_model.specs.Restoring.{Link, level_link, whole_link, first_link, not_behind, next_link, next_links, linked, verdict}
@@ -164,9 +164,6 @@ next_refused files k last name names bytes refusal there refused = rw (there, ne
 level_refused : (k : ℕ) (last : Link) (name bytes : List ℕ) (c : Contents) (refusal : Refusal) → begins_level bytes ≡ true → read_level bytes ≡ Ok c → not_behind k last name c ≡ Some refusal → next_link k last name bytes ≡ Err refusal
 unfolding next_link
 level_refused k last name bytes c refusal begins read refused = rw (begins, next_link) (rw (read, next_link) (rw (refused, next_link) refl))
-
-when_is : (t : Bool) (r : Refusal) → t ≡ false → when (not t) r ≡ Some r
-when_is t r e = rw e refl
 
 names_differ : (m n : List ℕ) → m ≢ n → same_name m n ≡ false
 names_differ m n other = by (same_name m n) refl

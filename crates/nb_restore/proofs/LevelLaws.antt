@@ -1,7 +1,7 @@
 -- The pages of a level file, and of the level files, as far as they were written.
-use Rattle.std.proofs.Common.{◌≡◌, ◌≢◌, ℕ, suc, ◌+◌, ◌<◌, List, [], ◌∷◌, ◌++◌, length, take, drop, get_or, refl, sym, ap, subst, ◌∙◌, arith, append_assoc, length-drop}
-use Rattle.std.specs.Prelude.{Bool, IsTrue, Result, Ok, Err, IsErrAnd}
-use Rattle.std.proofs.lemmas.List.{append-nil, take_more, get_or-drop, length-take-le}
+use Rattle.std.proofs.Common.{◌≡◌, ◌≢◌, ℕ, ◌+◌, List, [], ◌∷◌, ◌++◌, length, refl, sym, ap, subst, ◌∙◌, arith, append_assoc}
+use Rattle.std.specs.Prelude.{Bool, IsTrue, Result, Ok, Err}
+use Rattle.std.proofs.lemmas.List.{append-nil}
 use Rattle.std.specs.Iterator.{Yields}
 use Rattle.std.specs.Vec.Iter.{into_iter_items, into_iter_len, into_iter_steps}
 use Rattle.std.specs.declared.vec.IntoIter.{IntoIter}
@@ -9,8 +9,8 @@ use Rattle.nb_host.specs.Files.{File, Files, bytes_of}
 use Rattle.nb_host.specs.declared.faults.Fault.{Fault}
 use Rattle.nb_host.specs.declared.faults.Fault.TheVariants.{Refused, Device, Memory}
 use Rattle.nb_host.specs.declared.refusals.Refusal.TheVariants.{BadLevel}
-use Rattle.nb_model.specs.Image.{Page, Numbered, page_at}
-use Rattle.nb_model.specs.Levels.{behind, numbered_from}
+use Rattle.nb_model.specs.Image.{Page, Numbered}
+use Rattle.nb_model.specs.Levels.{behind}
 use Rattle.nb_model.specs.Restoring.{Link}
 use Rattle.nb_level.specs.Answers.{NextSays}
 use Rattle.nb_level.specs.Reading.{Reading, still_to_come}
@@ -22,39 +22,11 @@ use Rattle.nb_restore.specs.Sources.{IsReady, AreReady, AreOfPages}
 use Rattle.nb_restore.proofs.AnswerLaws.{ok_same, err_ok}
 use Rattle.nb_restore.proofs.CopiedLaws.{overwrites_none, overwrites_joined, all_none, all_more}
 
--- the device failed
-pub device_done : {T : Type 0} (result : Result T Fault) (P : Type 0) → IsErrAnd result (λ fault. fault ≡ Device) → IsDone result P
-device_done {T} (Ok value) P is = absurd is
-device_done {T} (Err fault) P is = subst (λ (f : Fault). IsDone {T = T} (Err f) P) (sym is) tt
-
 -- whatever is to be done, a fault says the same of it
 pub fails_alike : (S T : Type 0) (fault : Fault) (P Q : Type 0) → IsDone {T = S} (Err fault) P → IsDone {T = T} (Err fault) Q
 fails_alike S T (Refused refusal) P Q p = p
 fails_alike S T Device P Q p = p
 fails_alike S T Memory P Q p = p
-
--- what was done is less
-pub done_then : {T : Type 0} (result : Result T Fault) (P Q : Type 0) → (P → Q) → IsDone result P → IsDone result Q
-done_then (Ok value) P Q f p = f p
-done_then (Err (Refused refusal)) P Q f p = p
-done_then (Err Device) P Q f p = p
-done_then (Err Memory) P Q f p = p
-
--- a page more of level 0
-numbered-more : (n : ℕ) (xs : List Page) (y : Page) → numbered_from n (xs ++ y ∷ []) ≡ numbered_from n xs ++ (n + length xs, y) ∷ []
-unfolding numbered_from
-numbered-more n [] y = ap (λ k. (k, y) ∷ []) (let e : n ≡ n + 0 = omega arith in e)
-numbered-more n (x ∷ xs) y = ap (λ (rs : List Numbered). (n, x) ∷ rs) (numbered-more (n + 1) xs y ∙ ap (λ k. numbered_from (n + 1) xs ++ (k, y) ∷ []) (let e : n + 1 + length xs ≡ n + suc (length xs) = omega arith in e))
-
-pub numbered_next : (ps : List Page) (k number : ℕ) → number ≡ suc k → number < length ps
-    → numbered_from 1 (take (suc k) (drop 1 ps)) ≡ numbered_from 1 (take k (drop 1 ps)) ++ (number, page_at ps number) ∷ []
-numbered_next ps k number is below =
-    let xs : List Page = drop 1 ps in
-    let low : k < length xs = omega (arith, length-drop 1 ps, is, below) in
-    let page : get_or xs k [] ≡ page_at ps number = get_or-drop 1 ps k [] ∙ ap (λ i. page_at ps i) (let e : 1 + k ≡ number = omega (arith, is) in e) in
-    let count : 1 + length (take k xs) ≡ number = omega (arith, length-take-le k xs (omega (arith, low)), is) in
-    ap (λ i. numbered_from 1 (take i xs)) (let e : suc k ≡ k + 1 = omega arith in e) ∙ ap (numbered_from 1) (take_more xs k [] low) ∙ numbered-more 1 (take k xs) (get_or xs k [])
-    ∙ ap (λ i. numbered_from 1 (take k xs) ++ (i, get_or xs k []) ∷ []) count ∙ ap (λ (p : Page). numbered_from 1 (take k xs) ++ (number, p) ∷ []) page
 
 -- the pages of a level file that were written, and those that are still to come
 pub record SoFar (size : ℕ) (bytes : List ℕ) (reader : Reading) (records : List Numbered) (before after : File) (first last : Page) : Type 0 where

@@ -1,5 +1,5 @@
 -- What is shown of the header of an open database.
-use Rattle.std.proofs.Common.{◌≡◌, ℕ, List, [], length, refl, sym, ap, ◌∙◌}
+use Rattle.std.proofs.Common.{◌≡◌, ℕ, List, length, refl, sym, ap, ◌∙◌}
 use Rattle.std.specs.Prelude.{Bool, Ok, Some, true, false, ◌==◌}
 use Rattle.nb_host.specs.World.{World}
 use Rattle.nb_model.specs.declared.reply.Reply.{Reply}
@@ -16,15 +16,6 @@ use Rattle.nb_state.specs.Open.{Held, AgreesWith, IsOpen}
 use Rattle.nb_state.specs.Does.{Does}
 use Rattle.nb_state.proofs.MakesLaws.{makes_none}
 use Rattle.nb_session.specs.Replies.{header_of}
-
--- its turn says that, and does nothing
-pub header_said : (s : Seen) → (header_turn s).reply ≡ Some (header_of s.base)
-unfolding header_turn
-header_said s = refl
-
-header_strokes : (s : Seen) → (header_turn s).strokes ≡ []
-unfolding header_turn
-header_strokes s = refl
 
 pub header_does : (w : World) (held : Held) (t : Trail) (s : Seen) (reply : Reply) → t.base ≡ s.base → Quiet w w → IsOpen w held t → reply ≡ header_of t.base → Does (λ r. r) (Ok reply) w w held held t (header_turn s)
 unfolding header_turn

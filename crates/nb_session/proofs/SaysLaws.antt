@@ -1,5 +1,5 @@
 -- Saying a line.
-use Rattle.std.proofs.Common.{◌≡◌, ℕ, zero, suc, ◌+◌, ◌-◌, List, [], ◌∷◌, ◌++◌, Bool, length, take, refl, sym, ap, ◌∙◌, subst, arith}
+use Rattle.std.proofs.Common.{◌≡◌, ℕ, zero, suc, ◌+◌, ◌-◌, List, [], ◌∷◌, ◌++◌, Bool, length, take, sym, ap, ◌∙◌, subst, arith}
 use Rattle.std.specs.Prelude.{Result, Ok, Err, IsTrue, OnOk, min}
 use Rattle.std.specs.Result.{IsErr}
 use Rattle.std.proofs.Math.Seq.{take-append-add}
@@ -44,15 +44,6 @@ while_saying old new bytes count still is files said saying =
 
 before_saying : (old : World) (bytes : List ℕ) → IsTimely old → AtEachMoment old old (FrontSaid old bytes)
 before_saying old bytes timely = started old _ timely (λ files said is. record { count = 0; is = is.output ∙ sym (append-nil old.said); left = is.left })
-
--- nothing was said
-pub says_nothing : {T E : Type 0} (e : E) (old : World) (bytes : List ℕ) → IsTimely old → SaysLine {T = T} (Err e) old old bytes
-says_nothing e old bytes timely = record {
-  still = record { files = refl; left = record { back = λ m c is b. b; now = λ m c is n. n } };
-  moments = before_saying old bytes timely;
-  said = tt;
-  gave = record { guids = refl; times = refl };
-}
 
 -- the call of the host, whatever comes of its answer
 pub says_line : {T E S F : Type 0} (tells : Bool) → IsTrue tells → (result : Result T E) (after : Result S F) (old new : World) (bytes : List ℕ) → IsTimely old → IsStill old new → Says tells result old new bytes → PassesSaying old new

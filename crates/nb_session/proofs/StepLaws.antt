@@ -1,6 +1,6 @@
 -- A turn of a session is the next that it has to do.
 use Rattle.std.proofs.Common.{◌≡◌, inl, inr, ℕ, ◌-◌, ◌<◌, List, [], ◌∷◌, ◌++◌, length, map, drop, refl, sym, ap, subst, ◌∙◌, append_assoc, get_or-set_same, drop_of_length-le}
-use Rattle.std.specs.Prelude.{Bool, true, false, ◌||◌, IsTrue, Result, Ok, Err, IsErr, IsErrAnd, IfOk, IfErr, OnOk, Option, Some, None}
+use Rattle.std.specs.Prelude.{Bool, true, false, ◌||◌, IsTrue, Result, Ok, Err, IsErr, IsErrAnd, IfErr, OnOk, Option, Some, None}
 use Rattle.std.specs.List.{AllByRecursion, slice_index_or}
 use Rattle.std.proofs.lemmas.Bool.{cases_lt}
 use Rattle.std.proofs.lemmas.List.{append-nil}
@@ -107,10 +107,6 @@ module _ {T : Type 0} (refused : T → Bool) (task : T → Option Task) (old new
 
 -- What is said of a failure is said of the answer that hands it on.
 module _ {S : Type 0} (fault : Fault) where
-  pub if_handed : (answer : Result S Fault) (P : S → Type 0) → IsErr answer × IsErrAnd answer (λ e. e ≡ fault) → IfOk answer P
-  if_handed (Ok value) P is = absurd is.1
-  if_handed (Err e) P is = tt
-
   pub none_handed : (answer : Result S Fault) → IsErr answer × IsErrAnd answer (λ e. e ≡ fault) → IsNoRefusal fault → IfErr answer IsNoRefusal
   none_handed (Ok value) is none = tt
   none_handed (Err e) is none = subst IsNoRefusal (sym is.1) none

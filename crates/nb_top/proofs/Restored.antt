@@ -49,9 +49,6 @@ pages_said (Err fault) = Err fault
 same_links : (answer : Result (List Link) Refusal) (a b : List Link) → answer ≡ Ok a → answer ≡ Ok b → a ≡ b
 same_links answer a b e f = cc
 
-none_both : (answer : Result (List Link) Refusal) (links : List Link) (refusal : Refusal) → answer ≡ Ok links → answer ≡ Err refusal → ⊥
-none_both answer links refusal e f = cc
-
 module _ (old mid : World) (account : Account) (db : List ℕ) (names : List (List ℕ)) (knows : is_free_name old.files db ≡ is_free_entry (account.entry db)) (result : Result ℕ Fault) (does : Restores result old mid db names) where
   abbrev job : OneTurn
   job = restoring old.files db names

@@ -1,9 +1,6 @@
 -- What is told of a run: the same events, a quiet one with no reply of the first but a refusal, and with the number of pages where a begin tells it.
 use Rattle.std.proofs.Common.{◌≡◌, ℕ, List, [], ◌∷◌, ◌++◌, false, refl, sym, ap, ◌∙◌}
-use Rattle.std.specs.Prelude.{Bool, Option, Some, None, Ok, Err, if◌then◌else◌}
-use Rattle.std.proofs.lemmas.List.{append-nil}
-use Rattle.nb_host.specs.World.{World}
-use Rattle.nb_host.specs.Moments.{IsTimely}
+use Rattle.std.specs.Prelude.{Bool, Option, Some, None, if◌then◌else◌}
 use Rattle.nb_host.specs.declared.refusals.Refusal.{Refusal}
 use Rattle.nb_model.specs.declared.reply.Reply.{Reply}
 use Rattle.nb_model.specs.declared.reply.Reply.TheVariants.{PagesShown, Refused}
@@ -16,15 +13,13 @@ use Rattle.nb_model.specs.Making.{MadeFile}
 use Rattle.nb_model.specs.Lines.{line_text}
 use Rattle.nb_model.specs.Outcomes.{Given}
 use Rattle.nb_model.specs.Output.{output, text_of, status_of, status_after}
-use Rattle.nb_model.specs.Run.{Event, IsRun, files_made, replies_of, strokes_of}
+use Rattle.nb_model.specs.Run.{Event, IsRun, files_made, replies_of}
 use Rattle.nb_model.specs.Steps.{Step, steps_in, steps_of}
 use Rattle.nb_model.specs.Strokes.{Stroke}
 use Rattle.nb_model.proofs.OutputLaws.{output_one, status_one, output-quiet}
 use Rattle.nb_script.specs.Scripts.{Plan}
 use Rattle.nb_session.specs.Replies.{is_refusal}
-use Rattle.nb_session.specs.Says.{SaysLine}
 use Rattle.nb_session.specs.declared.told.Told.TheVariants.{Sparingly as SparinglyTold}
-use Rattle.nb_session.proofs.SaysLaws.{says_nothing}
 use Rattle.nb_session.proofs.ToldLaws.{told_steps as later_steps, told_files as files_as}
 use Rattle.nb_top.specs.declared.telling.Telling.{Telling}
 use Rattle.nb_top.specs.declared.telling.Telling.TheVariants.{All, Quietly, WithSize, Sparingly}
@@ -48,20 +43,10 @@ unfolding steps_of all_sized
 sized_steps pages [] = refl
 sized_steps pages (e ∷ es) = ap (λ (ss : List Step). steps_in e ++ ss) (sized_steps pages es)
 
-sized_strokes : (pages : ℕ) (es : List Event) → strokes_of (all_sized pages es) ≡ strokes_of es
-unfolding strokes_of all_sized
-sized_strokes pages [] = refl
-sized_strokes pages (e ∷ es) = ap (λ (ss : List Stroke). e.strokes ++ ss) (sized_strokes pages es)
-
 sized_files : (pages : ℕ) (es : List Event) → files_made (all_sized pages es) ≡ files_made es
 unfolding files_made all_sized
 sized_files pages [] = refl
 sized_files pages (e ∷ es) = ap (λ (files : List MadeFile). elim e.made as (λ z. List MadeFile) [ Some file ↦ file ∷ files | None ↦ files ]) (sized_files pages es)
-
-sparing_strokes : (es : List Event) → strokes_of (said_by_generated es) ≡ strokes_of es
-unfolding strokes_of said_by_generated
-sparing_strokes [] = refl
-sparing_strokes (e ∷ es) = ap (λ (ss : List Stroke). e.strokes ++ ss) (sparing_strokes es)
 
 pub told_cons : (telling : Telling) (pages : ℕ) (e : Event) (es : List Event) → told_first telling e ∷ told_later telling pages es ≡ told telling pages (e ∷ es)
 unfolding all_sized said_by_generated
@@ -76,11 +61,6 @@ unfolding steps_of
 quiet_steps [] = refl
 quiet_steps (e ∷ es) = refl
 
-quiet_strokes : (es : List Event) → strokes_of (quiet es) ≡ strokes_of es
-unfolding strokes_of
-quiet_strokes [] = refl
-quiet_strokes (e ∷ es) = refl
-
 quiet_files : (es : List Event) → files_made (quiet es) ≡ files_made es
 unfolding files_made
 quiet_files [] = refl
@@ -91,12 +71,6 @@ told_steps All pages es = refl
 told_steps Quietly pages es = quiet_steps es
 told_steps WithSize pages es = sized_steps pages (quiet es) ∙ quiet_steps es
 told_steps Sparingly pages es = later_steps SparinglyTold es
-
-pub told_strokes : (telling : Telling) (pages : ℕ) (es : List Event) → strokes_of (told telling pages es) ≡ strokes_of es
-told_strokes All pages es = refl
-told_strokes Quietly pages es = quiet_strokes es
-told_strokes WithSize pages es = sized_strokes pages (quiet es) ∙ quiet_strokes es
-told_strokes Sparingly pages es = sparing_strokes es
 
 -- and make the same files
 pub told_files : (telling : Telling) (pages : ℕ) (es : List Event) → files_made (told telling pages es) ≡ files_made es
@@ -215,9 +189,3 @@ module _ (session : ℕ) (strokes : List Stroke) (first : Statement) (pages stat
   told_status Quietly = quiet_status (told_first Quietly (first_event session strokes reply)) (untold first pages state)
   told_status WithSize = quiet_status (told_first WithSize (first_event session strokes reply)) (untold first pages state)
   told_status Sparingly = quiet_status (told_first Sparingly (first_event session strokes reply)) (unshown first pages state)
-
--- saying nothing
-pub says_none : {T E : Type 0} (value : T) (old : World) → IsTimely old → SaysLine {T = T} {E = E} (Ok value) old old []
-says_none {T} {E} value old timely =
-    let none : SaysLine {T = T} {E = ℕ} (Err 0) old old [] = says_nothing {T = T} {E = ℕ} 0 old [] timely in
-    record { still = none.still; moments = none.moments; said = sym (append-nil old.said); gave = none.gave }
