@@ -24,6 +24,8 @@ pub enum There {
 pub struct Seen {
     /// The backup state that the header of the job's database tells.
     pub state: Option<u16>,
+    /// The GUID that it says is pending: that of the level file which is half merged into it, and zeros where none is.
+    pub pending: Option<[u8; 16]>,
     /// When the file of the job's database was written last, in seconds since the start of 1970. Nothing writes it between the begin of a
     /// backup and its end.
     pub written: Option<u64>,
@@ -42,6 +44,7 @@ impl Seen {
     pub fn nothing() -> Seen {
         Seen {
             state: None,
+            pending: None,
             written: None,
             there: There::Unknown,
             has_delta: false,

@@ -68,6 +68,7 @@ where
     if let Some(found) = look_at(rt, db.as_str()) {
         if let Some(header) = found.header() {
             seen.state = Some(header.state);
+            seen.pending = Some(header.pending);
             seen.written = found.written;
         }
     }
