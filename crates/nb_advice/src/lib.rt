@@ -25,5 +25,5 @@ pub use levels::Levels;
 pub use memory::shortage;
 pub use refusal::advice;
 pub use refused::Refused;
-pub use seen::{Seen, There};
+pub use seen::{Seen, There, is_level_of};
 pub use usage::complaint;

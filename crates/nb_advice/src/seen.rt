@@ -37,6 +37,8 @@ pub struct Seen {
     pub length: Option<u64>,
     /// Which backups the history of the job's database has.
     pub levels: Option<Levels>,
+    /// Whether the level file of the job is the one that its standby is of already.
+    pub is_merged: bool,
 }
 
 impl Seen {
@@ -50,6 +52,7 @@ impl Seen {
             has_delta: false,
             length: None,
             levels: None,
+            is_merged: false,
         }
     }
 }
@@ -81,6 +84,11 @@ fn ends_whole(first: &[u8; 64], length: u64, last: &[u8; 8]) -> bool {
         numbers % 8 == 0 && numbers / 8 <= count && count.div_ceil(16) <= numbers / 8
     };
     fits && number_at(last, 0) == u32::MAX
+}
+
+/// Whether the file with these first 64 bytes is the level file that a database with this header is of: their GUIDs are the same.
+pub fn is_level_of(first: &[u8; 64], header: &Header) -> bool {
+    first.starts_with(b"NBAK") && first[8..24] == header.guid[0..16]
 }
 
 impl There {

@@ -84,6 +84,9 @@ pub(crate) fn merge(
         )?,
         "BadLevel" => return broken_file(alloc, value, found, seen),
         "Unfinished" => unfinished(alloc, db, seen.pending)?,
+        "ChainGuid" if seen.is_merged => {
+            format!(in alloc; "{value} is merged into {db} already: nothing is to be done")?
+        }
         "ChainGuid" => format!(in alloc;
             "{value} goes on from the backup {found}, and {db} is of the backup {wanted}: make a level since that one: nehumiro -B {wanted} PRIMARY FILE"
         )?,
